@@ -1,0 +1,11 @@
+-- What a call that can be refused gives, beside what the definitions give.
+use Rattle.std.specs.Prelude.{◌≡◌, Result, Ok, Err}
+use Rattle.um_model.specs.Refusals.{Refused}
+use Rattle.um_wire.specs.Refusal.{refused_of}
+use Rattle.um_wire.specs.declared.refusal.Refusal.{Refusal}
+use Rattle.um_wire.specs.declared.refusal.Refusal.TheVariants.{NoMemory}
+
+-- the result, seen so, is the one defined, the refusal too; or a growth of memory was refused
+abbrev pub Gives : {X Y : Type 0} → (X → Y) → Result X Refusal → Result Y Refused → Type 0
+Gives view (Ok x) defined = defined ≡ Ok (view x)
+Gives view (Err e) defined = ¬ (e ≡ NoMemory) → defined ≡ Err (refused_of e)

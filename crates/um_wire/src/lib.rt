@@ -1,0 +1,9 @@
+//! Why a call was refused: the 22 refusals with their details, each with the number, name and texts that its reply tells.
+#![tactic(auto)]
+
+mod refusal;
+#[cfg(test)]
+mod tests;
+
+pub use refusal::{Refusal, Texts};
+pub use um_model::Limit;
