@@ -1,9 +1,11 @@
 -- What a unit name is, by its parts; its instance and its template; how other text is escaped in a name.
 -- Follows systemd.unit(5), "Description" and "String Escaping for Inclusion in Unit Names".
 -- The tree, unit files, requests and all that names a unit stand on this file.
-use Rattle.std.specs.Prelude.{◌≡◌, ℕ, ◌-◌, ◌≤◌, ◌<◌, nat_le, nat_lt, nat_eq, Bool, true, false, not, ◌&&◌, ◌||◌, ◌==◌, List, [], ◌∷◌, ◌++◌, length, take, slice_index, Option, Some, None, if◌then◌else◌, codes}
-use Rattle.std.specs.List.{list_all, ends_with}
+use Rattle.std.specs.Prelude.{◌≡◌, ℕ, ◌+◌, ◌-◌, ◌*◌, ◌/◌, ◌%◌, ◌≤◌, ◌<◌, nat_le, nat_lt, nat_eq, Bool, true, false, not, ◌&&◌, ◌||◌, ◌==◌, List, [], ◌∷◌, ◌++◌, length, take, slice_index, Option, Some, None, is_some, if◌then◌else◌, codes, find}
+use Rattle.std.specs.List.{list_all, ends_with, flat_map}
+use Rattle.std.specs.Char.{digit_char, digit_value}
 use Rattle.um_model.specs.Ascii.{is_digit, is_letter}
+use Rattle.um_model.specs.Pieces.{Front, Unreadable, Gives, StandsForText}
 use Rattle.um_model.specs.declared.names.Suffix.{Suffix}
 use Rattle.um_model.specs.declared.names.Suffix.TheVariants.{Service, Socket, Device, Mount, Automount, Swap, Target, Path, Timer, Slice, Scope}
 
@@ -35,6 +37,7 @@ pub record NameParts : Type 0 where
   pub instance : Option (List ℕ)
   pub suffix : Suffix
 
+-- an instance with the `@` before it
 abbrev pub instance_text : Option (List ℕ) → List ℕ
 instance_text None = []
 instance_text (Some instance) = 64 ∷ instance
@@ -43,6 +46,7 @@ instance_text (Some instance) = 64 ∷ instance
 abbrev pub name_text : NameParts → List ℕ
 name_text p = p.prefix ++ (instance_text p.instance ++ suffix_text p.suffix)
 
+-- where there is an instance, it has its bytes alone; it may be empty
 abbrev pub is_fit_instance : Option (List ℕ) → Bool
 is_fit_instance None = true
 is_fit_instance (Some instance) = list_all is_instance_byte instance
@@ -65,32 +69,125 @@ pub record IsNameOf (text : List ℕ) (p : NameParts) : Type 0 where
 
 -- The same as tests, for definitions that branch on them; the laws in proofs/NamesLaws say that they tell the parts above.
 
+-- all suffixes; none ends in another one
+abbrev pub suffixes : List Suffix
+suffixes = Service ∷ Socket ∷ Device ∷ Mount ∷ Automount ∷ Swap ∷ Target ∷ Path ∷ Timer ∷ Slice ∷ Scope ∷ []
+
+-- the text ends in the suffix
 abbrev pub ends_in : List ℕ → Suffix → Bool
 ends_in text s = ends_with nat_eq text (suffix_text s)
 
--- the suffix that the text ends in: no suffix ends in another one
-abbrev pub suffix_of : List ℕ → Option Suffix
-suffix_of text =
-    if ends_in text Service then Some Service
-    else (if ends_in text Socket then Some Socket
-    else (if ends_in text Device then Some Device
-    else (if ends_in text Mount then Some Mount
-    else (if ends_in text Automount then Some Automount
-    else (if ends_in text Swap then Some Swap
-    else (if ends_in text Target then Some Target
-    else (if ends_in text Path then Some Path
-    else (if ends_in text Timer then Some Timer
-    else (if ends_in text Slice then Some Slice
-    else (if ends_in text Scope then Some Scope else None))))))))))
+-- the suffix that the text ends in
+unfoldable pub suffix_of : List ℕ → Option Suffix
+suffix_of text = find (ends_in text) suffixes
 
--- what stands before the suffix isn't empty, doesn't begin with an `@`, and has its bytes alone
+-- what stands before that suffix, or all
+abbrev pub stem_before : List ℕ → Option Suffix → List ℕ
+stem_before text None = text
+stem_before text (Some s) = take (length text - length (suffix_text s)) text
+
+-- what stands before the suffix
+unfoldable pub stem_of : List ℕ → List ℕ
+stem_of text = stem_before text (suffix_of text)
+
+-- what stands before the first `@`, or all
+abbrev pub before_at : List ℕ → List ℕ
+before_at [] = []
+before_at (b ∷ bs) = if b == 64 then [] else b ∷ before_at bs
+
+-- what follows the first `@`, where there is one
+abbrev pub after_at : List ℕ → Option (List ℕ)
+after_at [] = None
+after_at (b ∷ bs) = if b == 64 then Some bs else after_at bs
+
+-- the prefix of a unit name
+unfoldable pub prefix_of : List ℕ → List ℕ
+prefix_of text = before_at (stem_of text)
+
+-- the instance of a unit name, which may be empty
+unfoldable pub instance_of : List ℕ → Option (List ℕ)
+instance_of text = after_at (stem_of text)
+
+-- the text isn't empty, doesn't begin with an `@`, and has its bytes alone
 abbrev pub is_stem : List ℕ → Bool
 is_stem text = nat_lt 0 (length text) && not (slice_index text 0 == 64) && list_all is_instance_byte text
 
-abbrev pub is_stem_before : List ℕ → Option Suffix → Bool
-is_stem_before text None = false
-is_stem_before text (Some s) = is_stem (take (length text - length (suffix_text s)) text)
-
 -- the text is a unit name
 unfoldable pub is_unit_name : List ℕ → Bool
-is_unit_name text = nat_le (length text) name_limit && is_stem_before text (suffix_of text)
+is_unit_name text = nat_le (length text) name_limit && is_some (suffix_of text) && is_stem (stem_of text)
+
+-- there is an instance, and it is empty
+abbrev pub is_empty_instance : Option (List ℕ) → Bool
+is_empty_instance None = false
+is_empty_instance (Some instance) = length instance == 0
+
+-- the name is a template: it has an `@` and an empty instance
+abbrev pub is_template : List ℕ → Bool
+is_template name = is_empty_instance (instance_of name)
+
+-- the text of a suffix, where there is one
+abbrev pub suffix_text_of : Option Suffix → List ℕ
+suffix_text_of None = []
+suffix_text_of (Some s) = suffix_text s
+
+-- the name with this instance, in place of its own where it has one
+abbrev pub with_instance : List ℕ → List ℕ → List ℕ
+with_instance name instance = prefix_of name ++ (64 ∷ instance ++ suffix_text_of (suffix_of name))
+
+-- the text, where it is a unit name
+abbrev pub named : List ℕ → Option (List ℕ)
+named text = if is_unit_name text then Some text else None
+
+-- the template of the name, where its instance is this one
+abbrev pub template_for : List ℕ → Option (List ℕ) → Option (List ℕ)
+template_for name None = None
+template_for name (Some instance) = Some (with_instance name [])
+
+-- the template of a name with an instance, empty or not
+abbrev pub template_of : List ℕ → Option (List ℕ)
+template_of name = template_for name (instance_of name)
+
+-- Other text in a name.
+
+-- `\x` and two lower-case hexadecimal digits
+abbrev pub byte_escape : ℕ → List ℕ
+byte_escape b = 92 ∷ 120 ∷ digit_char (b / 16) ∷ digit_char (b % 16) ∷ []
+
+-- ASCII letters, digits and `: _ .` stay as they are
+abbrev pub is_plain_byte : ℕ → Bool
+is_plain_byte b = is_letter b || is_digit b || b == 58 || b == 95 || b == 46
+
+-- `/` becomes `-`
+abbrev pub escape_of : ℕ → List ℕ
+escape_of b = if b == 47 then 45 ∷ [] else (if is_plain_byte b then b ∷ [] else byte_escape b)
+
+-- a dot at the front doesn't stay
+abbrev pub first_escape_of : ℕ → List ℕ
+first_escape_of b = if b == 46 then byte_escape b else escape_of b
+
+-- the bytes as a text that can stand in a name
+abbrev pub escaped : List ℕ → List ℕ
+escaped [] = []
+escaped (b ∷ bs) = first_escape_of b ++ flat_map escape_of bs
+
+-- 0 to 9, a to f
+abbrev pub is_hex_digit : ℕ → Bool
+is_hex_digit b = is_digit b || (nat_le 97 b && nat_le b 102)
+
+-- what follows a `\` is an `x` and two hexadecimal digits, and gives their byte; anything else is ill escaped
+abbrev pub escape_front : List ℕ → Front
+escape_front [] = Unreadable
+escape_front (x ∷ []) = Unreadable
+escape_front (x ∷ high ∷ []) = Unreadable
+escape_front (x ∷ high ∷ low ∷ rest) =
+    if x == 120 && is_hex_digit high && is_hex_digit low
+    then Gives ((16 * digit_value high + digit_value low) ∷ []) 4
+    else Unreadable
+
+-- `-` becomes `/`, an escape its byte, and any other byte stays
+abbrev pub unescape_front : ℕ → List ℕ → Front
+unescape_front b bs = if b == 45 then Gives (47 ∷ []) 1 else (if b == 92 then escape_front bs else Gives (b ∷ []) 1)
+
+-- the text stands for these bytes
+abbrev pub StandsForBytes : List ℕ → List ℕ → Type 0
+StandsForBytes text bytes = StandsForText unescape_front text bytes

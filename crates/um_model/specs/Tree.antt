@@ -1,12 +1,279 @@
 -- The manager's own tree: a finite map from served paths to files and links.
 -- Follows systemd.unit(5), "Unit File Load Path".
 -- Resolution, drop-ins, dependencies by links, enabling and the state stand on this file.
-use Rattle.std.specs.Prelude.{ℕ, List, codes}
+use Rattle.std.specs.Prelude.{◌≡◌, ℕ, ◌-◌, ◌≤◌, nat_le, nat_lt, nat_eq, Bool, true, false, not, ◌&&◌, ◌||◌, ◌==◌, List, [], ◌∷◌, ◌++◌, length, take, drop, Option, Some, None, is_none, is_some, option_map, Result, ◌⊎◌, if◌then◌else◌, codes, refl}
+use Rattle.std.specs.List.{list_all, starts_with, ends_with, position_or_len, before_first, after_first, after_last}
+use Rattle.std.specs.Str.{bytes_eq}
+use Rattle.std.specs.Ordering.{nat_cmp}
+use Rattle.std.specs.Cmp.Lexicographic.{slice_cmp}
+use Rattle.std.specs.Coded.{Coded, code_by, coded_ℕ, coded_list, coded⊎}
+use Rattle.std.specs.FinMap as map
+use mathlib.Core.Logic.{inl, inr}
+use Rattle.um_model.specs.Ascii.{is_digit, is_letter}
+use Rattle.um_model.specs.Names.{is_unit_name, is_template}
+use Rattle.um_model.specs.Refusals.{Refused, cause, first_cause, unless_refused, bad_path, exists_at, too_large}
+use Rattle.um_model.specs.declared.refusals.Limit.TheVariants.{Text, Entries}
 use Rattle.um_model.specs.declared.tree.Layer.{Layer}
 use Rattle.um_model.specs.declared.tree.Layer.TheVariants.{Etc, Run, Lib}
+
+-- ---- paths, by their parts
 
 -- the text at the front of a path
 abbrev pub layer_text : Layer → List ℕ
 layer_text Etc = codes "etc/"
 layer_text Run = codes "run/"
 layer_text Lib = codes "lib/"
+
+-- what a path names, beside its unit: the unit's own file or link, a drop-in by what stands before `.conf`, or the unit that is wanted or required
+pub data Place : Type 0 where
+  Unit : Place
+  DropIn : List ℕ → Place
+  Wants : List ℕ → Place
+  Requires : List ℕ → Place
+
+-- the text behind the unit's name
+abbrev pub place_text : Place → List ℕ
+place_text Unit = []
+place_text (DropIn name) = codes ".d/" ++ (name ++ codes ".conf")
+place_text (Wants unit) = codes ".wants/" ++ unit
+place_text (Requires unit) = codes ".requires/" ++ unit
+
+-- the parts of a path
+pub record PathParts : Type 0 where
+  pub layer : Layer
+  pub unit : List ℕ
+  pub place : Place
+
+-- the parts one behind the other
+abbrev pub path_text : PathParts → List ℕ
+path_text p = layer_text p.layer ++ (p.unit ++ place_text p.place)
+
+-- ASCII letters, digits and `: - _ .`
+abbrev pub is_drop_in_byte : ℕ → Bool
+is_drop_in_byte b = is_letter b || is_digit b || b == 58 || b == 45 || b == 95 || b == 46
+
+-- the name of a drop-in has at most so many bytes before its `.conf`
+abbrev pub drop_in_limit : ℕ
+drop_in_limit = 200
+
+-- what stands before `.conf` in the name of a drop-in isn't empty and has its bytes alone
+abbrev pub is_drop_in_name : List ℕ → Bool
+is_drop_in_name name = nat_le 1 (length name) && nat_le (length name) drop_in_limit && list_all is_drop_in_byte name
+
+-- a unit name, and no template
+abbrev pub is_plain_name : List ℕ → Bool
+is_plain_name text = is_unit_name text && not (is_template text)
+
+-- in a directory of links neither name is a template
+abbrev pub is_fit_place : List ℕ → Place → Bool
+is_fit_place unit Unit = is_unit_name unit
+is_fit_place unit (DropIn name) = is_unit_name unit && is_drop_in_name name
+is_fit_place unit (Wants other) = is_plain_name unit && is_plain_name other
+is_fit_place unit (Requires other) = is_plain_name unit && is_plain_name other
+
+-- the parts of a path fit together
+abbrev pub are_fit : PathParts → Bool
+are_fit p = is_fit_place p.unit p.place
+
+-- the text is the path of these parts
+pub record IsPathOf (text : List ℕ) (p : PathParts) : Type 0 where
+  pub fit : are_fit p ≡ true
+  pub spelled : text ≡ path_text p
+
+-- ---- the parts as a function, for definitions that branch on them; the laws in proofs/TreeLaws say that it tells the parts above
+
+-- a `/`
+abbrev pub is_slash : ℕ → Bool
+is_slash b = b == 47
+
+-- what follows the front, of a text that begins so
+abbrev pub behind : List ℕ → List ℕ → Option (List ℕ)
+behind front text = if starts_with nat_eq text front then Some (drop (length front) text) else None
+
+-- what stands before the end, of a text that ends so
+abbrev pub before : List ℕ → List ℕ → Option (List ℕ)
+before end text = if ends_with nat_eq text end then Some (take (length text - length end) text) else None
+
+-- what stands before and behind the first `/`, where there is one
+abbrev pub around_slash : List ℕ → Option (List ℕ × List ℕ)
+around_slash text =
+    if nat_lt (position_or_len is_slash text) (length text) then Some (before_first is_slash text, after_first is_slash text)
+    else None
+
+-- the layer with whose text the path begins, by what follows each of the three in it
+abbrev pub layer_among : Option (List ℕ) → Option (List ℕ) → Option (List ℕ) → Option (Layer × List ℕ)
+layer_among (Some rest) run lib = Some (Etc, rest)
+layer_among None (Some rest) lib = Some (Run, rest)
+layer_among None None (Some rest) = Some (Lib, rest)
+layer_among None None None = None
+
+-- the layer and what follows it
+abbrev pub layer_and_rest : List ℕ → Option (Layer × List ℕ)
+layer_and_rest path =
+    layer_among (behind (layer_text Etc) path) (behind (layer_text Run) path) (behind (layer_text Lib) path)
+
+-- the unit and the place, by the unit before the `.d`, `.wants` or `.requires` of the directory, and the file in it
+abbrev pub place_among : Option (List ℕ) → Option (List ℕ) → Option (List ℕ) → List ℕ → Option (List ℕ × Place)
+place_among (Some unit) wants requires file = option_map (λ name. (unit, DropIn name)) (before (codes ".conf") file)
+place_among None (Some unit) requires file = Some (unit, Wants file)
+place_among None None (Some unit) file = Some (unit, Requires file)
+place_among None None None file = None
+
+-- the same, by the whole name of the directory
+abbrev pub place_in : List ℕ → List ℕ → Option (List ℕ × Place)
+place_in directory file =
+    place_among (before (codes ".d") directory) (before (codes ".wants") directory) (before (codes ".requires") directory) file
+
+-- the unit and the place: the whole of what follows the layer, or by the directory
+abbrev pub unit_and_place : List ℕ → Option (List ℕ × List ℕ) → Option (List ℕ × Place)
+unit_and_place rest None = Some (rest, Unit)
+unit_and_place rest (Some parts) = place_in parts.0 parts.1
+
+-- the parts, if they are fit
+abbrev pub where_fit : Layer → Option (List ℕ × Place) → Option PathParts
+where_fit layer None = None
+where_fit layer (Some p) =
+    if is_fit_place p.0 p.1 then Some (record { layer = layer; unit = p.0; place = p.1 }) else None
+
+-- the parts, by the layer and what follows it
+abbrev pub parts_behind : Option (Layer × List ℕ) → Option PathParts
+parts_behind None = None
+parts_behind (Some p) = where_fit p.0 (unit_and_place p.1 (around_slash p.1))
+
+-- the parts of a served path
+unfoldable pub path_parts : List ℕ → Option PathParts
+path_parts path = parts_behind (layer_and_rest path)
+
+-- ---- the tree
+
+-- what stands at a path: a file with its text, or a link with its target
+pub data Entry : Type 0 where
+  File : List ℕ → Entry
+  Link : List ℕ → Entry
+
+-- an entry as one of two texts, and back
+abbrev pub entry_sides : Entry → List ℕ ⊎ List ℕ
+entry_sides (File text) = inl text
+entry_sides (Link target) = inr target
+
+abbrev pub entry_of_sides : List ℕ ⊎ List ℕ → Entry
+entry_of_sides (inl text) = File text
+entry_of_sides (inr target) = Link target
+
+pub entry_of_sides-entry_sides : (e : Entry) → entry_of_sides (entry_sides e) ≡ e
+entry_of_sides-entry_sides (File text) = refl
+entry_of_sides-entry_sides (Link target) = refl
+
+-- how the logic stores an entry
+abbrev pub entry_code : Coded Entry
+entry_code = code_by (List ℕ ⊎ List ℕ) (coded⊎ (coded_list coded_ℕ) (coded_list coded_ℕ)) entry_sides entry_of_sides entry_of_sides-entry_sides
+
+-- a finite map, by the bytes of the paths in ascending order
+abbrev pub Tree : Type 0
+Tree = map.FinMap (slice_cmp nat_cmp) Entry
+
+-- how the logic stores a tree
+abbrev pub tree_code : Coded Tree
+tree_code = map.code (coded_list coded_ℕ) entry_code
+
+-- the text of a file has at most so many bytes
+abbrev pub text_limit : ℕ
+text_limit = 65536
+
+-- a tree has at most so many entries
+abbrev pub entry_limit : ℕ
+entry_limit = 4096
+
+-- the target of a link has at most so many bytes
+abbrev pub target_limit : ℕ
+target_limit = 512
+
+-- the path is served
+abbrev pub is_served : List ℕ → Bool
+is_served path = is_some (path_parts path)
+
+-- another unit name than that of the unit
+abbrev pub is_other_name : List ℕ → List ℕ → Bool
+is_other_name unit text = is_unit_name text && not (bytes_eq text unit)
+
+-- a unit is masked by a link to `/dev/null`, or is another name of the unit that its link's last part names; a link that wants or requires may lead anywhere, and a drop-in is no link
+abbrev pub may_lead_to : List ℕ → Place → List ℕ → Bool
+may_lead_to unit Unit target = bytes_eq target (codes "/dev/null") || is_other_name unit (after_last is_slash target)
+may_lead_to unit (DropIn name) target = false
+may_lead_to unit (Wants other) target = true
+may_lead_to unit (Requires other) target = true
+
+-- a link to the target may stand at a path of these parts
+abbrev pub is_fit_target : Option PathParts → List ℕ → Bool
+is_fit_target None target = false
+is_fit_target (Some p) target = nat_le 1 (length target) && nat_le (length target) target_limit && may_lead_to p.unit p.place target
+
+-- what may stand at a path: at a served one a file with no more than the limit's text, or a link to a fit target
+abbrev pub is_fit_entry : List ℕ → Entry → Bool
+is_fit_entry path (File text) = is_served path && nat_le (length text) text_limit
+is_fit_entry path (Link target) = is_fit_target (path_parts path) target
+
+-- what stands at the path, if anything, may stand there
+abbrev pub is_fit_at : List ℕ → Option Entry → Bool
+is_fit_at path None = true
+is_fit_at path (Some entry) = is_fit_entry path entry
+
+-- each entry may stand at its path, and there are no more than the limit
+pub record IsTree (tree : Tree) : Type 0 where
+  pub fit : (path : List ℕ) → is_fit_at path (map.get tree path) ≡ true
+  pub few : map.len tree ≤ entry_limit
+
+-- a link stands there
+abbrev pub is_link : Option Entry → Bool
+is_link None = false
+is_link (Some (File text)) = false
+is_link (Some (Link target)) = true
+
+-- something else than the link to the target stands there
+abbrev pub is_other_than_link : Option Entry → List ℕ → Bool
+is_other_than_link None target = false
+is_other_than_link (Some (File text)) target = true
+is_other_than_link (Some (Link old)) target = not (bytes_eq old target)
+
+-- a new entry has no room
+abbrev pub is_full_for : Tree → List ℕ → Bool
+is_full_for tree path = is_none (map.get tree path) && nat_le entry_limit (map.len tree)
+
+-- the first cause why no file with the text may be put at the path
+abbrev pub put_cause : Tree → List ℕ → List ℕ → Option Refused
+put_cause tree path text =
+    first_cause
+    (cause (not (is_served path)) (bad_path path)
+    ∷ cause (is_link (map.get tree path)) (exists_at path)
+    ∷ cause (nat_lt text_limit (length text)) (too_large Text)
+    ∷ cause (is_full_for tree path) (too_large Entries)
+    ∷ [])
+
+-- the tree with the file put at the path, in place of a file that stands there
+unfoldable pub put_file : Tree → List ℕ → List ℕ → Result Tree Refused
+put_file tree path text = unless_refused (put_cause tree path text) (map.insert tree path (File text))
+
+-- the first cause why no link to the target may be put at the path
+abbrev pub link_cause : Tree → List ℕ → List ℕ → Option Refused
+link_cause tree path target =
+    first_cause
+    (cause (not (is_fit_target (path_parts path) target)) (bad_path path)
+    ∷ cause (is_other_than_link (map.get tree path) target) (exists_at path)
+    ∷ cause (is_full_for tree path) (too_large Entries)
+    ∷ [])
+
+-- the tree with the link put at the path, where nothing stands or the same link
+unfoldable pub put_link : Tree → List ℕ → List ℕ → Result Tree Refused
+put_link tree path target = unless_refused (link_cause tree path target) (map.insert tree path (Link target))
+
+-- the tree without what stands at the path
+unfoldable pub remove_at : Tree → List ℕ → Result Tree Refused
+remove_at tree path = unless_refused (cause (is_none (map.get tree path)) (bad_path path)) (map.remove tree path)
+
+-- an entry under `run/`, which doesn't outlive a boot
+abbrev pub is_volatile : List ℕ → Bool
+is_volatile path = starts_with nat_eq path (layer_text Run)
+
+-- the tree as it comes out of a boot
+unfoldable pub without_run : Tree → Tree
+without_run tree = map.retain_keys tree (λ path. not (is_volatile path))

@@ -1,11 +1,29 @@
-//! What is believed of the service manager: the definitions in `specs/`, and the plain enums that code and definitions
+//! What is believed of the service manager: the definitions in `specs/`, and the plain types that code and definitions
 //! share.
 #![tactic(auto)]
 
+mod frames;
+mod jobs;
+mod limit;
 mod names;
 mod refusals;
+mod requests;
+mod service;
+mod settings;
 mod tree;
+mod units;
+mod warnings;
+mod words;
 
+pub use frames::Ending;
+pub use jobs::{JobState, UnitJobs};
+pub use limit::Counted;
 pub use names::Suffix;
 pub use refusals::Limit;
+pub use requests::{Mode, Verb};
+pub use service::{ActiveState, End, Signal, SubState, UnitResult, UnitState};
+pub use settings::{RestartPolicy, TimeSpan};
 pub use tree::Layer;
+pub use units::LoadState;
+pub use warnings::WarningKind;
+pub use words::WordRules;

@@ -1,0 +1,102 @@
+-- The laws of texts that stand for another, piece by piece: at most one reading, and the function that finds it.
+use Rattle.std.proofs.Common.{◌≡◌, ◌-◌, ◌<◌, ◌≤◌, ℕ, zero, suc, List, [], ◌∷◌, ◌++◌, Option, Some, None, option_map, length, get_or, drop, append_assoc, refl, sym, ap, ◌∙◌, subst, arith}
+use Rattle.std.proofs.lemmas.List.{length-drop}
+use Rattle.std.proofs.lemmas.Option.{none-some, same_Some}
+use Rattle.um_model.specs.Pieces.{Front, Unreadable, Gives, StandsForText, done, piece}
+
+-- these bytes, and then what is read
+abbrev pub prefixed : List ℕ → Option (List ℕ) → Option (List ℕ)
+prefixed bytes r = option_map (λ rest. bytes ++ rest) r
+
+-- what is read, where the front is this one and what follows so many skipped bytes is read so
+abbrev pub read_by_front : Front → (ℕ → Option (List ℕ)) → Option (List ℕ)
+read_by_front Unreadable later = None
+read_by_front (Gives bytes n) later = prefixed bytes (later (n - 1))
+
+-- what a text stands for, after so many bytes are skipped
+abbrev pub reading : (ℕ → List ℕ → Front) → ℕ → List ℕ → Option (List ℕ)
+reading front skip [] = Some []
+reading front (suc skip) (b ∷ bs) = reading front skip bs
+reading front zero (b ∷ bs) = read_by_front (front b bs) (λ n. reading front n bs)
+
+pub reading-drop : (front : ℕ → List ℕ → Front) (n : ℕ) (bs : List ℕ) → reading front n bs ≡ reading front 0 (drop n bs)
+reading-drop front zero bs = refl
+reading-drop front (suc n) [] = refl
+reading-drop front (suc n) (b ∷ bs) = reading-drop front n bs
+
+-- the function finds each reading
+pub reading-StandsForText : (front : ℕ → List ℕ → Front) (text bytes : List ℕ) → StandsForText front text bytes → reading front 0 text ≡ Some bytes
+reading-StandsForText front text bytes done = refl
+reading-StandsForText front text bytes (piece b n bs gives rest e more) =
+    ap (λ f. read_by_front f (λ k. reading front k bs)) e
+    ∙ ap (prefixed gives) (reading-drop front (n - 1) bs ∙ reading-StandsForText front (drop (n - 1) bs) rest more)
+
+prefixed-parts : (bytes : List ℕ) (r : Option (List ℕ)) (whole : List ℕ) → prefixed bytes r ≡ Some whole → (rest : List ℕ) × (r ≡ Some rest) × (bytes ++ rest ≡ whole)
+prefixed-parts bytes None whole e = absurd (none-some whole e)
+prefixed-parts bytes (Some rest) whole e = (rest, refl, same_Some (bytes ++ rest) whole e)
+
+abbrev FindsReadings : (ℕ → List ℕ → Front) → ℕ → Type 0
+FindsReadings front size = (text bytes : List ℕ) → length text ≤ size → reading front 0 text ≡ Some bytes → StandsForText front text bytes
+
+by_case : (front : ℕ → List ℕ → Front) (size : ℕ) → FindsReadings front size → (f : Front) (b : ℕ) (bs bytes : List ℕ) → length bs ≤ size → front b bs ≡ f
+    → read_by_front f (λ n. reading front n bs) ≡ Some bytes → StandsForText front (b ∷ bs) bytes
+by_case front size finds Unreadable b bs bytes small is h = absurd (none-some bytes h)
+by_case front size finds (Gives gives n) b bs bytes small is h =
+    let parts = prefixed-parts gives (reading front (n - 1) bs) bytes h in
+    subst (λ o. StandsForText front (b ∷ bs) o) parts.2
+    (piece b n bs gives parts.0 is (finds (drop (n - 1) bs) parts.0 (omega (arith, length-drop (n - 1) bs)) (sym (reading-drop front (n - 1) bs) ∙ parts.1)))
+
+StandsForText-sized : (front : ℕ → List ℕ → Front) (size : ℕ) → FindsReadings front size
+StandsForText-sized front size [] bytes small e = subst (λ o. StandsForText front [] o) (same_Some [] bytes e) done
+StandsForText-sized front zero (b ∷ bs) bytes small e = absurd (omega arith)
+StandsForText-sized front (suc size) (b ∷ bs) bytes small e = by_case front size (StandsForText-sized front size) (front b bs) b bs bytes (omega arith) refl e
+
+-- what the function finds is a reading
+pub StandsForText-reading : (front : ℕ → List ℕ → Front) (text bytes : List ℕ) → reading front 0 text ≡ Some bytes → StandsForText front text bytes
+StandsForText-reading front text bytes e = StandsForText-sized front (length text) text bytes (omega arith) e
+
+-- where it finds none there is none
+pub no_reading : (front : ℕ → List ℕ → Front) (text bytes : List ℕ) → reading front 0 text ≡ None → ¬ (StandsForText front text bytes)
+no_reading front text bytes e stands = none-some bytes (sym e ∙ reading-StandsForText front text bytes stands)
+
+-- a text stands for one other at most
+pub one_reading : (front : ℕ → List ℕ → Front) (text a b : List ℕ) → StandsForText front text a → StandsForText front text b → a ≡ b
+one_reading front text a b m n = same_Some a b (sym (reading-StandsForText front text a m) ∙ reading-StandsForText front text b n)
+
+pub prefixed-prefixed : (xs ys : List ℕ) (r : Option (List ℕ)) → prefixed xs (prefixed ys r) ≡ prefixed (xs ++ ys) r
+prefixed-prefixed xs ys None = refl
+prefixed-prefixed xs ys (Some z) = ap Some (sym (append_assoc xs ys z))
+
+pub prefixed-nil : (r : Option (List ℕ)) → prefixed [] r ≡ r
+prefixed-nil None = refl
+prefixed-nil (Some z) = refl
+
+-- one piece more: what is done, and then what is read of the text, is what is done with the piece and then what is read of the rest
+pub reading_more : (front : ℕ → List ℕ → Front) (b n : ℕ) (bs gives bytes : List ℕ) → front b bs ≡ Gives gives n
+    → prefixed bytes (reading front 0 (b ∷ bs)) ≡ prefixed (bytes ++ gives) (reading front 0 (drop (n - 1) bs))
+reading_more front b n bs gives bytes e =
+    ap (λ f. prefixed bytes (read_by_front f (λ k. reading front k bs))) e
+    ∙ ap (λ r. prefixed bytes (prefixed gives r)) (reading-drop front (n - 1) bs)
+    ∙ prefixed-prefixed bytes gives (reading front 0 (drop (n - 1) bs))
+
+-- no piece more: a text with an unreadable front has no reading
+pub reading_none : (front : ℕ → List ℕ → Front) (b : ℕ) (bs bytes : List ℕ) → front b bs ≡ Unreadable → prefixed bytes (reading front 0 (b ∷ bs)) ≡ None
+reading_none front b bs bytes e = ap (λ f. prefixed bytes (read_by_front f (λ k. reading front k bs))) e
+
+-- a run of bytes that each stand for themselves, whatever follows
+pub reading-append : (front : ℕ → List ℕ → Front) (run text : List ℕ) → ((i : ℕ) → i < length run → (bs : List ℕ) → front (get_or run i 0) bs ≡ Gives (get_or run i 0 ∷ []) 1)
+    → reading front 0 (run ++ text) ≡ prefixed run (reading front 0 text)
+reading-append front [] text plain = sym (prefixed-nil (reading front 0 text))
+reading-append front (b ∷ bs) text plain =
+    ap (λ f. read_by_front f (λ n. reading front n (bs ++ text))) (plain 0 (omega arith) (bs ++ text))
+    ∙ ap (prefixed (b ∷ [])) (reading-append front bs text (λ i below. plain (suc i) (omega arith)))
+    ∙ prefixed-prefixed (b ∷ []) bs (reading front 0 text)
+
+-- a run and one piece more
+pub reading_more_after : (front : ℕ → List ℕ → Front) (b n : ℕ) (run bs gives bytes : List ℕ)
+    → ((i : ℕ) → i < length run → (later : List ℕ) → front (get_or run i 0) later ≡ Gives (get_or run i 0 ∷ []) 1) → front b bs ≡ Gives gives n
+    → prefixed bytes (reading front 0 (run ++ b ∷ bs)) ≡ prefixed ((bytes ++ run) ++ gives) (reading front 0 (drop (n - 1) bs))
+reading_more_after front b n run bs gives bytes plain e =
+    ap (prefixed bytes) (reading-append front run (b ∷ bs) plain)
+    ∙ prefixed-prefixed bytes run (reading front 0 (b ∷ bs))
+    ∙ reading_more front b n bs gives (bytes ++ run) e

@@ -1,0 +1,50 @@
+-- The text of a reply: no reply holds a float, and none is past the limit.
+use Rattle.std.proofs.Common.{◌≡◌, ℕ, ◌<◌, ◌≤◌, ◌^◌, List, [], ◌∷◌, length, map, false, true, refl, sym, ap, ◌∙◌, arith, lit≤}
+use Rattle.std.specs.Fmt.{digits}
+use Rattle.std.specs.Prelude.{nat_le}
+use Rattle.serde_json.proofs.OnLiterals.{serde_json_on_literals}
+use Rattle.serde_json.specs.Data.{string}
+use Rattle.serde_json.specs.View.{items_of}
+use Rattle.serde_json.specs.Written.{has_float, items_have_float, compact_text}
+use Rattle.um_model.specs.Machine.{Reply, Done, Shown, Refusal}
+use Rattle.um_model.specs.Refusals.{Refused, too_large}
+use Rattle.um_model.specs.Replies.{warning_data, refused_data, reply_data, reply_text, within_limit}
+use Rattle.um_model.specs.Units.{Warning}
+use Rattle.um_model.specs.declared.refusals.Limit.TheVariants.{Reply as ReplyLimit}
+
+texts_plain : (texts : List (List ℕ)) → items_have_float (items_of (map string texts)) ≡ false
+texts_plain [] = refl
+texts_plain (t ∷ ts) = texts_plain ts
+
+warnings_plain : (warnings : List Warning) → items_have_float (items_of (map warning_data warnings)) ≡ false
+warnings_plain [] = refl
+warnings_plain (w ∷ ws) = warnings_plain ws
+
+-- no reply holds a float
+pub refused_plain : (r : Refused) → has_float (refused_data r) ≡ false
+refused_plain r = rw (texts_plain r.detail) refl
+
+pub reply_plain : (reply : Reply) → has_float (reply_data reply) ≡ false
+reply_plain Done = refl
+reply_plain (Shown u) = rw (warnings_plain u.warnings) refl
+reply_plain (Refusal r) = refused_plain r
+
+pub reply_text-short : (reply : Reply) (text : List ℕ) → text ≡ compact_text (reply_data reply) → length text ≤ 2 ^ 24 → text ≡ reply_text reply
+unfolding reply_text
+reply_text-short reply text is short =
+    let low : nat_le (length text) (2 ^ 24) ≡ true = grind (arith) in
+    let kept : within_limit text ≡ text = rw low refl in
+    sym kept ∙ ap within_limit is
+
+pub reply_text-long : (reply : Reply) (text : List ℕ) → text ≡ compact_text (reply_data reply) → 2 ^ 24 < length text
+    → reply_text reply ≡ compact_text (refused_data (too_large ReplyLimit))
+unfolding reply_text
+reply_text-long reply text is long =
+    let high : nat_le (length text) (2 ^ 24) ≡ false = grind (arith) in
+    let cut : within_limit text ≡ compact_text (refused_data (too_large ReplyLimit)) = rw high refl in
+    sym (ap within_limit is) ∙ cut
+
+-- the refusal of a reply that is too long is short itself
+pub too_large_short : length (compact_text (refused_data (too_large ReplyLimit))) ≤ 2 ^ 24
+unfolding serde_json_on_literals digits
+too_large_short = lit≤ tt

@@ -1,0 +1,130 @@
+-- The laws of substitution: at most one result, and each value has words.
+use Rattle.std.proofs.Common.{◌≡◌, ◌≢◌, ◌≤◌, ℕ, zero, suc, ◌-◌, Bool, true, false, cond, eqb, List, [], ◌∷◌, ◌++◌, length, drop, Option, Some, None, refl, sym, ap, ◌∙◌, subst, inl, inr, append_assoc, append-nil, arith}
+use Rattle.std.proofs.lemmas.List.{length-drop}
+use Rattle.std.proofs.lemmas.Bool.{cases_Bool, cond-false, ne_eqb}
+use Rattle.std.proofs.lemmas.Option.{none-some, same_Some}
+use Rattle.um_model.specs.Ascii.{is_space}
+use Rattle.um_model.specs.Pieces.{Gives}
+use Rattle.um_model.specs.Words.{is_quote, Stop, Turn, Kept, bare, InWord, ends, stops, turns, stands, keeps, Word, AreSpelled, none, space, word_first, AreWords}
+use Rattle.um_model.specs.Substitution.{Variable, value_of, piece_front, Becomes, splits, fills, AllBecome, no_more, one_more, AreSubstituted, no_words, first_stays}
+use Rattle.um_model.specs.declared.words.WordRules.TheVariants.{Plain}
+use Rattle.um_model.proofs.PiecesLaws.{one_reading}
+use Rattle.um_model.proofs.WordsLaws.{read, by_spelling, with_front, InWord-read, same_words}
+
+-- a byte that is no `$` stands for itself
+pub plain_piece : (environment : List Variable) (b : ℕ) (bs : List ℕ) → b ≢ 36 → piece_front environment b bs ≡ Gives (b ∷ []) 1
+plain_piece environment b bs differ = cond-false _ _ _ (ne_eqb b 36 differ)
+
+-- what a word becomes is one list at most
+pub same_becomes : (environment : List Variable) (word : List ℕ) (a b : List (List ℕ)) → Becomes environment word a → Becomes environment word b → a ≡ b
+same_becomes environment word a b (splits w name words whole are) (splits v other more same others) =
+    let name_is : name ≡ other = same_Some name other (sym whole ∙ same) in
+    same_words Plain (value_of environment other) words more (subst (λ n. AreWords Plain (value_of environment n) words) name_is are) others
+same_becomes environment word a b (splits w name words whole are) (fills v text none_whole stand) = absurd (none-some name (sym none_whole ∙ whole))
+same_becomes environment word a b (fills w text none_whole stand) (splits v name words whole are) = absurd (none-some name (sym none_whole ∙ whole))
+same_becomes environment word a b (fills w text none_whole stand) (fills v other none_other stands_too) =
+    ap (λ t. t ∷ []) (one_reading (piece_front environment) word text other stand stands_too)
+
+abbrev Same : List Variable → List (List ℕ) → Type 0
+Same environment words = (a b : List (List ℕ)) → AllBecome environment words a → AllBecome environment words b → a ≡ b
+
+no_words_become : (environment : List Variable) (b : List (List ℕ)) → AllBecome environment [] b → [] ≡ b
+no_words_become environment b no_more = refl
+
+first_becomes : (environment : List Variable) (word : List ℕ) (words b : List (List ℕ)) → AllBecome environment (word ∷ words) b
+    → (some : List (List ℕ)) × (more : List (List ℕ)) × Becomes environment word some × AllBecome environment words more × (some ++ more ≡ b)
+first_becomes environment word words b (one_more w ws some more becomes rest) = (some, more, becomes, rest, refl)
+
+-- and so is what several words become
+pub same_all : (environment : List Variable) (words a b : List (List ℕ)) → AllBecome environment words a → AllBecome environment words b → a ≡ b
+same_all environment words a b no_more others = no_words_become environment b others
+same_all environment words a b (one_more word ws some more becomes rest) others =
+    let t = first_becomes environment word ws b others in
+    ap (λ x. x ++ more) (same_becomes environment word some t.0 becomes t.2)
+    ∙ ap (λ x. t.0 ++ x) (same_all environment ws more t.1 rest t.3) ∙ t.4
+
+stays_first : (environment : List Variable) (first : List ℕ) (words b : List (List ℕ)) → AreSubstituted environment (first ∷ words) b
+    → (others : List (List ℕ)) × AllBecome environment words others × (first ∷ others ≡ b)
+stays_first environment first words b (first_stays f ws others become) = (others, become, refl)
+
+no_words_stay : (environment : List Variable) (b : List (List ℕ)) → AreSubstituted environment [] b → [] ≡ b
+no_words_stay environment b no_words = refl
+
+-- the words of a command become one list at most
+pub same_substituted : (environment : List Variable) (words a b : List (List ℕ)) → AreSubstituted environment words a → AreSubstituted environment words b → a ≡ b
+same_substituted environment words a b no_words others = no_words_stay environment b others
+same_substituted environment words a b (first_stays first ws more become) others =
+    let t = stays_first environment first ws b others in
+    ap (λ x. first ∷ x) (same_all environment ws more t.0 become t.1) ∙ t.2
+
+-- one word more at the end
+pub become_more : (environment : List Variable) (words out : List (List ℕ)) (word : List ℕ) (more : List (List ℕ)) → AllBecome environment words out → Becomes environment word more
+    → AllBecome environment (words ++ word ∷ []) (out ++ more)
+become_more environment words out word more no_more becomes =
+    subst (AllBecome environment (word ∷ [])) (append-nil more) (one_more word [] more [] becomes no_more)
+become_more environment words out word more (one_more w ws some later first rest) becomes =
+    subst (AllBecome environment (w ∷ ws ++ word ∷ [])) (sym (append_assoc some later more))
+    (one_more w (ws ++ word ∷ []) some (later ++ more) first (become_more environment ws later word more rest becomes))
+
+-- Each value has words.
+
+abbrev Reads : Option (List ℕ × List ℕ) → Type 0
+Reads r = (word : List ℕ) × (rest : List ℕ) × (r ≡ Some (word, rest))
+
+reads_front : (front : List ℕ) (r : Option (List ℕ × List ℕ)) → Reads r → Reads (with_front front r)
+reads_front front r found = (front ++ found.0, found.1, ap (with_front front) found.2)
+
+reads_spelling : (quote : Option ℕ) (b : ℕ) (bs : List ℕ) → ((n : ℕ) (other : Option ℕ) → Reads (read Plain n other bs))
+    → Reads (by_spelling (bare quote b) quote b bs (λ n other. read Plain n other bs))
+reads_spelling None b bs later = elim (cases_Bool (is_space b)) [
+  | inl white ↦ rw white ([], b ∷ bs, refl)
+  | inr apart ↦ rw apart (elim (cases_Bool (is_quote b)) [
+    | inl quotes ↦ rw quotes (later 0 (Some b))
+    | inr plain ↦ rw plain (reads_front (b ∷ []) (read Plain 0 None bs) (later 0 None))
+  ])
+]
+reads_spelling (Some quote) b bs later = elim (cases_Bool (eqb b quote)) [
+  | inl closes ↦ rw closes (later 0 None)
+  | inr plain ↦ rw plain (reads_front (b ∷ []) (read Plain 0 (Some quote) bs) (later 0 (Some quote)))
+]
+
+plain_reads : (bs : List ℕ) (n : ℕ) (quote : Option ℕ) → Reads (read Plain n quote bs)
+plain_reads [] n quote = ([], [], refl)
+plain_reads (b ∷ bs) (suc n) quote = plain_reads bs n quote
+plain_reads (b ∷ bs) zero quote = reads_spelling quote b bs (λ n other. plain_reads bs n other)
+
+within : (quote : Option ℕ) (text word rest : List ℕ) → InWord Plain quote text word rest → length rest ≤ length text
+within quote text word rest (ends q e) = omega arith
+within quote text word rest (stops q b bs e) = omega arith
+within quote text word rest (turns q other b bs w r e inside) = omega (arith, within other bs w r inside)
+within quote text word rest (stands q b meaning n bs w r e inside) = omega (arith, within q (drop (n - 1) bs) w r inside, length-drop (n - 1) bs)
+within quote text word rest (keeps q b n bs w r e inside) = omega (arith, within q (drop (n - 1) bs) w r inside, length-drop (n - 1) bs)
+
+no_stop : (quotes : Bool) (b : ℕ) → cond quotes (Turn (Some b)) (Kept 1) ≢ Stop
+no_stop true b e = absurd (cc)
+no_stop false b e = absurd (cc)
+
+-- a word that is there takes a byte
+word_takes : (b : ℕ) (bs word rest : List ℕ) → is_space b ≡ false → InWord Plain None (b ∷ bs) word rest → length rest ≤ length bs
+word_takes b bs word rest apart (stops q c more e) = absurd (no_stop (is_quote c) c (sym (cond-false _ _ _ apart) ∙ e))
+word_takes b bs word rest apart (turns q other c more w r e inside) = within other more w r inside
+word_takes b bs word rest apart (stands q c meaning n more w r e inside) = omega (arith, within q (drop (n - 1) more) w r inside, length-drop (n - 1) more)
+word_takes b bs word rest apart (keeps q c n more w r e inside) = omega (arith, within q (drop (n - 1) more) w r inside, length-drop (n - 1) more)
+
+have_words : (size : ℕ) (text : List ℕ) → length text ≤ size → (words : List Word) × AreSpelled Plain text words
+have_words size [] small = ([], none)
+have_words zero (b ∷ bs) small = absurd (omega arith)
+have_words (suc size) (b ∷ bs) small = elim (cases_Bool (is_space b)) [
+  | inl white ↦
+      let more = have_words size bs (omega arith) in
+      (more.0, space b bs more.0 white more.1)
+  | inr apart ↦
+      let read = plain_reads (b ∷ bs) 0 None in
+      let inside = InWord-read Plain (length (b ∷ bs)) None (b ∷ bs) read.0 read.1 (omega arith) read.2 in
+      let more = have_words size read.1 (omega (arith, word_takes b bs read.0 read.1 apart inside)) in
+      (_, word_first b bs read.0 read.1 more.0 apart inside more.1)
+]
+
+-- each value reads as words
+pub has_words : (text : List ℕ) → (words : List Word) × AreSpelled Plain text words
+has_words text = have_words (length text) text (omega arith)

@@ -1,0 +1,298 @@
+-- The laws of words: at most one reading, and the function that finds it.
+use Rattle.std.proofs.Common.{◌≡◌, ◌<◌, ◌≤◌, ℕ, zero, suc, ◌+◌, ◌-◌, Bool, true, false, ◌||◌, not, cond, eqb, List, [], ◌∷◌, ◌++◌, length, take, drop, map, Option, Some, None, refl, sym, ap, ◌∙◌, subst, inl, inr, append_assoc, append-nil, arith}
+use Rattle.std.specs.Prelude.{IfSome}
+use Rattle.std.specs.List.{prefix_len, flat_map, slice_split, onto_first}
+use Rattle.std.proofs.lemmas.List.{drop-drop, length-drop}
+use Rattle.std.proofs.lemmas.Bool.{cases_Bool, true≢false, cond-true, cond-false, or_parts, or_cases, not-true, not-false, eqb-true}
+use Rattle.std.proofs.lemmas.Option.{some_pair_parts, none-some}
+use Rattle.um_model.specs.Ascii.{is_space}
+use Rattle.um_model.specs.declared.words.WordRules.{WordRules}
+use Rattle.um_model.specs.declared.words.WordRules.TheVariants.{Escaped, Plain}
+use Rattle.um_model.specs.Words.{is_quote, Spelling, Stop, Bad, Turn, Means, Kept, begins_escape, bare, spelled_at, may_end, InWord, ends, stops, turns, stands, keeps, Word, before, AreSpelled, none, space, word_first, values_of, AreWords, Command, is_separator, value_in_command, command_of, commands_of, AreCommands}
+
+-- these bytes, and then what is read
+abbrev pub with_front : List ℕ → Option (List ℕ × List ℕ) → Option (List ℕ × List ℕ)
+with_front bytes None = None
+with_front bytes (Some found) = Some (bytes ++ found.0, found.1)
+
+-- nothing is left
+abbrev pub at_end : WordRules → Option ℕ → Option (List ℕ × List ℕ)
+at_end rules quote = cond (may_end rules quote) (Some ([], [])) None
+
+-- what is read, where the front is spelled so and what follows so many skipped bytes is read so
+abbrev pub by_spelling : Spelling → Option ℕ → ℕ → List ℕ → (ℕ → Option ℕ → Option (List ℕ × List ℕ)) → Option (List ℕ × List ℕ)
+by_spelling Stop quote b bs later = Some ([], b ∷ bs)
+by_spelling Bad quote b bs later = None
+by_spelling (Turn other) quote b bs later = later 0 other
+by_spelling (Means meaning n) quote b bs later = with_front (meaning ∷ []) (later (n - 1) quote)
+by_spelling (Kept n) quote b bs later = with_front (b ∷ take (n - 1) bs) (later (n - 1) quote)
+
+-- the word and what follows it, after so many bytes are skipped
+abbrev pub read : WordRules → ℕ → Option ℕ → List ℕ → Option (List ℕ × List ℕ)
+read rules skip quote [] = at_end rules quote
+read rules (suc skip) quote (b ∷ bs) = read rules skip quote bs
+read rules zero quote (b ∷ bs) = by_spelling (spelled_at rules quote b bs) quote b bs (λ n other. read rules n other bs)
+
+-- the byte ends or turns a word, outside quotes or in one
+abbrev pub marks : Option ℕ → ℕ → Bool
+marks None b = is_space b || is_quote b
+marks (Some quote) b = eqb b quote
+
+-- the byte stands for itself
+abbrev pub is_plain : WordRules → Option ℕ → ℕ → Bool
+is_plain rules quote b = not (begins_escape rules b || marks quote b)
+
+drop_cons : (b : ℕ) (bs : List ℕ) (n : ℕ) → 1 ≤ n → drop n (b ∷ bs) ≡ drop (n - 1) bs
+drop_cons b bs zero h = absurd (omega arith)
+drop_cons b bs (suc n) h = ap (λ i. drop i bs) (omega arith)
+
+take_cons : (b : ℕ) (bs : List ℕ) (n : ℕ) → 1 ≤ n → take n (b ∷ bs) ≡ b ∷ take (n - 1) bs
+take_cons b bs zero h = absurd (omega arith)
+take_cons b bs (suc n) h = ap (λ i. b ∷ take i bs) (omega arith)
+
+nil_take : (n : ℕ) → take {A = ℕ} n [] ≡ []
+nil_take zero = refl
+nil_take (suc n) = refl
+
+take_sum : (n p : ℕ) (xs : List ℕ) → take (n + p) xs ≡ take n xs ++ take p (drop n xs)
+take_sum zero p xs = ap (λ i. take i xs) (omega arith)
+take_sum (suc n) p [] = nil_take (suc n + p) ∙ sym (nil_take p)
+take_sum (suc n) p (x ∷ xs) = let e : suc n + p ≡ suc (n + p) = omega arith in ap (λ i. take i (x ∷ xs)) e ∙ ap (λ t. x ∷ t) (take_sum n p xs)
+
+read_skip : (rules : WordRules) (n : ℕ) (quote : Option ℕ) (bs : List ℕ) → read rules n quote bs ≡ read rules 0 quote (drop n bs)
+read_skip rules zero quote bs = refl
+read_skip rules (suc n) quote [] = refl
+read_skip rules (suc n) quote (b ∷ bs) = read_skip rules n quote bs
+
+front_of_front : (xs ys : List ℕ) (r : Option (List ℕ × List ℕ)) → with_front xs (with_front ys r) ≡ with_front (xs ++ ys) r
+front_of_front xs ys None = refl
+front_of_front xs ys (Some p) = ap (λ w. Some (w, p.1)) (sym (append_assoc xs ys p.0))
+
+no_front : (r : Option (List ℕ × List ℕ)) → with_front [] r ≡ r
+no_front None = refl
+no_front (Some p) = refl
+
+plain_bare : (quote : Option ℕ) (b : ℕ) → marks quote b ≡ false → bare quote b ≡ Kept 1
+plain_bare None b h = let r = or_parts (is_space b) (is_quote b) h in cond-false _ _ _ r.0 ∙ cond-false _ _ _ r.1
+plain_bare (Some quote) b h = cond-false _ _ _ h
+
+plain_spelling : (rules : WordRules) (quote : Option ℕ) (b : ℕ) (bs : List ℕ) → is_plain rules quote b ≡ true → spelled_at rules quote b bs ≡ Kept 1
+plain_spelling rules quote b bs h =
+    let p = or_parts (begins_escape rules b) (marks quote b) (not-true _ h) in
+    cond-false _ _ _ p.0 ∙ plain_bare quote b p.1
+
+escape_ascii : (rules : WordRules) (b : ℕ) → begins_escape rules b ≡ true → b < 128
+escape_ascii Escaped b e = omega (arith, eqb-true b 92 e)
+escape_ascii Plain b e = absurd (cc)
+
+pub space_ascii : (b : ℕ) → is_space b ≡ true → b < 128
+space_ascii b white = elim (or_cases (eqb b 32) (eqb b 9) white) [ inl e ↦ omega (arith, eqb-true b 32 e) | inr e ↦ omega (arith, eqb-true b 9 e) ]
+
+marks_ascii : (quote : Option ℕ) (b : ℕ) → marks quote b ≡ true → IfSome quote (λ q. q < 128) → b < 128
+marks_ascii None b h ascii = elim (or_cases (is_space b) (is_quote b) h) [
+  | inl g ↦ space_ascii b g
+  | inr g ↦ elim (or_cases (eqb b 34) (eqb b 39) g) [ inl e ↦ omega (arith, eqb-true b 34 e) | inr e ↦ omega (arith, eqb-true b 39 e) ]
+]
+marks_ascii (Some quote) b h ascii = omega (arith, eqb-true b quote h)
+
+-- a byte that doesn't stand for itself is ASCII
+pub plain_ascii : (rules : WordRules) (quote : Option ℕ) (b : ℕ) → is_plain rules quote b ≡ false → IfSome quote (λ q. q < 128) → b < 128
+plain_ascii rules quote b h ascii = elim (or_cases (begins_escape rules b) (marks quote b) (not-false _ h)) [
+  | inl e ↦ escape_ascii rules b e
+  | inr e ↦ marks_ascii quote b e ascii
+]
+
+-- a run of bytes that stand for themselves
+read_run : (rules : WordRules) (quote : Option ℕ) (bs : List ℕ)
+    → let p = prefix_len (is_plain rules quote) bs in read rules 0 quote bs ≡ with_front (take p bs) (read rules 0 quote (drop p bs))
+read_run rules quote [] = sym (no_front (at_end rules quote))
+read_run rules quote (b ∷ bs) =
+    let rest = read_run rules quote bs in
+    let p = prefix_len (is_plain rules quote) bs in
+    let goal = λ (n : ℕ). with_front (take n (b ∷ bs)) (read rules 0 quote (drop n (b ∷ bs))) in
+    elim (cases_Bool (is_plain rules quote b)) [
+      | inl plain ↦
+          let is_suc : prefix_len (is_plain rules quote) (b ∷ bs) ≡ suc p = cond-true _ _ _ plain ∙ omega arith in
+          ap (λ f. by_spelling f quote b bs (λ n other. read rules n other bs)) (plain_spelling rules quote b bs plain)
+          ∙ ap (with_front (b ∷ [])) rest ∙ front_of_front (b ∷ []) (take p bs) (read rules 0 quote (drop p bs)) ∙ ap goal (sym is_suc)
+      | inr not_plain ↦ sym (no_front (read rules 0 quote (b ∷ bs))) ∙ ap goal (sym (cond-false _ (1 + p) 0 not_plain))
+    ]
+
+-- one byte more that is meant
+pub told_means : (rules : WordRules) (text bs word rest later : List ℕ) (b meaning n : ℕ) (quote : Option ℕ) (whole : Option (List ℕ × List ℕ))
+    → text ≡ b ∷ bs → spelled_at rules quote b bs ≡ Means meaning n → 2 ≤ n → rest ≡ drop n text → later ≡ word ++ meaning ∷ []
+    → with_front word (read rules 0 quote text) ≡ whole → with_front later (read rules 0 quote rest) ≡ whole
+told_means rules text bs word rest later b meaning n quote whole e is two left then told =
+    let rest_is : rest ≡ drop (n - 1) bs = left ∙ ap (drop n) e ∙ drop_cons b bs n (omega arith) in
+    ap (λ w. with_front w (read rules 0 quote rest)) then ∙ ap (λ r. with_front (word ++ meaning ∷ []) (read rules 0 quote r)) rest_is
+    ∙ sym (front_of_front word (meaning ∷ []) (read rules 0 quote (drop (n - 1) bs)))
+    ∙ ap (λ r. with_front word (with_front (meaning ∷ []) r)) (sym (read_skip rules (n - 1) quote bs))
+    ∙ ap (λ f. with_front word (by_spelling f quote b bs (λ n other. read rules n other bs))) (sym is)
+    ∙ ap (λ t. with_front word (read rules 0 quote t)) (sym e) ∙ told
+
+-- bytes more that stay, and the run of plain bytes behind them
+pub told_kept : (rules : WordRules) (text bs word rest later : List ℕ) (b n p : ℕ) (quote : Option ℕ) (whole : Option (List ℕ × List ℕ))
+    → text ≡ b ∷ bs → spelled_at rules quote b bs ≡ Kept n → 1 ≤ n → p ≡ prefix_len (is_plain rules quote) (drop (n - 1) bs)
+    → rest ≡ drop (n + p) text → later ≡ word ++ take (n + p) text
+    → with_front word (read rules 0 quote text) ≡ whole → with_front later (read rules 0 quote rest) ≡ whole
+told_kept rules text bs word rest later b n p quote whole e is one run left then told =
+    let more = drop (n - 1) bs in
+    let more_is : drop n text ≡ more = ap (drop n) e ∙ drop_cons b bs n one in
+    let kept_is : take n text ≡ b ∷ take (n - 1) bs = ap (take n) e ∙ take_cons b bs n one in
+    let kept = b ∷ take (n - 1) bs in
+    let rest_is : rest ≡ drop p more = left ∙ sym (drop-drop p n text) ∙ ap (drop p) more_is in
+    let all_kept : later ≡ word ++ (kept ++ take p more) =
+    then ∙ ap (λ x. word ++ x) (take_sum n p text ∙ ap (λ x. x ++ take p (drop n text)) kept_is ∙ ap (λ x. kept ++ take p x) more_is) in
+    let run_is : read rules 0 quote more ≡ with_front (take p more) (read rules 0 quote (drop p more)) =
+    read_run rules quote more ∙ ap (λ i. with_front (take i more) (read rules 0 quote (drop i more))) (sym run) in
+    ap (λ w. with_front w (read rules 0 quote rest)) all_kept ∙ ap (λ r. with_front (word ++ (kept ++ take p more)) (read rules 0 quote r)) rest_is
+    ∙ sym (front_of_front word (kept ++ take p more) (read rules 0 quote (drop p more)))
+    ∙ ap (with_front word) (sym (front_of_front kept (take p more) (read rules 0 quote (drop p more))) ∙ ap (with_front kept) (sym run_is ∙ sym (read_skip rules (n - 1) quote bs)))
+    ∙ ap (λ f. with_front word (by_spelling f quote b bs (λ n other. read rules n other bs))) (sym is)
+    ∙ ap (λ t. with_front word (read rules 0 quote t)) (sym e) ∙ told
+
+-- what is in front of what was read
+taken_off : (front : List ℕ) (r : Option (List ℕ × List ℕ)) (w s : List ℕ) → with_front front r ≡ Some (w, s) → (v : List ℕ) × (r ≡ Some (v, s)) × (front ++ v ≡ w)
+taken_off front None w s e = absurd (none-some (w, s) e)
+taken_off front (Some p) w s e = let q = some_pair_parts (front ++ p.0) w p.1 s e in (p.0, ap (λ t. Some (p.0, t)) q.1, q.0)
+
+-- what is spelled so is read
+pub read-InWord : (rules : WordRules) (quote : Option ℕ) (bs word rest : List ℕ) → InWord rules quote bs word rest → read rules 0 quote bs ≡ Some (word, rest)
+read-InWord rules quote bs word rest (ends q e) = cond-true _ _ _ e
+read-InWord rules quote bs word rest (stops q b more e) = ap (λ f. by_spelling f q b more (λ n other. read rules n other more)) e
+read-InWord rules quote bs word rest (turns q other b more w r e inside) =
+    ap (λ f. by_spelling f q b more (λ n other. read rules n other more)) e ∙ read-InWord rules other more w r inside
+read-InWord rules quote bs word rest (stands q b meaning n more w r e inside) =
+    ap (λ f. by_spelling f q b more (λ n other. read rules n other more)) e
+    ∙ ap (with_front (meaning ∷ [])) (read_skip rules (n - 1) q more ∙ read-InWord rules q (drop (n - 1) more) w r inside)
+read-InWord rules quote bs word rest (keeps q b n more w r e inside) =
+    ap (λ f. by_spelling f q b more (λ n other. read rules n other more)) e
+    ∙ ap (with_front (b ∷ take (n - 1) more)) (read_skip rules (n - 1) q more ∙ read-InWord rules q (drop (n - 1) more) w r inside)
+
+-- what is read in texts of at most this size is spelled so
+abbrev FindsWords : WordRules → ℕ → Type 0
+FindsWords rules size = (quote : Option ℕ) (bs word rest : List ℕ) → length bs ≤ size → read rules 0 quote bs ≡ Some (word, rest) → InWord rules quote bs word rest
+
+by_case : (rules : WordRules) (size : ℕ) → FindsWords rules size → (f : Spelling) (quote : Option ℕ) (b : ℕ) (bs word rest : List ℕ) → length bs ≤ size → spelled_at rules quote b bs ≡ f
+    → by_spelling f quote b bs (λ n other. read rules n other bs) ≡ Some (word, rest) → InWord rules quote (b ∷ bs) word rest
+by_case rules size finds Stop quote b bs word rest small is h =
+    let p = some_pair_parts [] word (b ∷ bs) rest h in
+    subst (λ w. InWord rules quote (b ∷ bs) w rest) p.0 (subst (λ r. InWord rules quote (b ∷ bs) [] r) p.1 (stops quote b bs is))
+by_case rules size finds Bad quote b bs word rest small is h = absurd (none-some (word, rest) h)
+by_case rules size finds (Turn other) quote b bs word rest small is h = turns quote other b bs word rest is (finds other bs word rest small h)
+by_case rules size finds (Means meaning n) quote b bs word rest small is h =
+    let t = taken_off (meaning ∷ []) (read rules (n - 1) quote bs) word rest h in
+    subst (λ w. InWord rules quote (b ∷ bs) w rest) t.2
+    (stands quote b meaning n bs t.0 rest is (finds quote (drop (n - 1) bs) t.0 rest (omega (arith, length-drop (n - 1) bs)) (sym (read_skip rules (n - 1) quote bs) ∙ t.1)))
+by_case rules size finds (Kept n) quote b bs word rest small is h =
+    let t = taken_off (b ∷ take (n - 1) bs) (read rules (n - 1) quote bs) word rest h in
+    subst (λ w. InWord rules quote (b ∷ bs) w rest) t.2
+    (keeps quote b n bs t.0 rest is (finds quote (drop (n - 1) bs) t.0 rest (omega (arith, length-drop (n - 1) bs)) (sym (read_skip rules (n - 1) quote bs) ∙ t.1)))
+
+ended : (rules : WordRules) (quote : Option ℕ) (word rest : List ℕ) → at_end rules quote ≡ Some (word, rest) → InWord rules quote [] word rest
+ended rules quote word rest e = elim (cases_Bool (may_end rules quote)) [
+  | inl may ↦
+      let p = some_pair_parts [] word [] rest (sym (cond-true _ _ _ may) ∙ e) in
+      subst (λ w. InWord rules quote [] w rest) p.0 (subst (λ r. InWord rules quote [] [] r) p.1 (ends quote may))
+  | inr not_so ↦ absurd (none-some (word, rest) (sym (cond-false _ _ _ not_so) ∙ e))
+]
+
+-- what is read is spelled so
+pub InWord-read : (rules : WordRules) (size : ℕ) → FindsWords rules size
+InWord-read rules size quote [] word rest small e = ended rules quote word rest e
+InWord-read rules zero quote (b ∷ bs) word rest small e = absurd (omega arith)
+InWord-read rules (suc size) quote (b ∷ bs) word rest small e =
+    by_case rules size (InWord-read rules size) (spelled_at rules quote b bs) quote b bs word rest (omega arith) refl e
+
+-- the words of a text that begins with a word
+pub words_after : (rules : WordRules) (text rest later : List ℕ) (b : ℕ) (word : List ℕ) (words : List Word) → text ≡ b ∷ later → is_space b ≡ false
+    → read rules 0 None text ≡ Some (word, rest) → AreSpelled rules rest words → AreSpelled rules text (record { spelling = before rest text; value = word } ∷ words)
+words_after rules text rest later b word words e apart found are =
+    subst (λ t. AreSpelled rules t (record { spelling = before rest t; value = word } ∷ words)) (sym e)
+    (word_first b later word rest words apart (InWord-read rules (length (b ∷ later)) None (b ∷ later) word rest (omega arith) (ap (read rules 0 None) (sym e) ∙ found)) are)
+
+-- a text that begins with whitespace is as many words as what follows
+pub space_after : (rules : WordRules) (b : ℕ) (later : List ℕ) (words : List Word) → is_space b ≡ true → AreSpelled rules (b ∷ later) words → AreSpelled rules later words
+space_after rules b later words white (space c more ws h are) = are
+space_after rules b later words white (word_first c more w r ws h inside are) = absurd (true≢false (sym white ∙ h))
+
+-- a text of words that doesn't begin with whitespace begins with the word that is read
+word_read : (rules : WordRules) (b : ℕ) (later : List ℕ) (words : List Word) → is_space b ≡ false → AreSpelled rules (b ∷ later) words
+    → (word : List ℕ) × (rest : List ℕ) × (more : List Word) × (read rules 0 None (b ∷ later) ≡ Some (word, rest)) × AreSpelled rules rest more
+    × (words ≡ record { spelling = before rest (b ∷ later); value = word } ∷ more)
+word_read rules b later words apart (space c more ws h are) = absurd (true≢false (sym h ∙ apart))
+word_read rules b later words apart (word_first c more w r ws h inside are) = (w, r, ws, read-InWord rules None (b ∷ later) w r inside, are, refl)
+
+-- where nothing is read there are no words
+pub none_reads : (rules : WordRules) (text : List ℕ) (b : ℕ) (later : List ℕ) (words : List Word) → text ≡ b ∷ later → is_space b ≡ false
+    → None ≡ read rules 0 None text → AreSpelled rules text words → ⊥
+none_reads rules text b later words e apart nothing are =
+    let w = word_read rules b later words apart (subst (λ t. AreSpelled rules t words) e are) in
+    none-some (w.0, w.1) (nothing ∙ ap (read rules 0 None) e ∙ w.3)
+
+-- the words after the one that is read
+pub later_words : (rules : WordRules) (text : List ℕ) (b : ℕ) (later word rest : List ℕ) (words : List Word) → text ≡ b ∷ later → is_space b ≡ false
+    → Some (word, rest) ≡ read rules 0 None text → AreSpelled rules text words → (more : List Word) × AreSpelled rules rest more
+later_words rules text b later word rest words e apart found are =
+    let w = word_read rules b later words apart (subst (λ t. AreSpelled rules t words) e are) in
+    let p = some_pair_parts w.0 word w.1 rest (sym w.3 ∙ ap (read rules 0 None) (sym e) ∙ sym found) in
+    (w.2, subst (λ t. AreSpelled rules t w.2) p.1 w.4)
+
+nil_words : (rules : WordRules) (words : List Word) → AreSpelled rules [] words → words ≡ []
+nil_words rules words none = refl
+
+-- a text is one list of words at most
+pub same_spelled : (rules : WordRules) (text : List ℕ) (a b : List Word) → AreSpelled rules text a → AreSpelled rules text b → a ≡ b
+same_spelled rules text a b none others = sym (nil_words rules b others)
+same_spelled rules text a b (space c more ws h are) others = same_spelled rules more ws b are (space_after rules c more b h others)
+same_spelled rules text a b (word_first c more w rest ws h inside are) others =
+    let t = word_read rules c more b h others in
+    let p = some_pair_parts t.0 w t.1 rest (sym t.3 ∙ read-InWord rules None (c ∷ more) w rest inside) in
+    let tail = same_spelled rules rest ws t.2 are (subst (λ r. AreSpelled rules r t.2) p.1 t.4) in
+    let head : List ℕ → List ℕ → Word = λ r v. record { spelling = before r (c ∷ more); value = v } in
+    ap (λ x. head rest x ∷ ws) (sym p.0) ∙ ap (λ r. head r t.0 ∷ ws) (sym p.1) ∙ ap (λ x. head t.1 t.0 ∷ x) tail ∙ sym t.5
+
+-- and so reads as one list of texts
+pub same_words : (rules : WordRules) (text : List ℕ) (a b : List (List ℕ)) → AreWords rules text a → AreWords rules text b → a ≡ b
+same_words rules text a b first second = sym first.2 ∙ ap values_of (same_spelled rules text first.0 second.0 first.1 second.1) ∙ second.2
+
+-- and as one list of commands
+pub same_commands : (text : List ℕ) (a b : List Command) → AreCommands text a → AreCommands text b → a ≡ b
+same_commands text a b first second = sym first.2 ∙ ap commands_of (same_spelled Escaped text first.0 second.0 first.1 second.1) ∙ second.2
+
+-- the commands of words, where these values stand before the first separator already
+abbrev pub commands_after : List (List ℕ) → List Word → List Command
+commands_after part [] = command_of part
+commands_after part (word ∷ words) =
+    cond (is_separator word) (command_of part ++ commands_after [] words) (commands_after (part ++ value_in_command word ∷ []) words)
+
+-- the commands of parts, where these values stand before the first part
+abbrev parts_after : List (List ℕ) → List (List Word) → List Command
+parts_after part [] = command_of part
+parts_after part (first ∷ others) = command_of (part ++ map value_in_command first) ++ flat_map (λ p. command_of (map value_in_command p)) others
+
+parts_onto : (part : List (List ℕ)) (word : Word) (parts : List (List Word)) → parts_after part (onto_first word parts) ≡ parts_after (part ++ value_in_command word ∷ []) parts
+parts_onto part word [] = append-nil (command_of (part ++ value_in_command word ∷ []))
+parts_onto part word (first ∷ others) =
+    ap (λ p. command_of p ++ flat_map (λ q. command_of (map value_in_command q)) others) (sym (append_assoc part (value_in_command word ∷ []) (map value_in_command first)))
+
+all_parts : (parts : List (List Word)) → parts_after [] parts ≡ flat_map (λ p. command_of (map value_in_command p)) parts
+all_parts [] = refl
+all_parts (first ∷ others) = refl
+
+split_step : (t : Bool) (part : List (List ℕ)) (word : Word) (parts : List (List Word)) (now later : List Command) → now ≡ parts_after [] parts
+    → later ≡ parts_after (part ++ value_in_command word ∷ []) parts
+    → cond t (command_of part ++ now) later ≡ parts_after part (cond t ([] ∷ parts) (onto_first word parts))
+split_step true part word parts now later e f =
+    ap (λ n. command_of part ++ n) (e ∙ all_parts parts)
+    ∙ ap (λ p. command_of p ++ flat_map (λ q. command_of (map value_in_command q)) parts) (sym (append-nil part))
+split_step false part word parts now later e f = f ∙ sym (parts_onto part word parts)
+
+commands_split : (words : List Word) (part : List (List ℕ)) → commands_after part words ≡ parts_after part (slice_split is_separator words)
+commands_split [] part = ap command_of (sym (append-nil part)) ∙ sym (append-nil (command_of (part ++ [])))
+commands_split (word ∷ words) part =
+    split_step (is_separator word) part word (slice_split is_separator words) _ _ (commands_split words []) (commands_split words (part ++ value_in_command word ∷ []))
+
+-- the commands of words, one word after the other
+pub commands_are : (words : List Word) → commands_after [] words ≡ commands_of words
+commands_are words = commands_split words [] ∙ all_parts (slice_split is_separator words)

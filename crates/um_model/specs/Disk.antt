@@ -1,0 +1,158 @@
+-- The disk model: what was asked of a disk since it was made, what a read gives, and which images a crash may leave.
+-- No manual page has it: it is the usual model of sectors whose writes reach the disk in any order until a sync answers.
+-- The trait `Disk` and its devices, the log, the slots and the keeper stand on this file.
+use Rattle.std.specs.Prelude.{◌≡◌, ◌⊎◌, ◌+◌, ◌-◌, ◌^◌, ◌<◌, ◌≤◌, min, ℕ, zero, suc, ◌==◌, if◌then◌else◌, List, [], ◌∷◌, ◌++◌, length, map, filter, nat_lt, count_by, Bool, true, false, slice_index_or, Result, Ok, Err}
+use Rattle.std.specs.List.{Contains, range_with_len}
+
+-- the 512 bytes of a sector
+abbrev pub Sector : Type 0
+Sector = List ℕ
+
+-- what each sector holds
+abbrev pub Image : Type 0
+Image = ℕ → Sector
+
+-- the image with one sector changed
+abbrev pub with_sector : Image → ℕ → Sector → Image
+with_sector image k value = λ j. if j == k then value else image j
+
+-- A call that changes what a crash may leave.
+pub data Call : Type 0 where
+  -- sector, value, and what a read gives from then on
+  wrote : ℕ → Sector → Sector → Call
+  -- a sync that answered Ok
+  synced : Call
+
+-- what the disk was made with, and the calls since, the newest first
+pub record Past : Type 0 where
+  pub start : Image
+  pub calls : List Call
+
+-- what a read gives after these calls
+abbrev pub seen_after : Image → List Call → Image
+seen_after start [] = start
+seen_after start (wrote k value kept ∷ calls) = with_sector (seen_after start calls) k kept
+seen_after start (synced ∷ calls) = seen_after start calls
+
+-- what a read gives now
+abbrev pub seen : Past → Image
+seen past = seen_after past.start past.calls
+
+-- A sector's candidates after these calls: a write adds its value at the end, a sync leaves just what a read gives.
+abbrev pub candidates_after : Image → List Call → ℕ → List Sector
+candidates_after start [] k = start k ∷ []
+candidates_after start (wrote j value kept ∷ calls) k = if k == j then candidates_after start calls k ++ value ∷ [] else candidates_after start calls k
+candidates_after start (synced ∷ calls) k = seen_after start calls k ∷ []
+
+-- a sector's candidates now, the value at the last sync first
+abbrev pub candidates : Past → ℕ → List Sector
+candidates past k = candidates_after past.start past.calls k
+
+-- an image picks a candidate of each sector, of each independently
+abbrev pub IsImage : Past → Image → Type 0
+IsImage past image = (k : ℕ) → Contains (candidates past k) (image k)
+
+-- the moment: how many such calls were made (a call that changes nothing shares the images of the moment before)
+abbrev pub moment : Past → ℕ
+moment past = length past.calls
+
+-- an image of some moment from t on, after these calls
+abbrev pub ImageSince : Image → List Call → ℕ → Image → Type 0
+ImageSince start [] t image = (t ≤ 0) × IsImage (record { start = start; calls = [] }) image
+ImageSince start (call ∷ calls) t image = ((t ≤ suc (length calls)) × IsImage (record { start = start; calls = call ∷ calls }) image) ⊎ ImageSince start calls t image
+
+-- one call more
+abbrev pub after : Call → Past → Past
+after call past = record { start = past.start; calls = call ∷ past.calls }
+
+-- A write that failed but was made: a read gives one candidate from then on, the same until the next write.
+pub record MaybeWrote (old : Past) (k : ℕ) (value : Sector) (new : Past) : Type 0 where
+  pub kept : Sector
+  pub candidate : Contains (candidates old k ++ value ∷ []) kept
+  pub is : new ≡ after (wrote k value kept) old
+
+-- a write answered: at Ok a read gives its value from then on, at Err it was made or it wasn't
+abbrev pub Wrote : {T E : Type 0} → Result T E → Past → ℕ → Sector → Past → Type 0
+Wrote (Ok x) old k value new = new ≡ after (wrote k value value) old
+Wrote (Err e) old k value new = (new ≡ old) ⊎ MaybeWrote old k value new
+
+-- a sync answered: at Err it has done nothing
+abbrev pub Synced : {T E : Type 0} → Result T E → Past → Past → Type 0
+Synced (Ok x) old new = new ≡ after synced old
+Synced (Err e) old new = new ≡ old
+
+-- one more, in a count that stays at the last value of a `u64`
+abbrev pub one_more : ℕ → ℕ
+one_more count = min (count + 1) (2 ^ 64 - 1)
+
+-- one more, so many times
+abbrev pub more : ℕ → ℕ → ℕ
+more count zero = count
+more count (suc n) = one_more (more count n)
+
+-- the count of failures rises exactly at `Err`
+abbrev pub CountsFailure : {T E : Type 0} → Result T E → ℕ → ℕ → Type 0
+CountsFailure (Ok x) old new = new ≡ old
+CountsFailure (Err e) old new = new ≡ one_more old
+
+-- a count that rose, or stands at its last value
+abbrev pub HasRisen : ℕ → ℕ → Type 0
+HasRisen old new = (old < new) ⊎ (new ≡ 2 ^ 64 - 1)
+
+-- each image now has P
+abbrev pub Images : Past → (Image → Type 0) → Type 0
+Images past P = (image : Image) → IsImage past image → P image
+
+-- after these calls, the newest first
+abbrev pub onto : List Call → Past → Past
+onto calls past = record { start = past.start; calls = calls ++ past.calls }
+
+-- The disk went on from old to new, and each image of each moment from old on has P.
+pub record During (old new : Past) (P : Image → Type 0) : Type 0 where
+  pub calls : List Call
+  pub is : new ≡ onto calls old
+  pub each : (image : Image) → ImageSince new.start new.calls (moment old) image → P image
+
+-- a crash leaves just what a read gives
+abbrev pub IsSettled : Past → Type 0
+IsSettled past = Images past (λ image. image ≡ seen past)
+
+-- the run stands at its place, and all else is as before
+pub record IsLaid (old : Image) (at : ℕ) (run : List Sector) (image : Image) : Type 0 where
+  pub inside : (i : ℕ) → i < length run → image (at + i) ≡ slice_index_or run i []
+  pub outside : (j : ℕ) → (j < at) ⊎ (at + length run ≤ j) → image j ≡ old j
+
+-- each sector of the run's place is old or new, and all else is as before
+pub record MaybeLaid (old : Image) (at : ℕ) (run : List Sector) (image : Image) : Type 0 where
+  pub inside : (i : ℕ) → i < length run → (image (at + i) ≡ old (at + i)) ⊎ (image (at + i) ≡ slice_index_or run i [])
+  pub outside : (j : ℕ) → (j < at) ⊎ (at + length run ≤ j) → image j ≡ old j
+
+-- an image of before, with any of the run's sectors
+pub record AfterRun (past : Past) (at : ℕ) (run : List Sector) (image : Image) : Type 0 where
+  pub from : Image
+  pub was : IsImage past from
+  pub laid : MaybeLaid from at run image
+
+-- whether a call is a sync
+abbrev pub is_sync : Call → Bool
+is_sync synced = true
+is_sync (wrote k value kept) = false
+
+-- how many syncs answered Ok
+abbrev pub sync_count : Past → ℕ
+sync_count past = count_by is_sync past.calls
+
+-- a sector with the number of its candidates
+abbrev pub candidate_count : Past → ℕ → ℕ × ℕ
+candidate_count past k = (k, length (candidates past k))
+
+-- the sectors below n with more than one candidate, ascending, with the number of candidates
+abbrev pub unsynced : Past → ℕ → List (ℕ × ℕ)
+unsynced past n = filter (λ sector. nat_lt 1 sector.1) (map (candidate_count past) (range_with_len 0 n))
+
+-- The image that these picks choose: of each sector with more than one candidate, ascending, the index of its candidate
+-- (0, the value at the last sync, where the pick is missing or there is no such candidate).
+abbrev pub picked : Past → List ℕ → Image
+picked past picks k =
+    let choices = candidates past k in
+    slice_index_or choices (slice_index_or picks (length (unsynced past k)) 0) (slice_index_or choices 0 [])

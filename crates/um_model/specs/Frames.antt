@@ -1,0 +1,89 @@
+-- Streams of frames, and what is written for the stream of one client over standard input.
+-- No manual page has this: it is the project's own protocol (docs/FORMATS.md, "Frames").
+-- The program stands on this file.
+use Rattle.std.specs.Prelude.{◌≡◌, ℕ, ◌<◌, ◌≤◌, List, [], ◌∷◌, ◌++◌, length, Option, unwrap_or, Ok, Err}
+use Rattle.byteorder.specs.Endian.{big_number, big_bytes}
+use Rattle.um_model.specs.Refusals.{Refused, too_large}
+use Rattle.um_model.specs.Machine.{State, Input, Query, Event, Action, Step, Reply, Refusal, reply_to}
+use Rattle.um_model.specs.Requests.{OfEvent, OfQuery, request_of}
+use Rattle.um_model.specs.Replies.{reply_text}
+use Rattle.um_model.specs.declared.refusals.Limit.TheVariants.{Frame}
+use Rattle.um_model.specs.declared.requests.Mode.TheVariants.{Memory}
+use Rattle.um_model.specs.declared.frames.Ending.{Ending}
+use Rattle.um_model.specs.declared.frames.Ending.TheVariants.{Between, Inside, TooLong}
+
+-- the longest frame of a request, in bytes
+abbrev pub frame_limit : ℕ
+frame_limit = 524288
+
+-- a frame: its length in four bytes, the highest first, and so many bytes
+unfoldable pub frame_of : List ℕ → List ℕ
+frame_of text = big_bytes 4 (length text) ++ text
+
+-- the stream begins with a frame that holds these bytes
+pub record BeginsWith (stream frame rest : List ℕ) : Type 0 where
+  pub header : List ℕ
+  pub four : length header ≡ 4
+  pub length_is : big_number 4 header ≡ length frame
+  pub short : length frame ≤ frame_limit
+  pub whole : stream ≡ header ++ (frame ++ rest)
+
+-- less than a whole frame: some bytes of a length, or a length with fewer bytes behind it
+pub data IsPartial (stream : List ℕ) : Type 0 where
+  in_header : 0 < length stream → length stream < 4 → IsPartial stream
+  in_body : (header body : List ℕ) → length header ≡ 4 → big_number 4 header ≤ frame_limit → length body < big_number 4 header
+      → stream ≡ header ++ body → IsPartial stream
+
+-- a length past the limit stands in a frame's place
+pub record BeginsTooLong (stream : List ℕ) : Type 0 where
+  pub header : List ℕ
+  pub rest : List ℕ
+  pub four : length header ≡ 4
+  pub long : frame_limit < big_number 4 header
+  pub whole : stream ≡ header ++ rest
+
+-- how a stream ends: between two frames, inside one, or at a length past the limit
+abbrev pub EndsSo : List ℕ → Ending → Type 0
+EndsSo stream Between = stream ≡ []
+EndsSo stream Inside = IsPartial stream
+EndsSo stream TooLong = BeginsTooLong stream
+
+-- the stream is these frames, and ends so
+pub data IsStream : List ℕ → List (List ℕ) → Ending → Type 0 where
+  ends : {stream : List ℕ} {ending : Ending} → EndsSo stream ending → IsStream stream [] ending
+  frame : {stream rest bytes : List ℕ} {frames : List (List ℕ)} {ending : Ending} → BeginsWith stream bytes rest
+      → IsStream rest frames ending → IsStream stream (bytes ∷ frames) ending
+
+-- the size of the store that `umd --memory` works over, in bytes
+abbrev pub memory_size : ℕ
+memory_size = 8388096
+
+-- the input of a request: its moment is the clock's where it tells none
+abbrev pub input_of : State → Option ℕ → Event → Input
+input_of s at e = record { moment = unwrap_or at s.clock; event = e }
+
+-- the reply to a frame over a store of so many bytes, and the state after it
+pub data Answers (size : ℕ) (s : State) (bytes : List ℕ) : Reply → State → Type 0 where
+  unread : (r : Refused) → request_of Memory bytes ≡ Err r → Answers size s bytes (Refusal r) s
+  queried : (at : Option ℕ) (q : Query) → request_of Memory bytes ≡ Ok (record { at = at; asked = OfQuery q }) → Answers size s bytes (reply_to s q) s
+  stepped : (at : Option ℕ) (e : Event) (reply : Reply) (actions : List Action) (t : State)
+      → request_of Memory bytes ≡ Ok (record { at = at; asked = OfEvent e }) → Step size s (input_of s at e) reply actions t
+      → Answers size s bytes reply t
+
+-- what is written at the end of a stream: a length past the limit is refused
+abbrev pub last_reply : Ending → List ℕ
+last_reply Between = []
+last_reply Inside = []
+last_reply TooLong = frame_of (reply_text (Refusal (too_large Frame)))
+
+-- what is written for the frames from a state on, one reply each, and at the end
+pub data AreReplies (size : ℕ) (ending : Ending) : State → List (List ℕ) → List ℕ → Type 0 where
+  last : {s : State} → AreReplies size ending s [] (last_reply ending)
+  reply : {s t : State} {bytes out : List ℕ} {frames : List (List ℕ)} (r : Reply) → Answers size s bytes r t → AreReplies size ending t frames out
+      → AreReplies size ending s (bytes ∷ frames) (frame_of (reply_text r) ++ out)
+
+-- what is written for a stream from a state on, over a store of so many bytes
+pub record Serves (size : ℕ) (s : State) (stream out : List ℕ) (ending : Ending) : Type 0 where
+  pub frames : List (List ℕ)
+  pub read : IsStream stream frames ending
+  pub written : AreReplies size ending s frames out

@@ -1,0 +1,55 @@
+-- The text of a reply: compact JSON with its keys in ascending order.
+-- No manual page has this: it is the project's own protocol (docs/FORMATS.md, "Replies"); what `show` tells has the names of systemctl(1).
+-- Frames and the program stand on this file.
+use Rattle.std.specs.Prelude.{ℕ, ◌^◌, List, [], ◌∷◌, true, false, nat_le, if◌then◌else◌, map, codes, length, unwrap_or}
+use Rattle.serde_json.specs.Data.{Data, boolean, number, unsigned, string, array, object, member, no_members}
+use Rattle.serde_json.specs.View.{items_of}
+use Rattle.serde_json.specs.Written.{compact_text}
+use Rattle.um_model.specs.Refusals.{Refused, too_large}
+use Rattle.um_model.specs.Service.{sub_state_text, active_state_of, active_state_text, result_text}
+use Rattle.um_model.specs.Syntax.{warning_number}
+use Rattle.um_model.specs.Units.{Warning, load_state_text}
+use Rattle.um_model.specs.Machine.{Reply, Done, Shown, Refusal, UnitShown}
+use Rattle.um_model.specs.declared.refusals.Limit.TheVariants.{Reply as ReplyLimit}
+
+abbrev pub number_data : ℕ → Data
+number_data n = number (unsigned n)
+
+abbrev pub texts_data : List (List ℕ) → Data
+texts_data texts = array (items_of (map string texts))
+
+-- a warning: its number, the path of its file and its line
+abbrev pub warning_data : Warning → Data
+warning_data w = array (items_of (number_data (warning_number w.kind) ∷ string w.path ∷ number_data w.line ∷ []))
+
+-- what `show` tells; the main number is 0 where there is no main process
+abbrev pub shown_data : UnitShown → Data
+shown_data u =
+    object (member (codes "ActiveState") (string (active_state_text (active_state_of u.state.sub)))
+    (member (codes "Description") (string u.description)
+    (member (codes "Id") (string u.id)
+    (member (codes "LoadState") (string (load_state_text u.load))
+    (member (codes "MainNumber") (number_data (unwrap_or u.state.main 0))
+    (member (codes "Result") (string (result_text u.state.result))
+    (member (codes "SubState") (string (sub_state_text u.state.sub))
+    (member (codes "Warnings") (array (items_of (map warning_data u.warnings))) no_members))))))))
+
+abbrev pub refused_data : Refused → Data
+refused_data r =
+    object (member (codes "detail") (texts_data r.detail) (member (codes "error") (number_data r.number) (member (codes "ok") (boolean false) no_members)))
+
+abbrev pub reply_data : Reply → Data
+reply_data Done = object (member (codes "ok") (boolean true) no_members)
+reply_data (Shown u) = object (member (codes "ok") (boolean true) (member (codes "value") (shown_data u) no_members))
+reply_data (Refusal r) = refused_data r
+
+-- the longest text of a reply, in bytes
+abbrev pub reply_limit : ℕ
+reply_limit = 2 ^ 24
+
+abbrev pub within_limit : List ℕ → List ℕ
+within_limit text = if nat_le (length text) reply_limit then text else compact_text (refused_data (too_large ReplyLimit))
+
+-- the text of a reply; one that would be too long is refused instead
+unfoldable pub reply_text : Reply → List ℕ
+reply_text reply = within_limit (compact_text (reply_data reply))

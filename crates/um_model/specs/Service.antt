@@ -1,0 +1,61 @@
+-- What the state holds of a unit: its sub state, result, process numbers and deadline.
+-- Follows systemctl(1) and systemd.service(5) in the names of states and results.
+-- The machine, replies and canonical bytes stand on this file.
+use Rattle.std.specs.Prelude.{ℕ, List, None, false, codes}
+use Rattle.um_model.specs.declared.service.SubState.{SubState}
+use Rattle.um_model.specs.declared.service.SubState.TheVariants.{Dead, Start, Running, Exited, Stop, StopSigterm, StopSigkill, Failed, AutoRestart, Active}
+use Rattle.um_model.specs.declared.service.ActiveState.{ActiveState}
+use Rattle.um_model.specs.declared.service.ActiveState.TheVariants as active
+use Rattle.um_model.specs.declared.service.UnitResult.{UnitResult}
+use Rattle.um_model.specs.declared.service.UnitResult.TheVariants as result
+use Rattle.um_model.specs.declared.service.UnitState.{UnitState}
+
+-- the word for a sub state
+abbrev pub sub_state_text : SubState → List ℕ
+sub_state_text Dead = codes "dead"
+sub_state_text Start = codes "start"
+sub_state_text Running = codes "running"
+sub_state_text Exited = codes "exited"
+sub_state_text Stop = codes "stop"
+sub_state_text StopSigterm = codes "stop-sigterm"
+sub_state_text StopSigkill = codes "stop-sigkill"
+sub_state_text Failed = codes "failed"
+sub_state_text AutoRestart = codes "auto-restart"
+sub_state_text Active = codes "active"
+
+-- the active state of a unit in this sub state
+abbrev pub active_state_of : SubState → ActiveState
+active_state_of Dead = active.Inactive
+active_state_of Start = active.Activating
+active_state_of AutoRestart = active.Activating
+active_state_of Running = active.Active
+active_state_of Exited = active.Active
+active_state_of Active = active.Active
+active_state_of Stop = active.Deactivating
+active_state_of StopSigterm = active.Deactivating
+active_state_of StopSigkill = active.Deactivating
+active_state_of Failed = active.Failed
+
+-- the word for an active state
+abbrev pub active_state_text : ActiveState → List ℕ
+active_state_text active.Inactive = codes "inactive"
+active_state_text active.Activating = codes "activating"
+active_state_text active.Active = codes "active"
+active_state_text active.Deactivating = codes "deactivating"
+active_state_text active.Failed = codes "failed"
+
+-- the word for a result
+abbrev pub result_text : UnitResult → List ℕ
+result_text result.Success = codes "success"
+result_text result.ExitCode = codes "exit-code"
+result_text result.Signal = codes "signal"
+result_text result.Timeout = codes "timeout"
+result_text result.Lost = codes "lost"
+result_text result.StartLimitHit = codes "start-limit-hit"
+result_text result.Dependency = codes "dependency"
+result_text result.NotLoaded = codes "not-loaded"
+result_text result.Resources = codes "resources"
+
+-- a unit of which the state holds nothing
+abbrev pub dead_unit : UnitState
+dead_unit = record { sub = Dead; result = result.Success; main = None; control = None; index = 0; deadline = None; window = None; asked = false; last = None }

@@ -1,0 +1,214 @@
+-- What a unit file says: its lines, joined where they go on, and of these the heads, assignments and warnings.
+-- Follows systemd.syntax(7).
+-- The reader of unit files, and what units are by their assignments, stand on this file.
+use Rattle.std.specs.Prelude.{◌≡◌, ℕ, ◌+◌, ◌-◌, ◌%◌, Bool, true, false, not, ◌||◌, List, [], ◌∷◌, ◌++◌, length, drop, reverse, take_while, Option, Some, None, slice_index, nat_lt, ◌==◌, if◌then◌else◌}
+use Rattle.std.specs.List.{list_all, before_first, after_first, position_or_len}
+use Rattle.std.specs.Str.Lines.{lines}
+use Rattle.um_model.specs.Text.{trim_start, trim, is_blank, first_passes, without_last}
+use Rattle.um_model.specs.declared.warnings.WarningKind.{WarningKind}
+use Rattle.um_model.specs.declared.warnings.WarningKind.TheVariants.{BeforeAnySection, NoEqualsSign, UnknownSection, UnknownKey, UnreadableValue, UnreadableSpecifier}
+
+-- the numbers of the warnings
+abbrev pub warning_number : WarningKind → ℕ
+warning_number BeforeAnySection = 1
+warning_number NoEqualsSign = 2
+warning_number UnknownSection = 3
+warning_number UnknownKey = 4
+warning_number UnreadableValue = 5
+warning_number UnreadableSpecifier = 6
+
+-- Lines
+
+-- a line with the number, from 1, of its first physical line; it is whole if it is one physical line as it stands
+pub record Line : Type 0 where
+  pub number : ℕ
+  pub text : List ℕ
+  pub whole : Bool
+
+-- the first character past whitespace is # or ;
+abbrev pub is_comment : List ℕ → Bool
+is_comment text = first_passes (λ b. b == 35 || b == 59) (trim_start text)
+
+-- the number of backslashes at the end is odd
+abbrev pub continues : List ℕ → Bool
+continues text = length (take_while (λ b. b == 92) (reverse text)) % 2 == 1
+
+-- a physical line, by its number
+abbrev pub physical_line : ℕ → List ℕ → Line
+physical_line n text = record { number = n; text = text; whole = true }
+
+-- a line that goes on, with a space for its last backslash, and the text of what follows
+abbrev pub joined_line : Line → List ℕ → Line
+joined_line l after = record { number = l.number; text = without_last l.text ++ 32 ∷ after; whole = false }
+
+-- the lines that count, from physical line n on: comment lines are taken out, the others keep their numbers, and a blank one
+-- counts as an empty one
+pub data AreKept : ℕ → List (List ℕ) → List Line → Type 0 where
+  kept_none : (n : ℕ) → AreKept n [] []
+  drops_comment : (n : ℕ) (l : List ℕ) (ls : List (List ℕ)) (kept : List Line) → is_comment l ≡ true → AreKept (n + 1) ls kept
+      → AreKept n (l ∷ ls) kept
+  keeps_blank : (n : ℕ) (l : List ℕ) (ls : List (List ℕ)) (kept : List Line) → is_blank l ≡ true → AreKept (n + 1) ls kept
+      → AreKept n (l ∷ ls) (physical_line n [] ∷ kept)
+  keeps_text : (n : ℕ) (l : List ℕ) (ls : List (List ℕ)) (kept : List Line) → is_comment l ≡ false → is_blank l ≡ false
+      → AreKept (n + 1) ls kept → AreKept n (l ∷ ls) (physical_line n l ∷ kept)
+
+-- the joined lines: one that goes on has a space for its last backslash, and then the joined line that follows; at the end of
+-- the text nothing follows
+pub data AreJoined : List Line → List Line → Type 0 where
+  joined_none : AreJoined [] []
+  stands_alone : (l : Line) (ls js : List Line) → continues l.text ≡ false → AreJoined ls js → AreJoined (l ∷ ls) (l ∷ js)
+  goes_on : (l j : Line) (ls js : List Line) → continues l.text ≡ true → AreJoined ls (j ∷ js)
+      → AreJoined (l ∷ ls) (joined_line l j.text ∷ js)
+  ends : (l : Line) → continues l.text ≡ true → AreJoined (l ∷ []) (joined_line l [] ∷ [])
+
+-- What a line says
+
+-- a line is blank, a section's head with its name, a key and a value, or has no `=`
+pub data Statement : Type 0 where
+  Blank : Statement
+  Head : List ℕ → Statement
+  Pair : List ℕ → List ℕ → Statement
+  Stray : Statement
+
+-- without the whitespace at its ends, the text is the name in brackets
+abbrev pub IsHeadOf : List ℕ → List ℕ → Type 0
+IsHeadOf text name = trim text ≡ 91 ∷ name ++ 93 ∷ []
+
+-- no byte is an `=`
+abbrev pub has_no_equals : List ℕ → Bool
+has_no_equals text = list_all (λ b. not (b == 61)) text
+
+-- what a joined line says: a pair is cut at the first `=`, and whitespace around key and value is dropped
+pub data Says : List ℕ → Statement → Type 0 where
+  says_nothing : (text : List ℕ) → is_blank text ≡ true → Says text Blank
+  says_head : (text name : List ℕ) → IsHeadOf text name → Says text (Head name)
+  says_pair : (text before after : List ℕ) → ((name : List ℕ) → ¬ IsHeadOf text name) → text ≡ before ++ 61 ∷ after → has_no_equals before ≡ true
+      → Says text (Pair (trim before) (trim after))
+  says_no_pair : (text : List ℕ) → ((name : List ℕ) → ¬ IsHeadOf text name) → is_blank text ≡ false → has_no_equals text ≡ true → Says text Stray
+
+-- a section's head with its name, a key and a value, or a warning, each with the number of its line; the value stands in the
+-- text as it is, if the line is whole
+pub data Item : Type 0 where
+  Section : List ℕ → ℕ → Item
+  Assignment : List ℕ → List ℕ → ℕ → Bool → Item
+  Warning : WarningKind → ℕ → Item
+
+-- the number of its line
+abbrev pub line_number : Item → ℕ
+line_number (Section name line) = line
+line_number (Assignment key value line whole) = line
+line_number (Warning kind line) = line
+
+-- what a line with this number gives by what it says, after a section's head or before any
+abbrev pub items_of : Statement → Bool → ℕ → Bool → List Item
+items_of Blank begun number whole = []
+items_of (Head name) begun number whole = Section name number ∷ []
+items_of (Pair key value) true number whole = Assignment key value number whole ∷ []
+items_of (Pair key value) false number whole = Warning BeforeAnySection number ∷ []
+items_of Stray begun number whole = Warning NoEqualsSign number ∷ []
+
+-- the statement is a section's head
+abbrev pub is_head : Statement → Bool
+is_head (Head name) = true
+is_head Blank = false
+is_head (Pair key value) = false
+is_head Stray = false
+
+-- what lines give, after a section's head or before any
+pub data Give : Bool → List Line → List Item → Type 0 where
+  gives_none : (begun : Bool) → Give begun [] []
+  gives_line : (begun : Bool) (l : Line) (ls : List Line) (statement : Statement) (items : List Item) → Says l.text statement
+      → Give (begun || is_head statement) ls items → Give begun (l ∷ ls) (items_of statement begun l.number l.whole ++ items)
+
+-- an item with the name of the section that it stands in, if there is one
+pub record Placed : Type 0 where
+  pub section : Option (List ℕ)
+  pub item : Item
+
+-- the section after an item
+abbrev pub section_after : Option (List ℕ) → Item → Option (List ℕ)
+section_after section (Section name line) = Some name
+section_after section (Assignment key value line whole) = section
+section_after section (Warning kind line) = section
+
+-- each item with its section, which is that of the last head before it; a head stands in its own
+abbrev pub in_sections : Option (List ℕ) → List Item → List Placed
+in_sections section [] = []
+in_sections section (i ∷ is) = record { section = section_after section i; item = i } ∷ in_sections (section_after section i) is
+
+-- what a text says: its physical lines end in a line feed, and one carriage return before that is dropped
+pub record IsReading (text : List ℕ) (reading : List Placed) : Type 0 where
+  pub kept : List Line
+  pub joined_ones : List Line
+  pub items : List Item
+  pub keeps : AreKept 1 (lines text) kept
+  pub joins : AreJoined kept joined_ones
+  pub gives : Give false joined_ones items
+  pub places : reading ≡ in_sections None items
+
+-- a head and an assignment stand in a section, and the warning of an assignment before any section stands in none
+abbrev pub stands_well : Option (List ℕ) → Item → Bool
+stands_well None (Section name line) = false
+stands_well (Some section) (Section name line) = true
+stands_well None (Assignment key value line whole) = false
+stands_well (Some section) (Assignment key value line whole) = true
+stands_well None (Warning kind line) = true
+stands_well (Some section) (Warning BeforeAnySection line) = false
+stands_well (Some section) (Warning kind line) = true
+
+-- The same as functions, for definitions that go on from a reading; the laws in proofs/SyntaxLaws say that they tell the
+-- relations above.
+
+-- the lines that count, from physical line n on
+abbrev pub physical : ℕ → List (List ℕ) → List Line
+physical n [] = []
+physical n (l ∷ ls) = if is_comment l then physical (n + 1) ls else physical_line n (if is_blank l then [] else l) ∷ physical (n + 1) ls
+
+-- the text of the first line, nothing if there is none
+abbrev pub first_text : List Line → List ℕ
+first_text [] = []
+first_text (l ∷ ls) = l.text
+
+-- the joined lines of lines that count
+abbrev pub joined : List Line → List Line
+joined [] = []
+joined (l ∷ ls) = if continues l.text then joined_line l (first_text (joined ls)) ∷ drop 1 (joined ls) else l ∷ joined ls
+
+-- the joined lines of a text
+abbrev pub joined_lines : List ℕ → List Line
+joined_lines text = joined (physical 1 (lines text))
+
+-- what stands before the `]` at the end
+abbrev pub before_bracket : List ℕ → Option (List ℕ)
+before_bracket text = if slice_index text (length text - 1) == 93 then Some (without_last text) else None
+
+-- what stands between `[` at the front and `]` at the end
+abbrev pub in_brackets : List ℕ → Option (List ℕ)
+in_brackets [] = None
+in_brackets (b ∷ bs) = if b == 91 then before_bracket bs else None
+
+-- some byte is an `=`
+abbrev pub has_equals : List ℕ → Bool
+has_equals text = nat_lt (position_or_len (λ b. b == 61) text) (length text)
+
+-- key and value of a text with an `=`
+abbrev pub pair_of : List ℕ → Statement
+pair_of text = Pair (trim (before_first (λ b. b == 61) text)) (trim (after_first (λ b. b == 61) text))
+
+-- the head of that name, or another statement if there is no name
+abbrev pub head_or : Option (List ℕ) → Statement → Statement
+head_or (Some name) other = Head name
+head_or None other = other
+
+-- what a joined line says
+abbrev pub statement_of : List ℕ → Statement
+statement_of text = head_or (in_brackets (trim text)) (if is_blank text then Blank else (if has_equals text then pair_of text else Stray))
+
+-- what lines give, after a section's head or before any
+abbrev pub items_in : Bool → List Line → List Item
+items_in begun [] = []
+items_in begun (l ∷ ls) = items_of (statement_of l.text) begun l.number l.whole ++ items_in (begun || is_head (statement_of l.text)) ls
+
+-- the reading of a text
+abbrev pub reading_of : List ℕ → List Placed
+reading_of text = in_sections None (items_in false (joined_lines text))

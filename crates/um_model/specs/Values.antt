@@ -1,0 +1,168 @@
+-- What the values of settings mean: truth values, numbers, time spans, sets of exits, and when a service is started again.
+-- Follows systemd.syntax(7) in truth values, systemd.time(7), "Parsing Time Spans", and systemd.service(5) in `Restart=` and `SuccessExitStatus=`.
+-- Settings and the service table stand on this file.
+use Rattle.std.specs.Prelude.{◌≡◌, ℕ, ◌+◌, ◌-◌, ◌*◌, ◌^◌, ◌<◌, ◌≤◌, Bool, true, false, not, ◌&&◌, ◌||◌, ◌==◌, nat_le, nat_lt, List, [], ◌∷◌, length, drop, map, filter, take_while, codes, Option, Some, None, option_map, is_some, if◌then◌else◌}
+use Rattle.std.specs.List.{list_any, list_all, slice_split}
+use Rattle.std.specs.Char.{to_ascii_lowercase}
+use Rattle.std.specs.Str.{bytes_eq}
+use Rattle.um_model.specs.Ascii.{is_space, is_digit, is_letter}
+use Rattle.um_model.specs.Text.{trim_start, is_empty}
+use Rattle.um_model.specs.declared.service.End.{End}
+use Rattle.um_model.specs.declared.service.End.TheVariants.{Code, Signal, Lost}
+use Rattle.um_model.specs.declared.settings.RestartPolicy.{RestartPolicy}
+use Rattle.um_model.specs.declared.settings.RestartPolicy.TheVariants.{No, Always, OnSuccess, OnFailure, OnAbnormal, OnAbort, OnWatchdog}
+use Rattle.um_model.specs.declared.settings.TimeSpan.{TimeSpan}
+use Rattle.um_model.specs.declared.settings.TimeSpan.TheVariants.{Micros, Infinite}
+
+-- the words for yes and for no
+abbrev pub words_for : Bool → List (List ℕ)
+words_for true = codes "1" ∷ codes "yes" ∷ codes "true" ∷ codes "on" ∷ codes "y" ∷ codes "t" ∷ []
+words_for false = codes "0" ∷ codes "no" ∷ codes "false" ∷ codes "off" ∷ codes "n" ∷ codes "f" ∷ []
+
+-- the texts are the same but for the case of ASCII letters
+abbrev pub is_same_in_any_case : List ℕ → List ℕ → Bool
+is_same_in_any_case text word = bytes_eq (map to_ascii_lowercase text) (map to_ascii_lowercase word)
+
+-- the text is one of the words for this truth value, in any ASCII case
+abbrev pub IsBoolean : List ℕ → Bool → Type 0
+IsBoolean text b = list_any (is_same_in_any_case text) (words_for b) ≡ true
+
+-- ---- numbers
+
+-- the number that a number's digits and these digits behind them spell
+abbrev pub decimal_after : ℕ → List ℕ → ℕ
+decimal_after n [] = n
+decimal_after n (b ∷ bs) = decimal_after (10 * n + (b - 48)) bs
+
+-- the number that decimal digits spell
+abbrev pub decimal : List ℕ → ℕ
+decimal digits = decimal_after 0 digits
+
+-- decimal digits alone, and one at least
+abbrev pub is_decimal : List ℕ → Bool
+is_decimal text = nat_lt 0 (length text) && list_all is_digit text
+
+-- the greatest number that a setting takes
+abbrev pub number_limit : ℕ
+number_limit = 4294967295
+
+-- the text spells this number, which isn't too great
+pub record IsNumber (text : List ℕ) (n : ℕ) : Type 0 where
+  pub digits : is_decimal text ≡ true
+  pub value : n ≡ decimal text
+  pub limit : n ≤ number_limit
+
+-- ---- time spans
+
+-- microseconds in a unit of time; a part without a unit is in seconds
+abbrev pub unit_size : List ℕ → Option ℕ
+unit_size unit =
+    if bytes_eq unit [] || bytes_eq unit (codes "s") || bytes_eq unit (codes "sec") || bytes_eq unit (codes "second") || bytes_eq unit (codes "seconds") then Some 1000000
+    else (if bytes_eq unit (codes "us") || bytes_eq unit (codes "usec") then Some 1
+    else (if bytes_eq unit (codes "ms") || bytes_eq unit (codes "msec") then Some 1000
+    else (if bytes_eq unit (codes "m") || bytes_eq unit (codes "min") || bytes_eq unit (codes "minute") || bytes_eq unit (codes "minutes") then Some 60000000
+    else (if bytes_eq unit (codes "h") || bytes_eq unit (codes "hr") || bytes_eq unit (codes "hour") || bytes_eq unit (codes "hours") then Some 3600000000
+    else (if bytes_eq unit (codes "d") || bytes_eq unit (codes "day") || bytes_eq unit (codes "days") then Some 86400000000
+    else (if bytes_eq unit (codes "w") || bytes_eq unit (codes "week") || bytes_eq unit (codes "weeks") then Some 604800000000
+    else None))))))
+
+-- the digits at the front of a text, as far as they go
+abbrev pub digits_of : List ℕ → List ℕ
+digits_of text = take_while is_digit text
+
+-- what follows these and the whitespace behind them
+abbrev pub past_digits : List ℕ → List ℕ
+past_digits text = trim_start (drop (length (digits_of text)) text)
+
+-- the letters there, as far as they go
+abbrev pub unit_of : List ℕ → List ℕ
+unit_of text = take_while is_letter (past_digits text)
+
+-- what follows digits and unit
+abbrev pub past_part : List ℕ → List ℕ
+past_part text = drop (length (unit_of text)) (past_digits text)
+
+-- a number and a unit say so many microseconds
+pub record IsTime (digits unit : List ℕ) (n : ℕ) : Type 0 where
+  pub some : 0 < length digits
+  pub size : ℕ
+  pub unit_is : unit_size unit ≡ Some size
+  pub value : n ≡ decimal digits * size
+
+-- the text is a sequence of parts, with whitespace between them as one likes; together they are so many microseconds
+pub data AddUpTo : List ℕ → ℕ → Type 0 where
+  nothing : AddUpTo [] 0
+  space : (b : ℕ) (bs : List ℕ) (n : ℕ) → is_space b ≡ true → AddUpTo bs n → AddUpTo (b ∷ bs) n
+  part : (text : List ℕ) (first n : ℕ) → IsTime (digits_of text) (unit_of text) first → AddUpTo (past_part text) n → AddUpTo text (first + n)
+
+-- no time span is longer, but the one that never ends
+abbrev pub span_limit : ℕ
+span_limit = 2 ^ 62
+
+-- the text is `infinity`, or it has one part at least and its parts add up to this
+abbrev pub IsSpan : List ℕ → TimeSpan → Type 0
+IsSpan text Infinite = text ≡ codes "infinity"
+IsSpan text (Micros n) = (is_empty (trim_start text) ≡ false) × AddUpTo text n × (n ≤ span_limit)
+
+-- ---- sets of exits
+
+-- the number of the signal of that name
+abbrev pub signal_number : List ℕ → Option ℕ
+signal_number word =
+    if bytes_eq word (codes "SIGHUP") then Some 1
+    else (if bytes_eq word (codes "SIGINT") then Some 2
+    else (if bytes_eq word (codes "SIGQUIT") then Some 3
+    else (if bytes_eq word (codes "SIGILL") then Some 4
+    else (if bytes_eq word (codes "SIGTRAP") then Some 5
+    else (if bytes_eq word (codes "SIGABRT") then Some 6
+    else (if bytes_eq word (codes "SIGBUS") then Some 7
+    else (if bytes_eq word (codes "SIGFPE") then Some 8
+    else (if bytes_eq word (codes "SIGKILL") then Some 9
+    else (if bytes_eq word (codes "SIGUSR1") then Some 10
+    else (if bytes_eq word (codes "SIGSEGV") then Some 11
+    else (if bytes_eq word (codes "SIGUSR2") then Some 12
+    else (if bytes_eq word (codes "SIGPIPE") then Some 13
+    else (if bytes_eq word (codes "SIGALRM") then Some 14
+    else (if bytes_eq word (codes "SIGTERM") then Some 15
+    else None))))))))))))))
+
+-- the end that a word tells: an exit code from 0 to 255, or a signal by its name
+abbrev pub exit_of : List ℕ → Option End
+exit_of word = if is_decimal word then (if nat_le (decimal word) 255 then Some (Code (decimal word)) else None) else option_map Signal (signal_number word)
+
+-- the pieces between spaces and tabs, but for empty ones
+abbrev pub words_in : List ℕ → List (List ℕ)
+words_in text = filter (λ word. not (length word == 0)) (slice_split is_space text)
+
+-- it is this end
+abbrev pub is_end : End → Option End → Bool
+is_end end None = false
+is_end (Code a) (Some (Code b)) = a == b
+is_end (Signal a) (Some (Signal b)) = a == b
+is_end Lost (Some Lost) = true
+is_end end (Some other) = false
+
+-- a word of the text tells this end
+abbrev pub tells_end : List ℕ → End → Bool
+tells_end text end = list_any (λ word. is_end end (exit_of word)) (words_in text)
+
+-- the word tells an end
+abbrev pub is_exit : List ℕ → Bool
+is_exit word = is_some (exit_of word)
+
+-- each word of the text tells an end, and the set holds the ends that they tell and no other
+pub record IsExitSet (text : List ℕ) (holds : End → Bool) : Type 0 where
+  pub readable : list_all is_exit (words_in text) ≡ true
+  pub exact : (end : End) → holds end ≡ tells_end text end
+
+-- ---- Restart=
+
+-- the word for a policy
+abbrev pub restart_text : RestartPolicy → List ℕ
+restart_text No = codes "no"
+restart_text Always = codes "always"
+restart_text OnSuccess = codes "on-success"
+restart_text OnFailure = codes "on-failure"
+restart_text OnAbnormal = codes "on-abnormal"
+restart_text OnAbort = codes "on-abort"
+restart_text OnWatchdog = codes "on-watchdog"

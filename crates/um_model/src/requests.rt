@@ -1,0 +1,14 @@
+/// Where requests come from: over standard input, where they may tell a moment, or over a socket.
+#[derive(Clone, Copy, Debug, PartialEq, Eq)]
+pub enum Mode {
+    Memory,
+    Service,
+}
+
+/// What a request asks for (systemctl(1)).
+#[derive(Clone, Copy, Debug, PartialEq, Eq)]
+pub enum Verb {
+    PutFile,
+    DaemonReload,
+    Show,
+}

@@ -1,0 +1,164 @@
+ghost use Rattle.std.specs.Prelude.{◌≡◌};
+ghost use Rattle.um_model.specs.Service.{sub_state_text, active_state_of, active_state_text, result_text};
+
+use crate::limit::Counted;
+
+/// How far a unit has come (systemd.service(5); `systemctl show -p SubState`).
+#[derive(Clone, Copy, Debug, PartialEq, Eq)]
+pub enum SubState {
+    Dead,
+    Start,
+    Running,
+    Exited,
+    Stop,
+    StopSigterm,
+    StopSigkill,
+    Failed,
+    AutoRestart,
+    Active,
+}
+
+/// The state of a unit as all types of units have it (systemctl(1)).
+#[derive(Clone, Copy, Debug, PartialEq, Eq)]
+pub enum ActiveState {
+    Inactive,
+    Activating,
+    Active,
+    Deactivating,
+    Failed,
+}
+
+/// What became of a unit: why it isn't as its start would have it.
+#[derive(Clone, Copy, Debug, PartialEq, Eq)]
+pub enum UnitResult {
+    Success,
+    ExitCode,
+    Signal,
+    Timeout,
+    Lost,
+    StartLimitHit,
+    Dependency,
+    NotLoaded,
+    Resources,
+}
+
+/// How a process ended.
+#[derive(Clone, Copy, Debug, PartialEq, Eq)]
+pub enum End {
+    /// It exited with this code.
+    Code(u8),
+    /// A signal of this number ended it; 0 where the number isn't told.
+    Signal(u8),
+    /// Nobody can tell how, or whether it ever ran.
+    Lost,
+}
+
+/// A signal that is sent to a process.
+#[derive(Clone, Copy, Debug, PartialEq, Eq)]
+pub enum Signal {
+    Term,
+    Kill,
+}
+
+/// What the state holds of one unit.
+#[derive(Clone, Copy, Debug, PartialEq, Eq)]
+pub struct UnitState {
+    pub sub: SubState,
+    pub result: UnitResult,
+    /// The process number of the main process while it is live.
+    pub main: Option<u64>,
+    /// The process number of the control process while it is live.
+    pub control: Option<u64>,
+    /// The place of the command under way in its list.
+    pub index: usize,
+    /// The moment, in microseconds, at which the unit's time-out or restart is due.
+    pub deadline: Option<u64>,
+    pub window: Option<Counted>,
+    /// A stop was asked for.
+    pub asked: bool,
+    /// How the main process last ended.
+    pub last: Option<End>,
+}
+
+impl UnitState {
+    /// A unit of which the state holds nothing.
+    pub const DEAD: UnitState = UnitState {
+        sub: SubState::Dead,
+        result: UnitResult::Success,
+        main: None,
+        control: None,
+        index: 0,
+        deadline: None,
+        window: None,
+        asked: false,
+        last: None,
+    };
+}
+
+impl SubState {
+    /// The word for the sub state.
+    pub fn text(self) -> &'static str
+        ensures { result.now ≡ sub_state_text self }
+    {
+        match self {
+            SubState::Dead => "dead",
+            SubState::Start => "start",
+            SubState::Running => "running",
+            SubState::Exited => "exited",
+            SubState::Stop => "stop",
+            SubState::StopSigterm => "stop-sigterm",
+            SubState::StopSigkill => "stop-sigkill",
+            SubState::Failed => "failed",
+            SubState::AutoRestart => "auto-restart",
+            SubState::Active => "active",
+        }
+    }
+
+    /// The active state of a unit that has come so far.
+    pub fn active_state(self) -> ActiveState
+        ensures { result ≡ active_state_of self }
+    {
+        match self {
+            SubState::Dead => ActiveState::Inactive,
+            SubState::Start | SubState::AutoRestart => ActiveState::Activating,
+            SubState::Running | SubState::Exited | SubState::Active => ActiveState::Active,
+            SubState::Stop | SubState::StopSigterm | SubState::StopSigkill =>
+                ActiveState::Deactivating,
+            SubState::Failed => ActiveState::Failed,
+        }
+    }
+}
+
+impl ActiveState {
+    /// The word for the active state.
+    pub fn text(self) -> &'static str
+        ensures { result.now ≡ active_state_text self }
+    {
+        match self {
+            ActiveState::Inactive => "inactive",
+            ActiveState::Activating => "activating",
+            ActiveState::Active => "active",
+            ActiveState::Deactivating => "deactivating",
+            ActiveState::Failed => "failed",
+        }
+    }
+}
+
+impl UnitResult {
+    /// The word for the result.
+    pub fn text(self) -> &'static str
+        ensures { result.now ≡ result_text self }
+    {
+        match self {
+            UnitResult::Success => "success",
+            UnitResult::ExitCode => "exit-code",
+            UnitResult::Signal => "signal",
+            UnitResult::Timeout => "timeout",
+            UnitResult::Lost => "lost",
+            UnitResult::StartLimitHit => "start-limit-hit",
+            UnitResult::Dependency => "dependency",
+            UnitResult::NotLoaded => "not-loaded",
+            UnitResult::Resources => "resources",
+        }
+    }
+}
