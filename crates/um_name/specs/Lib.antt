@@ -1,0 +1,2 @@
+pub mod UnitName
+pub mod Escapes
