@@ -1,0 +1,4 @@
+pub mod Names
+pub mod TextMaps
+pub mod TextParts
+pub mod Trees

@@ -1,0 +1,46 @@
+use std::alloc::AllocError;
+
+/// What stands at a path of the tree.
+#[derive(Clone, Copy, Debug, PartialEq, Eq)]
+pub enum Entry<'a> {
+    /// A file, with its text.
+    File(&'a str),
+    /// A link, with its target.
+    Link(&'a str),
+}
+
+/// What stands at a path, as the tree holds it.
+#[derive(Drop)]
+pub(crate) enum Stored {
+    File(String),
+    Link(String),
+}
+
+impl Stored {
+    ghost use Rattle.std.specs.Prelude.{◌≡◌};
+    ghost use Rattle.um_tree.specs.View.{entry_of, stored_entry};
+
+    /// The entry, as it is handed out.
+    pub(crate) fn as_entry(&self) -> Entry<'_>
+        ensures { entry_of result ≡ stored_entry self.now }
+    {
+        match self {
+            Stored::File(text) => Entry::File(text.as_str()),
+            Stored::Link(target) => Entry::Link(target.as_str()),
+        }
+    }
+}
+
+impl Clone for Stored {
+    ghost use Rattle.std.specs.Prelude.{◌≡◌};
+    ghost use Rattle.um_tree.specs.View.{stored_entry};
+
+    ghost is_clone = { λ old new. stored_entry new ≡ stored_entry old };
+
+    fn clone(&self) -> Result<Stored, AllocError> {
+        match self {
+            Stored::File(text) => Ok(Stored::File(text.clone()?)),
+            Stored::Link(target) => Ok(Stored::Link(target.clone()?)),
+        }
+    }
+}

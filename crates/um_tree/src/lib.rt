@@ -1,0 +1,19 @@
+//! The manager's own tree of unit files and links: a finite map from served paths, whose calls answer exactly what its
+//! definition says, and which stays as it was where a call is refused.
+#![tactic(auto)]
+
+mod entries;
+mod entry;
+mod laws;
+mod path;
+#[cfg(test)]
+mod tests;
+mod text;
+mod tree;
+
+pub use entries::Entries;
+pub use entry::Entry;
+pub use laws::{a_path_has_one_reading, a_served_path_has_its_parts};
+pub use path::{Place, ServedPath};
+pub use tree::Tree;
+pub use um_model::Layer;

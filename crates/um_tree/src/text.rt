@@ -1,0 +1,35 @@
+ghost use Rattle.std.specs.Prelude.{◌≡◌, option_map};
+ghost use Rattle.std.specs.List.{after_last};
+ghost use Rattle.um_model.specs.Tree.{is_slash, behind, before, around_slash};
+ghost use Rattle.um_tree.specs.View.{text_of, two_texts};
+
+/// What follows the front, of a text that begins so.
+pub(crate) fn behind<'a>(front: &str, text: &'a str) -> Option<&'a str>
+    ensures { option_map text_of result ≡ behind front.now text.now }
+{
+    text.strip_prefix(front)
+}
+
+/// What stands before the end, of a text that ends so.
+pub(crate) fn before<'a>(end: &str, text: &'a str) -> Option<&'a str>
+    ensures { option_map text_of result ≡ before end.now text.now }
+{
+    text.strip_suffix(end)
+}
+
+/// What stands before and behind the first `/`, where there is one.
+pub(crate) fn around_slash(text: &str) -> Option<(&str, &str)>
+    ensures { option_map two_texts result ≡ around_slash text.now }
+{
+    text.split_once('/')
+}
+
+/// The part behind the last `/`, or the whole text without one.
+pub(crate) fn last_part(text: &str) -> &str
+    ensures { result.now ≡ after_last is_slash text.now }
+{
+    match text.rsplit_once('/') {
+        Some((_, last)) => last,
+        None => text,
+    }
+}

@@ -1,0 +1,262 @@
+ghost use Rattle.std.specs.Prelude.{◌≡◌, None, Some, Ok, Err, IfErr, IfOk, OnErr, OnOk, is_some, option_map};
+ghost use Rattle.std.specs.Bool.{OnFalse};
+ghost use Rattle.std.specs.FinMap as map;
+ghost use Rattle.std.specs.Map.Iter.{ShowsInOrder};
+ghost use Rattle.um_model.specs.Tree as model;
+ghost use Rattle.um_model.specs.Refusals as told;
+ghost use Rattle.um_tree.specs.View.{entry_of, path_with_entry, stored_entry, tree_of};
+ghost use Rattle.um_wire.specs.Refusal.{refused_of};
+ghost use Rattle.um_wire.specs.declared.refusal.Refusal.TheVariants.{NoMemory};
+
+use crate::entries::Entries;
+use crate::entry::{Entry, Stored};
+use crate::path::{ServedPath, is_fit_target};
+use crate::text::behind;
+use std::alloc::{AllocError, Global};
+use std::collections::BTreeMap;
+use std::marker::Model;
+use um_model::Layer;
+use um_wire::{Limit, Refusal};
+
+/// The text of a file has at most so many bytes.
+const TEXT_LIMIT: usize = 65_536;
+
+/// A tree has at most so many entries.
+const ENTRY_LIMIT: usize = 4_096;
+
+/// A finite map from served paths to files and links (systemd.unit(5), "Unit File Load Path").
+#[derive(Drop)]
+pub struct Tree {
+    alloc: Global,
+    entries: BTreeMap<String, Stored>,
+}
+
+impl Model for Tree {
+    ghost Value = { model.Tree };
+
+    ghost coded = { model.tree_code };
+
+    ghost view = { λ t. tree_of t.entries.entries };
+
+    ghost invariant = { λ t. model.IsTree (tree_of t.entries.entries) };
+}
+
+impl Tree {
+    /// The tree with no entry. It takes no memory.
+    pub fn new(alloc: Global) -> Tree
+        ensures { result ≡ map.empty }
+    {
+        Tree {
+            alloc,
+            entries: BTreeMap::new(alloc),
+        }
+    }
+
+    /// What stands at the path. It takes no memory.
+    pub fn get(&self, path: &str) -> Option<Entry<'_>>
+        ensures { option_map entry_of result ≡ map.get self.now path.now }
+    {
+        match self.entries.get(path) {
+            Some(entry) => Some(entry.as_entry()),
+            None => None,
+        }
+    }
+
+    /// The entries with their paths, in ascending order of the paths by bytes. It takes no memory.
+    pub fn entries(&self) -> Entries<'_>
+        ensures entries { result ≡ map.entries self.now }
+
+        // The iterator gives them in this order.
+        ensures runs { ShowsInOrder path_with_entry }
+        ensures tree { model.IsTree self.now }
+    {
+        Entries::of(self.entries.iter())
+    }
+
+    /// The number of entries.
+    pub fn len(&self) -> usize
+        ensures len { result ≡ map.len self.now }
+        ensures tree { model.IsTree self.now }
+    {
+        self.entries.len()
+    }
+
+    /// The same tree again.
+    pub fn copy(&self) -> Result<Tree, AllocError>
+        ensures { IfOk result (λ t. t ≡ self.now) }
+    {
+        Ok(Tree {
+            alloc: self.alloc,
+            entries: self.entries.clone()?,
+        })
+    }
+}
+
+impl Tree {
+    fn is_link_at(&self, path: &str) -> bool
+        ensures { result ≡ model.is_link (map.get self.now path.now) }
+    {
+        match self.get(path) {
+            Some(Entry::Link(_)) => true,
+            Some(Entry::File(_)) => false,
+            None => false,
+        }
+    }
+
+    fn is_full_for(&self, path: &str) -> bool
+        ensures { result ≡ model.is_full_for self.now path.now }
+    {
+        self.get(path).is_none() && self.len() >= ENTRY_LIMIT
+    }
+
+    /// Refuses a file with the text at the path, if there is a cause.
+    fn check_put(&self, path: &str, text: &str) -> Result<(), Refusal>
+        ensures ok { OnOk result (model.put_cause self.now path.now text.now ≡ None) }
+        ensures refused { IfErr result (λ e. ¬ (e ≡ NoMemory) → model.put_cause self.now path.now text.now ≡ Some (refused_of e)) }
+    {
+        if ServedPath::parse(path).is_none() {
+            return Err(bad_path(self.alloc, path));
+        }
+        if self.is_link_at(path) {
+            return Err(exists(self.alloc, path));
+        }
+        if text.len() > TEXT_LIMIT {
+            return Err(Refusal::TooLarge { limit: Limit::Text });
+        }
+        if self.is_full_for(path) {
+            return Err(Refusal::TooLarge {
+                limit: Limit::Entries,
+            });
+        }
+        Ok(())
+    }
+
+    fn insert(&mut self, path: &str, entry: Stored) -> Result<(), AllocError>
+        requires { model.IsTree (map.insert self.old path.now (stored_entry entry)) }
+        ensures ok { OnOk result (self.new ≡ map.insert self.old path.now (stored_entry entry)) }
+        ensures err { OnErr result (self.new ≡ self.old) }
+    {
+        let path = String::from_str(self.alloc, path)?;
+        self.entries.insert(path, entry)?;
+        Ok(())
+    }
+
+    /// Puts a file with the text at the path, in place of a file that stands there. Refused, with the tree as it was, are a
+    /// path that isn't served (E12), one at which a link stands (E11), a text of more than 65,536 bytes (E13 `text`), and a
+    /// new path where there are 4,096 entries (E13 `entries`), in this order.
+    #[tactic(auto, unfolding(um_model::specs::Tree::put_file))]
+    pub fn put(&mut self, path: &str, text: &str) -> Result<(), Refusal>
+        ensures ok { OnOk result (model.put_file self.old path.now text.now ≡ Ok self.new) }
+        ensures err { OnErr result (self.new ≡ self.old) }
+        ensures refused { IfErr result (λ e. ¬ (e ≡ NoMemory) → model.put_file self.old path.now text.now ≡ Err (refused_of e)) }
+    {
+        self.check_put(path, text)?;
+        let text = String::from_str(self.alloc, text)?;
+        self.insert(path, Stored::File(text))?;
+        Ok(())
+    }
+
+    fn is_other_than_link_at(&self, path: &str, target: &str) -> bool
+        ensures { result ≡ model.is_other_than_link (map.get self.now path.now) target.now }
+    {
+        match self.get(path) {
+            Some(Entry::Link(old)) => old != target,
+            Some(Entry::File(_)) => true,
+            None => false,
+        }
+    }
+
+    /// Refuses a link to the target at the path, if there is a cause.
+    fn check_link(&self, path: &str, target: &str) -> Result<(), Refusal>
+        ensures ok { OnOk result (model.link_cause self.now path.now target.now ≡ None) }
+        ensures refused { IfErr result (λ e. ¬ (e ≡ NoMemory) → model.link_cause self.now path.now target.now ≡ Some (refused_of e)) }
+    {
+        if !is_fit_target(ServedPath::parse(path), target) {
+            return Err(bad_path(self.alloc, path));
+        }
+        if self.is_other_than_link_at(path, target) {
+            return Err(exists(self.alloc, path));
+        }
+        if self.is_full_for(path) {
+            return Err(Refusal::TooLarge {
+                limit: Limit::Entries,
+            });
+        }
+        Ok(())
+    }
+
+    /// Puts a link to the target at the path; where the same link stands there nothing changes. Refused, with the tree as it
+    /// was, are a path that isn't served or that of a drop-in, and an unfit target (E12); a path at which something else
+    /// stands (E11); and a new path where there are 4,096 entries (E13 `entries`), in this order.
+    ///
+    /// A target has 1 to 512 bytes. At `LAYER/NAME` it is `/dev/null`, or its part after the last `/` is another unit name
+    /// than NAME; at a path in `.wants` or `.requires` it may be any text.
+    #[tactic(auto, unfolding(um_model::specs::Tree::put_link))]
+    pub fn link(&mut self, path: &str, target: &str) -> Result<(), Refusal>
+        ensures ok { OnOk result (model.put_link self.old path.now target.now ≡ Ok self.new) }
+        ensures err { OnErr result (self.new ≡ self.old) }
+        ensures refused { IfErr result (λ e. ¬ (e ≡ NoMemory) → model.put_link self.old path.now target.now ≡ Err (refused_of e)) }
+    {
+        self.check_link(path, target)?;
+        if self.get(path).is_some() {
+            return Ok(());
+        }
+        let target = String::from_str(self.alloc, target)?;
+        self.insert(path, Stored::Link(target))?;
+        Ok(())
+    }
+
+    /// Takes out each entry under `run/`: those don't outlive a boot. It takes no memory.
+    pub fn clear_run(&mut self)
+        ensures { self.new ≡ model.without_run self.old }
+    {
+        self.entries.retain(|path, _| !is_volatile(path.as_str()));
+    }
+
+    /// Takes out what stands at the path, and whether something stood there.
+    fn take_out(&mut self, path: &str) -> bool
+        ensures stood { result ≡ is_some (map.get self.old path.now) }
+        ensures removed { self.new ≡ map.remove self.old path.now }
+        ensures same { OnFalse result (self.new ≡ self.old) }
+    {
+        self.entries.remove(path).is_some()
+    }
+
+    /// Takes out what stands at the path. Where nothing stands there it is refused (E12), and the tree is as it was.
+    #[tactic(auto, unfolding(um_model::specs::Tree::remove_at))]
+    pub fn remove(&mut self, path: &str) -> Result<(), Refusal>
+        ensures ok { OnOk result (model.remove_at self.old path.now ≡ Ok self.new) }
+        ensures err { OnErr result (self.new ≡ self.old) }
+        ensures refused { IfErr result (λ e. ¬ (e ≡ NoMemory) → model.remove_at self.old path.now ≡ Err (refused_of e)) }
+    {
+        if self.take_out(path) {
+            Ok(())
+        } else {
+            Err(bad_path(self.alloc, path))
+        }
+    }
+}
+
+fn is_volatile(path: &str) -> bool
+    ensures { result ≡ model.is_volatile path.now }
+{
+    behind(Layer::Run.text(), path).is_some()
+}
+
+fn bad_path(alloc: Global, path: &str) -> Refusal
+    ensures { ¬ (result ≡ NoMemory) → refused_of result ≡ told.bad_path path.now }
+{
+    match String::from_str(alloc, path) {
+        Ok(path) => Refusal::BadPath { path },
+        Err(_) => Refusal::NoMemory,
+    }
+}
+
+fn exists(alloc: Global, path: &str) -> Refusal
+    ensures { ¬ (result ≡ NoMemory) → refused_of result ≡ told.exists_at path.now }
+{
+    match String::from_str(alloc, path) {
+        Ok(path) => Refusal::Exists { path },
+        Err(_) => Refusal::NoMemory,
+    }
+}
