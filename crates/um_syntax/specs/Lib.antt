@@ -1,0 +1,4 @@
+pub mod Places
+pub mod Joining
+pub mod Statements
+pub mod Items

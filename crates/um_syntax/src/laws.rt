@@ -1,0 +1,33 @@
+//! Laws of the reading.
+
+ghost use Rattle.std.specs.Prelude.{◌≡◌, ◌↔◌, ℕ, List, map};
+ghost use Rattle.std.specs.List.{AllPass};
+ghost use Rattle.std.specs.List.Sorted.{IsStrictlyIncreasing};
+ghost use Rattle.um_model.specs.Syntax.{Placed, IsReading, reading_of, line_number, stands_well};
+
+/// Each text has a reading.
+pub fn each_text_has_a_reading()
+    ensures { (text : List ℕ) → (reading : List Placed) × IsReading text reading }
+{}
+
+/// A text has one reading at most.
+pub fn one_reading()
+    ensures { (text : List ℕ) (a b : List Placed) → IsReading text a → IsReading text b → a ≡ b }
+{}
+
+/// The reading is what the functions of the same file compute.
+pub fn reading_is_computed()
+    ensures { (text : List ℕ) (reading : List Placed) → IsReading text reading ↔ (reading ≡ reading_of text) }
+{}
+
+/// Items, and so warnings, stand in the order of their lines, and a line gives one at most.
+pub fn lines_rise()
+    ensures { (text : List ℕ) (reading : List Placed) → IsReading text reading →
+        IsStrictlyIncreasing (map (λ p. line_number p.item) reading) }
+{}
+
+/// A head and an assignment stand in a section, and the warning of an assignment before any section stands in none.
+pub fn sections_fit()
+    ensures { (text : List ℕ) (reading : List Placed) → IsReading text reading →
+        AllPass (λ p. stands_well p.section p.item) reading }
+{}

@@ -1,0 +1,17 @@
+//! The syntax of unit files: each text has one reading, as heads of sections, assignments and warnings in the order of their
+//! lines, and nothing is refused but want of memory.
+#![tactic(auto)]
+
+mod items;
+mod joiner;
+mod laws;
+mod lines;
+mod statements;
+#[cfg(test)]
+mod tests;
+
+pub use items::{Item, Span, parse};
+pub use laws::{
+    each_text_has_a_reading, lines_rise, one_reading, reading_is_computed, sections_fit,
+};
+pub use um_model::WarningKind;
