@@ -1,0 +1,145 @@
+//! Sets of exits.
+
+ghost use Rattle.std.specs.Prelude.{◌≡◌, ◌||◌, ◌<◌, true, false, Some, Bool, IfSome, IfNone, ℕ};
+ghost use Rattle.std.specs.Str.{bytes_eq};
+ghost use Rattle.um_model.specs.Values.{signal_number, exit_of, is_end, IsExitSet};
+ghost use Rattle.um_model.specs.declared.service.End as ends;
+ghost use Rattle.um_value.specs.ExitSet.{holds, fits};
+
+use crate::numbers::{decimal, is_decimal};
+use um_model::End;
+use um_text::Class;
+
+/// A set of ends of processes: exit codes, and signals from 1 to 15.
+#[derive(Clone, Copy, Debug, PartialEq, Eq)]
+pub struct ExitSet {
+    /// Whether the code is in the set, by the code.
+    codes: [bool; 256],
+    /// Whether the signal is in the set, by its number; no signal has the number 0.
+    signals: [bool; 16],
+}
+
+impl ExitSet {
+    /// The set that no end is in.
+    fn empty() -> ExitSet
+        ensures { (end : ends.End) → holds result end ≡ false }
+    {
+        ExitSet {
+            codes: [false; 256],
+            signals: [false; 16],
+        }
+    }
+
+    /// Whether the end is in the set. An end that nobody can tell is in none.
+    pub fn holds(&self, end: End) -> bool
+        ensures { result ≡ holds self.now end }
+    {
+        match end {
+            End::Code(code) => self.codes[usize::from(code)],
+            End::Signal(number) => self
+                .signals
+                .get(usize::from(number))
+                .copied()
+                .unwrap_or(false),
+            End::Lost => false,
+        }
+    }
+
+    /// Puts the end into the set.
+    fn insert(&mut self, end: End)
+        requires { fits end ≡ true }
+        ensures { (other : ends.End) → holds self.new other ≡ (is_end other (Some end) || holds self.old other) }
+    {
+        match end {
+            End::Code(code) => self.codes[usize::from(code)] = true,
+            End::Signal(number) => self.signals[usize::from(number)] = true,
+            End::Lost => {}
+        }
+    }
+}
+
+fn is(word: &[u8], name: &str) -> bool
+    ensures { result ≡ bytes_eq word.now name.now }
+{
+    word == name.as_bytes()
+}
+
+/// The number of the signal of that name.
+fn signal_number(word: &[u8]) -> Option<u8>
+    ensures value { result ≡ signal_number word.now }
+    ensures small { IfSome result (λ number. number < 16) }
+{
+    if is(word, "SIGHUP") {
+        return Some(1);
+    }
+    if is(word, "SIGINT") {
+        return Some(2);
+    }
+    if is(word, "SIGQUIT") {
+        return Some(3);
+    }
+    if is(word, "SIGILL") {
+        return Some(4);
+    }
+    if is(word, "SIGTRAP") {
+        return Some(5);
+    }
+    if is(word, "SIGABRT") {
+        return Some(6);
+    }
+    if is(word, "SIGBUS") {
+        return Some(7);
+    }
+    if is(word, "SIGFPE") {
+        return Some(8);
+    }
+    if is(word, "SIGKILL") {
+        return Some(9);
+    }
+    if is(word, "SIGUSR1") {
+        return Some(10);
+    }
+    if is(word, "SIGSEGV") {
+        return Some(11);
+    }
+    if is(word, "SIGUSR2") {
+        return Some(12);
+    }
+    if is(word, "SIGPIPE") {
+        return Some(13);
+    }
+    if is(word, "SIGALRM") {
+        return Some(14);
+    }
+    if is(word, "SIGTERM") {
+        return Some(15);
+    }
+    None
+}
+
+/// The end that the word tells: a code from 0 to 255, or a signal by its name.
+fn exit_of(word: &[u8]) -> Option<End>
+    ensures value { result ≡ exit_of word.now }
+    ensures fits { IfSome result (λ end. fits end ≡ true) }
+{
+    if is_decimal(word) {
+        u8::try_from(decimal(word)?).ok().map(End::Code)
+    } else {
+        signal_number(word).map(End::Signal)
+    }
+}
+
+/// The set of the ends that the text's words tell: codes from 0 to 255, and the names from `SIGHUP` to `SIGTERM`. Spaces and
+/// tabs alone part words; a text without words gives the empty set (systemd.service(5), `SuccessExitStatus=`). None where a
+/// word is anything else.
+pub fn exit_set(text: &str) -> Option<ExitSet>
+    ensures found { IfSome result (λ set. IsExitSet text.now (holds set)) }
+    ensures none { IfNone result ((set : ends.End → Bool) → ¬ (IsExitSet text.now set)) }
+{
+    let mut set = ExitSet::empty();
+    let pieces = text.as_bytes().split(|b| Class::Space.contains(*b));
+    for word in pieces.filter(|piece| !piece.is_empty()) {
+        set.insert(exit_of(word)?);
+    }
+    Some(set)
+}

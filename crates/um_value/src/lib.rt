@@ -1,0 +1,20 @@
+//! The values of settings: each text is read exactly where it has a reading, as a truth value, a number, a time span, a set
+//! of exits or a restart policy, and takes no memory.
+#![tactic(auto)]
+
+mod booleans;
+mod exits;
+mod laws;
+mod numbers;
+mod policies;
+mod spans;
+#[cfg(test)]
+mod tests;
+
+pub use booleans::boolean;
+pub use exits::{ExitSet, exit_set};
+pub use laws::a_value_has_one_reading;
+pub use numbers::number;
+pub use policies::restart;
+pub use spans::span;
+pub use um_model::{RestartPolicy, TimeSpan};
