@@ -1,0 +1,16 @@
+use Rattle.std.proofs.Common.{◌≡◌, length, option_copied, string_bytes}
+use denote.Text.{Utf8}
+use denote.Shadow.{shadow}
+use Rattle.um_model.specs.Specifiers.{specifier_front}
+use Rattle.um_model.proofs.PiecesLaws.{prefixed, reading}
+use Rattle.um_spec.proofs.expansion.expand_with.Given as goal
+
+-- what is done, and then what is read of the rest, is what is read of the text
+abbrev pub invariant-loop-before : goal.invariant-loop-before
+invariant-loop-before l = record {
+  utf8 : shadow (Utf8 l.rest);
+  told : prefixed (string_bytes l.expanded) (reading (specifier_front l.unit (option_copied l.unescaped)) 0 l.rest) ≡ reading (specifier_front l.unit (option_copied l.unescaped)) 0 l.text;
+}
+
+abbrev pub decreases-loop-before : goal.decreases-loop-before
+decreases-loop-before l = length l.rest

@@ -1,0 +1,10 @@
+//! Specifiers: a text with `%` and a letter in it is expanded exactly where it stands for one, under the name of a unit.
+#![tactic(auto)]
+
+mod expansion;
+mod laws;
+#[cfg(test)]
+mod tests;
+
+pub use expansion::expand;
+pub use laws::a_text_has_one_expansion;
