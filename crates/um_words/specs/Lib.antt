@@ -1,0 +1,4 @@
+pub mod There
+pub mod Views
+pub mod Environment
+pub mod Commands

@@ -1,0 +1,27 @@
+//! What the definitions of words say together, as functions that do nothing.
+
+ghost use Rattle.std.specs.Prelude.{◌≡◌, ℕ, List};
+ghost use Rattle.um_model.specs.declared.words.WordRules.{WordRules};
+ghost use Rattle.um_model.specs.declared.words.WordRules.TheVariants.{Plain};
+ghost use Rattle.um_model.specs.Words.{AreWords, AreCommands, Command};
+ghost use Rattle.um_model.specs.Substitution.{Variable, AreSubstituted};
+
+/// By the rules of a setting and by those of a value, a text reads as one list of words at most.
+pub fn words_have_one_reading()
+    ensures { (rules : WordRules) (text : List ℕ) (a b : List (List ℕ)) → AreWords rules text a → AreWords rules text b → a ≡ b }
+{}
+
+/// Each value has words, whatever its text.
+pub fn each_value_has_words()
+    ensures { (value : List ℕ) → (words : List (List ℕ)) × AreWords Plain value words }
+{}
+
+/// A text reads as one list of commands at most.
+pub fn commands_have_one_reading()
+    ensures { (text : List ℕ) (a b : List Command) → AreCommands text a → AreCommands text b → a ≡ b }
+{}
+
+/// With these variables the words of a command become one list of words at most.
+pub fn a_substitution_has_one_result()
+    ensures { (environment : List Variable) (words a b : List (List ℕ)) → AreSubstituted environment words a → AreSubstituted environment words b → a ≡ b }
+{}

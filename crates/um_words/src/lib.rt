@@ -1,0 +1,22 @@
+//! Texts as words and commands, and variables in them: each call gives the one reading that a text has, and tells where
+//! there is none.
+#![tactic(auto)]
+
+mod command;
+mod laws;
+mod spelling;
+mod splitting;
+mod substitution;
+#[cfg(test)]
+mod tests;
+mod variables;
+mod word;
+
+pub use command::{Command, commands, is_executable_word};
+pub use laws::{
+    a_substitution_has_one_result, commands_have_one_reading, each_value_has_words,
+    words_have_one_reading,
+};
+pub use splitting::words;
+pub use substitution::substitute;
+pub use variables::Variable;

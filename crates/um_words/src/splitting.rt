@@ -1,0 +1,58 @@
+//! The words of a text.
+
+ghost use Rattle.std.specs.Prelude.{◌≡◌, ℕ, List, IfOk, MatchOption, map, string_bytes};
+ghost use Rattle.um_model.specs.Words.{Word, AreSpelled, AreWords};
+ghost use Rattle.um_model.specs.declared.words.WordRules.TheVariants.{Escaped};
+ghost use Rattle.um_words.specs.Views.{word_of};
+
+use crate::spelling::is_space;
+use crate::word::{Spelled, word};
+use std::alloc::{AllocError, Global};
+use um_model::WordRules;
+
+/// The words of a text by these rules, each with its spelling; None where the text can't be read.
+pub fn spelled<'a>(
+    alloc: Global,
+    rules: WordRules,
+    text: &'a str,
+) -> Result<Option<Vec<Spelled<'a>>>, AllocError>
+    ensures { IfOk result (λ r. MatchOption r
+        ((words : List Word) → ¬ (AreSpelled rules text.now words))
+        (λ words. AreSpelled rules text.now (map word_of words.items))) }
+{
+    let mut words = Vec::new(alloc);
+    let mut rest = text;
+    while let Some(first) = rest.as_bytes().first() {
+        if is_space(*first) {
+            rest = &rest[1..];
+            continue;
+        }
+        let Some((value, after)) = word(alloc, rules, rest)? else {
+            return Ok(None);
+        };
+        let spelling = &rest.as_bytes()[..rest.len() - after.len()];
+        words.push(Spelled { spelling, value })?;
+        rest = after;
+    }
+    Ok(Some(words))
+}
+
+/// The words of a setting, split at spaces and tabs. `"` and `'` quote, and may open anywhere in a word. Inside quotes and
+/// outside, `\a \b \f \n \r \t \v \\ \" \'` mean what they do in C, `\s` a space and `\x01` to `\x7f` the byte of that
+/// number; any other backslash stays, with the character behind it. None for an unclosed quote, `\x` and two hexadecimal
+/// digits of another number, `\` and three octal digits, `\u` and four or `\U` and eight hexadecimal digits
+/// (systemd.syntax(7), "Quoting").
+pub fn words(alloc: Global, text: &str) -> Result<Option<Vec<String>>, AllocError>
+    ensures { IfOk result (λ r. MatchOption r
+        ((words : List (List ℕ)) → ¬ (AreWords Escaped text.now words))
+        (λ words. AreWords Escaped text.now (map string_bytes words.items))) }
+{
+    let Some(spelled) = spelled(alloc, WordRules::Escaped, text)? else {
+        return Ok(None);
+    };
+    let mut words = Vec::new(alloc);
+    for word in spelled {
+        words.push(word.value)?;
+    }
+    Ok(Some(words))
+}
