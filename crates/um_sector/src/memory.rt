@@ -1,0 +1,213 @@
+ghost use Rattle.std.specs.Prelude.{◌≡◌, ◌<◌, ℕ, [], length, true, map, replicate, slice_index_or, IfOk};
+ghost use Rattle.um_model.specs.Disk as model;
+ghost use Rattle.um_model.specs.Disk.{seen, Wrote, Synced, one_more, CountsFailure};
+ghost use Rattle.um_sector.specs.Noted.{past_of, blank, seen_is_image};
+ghost use Rattle.std.specs.List.{range_with_len};
+
+use crate::disk::{Disk, Sector};
+use crate::fault::Fault;
+use crate::noted::Noted;
+use std::alloc::{AllocError, Global};
+
+/// A disk in memory that keeps each of its calls, so that each image that a crash may leave can be taken from it. It is
+/// honest. A call that finds no memory for its note fails and is not made, so that nothing is ever missing from the notes.
+#[derive(Drop)]
+pub struct MemDisk {
+    /// What it was made with.
+    start: Vec<Sector>,
+    /// What a read gives.
+    held: Vec<Sector>,
+    /// Its writes and syncs that answered Ok, the oldest first.
+    noted: Vec<Noted>,
+    calls: u64,
+    failures: u64,
+    ghost same_size: { length held.items ≡ length start.items },
+    ghost shown: { (k : ℕ) → slice_index_or held.items k [] ≡ seen (past_of start.items noted.items) k },
+}
+
+/// So many sectors of zeros.
+fn blank_sectors(alloc: Global, count: usize) -> Result<Vec<Sector>, AllocError>
+    ensures { IfOk result (λ v. v.items ≡ replicate count blank) }
+{
+    let blank: Sector = [0; 512];
+    let mut sectors = Vec::new(alloc);
+    for _ in 0..count {
+        sectors.push(blank)?;
+    }
+    Ok(sectors)
+}
+
+/// The pick at that turn; 0 where it is missing.
+fn pick_at(picks: &[usize], turn: usize) -> usize
+    ensures { result ≡ slice_index_or picks.now turn 0 }
+{
+    if turn < picks.len() { picks[turn] } else { 0 }
+}
+
+/// The candidate at that index; the first where there is no such candidate.
+fn chosen(choices: &[Sector], pick: usize) -> Sector
+    requires { 0 < length choices.now }
+    ensures { result ≡ slice_index_or choices.now pick (slice_index_or choices.now 0 []) }
+{
+    if pick < choices.len() {
+        choices[pick]
+    } else {
+        choices[0]
+    }
+}
+
+impl MemDisk {
+    ghost use Rattle.um_sector.specs.Memory.{history};
+
+    /// A disk of zeros.
+    pub fn new(alloc: Global, sectors: usize) -> Result<MemDisk, AllocError>
+        ensures blank { IfOk result (λ disk. disk.start.items ≡ replicate sectors blank) }
+        ensures fresh { IfOk result (λ disk. disk.noted.items ≡ []) }
+        ensures counts { IfOk result (λ disk. (disk.calls ≡ 0) × (disk.failures ≡ 0)) }
+    {
+        Ok(MemDisk {
+            start: blank_sectors(alloc, sectors)?,
+            held: blank_sectors(alloc, sectors)?,
+            noted: Vec::new(alloc),
+            calls: 0,
+            failures: 0,
+        })
+    }
+
+    /// The sectors with more than one candidate, ascending, with the number of candidates.
+    pub fn unsynced(&self, alloc: Global) -> Result<Vec<(usize, usize)>, AllocError>
+        ensures { IfOk result (λ list. list.items ≡ model.unsynced (history self.now) (length self.now.held.items)) }
+    {
+        let mut list = Vec::new(alloc);
+        for k in 0..self.held.len() {
+            let count = self.candidates(alloc, k)?.len();
+            if count > 1 {
+                list.push((k, count))?;
+            }
+        }
+        Ok(list)
+    }
+
+    /// The disk that a crash leaves: of each sector that `unsynced` lists, in that order, the candidate at that index of
+    /// `picks`. Index 0 is the value at the last sync; so is an index that is missing or past the last candidate.
+    pub fn crash(&self, alloc: Global, picks: &[usize]) -> Result<MemDisk, AllocError>
+        ensures picked { IfOk result (λ disk. disk.start.items ≡ map (model.picked (history self.now) picks.now) (range_with_len 0 (length self.now.held.items))) }
+        ensures fresh { IfOk result (λ disk. disk.noted.items ≡ []) }
+        ensures counts { IfOk result (λ disk. (disk.calls ≡ 0) × (disk.failures ≡ 0)) }
+    {
+        Ok(MemDisk {
+            start: self.picked(alloc, picks)?,
+            held: self.picked(alloc, picks)?,
+            noted: Vec::new(alloc),
+            calls: 0,
+            failures: 0,
+        })
+    }
+
+    /// How many syncs answered Ok.
+    pub fn syncs(&self) -> usize
+        ensures { result ≡ model.sync_count (history self.now) }
+    {
+        self.noted.iter().filter(|noted| noted.is_sync()).count()
+    }
+
+    /// The sectors of the image that these picks choose.
+    fn picked(&self, alloc: Global, picks: &[usize]) -> Result<Vec<Sector>, AllocError>
+        ensures { IfOk result (λ list. list.items ≡ map (model.picked (history self.now) picks.now) (range_with_len 0 (length self.now.held.items))) }
+    {
+        let mut list = Vec::new(alloc);
+        let mut turn = 0;
+        for k in 0..self.held.len() {
+            let choices = self.candidates(alloc, k)?;
+            list.push(chosen(&choices, pick_at(picks, turn)))?;
+            if choices.len() > 1 {
+                turn += 1;
+            }
+        }
+        Ok(list)
+    }
+
+    /// The candidates of sector `k`, the value at the last sync first.
+    fn candidates(&self, alloc: Global, k: usize) -> Result<Vec<Sector>, AllocError>
+        requires { k < length self.now.held.items }
+        ensures candidates { IfOk result (λ list. list.items ≡ model.candidates (history self.now) k) }
+        ensures some { IfOk result (λ list. 0 < length list.items) }
+    {
+        let mut last = self.start[k];
+        let mut list = Vec::new(alloc);
+        list.push(last)?;
+        for call in &self.noted {
+            match call {
+                Noted::Write { k: sector, value } => {
+                    if *sector == k {
+                        list.push(*value)?;
+                        last = *value;
+                    }
+                }
+                Noted::Sync => {
+                    list.clear();
+                    list.push(last)?;
+                }
+            }
+        }
+        Ok(list)
+    }
+
+    /// Counts a call that failed.
+    fn fail(&mut self) -> Fault
+        ensures past { (self.new.start ≡ self.old.start) × (self.new.held ≡ self.old.held) × (self.new.noted ≡ self.old.noted) }
+        ensures calls { self.new.calls ≡ self.old.calls }
+        ensures failures { self.new.failures ≡ one_more self.old.failures }
+    {
+        self.failures = self.failures.saturating_add(1);
+        Fault
+    }
+}
+
+impl Disk for MemDisk {
+    ghost past = { λ m. past_of m.start.items m.noted.items };
+
+    ghost size = { λ m. length m.held.items };
+
+    ghost calls = { λ m. m.calls };
+
+    ghost failures = { λ m. m.failures };
+
+    ghost honest = { λ _. true };
+
+    ghost seen_is_image = { λ m _. seen_is_image m.start.items m.noted.items };
+
+    fn sectors(&self) -> usize {
+        self.held.len()
+    }
+
+    fn read(&mut self, k: usize, sector: &mut Sector) -> Result<(), Fault> {
+        self.calls = self.calls.saturating_add(1);
+        if k >= self.held.len() {
+            return Err(self.fail());
+        }
+        *sector = self.held[k];
+        Ok(())
+    }
+
+    fn write(&mut self, k: usize, sector: &Sector) -> Result<(), Fault> {
+        self.calls = self.calls.saturating_add(1);
+        let value = *sector;
+        if k >= self.held.len() {
+            return Err(self.fail());
+        }
+        if self.noted.push(Noted::Write { k, value }).is_err() {
+            return Err(self.fail());
+        }
+        self.held[k] = value;
+        Ok(())
+    }
+
+    fn sync(&mut self) -> Result<(), Fault> {
+        self.calls = self.calls.saturating_add(1);
+        if self.noted.push(Noted::Sync).is_err() {
+            return Err(self.fail());
+        }
+        Ok(())
+    }
+}

@@ -1,0 +1,21 @@
+ghost use Rattle.std.specs.Prelude.{◌≡◌};
+ghost use Rattle.um_model.specs.Disk as model;
+
+use crate::disk::Sector;
+
+/// A call that a disk in memory has noted.
+#[derive(Clone, Copy)]
+pub enum Noted {
+    Write { k: usize, value: Sector },
+    Sync,
+}
+
+impl Noted {
+    ghost use Rattle.um_sector.specs.Noted.{call_of};
+
+    pub fn is_sync(&self) -> bool
+        ensures { result ≡ model.is_sync (call_of self.now) }
+    {
+        matches!(self, Noted::Sync)
+    }
+}
