@@ -1,0 +1,25 @@
+use um_name::UnitName;
+
+/// What happens to the manager.
+#[derive(Debug, Drop)]
+pub enum Event {
+    /// Put the text into the tree as the file at the path.
+    PutFile { path: String, text: String },
+    /// Load the tree in hand (systemctl(1), `daemon-reload`).
+    DaemonReload,
+}
+
+/// An event with its moment.
+#[derive(Debug, Drop)]
+pub struct Input {
+    /// In microseconds; one before the clock counts as the clock.
+    pub moment: u64,
+    pub event: Event,
+}
+
+/// What is asked of the manager and changes nothing.
+#[derive(Drop)]
+pub enum Query {
+    /// How a unit stands (systemctl(1), `show`).
+    Show { unit: UnitName },
+}

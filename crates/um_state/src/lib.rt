@@ -1,0 +1,12 @@
+//! What comes into the manager, what it answers and asks for, and its state, each seen as the value of the definitions.
+#![tactic(auto)]
+
+mod input;
+mod reply;
+mod state;
+mod units;
+
+pub use input::{Event, Input, Query};
+pub use reply::{Action, Reply, UnitShown};
+pub use state::State;
+pub use units::{Pending, Units};

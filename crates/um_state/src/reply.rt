@@ -1,0 +1,41 @@
+use um_model::{LoadState, Signal, UnitState};
+use um_unit::Warning;
+use um_wire::Refusal;
+
+/// What is asked of the children.
+#[derive(Debug, Drop)]
+pub enum Action {
+    /// To start a process under this number.
+    Spawn {
+        number: u64,
+        words: Vec<String>,
+        /// `NAME=value` each.
+        environment: Vec<String>,
+    },
+    /// To signal the process of this number.
+    Signal {
+        number: u64,
+        signal: Signal,
+    },
+}
+
+/// A unit as `show` tells it.
+#[derive(Debug, Drop)]
+pub struct UnitShown {
+    /// The name of the unit that was found, else the name as it was asked.
+    pub id: String,
+    pub load: LoadState,
+    /// Empty where the unit isn't loaded.
+    pub description: String,
+    /// None where the unit isn't loaded.
+    pub warnings: Vec<Warning>,
+    pub state: UnitState,
+}
+
+/// What is answered.
+#[derive(Debug, Drop)]
+pub enum Reply {
+    Done,
+    Shown(UnitShown),
+    Refused(Refusal),
+}
