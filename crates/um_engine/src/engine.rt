@@ -1,0 +1,97 @@
+ghost use Rattle.std.specs.Prelude.{◌≡◌, [], map, IfOk, IfErr};
+ghost use Rattle.um_engine.specs.Engine.{state_in, size_in, state_after, reply_in, actions_in, state_before};
+ghost use Rattle.um_model.specs.Machine as model;
+ghost use Rattle.um_model.specs.Machine.{Step};
+ghost use Rattle.um_state.specs.View.{state_of, input_of, query_of, reply_of, action_of};
+ghost use Rattle.um_wire.specs.Refusal.{refused_of};
+ghost use Rattle.um_wire.specs.declared.refusal.Refusal.TheVariants.{NoMemory};
+
+use crate::answer::reply_to;
+use crate::effect::take_effect;
+use std::alloc::{AllocError, Global};
+use std::mem;
+use um_state::{Action, Input, Query, Reply, State};
+use um_wire::Refusal;
+
+/// The manager's state and the size of its store.
+#[derive(Drop)]
+pub struct Engine {
+    alloc: Global,
+    state: State,
+    size: u64,
+}
+
+/// A step that is planned and not yet taken.
+#[derive(Drop)]
+pub struct Next {
+    state: State,
+    reply: Reply,
+    actions: Vec<Action>,
+}
+
+/// The way back from a step that was taken.
+#[derive(Drop)]
+pub struct Back {
+    state: State,
+}
+
+impl Engine {
+    /// The engine in this state, over a store of so many bytes. It takes no memory.
+    pub fn of(alloc: Global, state: State, size: u64) -> Engine
+        ensures state { state_in result ≡ state_of state }
+        ensures size { size_in result ≡ size }
+    {
+        Engine { alloc, state, size }
+    }
+
+    /// The moment of the last step, in microseconds.
+    pub fn clock(&self) -> u64
+        ensures { result ≡ (state_in self.now).clock }
+    {
+        self.state.clock
+    }
+
+    /// The step that the input is. It is refused as the machine refuses it, or for want of memory; nothing has changed then.
+    pub fn plan(&self, input: &Input) -> Result<Next, Refusal>
+        ensures ok { IfOk result (λ next.
+            Step (size_in self.now) (state_in self.now) (input_of input.now) (reply_in next) (actions_in next) (state_after next)) }
+        ensures refused { IfErr result (λ e. ¬ (e ≡ NoMemory)
+            → Step (size_in self.now) (state_in self.now) (input_of input.now) (model.Refusal (refused_of e)) [] (state_in self.now)) }
+    {
+        let mut state = self.state.copy()?;
+        take_effect(&mut state, &input.event)?;
+        state.clock = self.state.clock.max(input.moment);
+        Ok(Next {
+            state,
+            reply: Reply::Done,
+            actions: Vec::new(self.alloc),
+        })
+    }
+
+    /// Takes a planned step. It takes no memory and always succeeds.
+    pub fn commit(&mut self, next: Next) -> (Reply, Vec<Action>, Back)
+        ensures state { state_in self.new ≡ state_after next }
+        ensures size { size_in self.new ≡ size_in self.old }
+        ensures reply { reply_of result.0 ≡ reply_in next }
+        ensures actions { map action_of result.1.items ≡ actions_in next }
+        ensures back { state_before result.2 ≡ state_in self.old }
+    {
+        let state = mem::replace(&mut self.state, next.state);
+        (next.reply, next.actions, Back { state })
+    }
+
+    /// Takes the step back that the last commit took. It takes no memory and always succeeds.
+    pub fn back(&mut self, back: Back)
+        ensures state { state_in self.new ≡ state_before back }
+        ensures size { size_in self.new ≡ size_in self.old }
+    {
+        self.state = back.state;
+    }
+
+    /// The reply to a query, which is a function of the state.
+    pub fn query(&self, query: &Query) -> Result<Reply, AllocError>
+        ensures { IfOk result (λ reply. reply_of reply ≡ model.reply_to (state_in self.now) (query_of query.now)) }
+    {
+        reply_to(self.alloc, &self.state, query)
+    }
+}

@@ -1,0 +1,11 @@
+//! The engine: `plan` and `commit` are one step of the machine for each input, `back` takes a step back, and `query` answers
+//! from the state alone.
+#![tactic(auto)]
+
+mod answer;
+mod effect;
+mod engine;
+mod laws;
+
+pub use engine::{Back, Engine, Next};
+pub use laws::{a_run_has_one_end, a_step_has_one_outcome, runs_join};
