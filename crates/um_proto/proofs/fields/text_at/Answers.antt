@@ -1,0 +1,7 @@
+use Rattle.std.proofs.Common.{refl}
+use Rattle.um_model.specs.Requests.{text_at}
+use Rattle.um_proto.proofs.fields.text_at.Goals as goal
+
+pub returns-then-contains : goal.returns-then-contains
+unfolding text_at
+returns-then-contains c = λ _. rw (← c.in-Some.ensures, ← c.in-Some-as_str.ensures, ← c.as_bytes.ensures.value, ← c.if-contains.ensures.value) refl

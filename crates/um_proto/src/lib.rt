@@ -1,0 +1,16 @@
+//! Requests and replies as JSON: `read_request` gives exactly the request that the bytes of a frame are, or the first refusal
+//! that holds, and `write_reply` exactly the compact text of a reply.
+#![tactic(auto)]
+
+mod fields;
+mod read;
+mod request;
+#[cfg(test)]
+mod tests;
+mod verb;
+mod write;
+
+pub use read::read_request;
+pub use request::{Asked, Request};
+pub use um_model::Mode;
+pub use write::write_reply;

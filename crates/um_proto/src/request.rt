@@ -1,0 +1,18 @@
+use um_state::{Event, Query};
+
+/// What a request asks for.
+#[derive(Drop)]
+pub enum Asked {
+    /// That something happens to the manager.
+    Event(Event),
+    /// How something stands.
+    Query(Query),
+}
+
+/// A request.
+#[derive(Drop)]
+pub struct Request {
+    /// The moment that it tells, in microseconds; none where it tells none.
+    pub at: Option<u64>,
+    pub asked: Asked,
+}

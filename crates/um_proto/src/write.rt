@@ -1,0 +1,134 @@
+ghost use Rattle.std.specs.Prelude.{◌≡◌, [], map, string_bytes, IfOk, length, ◌≤◌};
+ghost use Rattle.serde_json.specs.Data.{array};
+ghost use Rattle.serde_json.specs.View.{view, items_of};
+ghost use Rattle.um_model.specs.Replies as model;
+ghost use Rattle.um_state.specs.View.{shown_of, reply_of};
+ghost use Rattle.um_unit.specs.View.{warning_of};
+ghost use Rattle.um_wire.specs.Refusal.{refused_of};
+
+use serde_json::{Value, json};
+use std::alloc::{AllocError, Global};
+use um_state::{Reply, UnitShown};
+use um_unit::Warning;
+use um_wire::{Limit, Refusal};
+
+/// The longest text of a reply, in bytes.
+const REPLY_LIMIT: usize = 1 << 24;
+
+/// A list of texts.
+fn texts_value(alloc: Global, texts: &[String]) -> Result<Value, AllocError>
+    ensures { IfOk result (λ v. view v ≡ model.texts_data (map string_bytes texts.now)) }
+{
+    let mut list = Vec::new(alloc);
+    for text in texts {
+        list.push(Value::try_from_str(alloc, text.as_str())?)?;
+    }
+    Ok(Value::Array(list))
+}
+
+/// An empty list.
+fn no_texts(alloc: Global) -> Value
+    ensures { view result ≡ model.texts_data [] }
+{
+    Value::Array(Vec::new(alloc))
+}
+
+/// The details of a refusal.
+fn detail_value(alloc: Global, refusal: &Refusal) -> Result<Value, AllocError>
+    ensures { IfOk result (λ v. view v ≡ model.texts_data (refused_of refusal.now).detail) }
+{
+    match refusal {
+        Refusal::UnknownVerb { verb } => json!(in alloc; [verb]),
+        Refusal::BadName { text } => json!(in alloc; [text]),
+        Refusal::BadSetting { unit, reason } => json!(in alloc; [unit, reason]),
+        Refusal::NotFound { unit }
+        | Refusal::Masked { unit }
+        | Refusal::NotLoaded { unit }
+        | Refusal::Clash { unit }
+        | Refusal::JobConflict { unit }
+        | Refusal::NoSuchJob { unit } => json!(in alloc; [unit]),
+        Refusal::OrderingCycle { units } => texts_value(alloc, units.items.as_slice()),
+        Refusal::Exists { path } | Refusal::BadPath { path } => json!(in alloc; [path]),
+        Refusal::TooLarge { limit } => json!(in alloc; [limit.word()]),
+        Refusal::Damaged { sector } => {
+            let text = sector.to_string(alloc)?;
+            json!(in alloc; [&text])
+        }
+        Refusal::BadRequest
+        | Refusal::NoRoom
+        | Refusal::NoMemory
+        | Refusal::Device
+        | Refusal::Reopen
+        | Refusal::NotFormatted
+        | Refusal::GenerationsSpent
+        | Refusal::OtherLayout => Ok(no_texts(alloc)),
+    }
+}
+
+fn refused_value(alloc: Global, refusal: &Refusal) -> Result<Value, AllocError>
+    ensures { IfOk result (λ v. view v ≡ model.refused_data (refused_of refusal.now)) }
+{
+    let detail = detail_value(alloc, refusal)?;
+    json!(in alloc; {"detail": detail, "error": refusal.number(), "ok": false})
+}
+
+fn warning_value(alloc: Global, warning: &Warning) -> Result<Value, AllocError>
+    ensures { IfOk result (λ v. view v ≡ model.warning_data (warning_of warning.now)) }
+{
+    json!(in alloc; [warning.kind.number(), &warning.path, warning.line as u64])
+}
+
+fn warnings_value(alloc: Global, warnings: &[Warning]) -> Result<Value, AllocError>
+    ensures { IfOk result (λ v. view v ≡ array (items_of (map model.warning_data (map warning_of warnings.now)))) }
+{
+    let mut list = Vec::new(alloc);
+    for warning in warnings {
+        list.push(warning_value(alloc, warning)?)?;
+    }
+    Ok(Value::Array(list))
+}
+
+fn shown_value(alloc: Global, shown: &UnitShown) -> Result<Value, AllocError>
+    ensures { IfOk result (λ v. view v ≡ model.shown_data (shown_of shown.now)) }
+{
+    let warnings = warnings_value(alloc, shown.warnings.as_slice())?;
+    json!(in alloc; {
+        "ActiveState": shown.state.sub.active_state().text(),
+        "Description": &shown.description,
+        "Id": &shown.id,
+        "LoadState": shown.load.text(),
+        "MainNumber": shown.state.main.unwrap_or(0),
+        "Result": shown.state.result.text(),
+        "SubState": shown.state.sub.text(),
+        "Warnings": warnings,
+    })
+}
+
+fn reply_value(alloc: Global, reply: &Reply) -> Result<Value, AllocError>
+    ensures { IfOk result (λ v. view v ≡ model.reply_data (reply_of reply.now)) }
+{
+    match reply {
+        Reply::Done => json!(in alloc; {"ok": true}),
+        Reply::Shown(shown) => {
+            let value = shown_value(alloc, shown)?;
+            json!(in alloc; {"ok": true, "value": value})
+        }
+        Reply::Refused(refusal) => refused_value(alloc, refusal),
+    }
+}
+
+/// The text of a reply; in place of one past 2^24 bytes that of the refusal `TooLarge` `reply`.
+#[tactic(auto, unfolding(um_model::specs::Replies::reply_text))]
+pub fn write_reply(alloc: Global, reply: &Reply) -> Result<Vec<u8>, AllocError>
+    ensures text { IfOk result (λ text. text.items ≡ model.reply_text (reply_of reply.now)) }
+    ensures short { IfOk result (λ text. length text.items ≤ model.reply_limit) }
+{
+    let text = reply_value(alloc, reply)?.to_vec(alloc)?;
+    if text.len() > REPLY_LIMIT {
+        let refusal = Refusal::TooLarge {
+            limit: Limit::Reply,
+        };
+        return refused_value(alloc, &refusal)?.to_vec(alloc);
+    }
+    Ok(text)
+}
