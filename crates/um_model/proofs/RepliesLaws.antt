@@ -6,9 +6,10 @@ use Rattle.serde_json.proofs.OnLiterals.{serde_json_on_literals}
 use Rattle.serde_json.specs.Data.{string}
 use Rattle.serde_json.specs.View.{items_of}
 use Rattle.serde_json.specs.Written.{has_float, items_have_float, compact_text}
-use Rattle.um_model.specs.Machine.{Reply, Done, Shown, Refusal}
+use Rattle.um_model.specs.Machine.{Reply, Done, Shown, Activity, Told, Refusal}
+use Rattle.um_model.specs.Service.{Action, SpawnProcess, SendSignal}
 use Rattle.um_model.specs.Refusals.{Refused, too_large}
-use Rattle.um_model.specs.Replies.{warning_data, refused_data, reply_data, reply_text, within_limit}
+use Rattle.um_model.specs.Replies.{warning_data, action_data, refused_data, reply_data, reply_text, within_limit}
 use Rattle.um_model.specs.Units.{Warning}
 use Rattle.um_model.specs.declared.refusals.Limit.TheVariants.{Reply as ReplyLimit}
 
@@ -20,6 +21,14 @@ warnings_plain : (warnings : List Warning) → items_have_float (items_of (map w
 warnings_plain [] = refl
 warnings_plain (w ∷ ws) = warnings_plain ws
 
+action_plain : (a : Action) → has_float (action_data a) ≡ false
+action_plain (SpawnProcess n words environment) = rw (texts_plain words) refl
+action_plain (SendSignal n signal) = refl
+
+actions_plain : (actions : List Action) → items_have_float (items_of (map action_data actions)) ≡ false
+actions_plain [] = refl
+actions_plain (a ∷ others) = rw (action_plain a, actions_plain others) refl
+
 -- no reply holds a float
 pub refused_plain : (r : Refused) → has_float (refused_data r) ≡ false
 refused_plain r = rw (texts_plain r.detail) refl
@@ -27,6 +36,8 @@ refused_plain r = rw (texts_plain r.detail) refl
 pub reply_plain : (reply : Reply) → has_float (reply_data reply) ≡ false
 reply_plain Done = refl
 reply_plain (Shown u) = rw (warnings_plain u.warnings) refl
+reply_plain (Activity state) = refl
+reply_plain (Told actions) = rw (actions_plain actions) refl
 reply_plain (Refusal r) = refused_plain r
 
 pub reply_text-short : (reply : Reply) (text : List ℕ) → text ≡ compact_text (reply_data reply) → length text ≤ 2 ^ 24 → text ≡ reply_text reply

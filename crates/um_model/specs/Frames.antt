@@ -1,12 +1,13 @@
 -- Streams of frames, and what is written for the stream of one client over standard input.
 -- No manual page has this: it is the project's own protocol (docs/FORMATS.md, "Frames").
 -- The program stands on this file.
-use Rattle.std.specs.Prelude.{◌≡◌, ℕ, ◌<◌, ◌≤◌, List, [], ◌∷◌, ◌++◌, length, Option, unwrap_or, Ok, Err}
+use Rattle.std.specs.Prelude.{◌≡◌, ℕ, ◌<◌, ◌≤◌, List, [], ◌∷◌, ◌++◌, length, if◌then◌else◌, Option, unwrap_or, Ok, Err}
 use Rattle.byteorder.specs.Endian.{big_number, big_bytes}
 use Rattle.um_model.specs.Refusals.{Refused, too_large}
-use Rattle.um_model.specs.Machine.{State, Input, Query, Event, Action, Step, Reply, Refusal, reply_to}
-use Rattle.um_model.specs.Requests.{OfEvent, OfQuery, request_of}
-use Rattle.um_model.specs.Replies.{reply_text}
+use Rattle.um_model.specs.Service.{Action}
+use Rattle.um_model.specs.Machine.{State, Input, Query, Event, Step, Reply, Told, Refusal, reply_to}
+use Rattle.um_model.specs.Requests.{OfEvent, OfQuery, OfActions, request_of}
+use Rattle.um_model.specs.Replies.{reply_text, is_told_whole}
 use Rattle.um_model.specs.declared.refusals.Limit.TheVariants.{Frame}
 use Rattle.um_model.specs.declared.requests.Mode.TheVariants.{Memory}
 use Rattle.um_model.specs.declared.frames.Ending.{Ending}
@@ -62,13 +63,19 @@ memory_size = 8388096
 abbrev pub input_of : State → Option ℕ → Event → Input
 input_of s at e = record { moment = unwrap_or at s.clock; event = e }
 
--- the reply to a frame over a store of so many bytes, and the state after it
-pub data Answers (size : ℕ) (s : State) (bytes : List ℕ) : Reply → State → Type 0 where
-  unread : (r : Refused) → request_of Memory bytes ≡ Err r → Answers size s bytes (Refusal r) s
-  queried : (at : Option ℕ) (q : Query) → request_of Memory bytes ≡ Ok (record { at = at; asked = OfQuery q }) → Answers size s bytes (reply_to s q) s
+-- the actions that are kept after they were asked for: none, unless their reply would have been too long
+abbrev pub kept_after : List Action → List Action
+kept_after kept = if is_told_whole (Told kept) then [] else kept
+
+-- the reply to a frame over a store of so many bytes, and the state and the actions kept after it
+pub data Answers (size : ℕ) (s : State) (kept : List Action) (bytes : List ℕ) : Reply → State → List Action → Type 0 where
+  unread : (r : Refused) → request_of Memory bytes ≡ Err r → Answers size s kept bytes (Refusal r) s kept
+  queried : (at : Option ℕ) (q : Query) → request_of Memory bytes ≡ Ok (record { at = at; asked = OfQuery q })
+      → Answers size s kept bytes (reply_to s q) s kept
+  told : (at : Option ℕ) → request_of Memory bytes ≡ Ok (record { at = at; asked = OfActions }) → Answers size s kept bytes (Told kept) s (kept_after kept)
   stepped : (at : Option ℕ) (e : Event) (reply : Reply) (actions : List Action) (t : State)
       → request_of Memory bytes ≡ Ok (record { at = at; asked = OfEvent e }) → Step size s (input_of s at e) reply actions t
-      → Answers size s bytes reply t
+      → Answers size s kept bytes reply t (kept ++ actions)
 
 -- what is written at the end of a stream: a length past the limit is refused
 abbrev pub last_reply : Ending → List ℕ
@@ -76,14 +83,24 @@ last_reply Between = []
 last_reply Inside = []
 last_reply TooLong = frame_of (reply_text (Refusal (too_large Frame)))
 
--- what is written for the frames from a state on, one reply each, and at the end
-pub data AreReplies (size : ℕ) (ending : Ending) : State → List (List ℕ) → List ℕ → Type 0 where
-  last : {s : State} → AreReplies size ending s [] (last_reply ending)
-  reply : {s t : State} {bytes out : List ℕ} {frames : List (List ℕ)} (r : Reply) → Answers size s bytes r t → AreReplies size ending t frames out
-      → AreReplies size ending s (bytes ∷ frames) (frame_of (reply_text r) ++ out)
+-- what is written for the frames from a state on, with the actions kept, one reply each, and at the end
+pub data AreReplies (size : ℕ) (ending : Ending) : State → List Action → List (List ℕ) → List ℕ → Type 0 where
+  last : {s : State} {kept : List Action} → AreReplies size ending s kept [] (last_reply ending)
+  reply : {s t : State} {kept left : List Action} {bytes out : List ℕ} {frames : List (List ℕ)} (r : Reply) → Answers size s kept bytes r t left
+      → AreReplies size ending t left frames out → AreReplies size ending s kept (bytes ∷ frames) (frame_of (reply_text r) ++ out)
 
--- what is written for a stream from a state on, over a store of so many bytes
-pub record Serves (size : ℕ) (s : State) (stream out : List ℕ) (ending : Ending) : Type 0 where
+-- what is written for a stream from a state on, with the actions kept, over a store of so many bytes
+pub record Serves (size : ℕ) (s : State) (kept : List Action) (stream out : List ℕ) (ending : Ending) : Type 0 where
   pub frames : List (List ℕ)
   pub read : IsStream stream frames ending
-  pub written : AreReplies size ending s frames out
+  pub written : AreReplies size ending s kept frames out
+
+-- a beginning of what is written for a stream: the replies to some of its frames, and a front of the next or of the last one
+pub data Begins (size : ℕ) : State → List Action → (stream out : List ℕ) → Type 0 where
+  stops : {s : State} {kept : List Action} {stream : List ℕ} → Begins size s kept stream []
+  in_reply : {s t : State} {kept left : List Action} {stream bytes rest front : List ℕ} (r : Reply) (more : List ℕ) → BeginsWith stream bytes rest
+      → Answers size s kept bytes r t left → frame_of (reply_text r) ≡ front ++ more → Begins size s kept stream front
+  at_end : {s : State} {kept : List Action} {stream front : List ℕ} (ending : Ending) (more : List ℕ) → EndsSo stream ending
+      → last_reply ending ≡ front ++ more → Begins size s kept stream front
+  goes_on : {s t : State} {kept left : List Action} {stream bytes rest out : List ℕ} (r : Reply) → BeginsWith stream bytes rest
+      → Answers size s kept bytes r t left → Begins size t left rest out → Begins size s kept stream (frame_of (reply_text r) ++ out)

@@ -1,23 +1,36 @@
 -- The machine: its state, what comes in, what is answered, one step, and a run.
 -- The rules of single inputs follow systemctl(1); the machine itself is this project's own.
 -- The engine, the keeper, the manager and the program stand on this file.
-use Rattle.std.specs.Prelude.{◌≡◌, ℕ, max, List, [], ◌∷◌, Result, Ok, Err, unwrap_or}
+use Rattle.std.specs.Prelude.{◌≡◌, ◌≢◌, ℕ, ◌+◌, ◌<◌, ◌≤◌, max, Bool, true, false, not, ◌&&◌, ◌==◌, is_some, if◌then◌else◌, List, [], ◌∷◌, ◌++◌, Option, Some, None, Result, Ok, Err, codes}
 use Rattle.std.specs.FinMap as map
+use Rattle.std.specs.declared.cmp.Ordering.TheVariants.{Less}
 use Rattle.std.specs.Cmp.Lexicographic.{slice_cmp}
 use Rattle.std.specs.Ordering.{nat_cmp}
-use Rattle.um_model.specs.Refusals.{Refused}
+use Rattle.um_model.specs.Refusals.{Refused, not_found, masked, bad_setting, not_loaded, cause, first_cause}
+use Rattle.um_model.specs.Names.{is_template}
 use Rattle.um_model.specs.Tree.{Tree, put_file}
+use Rattle.um_model.specs.Settings.{ServiceSettings, default_settings}
 use Rattle.um_model.specs.Units.{LoadedUnit, Loading, Found, Masked, NotFound, BadSetting, load, Warning}
-use Rattle.um_model.specs.Service.{dead_unit}
+use Rattle.um_model.specs.Service.{ByUnit, state_of_unit, with_unit, active_state_of, Action}
+use Rattle.um_model.specs.Transitions.{transition, AreActions, HasNumber, spawned}
+use Rattle.um_model.specs.Jobs.{Job, job_of, jobs_of_unit, with_jobs, jobs_after, jobs_left, with_running, IsReady, BeginsNext}
+use Rattle.um_model.specs.Timers.{Timers, IsDueFirst}
+use Rattle.um_model.specs.declared.jobs.JobKind.{JobKind}
+use Rattle.um_model.specs.declared.jobs.JobKind.TheVariants as job
+use Rattle.um_model.specs.declared.jobs.JobState.{JobState}
+use Rattle.um_model.specs.declared.jobs.JobState.TheVariants.{Waiting}
 use Rattle.um_model.specs.declared.jobs.UnitJobs.{UnitJobs}
-use Rattle.um_model.specs.declared.service.Signal.{Signal}
+use Rattle.um_model.specs.declared.service.ActiveState.{ActiveState}
+use Rattle.um_model.specs.declared.service.End.{End}
 use Rattle.um_model.specs.declared.service.UnitState.{UnitState}
+use Rattle.um_model.specs.declared.transition.Around.{Around}
+use Rattle.um_model.specs.declared.transition.Change.{Change}
+use Rattle.um_model.specs.declared.transition.UnitEvent.{UnitEvent}
+use Rattle.um_model.specs.declared.transition.UnitEvent.TheVariants.{StartBegins, StopBegins, MainEnds, ControlEnds, DeadlinePasses}
+use Rattle.um_model.specs.declared.transition.UnitKind.{UnitKind}
+use Rattle.um_model.specs.declared.transition.UnitKind.TheVariants.{Simple}
 use Rattle.um_model.specs.declared.units.LoadState.{LoadState}
 use Rattle.um_model.specs.declared.units.LoadState.TheVariants as load_state
-
--- values by the names of units
-abbrev pub ByUnit : Type 0 → Type 0
-ByUnit A = map.FinMap (slice_cmp nat_cmp) A
 
 -- the state of the manager
 pub record State : Type 0 where
@@ -39,6 +52,13 @@ pub data Event : Type 0 where
   PutFile : (path text : List ℕ) → Event
   -- load the tree in hand
   DaemonReload : Event
+  -- start the unit, or stop it
+  StartUnit : (unit : List ℕ) → Event
+  StopUnit : (unit : List ℕ) → Event
+  -- the process of this number ended
+  ProcessEnded : (number : ℕ) (end : End) → Event
+  -- time has passed
+  Tick : Event
 
 -- an event with its moment, in microseconds
 pub record Input : Type 0 where
@@ -49,11 +69,8 @@ pub record Input : Type 0 where
 pub data Query : Type 0 where
   -- how a unit stands
   Show : (unit : List ℕ) → Query
-
--- what is asked of the children: to start a process under this number, with its words and environment; or to signal one
-pub data Action : Type 0 where
-  SpawnProcess : (number : ℕ) (words environment : List (List ℕ)) → Action
-  SendSignal : (number : ℕ) (signal : Signal) → Action
+  -- its active state
+  IsActive : (unit : List ℕ) → Query
 
 -- a unit as `show` tells it
 pub record UnitShown : Type 0 where
@@ -67,11 +84,10 @@ pub record UnitShown : Type 0 where
 pub data Reply : Type 0 where
   Done : Reply
   Shown : UnitShown → Reply
+  Activity : ActiveState → Reply
+  -- the actions since they were last asked for
+  Told : List Action → Reply
   Refusal : Refused → Reply
-
--- how a unit stands: one of which nothing is held is dead
-abbrev pub state_of_unit : ByUnit UnitState → List ℕ → UnitState
-state_of_unit units unit = unwrap_or (map.get units unit) dead_unit
 
 abbrev pub shown_without_file : List ℕ → LoadState → UnitState → UnitShown
 shown_without_file unit load state = record { id = unit; load = load; description = []; warnings = []; state = state }
@@ -89,24 +105,161 @@ shown_of unit (BadSetting reason) state = shown_without_file unit load_state.Bad
 -- the reply to a query: a function of the state
 abbrev pub reply_to : State → Query → Reply
 reply_to s (Show unit) = Shown (shown_of unit (load s.loaded unit) (state_of_unit s.units unit))
+reply_to s (IsActive unit) = Activity (active_state_of (state_of_unit s.units unit).sub)
 
-abbrev pub with_tree : State → Result Tree Refused → Result State Refused
-with_tree s (Ok tree) = Ok (record s { tree = tree })
-with_tree s (Err r) = Err r
+-- ---- one unit and what happens to it
 
--- what an event does to the state, or the refusal
-abbrev pub effect_of : State → Event → Result State Refused
-effect_of s (PutFile path text) = with_tree s (put_file s.tree path text)
-effect_of s DaemonReload = Ok (record s { loaded = s.tree })
+-- what the service table knows of a unit
+pub record Startable : Type 0 where
+  pub settings : ServiceSettings
+  pub loadable : Bool
+
+-- a unit counts as loaded for a start where it is found and is no template
+abbrev pub startable_of : List ℕ → Loading → Startable
+startable_of unit (Found l) = record { settings = l.settings.service; loadable = not (is_template unit) }
+startable_of unit other = record { settings = default_settings Simple; loadable = false }
+
+-- by the loaded tree
+abbrev pub startable_in : Tree → List ℕ → Startable
+startable_in tree unit = startable_of unit (load tree unit)
+
+abbrev pub is_waiting : Option JobState → Bool
+is_waiting (Some Waiting) = true
+is_waiting other = false
+
+-- what stands around the unit at the moment t
+abbrev pub around : ℕ → State → List ℕ → Around
+around t s unit = record {
+  moment = t;
+  next = s.next;
+  loadable = (startable_in s.loaded unit).loadable;
+  stop_waits = is_waiting (jobs_of_unit s.pending unit).stop;
+}
+
+-- what follows for the unit
+abbrev pub change_of : ℕ → State → List ℕ → UnitEvent → Change
+change_of t s unit event = transition (startable_in s.loaded unit).settings (around t s unit) (state_of_unit s.units unit) event
+
+-- the state with what follows for the unit
+abbrev pub changed : State → List ℕ → Change → State
+changed s unit c = record s {
+  units = with_unit s.units unit c.unit;
+  pending = with_jobs s.pending unit (jobs_left c.start c.stop_ends (jobs_of_unit s.pending unit));
+  next = s.next + spawned c.order;
+}
+
+-- something happens to a unit at the moment t
+pub record Happens (t : ℕ) (unit : List ℕ) (event : UnitEvent) (s : State) (actions : List Action) (s' : State) : Type 0 where
+  pub state : s' ≡ changed s unit (change_of t s unit event)
+  pub asked : AreActions (startable_in s.loaded unit).settings (around t s unit) (change_of t s unit event).unit (change_of t s unit event).order actions
+
+-- what a job that begins is for its unit
+abbrev pub begins : JobKind → UnitEvent
+begins job.Start = StartBegins
+begins job.Stop = StopBegins
+
+-- the state with that job running
+abbrev pub begun : State → Job → State
+begun s j = record s { pending = with_jobs s.pending j.unit (with_running j.kind (jobs_of_unit s.pending j.unit)) }
+
+-- jobs begin, one after another, until none is ready
+pub data Settles (t : ℕ) : State → List Action → State → Type 0 where
+  rests : {s : State} → ((j : Job) → ¬ IsReady s.units s.pending j) → Settles t s [] s
+  begins_next : {s u v : State} {first more : List Action} (j : Job) → BeginsNext s.units s.pending j
+      → Happens t j.unit (begins j.kind) (begun s j) first u → Settles t u more v → Settles t s (first ++ more) v
+
+-- ---- what an event does
+
+-- of the kinds of units simple services are served
+abbrev pub is_served_kind : UnitKind → Bool
+is_served_kind Simple = true
+is_served_kind other = false
+
+abbrev pub refusal_in : {A : Type 0} → Result A Refused → Option Refused
+refusal_in (Ok a) = None
+refusal_in (Err r) = Some r
+
+-- a unit that can't be started is refused for the first cause
+abbrev pub start_refusal : List ℕ → Loading → Option Refused
+start_refusal unit NotFound = Some (not_found unit)
+start_refusal unit Masked = Some (masked unit)
+start_refusal unit (BadSetting reason) = Some (bad_setting unit reason)
+start_refusal unit (Found l) =
+    first_cause (cause (not (is_served_kind l.settings.service.kind)) (bad_setting unit (codes "type")) ∷ cause (is_template unit) (bad_setting unit (codes "template")) ∷ [])
+
+abbrev pub is_found : Loading → Bool
+is_found NotFound = false
+is_found other = true
+
+-- a command is refused before it has any effect
+abbrev pub refusal_of : State → Event → Option Refused
+refusal_of s (PutFile path text) = refusal_in (put_file s.tree path text)
+refusal_of s (StartUnit unit) = start_refusal unit (load s.loaded unit)
+refusal_of s (StopUnit unit) = cause (not (is_found (load s.loaded unit)) && not (is_some (map.get s.units unit))) (not_loaded unit)
+refusal_of s other = None
+
+-- the state with the plan of a command for one unit
+abbrev pub planned : JobKind → State → List ℕ → State
+planned kind s unit =
+    record s { pending = with_jobs s.pending unit (jobs_after kind (active_state_of (state_of_unit s.units unit).sub) (jobs_of_unit s.pending unit)) }
+
+-- the number is that of a live process of the unit, and of no unit with a lesser name
+pub record IsProcessOf (units : ByUnit UnitState) (number : ℕ) (unit : List ℕ) : Type 0 where
+  pub live : HasNumber (state_of_unit units unit) number
+  pub first : (other : List ℕ) → HasNumber (state_of_unit units other) number → other ≢ unit → slice_cmp nat_cmp unit other ≡ Less
+
+-- no live process has the number
+abbrev pub IsOver : ByUnit UnitState → ℕ → Type 0
+IsOver units number = (unit : List ℕ) → ¬ HasNumber (state_of_unit units unit) number
+
+abbrev pub is_number : ℕ → Option ℕ → Bool
+is_number number None = false
+is_number number (Some n) = n == number
+
+-- what the end of that process is for its unit
+abbrev pub end_of : UnitState → ℕ → End → UnitEvent
+end_of u number end = if is_number number u.main then MainEnds end else ControlEnds end
+
+-- the deadlines of the units
+abbrev pub AreDeadlines : ByUnit UnitState → Timers → Type 0
+AreDeadlines units timers = (unit : List ℕ) → map.get timers unit ≡ (state_of_unit units unit).deadline
+
+-- of these deadlines those up to the moment t fire, earliest first; one that is gone or changed by then doesn't
+pub data Fires (t : ℕ) : Timers → State → List Action → State → Type 0 where
+  none_due : {timers : Timers} {s : State} → ((deadline : ℕ) (unit : List ℕ) → map.get timers unit ≡ Some deadline → t < deadline) → Fires t timers s [] s
+  fires : {timers : Timers} {s u v w : State} {first next more : List Action} (deadline : ℕ) (unit : List ℕ) → IsDueFirst timers deadline unit → deadline ≤ t
+      → (state_of_unit s.units unit).deadline ≡ Some deadline → Happens t unit DeadlinePasses s first u → Settles t u next v
+      → Fires t (map.remove timers unit) v more w → Fires t timers s (first ++ (next ++ more)) w
+  passes : {timers : Timers} {s w : State} {more : List Action} (deadline : ℕ) (unit : List ℕ) → IsDueFirst timers deadline unit → deadline ≤ t
+      → (state_of_unit s.units unit).deadline ≢ Some deadline → Fires t (map.remove timers unit) s more w → Fires t timers s more w
+
+-- an event has its effect at the moment t, and jobs begin where it made them ready
+pub data Takes (t : ℕ) (s : State) : Event → List Action → State → Type 0 where
+  puts : {path text : List ℕ} {actions : List Action} {v : State} (tree : Tree) → put_file s.tree path text ≡ Ok tree
+      → Settles t (record s { tree = tree }) actions v → Takes t s (PutFile path text) actions v
+  reloads : {actions : List Action} {v : State} → Settles t (record s { loaded = s.tree }) actions v → Takes t s DaemonReload actions v
+  starts : {unit : List ℕ} {actions : List Action} {v : State} → Settles t (planned job.Start s unit) actions v → Takes t s (StartUnit unit) actions v
+  stops : {unit : List ℕ} {actions : List Action} {v : State} → Settles t (planned job.Stop s unit) actions v → Takes t s (StopUnit unit) actions v
+  ends : {number : ℕ} {end : End} {first more : List Action} {u v : State} (unit : List ℕ) → IsProcessOf s.units number unit
+      → Happens t unit (end_of (state_of_unit s.units unit) number end) s first u → Settles t u more v → Takes t s (ProcessEnded number end) (first ++ more) v
+  ticks : {actions : List Action} {v : State} (timers : Timers) → AreDeadlines s.units timers → Fires t timers s actions v → Takes t s Tick actions v
+
+-- without effect: the end of a process that isn't live, and a tick that changes nothing
+pub data HasNoEffect (t : ℕ) (s : State) : Event → Type 0 where
+  is_over : {number : ℕ} {end : End} → IsOver s.units number → HasNoEffect t s (ProcessEnded number end)
+  is_idle : Takes t s Tick [] s → HasNoEffect t s Tick
 
 -- the moment of a step: the input's, or the clock's where that is later
 abbrev pub moment_of : State → Input → ℕ
 moment_of s input = max s.clock input.moment
 
--- one step over a store of so many bytes: an accepted event has its effect and sets the clock, a refused one leaves the state
+-- one step over a store of so many bytes. A refused command and an event without effect leave the state, clock included; an event
+-- with effect sets the clock
 pub data Step (size : ℕ) (s : State) (input : Input) : Reply → List Action → State → Type 0 where
-  accepted : (t : State) → effect_of s input.event ≡ Ok t → Step size s input Done [] (record t { clock = moment_of s input })
-  refused : (r : Refused) → effect_of s input.event ≡ Err r → Step size s input (Refusal r) [] s
+  refused : (r : Refused) → refusal_of s input.event ≡ Some r → Step size s input (Refusal r) [] s
+  idle : HasNoEffect (moment_of s input) s input.event → Step size s input Done [] s
+  taken : {actions : List Action} {t : State} → refusal_of s input.event ≡ None → ¬ HasNoEffect (moment_of s input) s input.event
+      → Takes (moment_of s input) s input.event actions t → Step size s input Done actions (record t { clock = moment_of s input })
 
 -- one step after another
 pub data Run (size : ℕ) : State → List Input → State → Type 0 where

@@ -1,15 +1,17 @@
 -- The text of a reply: compact JSON with its keys in ascending order.
 -- No manual page has this: it is the project's own protocol (docs/FORMATS.md, "Replies"); what `show` tells has the names of systemctl(1).
 -- Frames and the program stand on this file.
-use Rattle.std.specs.Prelude.{ℕ, ◌^◌, List, [], ◌∷◌, true, false, nat_le, if◌then◌else◌, map, codes, length, unwrap_or}
+use Rattle.std.specs.Prelude.{ℕ, ◌^◌, Bool, List, [], ◌∷◌, true, false, nat_le, if◌then◌else◌, map, codes, length, unwrap_or}
 use Rattle.serde_json.specs.Data.{Data, boolean, number, unsigned, string, array, object, member, no_members}
 use Rattle.serde_json.specs.View.{items_of}
 use Rattle.serde_json.specs.Written.{compact_text}
 use Rattle.um_model.specs.Refusals.{Refused, too_large}
-use Rattle.um_model.specs.Service.{sub_state_text, active_state_of, active_state_text, result_text}
+use Rattle.um_model.specs.Service.{sub_state_text, active_state_of, active_state_text, result_text, Action, SpawnProcess, SendSignal}
+use Rattle.um_model.specs.declared.service.Signal.{Signal}
+use Rattle.um_model.specs.declared.service.Signal.TheVariants.{Term, Kill}
 use Rattle.um_model.specs.Syntax.{warning_number}
 use Rattle.um_model.specs.Units.{Warning, load_state_text}
-use Rattle.um_model.specs.Machine.{Reply, Done, Shown, Refusal, UnitShown}
+use Rattle.um_model.specs.Machine.{Reply, Done, Shown, Activity, Told, Refusal, UnitShown}
 use Rattle.um_model.specs.declared.refusals.Limit.TheVariants.{Reply as ReplyLimit}
 
 abbrev pub number_data : ℕ → Data
@@ -34,22 +36,44 @@ shown_data u =
     (member (codes "SubState") (string (sub_state_text u.state.sub))
     (member (codes "Warnings") (array (items_of (map warning_data u.warnings))) no_members))))))))
 
+abbrev pub signal_text : Signal → List ℕ
+signal_text Term = codes "TERM"
+signal_text Kill = codes "KILL"
+
+-- an action: a start with its words, or a signal
+abbrev pub action_data : Action → Data
+action_data (SpawnProcess n words environment) = array (items_of (string (codes "spawn") ∷ number_data n ∷ texts_data words ∷ []))
+action_data (SendSignal n signal) = array (items_of (string (codes "signal") ∷ number_data n ∷ string (signal_text signal) ∷ []))
+
+-- a reply with a value
+abbrev pub valued : Data → Data
+valued value = object (member (codes "ok") (boolean true) (member (codes "value") value no_members))
+
 abbrev pub refused_data : Refused → Data
 refused_data r =
     object (member (codes "detail") (texts_data r.detail) (member (codes "error") (number_data r.number) (member (codes "ok") (boolean false) no_members)))
 
 abbrev pub reply_data : Reply → Data
 reply_data Done = object (member (codes "ok") (boolean true) no_members)
-reply_data (Shown u) = object (member (codes "ok") (boolean true) (member (codes "value") (shown_data u) no_members))
+reply_data (Shown u) = valued (shown_data u)
+reply_data (Activity state) = valued (string (active_state_text state))
+reply_data (Told actions) = valued (array (items_of (map action_data actions)))
 reply_data (Refusal r) = refused_data r
 
 -- the longest text of a reply, in bytes
 abbrev pub reply_limit : ℕ
 reply_limit = 2 ^ 24
 
+abbrev pub is_short : List ℕ → Bool
+is_short text = nat_le (length text) reply_limit
+
 abbrev pub within_limit : List ℕ → List ℕ
-within_limit text = if nat_le (length text) reply_limit then text else compact_text (refused_data (too_large ReplyLimit))
+within_limit text = if is_short text then text else compact_text (refused_data (too_large ReplyLimit))
 
 -- the text of a reply; one that would be too long is refused instead
 unfoldable pub reply_text : Reply → List ℕ
 reply_text reply = within_limit (compact_text (reply_data reply))
+
+-- the reply tells what it has to tell: its text isn't too long
+unfoldable pub is_told_whole : Reply → Bool
+is_told_whole reply = is_short (compact_text (reply_data reply))

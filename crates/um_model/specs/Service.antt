@@ -1,13 +1,17 @@
 -- What the state holds of a unit: its sub state, result, process numbers and deadline.
 -- Follows systemctl(1) and systemd.service(5) in the names of states and results.
 -- The machine, replies and canonical bytes stand on this file.
-use Rattle.std.specs.Prelude.{ℕ, List, None, false, codes}
+use Rattle.std.specs.Prelude.{ℕ, Bool, true, false, ◌&&◌, ◌==◌, not, if◌then◌else◌, List, Option, Some, None, is_some, unwrap_or, codes}
+use Rattle.std.specs.FinMap as map
+use Rattle.std.specs.Cmp.Lexicographic.{slice_cmp}
+use Rattle.std.specs.Ordering.{nat_cmp}
 use Rattle.um_model.specs.declared.service.SubState.{SubState}
 use Rattle.um_model.specs.declared.service.SubState.TheVariants.{Dead, Start, Running, Exited, Stop, StopSigterm, StopSigkill, Failed, AutoRestart, Active}
 use Rattle.um_model.specs.declared.service.ActiveState.{ActiveState}
 use Rattle.um_model.specs.declared.service.ActiveState.TheVariants as active
 use Rattle.um_model.specs.declared.service.UnitResult.{UnitResult}
 use Rattle.um_model.specs.declared.service.UnitResult.TheVariants as result
+use Rattle.um_model.specs.declared.service.Signal.{Signal}
 use Rattle.um_model.specs.declared.service.UnitState.{UnitState}
 
 -- the word for a sub state
@@ -59,3 +63,41 @@ result_text result.Resources = codes "resources"
 -- a unit of which the state holds nothing
 abbrev pub dead_unit : UnitState
 dead_unit = record { sub = Dead; result = result.Success; main = None; control = None; index = 0; deadline = None; window = None; asked = false; last = None }
+
+abbrev pub is_dead : SubState → Bool
+is_dead Dead = true
+is_dead other = false
+
+abbrev pub is_success : UnitResult → Bool
+is_success result.Success = true
+is_success other = false
+
+abbrev pub has_no_process : UnitState → Bool
+has_no_process u = not (is_some u.main) && not (is_some u.control)
+
+abbrev pub has_no_moment : UnitState → Bool
+has_no_moment u = not (is_some u.deadline) && not (is_some u.window)
+
+abbrev pub has_no_past : UnitState → Bool
+has_no_past u = u.index == 0 && not u.asked && not (is_some u.last)
+
+-- nothing is held of the unit: it is a dead one
+abbrev pub holds_nothing : UnitState → Bool
+holds_nothing u = is_dead u.sub && is_success u.result && has_no_process u && (has_no_moment u && has_no_past u)
+
+-- values by the names of units
+abbrev pub ByUnit : Type 0 → Type 0
+ByUnit A = map.FinMap (slice_cmp nat_cmp) A
+
+-- how a unit stands: one of which nothing is held is dead
+abbrev pub state_of_unit : ByUnit UnitState → List ℕ → UnitState
+state_of_unit units unit = unwrap_or (map.get units unit) dead_unit
+
+-- with this state of a unit; a dead one isn't held
+abbrev pub with_unit : ByUnit UnitState → List ℕ → UnitState → ByUnit UnitState
+with_unit units unit u = if holds_nothing u then map.remove units unit else map.insert units unit u
+
+-- what is asked of the children: to start a process under this number, with its words and environment; or to signal one
+pub data Action : Type 0 where
+  SpawnProcess : (number : ℕ) (words environment : List (List ℕ)) → Action
+  SendSignal : (number : ℕ) (signal : Signal) → Action

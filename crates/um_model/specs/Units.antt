@@ -1,21 +1,27 @@
 -- Units by their files: how a name is resolved in a tree, and what the file that it leads to sets and warns of.
--- Follows systemd.unit(5) and systemd.service(5), in the keys that are known and in `Description=`.
+-- Follows systemd.unit(5) and systemd.service(5), in the keys that are known and in `Description=`, `ExecStart=` and `Type=`.
 -- The machine stands on this file: what `show` tells, and later what a start does.
-use Rattle.std.specs.Prelude.{ℕ, Bool, true, false, not, ◌&&◌, ◌||◌, ◌==◌, nat_eq, List, [], ◌∷◌, ◌++◌, Option, Some, None, option_map, option_and_then, filter, if◌then◌else◌, codes}
-use Rattle.std.specs.List.{flat_map, list_any, starts_with}
+use Rattle.std.specs.Prelude.{ℕ, Bool, true, false, not, ◌&&◌, ◌||◌, ◌==◌, nat_eq, List, [], ◌∷◌, ◌++◌, length, Option, Some, None, option_map, option_and_then, map as each, filter, filter_map, if◌then◌else◌, codes}
+use Rattle.std.specs.List.{flat_map, list_any, starts_with, after_last}
 use Rattle.std.specs.Str.{bytes_eq}
 use Rattle.std.specs.FinMap as map
 use Rattle.um_model.specs.Names.{suffix_of, template_of}
+use Rattle.um_model.specs.Text.{is_empty}
 use Rattle.um_model.specs.Syntax.{Item, Section, Assignment, Warning as Warned, Placed, line_number, reading_of}
 use Rattle.um_model.specs.Tree.{Tree, Entry, File, Link, layer_text}
+use Rattle.um_model.specs.Settings.{ServiceSettings, default_settings}
+use Rattle.um_model.specs.Values.{words_in}
+use Rattle.um_model.specs.Words.{Command, is_sign, is_executable_word}
+use Rattle.um_model.specs.declared.transition.UnitKind.{UnitKind}
+use Rattle.um_model.specs.declared.transition.UnitKind.TheVariants.{Simple, Exec, Oneshot, Target}
 use Rattle.um_model.specs.declared.names.Suffix.{Suffix}
-use Rattle.um_model.specs.declared.names.Suffix.TheVariants.{Service, Target}
+use Rattle.um_model.specs.declared.names.Suffix.TheVariants.{Service, Target as TargetUnit}
 use Rattle.um_model.specs.declared.tree.Layer.{Layer}
 use Rattle.um_model.specs.declared.tree.Layer.TheVariants.{Etc, Run, Lib}
 use Rattle.um_model.specs.declared.units.LoadState.{LoadState}
 use Rattle.um_model.specs.declared.units.LoadState.TheVariants as load_state
 use Rattle.um_model.specs.declared.warnings.WarningKind.{WarningKind}
-use Rattle.um_model.specs.declared.warnings.WarningKind.TheVariants.{UnknownSection, UnknownKey, UnreadableSpecifier}
+use Rattle.um_model.specs.declared.warnings.WarningKind.TheVariants.{UnknownSection, UnknownKey, UnreadableValue, UnreadableSpecifier}
 
 -- the word for a load state
 abbrev pub load_state_text : LoadState → List ℕ
@@ -63,7 +69,7 @@ resolution_at (Some (path, Link target)) = Nowhere
 -- of the types of units, services and targets are served
 abbrev pub is_served_type : Option Suffix → Bool
 is_served_type (Some Service) = true
-is_served_type (Some Target) = true
+is_served_type (Some TargetUnit) = true
 is_served_type other = false
 
 -- where the name leads
@@ -144,22 +150,77 @@ abbrev pub last_or : {A : Type 0} → A → List A → A
 last_or default [] = default
 last_or default (value ∷ values) = last_or value values
 
--- what a unit's file sets
+-- ---- commands: a value is split at whitespace, and what only quotes, escapes or variables could tell can't be read yet
+
+-- `"`, `'`, `\`, `$`, `%` or `;`
+abbrev pub is_unserved_byte : ℕ → Bool
+is_unserved_byte b = b == 34 || b == 39 || b == 92 || b == 36 || b == 37 || b == 59
+
+abbrev pub begins_with_sign : List ℕ → Bool
+begins_with_sign [] = false
+begins_with_sign (b ∷ bs) = is_sign b
+
+abbrev pub first_is_executable : List (List ℕ) → Bool
+first_is_executable [] = false
+first_is_executable (word ∷ words) = is_executable_word word
+
+-- the value of ExecStart= reads as a command: its first word can be run, and no byte in it means anything else than itself
+abbrev pub is_readable_command : List ℕ → Bool
+is_readable_command value = not (list_any is_unserved_byte value) && not (begins_with_sign value) && first_is_executable (words_in value)
+
+abbrev pub command_read : List ℕ → Command
+command_read value = record { words = words_in value; ignores_failure = false; substitutes = true }
+
+-- the commands of ExecStart=: an empty value takes back those before it
+abbrev pub start_commands : List Placed → List Command
+start_commands reading = each command_read (filter is_readable_command (after_last is_empty (values_of (codes "Service") (codes "ExecStart") reading)))
+
+-- the words of Type= that are read so far
+abbrev pub kind_named : List ℕ → Option UnitKind
+kind_named value =
+    if bytes_eq value (codes "simple") then Some Simple
+    else (if bytes_eq value (codes "exec") then Some Exec
+    else (if bytes_eq value (codes "oneshot") then Some Oneshot else None))
+
+-- the kind of a service: by the last Type= that can be read, else simple
+abbrev pub service_kind : List Placed → UnitKind
+service_kind reading = last_or Simple (filter_map kind_named (values_of (codes "Service") (codes "Type") reading))
+
+-- ---- settings
+
+-- what a unit's file sets: its description, and what it says of its processes
 pub record Settings : Type 0 where
   pub description : List ℕ
+  pub service : ServiceSettings
 
-abbrev pub settings_of : List Placed → Settings
-settings_of reading = record { description = last_or [] (filter is_readable_description (values_of (codes "Unit") (codes "Description") reading)) }
+abbrev pub description_of : List Placed → List ℕ
+description_of reading = last_or [] (filter is_readable_description (values_of (codes "Unit") (codes "Description") reading))
+
+-- a target has no processes
+abbrev pub service_settings_of : Option Suffix → List Placed → ServiceSettings
+service_settings_of (Some Service) reading = record (default_settings (service_kind reading)) { start = start_commands reading }
+service_settings_of other reading = default_settings Target
+
+abbrev pub settings_of : Option Suffix → List Placed → Settings
+settings_of type reading = record { description = description_of reading; service = service_settings_of type reading }
 
 abbrev pub is_description : List ℕ → List ℕ → Bool
 is_description section key = bytes_eq section (codes "Unit") && bytes_eq key (codes "Description")
 
--- an assignment in a known section: an unknown key, unless it is foreign; a description that can't be read
+abbrev pub is_start_command : List ℕ → List ℕ → Bool
+is_start_command section key = bytes_eq section (codes "Service") && bytes_eq key (codes "ExecStart")
+
+-- a command that can't be read; the empty value takes commands back
+abbrev pub is_unreadable_command : List ℕ → List ℕ → List ℕ → Bool
+is_unreadable_command section key value = is_start_command section key && not (is_empty value) && not (is_readable_command value)
+
+-- an assignment in a known section: an unknown key, unless it is foreign; a command or a description that can't be read
 abbrev pub assignment_warning : List ℕ → List ℕ → List ℕ → Option WarningKind
 assignment_warning section key value =
     if is_foreign key then None
     else (if not (is_known_key section key) then Some UnknownKey
-    else (if is_description section key && not (is_readable_description value) then Some UnreadableSpecifier else None))
+    else (if is_unreadable_command section key value then Some UnreadableValue
+    else (if is_description section key && not (is_readable_description value) then Some UnreadableSpecifier else None)))
 
 -- the head of a section: an unknown one, unless it is foreign
 abbrev pub head_warning : Option Suffix → List ℕ → Option WarningKind
@@ -213,14 +274,24 @@ pub data Loading : Type 0 where
 
 -- a unit by its file
 abbrev pub unit_of_file : List ℕ → List ℕ → List Placed → LoadedUnit
-unit_of_file unit path reading = record { name = unit; path = Some path; settings = settings_of reading; warnings = warnings_of (suffix_of unit) path reading }
+unit_of_file unit path reading = record { name = unit; path = Some path; settings = settings_of (suffix_of unit) reading; warnings = warnings_of (suffix_of unit) path reading }
 
 -- shutdown.target is found even where nothing holds it
 abbrev pub unit_without_file : List ℕ → LoadedUnit
-unit_without_file unit = record { name = unit; path = None; settings = record { description = [] }; warnings = [] }
+unit_without_file unit = record { name = unit; path = None; settings = record { description = []; service = default_settings Target }; warnings = [] }
+
+-- a service has exactly one command
+abbrev pub lacks_its_command : Option Suffix → List Placed → Bool
+lacks_its_command (Some Service) reading = not (length (start_commands reading) == 1)
+lacks_its_command other reading = false
+
+-- a unit that was read: found, unless a setting is refused
+abbrev pub loading_of_file : List ℕ → List ℕ → List Placed → Loading
+loading_of_file unit path reading =
+    if lacks_its_command (suffix_of unit) reading then BadSetting (codes "exec-count") else Found (unit_of_file unit path reading)
 
 abbrev pub loading_at : List ℕ → Resolution → Loading
-loading_at unit (AtFile path text) = Found (unit_of_file unit path (reading_of text))
+loading_at unit (AtFile path text) = loading_of_file unit path (reading_of text)
 loading_at unit AtMask = Masked
 loading_at unit Nowhere = if bytes_eq unit (codes "shutdown.target") then Found (unit_without_file unit) else NotFound
 

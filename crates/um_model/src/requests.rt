@@ -10,5 +10,11 @@ pub enum Mode {
 pub enum Verb {
     PutFile,
     DaemonReload,
+    Start,
+    Stop,
     Show,
+    IsActive,
+    Tick,
+    End,
+    Actions,
 }

@@ -1,5 +1,5 @@
 ghost use Rattle.std.specs.Prelude.{◌≡◌};
-ghost use Rattle.um_model.specs.Service.{sub_state_text, active_state_of, active_state_text, result_text};
+ghost use Rattle.um_model.specs.Service.{has_no_process, has_no_moment, has_no_past, holds_nothing, sub_state_text, active_state_of, active_state_text, result_text};
 
 use crate::limit::Counted;
 
@@ -93,6 +93,35 @@ impl UnitState {
         asked: false,
         last: None,
     };
+
+    fn has_no_process(&self) -> bool
+        ensures { result ≡ has_no_process self.now }
+    {
+        self.main.is_none() && self.control.is_none()
+    }
+
+    fn has_no_moment(&self) -> bool
+        ensures { result ≡ has_no_moment self.now }
+    {
+        self.deadline.is_none() && self.window.is_none()
+    }
+
+    fn has_no_past(&self) -> bool
+        ensures { result ≡ has_no_past self.now }
+    {
+        self.index == 0 && !self.asked && self.last.is_none()
+    }
+
+    /// Whether it is a dead unit of which nothing is known, so that the state needn't hold it.
+    pub fn holds_nothing(&self) -> bool
+        ensures { result ≡ holds_nothing self.now }
+    {
+        match (self.sub, self.result) {
+            (SubState::Dead, UnitResult::Success) =>
+                self.has_no_process() && self.has_no_moment() && self.has_no_past(),
+            _ => false,
+        }
+    }
 }
 
 impl SubState {

@@ -1,6 +1,7 @@
 -- Inputs, replies, actions and states of the code as those of the definitions.
 use Rattle.std.specs.Prelude.{map, string_bytes}
 use Rattle.um_model.specs.Machine as model
+use Rattle.um_model.specs.Service as service
 use Rattle.um_unit.specs.View.{warning_of}
 use Rattle.um_wire.specs.Refusal.{refused_of}
 use Rattle.um_state.specs.declared.input.Event.{Event}
@@ -18,16 +19,21 @@ use Rattle.um_state.specs.declared.state.State.{State}
 abbrev pub event_of : Event → model.Event
 event_of (event.PutFile path text) = model.PutFile (string_bytes path) (string_bytes text)
 event_of event.DaemonReload = model.DaemonReload
+event_of (event.StartUnit unit) = model.StartUnit unit
+event_of (event.StopUnit unit) = model.StopUnit unit
+event_of (event.ProcessEnded number end) = model.ProcessEnded number end
+event_of event.Tick = model.Tick
 
 abbrev pub input_of : Input → model.Input
 input_of i = record { moment = i.moment; event = event_of i.event }
 
 abbrev pub query_of : Query → model.Query
 query_of (query.Show unit) = model.Show unit
+query_of (query.IsActive unit) = model.IsActive unit
 
-abbrev pub action_of : Action → model.Action
-action_of (action.Spawn number words environment) = model.SpawnProcess number (map string_bytes words.items) (map string_bytes environment.items)
-action_of (action.Signal number signal) = model.SendSignal number signal
+abbrev pub action_of : Action → service.Action
+action_of (action.Spawn number words environment) = service.SpawnProcess number (map string_bytes words.items) (map string_bytes environment.items)
+action_of (action.Signal number signal) = service.SendSignal number signal
 
 abbrev pub shown_of : UnitShown → model.UnitShown
 shown_of u = record { id = string_bytes u.id; load = u.load; description = string_bytes u.description; warnings = map warning_of u.warnings.items; state = u.state }
@@ -35,6 +41,8 @@ shown_of u = record { id = string_bytes u.id; load = u.load; description = strin
 abbrev pub reply_of : Reply → model.Reply
 reply_of reply.Done = model.Done
 reply_of (reply.Shown u) = model.Shown (shown_of u)
+reply_of (reply.Activity state) = model.Activity state
+reply_of (reply.Told actions) = model.Told (map action_of actions.items)
 reply_of (reply.Refused r) = model.Refusal (refused_of r)
 
 abbrev pub state_of : State → model.State

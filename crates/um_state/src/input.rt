@@ -1,3 +1,4 @@
+use um_model::End;
 use um_name::UnitName;
 
 /// What happens to the manager.
@@ -7,6 +8,14 @@ pub enum Event {
     PutFile { path: String, text: String },
     /// Load the tree in hand (systemctl(1), `daemon-reload`).
     DaemonReload,
+    /// Start the unit (systemctl(1), `start`).
+    StartUnit { unit: UnitName },
+    /// Stop the unit (systemctl(1), `stop`).
+    StopUnit { unit: UnitName },
+    /// The process of this number ended.
+    ProcessEnded { number: u64, end: End },
+    /// Time has passed.
+    Tick,
 }
 
 /// An event with its moment.
@@ -22,4 +31,6 @@ pub struct Input {
 pub enum Query {
     /// How a unit stands (systemctl(1), `show`).
     Show { unit: UnitName },
+    /// Its active state (systemctl(1), `is-active`).
+    IsActive { unit: UnitName },
 }

@@ -1,4 +1,4 @@
-use um_model::{LoadState, Signal, UnitState};
+use um_model::{ActiveState, LoadState, Signal, UnitState};
 use um_unit::Warning;
 use um_wire::Refusal;
 
@@ -37,5 +37,9 @@ pub struct UnitShown {
 pub enum Reply {
     Done,
     Shown(UnitShown),
+    /// The active state of a unit.
+    Activity(ActiveState),
+    /// The actions since they were last asked for.
+    Told(Vec<Action>),
     Refused(Refusal),
 }

@@ -1,7 +1,8 @@
-ghost use Rattle.std.specs.Prelude.{◌≡◌, IfOk};
+ghost use Rattle.std.specs.Prelude.{◌≡◌, ◌↔◌, is_some, true, IfOk, OnOk, OnErr};
 ghost use Rattle.std.specs.Coded.{codes};
 ghost use Rattle.std.specs.FinMap as map;
-ghost use Rattle.um_model.specs.Machine.{ByUnit, state_of_unit};
+ghost use Rattle.um_model.specs.Jobs.{jobs_of_unit, with_jobs};
+ghost use Rattle.um_model.specs.Service.{ByUnit, state_of_unit, with_unit};
 ghost use Rattle.um_model.specs.declared.jobs.UnitJobs as jobs;
 ghost use Rattle.um_model.specs.declared.service.UnitState as unit;
 
@@ -47,6 +48,26 @@ impl Units {
         }
     }
 
+    /// Whether the state holds anything of the unit. It takes no memory.
+    pub fn holds(&self, unit: &UnitName) -> bool
+        ensures { result ≡ is_some (map.get self.now unit.now) }
+    {
+        self.entries.contains_key(unit)
+    }
+
+    /// Sets how the unit stands; a dead one of which nothing is known isn't held. Where memory is refused, all is as before.
+    pub fn set(&mut self, unit: &UnitName, state: UnitState) -> Result<(), AllocError>
+        ensures ok { OnOk result (self.new ≡ with_unit self.old unit.now state) }
+        ensures err { OnErr result (self.new ≡ self.old) }
+    {
+        if state.holds_nothing() {
+            self.entries.remove(unit);
+        } else {
+            self.entries.insert(unit.copy()?, state)?;
+        }
+        Ok(())
+    }
+
     /// The same again.
     pub fn copy(&self) -> Result<Units, AllocError>
         ensures { IfOk result (λ u. u ≡ self.now) }
@@ -82,6 +103,29 @@ impl Pending {
             alloc,
             entries: BTreeMap::new(alloc),
         }
+    }
+
+    /// The pending jobs of the unit. It takes no memory.
+    pub fn get(&self, unit: &UnitName) -> UnitJobs
+        ensures { result ≡ jobs_of_unit self.now unit.now }
+    {
+        match self.entries.get(unit) {
+            Some(jobs) => *jobs,
+            None => UnitJobs::NONE,
+        }
+    }
+
+    /// Sets the pending jobs of the unit. Where memory is refused, all is as before.
+    pub fn set(&mut self, unit: &UnitName, jobs: UnitJobs) -> Result<(), AllocError>
+        ensures ok { OnOk result (self.new ≡ with_jobs self.old unit.now jobs) }
+        ensures err { OnErr result (self.new ≡ self.old) }
+    {
+        if jobs.has_job() {
+            self.entries.insert(unit.copy()?, jobs)?;
+        } else {
+            self.entries.remove(unit);
+        }
+        Ok(())
     }
 
     /// The same again.

@@ -1,0 +1,84 @@
+use crate::service::{End, Signal, UnitState};
+
+/// What a unit is for the service table: a target, or a service of one of the types (systemd.service(5), `Type=`).
+#[derive(Clone, Copy, Debug, PartialEq, Eq)]
+pub enum UnitKind {
+    Simple,
+    Exec,
+    Oneshot,
+    Target,
+}
+
+/// One of a unit's processes.
+#[derive(Clone, Copy, Debug, PartialEq, Eq)]
+pub enum Process {
+    Main,
+    Control,
+}
+
+/// One of a unit's lists of commands (systemd.service(5), `ExecStart=` and `ExecStop=`).
+#[derive(Clone, Copy, Debug, PartialEq, Eq)]
+pub enum CommandList {
+    OfStart,
+    OfStop,
+}
+
+/// What happens to a unit.
+#[derive(Clone, Copy, Debug, PartialEq, Eq)]
+pub enum UnitEvent {
+    /// A job that starts it begins.
+    StartBegins,
+    /// A job that stops it begins.
+    StopBegins,
+    /// A unit that it is bound to is down.
+    BoundStop,
+    /// The program of its main process runs.
+    Executed,
+    /// Its main process ended.
+    MainEnds(End),
+    /// Its control process ended.
+    ControlEnds(End),
+    /// The moment of its deadline is there.
+    DeadlinePasses,
+}
+
+/// What stands around a unit as something happens to it.
+#[derive(Clone, Copy, Debug, PartialEq, Eq)]
+pub struct Around {
+    /// The moment of the event, in microseconds.
+    pub moment: u64,
+    /// The next process number; from 2^63 on there is none left.
+    pub next: u64,
+    /// Whether the unit can be started: it is found, has no refused setting and is no template.
+    pub loadable: bool,
+    /// Whether a job that stops the unit waits.
+    pub stop_waits: bool,
+}
+
+/// What is asked of the unit's processes: nothing, that one is started, or a signal to each live one.
+#[derive(Clone, Copy, Debug, PartialEq, Eq)]
+pub enum Order {
+    Nothing,
+    /// The command of this list at this place, from 0, is started under the next number.
+    Spawn(CommandList, usize),
+    Signal(Signal),
+}
+
+/// What becomes of the unit's running start job, where there is one.
+#[derive(Clone, Copy, Debug, PartialEq, Eq)]
+pub enum StartJob {
+    Stays,
+    Ends,
+    Fails,
+}
+
+/// What follows from an event for its unit.
+#[derive(Clone, Copy, Debug, PartialEq, Eq)]
+pub struct Change {
+    /// The unit from now on.
+    pub unit: UnitState,
+    pub order: Order,
+    pub start: StartJob,
+    /// Whether the unit's running stop job ends, where there is one.
+    pub stop_ends: bool,
+}
