@@ -24,11 +24,14 @@ pub struct FileDisk {
     ghost addressed: { sectors ≤ 2 ^ 55 },
 }
 
+/// The bytes of a sector.
+const SECTOR_BYTES: u64 = 512;
+
 /// The whole sectors in so many bytes.
 fn sectors_in(length: u64) -> usize
     ensures { result ≡ length / 512 }
 {
-    (length / 512) as usize
+    (length / SECTOR_BYTES) as usize
 }
 
 /// The length of a file of so many sectors, in bytes. None where it would pass the longest file, 2^63 - 1 bytes.
@@ -37,7 +40,7 @@ fn length_of(sectors: usize) -> Option<u64>
     ensures too_large { IsNone result ↔ 2 ^ 54 ≤ sectors }
 {
     if sectors < 1 << 54 {
-        Some(sectors as u64 * 512)
+        Some(sectors as u64 * SECTOR_BYTES)
     } else {
         None
     }
@@ -142,7 +145,7 @@ impl FileDisk {
         ensures absent { IsNone result ↔ self.now.sectors ≤ k }
     {
         if k < self.sectors {
-            Some(k as u64 * 512)
+            Some(k as u64 * SECTOR_BYTES)
         } else {
             None
         }

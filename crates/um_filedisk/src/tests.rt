@@ -72,9 +72,11 @@ fn a_file_is_refused_by_what_stands_there(rt: HostRuntime) -> Result<(), Fail> {
     assert!(rt; absent.as_str() == "there is no such file or directory");
     let large = said(alloc, FileDisk::create(&rt, path.as_str(), 1 << 54))?;
     assert!(rt; large.as_str() == "no file can hold so many sectors");
-    // no file system here holds a file so long
-    let long = FileDisk::create(&rt, path.as_str(), (1 << 54) - 1);
-    assert!(rt; matches!(long, Err(FileFault::System(_))));
+    assert!(rt; fs::metadata(&rt, &path).is_err());
+    // few file systems hold a file so long: a new one that doesn't get its length is removed again
+    if FileDisk::create(&rt, path.as_str(), (1 << 54) - 1).is_err() {
+        assert!(rt; fs::metadata(&rt, &path).is_err());
+    }
     fs::write(&rt, &path, "stays")?;
     let standing = said(alloc, FileDisk::create(&rt, path.as_str(), 2))?;
     assert!(rt; standing.as_str() == "something stands there already");
