@@ -1,4 +1,4 @@
-ghost use Rattle.std.specs.Prelude.{◌≡◌, ◌≢◌, ◌↔◌, ◌*◌, ◌/◌, ◌^◌, ◌<◌, ◌≤◌, [], false, IfSome, IsNone, IfOk, IsOk, IfErr, IsErrOf, IsTrue};
+ghost use Rattle.std.specs.Prelude.{◌≡◌, ◌≢◌, ◌↔◌, ◌*◌, ◌/◌, ◌^◌, ◌≤◌, [], false, IfSome, IsNone, IfOk, IsOk, IfErr, IsErrOf, IsTrue};
 ghost use Rattle.std.proofs.lemmas.Bool.{false≢true};
 ghost use Rattle.um_model.specs.Disk.{one_more, CountsFailure};
 
@@ -10,10 +10,10 @@ use std::{fs, io};
 use um_sector::{Disk, Fault, Sector};
 
 /// A regular file, sector behind sector from its beginning; bytes behind the last whole sector are no part of the disk. Its
-/// lock is held until it is dropped, or its process ends.
+/// exclusive lock, that of flock(2), is held until it is dropped or its process ends.
 ///
-/// A contract can't say what a file gives back, so `honest` isn't claimed of it, and only the clauses of `Disk` on counts
-/// say something here. That such a file does what the disk model says is a premise of all that is proved above.
+/// No contract can say what a file gives back. So `honest` isn't claimed of it, and of the clauses of `Disk` those on counts
+/// alone say something here: that a file does what the disk model says is a premise of what is proved above.
 #[derive(Drop)]
 pub struct FileDisk {
     file: File,
@@ -46,8 +46,8 @@ fn length_of(sectors: usize) -> Option<u64>
     }
 }
 
-/// Makes the name of a new file durable, by a sync of its directory.
-fn sync_directory<R: Files<File = File>>(rt: &R, path: &str) -> io::Result<()> {
+/// Makes the name of a new file durable: fsync(2) of the file alone doesn't.
+pub(crate) fn sync_directory<R: Files<File = File>>(rt: &R, path: &str) -> io::Result<()> {
     let directory = match Path::new(path).parent() {
         Some(parent) if !parent.as_str().is_empty() => parent,
         _ => Path::new("."),
@@ -168,6 +168,7 @@ impl FileDisk {
 }
 
 impl Disk for FileDisk {
+    // No clause reads it, since nothing is claimed of what the file holds.
     ghost past = { λ _. record { start = λ _. []; calls = [] } };
 
     ghost size = { λ disk. disk.sectors };

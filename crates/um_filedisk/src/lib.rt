@@ -1,4 +1,4 @@
-//! A file as a disk of sectors: each call is counted, each failure too, and nobody who asks for the file's lock writes it meanwhile.
+//! A file as a disk of sectors: each call and each failure is counted, and a lock keeps every other disk off the file.
 #![tactic(auto)]
 
 mod fault;

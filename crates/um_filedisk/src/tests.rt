@@ -1,3 +1,4 @@
+use crate::file::sync_directory;
 use crate::{FileDisk, FileFault};
 use std::alloc::Global;
 use std::fs::OpenOptions;
@@ -84,6 +85,14 @@ fn a_file_is_refused_by_what_stands_there(rt: HostRuntime) -> Result<(), Fail> {
     let inside = path.join(alloc, "inside")?;
     assert!(rt; FileDisk::create(&rt, inside.as_str(), 2).is_err());
     fs::remove_file(&rt, &path)?;
+    let no_path = said(alloc, FileDisk::open(&rt, "a\0b"))?;
+    assert!(rt;
+        no_path
+            .as_str()
+            .starts_with("the system refused the file: ")
+    );
+    // a name alone stands in the current directory
+    assert!(rt; sync_directory(&rt, "alone").is_ok());
     let folder = said(alloc, FileDisk::open(&rt, env::temp_dir(&rt)?.as_str()))?;
     assert!(rt; folder.as_str() == "what stands there is not a regular file");
     let nowhere = said(alloc, FileDisk::create(&rt, inside.as_str(), 2))?;
