@@ -1,9 +1,10 @@
-ghost use Rattle.std.specs.Prelude.{◌≡◌, ◌++◌, ℕ, List, Option, Ok, None, MatchOption, ⊤, IfOk, OnOk, OnErr};
+ghost use Rattle.std.specs.Prelude.{◌≡◌, ◌≤◌, ◌++◌, ℕ, List, [], length, Option, Ok, None, MatchOption, ⊤, IfOk, OnOk, OnErr};
 ghost use Rattle.std.specs.Io.KnownBytes.{Appends};
-ghost use Rattle.um_bin.specs.Streams.{WritesReply, BeginsReply, WritesReplies, WritesBeginning, StepsTo};
-ghost use Rattle.um_engine.specs.Engine.{state_in, size_in};
-ghost use Rattle.um_model.specs.Frames.{Answers, last_reply, memory_size};
-ghost use Rattle.um_model.specs.Machine.{empty_state};
+ghost use Rattle.um_bin.specs.Managers.{state_of, size_of, kept_of, StepsTo, IsAnswered, WritesReply, BeginsReply, WritesReplies, WritesBeginning};
+ghost use Rattle.um_bin.specs.Streams.{WritesFrom, BeginsFrom};
+ghost use Rattle.um_model.specs.Frames.{kept_after, last_reply, memory_size};
+ghost use Rattle.um_model.specs.Machine.{Told, empty_state};
+ghost use Rattle.um_model.specs.Replies.{reply_text, reply_limit};
 ghost use Rattle.um_model.specs.declared.frames.Ending as ending;
 ghost use Rattle.um_state.specs.View.{event_of, reply_of};
 
@@ -12,59 +13,91 @@ use crate::frames::{Piece, next_piece, put_frame};
 use std::alloc::{AllocError, Global};
 use std::io;
 use std::io::{ErrorKind, Read, Write};
+use std::mem;
 use um_engine::Engine;
 use um_model::{Ending, Mode};
 use um_proto::{Asked, Request, read_request, write_reply};
-use um_state::{Event, Input, Reply, State};
+use um_state::{Action, Event, Input, Reply, State};
 use um_wire::{Limit, Refusal};
 
 /// The size of the store that `umd --memory` works over, in bytes.
 const MEMORY_SIZE: u64 = 8_388_096;
 
-/// The reply to an event at the moment told, or at the clock's.
-fn reply_to_event(engine: &mut Engine, at: Option<u64>, event: Event) -> Result<Reply, AllocError>
-    ensures step { IfOk result (λ reply. StepsTo (size_in engine.old) (state_in engine.old) at (event_of event) (reply_of reply) (state_in engine.new)) }
-    ensures size { size_in engine.new ≡ size_in engine.old }
-{
-    let moment = at.unwrap_or(engine.clock());
-    match engine.plan(&Input { moment, event }) {
-        Ok(next) => {
-            let (reply, _, _) = engine.commit(next);
-            Ok(reply)
-        }
-        Err(Refusal::NoMemory) => Err(AllocError),
-        Err(refusal) => Ok(Reply::Refused(refusal)),
-    }
+/// The manager in memory.
+#[derive(Drop)]
+struct Manager {
+    engine: Engine,
+    /// The actions since they were last asked for.
+    kept: Vec<Action>,
 }
 
-/// The reply to a frame.
-fn reply_to_frame(alloc: Global, engine: &mut Engine, bytes: &[u8]) -> Result<Reply, AllocError>
-    ensures reply { IfOk result (λ reply. Answers (size_in engine.old) (state_in engine.old) bytes.now (reply_of reply) (state_in engine.new)) }
-    ensures size { size_in engine.new ≡ size_in engine.old }
-{
-    match read_request(alloc, bytes, Mode::Memory) {
-        Ok(Request { at, asked }) => match asked {
-            Asked::Query(query) => engine.query(&query),
-            Asked::Event(event) => reply_to_event(engine, at, event),
-        },
-        Err(Refusal::NoMemory) => Err(AllocError),
-        Err(refusal) => Ok(Reply::Refused(refusal)),
+impl Manager {
+    /// The reply to an event at the moment told, or at the clock's.
+    fn take_event(&mut self, at: Option<u64>, event: Event) -> Result<Reply, AllocError>
+        ensures step { IfOk result (λ reply. StepsTo self.old at (event_of event) (reply_of reply) self.new) }
+        ensures size { size_of self.new ≡ size_of self.old }
+    {
+        let moment = at.unwrap_or(self.engine.clock());
+        match self.engine.plan(&Input { moment, event }) {
+            Ok(next) => {
+                let (reply, mut actions, _) = self.engine.commit(next);
+                self.kept.append(&mut actions)?;
+                Ok(reply)
+            }
+            Err(Refusal::NoMemory) => Err(AllocError),
+            Err(refusal) => Ok(Reply::Refused(refusal)),
+        }
+    }
+
+    /// The text that tells the actions since they were last asked for. They are kept where it would be too long.
+    fn tell_actions(&mut self, alloc: Global) -> Result<Vec<u8>, AllocError>
+        ensures text { IfOk result (λ text. text.items ≡ reply_text (Told (kept_of self.old))) }
+        ensures short { IfOk result (λ text. length text.items ≤ reply_limit) }
+        ensures kept { OnOk result (kept_of self.new ≡ kept_after (kept_of self.old)) }
+        ensures state { state_of self.new ≡ state_of self.old }
+        ensures size { size_of self.new ≡ size_of self.old }
+    {
+        let reply = Reply::Told(mem::replace(&mut self.kept, Vec::new(alloc)));
+        let text = write_reply(alloc, &reply)?;
+        if !text.is_whole {
+            if let Reply::Told(kept) = reply {
+                self.kept = kept;
+            }
+        }
+        Ok(text.bytes)
+    }
+
+    /// The text of the reply to a frame.
+    fn answer(&mut self, alloc: Global, bytes: &[u8]) -> Result<Vec<u8>, AllocError>
+        ensures reply { IfOk result (λ text. IsAnswered self.old bytes.now text.items self.new) }
+        ensures short { IfOk result (λ text. length text.items ≤ reply_limit) }
+        ensures size { size_of self.new ≡ size_of self.old }
+    {
+        let reply = match read_request(alloc, bytes, Mode::Memory) {
+            Ok(Request { at, asked }) => match asked {
+                Asked::Query(query) => self.engine.query(&query)?,
+                Asked::Event(event) => self.take_event(at, event)?,
+                Asked::Actions => return self.tell_actions(alloc),
+            },
+            Err(Refusal::NoMemory) => return Err(AllocError),
+            Err(refusal) => Reply::Refused(refusal),
+        };
+        Ok(write_reply(alloc, &reply)?.bytes)
     }
 }
 
 /// Answers a frame.
 fn answer_frame<W: Write>(
     alloc: Global,
-    engine: &mut Engine,
+    manager: &mut Manager,
     bytes: &[u8],
     output: &mut W,
 ) -> Result<(), Fault>
-    ensures ok { OnOk result (WritesReply (size_in engine.old) (state_in engine.old) bytes.now (state_in engine.new) (W.contents output.old) (W.contents output.new)) }
-    ensures front { BeginsReply (size_in engine.old) (state_in engine.old) bytes.now (W.contents output.old) (W.contents output.new) }
-    ensures size { size_in engine.new ≡ size_in engine.old }
+    ensures ok { OnOk result (WritesReply manager.old bytes.now manager.new (W.contents output.old) (W.contents output.new)) }
+    ensures front { BeginsReply manager.old bytes.now (W.contents output.old) (W.contents output.new) }
+    ensures size { size_of manager.new ≡ size_of manager.old }
 {
-    let reply = reply_to_frame(alloc, engine, bytes)?;
-    let text = write_reply(alloc, &reply)?;
+    let text = manager.answer(alloc, bytes)?;
     put_frame(output, text.as_slice())
 }
 
@@ -80,7 +113,7 @@ fn answer_end<W: Write>(alloc: Global, ending: Ending, output: &mut W) -> Result
                 limit: Limit::Frame,
             });
             let text = write_reply(alloc, &reply)?;
-            put_frame(output, text.as_slice())
+            put_frame(output, text.bytes.as_slice())
         }
     }
 }
@@ -88,24 +121,24 @@ fn answer_end<W: Write>(alloc: Global, ending: Ending, output: &mut W) -> Result
 /// Takes one frame and answers it, or ends.
 fn serve_one<R: Read, W: Write>(
     alloc: Global,
-    engine: &mut Engine,
+    manager: &mut Manager,
     input: &mut R,
     output: &mut W,
 ) -> Result<Option<Ending>, Fault>
     ensures serves { result ≡ Ok None → (new : Option (List ℕ)) (e : ending.Ending)
-        → WritesReplies (size_in engine.new) (state_in engine.new) (R.remaining input.new) (W.contents output.new) new e
-        → WritesReplies (size_in engine.old) (state_in engine.old) (R.remaining input.old) (W.contents output.old) new e }
+        → WritesReplies manager.new (R.remaining input.new) (W.contents output.new) new e
+        → WritesReplies manager.old (R.remaining input.old) (W.contents output.old) new e }
     ensures begins { result ≡ Ok None → (new : Option (List ℕ))
-        → WritesBeginning (size_in engine.new) (state_in engine.new) (R.remaining input.new) (W.contents output.new) new
-        → WritesBeginning (size_in engine.old) (state_in engine.old) (R.remaining input.old) (W.contents output.old) new }
+        → WritesBeginning manager.new (R.remaining input.new) (W.contents output.new) new
+        → WritesBeginning manager.old (R.remaining input.old) (W.contents output.old) new }
     ensures ends { IfOk result (λ o. MatchOption o ⊤ (λ e.
-        WritesReplies (size_in engine.old) (state_in engine.old) (R.remaining input.old) (W.contents output.old) (W.contents output.new) e)) }
-    ensures err { OnErr result (WritesBeginning (size_in engine.old) (state_in engine.old) (R.remaining input.old) (W.contents output.old) (W.contents output.new)) }
-    ensures size { size_in engine.new ≡ size_in engine.old }
+        WritesReplies manager.old (R.remaining input.old) (W.contents output.old) (W.contents output.new) e)) }
+    ensures err { OnErr result (WritesBeginning manager.old (R.remaining input.old) (W.contents output.old) (W.contents output.new)) }
+    ensures size { size_of manager.new ≡ size_of manager.old }
 {
     match next_piece(alloc, input)? {
         Piece::Frame(bytes) => {
-            answer_frame(alloc, engine, bytes.as_slice(), output)?;
+            answer_frame(alloc, manager, bytes.as_slice(), output)?;
             Ok(None)
         }
         Piece::End(ending) => {
@@ -124,12 +157,15 @@ pub fn memory<R: Read, W: Write>(
     input: &mut R,
     output: &mut W,
 ) -> Result<Ending, Fault>
-    ensures ok { IfOk result (λ e. WritesReplies memory_size empty_state (R.remaining input.old) (W.contents output.old) (W.contents output.new) e) }
-    ensures err { OnErr result (WritesBeginning memory_size empty_state (R.remaining input.old) (W.contents output.old) (W.contents output.new)) }
+    ensures ok { IfOk result (λ e. WritesFrom memory_size empty_state [] (R.remaining input.old) (W.contents output.old) (W.contents output.new) e) }
+    ensures err { OnErr result (BeginsFrom memory_size empty_state [] (R.remaining input.old) (W.contents output.old) (W.contents output.new)) }
 {
-    let mut engine = Engine::of(alloc, State::empty(alloc), MEMORY_SIZE);
+    let mut manager = Manager {
+        engine: Engine::of(alloc, State::empty(alloc), MEMORY_SIZE),
+        kept: Vec::new(alloc),
+    };
     'frames: for _ in 0..u64::MAX {
-        if let Some(ending) = serve_one(alloc, &mut engine, input, output)? {
+        if let Some(ending) = serve_one(alloc, &mut manager, input, output)? {
             return Ok(ending);
         }
     }

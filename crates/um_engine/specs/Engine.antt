@@ -1,6 +1,17 @@
 -- What an engine, a planned step and the way back hold.
-use Rattle.std.specs.Prelude.{ℕ, List, map}
+use Rattle.std.specs.Prelude.{◌≡◌, ◌≢◌, ℕ, ◌<◌, ◌≤◌, Bool, List, ◌++◌, Option, Some, None, Result, Ok, Err, map}
+use Rattle.std.specs.FinMap as finite
 use Rattle.um_model.specs.Machine as model
+use Rattle.um_model.specs.Service.{Action, state_of_unit}
+use Rattle.um_model.specs.Timers.{Timers, IsDueFirst}
+use Rattle.um_model.specs.declared.transition.UnitEvent.{UnitEvent}
+use Rattle.um_model.specs.declared.transition.UnitEvent.TheVariants.{DeadlinePasses}
+use Rattle.um_unit.specs.ServiceView.{service_settings_of}
+use Rattle.um_engine.specs.declared.happening.Startable.{Startable}
+use Rattle.um_model.specs.Refusals.{Refused}
+use Rattle.um_wire.specs.Refusal.{refused_of}
+use Rattle.um_wire.specs.declared.refusal.Refusal.{Refusal}
+use Rattle.um_wire.specs.declared.refusal.Refusal.TheVariants.{NoMemory}
 use Rattle.um_state.specs.View.{state_of, reply_of, action_of}
 use Rattle.um_engine.specs.declared.engine.Engine.{Engine}
 use Rattle.um_engine.specs.declared.engine.Next.{Next}
@@ -23,9 +34,57 @@ abbrev pub reply_in : Next → model.Reply
 reply_in n = reply_of n.reply
 
 -- its actions
-abbrev pub actions_in : Next → List model.Action
+abbrev pub actions_in : Next → List Action
 actions_in n = map action_of n.actions.items
 
 -- the state before a step that was taken
 abbrev pub state_before : Back → model.State
 state_before b = state_of b.state
+
+-- it has an effect, so that it must be recorded
+abbrev pub has_effect_in : Next → Bool
+has_effect_in n = n.has_effect
+
+-- what the service table knows of a unit
+abbrev pub startable_of : Startable → model.Startable
+startable_of s = record { settings = service_settings_of s.settings; loadable = s.loadable }
+
+-- The same with the actions before and after.
+
+-- something happens to a unit
+abbrev pub HappensTo : ℕ → List ℕ → UnitEvent → model.State → List Action → model.State → List Action → Type 0
+HappensTo t unit event s before s' after = (new : List Action) × model.Happens t unit event s new s' × (after ≡ before ++ new)
+
+-- jobs begin until none is ready
+abbrev pub SettlesTo : ℕ → model.State → List Action → model.State → List Action → Type 0
+SettlesTo t s before s' after = (new : List Action) × model.Settles t s new s' × (after ≡ before ++ new)
+
+-- a deadline fires where it still stands
+pub data FiresOneTo (t deadline : ℕ) (unit : List ℕ) (s : model.State) (before : List Action) : model.State → List Action → Type 0 where
+  passed : (state_of_unit s.units unit).deadline ≢ Some deadline → FiresOneTo t deadline unit s before s before
+  fired : {u v : model.State} {after : List Action} (first next : List Action) → (state_of_unit s.units unit).deadline ≡ Some deadline
+      → model.Happens t unit DeadlinePasses s first u → model.Settles t u next v → after ≡ before ++ (first ++ next) → FiresOneTo t deadline unit s before v after
+
+-- these deadlines fire
+abbrev pub FiresFrom : ℕ → Timers → model.State → List Action → model.State → List Action → Type 0
+FiresFrom t timers s before s' after = (new : List Action) × model.Fires t timers s new s' × (after ≡ before ++ new)
+
+-- the deadlines that stand fire
+abbrev pub FiresTo : ℕ → model.State → List Action → model.State → List Action → Type 0
+FiresTo t s before s' after = (timers : Timers) × model.AreDeadlines s.units timers × FiresFrom t timers s before s' after
+
+-- the deadline that is due first, and not past the moment
+abbrev pub IsDue : ℕ → Timers → ℕ → List ℕ → Type 0
+IsDue t timers deadline unit = IsDueFirst timers deadline unit × (deadline ≤ t)
+
+abbrev pub NoneIsDue : ℕ → Timers → Type 0
+NoneIsDue t timers = (deadline : ℕ) (unit : List ℕ) → finite.get timers unit ≡ Some deadline → t < deadline
+
+-- an event has its effect
+abbrev pub TakesTo : ℕ → model.State → model.Event → List Action → model.State → List Action → Type 0
+TakesTo t s event before s' after = (new : List Action) × model.Takes t s event new s' × (after ≡ before ++ new)
+
+-- a call is refused for this cause, or passes where there is none; or it lacks memory
+abbrev pub Refuses : {X : Type 0} → Result X Refusal → Option Refused → Type 0
+Refuses (Ok done) cause = cause ≡ None
+Refuses (Err e) cause = (e ≢ NoMemory) → cause ≡ Some (refused_of e)

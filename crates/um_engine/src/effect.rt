@@ -1,22 +1,153 @@
-ghost use Rattle.std.specs.Prelude.{◌≡◌, Ok, Err, OnOk, IfErr};
-ghost use Rattle.um_model.specs.Machine.{effect_of};
-ghost use Rattle.um_state.specs.View.{state_of, event_of};
+ghost use Rattle.std.specs.Prelude.{◌≡◌, Some, None, map, if◌then◌else◌, string_bytes, IfOk, OnOk, IfErr, MatchOption};
+ghost use Rattle.um_engine.specs.Engine.{TakesTo, Refuses};
+ghost use Rattle.um_model.specs.Machine as model;
+ghost use Rattle.um_model.specs.Units as units;
+ghost use Rattle.um_state.specs.View.{state_of, event_of, action_of};
 ghost use Rattle.um_wire.specs.Refusal.{refused_of};
 ghost use Rattle.um_wire.specs.declared.refusal.Refusal.TheVariants.{NoMemory};
 
-use um_state::{Event, State};
+use crate::happening::happen;
+use crate::jobs::jobs_after;
+use crate::settling::{fire, settle};
+use std::alloc::{AllocError, Global};
+use um_model::{End, JobKind, UnitEvent, UnitKind, UnitState};
+use um_name::UnitName;
+use um_state::{Action, Event, State, Units};
+use um_tree::Tree;
+use um_unit::{Loading, load};
 use um_wire::Refusal;
 
-/// What the event does to the state, which is of no use where it is refused.
-pub fn take_effect(state: &mut State, event: &Event) -> Result<(), Refusal>
-    ensures ok { OnOk result (effect_of (state_of state.old) (event_of event.now) ≡ Ok (state_of state.new)) }
-    ensures refused { IfErr result (λ e. ¬ (e ≡ NoMemory) → effect_of (state_of state.old) (event_of event.now) ≡ Err (refused_of e)) }
+fn text_of(alloc: Global, unit: &UnitName) -> Result<String, AllocError>
+    ensures { IfOk result (λ s. string_bytes s ≡ unit.now) }
 {
-    match event {
-        Event::PutFile { path, text } => state.tree.put(path.as_str(), text.as_str()),
-        Event::DaemonReload => {
-            state.loaded = state.tree.copy()?;
-            Ok(())
+    Ok(String::from_str(alloc, unit.as_str())?)
+}
+
+/// Refuses to start a unit that isn't found (E4), is masked (E5), has a refused setting, isn't a simple service or is a template (E6).
+fn check_start(alloc: Global, tree: &Tree, unit: &UnitName) -> Result<(), Refusal>
+    ensures { Refuses result (model.start_refusal unit.now (units.load tree.now unit.now)) }
+{
+    let loaded = match load(alloc, tree, unit)? {
+        Loading::Found(loaded) => loaded,
+        Loading::NotFound => {
+            let unit = text_of(alloc, unit)?;
+            return Err(Refusal::NotFound { unit });
+        }
+        Loading::Masked => {
+            let unit = text_of(alloc, unit)?;
+            return Err(Refusal::Masked { unit });
+        }
+        Loading::BadSetting { reason } => {
+            let unit = text_of(alloc, unit)?;
+            return Err(Refusal::BadSetting { unit, reason });
+        }
+    };
+    let reason = match loaded.settings.service.kind {
+        UnitKind::Simple if !unit.is_template() => return Ok(()),
+        UnitKind::Simple => "template",
+        UnitKind::Exec | UnitKind::Oneshot | UnitKind::Target => "type",
+    };
+    let unit = text_of(alloc, unit)?;
+    let reason = String::from_str(alloc, reason)?;
+    Err(Refusal::BadSetting { unit, reason })
+}
+
+/// Refuses to stop a unit that is neither found in the loaded tree nor held in the state (E7).
+fn check_stop(alloc: Global, state: &State, unit: &UnitName) -> Result<(), Refusal>
+    ensures { Refuses result (model.refusal_of (state_of state.now) (model.StopUnit unit.now)) }
+{
+    if let Loading::NotFound = load(alloc, &state.loaded, unit)? {
+        if !state.units.holds(unit) {
+            let unit = text_of(alloc, unit)?;
+            return Err(Refusal::NotLoaded { unit });
         }
     }
+    Ok(())
+}
+
+/// Changes the pending jobs of a unit as a command for it says.
+fn plan_unit(state: &mut State, kind: JobKind, unit: &UnitName) -> Result<(), AllocError>
+    ensures { OnOk result (state_of state.new ≡ model.planned kind (state_of state.old) unit.now) }
+{
+    let active = state.units.get(unit).sub.active_state();
+    let jobs = jobs_after(kind, active, state.pending.get(unit));
+    state.pending.set(unit, jobs)
+}
+
+/// What the end of a process is for its unit.
+fn end_of(state: UnitState, number: u64, end: End) -> UnitEvent
+    ensures { result ≡ model.end_of state number end }
+{
+    if state.main == Some(number) {
+        UnitEvent::MainEnds(end)
+    } else {
+        UnitEvent::ControlEnds(end)
+    }
+}
+
+/// The unit of a live process, by a name of its own.
+fn process(units: &Units, number: u64) -> Result<Option<UnitName>, AllocError>
+    ensures { IfOk result (λ found. MatchOption found (model.IsOver units.now number) (λ unit. model.IsProcessOf units.now number unit)) }
+{
+    match units.process(number) {
+        Some(unit) => Ok(Some(unit.copy()?)),
+        None => Ok(None),
+    }
+}
+
+/// The end of a process, for its unit. False where no live process has the number.
+fn take_end(
+    alloc: Global,
+    state: &mut State,
+    actions: &mut Vec<Action>,
+    moment: u64,
+    number: u64,
+    end: End,
+) -> Result<bool, AllocError>
+    ensures { IfOk result (λ live. if live then TakesTo moment (state_of state.old) (model.ProcessEnded number end) (map action_of actions.old.items) (state_of state.new) (map action_of actions.new.items) else model.IsOver (state_of state.old).units number) }
+{
+    let Some(unit) = process(&state.units, number)? else {
+        return Ok(false);
+    };
+    let event = end_of(state.units.get(&unit), number, end);
+    happen(alloc, state, actions, moment, &unit, event)?;
+    settle(alloc, state, actions, moment)?;
+    Ok(true)
+}
+
+/// The event has its effect on the state at the moment, in microseconds, and jobs begin where it made them ready; what is asked of
+/// processes comes behind the other actions. False where it is the end of a process that isn't live. Where it is refused the state is
+/// of no use.
+pub fn take(
+    alloc: Global,
+    state: &mut State,
+    actions: &mut Vec<Action>,
+    moment: u64,
+    event: &Event,
+) -> Result<bool, Refusal>
+    ensures ok { IfOk result (λ live. if live then TakesTo moment (state_of state.old) (event_of event.now) (map action_of actions.old.items) (state_of state.new) (map action_of actions.new.items) else model.HasNoEffect moment (state_of state.old) (event_of event.now)) }
+    ensures taken { OnOk result (model.refusal_of (state_of state.old) (event_of event.now) ≡ None) }
+    ensures refused { IfErr result (λ e. ¬ (e ≡ NoMemory) → model.refusal_of (state_of state.old) (event_of event.now) ≡ Some (refused_of e)) }
+{
+    match event {
+        Event::PutFile { path, text } => state.tree.put(path.as_str(), text.as_str())?,
+        Event::DaemonReload => state.loaded = state.tree.copy()?,
+        Event::StartUnit { unit } => {
+            check_start(alloc, &state.loaded, unit)?;
+            plan_unit(state, JobKind::Start, unit)?;
+        }
+        Event::StopUnit { unit } => {
+            check_stop(alloc, state, unit)?;
+            plan_unit(state, JobKind::Stop, unit)?;
+        }
+        Event::ProcessEnded { number, end } => {
+            return Ok(take_end(alloc, state, actions, moment, *number, *end)?);
+        }
+        Event::Tick => {
+            fire(alloc, state, actions, moment)?;
+            return Ok(true);
+        }
+    }
+    settle(alloc, state, actions, moment)?;
+    Ok(true)
 }

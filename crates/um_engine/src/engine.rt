@@ -1,16 +1,16 @@
-ghost use Rattle.std.specs.Prelude.{◌≡◌, [], map, IfOk, IfErr};
-ghost use Rattle.um_engine.specs.Engine.{state_in, size_in, state_after, reply_in, actions_in, state_before};
+ghost use Rattle.std.specs.Prelude.{◌≡◌, ◌↔◌, [], false, map, IsTrue, IfOk, IfErr};
+ghost use Rattle.um_engine.specs.Engine.{state_in, size_in, has_effect_in, state_after, reply_in, actions_in, state_before};
 ghost use Rattle.um_model.specs.Machine as model;
-ghost use Rattle.um_model.specs.Machine.{Step};
-ghost use Rattle.um_state.specs.View.{state_of, input_of, query_of, reply_of, action_of};
+ghost use Rattle.um_model.specs.Machine.{Step, HasNoEffect, moment_of};
+ghost use Rattle.um_state.specs.View.{state_of, input_of, event_of, query_of, reply_of, action_of};
 ghost use Rattle.um_wire.specs.Refusal.{refused_of};
 ghost use Rattle.um_wire.specs.declared.refusal.Refusal.TheVariants.{NoMemory};
 
 use crate::answer::reply_to;
-use crate::effect::take_effect;
+use crate::effect::take;
 use std::alloc::{AllocError, Global};
 use std::mem;
-use um_state::{Action, Input, Query, Reply, State};
+use um_state::{Action, Event, Input, Query, Reply, State};
 use um_wire::Refusal;
 
 /// The manager's state and the size of its store.
@@ -27,12 +27,32 @@ pub struct Next {
     state: State,
     reply: Reply,
     actions: Vec<Action>,
+    has_effect: bool,
+}
+
+impl Next {
+    /// Whether the step changes anything: the end of a process that isn't live and a tick at which nothing happens don't, and need
+    /// no record.
+    pub fn has_effect(&self) -> bool
+        ensures { result ≡ has_effect_in self.now }
+    {
+        self.has_effect
+    }
 }
 
 /// The way back from a step that was taken.
 #[derive(Drop)]
 pub struct Back {
     state: State,
+}
+
+/// Whether both have the same units, jobs and next number.
+fn is_same(state: &State, other: &State) -> bool
+    ensures { IsTrue result ↔ ((state.now.units ≡ other.now.units) × (state.now.pending ≡ other.now.pending) × (state.now.next ≡ other.now.next)) }
+{
+    state.next == other.next
+        && state.units.is_same(&other.units)
+        && state.pending.is_same(&other.pending)
 }
 
 impl Engine {
@@ -55,16 +75,27 @@ impl Engine {
     pub fn plan(&self, input: &Input) -> Result<Next, Refusal>
         ensures ok { IfOk result (λ next.
             Step (size_in self.now) (state_in self.now) (input_of input.now) (reply_in next) (actions_in next) (state_after next)) }
+        ensures effect { IfOk result (λ next. (has_effect_in next ≡ false) ↔ HasNoEffect (moment_of (state_in self.now) (input_of input.now)) (state_in self.now) (event_of input.now.event)) }
+        ensures nothing { IfOk result (λ next. has_effect_in next ≡ false → (state_after next ≡ state_in self.now) × (actions_in next ≡ [])) }
         ensures refused { IfErr result (λ e. ¬ (e ≡ NoMemory)
             → Step (size_in self.now) (state_in self.now) (input_of input.now) (model.Refusal (refused_of e)) [] (state_in self.now)) }
     {
         let mut state = self.state.copy()?;
-        take_effect(&mut state, &input.event)?;
-        state.clock = self.state.clock.max(input.moment);
+        let mut actions = Vec::new(self.alloc);
+        let moment = self.state.clock.max(input.moment);
+        let is_live = take(self.alloc, &mut state, &mut actions, moment, &input.event)?;
+        let has_effect = match input.event {
+            Event::Tick => !is_same(&self.state, &state) || !actions.is_empty(),
+            _ => is_live,
+        };
+        if has_effect {
+            state.clock = moment;
+        }
         Ok(Next {
             state,
             reply: Reply::Done,
-            actions: Vec::new(self.alloc),
+            actions,
+            has_effect,
         })
     }
 

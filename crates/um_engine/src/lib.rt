@@ -5,7 +5,10 @@
 mod answer;
 mod effect;
 mod engine;
+mod happening;
+mod jobs;
 mod laws;
+mod settling;
 
 pub use engine::{Back, Engine, Next};
 pub use laws::{a_run_has_one_end, a_step_has_one_outcome, runs_join};

@@ -11,7 +11,7 @@ use Rattle.um_model.specs.Names.{is_template}
 use Rattle.um_model.specs.Tree.{Tree, put_file}
 use Rattle.um_model.specs.Settings.{ServiceSettings, default_settings}
 use Rattle.um_model.specs.Units.{LoadedUnit, Loading, Found, Masked, NotFound, BadSetting, load, Warning}
-use Rattle.um_model.specs.Service.{ByUnit, state_of_unit, with_unit, active_state_of, Action}
+use Rattle.um_model.specs.Service.{ByUnit, state_of_unit, with_unit, active_state_of, is_number, Action}
 use Rattle.um_model.specs.Transitions.{transition, AreActions, HasNumber, spawned}
 use Rattle.um_model.specs.Jobs.{Job, job_of, jobs_of_unit, with_jobs, jobs_after, jobs_left, with_running, IsReady, BeginsNext}
 use Rattle.um_model.specs.Timers.{Timers, IsDueFirst}
@@ -211,10 +211,6 @@ pub record IsProcessOf (units : ByUnit UnitState) (number : ℕ) (unit : List �
 -- no live process has the number
 abbrev pub IsOver : ByUnit UnitState → ℕ → Type 0
 IsOver units number = (unit : List ℕ) → ¬ HasNumber (state_of_unit units unit) number
-
-abbrev pub is_number : ℕ → Option ℕ → Bool
-is_number number None = false
-is_number number (Some n) = n == number
 
 -- what the end of that process is for its unit
 abbrev pub end_of : UnitState → ℕ → End → UnitEvent

@@ -85,6 +85,11 @@ has_no_past u = u.index == 0 && not u.asked && not (is_some u.last)
 abbrev pub holds_nothing : UnitState → Bool
 holds_nothing u = is_dead u.sub && is_success u.result && has_no_process u && (has_no_moment u && has_no_past u)
 
+-- it is that number
+abbrev pub is_number : ℕ → Option ℕ → Bool
+is_number number None = false
+is_number number (Some n) = n == number
+
 -- values by the names of units
 abbrev pub ByUnit : Type 0 → Type 0
 ByUnit A = map.FinMap (slice_cmp nat_cmp) A

@@ -1,5 +1,5 @@
-ghost use Rattle.std.specs.Prelude.{◌≡◌};
-ghost use Rattle.um_model.specs.Service.{has_no_process, has_no_moment, has_no_past, holds_nothing, sub_state_text, active_state_of, active_state_text, result_text};
+ghost use Rattle.std.specs.Prelude.{◌≡◌, ◌||◌};
+ghost use Rattle.um_model.specs.Service.{has_no_process, has_no_moment, has_no_past, holds_nothing, sub_state_text, active_state_of, active_state_text, result_text, is_number};
 
 use crate::limit::Counted;
 
@@ -93,6 +93,13 @@ impl UnitState {
         asked: false,
         last: None,
     };
+
+    /// Whether a live process of the unit has the number.
+    pub fn has_number(&self, number: u64) -> bool
+        ensures { result ≡ (is_number number self.now.main || is_number number self.now.control) }
+    {
+        self.main == Some(number) || self.control == Some(number)
+    }
 
     fn has_no_process(&self) -> bool
         ensures { result ≡ has_no_process self.now }

@@ -8,6 +8,7 @@ use Rattle.um_proto.specs.declared.request.Request.{Request}
 abbrev pub asked_of : Asked → model.Asked
 asked_of (asked.Event event) = model.OfEvent (event_of event)
 asked_of (asked.Query query) = model.OfQuery (query_of query)
+asked_of asked.Actions = model.OfActions
 
 abbrev pub request_of : Request → model.Request
 request_of r = record { at = r.at; asked = asked_of r.asked }

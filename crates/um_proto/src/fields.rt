@@ -1,12 +1,12 @@
-ghost use Rattle.std.specs.Prelude.{◌≡◌, string_bytes, IfOk};
+ghost use Rattle.std.specs.Prelude.{◌≡◌, ◌-◌, ◌^◌, codes, string_bytes, IfOk};
 ghost use Rattle.serde_json.specs.View.{view};
 ghost use Rattle.um_model.specs.Requests as model;
 ghost use Rattle.um_wire.specs.Gives.{Gives};
 
-use crate::verb::verb_named;
+use crate::verb::verb_in;
 use serde_json::Value;
 use std::alloc::{AllocError, Global};
-use um_model::{Mode, Verb};
+use um_model::{End, Mode, Verb};
 use um_name::{UnitName, is_unit_name, suffix_of};
 use um_wire::Refusal;
 
@@ -92,13 +92,77 @@ pub fn unit_at(alloc: Global, value: &Value) -> Result<UnitName, Refusal>
     unit_named(alloc, text)
 }
 
+/// The whole number of a field, of at most this size.
+#[tactic(auto, unfolding(um_model::specs::Requests::number_at))]
+fn number_at(value: &Value, name: &str, limit: u64) -> Result<u64, Refusal>
+    ensures { Gives (λ n. n) result (model.number_at name.now limit (view value.now)) }
+{
+    let Some(field) = value.get(name) else {
+        return Err(Refusal::BadRequest);
+    };
+    let Some(number) = field.as_u64() else {
+        return Err(Refusal::BadRequest);
+    };
+    if number > limit {
+        return Err(Refusal::BadRequest);
+    }
+    Ok(number)
+}
+
+/// The exit code of a process.
+fn code_at(value: &Value) -> Result<End, Refusal>
+    ensures { Gives (λ e. e) result (model.code_at (view value.now)) }
+{
+    let code = number_at(value, "code", 255)?;
+    Ok(End::Code(code as u8))
+}
+
+/// The signal that ended a process.
+fn signal_at(value: &Value) -> Result<End, Refusal>
+    ensures { Gives (λ e. e) result (model.signal_at (view value.now)) }
+{
+    let number = number_at(value, "signal", 64)?;
+    Ok(End::Signal(number as u8))
+}
+
+/// That nobody can tell how a process ended.
+fn lost_at(value: &Value) -> Result<End, Refusal>
+    ensures { Gives (λ e. e) result (model.lost_at (view value.now)) }
+{
+    match value.get("lost") {
+        Some(field) if field.as_bool() == Some(true) => Ok(End::Lost),
+        _ => Err(Refusal::BadRequest),
+    }
+}
+
+/// How a process ended.
+#[tactic(auto, unfolding(um_model::specs::Requests::end_at))]
+pub fn end_at(value: &Value) -> Result<End, Refusal>
+    ensures { Gives (λ e. e) result (model.end_at (view value.now)) }
+{
+    if value.get("code").is_some() {
+        return code_at(value);
+    }
+    if value.get("signal").is_some() {
+        return signal_at(value);
+    }
+    lost_at(value)
+}
+
+/// The process number of a request.
+pub fn process_number_at(value: &Value) -> Result<u64, Refusal>
+    ensures { Gives (λ n. n) result (model.number_at (codes "number") (2 ^ 64 - 1) (view value.now)) }
+{
+    number_at(value, "number", u64::MAX)
+}
+
 /// The verb of a request.
 #[tactic(auto, unfolding(um_model::specs::Requests::verb_at))]
-pub fn verb_at(alloc: Global, value: &Value) -> Result<Verb, Refusal>
-    ensures { Gives (λ v. v) result (model.verb_at (view value.now)) }
+pub fn verb_at(alloc: Global, value: &Value, mode: Mode) -> Result<Verb, Refusal>
+    ensures { Gives (λ v. v) result (model.verb_at mode (view value.now)) }
 {
     let text = text_at(value, "verb")?;
-    match verb_named(text) {
+    match verb_in(mode, text) {
         Some(verb) => Ok(verb),
         None => {
             let verb = String::from_str(alloc, text)?;

@@ -13,4 +13,4 @@ mod write;
 pub use read::read_request;
 pub use request::{Asked, Request};
 pub use um_model::Mode;
-pub use write::write_reply;
+pub use write::{ReplyText, write_reply};

@@ -4,7 +4,9 @@ ghost use Rattle.um_model.specs.Requests as model;
 ghost use Rattle.um_proto.specs.View.{asked_of, request_of};
 ghost use Rattle.um_wire.specs.Gives.{Gives};
 
-use crate::fields::{field_count, moment_at, text_at, unit_at, verb_at};
+use crate::fields::{
+    end_at, field_count, moment_at, process_number_at, text_at, unit_at, verb_at,
+};
 use crate::request::{Asked, Request};
 use crate::verb::own_fields;
 use serde_json::Value;
@@ -24,17 +26,42 @@ fn put_file_at(alloc: Global, value: &Value) -> Result<Asked, Refusal>
     Ok(Asked::Event(Event::PutFile { path, text }))
 }
 
-#[tactic(auto, unfolding(um_model::specs::Requests::show_at))]
+#[tactic(auto, unfolding(um_model::specs::Requests::process_ended_at))]
+fn process_ended_at(value: &Value) -> Result<Asked, Refusal>
+    ensures { Gives asked_of result (model.process_ended_at (view value.now)) }
+{
+    let number = process_number_at(value)?;
+    let end = end_at(value)?;
+    Ok(Asked::Event(Event::ProcessEnded { number, end }))
+}
+
+/// What a verb asks for with its fields.
+#[tactic(auto, unfolding(um_model::specs::Requests::for_unit))]
 fn asked_at(alloc: Global, verb: Verb, value: &Value) -> Result<Asked, Refusal>
     ensures { Gives asked_of result (model.asked_at verb (view value.now)) }
 {
     match verb {
         Verb::PutFile => put_file_at(alloc, value),
         Verb::DaemonReload => Ok(Asked::Event(Event::DaemonReload)),
+        Verb::Start => {
+            let unit = unit_at(alloc, value)?;
+            Ok(Asked::Event(Event::StartUnit { unit }))
+        }
+        Verb::Stop => {
+            let unit = unit_at(alloc, value)?;
+            Ok(Asked::Event(Event::StopUnit { unit }))
+        }
         Verb::Show => {
             let unit = unit_at(alloc, value)?;
             Ok(Asked::Query(Query::Show { unit }))
         }
+        Verb::IsActive => {
+            let unit = unit_at(alloc, value)?;
+            Ok(Asked::Query(Query::IsActive { unit }))
+        }
+        Verb::Tick => Ok(Asked::Event(Event::Tick)),
+        Verb::End => process_ended_at(value),
+        Verb::Actions => Ok(Asked::Actions),
     }
 }
 
@@ -59,7 +86,7 @@ fn request_of_verb(
 fn request_of_value(alloc: Global, mode: Mode, value: &Value) -> Result<Request, Refusal>
     ensures { Gives request_of result (model.request_of_data mode (view value.now)) }
 {
-    let verb = verb_at(alloc, value)?;
+    let verb = verb_at(alloc, value, mode)?;
     let at = moment_at(value, mode)?;
     request_of_verb(alloc, verb, at, value)
 }

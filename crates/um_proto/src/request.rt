@@ -7,6 +7,8 @@ pub enum Asked {
     Event(Event),
     /// How something stands.
     Query(Query),
+    /// The actions since they were last asked for.
+    Actions,
 }
 
 /// A request.

@@ -47,6 +47,6 @@ fn a_moment_is_no_field_over_a_socket(rt: HostRuntime) -> Result<(), Fail> {
 #[test]
 fn a_taken_event_is_answered_shortly(rt: HostRuntime) -> Result<(), Fail> {
     let text = write_reply(rt.alloc(), &Reply::Done)?;
-    assert!(rt; text.as_slice() == b"{\"ok\":true}".as_slice());
+    assert!(rt; text.bytes.as_slice() == b"{\"ok\":true}".as_slice());
     Ok(())
 }

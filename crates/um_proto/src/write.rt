@@ -2,13 +2,14 @@ ghost use Rattle.std.specs.Prelude.{◌≡◌, [], map, string_bytes, IfOk, leng
 ghost use Rattle.serde_json.specs.Data.{array};
 ghost use Rattle.serde_json.specs.View.{view, items_of};
 ghost use Rattle.um_model.specs.Replies as model;
-ghost use Rattle.um_state.specs.View.{shown_of, reply_of};
+ghost use Rattle.um_state.specs.View.{action_of, shown_of, reply_of};
 ghost use Rattle.um_unit.specs.View.{warning_of};
 ghost use Rattle.um_wire.specs.Refusal.{refused_of};
 
 use serde_json::{Value, json};
 use std::alloc::{AllocError, Global};
-use um_state::{Reply, UnitShown};
+use um_model::Signal;
+use um_state::{Action, Reply, UnitShown};
 use um_unit::Warning;
 use um_wire::{Limit, Refusal};
 
@@ -104,6 +105,39 @@ fn shown_value(alloc: Global, shown: &UnitShown) -> Result<Value, AllocError>
     })
 }
 
+fn signal_text(signal: Signal) -> &'static str
+    ensures { result.now ≡ model.signal_text signal }
+{
+    match signal {
+        Signal::Term => "TERM",
+        Signal::Kill => "KILL",
+    }
+}
+
+fn action_value(alloc: Global, action: &Action) -> Result<Value, AllocError>
+    ensures { IfOk result (λ v. view v ≡ model.action_data (action_of action.now)) }
+{
+    match action {
+        Action::Spawn { number, words, .. } => {
+            let words = texts_value(alloc, words.as_slice())?;
+            json!(in alloc; ["spawn", *number, words])
+        }
+        Action::Signal { number, signal } => {
+            json!(in alloc; ["signal", *number, signal_text(*signal)])
+        }
+    }
+}
+
+fn actions_value(alloc: Global, actions: &[Action]) -> Result<Value, AllocError>
+    ensures { IfOk result (λ v. view v ≡ array (items_of (map model.action_data (map action_of actions.now)))) }
+{
+    let mut list = Vec::new(alloc);
+    for action in actions {
+        list.push(action_value(alloc, action)?)?;
+    }
+    Ok(Value::Array(list))
+}
+
 fn reply_value(alloc: Global, reply: &Reply) -> Result<Value, AllocError>
     ensures { IfOk result (λ v. view v ≡ model.reply_data (reply_of reply.now)) }
 {
@@ -113,22 +147,44 @@ fn reply_value(alloc: Global, reply: &Reply) -> Result<Value, AllocError>
             let value = shown_value(alloc, shown)?;
             json!(in alloc; {"ok": true, "value": value})
         }
+        Reply::Activity(state) => json!(in alloc; {"ok": true, "value": state.text()}),
+        Reply::Told(actions) => {
+            let value = actions_value(alloc, actions.as_slice())?;
+            json!(in alloc; {"ok": true, "value": value})
+        }
         Reply::Refused(refusal) => refused_value(alloc, refusal),
     }
 }
 
+/// The text of a reply.
+#[derive(Debug, Drop)]
+pub struct ReplyText {
+    /// Compact JSON, at most 2^24 bytes.
+    pub bytes: Vec<u8>,
+    /// Whether it is the reply's own; else it is the refusal `TooLarge` `reply`.
+    pub is_whole: bool,
+}
+
 /// The text of a reply; in place of one past 2^24 bytes that of the refusal `TooLarge` `reply`.
 #[tactic(auto, unfolding(um_model::specs::Replies::reply_text))]
-pub fn write_reply(alloc: Global, reply: &Reply) -> Result<Vec<u8>, AllocError>
-    ensures text { IfOk result (λ text. text.items ≡ model.reply_text (reply_of reply.now)) }
-    ensures short { IfOk result (λ text. length text.items ≤ model.reply_limit) }
+pub fn write_reply(alloc: Global, reply: &Reply) -> Result<ReplyText, AllocError>
+    ensures text { IfOk result (λ text. text.bytes.items ≡ model.reply_text (reply_of reply.now)) }
+    ensures whole { IfOk result (λ text. text.is_whole ≡ model.is_told_whole (reply_of reply.now)) }
+    ensures short { IfOk result (λ text. length text.bytes.items ≤ model.reply_limit) }
 {
     let text = reply_value(alloc, reply)?.to_vec(alloc)?;
     if text.len() > REPLY_LIMIT {
         let refusal = Refusal::TooLarge {
             limit: Limit::Reply,
         };
-        return refused_value(alloc, &refusal)?.to_vec(alloc);
+        let bytes = refused_value(alloc, &refusal)?.to_vec(alloc)?;
+        return Ok(ReplyText {
+            bytes,
+            is_whole: false,
+        });
     }
-    Ok(text)
+    Ok(ReplyText {
+        bytes: text,
+        is_whole: true,
+    })
 }

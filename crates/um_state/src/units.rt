@@ -1,16 +1,19 @@
-ghost use Rattle.std.specs.Prelude.{◌≡◌, ◌↔◌, is_some, true, IfOk, OnOk, OnErr};
+ghost use Rattle.std.specs.Prelude.{◌≡◌, ◌↔◌, is_some, IsTrue, MatchOption, IfOk, OnOk, OnErr};
 ghost use Rattle.std.specs.Coded.{codes};
 ghost use Rattle.std.specs.FinMap as map;
-ghost use Rattle.um_model.specs.Jobs.{jobs_of_unit, with_jobs};
+ghost use Rattle.um_model.specs.Jobs.{Job, IsReady, BeginsNext, jobs_of_unit, with_jobs};
+ghost use Rattle.um_model.specs.Machine.{IsOver, IsProcessOf, AreDeadlines};
 ghost use Rattle.um_model.specs.Service.{ByUnit, state_of_unit, with_unit};
+ghost use Rattle.um_state.specs.Ready.{ready_kind};
 ghost use Rattle.um_model.specs.declared.jobs.UnitJobs as jobs;
 ghost use Rattle.um_model.specs.declared.service.UnitState as unit;
 
 use std::alloc::{AllocError, Global};
 use std::collections::BTreeMap;
 use std::marker::Model;
-use um_model::{UnitJobs, UnitState};
+use um_model::{ActiveState, JobKind, JobState, UnitJobs, UnitState};
 use um_name::{UnitName, copy_by_name};
+use um_timer::Timers;
 
 /// What the state holds of units, by name: those that differ from a dead unit of which nothing is known.
 #[derive(Drop)]
@@ -68,6 +71,38 @@ impl Units {
         Ok(())
     }
 
+    /// The unit of the live process with this number; of several the one with the least name. It takes no memory.
+    pub fn process(&self, number: u64) -> Option<&UnitName>
+        ensures { MatchOption result (IsOver self.now number) (λ unit. IsProcessOf self.now number unit.now) }
+    {
+        for (unit, state) in self.entries.iter() {
+            if state.has_number(number) {
+                return Some(unit);
+            }
+        }
+        None
+    }
+
+    /// The deadlines of the units.
+    pub fn deadlines(&self) -> Result<Timers, AllocError>
+        ensures { IfOk result (λ timers. AreDeadlines self.now timers) }
+    {
+        let mut timers = Timers::new(self.alloc);
+        for (unit, state) in self.entries.iter() {
+            if let Some(deadline) = state.deadline {
+                timers.set(unit.copy()?, deadline)?;
+            }
+        }
+        Ok(timers)
+    }
+
+    /// Whether the other holds the same of each unit. It takes no memory.
+    pub fn is_same(&self, other: &Units) -> bool
+        ensures { IsTrue result ↔ (self.now ≡ other.now) }
+    {
+        self.entries == other.entries
+    }
+
     /// The same again.
     pub fn copy(&self) -> Result<Units, AllocError>
         ensures { IfOk result (λ u. u ≡ self.now) }
@@ -76,6 +111,21 @@ impl Units {
             alloc: self.alloc,
             entries: copy_by_name(self.alloc, &self.entries)?,
         })
+    }
+}
+
+/// Which of a unit's jobs is ready in this active state: its stop job where that waits, or its start job where it waits, no stop job
+/// is pending and the unit isn't deactivating.
+fn ready_kind(active: ActiveState, jobs: UnitJobs) -> Option<JobKind>
+    ensures { result ≡ ready_kind active jobs }
+{
+    match (jobs.stop, jobs.start) {
+        (Some(JobState::Waiting), _) => Some(JobKind::Stop),
+        (None, Some(JobState::Waiting)) => match active {
+            ActiveState::Deactivating => None,
+            _ => Some(JobKind::Start),
+        },
+        _ => None,
     }
 }
 
@@ -126,6 +176,28 @@ impl Pending {
             self.entries.remove(unit);
         }
         Ok(())
+    }
+
+    /// The job that begins next, by its unit and its kind: of those that are ready the one with the least name of its unit, and
+    /// of one unit the stop job first. None only where no job is ready. It takes no memory.
+    pub fn next_job(&self, units: &Units) -> Option<(&UnitName, JobKind)>
+        ensures { MatchOption result
+            ((job : Job) → ¬ IsReady units.now self.now job)
+            (λ next. BeginsNext units.now self.now (record { unit = next.0.now; kind = next.1 })) }
+    {
+        for (unit, jobs) in self.entries.iter() {
+            if let Some(kind) = ready_kind(units.get(unit).sub.active_state(), *jobs) {
+                return Some((unit, kind));
+            }
+        }
+        None
+    }
+
+    /// Whether the other holds the same jobs. It takes no memory.
+    pub fn is_same(&self, other: &Pending) -> bool
+        ensures { IsTrue result ↔ (self.now ≡ other.now) }
+    {
+        self.entries == other.entries
     }
 
     /// The same again.

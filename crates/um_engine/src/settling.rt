@@ -1,0 +1,100 @@
+ghost use Rattle.std.specs.Prelude.{map, IfOk, OnOk, MatchOption};
+ghost use Rattle.um_engine.specs.Engine.{SettlesTo, FiresOneTo, FiresTo, IsDue, NoneIsDue};
+ghost use Rattle.um_model.specs.Jobs.{IsReady, BeginsNext, Job};
+ghost use Rattle.um_state.specs.View.{state_of, action_of};
+
+use crate::happening::happen;
+use crate::jobs::{begins, with_running};
+use std::alloc::{AllocError, Global};
+use um_model::{JobKind, UnitEvent};
+use um_name::UnitName;
+use um_state::{Action, State};
+use um_timer::Timers;
+
+/// The job that begins next, with its unit's name.
+fn next_job(state: &State) -> Result<Option<(UnitName, JobKind)>, AllocError>
+    ensures { IfOk result (λ next. MatchOption next
+        ((job : Job) → ¬ IsReady state.now.units state.now.pending job)
+        (λ job. BeginsNext state.now.units state.now.pending (record { unit = job.0; kind = job.1 }))) }
+{
+    match state.pending.next_job(&state.units) {
+        Some((unit, kind)) => Ok(Some((unit.copy()?, kind))),
+        None => Ok(None),
+    }
+}
+
+/// Lets jobs begin at the moment, one after another, until none is ready. Where memory is refused the state is of no use.
+pub fn settle(
+    alloc: Global,
+    state: &mut State,
+    actions: &mut Vec<Action>,
+    moment: u64,
+) -> Result<(), AllocError>
+    ensures { OnOk result (SettlesTo moment (state_of state.old) (map action_of actions.old.items) (state_of state.new) (map action_of actions.new.items)) }
+{
+    'jobs: for _ in 0..u64::MAX {
+        let Some((unit, kind)) = next_job(state)? else {
+            return Ok(());
+        };
+        let jobs = state.pending.get(&unit);
+        state.pending.set(&unit, with_running(kind, jobs))?;
+        happen(alloc, state, actions, moment, &unit, begins(kind))?;
+    }
+    Err(AllocError)
+}
+
+/// The timer that is due first, where its deadline isn't past the moment.
+fn next_due(timers: &Timers, moment: u64) -> Result<Option<(u64, UnitName)>, AllocError>
+    ensures { IfOk result (λ next. MatchOption next (NoneIsDue moment timers.now) (λ due. IsDue moment timers.now due.0 due.1)) }
+{
+    match timers.next_due() {
+        Some((deadline, unit)) if deadline <= moment => Ok(Some((deadline, unit.copy()?))),
+        _ => Ok(None),
+    }
+}
+
+/// Fires one deadline, if it still stands, and lets jobs begin.
+fn fire_one(
+    alloc: Global,
+    state: &mut State,
+    actions: &mut Vec<Action>,
+    moment: u64,
+    deadline: u64,
+    unit: &UnitName,
+) -> Result<(), AllocError>
+    ensures { OnOk result (FiresOneTo moment deadline unit.now (state_of state.old) (map action_of actions.old.items) (state_of state.new) (map action_of actions.new.items)) }
+{
+    if state.units.get(unit).deadline != Some(deadline) {
+        return Ok(());
+    }
+    happen(
+        alloc,
+        state,
+        actions,
+        moment,
+        unit,
+        UnitEvent::DeadlinePasses,
+    )?;
+    settle(alloc, state, actions, moment)
+}
+
+/// Fires the deadlines that stand and aren't past the moment, earliest first, then by the names of their units; after each one jobs
+/// begin. One that is gone or changed by then doesn't fire. Where memory is refused the state is of no use.
+pub fn fire(
+    alloc: Global,
+    state: &mut State,
+    actions: &mut Vec<Action>,
+    moment: u64,
+) -> Result<(), AllocError>
+    ensures { OnOk result (FiresTo moment (state_of state.old) (map action_of actions.old.items) (state_of state.new) (map action_of actions.new.items)) }
+{
+    let mut timers = state.units.deadlines()?;
+    'timers: for _ in 0..u64::MAX {
+        let Some((deadline, unit)) = next_due(&timers, moment)? else {
+            return Ok(());
+        };
+        timers.clear(&unit);
+        fire_one(alloc, state, actions, moment, deadline, &unit)?;
+    }
+    Err(AllocError)
+}
