@@ -17,3 +17,8 @@ pub mod FramesLaws
 pub mod ValuesLaws
 pub mod SpecifiersLaws
 pub mod DiskLaws
+pub mod JobsLaws
+pub mod FirstByName
+pub mod UnitsLaws
+pub mod DeadlinesLaws
+pub mod KeepsLaws

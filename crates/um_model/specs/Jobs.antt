@@ -93,6 +93,23 @@ pub record IsReady (units : ByUnit UnitState) (pending : ByUnit UnitJobs) (job :
   pub free : (other : Job) → IsPending pending other → ¬ ComesBefore other job
   pub still : job.kind ≡ Start → active_state_of (state_of_unit units job.unit).sub ≢ Deactivating
 
+-- The same as a function of one unit's active state and jobs; a law in proofs/JobsLaws says that both tell the same.
+
+abbrev pub start_where_still : ActiveState → Option JobKind
+start_where_still Deactivating = None
+start_where_still other = Some Start
+
+abbrev pub ready_of : ActiveState → Option JobState → Option JobState → Option JobKind
+ready_of a (Some Waiting) start = Some Stop
+ready_of a (Some Running) start = None
+ready_of a None (Some Waiting) = start_where_still a
+ready_of a None (Some Running) = None
+ready_of a None None = None
+
+-- its stop job where that waits; its start job where it waits, no stop job is pending and the unit isn't deactivating
+abbrev pub ready_kind : ActiveState → UnitJobs → Option JobKind
+ready_kind a j = ready_of a j.stop j.start
+
 -- one job is told before another: by the names of their units, and of one unit the stop job first
 pub data IsToldBefore : Job → Job → Type 0 where
   by_name : (job other : Job) → slice_cmp nat_cmp job.unit other.unit ≡ Less → IsToldBefore job other

@@ -1,10 +1,9 @@
 ghost use Rattle.std.specs.Prelude.{◌≡◌, ◌↔◌, is_some, IsTrue, MatchOption, IfOk, OnOk, OnErr};
 ghost use Rattle.std.specs.Coded.{codes};
 ghost use Rattle.std.specs.FinMap as map;
-ghost use Rattle.um_model.specs.Jobs.{Job, IsReady, BeginsNext, jobs_of_unit, with_jobs};
+ghost use Rattle.um_model.specs.Jobs.{Job, IsReady, BeginsNext, jobs_of_unit, ready_kind, with_jobs};
 ghost use Rattle.um_model.specs.Machine.{IsOver, IsProcessOf, AreDeadlines};
 ghost use Rattle.um_model.specs.Service.{ByUnit, state_of_unit, with_unit};
-ghost use Rattle.um_state.specs.Ready.{ready_kind};
 ghost use Rattle.um_model.specs.declared.jobs.UnitJobs as jobs;
 ghost use Rattle.um_model.specs.declared.service.UnitState as unit;
 
