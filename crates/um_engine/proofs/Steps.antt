@@ -1,0 +1,31 @@
+-- One step more of settling and of firing, with the actions before and after.
+use Rattle.std.proofs.Common.{◌≡◌, ℕ, ◌≤◌, List, [], ◌++◌, refl, sym, ap, ◌∙◌, append_assoc, append_nil}
+use Rattle.std.specs.FinMap as map
+use Rattle.um_model.specs.Jobs.{Job, IsReady, BeginsNext}
+use Rattle.um_model.specs.Machine as model
+use Rattle.um_model.specs.Machine.{State, begun, begins, rests, begins_next, none_due, fires, passes}
+use Rattle.um_model.specs.Service.{Action}
+use Rattle.um_model.specs.Timers.{Timers}
+use Rattle.um_engine.specs.Engine.{HappensTo, SettlesTo, FiresOneTo, passed, fired, FiresFrom, IsDue, NoneIsDue}
+
+-- where no job is ready, all has settled
+pub settled : (t : ℕ) (s : State) (before : List Action) → ((j : Job) → ¬ IsReady s.units s.pending j) → SettlesTo t s before s before
+settled t s before none = ([], rests none, sym (append_nil before))
+
+-- a job begins, and then the others
+pub settles_more : (t : ℕ) (s u v : State) (before between after : List Action) (j : Job) → BeginsNext s.units s.pending j
+    → HappensTo t j.unit (begins j.kind) (begun s j) before u between → SettlesTo t u between v after → SettlesTo t s before v after
+settles_more t s u v before between after j next (first, happens, is) (more, settles, all) =
+    (first ++ more, begins_next j next happens settles, all ∙ (ap (λ l. l ++ more) is ∙ append_assoc before first more))
+
+-- where no deadline is due, none fires
+pub none_fires : (t : ℕ) (timers : Timers) (s : State) (before : List Action) → NoneIsDue t timers → FiresFrom t timers s before s before
+none_fires t timers s before none = ([], none_due none, sym (append_nil before))
+
+-- a deadline fires, or has passed, and then the others
+pub fires_more : (t : ℕ) (timers : Timers) (deadline : ℕ) (unit : List ℕ) (s u v : State) (before between after : List Action) → IsDue t timers deadline unit
+    → FiresOneTo t deadline unit s before u between → FiresFrom t (map.remove timers unit) u between v after → FiresFrom t timers s before v after
+fires_more t timers deadline unit s u v before between after due (passed gone) (more, later, all) = (more, passes deadline unit due.0 due.1 gone later, all)
+fires_more t timers deadline unit s u v before between after due (fired first next stands happens settles is) (more, later, all) =
+    (first ++ (next ++ more), fires deadline unit due.0 due.1 stands happens settles later,
+      all ∙ (ap (λ l. l ++ more) is ∙ (append_assoc before (first ++ next) more ∙ ap (λ l. before ++ l) (append_assoc first next more))))

@@ -1,0 +1,11 @@
+use Rattle.std.proofs.Common.{ℕ, List, map}
+use Rattle.um_engine.specs.Engine.{FiresFrom}
+use Rattle.um_model.specs.Machine.{State}
+use Rattle.um_model.specs.Service.{Action}
+use Rattle.um_state.specs.View.{state_of, action_of}
+use Rattle.um_engine.proofs.settling.fire.Given as goal
+
+-- what fires the rest fires the whole
+abbrev pub invariant-timers : goal.invariant-timers
+invariant-timers l = (v : State) (after : List Action) → FiresFrom l.moment l.timers (state_of l.state) (map action_of l.actions.items) v after
+    → FiresFrom l.moment l.initial.timers (state_of l.initial.state) (map action_of l.initial.actions.items) v after
