@@ -2,6 +2,9 @@
 //! and warnings, or that it is masked, not found or refused.
 #![tactic(auto)]
 
+mod commands;
+mod file_settings;
+mod items;
 mod keys;
 mod loaded;
 mod loader;
