@@ -11,6 +11,8 @@ mod loader;
 mod read;
 mod resolve;
 mod service_settings;
+#[cfg(test)]
+mod tests;
 
 pub use loaded::{LoadedUnit, Loading, Settings, Warning};
 pub use loader::load;
