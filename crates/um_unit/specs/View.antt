@@ -3,6 +3,7 @@ use Rattle.std.specs.Prelude.{List, ℕ, option_map, map, string_bytes}
 use Rattle.um_model.specs.Tree.{Entry}
 use Rattle.um_model.specs.Units as model
 use Rattle.um_tree.specs.View.{entry_of}
+use Rattle.um_unit.specs.ServiceView.{service_settings_of}
 use Rattle.um_unit.specs.declared.resolve.Located.{Located}
 use Rattle.um_unit.specs.declared.resolve.Resolution.{Resolution}
 use Rattle.um_unit.specs.declared.resolve.Resolution.TheVariants as resolution
@@ -16,7 +17,7 @@ abbrev pub warning_of : Warning → model.Warning
 warning_of w = record { kind = w.kind; path = string_bytes w.path; line = w.line }
 
 abbrev pub settings_of : Settings → model.Settings
-settings_of s = record { description = string_bytes s.description }
+settings_of s = record { description = string_bytes s.description; service = service_settings_of s.service }
 
 abbrev pub unit_of : LoadedUnit → model.LoadedUnit
 unit_of u = record { name = u.name; path = option_map string_bytes u.path; settings = settings_of u.settings; warnings = map warning_of u.warnings.items }

@@ -2,11 +2,18 @@
 //! and warnings, or that it is masked, not found or refused.
 #![tactic(auto)]
 
+mod commands;
+mod file_settings;
+mod items;
 mod keys;
 mod loaded;
 mod loader;
 mod read;
 mod resolve;
+mod service_settings;
+#[cfg(test)]
+mod tests;
 
 pub use loaded::{LoadedUnit, Loading, Settings, Warning};
 pub use loader::load;
+pub use service_settings::ServiceSettings;

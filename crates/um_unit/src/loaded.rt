@@ -1,3 +1,4 @@
+use crate::service_settings::ServiceSettings;
 use um_model::WarningKind;
 use um_name::UnitName;
 
@@ -16,6 +17,8 @@ pub struct Warning {
 pub struct Settings {
     /// The text for people, empty where none is given (systemd.unit(5), `Description=`).
     pub description: String,
+    /// What it says of its processes, its restarts and its start limit; a target has the defaults.
+    pub service: ServiceSettings,
 }
 
 /// A unit that was found.
@@ -36,6 +39,6 @@ pub enum Loading {
     /// Its file is empty.
     Masked,
     NotFound,
-    /// It has a setting that is refused, for this reason.
+    /// It has a setting that is refused, for this reason: a service without exactly one command has `exec-count`.
     BadSetting { reason: String },
 }

@@ -1,17 +1,21 @@
-ghost use Rattle.std.specs.Prelude.{◌≡◌, Some, None, option_map, option_to_list, filter, map, codes, IfOk};
+//! What an item warns of.
+
+ghost use Rattle.std.specs.Prelude.{◌≡◌, Some, None, option_map, map, IfOk};
 ghost use Rattle.um_model.specs.Syntax.{in_sections, section_after, line_number};
 ghost use Rattle.um_model.specs.Units as model;
 ghost use Rattle.um_syntax.specs.Items.{item_of};
-ghost use Rattle.um_unit.specs.View.{warning_of, settings_of};
+ghost use Rattle.um_unit.specs.View.{warning_of};
 
+use crate::commands::is_readable_command;
+use crate::items::section_after;
 use crate::keys::{is_foreign, is_known_key, is_known_section};
-use crate::loaded::{Settings, Warning};
+use crate::loaded::Warning;
 use std::alloc::{AllocError, Global};
 use um_model::{Suffix, WarningKind};
 use um_syntax::Item;
 
 /// Whether a description can be read: it has no `%`, since specifiers aren't expanded yet.
-fn is_readable_description(value: &str) -> bool
+pub fn is_readable_description(value: &str) -> bool
     ensures { result ≡ model.is_readable_description value.now }
 {
     !value.as_bytes().contains(&b'%')
@@ -23,6 +27,19 @@ fn is_description(section: &str, key: &str) -> bool
     section == "Unit" && key == "Description"
 }
 
+fn is_start_command(section: &str, key: &str) -> bool
+    ensures { result ≡ model.is_start_command section.now key.now }
+{
+    section == "Service" && key == "ExecStart"
+}
+
+/// Whether it is a command that can't be read; an empty value takes commands back.
+fn is_unreadable_command(section: &str, key: &str, value: &str) -> bool
+    ensures { result ≡ model.is_unreadable_command section.now key.now value.now }
+{
+    is_start_command(section, key) && !value.is_empty() && !is_readable_command(value)
+}
+
 fn assignment_warning(section: &str, key: &str, value: &str) -> Option<WarningKind>
     ensures { result ≡ model.assignment_warning section.now key.now value.now }
 {
@@ -31,6 +48,9 @@ fn assignment_warning(section: &str, key: &str, value: &str) -> Option<WarningKi
     }
     if !is_known_key(section, key) {
         return Some(WarningKind::UnknownKey);
+    }
+    if is_unreadable_command(section, key, value) {
+        return Some(WarningKind::UnreadableValue);
     }
     if is_description(section, key) && !is_readable_description(value) {
         return Some(WarningKind::UnreadableSpecifier);
@@ -99,16 +119,6 @@ fn item_warning(suffix: Suffix, section: Option<&str>, item: &Item<'_>) -> Optio
     }
 }
 
-/// The section after an item.
-fn section_after<'i>(section: Option<&'i str>, item: &'i Item<'_>) -> Option<&'i str>
-    ensures { option_map (λ s. s.now) result ≡ section_after (option_map (λ s. s.now) section.entry) (item_of item.now) }
-{
-    match item {
-        Item::Section { name, .. } => Some(name.as_str()),
-        Item::Assignment { .. } | Item::Warning { .. } => section,
-    }
-}
-
 /// The line of an item.
 fn line_of(item: &Item<'_>) -> usize
     ensures { result ≡ line_number (item_of item.now) }
@@ -139,38 +149,4 @@ pub fn warnings_of(
         section = section_after(section, item);
     }
     Ok(warnings)
-}
-
-/// The value that an item gives to the description, where it can be read.
-fn description_in<'i>(section: Option<&str>, item: &'i Item<'_>) -> Option<&'i str>
-    ensures { option_to_list (option_map (λ v. v.now) result)
-        ≡ filter model.is_readable_description (model.value_in (codes "Unit") (codes "Description") (section_after (option_map (λ s. s.now) section.entry) (item_of item.now)) (item_of item.now)) }
-{
-    let Item::Assignment { key, value, .. } = item else {
-        return None;
-    };
-    match section {
-        Some(section)
-            if is_description(section, key.as_str()) && is_readable_description(value.as_str()) => {
-            Some(value.as_str())
-        }
-        _ => None,
-    }
-}
-
-/// The settings of a file.
-pub fn settings_of(alloc: Global, items: &[Item<'_>]) -> Result<Settings, AllocError>
-    ensures { IfOk result (λ s. settings_of s ≡ model.settings_of (in_sections None (map item_of items.now))) }
-{
-    let mut description = "";
-    let mut section = None;
-    for item in items {
-        if let Some(value) = description_in(section, item) {
-            description = value;
-        }
-        section = section_after(section, item);
-    }
-    Ok(Settings {
-        description: String::from_str(alloc, description)?,
-    })
 }
