@@ -1,0 +1,167 @@
+-- Canonical bytes: how each kind of value is spelled, and how a value is read at the front of bytes.
+-- No manual page has this: it is the project's own format (docs/FORMATS.md, "Canonical bytes").
+-- The bytes of inputs and states, slots and the log stand on this file.
+use Rattle.std.specs.Prelude.{◌≡◌, ℕ, zero, suc, ◌<◌, ◌^◌, nat_lt, Bool, true, false, cond, List, [], ◌∷◌, ◌++◌, length, map, take, drop, slice_index, Option, Some, None, IfSome, ⊤, if◌then◌else◌}
+use Rattle.std.specs.List.{flat_map, AllByRecursion}
+use Rattle.std.specs.Str.{is_utf8}
+use Rattle.std.specs.Ordering.{nat_cmp}
+use Rattle.std.specs.Cmp.Lexicographic.{slice_cmp}
+use Rattle.std.specs.FinMap as map
+use Rattle.byteorder.specs.Endian.{big_number, big_bytes}
+
+-- how values are spelled
+abbrev pub Spelling : Type 0 → Type 0
+Spelling V = V → List ℕ
+
+-- how a value is read at the front of bytes: the value and the bytes behind it, where the front has a reading
+abbrev pub Reading : Type 0 → Type 0
+Reading V = List ℕ → Option (V × List ℕ)
+
+-- each number is a byte
+abbrev pub IsBytes : List ℕ → Type 0
+IsBytes bytes = (i : ℕ) → slice_index bytes i < 256
+
+-- what is read is spelled so, and what is spelled is read again whatever follows
+pub record IsCanonical {V : Type 0} (fits : V → Type 0) (spelling : Spelling V) (reading : Reading V) : Type 0 where
+  pub takes : (bytes : List ℕ) (v : V) (rest : List ℕ) → IsBytes bytes → reading bytes ≡ Some (v, rest) → (bytes ≡ spelling v ++ rest) × fits v
+  pub again : (v : V) (rest : List ℕ) → fits v → reading (spelling v ++ rest) ≡ Some (v, rest)
+
+-- the second list begins with the first
+pub record IsInFront (front bytes : List ℕ) : Type 0 where
+  pub behind : List ℕ
+  pub parts : bytes ≡ front ++ behind
+
+infixl 10 ◌>>=◌
+-- what the second makes of the first, where there is one
+abbrev pub ◌>>=◌ : {A B : Type 0} → Option A → (A → Option B) → Option B
+(Some x) >>= f = f x
+None >>= f = None
+
+-- ---- whole numbers, the highest byte first
+
+abbrev pub byte_at : Reading ℕ
+byte_at [] = None
+byte_at (b ∷ rest) = Some (b, rest)
+
+-- a number of so many bytes
+abbrev pub number_at : ℕ → Reading ℕ
+number_at width bytes = if nat_lt (length bytes) width then None else Some (big_number width bytes, drop width bytes)
+
+-- ---- one behind the other
+
+abbrev pub pair_spelling : {A B : Type 0} → Spelling A → Spelling B → Spelling (A × B)
+pair_spelling first second p = first p.0 ++ second p.1
+
+abbrev pub pair_at : {A B : Type 0} → Reading A → Reading B → Reading (A × B)
+pair_at first second bytes = first bytes >>= λ a. second a.1 >>= λ b. Some ((a.0, b.0), b.1)
+
+-- a byte that always stands there, and the value behind it
+abbrev pub marked_at : {A : Type 0} → ℕ → Reading A → Reading A
+marked_at mark one [] = None
+marked_at mark one (b ∷ rest) = if nat_lt b mark then None else if nat_lt mark b then None else one rest
+
+-- ---- the same values in another form, and those that pass a test
+
+abbrev pub as_at : {A B : Type 0} → (A → B) → Reading A → Reading B
+as_at to one bytes = one bytes >>= λ a. Some (to a.0, a.1)
+
+abbrev pub only_at : {A : Type 0} → (A → Bool) → Reading A → Reading A
+only_at test one bytes = one bytes >>= λ a. if test a.0 then Some a else None
+
+-- ---- a choice, told by its tag
+
+-- a choice without fields
+abbrev pub tag_at : {A : Type 0} → (ℕ → Option A) → Reading A
+tag_at of [] = None
+tag_at of (tag ∷ rest) = of tag >>= λ a. Some (a, rest)
+
+-- a choice with fields: each tag has its reading
+abbrev pub choice_at : {A : Type 0} → (ℕ → Reading A) → Reading A
+choice_at arm [] = None
+choice_at arm (tag ∷ rest) = arm tag rest
+
+-- the arm of a choice that has no fields
+abbrev pub just_at : {A : Type 0} → A → Reading A
+just_at a bytes = Some (a, bytes)
+
+-- the arm of a tag that no choice has
+abbrev pub none_at : {A : Type 0} → Reading A
+none_at bytes = None
+
+-- ---- truth: 0 or 1
+
+abbrev pub truth_tag : Bool → ℕ
+truth_tag false = 0
+truth_tag true = 1
+
+abbrev pub truth_of : ℕ → Option Bool
+truth_of zero = Some false
+truth_of (suc zero) = Some true
+truth_of (suc (suc n)) = None
+
+abbrev pub truth_spelling : Spelling Bool
+truth_spelling b = truth_tag b ∷ []
+
+abbrev pub truth_at : Reading Bool
+truth_at = tag_at truth_of
+
+-- ---- an option: 0, or 1 and the value
+
+abbrev pub option_spelling : {A : Type 0} → Spelling A → Spelling (Option A)
+option_spelling one None = 0 ∷ []
+option_spelling one (Some x) = 1 ∷ one x
+
+abbrev pub option_at : {A : Type 0} → Reading A → Reading (Option A)
+option_at one [] = None
+option_at one (zero ∷ rest) = Some (None, rest)
+option_at one (suc zero ∷ rest) = one rest >>= λ a. Some (Some a.0, a.1)
+option_at one (suc (suc n) ∷ rest) = None
+
+-- ---- a text: how many bytes it has, and those, in UTF-8
+
+abbrev pub FitText : List ℕ → Type 0
+FitText text = (length text < 2 ^ 32) × (is_utf8 text ≡ true)
+
+abbrev pub text_spelling : Spelling (List ℕ)
+text_spelling text = big_bytes 4 (length text) ++ text
+
+-- so many bytes, where they are there and a text
+abbrev pub front_text : ℕ → List ℕ → Option (List ℕ)
+front_text n bytes = if nat_lt (length bytes) n then None else if is_utf8 (take n bytes) then Some (take n bytes) else None
+
+abbrev pub text_at : Reading (List ℕ)
+text_at bytes = number_at 4 bytes >>= λ n. front_text n.0 n.1 >>= λ text. Some (text, drop n.0 n.1)
+
+-- ---- a list: how many items it has, and those
+
+abbrev pub FitList : {A : Type 0} → (A → Type 0) → List A → Type 0
+FitList fits xs = (length xs < 2 ^ 32) × AllByRecursion fits xs
+
+abbrev pub list_spelling : {A : Type 0} → Spelling A → Spelling (List A)
+list_spelling one xs = big_bytes 4 (length xs) ++ flat_map one xs
+
+-- so many items
+abbrev pub many_at : {A : Type 0} → Reading A → ℕ → Reading (List A)
+many_at one zero bytes = Some ([], bytes)
+many_at one (suc n) bytes = one bytes >>= λ a. many_at one n a.1 >>= λ more. Some (a.0 ∷ more.0, more.1)
+
+abbrev pub list_at : {A : Type 0} → Reading A → Reading (List A)
+list_at one bytes = number_at 4 bytes >>= λ n. many_at one n.0 n.1
+
+-- ---- a map by texts: the list of its entries, whose keys strictly ascend by bytes
+
+abbrev pub ByText : Type 0 → Type 0
+ByText A = map.FinMap (slice_cmp nat_cmp) A
+
+-- each key is below all that follow
+abbrev pub ascends : {A : Type 0} → List (List ℕ × A) → Bool
+ascends entries = map.is_sorted (slice_cmp nat_cmp) entries
+
+abbrev pub FitMap : {A : Type 0} → (List ℕ → Type 0) → (A → Type 0) → ByText A → Type 0
+FitMap fits_key fits m = FitList (λ e. fits_key e.0 × fits e.1) (map.entries m)
+
+abbrev pub map_spelling : {A : Type 0} → Spelling (List ℕ) → Spelling A → Spelling (ByText A)
+map_spelling key one m = list_spelling (pair_spelling key one) (map.entries m)
+
+abbrev pub map_at : {A : Type 0} → Reading (List ℕ) → Reading A → Reading (ByText A)
+map_at key one = as_at map.from_sorted (only_at ascends (list_at (pair_at key one)))
