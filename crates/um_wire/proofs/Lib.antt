@@ -1,1 +1,2 @@
-pub mod FrontTexts
+pub mod FrontText
+pub mod Items

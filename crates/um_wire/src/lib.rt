@@ -2,6 +2,7 @@
 #![tactic(auto)]
 
 mod canon;
+mod lists;
 mod made;
 mod numbers;
 mod refusal;

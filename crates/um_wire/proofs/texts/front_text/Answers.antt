@@ -1,4 +1,4 @@
-use Rattle.um_wire.proofs.FrontTexts.{is_text, no_text}
+use Rattle.um_wire.proofs.FrontText.{is_text, no_text}
 use Rattle.um_wire.proofs.texts.front_text.Goals as goal
 
 pub returns-in-Ok-clause-text : goal.returns-in-Ok-clause-text
