@@ -1,11 +1,12 @@
 -- The law of each kind of value that has bytes, and what follows from it.
-use Rattle.std.proofs.Common.{◌≡◌, ℕ, zero, suc, ◌+◌, ◌^◌, ◌<◌, ◌≤◌, Bool, true, false, cond, ltb, List, [], ◌∷◌, ◌++◌, length, get_or, take, drop, Option, Some, None, refl, sym, ap, subst, ◌∙◌, append_assoc, arith, inl, inr}
+use Rattle.std.proofs.Common.{◌≡◌, ℕ, zero, suc, ◌+◌, ◌^◌, ◌<◌, ◌≤◌, Bool, true, false, cond, ◌&&◌, ltb, Ordering, Less, Equal, Greater, List, [], ◌∷◌, ◌++◌, length, get_or, take, drop, Option, Some, None, refl, sym, ap, subst, ◌∙◌, append_assoc, arith, inl, inr}
 use Rattle.std.specs.Prelude.{IfSome, ⊤, T}
 use Rattle.std.specs.List.{flat_map, AllByRecursion}
 use Rattle.std.specs.Int.{w32, w64, from_be_bytes}
 use Rattle.std.specs.Str.{is_utf8}
-use Rattle.std.specs.Ordering.{nat_cmp}
-use Rattle.std.specs.Cmp.Lexicographic.{slice_cmp}
+use Rattle.std.specs.Ordering.{is_lt, nat_cmp}
+use Rattle.std.specs.Cmp.Lexicographic.{slice_cmp, nat_list_cmp_total}
+use Rattle.std.specs.FinMap.Entries.{below_all}
 use Rattle.std.specs.FinMap as map
 use Rattle.std.proofs.lemmas.Bool.{cases_lt, ltb-false, le-ltb}
 use Rattle.std.proofs.lemmas.List.{take_at, drop_at, take-append-drop, length-append, length-take, get_or-drop, get_or-take, get_or_past}
@@ -304,8 +305,46 @@ is_true : (b : Bool) → T b → b ≡ true
 is_true true h = refl
 is_true false h = absurd h
 
-pub sorted : {A : Type 0} (es : List (List ℕ × A)) → ascends es ≡ true → T (ascends es)
-sorted es e = subst T (sym e) tt
+pub left_holds : (a b : Bool) → T (a && b) → T a
+left_holds true b h = tt
+left_holds false b h = h
+
+pub right_holds : (a b : Bool) → T (a && b) → T b
+right_holds true b h = h
+right_holds false b h = absurd h
+
+pub both_hold : (a b : Bool) → T a → T b → T (a && b)
+both_hold true b p q = q
+both_hold false b p q = p
+
+pub lower : (r : Ordering) → T (is_lt r) → r ≡ Less
+lower Less h = refl
+lower Equal h = absurd h
+lower Greater h = absurd h
+
+-- a key below one that is below all is below all
+lower_all : {A : Type 0} (x y : List ℕ) (es : List (List ℕ × A)) → slice_cmp nat_cmp x y ≡ Less → T (below_all (slice_cmp nat_cmp) y es) → T (below_all (slice_cmp nat_cmp) x es)
+lower_all x y [] low h = tt
+lower_all x y (e ∷ es) low h =
+    let next : slice_cmp nat_cmp y e.0 ≡ Less = lower _ (left_holds _ _ h) in
+    both_hold _ _ (subst (λ r. T (is_lt r)) (sym (nat_list_cmp_total.trans x y e.0 low next)) tt) (lower_all x y es low (right_holds _ _ h))
+
+-- keys of which each is below the next are each below all that follow
+pub sorted : {A : Type 0} (es : List (List ℕ × A)) → T (ascends es) → T (map.is_sorted (slice_cmp nat_cmp) es)
+sorted [] h = tt
+sorted (e ∷ []) h = tt
+sorted (e ∷ f ∷ es) h =
+    let rest = sorted (f ∷ es) (right_holds _ _ h) in
+    let low = left_holds _ _ h in
+    both_hold _ _ (both_hold _ _ low (lower_all e.0 f.0 es (lower _ low) (left_holds _ _ rest))) rest
+
+pub ascending : {A : Type 0} (es : List (List ℕ × A)) → T (map.is_sorted (slice_cmp nat_cmp) es) → T (ascends es)
+ascending [] h = tt
+ascending (e ∷ []) h = tt
+ascending (e ∷ f ∷ es) h = both_hold _ _ (left_holds _ _ (left_holds _ _ h)) (ascending (f ∷ es) (right_holds _ _ h))
+
+pub sorted_if : {A : Type 0} (es : List (List ℕ × A)) → ascends es ≡ true → T (map.is_sorted (slice_cmp nat_cmp) es)
+sorted_if es e = sorted es (subst T (sym e) tt)
 
 pub from_sorted-entries : {A : Type 0} (m : ByText A) → map.from_sorted (map.entries m) ≡ m
 from_sorted-entries m = map.same_entries_map _ _ (map.entries-from_sorted (slice_cmp nat_cmp) (map.entries m) (map.entries_sorted m))
@@ -315,11 +354,11 @@ module _ {A : Type 0} {fits_key : List ℕ → Type 0} {key_spelling : Spelling 
       → IsCanonical (FitMap fits_key fits) (map_spelling key_spelling spelling) (map_at key_reading reading)
   canonical_map key one = record {
     takes = λ bytes v rest h e. ((law.takes bytes v rest h e).0, (law.takes bytes v rest h e).1.0);
-    again = λ v rest h. law.again v rest (h, is_true _ (map.entries_sorted v))
+    again = λ v rest h. law.again v rest (h, is_true _ (ascending (map.entries v) (map.entries_sorted v)))
   } where
     law : IsCanonical (λ (m : ByText A). FitMap fits_key fits m × (ascends (map.entries m) ≡ true)) (map_spelling key_spelling spelling) (map_at key_reading reading)
     law =
-        canonical_where map.from_sorted map.entries (λ es h. map.entries-from_sorted (slice_cmp nat_cmp) es (sorted es h.1)) from_sorted-entries
+        canonical_where map.from_sorted map.entries (λ es h. map.entries-from_sorted (slice_cmp nat_cmp) es (sorted_if es h.1)) from_sorted-entries
         (canonical_only ascends (canonical_list (canonical_pair key one)))
 
 -- ---- what follows from the law

@@ -1,10 +1,10 @@
 -- Canonical bytes: how each kind of value is spelled, and how a value is read at the front of bytes.
 -- No manual page has this: it is the project's own format (docs/FORMATS.md, "Canonical bytes").
 -- The bytes of inputs and states, slots and the log stand on this file.
-use Rattle.std.specs.Prelude.{◌≡◌, ℕ, zero, suc, ◌<◌, ◌^◌, nat_lt, Bool, true, false, cond, List, [], ◌∷◌, ◌++◌, length, map, take, drop, slice_index, Option, Some, None, IfSome, ⊤, if◌then◌else◌}
+use Rattle.std.specs.Prelude.{◌≡◌, ℕ, zero, suc, ◌<◌, ◌^◌, nat_lt, Bool, true, false, ◌&&◌, List, [], ◌∷◌, ◌++◌, length, take, drop, slice_index, Option, Some, None, IfSome, ⊤, if◌then◌else◌}
 use Rattle.std.specs.List.{flat_map, AllByRecursion}
 use Rattle.std.specs.Str.{is_utf8}
-use Rattle.std.specs.Ordering.{nat_cmp}
+use Rattle.std.specs.Ordering.{is_lt, nat_cmp}
 use Rattle.std.specs.Cmp.Lexicographic.{slice_cmp}
 use Rattle.std.specs.FinMap as map
 use Rattle.byteorder.specs.Endian.{big_number, big_bytes}
@@ -30,6 +30,12 @@ pub record IsCanonical {V : Type 0} (fits : V → Type 0) (spelling : Spelling V
 pub record IsInFront (front bytes : List ℕ) : Type 0 where
   pub behind : List ℕ
   pub parts : bytes ≡ front ++ behind
+
+-- the value of a reading behind which nothing is left
+abbrev pub nothing_left : {V : Type 0} → Option (V × List ℕ) → Option V
+nothing_left None = None
+nothing_left (Some (v, [])) = Some v
+nothing_left (Some (v, b ∷ rest)) = None
 
 infixl 10 ◌>>=◌
 -- what the second makes of the first, where there is one
@@ -153,9 +159,15 @@ list_at one bytes = number_at 4 bytes >>= λ n. many_at one n.0 n.1
 abbrev pub ByText : Type 0 → Type 0
 ByText A = map.FinMap (slice_cmp nat_cmp) A
 
--- each key is below all that follow
+-- the key is below that of the next entry, where there is one
+abbrev pub is_below_next : {A : Type 0} → List ℕ → List (List ℕ × A) → Bool
+is_below_next key [] = true
+is_below_next key (e ∷ es) = is_lt (slice_cmp nat_cmp key e.0)
+
+-- each key is below the next
 abbrev pub ascends : {A : Type 0} → List (List ℕ × A) → Bool
-ascends entries = map.is_sorted (slice_cmp nat_cmp) entries
+ascends [] = true
+ascends (e ∷ es) = is_below_next e.0 es && ascends es
 
 abbrev pub FitMap : {A : Type 0} → (List ℕ → Type 0) → (A → Type 0) → ByText A → Type 0
 FitMap fits_key fits m = FitList (λ e. fits_key e.0 × fits e.1) (map.entries m)
