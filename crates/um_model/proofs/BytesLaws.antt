@@ -14,7 +14,7 @@ use Rattle.std.proofs.lemmas.List.Concat.{flat_map-cons}
 use Rattle.std.proofs.lemmas.Nat.{be_bytes_4, be_bytes_8}
 use Rattle.byteorder.specs.Endian.{big_number, big_bytes}
 use Rattle.byteorder.specs.Numbers.{big_number-reads_back, big_from-lt, length-bytes_high_first}
-use Rattle.um_model.specs.Bytes.{Reading, Spelling, IsBytes, IsCanonical, ◌>>=◌, byte_at, number_at, pair_spelling, pair_at, as_at, only_at, tag_at, truth_tag, truth_of, truth_spelling, truth_at, FitText, text_spelling, front_text, text_at, option_spelling, option_at, many_at, list_spelling, list_at, FitList, marked_at, choice_at, just_at, ByText, ascends, FitMap, map_spelling, map_at}
+use Rattle.um_model.specs.Bytes.{Reading, Spelling, IsBytes, IsCanonical, ◌>>=◌, byte_at, number_at, pair_spelling, pair_at, as_at, only_at, tag_at, truth_tag, truth_of, truth_spelling, truth_at, FitText, text_spelling, front_text, text_at, option_spelling, option_at, many_at, list_spelling, list_at, FitList, marked_at, choice_at, just_at, ByText, ascends, are_keys, FitMap, map_spelling, map_at}
 
 -- ---- bytes
 
@@ -55,7 +55,7 @@ guard_none : {A : Type 0} (b : Bool) (x : Option A) (y : A) → cond b None x �
 guard_none true x y e = absurd cc
 guard_none false x y e = (refl, e)
 
-guard_some : {A : Type 0} (b : Bool) (x : Option A) (y : A) → cond b x None ≡ Some y → (b ≡ true) × (x ≡ Some y)
+pub guard_some : {A : Type 0} (b : Bool) (x : Option A) (y : A) → cond b x None ≡ Some y → (b ≡ true) × (x ≡ Some y)
 guard_some true x y e = (refl, e)
 guard_some false x y e = absurd cc
 
@@ -277,6 +277,9 @@ canonical_truth = canonical_tag truth_tag truth_of again back where
 
 -- ---- texts
 
+in_place : {A : Type 0} (x y : A) (rest : List ℕ) (both : A × List ℕ) → x ≡ y → some (y, rest) ≡ some both → (x, rest) ≡ both
+in_place {A} x y rest both e is = ap (λ (t : A). (t, rest)) e ∙ some_is (y, rest) both is
+
 pub canonical_text : IsCanonical FitText text_spelling text_at
 canonical_text = record { takes = text_takes; again = text_again } where
   text_takes : (bytes : List ℕ) (v : List ℕ) (rest : List ℕ) → IsBytes bytes → text_at bytes ≡ Some (v, rest) → (bytes ≡ text_spelling v ++ rest) × FitText v
@@ -292,7 +295,7 @@ canonical_text = record { takes = text_takes; again = text_again } where
       let made : List ℕ × List ℕ = (take n.0.0 n.0.1, drop n.0.0 n.0.1) in
       let parts : bytes ≡ text_spelling made.0 ++ made.1 =
       tn.0 ∙ ap (λ (w : List ℕ). big_bytes 4 n.0.0 ++ w) (sym (take-append-drop n.0.0 n.0.1)) ∙ sym (append_assoc (big_bytes 4 n.0.0) made.0 made.1) ∙ ap (λ (k : ℕ). (big_bytes 4 k ++ made.0) ++ made.1) (sym len) in
-      subst (λ (x : List ℕ × List ℕ). (bytes ≡ text_spelling x.0 ++ x.1) × FitText x.0) {x = made} (ap (λ (t : List ℕ). (t, drop n.0.0 n.0.1)) t_is ∙ some_is (f.0, drop n.0.0 n.0.1) (v, rest) f.2)
+      subst (λ (x : List ℕ × List ℕ). (bytes ≡ text_spelling x.0 ++ x.1) × FitText x.0) {x = made} (in_place made.0 f.0 made.1 (v, rest) t_is f.2)
       (parts, (omega (arith, len, tn.1), valid.0))
   text_again : (v : List ℕ) (rest : List ℕ) → FitText v → text_at (text_spelling v ++ rest) ≡ Some (v, rest)
   text_again v rest h =
@@ -301,7 +304,7 @@ canonical_text = record { takes = text_takes; again = text_again } where
 
 -- ---- maps
 
-is_true : (b : Bool) → T b → b ≡ true
+pub is_true : (b : Bool) → T b → b ≡ true
 is_true true h = refl
 is_true false h = absurd h
 
@@ -349,17 +352,16 @@ sorted_if es e = sorted es (subst T (sym e) tt)
 pub from_sorted-entries : {A : Type 0} (m : ByText A) → map.from_sorted (map.entries m) ≡ m
 from_sorted-entries m = map.same_entries_map _ _ (map.entries-from_sorted (slice_cmp nat_cmp) (map.entries m) (map.entries_sorted m))
 
-module _ {A : Type 0} {fits_key : List ℕ → Type 0} {key_spelling : Spelling (List ℕ)} {key_reading : Reading (List ℕ)} {fits : A → Type 0} {spelling : Spelling A} {reading : Reading A} where
-  pub canonical_map : IsCanonical fits_key key_spelling key_reading → IsCanonical fits spelling reading
-      → IsCanonical (FitMap fits_key fits) (map_spelling key_spelling spelling) (map_at key_reading reading)
-  canonical_map key one = record {
-    takes = λ bytes v rest h e. ((law.takes bytes v rest h e).0, (law.takes bytes v rest h e).1.0);
-    again = λ v rest h. law.again v rest (h, is_true _ (ascending (map.entries v) (map.entries_sorted v)))
+module _ {A : Type 0} {fits : A → Type 0} {spelling : Spelling A} {reading : Reading A} where
+  pub canonical_map : (is_key : List ℕ → Bool) → IsCanonical fits spelling reading → IsCanonical (FitMap is_key fits) (map_spelling spelling) (map_at is_key reading)
+  canonical_map is_key one = record {
+    takes = λ bytes v rest h e. ((law.takes bytes v rest h e).0, ((law.takes bytes v rest h e).1.0.0, (law.takes bytes v rest h e).1.1));
+    again = λ v rest h. law.again v rest ((h.0, is_true _ (ascending (map.entries v) (map.entries_sorted v))), h.1)
   } where
-    law : IsCanonical (λ (m : ByText A). FitMap fits_key fits m × (ascends (map.entries m) ≡ true)) (map_spelling key_spelling spelling) (map_at key_reading reading)
+    law : IsCanonical (λ (m : ByText A). (FitList (λ e. FitText e.0 × fits e.1) (map.entries m) × (ascends (map.entries m) ≡ true)) × (are_keys is_key (map.entries m) ≡ true)) (map_spelling spelling) (map_at is_key reading)
     law =
-        canonical_where map.from_sorted map.entries (λ es h. map.entries-from_sorted (slice_cmp nat_cmp) es (sorted_if es h.1)) from_sorted-entries
-        (canonical_only ascends (canonical_list (canonical_pair key one)))
+        canonical_where map.from_sorted map.entries (λ es h. map.entries-from_sorted (slice_cmp nat_cmp) es (sorted_if es h.0.1)) from_sorted-entries
+        (canonical_only (are_keys is_key) (canonical_only ascends (canonical_list (canonical_pair canonical_text one))))
 
 -- ---- what follows from the law
 

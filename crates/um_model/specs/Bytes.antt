@@ -2,7 +2,7 @@
 -- No manual page has this: it is the project's own format (docs/FORMATS.md, "Canonical bytes").
 -- The bytes of inputs and states, slots and the log stand on this file.
 use Rattle.std.specs.Prelude.{◌≡◌, ℕ, zero, suc, ◌<◌, ◌^◌, nat_lt, Bool, true, false, ◌&&◌, List, [], ◌∷◌, ◌++◌, length, take, drop, slice_index, Option, Some, None, IfSome, ⊤, if◌then◌else◌}
-use Rattle.std.specs.List.{flat_map, AllByRecursion}
+use Rattle.std.specs.List.{flat_map, list_all, AllByRecursion}
 use Rattle.std.specs.Str.{is_utf8}
 use Rattle.std.specs.Ordering.{is_lt, nat_cmp}
 use Rattle.std.specs.Cmp.Lexicographic.{slice_cmp}
@@ -169,11 +169,15 @@ abbrev pub ascends : {A : Type 0} → List (List ℕ × A) → Bool
 ascends [] = true
 ascends (e ∷ es) = is_below_next e.0 es && ascends es
 
-abbrev pub FitMap : {A : Type 0} → (List ℕ → Type 0) → (A → Type 0) → ByText A → Type 0
-FitMap fits_key fits m = FitList (λ e. fits_key e.0 × fits e.1) (map.entries m)
+-- each key passes the test
+abbrev pub are_keys : {A : Type 0} → (List ℕ → Bool) → List (List ℕ × A) → Bool
+are_keys is_key entries = list_all (λ e. is_key e.0) entries
 
-abbrev pub map_spelling : {A : Type 0} → Spelling (List ℕ) → Spelling A → Spelling (ByText A)
-map_spelling key one m = list_spelling (pair_spelling key one) (map.entries m)
+abbrev pub FitMap : {A : Type 0} → (List ℕ → Bool) → (A → Type 0) → ByText A → Type 0
+FitMap is_key fits m = FitList (λ e. FitText e.0 × fits e.1) (map.entries m) × (are_keys is_key (map.entries m) ≡ true)
 
-abbrev pub map_at : {A : Type 0} → Reading (List ℕ) → Reading A → Reading (ByText A)
-map_at key one = as_at map.from_sorted (only_at ascends (list_at (pair_at key one)))
+abbrev pub map_spelling : {A : Type 0} → Spelling A → Spelling (ByText A)
+map_spelling one m = list_spelling (pair_spelling text_spelling one) (map.entries m)
+
+abbrev pub map_at : {A : Type 0} → (List ℕ → Bool) → Reading A → Reading (ByText A)
+map_at is_key one = as_at map.from_sorted (only_at (are_keys is_key) (only_at ascends (list_at (pair_at text_at one))))

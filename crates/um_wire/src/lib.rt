@@ -4,6 +4,7 @@
 mod canon;
 mod lists;
 mod made;
+mod maps;
 mod numbers;
 mod refusal;
 mod texts;

@@ -1,8 +1,8 @@
 //! Texts: how many bytes, and those, in UTF-8.
-ghost use Rattle.std.specs.Prelude.{◌≡◌, ◌≤◌, ℕ, List, length, IfSome};
+ghost use Rattle.std.specs.Prelude.{◌≡◌, ◌≤◌, ◌++◌, ℕ, List, length, IfSome, OnOk, OnErr};
 ghost use Rattle.std.specs.Option.{option_map};
 ghost use Rattle.std.specs.String.{string_bytes};
-ghost use Rattle.um_model.specs.Bytes.{FitText, front_text as front_text_of, text_spelling, text_at};
+ghost use Rattle.um_model.specs.Bytes.{FitText, IsInFront, front_text as front_text_of, text_spelling, text_at};
 ghost use Rattle.um_model.proofs.BytesLaws.{canonical_text};
 
 use crate::canon::Canon;
@@ -23,6 +23,20 @@ fn front_text(bytes: &[u8], len: usize) -> Option<&str>
     }
 }
 
+/// Puts the bytes of a text, as those of a `String`.
+pub(crate) fn put_text(text: &str, out: &mut Vec<u8>) -> Result<(), AllocError>
+    ensures put { OnOk result (out.new.items ≡ out.old.items ++ text_spelling text.now) }
+    ensures fits { OnOk result (FitText text.now) }
+    ensures front { OnErr result (IsInFront out.old.items out.new.items) }
+{
+    let Ok(len) = u32::try_from(text.len()) else {
+        return Err(AllocError);
+    };
+    len.put(out)?;
+    out.extend_from_slice(text.as_bytes())?;
+    Ok(())
+}
+
 impl Canon for String {
     ghost Value = { List ℕ };
 
@@ -35,12 +49,7 @@ impl Canon for String {
     ghost reading = { text_at };
 
     fn put(&self, out: &mut Vec<u8>) -> Result<(), AllocError> {
-        let Ok(len) = u32::try_from(self.len()) else {
-            return Err(AllocError);
-        };
-        len.put(out)?;
-        out.extend_from_slice(self.as_bytes())?;
-        Ok(())
+        put_text(self.as_str(), out)
     }
 
     fn get(alloc: Global, bytes: &[u8]) -> Result<Option<(String, usize)>, AllocError> {
