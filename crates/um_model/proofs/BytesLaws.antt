@@ -1,6 +1,6 @@
 -- The law of each kind of value that has bytes, and what follows from it.
-use Rattle.std.proofs.Common.{◌≡◌, ℕ, zero, suc, ◌+◌, ◌^◌, ◌<◌, ◌≤◌, Bool, true, false, cond, ◌&&◌, ltb, Ordering, Less, Equal, Greater, List, [], ◌∷◌, ◌++◌, length, get_or, take, drop, Option, Some, None, refl, sym, ap, subst, ◌∙◌, append_assoc, arith, inl, inr}
-use Rattle.std.specs.Prelude.{IfSome, ⊤, T}
+use Rattle.std.proofs.Common.{◌≡◌, ℕ, zero, suc, ◌^◌, ◌<◌, ◌≤◌, Bool, true, false, cond, ◌&&◌, ltb, Ordering, Less, Equal, Greater, List, [], ◌∷◌, ◌++◌, length, take, drop, Option, Some, None, refl, sym, ap, subst, ◌∙◌, append_assoc, arith, inl, inr}
+use Rattle.std.specs.Prelude.{IfSome, ⊤, T, ◌↔◌}
 use Rattle.std.specs.List.{flat_map, AllByRecursion}
 use Rattle.std.specs.Int.{w32, w64, from_be_bytes}
 use Rattle.std.specs.Str.{is_utf8}
@@ -9,12 +9,12 @@ use Rattle.std.specs.Cmp.Lexicographic.{slice_cmp, nat_list_cmp_total}
 use Rattle.std.specs.FinMap.Entries.{below_all}
 use Rattle.std.specs.FinMap as map
 use Rattle.std.proofs.lemmas.Bool.{cases_lt, ltb-false, le-ltb}
-use Rattle.std.proofs.lemmas.List.{take_at, drop_at, take-append-drop, length-append, length-take, get_or-drop, get_or-take, get_or_past}
+use Rattle.std.proofs.lemmas.List.{append-nil, take_at, drop_at, take-append-drop, length-append, length-take, get_or-take, get_or_past}
 use Rattle.std.proofs.lemmas.List.Concat.{flat_map-cons}
 use Rattle.std.proofs.lemmas.Nat.{be_bytes_4, be_bytes_8}
 use Rattle.byteorder.specs.Endian.{big_number, big_bytes}
 use Rattle.byteorder.specs.Numbers.{big_number-reads_back, big_from-lt, length-bytes_high_first}
-use Rattle.um_model.specs.Bytes.{Reading, Spelling, IsBytes, IsCanonical, ◌>>=◌, byte_at, number_at, pair_spelling, pair_at, as_at, only_at, tag_at, truth_tag, truth_of, truth_spelling, truth_at, FitText, text_spelling, front_text, text_at, option_spelling, option_at, many_at, list_spelling, list_at, FitList, marked_at, choice_at, just_at, ByText, ascends, are_keys, FitMap, map_spelling, map_at}
+use Rattle.um_model.specs.Bytes.{Reading, Spelling, IsBytes, IsCanonical, nothing_left, ◌>>=◌, byte_at, number_at, pair_spelling, pair_at, as_at, only_at, tag_at, truth_tag, truth_of, truth_spelling, truth_at, FitText, text_spelling, front_text, text_at, option_spelling, option_at, many_at, list_spelling, list_at, FitList, marked_at, choice_at, just_at, ByText, ascends, are_keys, FitMap, map_spelling, map_at}
 
 -- ---- bytes
 
@@ -80,8 +80,17 @@ read_back4 bytes long h =
 read_back8 : IsReadBack 8
 read_back8 bytes long h =
     let same : big_number 8 bytes ≡ from_be_bytes w64 (take 8 bytes) =
-    omega (arith, get_or-take 8 bytes 0 0 (omega arith), get_or-take 8 bytes 1 0 (omega arith), get_or-take 8 bytes 2 0 (omega arith), get_or-take 8 bytes 3 0 (omega arith),
-    get_or-take 8 bytes 4 0 (omega arith), get_or-take 8 bytes 5 0 (omega arith), get_or-take 8 bytes 6 0 (omega arith), get_or-take 8 bytes 7 0 (omega arith)) in
+    omega (
+      arith,
+      get_or-take 8 bytes 0 0 (omega arith),
+      get_or-take 8 bytes 1 0 (omega arith),
+      get_or-take 8 bytes 2 0 (omega arith),
+      get_or-take 8 bytes 3 0 (omega arith),
+      get_or-take 8 bytes 4 0 (omega arith),
+      get_or-take 8 bytes 5 0 (omega arith),
+      get_or-take 8 bytes 6 0 (omega arith),
+      get_or-take 8 bytes 7 0 (omega arith),
+    ) in
     be_bytes_8 (take 8 bytes) (big_number 8 bytes) (omega (arith, length-take 8 bytes)) (IsBytes-take 8 bytes h) same
 
 canonical_number : (width : ℕ) → IsReadBack width → IsCanonical (λ n. n < 256 ^ width) (big_bytes width) (number_at width)
@@ -93,6 +102,7 @@ canonical_number width read_back = record { takes = number_takes; again = number
       let front : big_bytes width (big_number width bytes) ≡ take width bytes = read_back bytes long h in
       let parts : bytes ≡ big_bytes width (big_number width bytes) ++ drop width bytes = rw front (sym (take-append-drop width bytes)) in
       subst (λ (x : ℕ × List ℕ). (bytes ≡ big_bytes width x.0 ++ x.1) × (x.0 < 256 ^ width)) (some_is (big_number width bytes, drop width bytes) (n, rest) g.1) (parts, big_from-lt 0 width bytes h)
+
   number_again : (n : ℕ) (rest : List ℕ) → n < 256 ^ width → number_at width (big_bytes width n ++ rest) ≡ Some (n, rest)
   number_again n rest low =
       let len : length (big_bytes width n) ≡ width = length-bytes_high_first width n in
@@ -126,6 +136,7 @@ module _ {A B : Type 0} {fits_a : A → Type 0} {spelling_a : Spelling A} {readi
         let made : (A × B) × List ℕ = ((a.0.0, b.0.0), b.0.1) in
         subst (λ (x : (A × B) × List ℕ). (bytes ≡ pair_spelling spelling_a spelling_b x.0 ++ x.1) × (fits_a x.0.0 × fits_b x.0.1)) (some_is made (v, rest) b.2)
         (ta.0 ∙ ap (λ (t : List ℕ). spelling_a a.0.0 ++ t) tb.0 ∙ sym (append_assoc (spelling_a a.0.0) (spelling_b b.0.0) b.0.1), (ta.1, tb.1))
+
     pair_again : (v : A × B) (rest : List ℕ) → fits_a v.0 × fits_b v.1 → pair_at reading_a reading_b (pair_spelling spelling_a spelling_b v ++ rest) ≡ Some (v, rest)
     pair_again v rest h =
         ap (pair_at reading_a reading_b) (append_assoc (spelling_a v.0) (spelling_b v.1) rest) ∙ rw (first.again v.0 (spelling_b v.1 ++ rest) h.0, second.again v.1 rest h.1) refl
@@ -144,6 +155,7 @@ module _ {A B : Type 0} {fits : A → Type 0} {spelling : Spelling A} {reading :
         let made : B × List ℕ = (to a.0.0, a.0.1) in
         subst (λ (x : B × List ℕ). (bytes ≡ spelling (from x.0) ++ x.1) × fits (from x.0)) (some_is made (v, rest) a.2)
         (subst (λ (y : A). (bytes ≡ spelling y ++ a.0.1) × fits y) (sym (back a.0.0 t.1)) t)
+
     as_again : (v : B) (rest : List ℕ) → fits (from v) → as_at to reading (spelling (from v) ++ rest) ≡ Some (v, rest)
     as_again v rest h = rw (law.again (from v) rest h) (ap (λ (b : B). some (b, rest)) (forth v))
 
@@ -162,6 +174,7 @@ module _ {A : Type 0} {fits : A → Type 0} {spelling : Spelling A} {reading : R
         let g = guard_some (test a.0.0) (some a.0) (v, rest) a.2 in
         let t = law.takes bytes a.0.0 a.0.1 h a.1 in
         subst (λ (x : A × List ℕ). (bytes ≡ spelling x.0 ++ x.1) × (fits x.0 × (test x.0 ≡ true))) (some_is a.0 (v, rest) g.1) (t.0, (t.1, g.0))
+
     only_again : (v : A) (rest : List ℕ) → fits v × (test v ≡ true) → only_at test reading (spelling v ++ rest) ≡ Some (v, rest)
     only_again v rest h = rw (law.again v rest h.0, h.1) refl
 
@@ -176,6 +189,7 @@ module _ {A : Type 0} {fits : A → Type 0} {spelling : Spelling A} {reading : R
         let is : b ≡ mark = omega (arith, ltb-false b mark low.0, ltb-false mark b high.0) in
         let t = law.takes bytes v rest (IsBytes-rest b bytes h) high.1 in
         (ap (λ (x : ℕ). x ∷ bytes) is ∙ ap (λ (w : List ℕ). mark ∷ w) t.0, t.1)
+
     marked_again : (v : A) (rest : List ℕ) → fits v → marked_at mark reading ((mark ∷ spelling v) ++ rest) ≡ Some (v, rest)
     marked_again v rest h = rw (le-ltb mark mark (omega arith)) (law.again v rest h)
 
@@ -192,6 +206,7 @@ module _ {A : Type 0} {fits : A → Type 0} {spelling : Spelling A} {reading : R
         let made : Option A × List ℕ = (Some a.0.0, a.0.1) in
         subst (λ (x : Option A × List ℕ). ((1 ∷ bytes) ≡ option_spelling spelling x.0 ++ x.1) × IfSome x.0 fits) (some_is made (v, rest) a.2) (ap (λ (w : List ℕ). 1 ∷ w) t.0, t.1)
     option_takes (suc (suc b) ∷ bytes) v rest h e = absurd cc
+
     option_again : (v : Option A) (rest : List ℕ) → IfSome v fits → option_at reading (option_spelling spelling v ++ rest) ≡ Some (v, rest)
     option_again None rest h = refl
     option_again (Some x) rest h = rw (law.again x rest h) refl
@@ -207,9 +222,12 @@ module _ {A : Type 0} {fits : A → Type 0} {spelling : Spelling A} {reading : R
       let t = law.takes bytes a.0.0 a.0.1 h a.1 in
       let s = many_takes law n a.0.1 b.0 (behind law bytes a.0.0 a.0.1 h a.1) b.1 in
       let made : List A × List ℕ = (a.0.0 ∷ b.0.0, b.0.1) in
-      subst (λ (y : List A × List ℕ). (bytes ≡ flat_map spelling y.0 ++ y.1) × (length y.0 ≡ suc n) × AllByRecursion fits y.0) (some_is made x b.2)
-      (t.0 ∙ ap (λ (w : List ℕ). spelling a.0.0 ++ w) s.0 ∙ sym (append_assoc (spelling a.0.0) (flat_map spelling b.0.0) b.0.1)
-      ∙ ap (λ (w : List ℕ). w ++ b.0.1) (sym (flat_map-cons spelling a.0.0 b.0.0)), ap suc s.1, (t.1, s.2))
+      subst (λ (y : List A × List ℕ). (bytes ≡ flat_map spelling y.0 ++ y.1) × (length y.0 ≡ suc n) × AllByRecursion fits y.0) (some_is made x b.2) (
+        t.0 ∙ ap (λ (w : List ℕ). spelling a.0.0 ++ w) s.0 ∙ sym (append_assoc (spelling a.0.0) (flat_map spelling b.0.0) b.0.1)
+            ∙ ap (λ (w : List ℕ). w ++ b.0.1) (sym (flat_map-cons spelling a.0.0 b.0.0)),
+        ap suc s.1,
+        (t.1, s.2),
+      )
 
   many_again : IsCanonical fits spelling reading → (xs : List A) (rest : List ℕ) → AllByRecursion fits xs → many_at reading (length xs) (flat_map spelling xs ++ rest) ≡ Some (xs, rest)
   many_again law [] rest h = refl
@@ -224,9 +242,12 @@ module _ {A : Type 0} {fits : A → Type 0} {spelling : Spelling A} {reading : R
     list_takes bytes v rest h e =
         let n = bind_some (number_at 4 bytes) (λ n. many_at reading n.0 n.1) (v, rest) e in
         let tn = canonical32.takes bytes n.0.0 n.0.1 h n.1 in
-        let t = many_takes law n.0.0 n.0.1 (v, rest) (behind canonical32 bytes n.0.0 n.0.1 h n.1) n.2 in
-        (tn.0 ∙ ap (λ (w : List ℕ). big_bytes 4 n.0.0 ++ w) t.0 ∙ sym (append_assoc (big_bytes 4 n.0.0) (flat_map spelling v) rest)
-        ∙ ap (λ (k : ℕ). (big_bytes 4 k ++ flat_map spelling v) ++ rest) (sym t.1), (omega (arith, t.1, tn.1), t.2))
+        let t = many_takes law n.0.0 n.0.1 (v, rest) (behind canonical32 bytes n.0.0 n.0.1 h n.1) n.2 in (
+          tn.0 ∙ ap (λ (w : List ℕ). big_bytes 4 n.0.0 ++ w) t.0 ∙ sym (append_assoc (big_bytes 4 n.0.0) (flat_map spelling v) rest)
+              ∙ ap (λ (k : ℕ). (big_bytes 4 k ++ flat_map spelling v) ++ rest) (sym t.1),
+          (omega (arith, t.1, tn.1), t.2),
+        )
+
     list_again : (v : List A) (rest : List ℕ) → FitList fits v → list_at reading (list_spelling spelling v ++ rest) ≡ Some (v, rest)
     list_again v rest h =
         ap (list_at reading) (append_assoc (big_bytes 4 (length v)) (flat_map spelling v) rest) ∙ rw (canonical32.again (length v) (flat_map spelling v ++ rest) h.0) (many_again law v rest h.1)
@@ -265,15 +286,17 @@ arm_is {A} {B} {reading = reading} law to P bytes v rest h e holds =
 pub just_is : {B : Type 0} (b : B) (P : B → List ℕ → Type 0) (bytes : List ℕ) (v : B) (rest : List ℕ) → just_at b bytes ≡ Some (v, rest) → P b bytes → P v rest
 just_is {B} b P bytes v rest e holds = subst (λ (x : B × List ℕ). P x.0 x.1) (some_is (b, bytes) (v, rest) e) holds
 
+pub truth_again : (b : Bool) → truth_of (truth_tag b) ≡ Some b
+truth_again true = refl
+truth_again false = refl
+
+pub truth_back : (n : ℕ) (b : Bool) → truth_of n ≡ Some b → truth_tag b ≡ n
+truth_back zero b e = ap truth_tag (sym (some_is false b e))
+truth_back (suc zero) b e = ap truth_tag (sym (some_is true b e))
+truth_back (suc (suc n)) b e = absurd cc
+
 pub canonical_truth : IsCanonical (λ (b : Bool). ⊤) truth_spelling truth_at
-canonical_truth = canonical_tag truth_tag truth_of again back where
-  again : (b : Bool) → truth_of (truth_tag b) ≡ Some b
-  again true = refl
-  again false = refl
-  back : (n : ℕ) (b : Bool) → truth_of n ≡ Some b → truth_tag b ≡ n
-  back zero b e = ap truth_tag (sym (some_is false b e))
-  back (suc zero) b e = ap truth_tag (sym (some_is true b e))
-  back (suc (suc n)) b e = absurd cc
+canonical_truth = canonical_tag truth_tag truth_of truth_again truth_back
 
 -- ---- texts
 
@@ -297,6 +320,7 @@ canonical_text = record { takes = text_takes; again = text_again } where
       tn.0 ∙ ap (λ (w : List ℕ). big_bytes 4 n.0.0 ++ w) (sym (take-append-drop n.0.0 n.0.1)) ∙ sym (append_assoc (big_bytes 4 n.0.0) made.0 made.1) ∙ ap (λ (k : ℕ). (big_bytes 4 k ++ made.0) ++ made.1) (sym len) in
       subst (λ (x : List ℕ × List ℕ). (bytes ≡ text_spelling x.0 ++ x.1) × FitText x.0) {x = made} (in_place made.0 f.0 made.1 (v, rest) t_is f.2)
       (parts, (omega (arith, len, tn.1), valid.0))
+
   text_again : (v : List ℕ) (rest : List ℕ) → FitText v → text_at (text_spelling v ++ rest) ≡ Some (v, rest)
   text_again v rest h =
       let long : ltb (length (v ++ rest)) (length v) ≡ false = le-ltb _ _ (omega (arith, length-append v rest)) in
@@ -356,7 +380,7 @@ module _ {A : Type 0} {fits : A → Type 0} {spelling : Spelling A} {reading : R
   pub canonical_map : (is_key : List ℕ → Bool) → IsCanonical fits spelling reading → IsCanonical (FitMap is_key fits) (map_spelling spelling) (map_at is_key reading)
   canonical_map is_key one = record {
     takes = λ bytes v rest h e. ((law.takes bytes v rest h e).0, ((law.takes bytes v rest h e).1.0.0, (law.takes bytes v rest h e).1.1));
-    again = λ v rest h. law.again v rest ((h.0, is_true _ (ascending (map.entries v) (map.entries_sorted v))), h.1)
+    again = λ v rest h. law.again v rest ((h.0, is_true _ (ascending (map.entries v) (map.entries_sorted v))), h.1);
   } where
     law : IsCanonical (λ (m : ByText A). (FitList (λ e. FitText e.0 × fits e.1) (map.entries m) × (ascends (map.entries m) ≡ true)) × (are_keys is_key (map.entries m) ≡ true)) (map_spelling spelling) (map_at is_key reading)
     law =
@@ -364,6 +388,11 @@ module _ {A : Type 0} {fits : A → Type 0} {spelling : Spelling A} {reading : R
         (canonical_only (are_keys is_key) (canonical_only ascends (canonical_list (canonical_pair canonical_text one))))
 
 -- ---- what follows from the law
+
+nothing_behind : {V : Type 0} (r : Option (V × List ℕ)) (v : V) → nothing_left r ≡ Some v → r ≡ Some (v, [])
+nothing_behind None v e = absurd (none_some v e)
+nothing_behind {V} (Some (w, [])) v e = ap (λ (x : V). some (x, [])) (some_is w v e)
+nothing_behind (Some (w, b ∷ rest)) v e = absurd (none_some v e)
 
 module _ {V : Type 0} {fits : V → Type 0} {spelling : Spelling V} {reading : Reading V} where
   -- no spelling begins another, and a value has one
@@ -375,3 +404,14 @@ module _ {V : Type 0} {fits : V → Type 0} {spelling : Spelling V} {reading : R
   -- there is no reading only where no front of the bytes spells a value
   pub none_spelled : IsCanonical fits spelling reading → (bytes : List ℕ) → reading bytes ≡ None → (v : V) (rest : List ℕ) → fits v → bytes ≡ spelling v ++ rest → ⊥
   none_spelled law bytes absent v rest fv e = none_some (v, rest) (sym absent ∙ ap reading e ∙ law.again v rest fv)
+
+  -- the whole of the bytes is read exactly where they are a spelling
+  pub whole_spelled : IsCanonical fits spelling reading → (bytes : List ℕ) (v : V) → IsBytes bytes → (nothing_left (reading bytes) ≡ Some v) ↔ ((bytes ≡ spelling v) × fits v)
+  whole_spelled law bytes v h = (to, from) where
+    to : nothing_left (reading bytes) ≡ Some v → (bytes ≡ spelling v) × fits v
+    to e =
+        let t = law.takes bytes v [] h (nothing_behind (reading bytes) v e) in
+        (t.0 ∙ append-nil (spelling v), t.1)
+
+    from : (bytes ≡ spelling v) × fits v → nothing_left (reading bytes) ≡ Some v
+    from t = ap (λ l. nothing_left (reading l)) (t.0 ∙ sym (append-nil (spelling v))) ∙ ap nothing_left (law.again v [] t.1)

@@ -21,6 +21,6 @@ pub no_text : (bytes : List ℕ) (len : ℕ) (front : List ℕ) → len ≤ leng
 no_text bytes len front room e wrong =
     let long : ltb (length bytes) len ≡ false = le-ltb _ _ room in
     rw long (pick (is_utf8 (take len bytes)) refl) where
-  pick : (valid : Bool) → is_utf8 (take len bytes) ≡ valid → none ≡ cond valid (some (take len bytes)) none
-  pick true is = absurd (wrong (subst IsUtf8 (sym e) (IsUtf8-from_is_utf8 (take len bytes) is)))
-  pick false is = refl
+      pick : (valid : Bool) → is_utf8 (take len bytes) ≡ valid → none ≡ cond valid (some (take len bytes)) none
+      pick true is = absurd (wrong (subst IsUtf8 (sym e) (IsUtf8-from_is_utf8 (take len bytes) is)))
+      pick false is = refl

@@ -1,11 +1,14 @@
 -- Items read and put one behind the other, as loops do it.
-use Rattle.std.proofs.Common.{◌≡◌, ℕ, suc, ◌-◌, ◌+◌, ◌≤◌, ◌<◌, List, [], ◌∷◌, ◌++◌, length, take, drop, map, Option, Some, None, refl, sym, ap, ◌∙◌, append_assoc, arith}
+use Rattle.std.proofs.Common.{◌≡◌, ℕ, suc, ◌-◌, ◌+◌, ◌≤◌, ◌<◌, List, [], ◌∷◌, ◌++◌, length, drop, Option, Some, None, refl, sym, ap, ◌∙◌, append_assoc, arith}
 use Rattle.std.specs.Option.{option_map}
-use Rattle.std.proofs.lemmas.List.{append-nil}
-use Rattle.um_model.specs.Bytes.{Reading, ◌>>=◌, many_at, list_at, number_at}
+use Rattle.std.proofs.lemmas.List.{append-nil, length-drop}
+use Rattle.um_model.specs.Bytes.{Reading, nothing_left, ◌>>=◌, many_at, list_at, number_at}
 
 abbrev some : {A : Type 0} → A → Option A
 some x = Some x
+
+abbrev none : {A : Type 0} → Option A
+none = None
 
 -- what was read before, and what is still read
 abbrev pub with_front : {A : Type 0} → List A → Option (List A × List ℕ) → Option (List A × List ℕ)
@@ -46,3 +49,11 @@ at_some value bytes r found x n e is = e ∙ ap (option_map (λ y. (value y.0, d
 
 pub at_none : {X V : Type 0} (value : X → V) (bytes : List ℕ) (r : Option (V × List ℕ)) (found : Option (X × ℕ)) → r ≡ option_map (λ y. (value y.0, drop y.1 bytes)) found → found ≡ None → r ≡ None
 at_none value bytes r found e is = e ∙ ap (option_map (λ y. (value y.0, drop y.1 bytes))) is
+
+some_left : {V : Type 0} (v : V) (rest : List ℕ) → 0 < length rest → none ≡ nothing_left (some (v, rest))
+some_left v [] h = absurd (omega (arith, h))
+some_left v (b ∷ rest) h = refl
+
+-- bytes are left behind what was read
+pub left_over : {V : Type 0} (r : Option (V × List ℕ)) (v : V) (bytes : List ℕ) (n : ℕ) → r ≡ Some (v, drop n bytes) → n < length bytes → none ≡ nothing_left r
+left_over r v bytes n e h = some_left v (drop n bytes) (omega (arith, length-drop n bytes, h)) ∙ ap nothing_left (sym e)

@@ -1,8 +1,8 @@
-//! Whole numbers, the highest byte first, and truth.
-ghost use Rattle.std.specs.Prelude.{ℕ, Bool, ⊤, ◌<◌, ◌^◌, ◌∷◌, []};
+//! Whole numbers, the highest byte first.
+ghost use Rattle.std.specs.Prelude.{ℕ, ◌<◌, ◌^◌, ◌∷◌, []};
 ghost use Rattle.byteorder.specs.Endian.{big_bytes};
-ghost use Rattle.um_model.specs.Bytes.{byte_at, number_at, truth_at, truth_spelling};
-ghost use Rattle.um_model.proofs.BytesLaws.{canonical8, canonical32, canonical64, canonical_truth};
+ghost use Rattle.um_model.specs.Bytes.{byte_at, number_at};
+ghost use Rattle.um_model.proofs.BytesLaws.{canonical8, canonical32, canonical64};
 
 use crate::canon::Canon;
 use byteorder::{BigEndian, ByteOrder};
@@ -86,31 +86,4 @@ impl Canon for u64 {
     }
 
     ghost canonical = { canonical64 };
-}
-
-impl Canon for bool {
-    ghost Value = { Bool };
-
-    ghost value = { λ b. b };
-
-    ghost fits = { λ _. ⊤ };
-
-    ghost spelling = { truth_spelling };
-
-    ghost reading = { truth_at };
-
-    fn put(&self, out: &mut Vec<u8>) -> Result<(), AllocError> {
-        out.push(u8::from(*self))?;
-        Ok(())
-    }
-
-    fn get(_alloc: Global, bytes: &[u8]) -> Result<Option<(bool, usize)>, AllocError> {
-        Ok(match bytes {
-            [0, ..] => Some((false, 1)),
-            [1, ..] => Some((true, 1)),
-            _ => None,
-        })
-    }
-
-    ghost canonical = { canonical_truth };
 }

@@ -1,7 +1,5 @@
-use Rattle.std.proofs.Common.{◌≡◌, ◌++◌, ℕ, List, Bool}
 use Rattle.std.specs.String.{string_bytes}
 use Rattle.std.specs.Vec.Iter.{into_iter_items}
-use Rattle.um_model.specs.Bytes.{are_keys}
 use Rattle.um_wire.specs.Entries.{seen}
 use Rattle.um_wire.proofs.MapEntries.{IsMade}
 use Rattle.um_wire.proofs.maps.map_of.Given as goal

@@ -1,6 +1,6 @@
-use Rattle.std.proofs.Common.{rules, ◌≡◌, ◌≤◌, ◌+◌, ◌∷◌, [], ◌++◌, ℕ, Some, None, drop, map, length, arith, sym, ap, ◌∙◌, subst}
+use Rattle.std.proofs.Common.{rules, ◌≡◌, ◌∷◌, [], ◌++◌, Some, None, drop, map, arith, ◌∙◌}
 use Rattle.std.proofs.lemmas.List.{map_push, drop-drop}
-use Rattle.um_model.specs.Bytes.{number_at, list_at, many_at}
+use Rattle.um_model.specs.Bytes.{number_at}
 use Rattle.um_wire.proofs.Items.{goes_on, ends, is_done, at_some, at_none, list_here}
 use Rattle.um_wire.proofs.lists.VecCanon.get.Goals as goal
 
@@ -25,7 +25,7 @@ loop-preserved g c =
     record {
       within = search (rules, arith);
       so_far = rw (e, ← drop-drop c.in-Some-2.n c.loop.at bytes)
-      (goes_on one (map value c.loop.items.items) c.in-Some.count c.loop.counter (drop c.loop.at bytes) (value c.in-Some-2.item) _ _ c.loop-test.true read c.loop.invariant.so_far);
+          (goes_on one (map value c.loop.items.items) c.in-Some.count c.loop.counter (drop c.loop.at bytes) (value c.in-Some-2.item) _ _ c.loop-test.true read c.loop.invariant.so_far);
     }
 
 pub returns-clause-read : goal.returns-clause-read

@@ -1,6 +1,6 @@
-use Rattle.std.proofs.Common.{rules, ◌≡◌, ℕ, List, Bool, true, false, cond, Some, None, option_map, string_bytes, drop, sym, ap, subst, ◌∙◌}
+use Rattle.std.proofs.Common.{rules, ◌≡◌, ℕ, List, true, false, cond, Some, None, string_bytes, drop, sym, ap, ◌∙◌}
 use Rattle.std.specs.FinMap as map
-use Rattle.um_model.specs.Bytes.{ByText, are_keys, ascends, list_at, pair_at, text_at}
+use Rattle.um_model.specs.Bytes.{are_keys, ascends, list_at, pair_at, text_at}
 use Rattle.um_wire.specs.Entries.{seen}
 use Rattle.um_wire.proofs.Items.{at_some}
 use Rattle.um_wire.proofs.MapEntries.{no_map, map_here}

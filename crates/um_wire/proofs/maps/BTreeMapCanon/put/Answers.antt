@@ -1,4 +1,4 @@
-use Rattle.std.proofs.Common.{rules, arith, ◌≡◌, ◌<◌, ◌^◌, ◌++◌, [], length, ◌∙◌}
+use Rattle.std.proofs.Common.{rules, arith, ◌<◌, ◌^◌, ◌++◌, length, ◌∙◌}
 use Rattle.byteorder.specs.Endian.{big_bytes}
 use Rattle.um_wire.proofs.MapEntries.{all_put, all_fits}
 use Rattle.um_wire.proofs.maps.BTreeMapCanon.put.Goals as goal

@@ -1,7 +1,5 @@
-use Rattle.std.proofs.Common.{◌≡◌, ◌++◌, ℕ, List, length}
-use Rattle.std.specs.List.{flat_map, AllByRecursion}
+use Rattle.std.proofs.Common.{◌++◌, length}
 use Rattle.byteorder.specs.Endian.{big_bytes}
-use Rattle.um_model.specs.Bytes.{Spelling, FitText, IsInFront, pair_spelling, text_spelling}
 use Rattle.um_wire.specs.Entries.{seen}
 use Rattle.um_wire.proofs.MapEntries.{IsPut}
 use Rattle.um_wire.proofs.maps.BTreeMapCanon.put.Given as goal
