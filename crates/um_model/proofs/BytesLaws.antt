@@ -1,5 +1,5 @@
 -- The law of each kind of value that has bytes, and what follows from it.
-use Rattle.std.proofs.Common.{◌≡◌, ℕ, zero, suc, ◌^◌, ◌<◌, ◌≤◌, Bool, true, false, cond, ◌&&◌, ltb, Ordering, Less, Equal, Greater, List, [], ◌∷◌, ◌++◌, length, take, drop, Option, Some, None, refl, sym, ap, subst, ◌∙◌, append_assoc, arith, inl, inr}
+use Rattle.std.proofs.Common.{◌≡◌, ℕ, zero, suc, ◌^◌, ◌<◌, ◌≤◌, Bool, true, false, cond, ◌&&◌, ltb, Ordering, Less, Equal, Greater, List, [], ◌∷◌, ◌++◌, length, take, drop, Option, Some, None, option_map, refl, sym, ap, subst, ◌∙◌, append_assoc, arith, inl, inr}
 use Rattle.std.specs.Prelude.{IfSome, ⊤, T, ◌↔◌}
 use Rattle.std.specs.List.{flat_map, AllByRecursion}
 use Rattle.std.specs.Int.{w32, w64, from_be_bytes}
@@ -415,3 +415,18 @@ module _ {V : Type 0} {fits : V → Type 0} {spelling : Spelling V} {reading : R
 
     from : (bytes ≡ spelling v) × fits v → nothing_left (reading bytes) ≡ Some v
     from t = ap (λ l. nothing_left (reading l)) (t.0 ∙ sym (append-nil (spelling v))) ∙ ap nothing_left (law.again v [] t.1)
+
+-- ---- what a call tells, as a reading
+
+-- what a call found, as its reading says it
+pub at_some : {X V : Type 0} (value : X → V) (bytes : List ℕ) (r : Option (V × List ℕ)) (found : Option (X × ℕ)) (x : X) (n : ℕ) → r ≡ option_map (λ y. (value y.0, drop y.1 bytes)) found
+    → found ≡ Some (x, n) → r ≡ Some (value x, drop n bytes)
+at_some value bytes r found x n e is = e ∙ ap (option_map (λ y. (value y.0, drop y.1 bytes))) is
+
+pub at_none : {X V : Type 0} (value : X → V) (bytes : List ℕ) (r : Option (V × List ℕ)) (found : Option (X × ℕ)) → r ≡ option_map (λ y. (value y.0, drop y.1 bytes)) found → found ≡ None → r ≡ None
+at_none value bytes r found e is = e ∙ ap (option_map (λ y. (value y.0, drop y.1 bytes))) is
+
+-- an option of values that are seen as they are
+pub option_same : {A : Type 0} (o : Option A) → option_map (λ x. x) o ≡ o
+option_same (Some x) = refl
+option_same None = refl

@@ -1,6 +1,5 @@
 -- Items read and put one behind the other, as loops do it.
 use Rattle.std.proofs.Common.{◌≡◌, ℕ, suc, ◌-◌, ◌+◌, ◌≤◌, ◌<◌, List, [], ◌∷◌, ◌++◌, length, drop, Option, Some, None, refl, sym, ap, ◌∙◌, append_assoc, arith}
-use Rattle.std.specs.Option.{option_map}
 use Rattle.std.proofs.lemmas.List.{append-nil, length-drop}
 use Rattle.um_model.specs.Bytes.{Reading, nothing_left, ◌>>=◌, many_at, list_at, number_at}
 
@@ -41,14 +40,6 @@ module _ {A : Type 0} (one : Reading A) where
 
   pub list_here : (bytes : List ℕ) (count n : ℕ) → number_at 4 bytes ≡ Some (count, drop n bytes) → list_at one bytes ≡ many_at one count (drop n bytes)
   list_here bytes count n e = rw e refl
-
--- what a call found, as its reading says it
-pub at_some : {X V : Type 0} (value : X → V) (bytes : List ℕ) (r : Option (V × List ℕ)) (found : Option (X × ℕ)) (x : X) (n : ℕ) → r ≡ option_map (λ y. (value y.0, drop y.1 bytes)) found
-    → found ≡ Some (x, n) → r ≡ Some (value x, drop n bytes)
-at_some value bytes r found x n e is = e ∙ ap (option_map (λ y. (value y.0, drop y.1 bytes))) is
-
-pub at_none : {X V : Type 0} (value : X → V) (bytes : List ℕ) (r : Option (V × List ℕ)) (found : Option (X × ℕ)) → r ≡ option_map (λ y. (value y.0, drop y.1 bytes)) found → found ≡ None → r ≡ None
-at_none value bytes r found e is = e ∙ ap (option_map (λ y. (value y.0, drop y.1 bytes))) is
 
 some_left : {V : Type 0} (v : V) (rest : List ℕ) → 0 < length rest → none ≡ nothing_left (some (v, rest))
 some_left v [] h = absurd (omega (arith, h))

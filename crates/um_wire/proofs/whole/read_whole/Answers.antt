@@ -1,5 +1,6 @@
 use Rattle.std.proofs.Common.{rules, arith, ◌≡◌, ◌<◌, Some, drop, length}
-use Rattle.um_wire.proofs.Items.{at_some, left_over}
+use Rattle.um_model.proofs.BytesLaws.{at_some}
+use Rattle.um_wire.proofs.Items.{left_over}
 use Rattle.um_wire.proofs.whole.read_whole.Goals as goal
 
 pub returns-else-n-bytes : goal.returns-else-n-bytes

@@ -2,7 +2,7 @@ use Rattle.std.proofs.Common.{rules, ◌≡◌, ℕ, List, true, false, cond, So
 use Rattle.std.specs.FinMap as map
 use Rattle.um_model.specs.Bytes.{are_keys, ascends, list_at, pair_at, text_at}
 use Rattle.um_wire.specs.Entries.{seen}
-use Rattle.um_wire.proofs.Items.{at_some}
+use Rattle.um_model.proofs.BytesLaws.{at_some}
 use Rattle.um_wire.proofs.MapEntries.{no_map, map_here}
 use Rattle.um_wire.proofs.maps.BTreeMapCanon.get.Goals as goal
 
