@@ -24,10 +24,11 @@ pub record IsMade {Y : Type 0} (is_key : List ℕ → Bool) (made left all : Lis
   pub parts : made ++ left ≡ all
   pub keys : are_keys is_key left ≡ are_keys is_key all
 
--- what was put, and what is left to be put, are all; and if what is left fits, all does
-pub record IsPut {Y : Type 0} (fits : Y → Type 0) (one : Spelling Y) (left all : List (List ℕ × Y)) (start old out : List ℕ) : Type 0 where
+-- what was put, and what is left to be put, are all; if what is left fits, all does; and only what is left may be no key
+pub record IsPut {Y : Type 0} (is_key : List ℕ → Bool) (fits : Y → Type 0) (one : Spelling Y) (left all : List (List ℕ × Y)) (start old out : List ℕ) : Type 0 where
   pub bytes : out ++ flat_map (pair_spelling text_spelling one) left ≡ start ++ flat_map (pair_spelling text_spelling one) all
   pub fit : AllByRecursion (λ e. FitText e.0 × fits e.1) left → AllByRecursion (λ e. FitText e.0 × fits e.1) all
+  pub keys : are_keys is_key left ≡ are_keys is_key all
   pub front : IsInFront old out
 
 -- the map of sorted entries, made by insertion or at once
@@ -86,32 +87,29 @@ module _ {K X Y : Type 0} (text : K → List ℕ) (value : X → Y) (R : K → K
       keys = sym (ap (λ b. b && are_keys is_key left) keyed) ∙ so_far.keys;
     }
 
-  keys_pass : (is_key : List ℕ → Bool) → ((k : K) → is_key (text k) ≡ true) → (es : List (K × X)) → are_keys is_key (seen text value es) ≡ true
-  keys_pass is_key passes [] = refl
-  keys_pass is_key passes (e ∷ es) = ap (λ b. b && are_keys is_key (seen text value es)) (passes e.0) ∙ keys_pass is_key passes es
-
   length_seen : (es : List (K × X)) → length (seen text value es) ≡ length es
   length_seen [] = refl
   length_seen (e ∷ es) = ap suc (length_seen es)
 
   -- the whole map is put
-  pub all_put : (fits : Y → Type 0) (one : Spelling Y) (es initial left : List (K × X)) (old out : List ℕ) → IsStrictlySortedBy R (keys_of es) → left ≡ [] → initial ≡ es
-      → IsPut fits one (seen text value left) (seen text value initial) (old ++ big_bytes 4 (length initial)) old out
+  pub all_put : (is_key : List ℕ → Bool) (fits : Y → Type 0) (one : Spelling Y) (es initial left : List (K × X)) (old out : List ℕ) → IsStrictlySortedBy R (keys_of es) → left ≡ [] → initial ≡ es
+      → IsPut is_key fits one (seen text value left) (seen text value initial) (old ++ big_bytes 4 (length initial)) old out
       → out ≡ old ++ map_spelling one (map.from_entries (seen text value es))
-  all_put fits one es initial left old out s none all put =
+  all_put is_key fits one es initial left old out s none all put =
       let items : ℕ → List (List ℕ × Y) → List ℕ = λ n l. old ++ (big_bytes 4 n ++ flat_map (pair_spelling text_spelling one) l) in
       let end : out ++ [] ≡ out ++ flat_map (pair_spelling text_spelling one) (seen text value left) = ap (λ l. out ++ flat_map (pair_spelling text_spelling one) (seen text value l)) (sym none) in
       sym (append-nil out) ∙ end ∙ put.bytes ∙ append_assoc old (big_bytes 4 (length initial)) (flat_map (pair_spelling text_spelling one) (seen text value initial))
       ∙ ap (λ l. items (length l) (seen text value l)) all ∙ ap (λ n. items n (seen text value es)) (sym (length_seen es)) ∙ ap (λ l. items (length l) l) (sym (entries_seen es s))
 
   -- and has a spelling
-  pub all_fits : (is_key : List ℕ → Bool) (fits : Y → Type 0) (one : Spelling Y) (es initial left : List (K × X)) (start old out : List ℕ) → ((k : K) → is_key (text k) ≡ true)
+  pub all_fits : (is_key : List ℕ → Bool) (fits : Y → Type 0) (one : Spelling Y) (es initial left : List (K × X)) (start old out : List ℕ)
       → IsStrictlySortedBy R (keys_of es) → left ≡ [] → initial ≡ es → length es < 2 ^ 32
-      → IsPut fits one (seen text value left) (seen text value initial) start old out → FitMap is_key fits (map.from_entries (seen text value es))
-  all_fits is_key fits one es initial left start old out passes s none all low put =
+      → IsPut is_key fits one (seen text value left) (seen text value initial) start old out → FitMap is_key fits (map.from_entries (seen text value es))
+  all_fits is_key fits one es initial left start old out s none all low put =
       let fit : AllByRecursion (λ e. FitText e.0 × fits e.1) (seen text value es) = subst (λ l. AllByRecursion (λ e. FitText e.0 × fits e.1) (seen text value l)) all (put.fit (subst (λ l. AllByRecursion (λ e. FitText e.0 × fits e.1) (seen text value l)) (sym none) tt)) in
+      let keyed : are_keys is_key (seen text value es) ≡ true = ap (λ l. are_keys is_key (seen text value l)) (sym all) ∙ sym put.keys ∙ ap (λ l. are_keys is_key (seen text value l)) none in
       let few : length (seen text value es) < 2 ^ 32 = subst (λ (n : ℕ). n < 2 ^ 32) (sym (length_seen es)) low in
-      subst (λ (l : List (List ℕ × Y)). FitList (λ e. FitText e.0 × fits e.1) l × (are_keys is_key l ≡ true)) (sym (entries_seen es s)) ((few, fit), keys_pass is_key passes es)
+      subst (λ (l : List (List ℕ × Y)). FitList (λ e. FitText e.0 × fits e.1) l × (are_keys is_key l ≡ true)) (sym (entries_seen es s)) ((few, fit), keyed)
 
 -- the text of a key
 pub key_is : {K : Type 0} (text : K → List ℕ) (is_key : List ℕ → Bool) (t : List ℕ) (found : Option K) (k : K) → option_map text found ≡ cond (is_key t) (Some t) None → found ≡ Some k → (is_key t ≡ true) × (text k ≡ t)

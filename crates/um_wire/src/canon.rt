@@ -10,19 +10,21 @@ pub trait Canon: Sized {
     /// The value without where it lies in memory.
     ghost Value: { Type 0 };
 
+    /// That value of one in memory.
     ghost value: { Self → Value };
 
     /// Which values have a spelling.
     ghost fits: { Value → Type 0 };
 
+    /// The bytes of a value.
     ghost spelling: { Value → List ℕ };
 
     /// The value in front of bytes and the bytes behind it, where the front has a reading.
     ghost reading: { List ℕ → Option (Value × List ℕ) };
 
     /// Puts the bytes of the value behind what is there. It answers want of memory where a growth is refused, and for a
-    /// value that has no spelling, as a text of 2^32 bytes or more. What was there is still there then, in front of as many
-    /// bytes of the value as were put before.
+    /// value that has no spelling, as a text of 2^32 bytes or more. Then what was there still stands in front, and what
+    /// stands behind it isn't told.
     fn put(&self, out: &mut Vec<u8>) -> Result<(), AllocError>
         ensures put { OnOk result (out.new.items ≡ out.old.items ++ spelling (value self.now)) }
 

@@ -9,18 +9,24 @@ use std::alloc::{AllocError, Global};
 
 /// A choice without fields. Its type has canonical bytes by `put_tag` and `get_tag`.
 pub trait Tagged: Copy {
+    /// Its tag, below 256.
     ghost tag_of: { Self → ℕ };
 
+    /// The choice of a tag, if there is one.
     ghost with_tag: { ℕ → Option Self };
 
+    /// Its tag.
     fn tag(&self) -> u8
         ensures { result ≡ tag_of self.now };
 
+    /// The choice of the tag, or None where no choice has it.
     fn from_tag(tag: u8) -> Option<Self>
         ensures { result ≡ with_tag tag };
 
+    /// A choice is told by its tag.
     ghost again: { (choice : Self) → with_tag (tag_of choice) ≡ Some choice };
 
+    /// No other tag tells it.
     ghost back: { (n : ℕ) (choice : Self) → with_tag n ≡ Some choice → tag_of choice ≡ n };
 }
 

@@ -15,21 +15,23 @@ use std::collections::BTreeMap;
 
 /// A key of a map that has canonical bytes: it stands for a text, and compares as that text does, byte by byte.
 pub trait Key: Ord + Sized {
+    /// The bytes of its text.
     ghost bytes: { Self → List ℕ };
 
     /// Which texts are keys.
     ghost is_key: { List ℕ → Bool };
 
+    /// The text for which the key stands.
     fn as_text(&self) -> &str
-        ensures { result.now ≡ bytes self.now };
+        ensures bytes { result.now ≡ bytes self.now }
+        ensures key { is_key (bytes self.now) ≡ true };
 
-    /// The key that stands for the text, if there is one. It answers want of memory where a growth is refused.
+    /// The key that stands for the text, or None where none does. It answers want of memory where a growth is refused.
     fn from_text(alloc: Global, text: &str) -> Result<Option<Self>, AllocError>
         ensures { IfOk result (λ key. option_map bytes key ≡ (if is_key text.now then Some text.now else None)) };
 
+    /// Keys compare as their texts.
     ghost order: { (a b : Self) → Self.cmp a b ≡ slice_cmp nat_cmp (bytes a) (bytes b) };
-
-    ghost passes: { (key : Self) → is_key (bytes key) ≡ true };
 }
 
 /// Each text is a key.
@@ -47,8 +49,6 @@ impl Key for String {
     }
 
     ghost order = { λ a b. refl };
-
-    ghost passes = { λ key. refl };
 }
 
 /// Whether each key is below the next.
