@@ -1,5 +1,5 @@
 //! Choices without fields, told by a tag of one byte.
-ghost use Rattle.std.specs.Prelude.{◌≡◌, ◌≤◌, ◌++◌, ◌∷◌, [], ℕ, Bool, true, false, Option, Some, length, drop, refl, IfSome, OnOk, OnErr, ⊤};
+ghost use Rattle.std.specs.Prelude.{◌≡◌, ◌≤◌, ◌++◌, ◌∷◌, [], ℕ, Bool, Option, Some, length, drop, IfSome, OnOk, OnErr, ⊤};
 ghost use Rattle.std.specs.Option.{option_map};
 ghost use Rattle.um_model.specs.Bytes.{IsInFront, tag_at, truth_at, truth_of, truth_spelling, truth_tag};
 ghost use Rattle.um_model.proofs.BytesLaws.{canonical_truth, truth_again, truth_back};

@@ -1,5 +1,5 @@
 //! Maps by texts: their entries, whose keys strictly ascend by bytes.
-ghost use Rattle.std.specs.Prelude.{◌≡◌, ℕ, List, map as each, Bool, true, refl, Some, None, IfOk, IfSome, string_bytes, if◌then◌else◌};
+ghost use Rattle.std.specs.Prelude.{◌≡◌, ℕ, List, Bool, true, refl, Some, None, IfOk, IfSome, string_bytes, if◌then◌else◌};
 ghost use Rattle.std.specs.Option.{option_map};
 ghost use Rattle.std.specs.Cmp.Lexicographic.{slice_cmp};
 ghost use Rattle.std.specs.FinMap as map;
