@@ -22,3 +22,4 @@ pub mod FirstByName
 pub mod UnitsLaws
 pub mod DeadlinesLaws
 pub mod KeepsLaws
+pub mod BytesLaws

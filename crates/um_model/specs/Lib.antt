@@ -23,3 +23,4 @@ pub mod Frames
 pub mod Timers
 pub mod Specifiers
 pub mod Disk
+pub mod Bytes

@@ -3,6 +3,7 @@
 #![tactic(auto)]
 
 mod escapes;
+mod keys;
 mod laws;
 mod maps;
 mod order;

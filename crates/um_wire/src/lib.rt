@@ -1,9 +1,29 @@
-//! Why a call was refused: the 22 refusals with their details, each with the number, name and texts that its reply tells.
+//! Why a call was refused: the 22 refusals with their details, each with the number, name and texts that its reply tells; and
+//! canonical bytes: one spelling a value, of which none begins another, and what is spelled is read again whatever follows.
 #![tactic(auto)]
 
+#[cfg(test)]
+mod byte_tests;
+mod canon;
+mod choices;
+mod laws;
+mod lists;
+mod made;
+mod maps;
+mod numbers;
 mod refusal;
 #[cfg(test)]
 mod tests;
+mod texts;
+mod whole;
 
+pub use canon::Canon;
+pub use choices::{Tagged, get_tag, put_tag};
+pub use laws::{
+    a_whole_is_its_spelling, no_reading_only_where_none_is, no_spelling_begins_another,
+    what_is_read_is_spelled_so, what_is_spelled_is_read_again,
+};
+pub use maps::Key;
 pub use refusal::{Refusal, Texts};
 pub use um_model::Limit;
+pub use whole::{read_whole, spell};

@@ -1,0 +1,204 @@
+-- Canonical bytes: how each kind of value is spelled, and how a value is read at the front of bytes.
+-- No manual page has this: it is the project's own format (docs/FORMATS.md, "Canonical bytes").
+-- The bytes of inputs and states, slots and the log stand on this file.
+use Rattle.std.specs.Prelude.{◌≡◌, ℕ, zero, suc, ◌<◌, ◌^◌, nat_lt, Bool, true, false, ◌&&◌, List, [], ◌∷◌, ◌++◌, length, take, drop, slice_index, Option, Some, None, if◌then◌else◌}
+use Rattle.std.specs.List.{flat_map, list_all, AllByRecursion}
+use Rattle.std.specs.Str.{is_utf8}
+use Rattle.std.specs.Ordering.{is_lt, nat_cmp}
+use Rattle.std.specs.Cmp.Lexicographic.{slice_cmp}
+use Rattle.std.specs.FinMap as map
+use Rattle.byteorder.specs.Endian.{big_number, big_bytes}
+
+-- how values are spelled
+abbrev pub Spelling : Type 0 → Type 0
+Spelling V = V → List ℕ
+
+-- how a value is read at the front of bytes: the value and the bytes behind it, where the front has a reading
+abbrev pub Reading : Type 0 → Type 0
+Reading V = List ℕ → Option (V × List ℕ)
+
+-- each number is a byte
+abbrev pub IsBytes : List ℕ → Type 0
+IsBytes bytes = (i : ℕ) → slice_index bytes i < 256
+
+-- what is read is spelled so, and what is spelled is read again whatever follows
+pub record IsCanonical {V : Type 0} (fits : V → Type 0) (spelling : Spelling V) (reading : Reading V) : Type 0 where
+  pub takes : (bytes : List ℕ) (v : V) (rest : List ℕ) → IsBytes bytes → reading bytes ≡ Some (v, rest) → (bytes ≡ spelling v ++ rest) × fits v
+  pub again : (v : V) (rest : List ℕ) → fits v → reading (spelling v ++ rest) ≡ Some (v, rest)
+
+-- the second list begins with the first
+pub record IsInFront (front bytes : List ℕ) : Type 0 where
+  pub behind : List ℕ
+  pub parts : bytes ≡ front ++ behind
+
+-- the value of a reading behind which nothing is left
+abbrev pub nothing_left : {V : Type 0} → Option (V × List ℕ) → Option V
+nothing_left None = None
+nothing_left (Some (v, [])) = Some v
+nothing_left (Some (v, b ∷ rest)) = None
+
+infixl 10 ◌>>=◌
+-- what the second makes of the first, where there is one
+abbrev pub ◌>>=◌ : {A B : Type 0} → Option A → (A → Option B) → Option B
+(Some x) >>= f = f x
+None >>= f = None
+
+-- ---- whole numbers, the highest byte first
+
+-- a number of one byte
+abbrev pub byte_at : Reading ℕ
+byte_at [] = None
+byte_at (b ∷ rest) = Some (b, rest)
+
+-- a number of so many bytes
+abbrev pub number_at : ℕ → Reading ℕ
+number_at width bytes = if nat_lt (length bytes) width then None else Some (big_number width bytes, drop width bytes)
+
+-- ---- one behind the other
+
+-- the first value, and the second behind it
+abbrev pub pair_spelling : {A B : Type 0} → Spelling A → Spelling B → Spelling (A × B)
+pair_spelling first second p = first p.0 ++ second p.1
+
+-- the first value, and the second behind it, where both are there
+abbrev pub pair_at : {A B : Type 0} → Reading A → Reading B → Reading (A × B)
+pair_at first second bytes = first bytes >>= λ a. second a.1 >>= λ b. Some ((a.0, b.0), b.1)
+
+-- a byte that always stands there, and the value behind it
+abbrev pub marked_at : {A : Type 0} → ℕ → Reading A → Reading A
+marked_at mark one [] = None
+marked_at mark one (b ∷ rest) = if nat_lt b mark then None else if nat_lt mark b then None else one rest
+
+-- ---- the same values in another form, and those that pass a test
+
+-- a value that is read in one form and told in another
+abbrev pub as_at : {A B : Type 0} → (A → B) → Reading A → Reading B
+as_at to one bytes = one bytes >>= λ a. Some (to a.0, a.1)
+
+-- a value that is read, where it passes the test
+abbrev pub only_at : {A : Type 0} → (A → Bool) → Reading A → Reading A
+only_at test one bytes = one bytes >>= λ a. if test a.0 then Some a else None
+
+-- ---- a choice, told by its tag
+
+-- a choice without fields
+abbrev pub tag_at : {A : Type 0} → (ℕ → Option A) → Reading A
+tag_at of [] = None
+tag_at of (tag ∷ rest) = of tag >>= λ a. Some (a, rest)
+
+-- a choice with fields: each tag has its reading
+abbrev pub choice_at : {A : Type 0} → (ℕ → Reading A) → Reading A
+choice_at arm [] = None
+choice_at arm (tag ∷ rest) = arm tag rest
+
+-- the arm of a choice that has no fields
+abbrev pub just_at : {A : Type 0} → A → Reading A
+just_at a bytes = Some (a, bytes)
+
+-- the arm of a tag that no choice has
+abbrev pub none_at : {A : Type 0} → Reading A
+none_at bytes = None
+
+-- ---- truth: 0 or 1
+
+-- no is 0, yes is 1
+abbrev pub truth_tag : Bool → ℕ
+truth_tag false = 0
+truth_tag true = 1
+
+-- 0 is no, 1 is yes, and nothing else is either
+abbrev pub truth_of : ℕ → Option Bool
+truth_of zero = Some false
+truth_of (suc zero) = Some true
+truth_of (suc (suc n)) = None
+
+-- the tag alone
+abbrev pub truth_spelling : Spelling Bool
+truth_spelling b = truth_tag b ∷ []
+
+-- no or yes
+abbrev pub truth_at : Reading Bool
+truth_at = tag_at truth_of
+
+-- ---- an option: 0, or 1 and the value
+
+-- 0 where there is no value; else 1 and the value
+abbrev pub option_spelling : {A : Type 0} → Spelling A → Spelling (Option A)
+option_spelling one None = 0 ∷ []
+option_spelling one (Some x) = 1 ∷ one x
+
+-- no value behind a 0, one behind a 1
+abbrev pub option_at : {A : Type 0} → Reading A → Reading (Option A)
+option_at one [] = None
+option_at one (zero ∷ rest) = Some (None, rest)
+option_at one (suc zero ∷ rest) = one rest >>= λ a. Some (Some a.0, a.1)
+option_at one (suc (suc n) ∷ rest) = None
+
+-- ---- a text: how many bytes it has, and those, in UTF-8
+
+-- a text that has bytes: it is in UTF-8 and shorter than 2^32
+abbrev pub FitText : List ℕ → Type 0
+FitText text = (length text < 2 ^ 32) × (is_utf8 text ≡ true)
+
+-- its length in four bytes, and the text
+abbrev pub text_spelling : Spelling (List ℕ)
+text_spelling text = big_bytes 4 (length text) ++ text
+
+-- so many bytes, where they are there and a text
+abbrev pub front_text : ℕ → List ℕ → Option (List ℕ)
+front_text n bytes = if nat_lt (length bytes) n then None else if is_utf8 (take n bytes) then Some (take n bytes) else None
+
+-- a length, and a text of so many bytes
+abbrev pub text_at : Reading (List ℕ)
+text_at bytes = number_at 4 bytes >>= λ n. front_text n.0 n.1 >>= λ text. Some (text, drop n.0 n.1)
+
+-- ---- a list: how many items it has, and those
+
+-- a list that has bytes: each item has some, and there are fewer than 2^32
+abbrev pub FitList : {A : Type 0} → (A → Type 0) → List A → Type 0
+FitList fits xs = (length xs < 2 ^ 32) × AllByRecursion fits xs
+
+-- the count in four bytes, and the items one behind the other
+abbrev pub list_spelling : {A : Type 0} → Spelling A → Spelling (List A)
+list_spelling one xs = big_bytes 4 (length xs) ++ flat_map one xs
+
+-- so many items
+abbrev pub many_at : {A : Type 0} → Reading A → ℕ → Reading (List A)
+many_at one zero bytes = Some ([], bytes)
+many_at one (suc n) bytes = one bytes >>= λ a. many_at one n a.1 >>= λ more. Some (a.0 ∷ more.0, more.1)
+
+-- a count, and so many items
+abbrev pub list_at : {A : Type 0} → Reading A → Reading (List A)
+list_at one bytes = number_at 4 bytes >>= λ n. many_at one n.0 n.1
+
+-- ---- a map by texts: the list of its entries, whose keys strictly ascend by bytes
+
+-- values by texts, in the order of the bytes
+abbrev pub ByText : Type 0 → Type 0
+ByText A = map.FinMap (slice_cmp nat_cmp) A
+
+-- the key is below that of the next entry, where there is one
+abbrev pub is_below_next : {A : Type 0} → List ℕ → List (List ℕ × A) → Bool
+is_below_next key [] = true
+is_below_next key (e ∷ es) = is_lt (slice_cmp nat_cmp key e.0)
+
+-- each key is below the next
+abbrev pub ascends : {A : Type 0} → List (List ℕ × A) → Bool
+ascends [] = true
+ascends (e ∷ es) = is_below_next e.0 es && ascends es
+
+-- each key passes the test
+abbrev pub are_keys : {A : Type 0} → (List ℕ → Bool) → List (List ℕ × A) → Bool
+are_keys is_key entries = list_all (λ e. is_key e.0) entries
+
+-- a map that has bytes: each key is a text that passes the test, and each value has some
+abbrev pub FitMap : {A : Type 0} → (List ℕ → Bool) → (A → Type 0) → ByText A → Type 0
+FitMap is_key fits m = FitList (λ e. FitText e.0 × fits e.1) (map.entries m) × (are_keys is_key (map.entries m) ≡ true)
+
+-- the list of the entries
+abbrev pub map_spelling : {A : Type 0} → Spelling A → Spelling (ByText A)
+map_spelling one m = list_spelling (pair_spelling text_spelling one) (map.entries m)
+
+-- the list of entries whose keys ascend and pass the test
+abbrev pub map_at : {A : Type 0} → (List ℕ → Bool) → Reading A → Reading (ByText A)
+map_at is_key one = as_at map.from_sorted (only_at (are_keys is_key) (only_at ascends (list_at (pair_at text_at one))))

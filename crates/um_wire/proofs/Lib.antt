@@ -1,0 +1,3 @@
+pub mod FrontText
+pub mod Items
+pub mod MapEntries
