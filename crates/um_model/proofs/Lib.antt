@@ -17,3 +17,5 @@ pub mod FramesLaws
 pub mod ValuesLaws
 pub mod SpecifiersLaws
 pub mod DiskLaws
+pub mod UnitLaws
+pub mod FitLaws
