@@ -19,3 +19,5 @@ pub mod SpecifiersLaws
 pub mod DiskLaws
 pub mod UnitLaws
 pub mod FitLaws
+pub mod LiveLaws
+pub mod NumbersLaws

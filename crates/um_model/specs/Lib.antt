@@ -23,3 +23,5 @@ pub mod Frames
 pub mod Timers
 pub mod Specifiers
 pub mod Disk
+pub mod Live
+pub mod Numbers
