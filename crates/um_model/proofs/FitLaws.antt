@@ -1,9 +1,9 @@
 -- A start job that goes on leaves its unit in start, and a stop job that goes on leaves it in a stop state: row by row of the table.
-use Rattle.std.proofs.Common.{ℕ, ◌≡◌, ◌∙◌, ◌+◌, ◌&&◌, ◌||◌, Bool, true, false, true≢false, not, cond, nat_lt, length, Some, None, refl, sym, ap, subst}
+use Rattle.std.proofs.Common.{ℕ, ◌≡◌, ◌∙◌, ◌+◌, ◌&&◌, Bool, true, false, true≢false, not, cond, nat_lt, length, Some, None, refl, sym, ap, subst}
 use Rattle.um_model.specs.Limit.{lets_through, window_after}
 use Rattle.um_model.specs.Settings.{ServiceSettings}
 use Rattle.um_model.specs.Ends.{is_clean, is_stopping, is_restart_wanted}
-use Rattle.um_model.specs.Transitions.{moment_after, has_number, is_live, just, asking, start_ends, start_fails, stop_ends, rests_for_good, awaits_restart, rests, terminates, stop_command, winds_down, next_stop, lacks_number, start_command, start_simple, start_oneshot, start_of, start_at_rest, on_start, on_stop, run_ends, next_command, next_start, start_run_ends, rests_unless_live, noted, without_main, on_main_end, goes_on, stop_command_ends, on_control_end, timed_out, on_deadline, on_executed, transition}
+use Rattle.um_model.specs.Transitions.{moment_after, has_number, is_live, just, asking, start_ends, start_fails, stop_ends, rests_for_good, awaits_restart, rests, terminates, stop_command, winds_down, next_stop, lacks_number, start_command, start_simple, start_of, start_at_rest, on_start, on_stop, run_ends, next_command, next_start, start_run_ends, rests_unless_live, noted, without_main, on_main_end, goes_on, stop_command_ends, on_control_end, timed_out, on_deadline, on_executed, transition}
 use Rattle.um_model.specs.declared.service.End.{End}
 use Rattle.um_model.specs.declared.service.Signal.TheVariants.{Term}
 use Rattle.um_model.specs.declared.service.SubState.{SubState}
@@ -15,7 +15,6 @@ use Rattle.um_model.specs.declared.transition.Change.{Change}
 use Rattle.um_model.specs.declared.transition.CommandList.TheVariants.{OfStart, OfStop}
 use Rattle.um_model.specs.declared.transition.Order.TheVariants.{Spawn, Signal}
 use Rattle.um_model.specs.declared.transition.Process.TheVariants.{Main, Control}
-use Rattle.um_model.specs.declared.transition.StartJob.{StartJob}
 use Rattle.um_model.specs.declared.transition.StartJob.TheVariants.{Stays, Ends, Fails}
 use Rattle.um_model.specs.declared.transition.UnitEvent.{UnitEvent}
 use Rattle.um_model.specs.declared.transition.UnitEvent.TheVariants.{StartBegins, StopBegins, BoundStop, Executed, MainEnds, ControlEnds, DeadlinePasses}
@@ -58,28 +57,28 @@ module _ (s : ServiceSettings) (c : Around) where
 
   start_command_fits : (w : UnitState) (i : ℕ) → StartFits (start_command s c w i)
   start_command_fits w i = by_cond StartFits (has_number c)
-    (asking (Spawn OfStart i) (just (record w { sub = Start; main = Some c.next; deadline = moment_after c.moment s.timeout_start }))) (lacks_number w)
-    (λ e h. refl) (λ e. failed (rests_for_good (record w { result = result.Resources })))
+      (asking (Spawn OfStart i) (just (record w { sub = Start; main = Some c.next; deadline = moment_after c.moment s.timeout_start }))) (lacks_number w)
+      (λ e h. refl) (λ e. failed (rests_for_good (record w { result = result.Resources })))
 
   start_simple_fits : (w : UnitState) → StartFits (start_simple c w)
   start_simple_fits w = by_cond StartFits (has_number c)
-    (start_ends (asking (Spawn OfStart 0) (just (record w { sub = Running; main = Some c.next; deadline = None })))) (lacks_number w)
-    (λ e. ended (asking (Spawn OfStart 0) (just (record w { sub = Running; main = Some c.next; deadline = None }))))
-    (λ e. failed (rests_for_good (record w { result = result.Resources })))
+      (start_ends (asking (Spawn OfStart 0) (just (record w { sub = Running; main = Some c.next; deadline = None })))) (lacks_number w)
+      (λ e. ended (asking (Spawn OfStart 0) (just (record w { sub = Running; main = Some c.next; deadline = None }))))
+      (λ e. failed (rests_for_good (record w { result = result.Resources })))
 
   start_of_fits : (kind : UnitKind) (w : UnitState) → StartFits (start_of kind s c w)
   start_of_fits Target w = ended (just (record w { sub = Active; deadline = None }))
   start_of_fits Simple w = start_simple_fits w
   start_of_fits Exec w = start_command_fits w 0
   start_of_fits Oneshot w = by_cond StartFits (nat_lt 0 (length s.start)) (start_command s c w 0) (start_ends (just (record w { sub = Exited; deadline = None })))
-    (λ e. start_command_fits w 0) (λ e. ended (just (record w { sub = Exited; deadline = None })))
+      (λ e. start_command_fits w 0) (λ e. ended (just (record w { sub = Exited; deadline = None })))
 
   start_at_rest_fits : (w : UnitState) → StartFits (start_at_rest s c w)
   start_at_rest_fits w = by_cond StartFits (lets_through s.limit_interval s.limit_burst c.moment w.window)
-    (start_of s.kind s c (record w { result = result.Success; asked = false; index = 0; last = None; window = window_after s.limit_interval s.limit_burst c.moment w.window }))
-    (start_fails (just (record w { sub = Failed; result = result.StartLimitHit; deadline = None })))
-    (λ e. start_of_fits s.kind (record w { result = result.Success; asked = false; index = 0; last = None; window = window_after s.limit_interval s.limit_burst c.moment w.window }))
-    (λ e. failed (just (record w { sub = Failed; result = result.StartLimitHit; deadline = None })))
+      (start_of s.kind s c (record w { result = result.Success; asked = false; index = 0; last = None; window = window_after s.limit_interval s.limit_burst c.moment w.window }))
+      (start_fails (just (record w { sub = Failed; result = result.StartLimitHit; deadline = None })))
+      (λ e. start_of_fits s.kind (record w { result = result.Success; asked = false; index = 0; last = None; window = window_after s.limit_interval s.limit_burst c.moment w.window }))
+      (λ e. failed (just (record w { sub = Failed; result = result.StartLimitHit; deadline = None })))
 
   on_start_fits : (sub : SubState) (w : UnitState) → w.sub ≡ sub → is_stopping sub ≡ false → StartFits (on_start s c w sub)
   on_start_fits Running w is up = ended (just w)
@@ -96,16 +95,16 @@ module _ (s : ServiceSettings) (c : Around) where
   -- a start job that begins while its unit isn't in a stop state
   pub begun_start_fits : (u : UnitState) → is_stopping u.sub ≡ false → StartFits (transition s c u StartBegins)
   begun_start_fits u up = by_cond StartFits c.loadable (on_start s c u u.sub) (start_fails (just (record u { result = result.NotLoaded })))
-    (λ e. on_start_fits u.sub u refl up) (λ e. failed (just (record u { result = result.NotLoaded })))
+      (λ e. on_start_fits u.sub u refl up) (λ e. failed (just (record u { result = result.NotLoaded })))
 
   next_command_fits : (w : UnitState) (i : ℕ) → w.sub ≡ Start → StartFits (next_command c w i)
   next_command_fits w i is = by_cond StartFits (has_number c)
-    (asking (Spawn OfStart i) (just (record w { main = Some c.next; index = i }))) (lacks_number (record w { index = i }))
-    (λ e h. is) (λ e. failed (rests_for_good (record w { index = i; result = result.Resources })))
+      (asking (Spawn OfStart i) (just (record w { main = Some c.next; index = i }))) (lacks_number (record w { index = i }))
+      (λ e h. is) (λ e. failed (rests_for_good (record w { index = i; result = result.Resources })))
 
   next_start_fits : (w : UnitState) → w.sub ≡ Start → StartFits (next_start s c w)
   next_start_fits w is = by_cond StartFits (nat_lt (w.index + 1) (length s.start)) (next_command c w (w.index + 1)) (start_ends (run_ends s c w true))
-    (λ e. next_command_fits w (w.index + 1) is) (λ e. ended (run_ends s c w true))
+      (λ e. next_command_fits w (w.index + 1) is) (λ e. ended (run_ends s c w true))
 
   start_run_ends_fits : (kind : UnitKind) (w : UnitState) (clean : Bool) → w.sub ≡ Start → StartFits (start_run_ends kind s c w clean)
   start_run_ends_fits Simple w false is = failed (rests s c w)
@@ -142,24 +141,24 @@ module _ (s : ServiceSettings) (c : Around) where
 
   rests_fits : (w : UnitState) → StopFits (rests s c w)
   rests_fits w = by_cond StopFits (not w.asked && not c.stop_waits && is_restart_wanted s w) (awaits_restart s c w) (rests_for_good w)
-    (λ e h. absurd (true≢false h)) (λ e h. absurd (true≢false h))
+      (λ e h. absurd (true≢false h)) (λ e h. absurd (true≢false h))
 
   terminates_fits : (w : UnitState) → StopFits (terminates s c w)
   terminates_fits w = by_cond StopFits (is_live w) (asking (Signal Term) (just (record w { sub = StopSigterm; deadline = moment_after c.moment s.timeout_stop }))) (rests s c w)
-    (λ e h. refl) (λ e. rests_fits w)
+      (λ e h. refl) (λ e. rests_fits w)
 
   stop_command_fits : (w : UnitState) (i : ℕ) → StopFits (stop_command s c w i)
   stop_command_fits w i = by_cond StopFits (has_number c)
-    (asking (Spawn OfStop i) (just (record w { sub = Stop; control = Some c.next; index = i; deadline = moment_after c.moment s.timeout_stop })))
-    (terminates s c (record w { result = result.Resources; index = i }))
-    (λ e h. refl) (λ e. terminates_fits (record w { result = result.Resources; index = i }))
+      (asking (Spawn OfStop i) (just (record w { sub = Stop; control = Some c.next; index = i; deadline = moment_after c.moment s.timeout_stop })))
+      (terminates s c (record w { result = result.Resources; index = i }))
+      (λ e h. refl) (λ e. terminates_fits (record w { result = result.Resources; index = i }))
 
   winds_down_fits : (w : UnitState) → StopFits (winds_down s c w)
   winds_down_fits w = by_cond StopFits (nat_lt 0 (length s.stop)) (stop_command s c w 0) (terminates s c w) (λ e. stop_command_fits w 0) (λ e. terminates_fits w)
 
   next_stop_fits : (w : UnitState) → StopFits (next_stop s c w)
   next_stop_fits w = by_cond StopFits (nat_lt (w.index + 1) (length s.stop)) (stop_command s c w (w.index + 1)) (terminates s c w)
-    (λ e. stop_command_fits w (w.index + 1)) (λ e. terminates_fits w)
+      (λ e. stop_command_fits w (w.index + 1)) (λ e. terminates_fits w)
 
   on_stop_fits : (sub : SubState) (w : UnitState) → w.sub ≡ sub → StopFits (on_stop s c w sub)
   on_stop_fits Running w is = winds_down_fits (record w { asked = true })
@@ -199,9 +198,9 @@ module _ (s : ServiceSettings) (c : Around) where
   control_end_in_stop : (sub : SubState) (u : UnitState) (e : End) → u.sub ≡ sub → is_stopping sub ≡ true → StopFits (on_control_end s c u e sub)
   control_end_in_stop Stop u e is down = command_end_fits (record u { control = None }) e (goes_on s u e)
   control_end_in_stop StopSigterm u e is down = unless_live_fits (noted (record u { control = None }) e (is_clean s u Control e))
-    (ap is_stopping (sub_of_noted (record u { control = None }) e (is_clean s u Control e) ∙ is))
+      (ap is_stopping (sub_of_noted (record u { control = None }) e (is_clean s u Control e) ∙ is))
   control_end_in_stop StopSigkill u e is down = unless_live_fits (noted (record u { control = None }) e (is_clean s u Control e))
-    (ap is_stopping (sub_of_noted (record u { control = None }) e (is_clean s u Control e) ∙ is))
+      (ap is_stopping (sub_of_noted (record u { control = None }) e (is_clean s u Control e) ∙ is))
   control_end_in_stop _ u e is down = absurd (true≢false (sym down))
 
   deadline_in_stop : (sub : SubState) (u : UnitState) → is_stopping sub ≡ true → StopFits (on_deadline s c u sub)
@@ -220,7 +219,7 @@ module _ (s : ServiceSettings) (c : Around) where
   -- whatever happens to a unit in a stop state
   pub stop_fits : (u : UnitState) (event : UnitEvent) → is_stopping u.sub ≡ true → StopFits (transition s c u event)
   stop_fits u StartBegins down = by_cond StopFits c.loadable (on_start s c u u.sub) (start_fails (just (record u { result = result.NotLoaded })))
-    (λ e. start_in_stop u.sub u refl down) (λ e h. down)
+      (λ e. start_in_stop u.sub u refl down) (λ e h. down)
   stop_fits u StopBegins down = on_stop_fits u.sub u refl
   stop_fits u BoundStop down = on_stop_fits u.sub u refl
   stop_fits u Executed down = executed_in_stop s.kind u.sub u refl down

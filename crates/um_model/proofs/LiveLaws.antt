@@ -1,7 +1,7 @@
 -- The machine is never stuck: after any inputs a pending job waits for a live process.
-use Rattle.std.proofs.Common.{ℕ, ◌≡◌, ◌≢◌, ◌⊎◌, ◌∙◌, ◌||◌, Bool, true, false, true≢false, cond, is_some, List, [], ◌∷◌, ◌++◌, Option, Some, None, unwrap_or, refl, sym, ap, subst, subst₂, inl, inr}
+use Rattle.std.proofs.Common.{ℕ, ◌≡◌, ◌≢◌, ◌⊎◌, ◌∙◌, ◌||◌, Bool, true, false, true≢false, cond, is_some, List, ◌∷◌, Option, Some, None, unwrap_or, refl, sym, ap, subst, subst₂, inl, inr}
 use Rattle.std.specs.FinMap as map
-use Rattle.um_model.specs.Service.{Action, ByUnit, active_state_of, dead_unit, state_of_unit}
+use Rattle.um_model.specs.Service.{Action, active_state_of, dead_unit, state_of_unit}
 use Rattle.um_model.specs.Settings.{ServiceSettings}
 use Rattle.um_model.specs.Ends.{is_stopping}
 use Rattle.um_model.specs.Transitions.{transition, HasItsProcess, has_its_process, HasNumber}
@@ -185,16 +185,16 @@ module _ (keeps : (s : ServiceSettings) (c : Around) (u : UnitState) (e : UnitEv
   begun_here s j = jobs_here s.pending j.unit (with_running j.kind (jobs_of_unit s.pending j.unit))
 
   -- a job begins: what its unit, now with the job running, becomes
-  begun_fits : (t : ℕ) (kind : JobKind) (unit : List ℕ) (s : State) (c : Around) (settings : ServiceSettings) → IsReady s.units s.pending (record { unit = unit; kind = kind }) → AllFit s
+  begun_fits : (kind : JobKind) (unit : List ℕ) (s : State) (c : Around) (settings : ServiceSettings) → IsReady s.units s.pending (record { unit = unit; kind = kind }) → AllFit s
       → Fits (transition settings c (state_of_unit s.units unit) (begins kind)).unit (jobs_left (transition settings c (state_of_unit s.units unit) (begins kind)).start (transition settings c (state_of_unit s.units unit) (begins kind)).stop_ends (with_running kind (jobs_of_unit s.pending unit)))
-  begun_fits t job.Start unit s c settings ready fits =
+  begun_fits job.Start unit s c settings ready fits =
       let u = state_of_unit s.units unit in
       let none = alone s unit ready in
       left_fits (transition settings c u StartBegins) (with_running job.Start (jobs_of_unit s.pending unit)) (keeps settings c u StartBegins (fits unit).held)
       (λ e. begun_start_fits settings c u (not_down u.sub (ready.still refl)))
       (λ e. absurd (some_none (jobs_of_unit s.pending unit).stop Running none e))
       (λ e. none)
-  begun_fits t job.Stop unit s c settings ready fits =
+  begun_fits job.Stop unit s c settings ready fits =
       let u = state_of_unit s.units unit in
       let waits : (jobs_of_unit s.pending unit).start ≡ Some Running → ⊥ = λ e. some_none (jobs_of_unit s.pending unit).stop Waiting ((fits unit).apart e) ready.waits in
       left_fits (transition settings c u StopBegins) (with_running job.Stop (jobs_of_unit s.pending unit)) (keeps settings c u StopBegins (fits unit).held)
@@ -208,7 +208,7 @@ module _ (keeps : (s : ServiceSettings) (c : Around) (u : UnitState) (e : UnitEv
       subst AllFit (sym h.state) (fits_at (begun s j) j.unit c
       (λ other apart. subst (Fits (state_of_unit s.units other)) (sym (jobs_apart s.pending j.unit (with_running j.kind (jobs_of_unit s.pending j.unit)) other apart)) (fits other))
       (subst (λ k. Fits c.unit (jobs_left c.start c.stop_ends k)) (sym (begun_here s j))
-      (begun_fits t j.kind j.unit s (around t (begun s j) j.unit) (startable_in s.loaded j.unit).settings ready fits)))
+      (begun_fits j.kind j.unit s (around t (begun s j) j.unit) (startable_in s.loaded j.unit).settings ready fits)))
 
   -- where jobs have begun until none is ready
   settled_fits : (t : ℕ) (s : State) (actions : List Action) (v : State) → Settles t s actions v → AllFit s → AllFit v × IsStill v
@@ -249,7 +249,7 @@ no_job unit = ap (λ o. unwrap_or o no_jobs) (map.get-empty _ unit)
 
 empty_fits : AllFit empty_state
 empty_fits unit = subst₂ Fits (sym (no_unit unit)) (sym (no_job unit))
-  (record { held = refl; starting = λ e. absurd (none_runs e); stopping = λ e. absurd (none_runs e); apart = λ e. refl })
+    (record { held = refl; starting = λ e. absurd (none_runs e); stopping = λ e. absurd (none_runs e); apart = λ e. refl })
 
 none_waits : (kind : JobKind) → job_of kind no_jobs ≡ Some Waiting → ⊥
 none_waits job.Stop e = cc
@@ -282,9 +282,6 @@ or_true true = refl
 or_true false = refl
 
 module _ (s : State) (fits : AllFit s) (still : IsStill s) (j : Job) (is_there : IsPending s.pending j) where
-  unit_of : UnitState
-  unit_of = state_of_unit s.units j.unit
-
   waits_in_start : (state_of_unit s.units j.unit).sub ≡ sub.Start → (number : ℕ) × WaitsFor s j number
   waits_in_start is =
       let n = number_in_start (state_of_unit s.units j.unit) is (fits j.unit).held in
@@ -301,8 +298,10 @@ module _ (s : State) (fits : AllFit s) (still : IsStill s) (j : Job) (is_there :
     where
       stop_start : job.Stop ≡ job.Start → ⊥
       stop_start f = cc
+
       kind_after : (x y : Job) → ComesBefore x y → y.kind ≡ job.Start
       kind_after x y (ComesBefore.stop_first unit) = refl
+
       nothing_first : (other : Job) → ComesBefore other (record { unit = j.unit; kind = job.Stop }) → ⊥
       nothing_first other b = stop_start (kind_after other (record { unit = j.unit; kind = job.Stop }) b)
 
@@ -311,10 +310,12 @@ module _ (s : State) (fits : AllFit s) (still : IsStill s) (j : Job) (is_there :
     where
       before : (x y : Job) → ComesBefore x y → (x.unit ≡ y.unit) × (x.kind ≡ job.Stop)
       before x y (ComesBefore.stop_first unit) = (refl, refl)
+
       free : (other : Job) → IsPending s.pending other → ¬ ComesBefore other (record { unit = j.unit; kind = job.Start })
       free other p b =
           let is = before other (record { unit = j.unit; kind = job.Start }) b in
           p (ap (λ k. job_of k (jobs_of_unit s.pending other.unit)) is.1 ∙ (ap (λ q. (jobs_of_unit s.pending q).stop) is.0 ∙ none))
+
       deactivating : (x : SubState) → is_stopping x ≡ false → active_state_of x ≢ active.Deactivating
       deactivating sub.Stop f e = true≢false f
       deactivating sub.StopSigterm f e = true≢false f
@@ -350,3 +351,10 @@ module _ (s : State) (fits : AllFit s) (still : IsStill s) (j : Job) (is_there :
 fitting_not_stuck : (s : State) → AllFit s → IsStill s → IsNotStuck s
 unfolding pending_waits
 fitting_not_stuck s fits still j is_there = let w = pending_waits s fits still j is_there in (j, w.0, w.1)
+
+-- after any inputs the machine isn't stuck, where the table keeps the process of a unit
+pub never_stuck : ((s : ServiceSettings) (c : Around) (u : UnitState) (e : UnitEvent) → HasItsProcess u → HasItsProcess (transition s c u e).unit)
+    → (size : ℕ) (inputs : List Input) (t : State) → Run size empty_state inputs t → IsNotStuck t
+never_stuck keeps size inputs t run =
+    let calm = run_fits keeps size empty_state t inputs run (empty_fits, empty_still) in
+    fitting_not_stuck t calm.0 calm.1

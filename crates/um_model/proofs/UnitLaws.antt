@@ -9,7 +9,6 @@ use Rattle.std.specs.Cmp.{eq_by_cmp_equiv}
 use Rattle.std.specs.Ordering.{nat_cmp, eq_by_cmp}
 use Rattle.um_model.specs.Service.{ByUnit, is_dead, is_success, has_no_process, has_no_moment, has_no_past, holds_nothing, dead_unit, state_of_unit, with_unit}
 use Rattle.um_model.specs.Jobs.{no_jobs, jobs_of_unit, has_job, with_jobs}
-use Rattle.um_model.specs.declared.jobs.JobState.{JobState}
 use Rattle.um_model.specs.declared.jobs.UnitJobs.{UnitJobs}
 use Rattle.um_model.specs.declared.service.SubState.{SubState}
 use Rattle.um_model.specs.declared.service.SubState.TheVariants.{Dead}
