@@ -1,23 +1,23 @@
 -- A step has one outcome, a run has one end, and runs join.
-use Rattle.std.proofs.Common.{ℕ, ◌≡◌, ◌≢◌, ◌<◌, ◌≤◌, ◌⊎◌, ◌∙◌, Bool, true, false, true≢false, List, [], ◌∷◌, ◌++◌, Option, Some, None, Result, Ok, Err, Less, refl, sym, ap, subst, inl, inr, slice_get, arith}
+use Rattle.std.proofs.Common.{ℕ, ◌≡◌, ◌≢◌, ◌⊎◌, ◌∙◌, true≢false, List, [], ◌∷◌, ◌++◌, Option, Some, None, Result, Ok, Err, refl, sym, ap, subst, inl, inr, slice_get, arith}
 use Rattle.std.proofs.lemmas.Option.{none-some, same_Some}
 use Rattle.std.specs.FinMap as map
 use Rattle.std.specs.FinMap.{slice_cmp-IsAntisymmetric, nat_cmp-IsAntisymmetric}
-use Rattle.std.specs.Cmp.Lexicographic.{slice_cmp, nat_list_cmp_total}
-use Rattle.std.specs.Ordering.{nat_cmp}
+use Rattle.std.specs.Cmp.Lexicographic.{nat_list_cmp_total}
 use Rattle.um_model.specs.Words.{Command}
 use Rattle.um_model.specs.Refusals.{Refused}
 use Rattle.um_model.specs.Substitution.{Variable}
 use Rattle.um_model.specs.Settings.{ServiceSettings, commands_in, environment_texts}
 use Rattle.um_model.specs.Tree.{Tree, put_file}
 use Rattle.um_model.specs.Service.{Action, SpawnProcess, ByUnit, state_of_unit}
-use Rattle.um_model.specs.Jobs.{Job, IsReady, IsToldBefore, by_name, stop_first, BeginsNext}
-use Rattle.um_model.specs.Timers.{Timers, IsDueFirst}
+use Rattle.um_model.specs.Jobs.{Job, IsToldBefore, by_name, stop_first, BeginsNext}
+use Rattle.um_model.specs.Timers.{Timers}
 use Rattle.um_model.specs.Transitions.{AreStarted, no_command, substituted, as_written, AreActions, nothing, spawn, signals, HasNumber}
-use Rattle.um_model.specs.Machine.{State, Event, PutFile, DaemonReload, StartUnit, StopUnit, ProcessEnded, Tick, Input, Reply, Refusal, Happens, change_of, changed, startable_in, around, begins, begun, Settles, begins_next, IsProcessOf, IsOver, AreDeadlines, end_of, Fires, none_due, fires, passes, Takes, puts, reloads, starts, stops, ends, ticks, HasNoEffect, is_over, is_idle, refusal_of, planned, moment_of, Step, refused, idle, taken, Run, goes}
+use Rattle.um_model.specs.Machine.{State, Event, ProcessEnded, Tick, Input, Reply, Refusal, Happens, change_of, startable_in, around, begins, begun, Settles, begins_next, IsProcessOf, AreDeadlines, end_of, Fires, none_due, fires, passes, Takes, puts, reloads, starts, stops, ends, ticks, HasNoEffect, is_over, is_idle, refusal_of, planned, moment_of, Step, refused, idle, taken, Run, goes}
 use Rattle.um_model.specs.declared.jobs.JobKind.{JobKind}
 use Rattle.um_model.specs.declared.jobs.JobKind.TheVariants.{Stop, Start}
 use Rattle.um_model.specs.declared.jobs.UnitJobs.{UnitJobs}
+use Rattle.um_model.specs.declared.service.End.{End}
 use Rattle.um_model.specs.declared.service.UnitState.{UnitState}
 use Rattle.um_model.specs.declared.transition.Around.{Around}
 use Rattle.um_model.specs.declared.transition.Order.{Order}
@@ -157,6 +157,14 @@ one_taken t s event a b v w (ticks timers are h) (ticks others too k) =
 not_refused : (t : ℕ) (s : State) (event : Event) → HasNoEffect t s event → refusal_of s event ≡ None
 not_refused t s event (is_over none) = refl
 not_refused t s event (is_idle quiet) = refl
+
+-- a tick that asks for something or changes the state has an effect
+pub tick_has_effect : (t : ℕ) (s : State) (actions : List Action) (v : State) → Takes t s Tick actions v → ¬ ((actions ≡ []) × (v ≡ s)) → ¬ HasNoEffect t s Tick
+tick_has_effect t s actions v takes differs (is_idle quiet) = differs (one_taken t s Tick actions [] v s takes quiet)
+
+-- the end of a live process has an effect
+pub end_has_effect : (t : ℕ) (s : State) (number : ℕ) (end : End) (unit : List ℕ) → HasNumber (state_of_unit s.units unit) number → ¬ HasNoEffect t s (ProcessEnded number end)
+end_has_effect t s number end unit live (is_over none) = none unit live
 
 -- a step has one outcome
 pub one_outcome : (size : ℕ) (s : State) (input : Input) (r q : Reply) (a b : List Action) (t u : State)
