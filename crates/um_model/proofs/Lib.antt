@@ -21,3 +21,4 @@ pub mod UnitLaws
 pub mod FitLaws
 pub mod LiveLaws
 pub mod NumbersLaws
+pub mod HeldLaws

@@ -27,6 +27,7 @@ use Rattle.um_model.specs.declared.transition.UnitEvent.{UnitEvent}
 use Rattle.um_model.specs.declared.transition.UnitEvent.TheVariants.{StartBegins, StopBegins, DeadlinePasses}
 use Rattle.um_model.proofs.TimersLaws.{same_name}
 use Rattle.um_model.proofs.UnitLaws.{state_here, state_apart, jobs_here, jobs_apart}
+use Rattle.um_model.proofs.HeldLaws.{process_kept}
 use Rattle.um_model.proofs.FitLaws.{StartFits, StopFits, begun_start_fits, start_fits, begun_stop_fits, stop_fits}
 
 -- a unit and its jobs fit: it has its process, a start job runs only in start, a stop job only in a stop state, and not both
@@ -352,9 +353,8 @@ fitting_not_stuck : (s : State) → AllFit s → IsStill s → IsNotStuck s
 unfolding pending_waits
 fitting_not_stuck s fits still j is_there = let w = pending_waits s fits still j is_there in (j, w.0, w.1)
 
--- after any inputs the machine isn't stuck, where the table keeps the process of a unit
-pub never_stuck : ((s : ServiceSettings) (c : Around) (u : UnitState) (e : UnitEvent) → HasItsProcess u → HasItsProcess (transition s c u e).unit)
-    → (size : ℕ) (inputs : List Input) (t : State) → Run size empty_state inputs t → IsNotStuck t
-never_stuck keeps size inputs t run =
-    let calm = run_fits keeps size empty_state t inputs run (empty_fits, empty_still) in
+-- after any inputs the machine isn't stuck
+pub never_stuck : (size : ℕ) (inputs : List Input) (t : State) → Run size empty_state inputs t → IsNotStuck t
+never_stuck size inputs t run =
+    let calm = run_fits process_kept size empty_state t inputs run (empty_fits, empty_still) in
     fitting_not_stuck t calm.0 calm.1
