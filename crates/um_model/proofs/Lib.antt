@@ -7,6 +7,10 @@ pub mod TreeLaws
 pub mod OrderLaws
 pub mod LimitLaws
 pub mod MachineLaws
+pub mod UnitLaws
+pub mod FitLaws
+pub mod LiveLaws
+pub mod NumbersLaws
 pub mod PiecesLaws
 pub mod WordsLaws
 pub mod SubstitutionLaws
@@ -17,8 +21,4 @@ pub mod FramesLaws
 pub mod ValuesLaws
 pub mod SpecifiersLaws
 pub mod DiskLaws
-pub mod UnitLaws
-pub mod FitLaws
-pub mod LiveLaws
-pub mod NumbersLaws
-pub mod HeldLaws
+pub mod TransitionLaws

@@ -27,7 +27,7 @@ use Rattle.um_model.specs.declared.transition.UnitEvent.{UnitEvent}
 use Rattle.um_model.specs.declared.transition.UnitEvent.TheVariants.{StartBegins, StopBegins, DeadlinePasses}
 use Rattle.um_model.proofs.TimersLaws.{same_name}
 use Rattle.um_model.proofs.UnitLaws.{state_here, state_apart, jobs_here, jobs_apart}
-use Rattle.um_model.proofs.HeldLaws.{process_kept}
+use Rattle.um_model.proofs.TransitionLaws.{keeps_process}
 use Rattle.um_model.proofs.FitLaws.{StartFits, StopFits, begun_start_fits, start_fits, begun_stop_fits, stop_fits}
 
 -- a unit and its jobs fit: it has its process, a start job runs only in start, a stop job only in a stop state, and not both
@@ -356,5 +356,5 @@ fitting_not_stuck s fits still j is_there = let w = pending_waits s fits still j
 -- after any inputs the machine isn't stuck
 pub never_stuck : (size : ℕ) (inputs : List Input) (t : State) → Run size empty_state inputs t → IsNotStuck t
 never_stuck size inputs t run =
-    let calm = run_fits process_kept size empty_state t inputs run (empty_fits, empty_still) in
+    let calm = run_fits keeps_process size empty_state t inputs run (empty_fits, empty_still) in
     fitting_not_stuck t calm.0 calm.1

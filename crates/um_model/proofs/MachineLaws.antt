@@ -1,29 +1,24 @@
 -- A step has one outcome, a run has one end, and runs join.
-use Rattle.std.proofs.Common.{ℕ, ◌≡◌, ◌≢◌, ◌⊎◌, ◌∙◌, true≢false, List, [], ◌∷◌, ◌++◌, Option, Some, None, Result, Ok, Err, refl, sym, ap, subst, inl, inr, slice_get, arith}
+use Rattle.std.proofs.Common.{ℕ, ◌≡◌, ◌≢◌, ◌⊎◌, ◌∙◌, List, [], ◌∷◌, ◌++◌, Some, None, Result, Ok, Err, refl, sym, ap, subst, inl, inr, arith}
 use Rattle.std.proofs.lemmas.Option.{none-some, same_Some}
 use Rattle.std.specs.FinMap as map
 use Rattle.std.specs.FinMap.{slice_cmp-IsAntisymmetric, nat_cmp-IsAntisymmetric}
 use Rattle.std.specs.Cmp.Lexicographic.{nat_list_cmp_total}
-use Rattle.um_model.specs.Words.{Command}
 use Rattle.um_model.specs.Refusals.{Refused}
-use Rattle.um_model.specs.Substitution.{Variable}
-use Rattle.um_model.specs.Settings.{ServiceSettings, commands_in, environment_texts}
 use Rattle.um_model.specs.Tree.{Tree, put_file}
-use Rattle.um_model.specs.Service.{Action, SpawnProcess, ByUnit, state_of_unit}
+use Rattle.um_model.specs.Service.{Action, ByUnit, state_of_unit}
 use Rattle.um_model.specs.Jobs.{Job, IsToldBefore, by_name, stop_first, BeginsNext}
 use Rattle.um_model.specs.Timers.{Timers}
-use Rattle.um_model.specs.Transitions.{AreStarted, no_command, substituted, as_written, AreActions, nothing, spawn, signals, HasNumber}
+use Rattle.um_model.specs.Transitions.{HasNumber}
 use Rattle.um_model.specs.Machine.{State, Event, ProcessEnded, Tick, Input, Reply, Refusal, Happens, change_of, startable_in, around, begins, begun, Settles, begins_next, IsProcessOf, AreDeadlines, end_of, Fires, none_due, fires, passes, Takes, puts, reloads, starts, stops, ends, ticks, HasNoEffect, is_over, is_idle, refusal_of, planned, moment_of, Step, refused, idle, taken, Run, goes}
 use Rattle.um_model.specs.declared.jobs.JobKind.{JobKind}
 use Rattle.um_model.specs.declared.jobs.JobKind.TheVariants.{Stop, Start}
 use Rattle.um_model.specs.declared.jobs.UnitJobs.{UnitJobs}
 use Rattle.um_model.specs.declared.service.End.{End}
 use Rattle.um_model.specs.declared.service.UnitState.{UnitState}
-use Rattle.um_model.specs.declared.transition.Around.{Around}
-use Rattle.um_model.specs.declared.transition.Order.{Order}
 use Rattle.um_model.specs.declared.transition.UnitEvent.{UnitEvent}
 use Rattle.um_model.specs.declared.transition.UnitEvent.TheVariants.{DeadlinePasses}
-use Rattle.um_model.proofs.SubstitutionLaws.{same_substituted}
+use Rattle.um_model.proofs.TransitionLaws.{same_actions}
 use Rattle.um_model.proofs.TimersLaws.{one_due_first, same_name, names_one_way}
 
 -- two outcomes are one
@@ -32,26 +27,11 @@ pub record IsSameOutcome (r q : Reply) (a b : List Action) (s t : State) : Type 
   pub actions : a ≡ b
   pub state : s ≡ t
 
--- the words that a command is started with are one list
-pub one_start : (environment : List Variable) (c : Option Command) (a b : List (List ℕ)) → AreStarted environment c a → AreStarted environment c b → a ≡ b
-one_start environment c a b no_command no_command = refl
-one_start environment c a b (substituted d words is are) (substituted e others same too) = same_substituted environment e.words words others are too
-one_start environment c a b (substituted d words is are) (as_written e isnt) = absurd (true≢false (sym is ∙ isnt))
-one_start environment c a b (as_written d isnt) (substituted e words is are) = absurd (true≢false (sym is ∙ isnt))
-one_start environment c a b (as_written d isnt) (as_written e too) = refl
-
--- an order is one list of actions
-pub one_asked : (s : ServiceSettings) (c : Around) (u : UnitState) (o : Order) (a b : List Action) → AreActions s c u o a → AreActions s c u o b → a ≡ b
-one_asked s c u o a b nothing nothing = refl
-one_asked s c u o a b (spawn which i words started) (spawn too j others again) =
-    ap (λ w. SpawnProcess c.next w (environment_texts s) ∷ []) (one_start s.environment (slice_get (commands_in s too) j) words others started again)
-one_asked s c u o a b (signals signal) (signals same) = refl
-
 -- what happens to a unit has one outcome
 pub one_happening : (t : ℕ) (unit : List ℕ) (event : UnitEvent) (s : State) (a b : List Action) (v w : State)
     → Happens t unit event s a v → Happens t unit event s b w → (a ≡ b) × (v ≡ w)
 one_happening t unit event s a b v w h k =
-    (one_asked (startable_in s.loaded unit).settings (around t s unit) (change_of t s unit event).unit (change_of t s unit event).order a b h.asked k.asked, h.state ∙ sym k.state)
+    (same_actions (startable_in s.loaded unit).settings (around t s unit) (change_of t s unit event).unit (change_of t s unit event).order a b h.asked k.asked, h.state ∙ sym k.state)
 
 -- of two jobs not each is told before the other
 told_one_way : (j k : Job) → IsToldBefore j k → IsToldBefore k j → ⊥

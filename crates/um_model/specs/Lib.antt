@@ -17,11 +17,11 @@ pub mod Ends
 pub mod Transitions
 pub mod Jobs
 pub mod Machine
+pub mod Live
+pub mod Numbers
 pub mod Requests
 pub mod Replies
 pub mod Frames
 pub mod Timers
 pub mod Specifiers
 pub mod Disk
-pub mod Live
-pub mod Numbers
