@@ -7,6 +7,10 @@ pub mod TreeLaws
 pub mod OrderLaws
 pub mod LimitLaws
 pub mod MachineLaws
+pub mod UnitLaws
+pub mod FitLaws
+pub mod LiveLaws
+pub mod NumbersLaws
 pub mod PiecesLaws
 pub mod WordsLaws
 pub mod SubstitutionLaws
@@ -23,3 +27,4 @@ pub mod UnitsLaws
 pub mod DeadlinesLaws
 pub mod KeepsLaws
 pub mod BytesLaws
+pub mod TransitionLaws

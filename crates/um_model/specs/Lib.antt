@@ -17,6 +17,8 @@ pub mod Ends
 pub mod Transitions
 pub mod Jobs
 pub mod Machine
+pub mod Live
+pub mod Numbers
 pub mod Requests
 pub mod Replies
 pub mod Frames

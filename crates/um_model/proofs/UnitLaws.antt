@@ -1,0 +1,123 @@
+-- What the state holds of a unit after that unit, or its jobs, were put into it; and what it holds of the others.
+use Rattle.std.proofs.Common.{ℕ, ◌≡◌, ◌≢◌, ◌∙◌, ◌==◌, ◌&&◌, ◌||◌, Bool, true, false, true≢false, not, cond, List, Option, Some, None, is_some, unwrap_or, refl, sym, ap}
+use Rattle.std.proofs.lemmas.Bool.Decides.{Decides-eqb}
+use Rattle.std.proofs.lemmas.Map.Views.{tells_apart}
+use Rattle.std.proofs.lemmas.Map.Lookups.{exact_bytes}
+use Rattle.std.specs.FinMap as map
+use Rattle.std.specs.Cmp.Lexicographic.{slice_cmp, nat_list_cmp_total}
+use Rattle.std.specs.Cmp.{eq_by_cmp_equiv}
+use Rattle.std.specs.Ordering.{nat_cmp, eq_by_cmp}
+use Rattle.um_model.specs.Service.{ByUnit, is_dead, is_success, has_no_process, has_no_moment, has_no_past, holds_nothing, dead_unit, state_of_unit, with_unit}
+use Rattle.um_model.specs.Jobs.{no_jobs, jobs_of_unit, has_job, with_jobs}
+use Rattle.um_model.specs.declared.jobs.UnitJobs.{UnitJobs}
+use Rattle.um_model.specs.declared.service.SubState.{SubState}
+use Rattle.um_model.specs.declared.service.SubState.TheVariants.{Dead}
+use Rattle.um_model.specs.declared.service.UnitResult.{UnitResult}
+use Rattle.um_model.specs.declared.service.UnitResult.TheVariants.{Success}
+use Rattle.um_model.specs.declared.service.UnitState.{UnitState}
+
+both : (a b : Bool) → (a && b) ≡ true → (a ≡ true) × (b ≡ true)
+both true b h = (refl, h)
+both false b h = absurd (true≢false (sym h))
+
+neither : (a b : Bool) → (a || b) ≡ false → (a ≡ false) × (b ≡ false)
+neither true b h = absurd (true≢false h)
+neither false b h = (refl, h)
+
+dead_is : (x : SubState) → is_dead x ≡ true → x ≡ Dead
+dead_is Dead h = refl
+dead_is _ h = absurd (true≢false (sym h))
+
+success_is : (x : UnitResult) → is_success x ≡ true → x ≡ Success
+success_is Success h = refl
+success_is _ h = absurd (true≢false (sym h))
+
+none_is : {A : Type 0} (x : Option A) → is_some x ≡ false → x ≡ None
+none_is None h = refl
+none_is (Some a) h = absurd (true≢false h)
+
+false_is : (b : Bool) → not b ≡ true → b ≡ false
+false_is true h = sym h
+false_is false h = refl
+
+-- a unit of which nothing is held is the dead one
+pub nothing_held : (u : UnitState) → holds_nothing u ≡ true → u ≡ dead_unit
+nothing_held u h =
+    let a = both (is_dead u.sub && is_success u.result && has_no_process u) (has_no_moment u && has_no_past u) h in
+    let b = both (is_dead u.sub && is_success u.result) (has_no_process u) a.0 in
+    let c = both (is_dead u.sub) (is_success u.result) b.0 in
+    let d = both (has_no_moment u) (has_no_past u) a.1 in
+    let e = both (not (is_some u.main)) (not (is_some u.control)) b.1 in
+    let f = both (not (is_some u.deadline)) (not (is_some u.window)) d.0 in
+    let g = both (u.index == 0 && not u.asked) (not (is_some u.last)) d.1 in
+    let k = both (u.index == 0) (not u.asked) g.0 in
+    λ i. record {
+      sub = dead_is u.sub c.0 i;
+      result = success_is u.result c.1 i;
+      main = none_is u.main (false_is (is_some u.main) e.0) i;
+      control = none_is u.control (false_is (is_some u.control) e.1) i;
+      index = (Decides-eqb u.index 0).0 k.0 i;
+      deadline = none_is u.deadline (false_is (is_some u.deadline) f.0) i;
+      window = none_is u.window (false_is (is_some u.window) f.1) i;
+      asked = false_is u.asked k.1 i;
+      last = none_is u.last (false_is (is_some u.last) g.1) i;
+    }
+
+-- a unit with no job has none
+pub no_job_held : (j : UnitJobs) → has_job j ≡ false → j ≡ no_jobs
+no_job_held j h =
+    let a = neither (is_some j.stop) (is_some j.start) h in
+    λ i. record { stop = none_is j.stop a.0 i; start = none_is j.start a.1 i }
+
+module _ {A : Type 0} (nothing : A) where
+  taken_out : (b : Bool) (o : Option A) (x : A) → x ≡ nothing → unwrap_or (cond b None o) nothing ≡ cond b x (unwrap_or o nothing)
+  taken_out true o x e = sym e
+  taken_out false o x e = refl
+
+  put_in : (b : Bool) (o : Option A) (x : A) → unwrap_or (cond b (Some x) o) nothing ≡ cond b x (unwrap_or o nothing)
+  put_in true o x = refl
+  put_in false o x = refl
+
+  -- with a value of one name, which isn't held where it is the empty one
+  held_after : (m : ByUnit A) (k : List ℕ) (x : A) (b : Bool) → (b ≡ true → x ≡ nothing) → (q : List ℕ)
+      → unwrap_or (map.get (cond b (map.remove m k) (map.insert m k x)) q) nothing ≡ cond (eq_by_cmp (slice_cmp nat_cmp) q k) x (unwrap_or (map.get m q) nothing)
+  held_after m k x true e q =
+      ap (λ o. unwrap_or o nothing) (map.get-remove nat_list_cmp_total m k q) ∙ taken_out (eq_by_cmp (slice_cmp nat_cmp) q k) (map.get m q) x (e refl)
+  held_after m k x false e q =
+      ap (λ o. unwrap_or o nothing) (map.get-insert nat_list_cmp_total m k x q) ∙ put_in (eq_by_cmp (slice_cmp nat_cmp) q k) (map.get m q) x
+
+alike : (q : List ℕ) → eq_by_cmp (slice_cmp nat_cmp) q q ≡ true
+alike q = (eq_by_cmp_equiv nat_list_cmp_total).refl q
+
+unlike : (q k : List ℕ) → q ≢ k → eq_by_cmp (slice_cmp nat_cmp) q k ≡ false
+unlike q k apart = elim (eq_by_cmp (slice_cmp nat_cmp) q k) as (λ b. eq_by_cmp (slice_cmp nat_cmp) q k ≡ b → b ≡ false) [
+  | true ↦ λ e. absurd (apart (tells_apart exact_bytes q k e))
+  | false ↦ λ e. refl
+] refl
+
+-- after a unit is put into the units: what they hold of it
+pub state_here : (units : ByUnit UnitState) (unit : List ℕ) (u : UnitState) → state_of_unit (with_unit units unit u) unit ≡ u
+state_here units unit u =
+    held_after dead_unit units unit u (holds_nothing u) (nothing_held u) unit ∙ ap (λ b. cond b u (state_of_unit units unit)) (alike unit)
+
+-- and of another
+pub state_apart : (units : ByUnit UnitState) (unit : List ℕ) (u : UnitState) (other : List ℕ) → other ≢ unit
+    → state_of_unit (with_unit units unit u) other ≡ state_of_unit units other
+state_apart units unit u other apart =
+    held_after dead_unit units unit u (holds_nothing u) (nothing_held u) other ∙ ap (λ b. cond b u (state_of_unit units other)) (unlike other unit apart)
+
+jobs_after_put : (pending : ByUnit UnitJobs) (unit : List ℕ) (j : UnitJobs) (b : Bool) → (b ≡ false → j ≡ no_jobs) → (q : List ℕ)
+    → jobs_of_unit (cond b (map.insert pending unit j) (map.remove pending unit)) q ≡ cond (eq_by_cmp (slice_cmp nat_cmp) q unit) j (jobs_of_unit pending q)
+jobs_after_put pending unit j true e q = held_after no_jobs pending unit j false (λ f. absurd (true≢false (sym f))) q
+jobs_after_put pending unit j false e q = held_after no_jobs pending unit j true (λ f. e refl) q
+
+-- after the jobs of a unit are put: its jobs
+pub jobs_here : (pending : ByUnit UnitJobs) (unit : List ℕ) (j : UnitJobs) → jobs_of_unit (with_jobs pending unit j) unit ≡ j
+jobs_here pending unit j =
+    jobs_after_put pending unit j (has_job j) (no_job_held j) unit ∙ ap (λ b. cond b j (jobs_of_unit pending unit)) (alike unit)
+
+-- and those of another
+pub jobs_apart : (pending : ByUnit UnitJobs) (unit : List ℕ) (j : UnitJobs) (other : List ℕ) → other ≢ unit
+    → jobs_of_unit (with_jobs pending unit j) other ≡ jobs_of_unit pending other
+jobs_apart pending unit j other apart =
+    jobs_after_put pending unit j (has_job j) (no_job_held j) other ∙ ap (λ b. cond b j (jobs_of_unit pending other)) (unlike other unit apart)

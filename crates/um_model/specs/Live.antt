@@ -1,0 +1,25 @@
+-- What it is that the machine is never stuck: a pending job waits for a live process, and not for nothing.
+-- Follows systemctl(1), "list-jobs": a job is pending until its unit has started or stopped.
+-- The law of runs in proofs/LiveLaws depends on this file.
+use Rattle.std.specs.Prelude.{◌≡◌, ℕ, Bool, true, false, ◌||◌}
+use Rattle.um_model.specs.Service.{state_of_unit}
+use Rattle.um_model.specs.Ends.{is_stopping}
+use Rattle.um_model.specs.Transitions.{HasNumber}
+use Rattle.um_model.specs.Jobs.{Job, IsPending}
+use Rattle.um_model.specs.Machine.{State}
+use Rattle.um_model.specs.declared.service.SubState.{SubState}
+use Rattle.um_model.specs.declared.service.SubState.TheVariants.{Start}
+
+abbrev pub is_starting : SubState → Bool
+is_starting Start = true
+is_starting other = false
+
+-- a pending job whose unit is in start or in a stop state, where this is the number of a live process
+pub record WaitsFor (s : State) (job : Job) (number : ℕ) : Type 0 where
+  pub pending : IsPending s.pending job
+  pub busy : (is_starting (state_of_unit s.units job.unit).sub || is_stopping (state_of_unit s.units job.unit).sub) ≡ true
+  pub live : HasNumber (state_of_unit s.units job.unit) number
+
+-- where a job is pending, some pending job waits for a live process
+abbrev pub IsNotStuck : State → Type 0
+IsNotStuck s = (job : Job) → IsPending s.pending job → (other : Job) × (number : ℕ) × WaitsFor s other number
