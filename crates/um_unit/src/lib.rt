@@ -7,6 +7,8 @@ mod loaded;
 mod loader;
 mod read;
 mod resolve;
+mod service_settings;
 
 pub use loaded::{LoadedUnit, Loading, Settings, Warning};
 pub use loader::load;
+pub use service_settings::ServiceSettings;

@@ -21,7 +21,7 @@ pub struct ExitSet {
 
 impl ExitSet {
     /// The set that no end is in.
-    fn empty() -> ExitSet
+    pub fn empty() -> ExitSet
         ensures { (end : ends.End) → holds result end ≡ false }
     {
         ExitSet {

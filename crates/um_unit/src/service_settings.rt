@@ -1,0 +1,66 @@
+ghost use Rattle.std.specs.Prelude.{◌≡◌};
+ghost use Rattle.um_model.specs.Settings.{default_settings};
+ghost use Rattle.um_unit.specs.ServiceView.{service_settings_of};
+
+use std::alloc::Global;
+use um_model::{RestartPolicy, UnitKind};
+use um_value::ExitSet;
+use um_words::{Command, Variable};
+
+/// What a unit's file sets of its processes, its restarts and its start limit (systemd.service(5); for the limit
+/// systemd.unit(5)). Spans are in microseconds; one of none never ends.
+#[derive(Debug, Drop)]
+pub struct ServiceSettings {
+    pub kind: UnitKind,
+    /// `ExecStart=`, its commands in order.
+    pub start: Vec<Command>,
+    /// `ExecStop=`, its commands in order.
+    pub stop: Vec<Command>,
+    /// `Environment=`: of equal names the later counts.
+    pub environment: Vec<Variable>,
+    /// `RemainAfterExit=`.
+    pub remains: bool,
+    /// `Restart=`.
+    pub restart: RestartPolicy,
+    /// `RestartSec=`.
+    pub restart_delay: Option<u64>,
+    /// `TimeoutStartSec=`.
+    pub timeout_start: Option<u64>,
+    /// `TimeoutStopSec=`.
+    pub timeout_stop: Option<u64>,
+    /// `StartLimitIntervalSec=`.
+    pub limit_interval: Option<u64>,
+    /// `StartLimitBurst=`.
+    pub limit_burst: u32,
+    /// `SuccessExitStatus=`.
+    pub success: ExitSet,
+    /// `RestartPreventExitStatus=`.
+    pub prevents_restart: ExitSet,
+    /// `RestartForceExitStatus=`.
+    pub forces_restart: ExitSet,
+}
+
+impl ServiceSettings {
+    /// A unit of this kind in which nothing is set: no commands, no restart, time-outs of 90 seconds, and starts that
+    /// aren't limited. It takes no memory.
+    pub fn new(alloc: Global, kind: UnitKind) -> ServiceSettings
+        ensures { service_settings_of result ≡ default_settings kind }
+    {
+        ServiceSettings {
+            kind,
+            start: Vec::new(alloc),
+            stop: Vec::new(alloc),
+            environment: Vec::new(alloc),
+            remains: false,
+            restart: RestartPolicy::No,
+            restart_delay: Some(100_000),
+            timeout_start: Some(90_000_000),
+            timeout_stop: Some(90_000_000),
+            limit_interval: Some(0),
+            limit_burst: 5,
+            success: ExitSet::empty(),
+            prevents_restart: ExitSet::empty(),
+            forces_restart: ExitSet::empty(),
+        }
+    }
+}
