@@ -23,7 +23,7 @@ pub mod SpecifiersLaws
 pub mod DiskLaws
 pub mod JobsLaws
 pub mod FirstByName
-pub mod UnitsLaws
+pub mod ScanLaws
 pub mod DeadlinesLaws
 pub mod KeepsLaws
 pub mod BytesLaws

@@ -92,7 +92,7 @@ abbrev pub stop_command : ServiceSettings → Around → UnitState → ℕ → C
 stop_command s c u i =
     if has_number c
     then asking (Spawn OfStop i)
-        (just (record u { sub = Stop; control = Some c.next; index = i; deadline = moment_after c.moment s.timeout_stop }))
+    (just (record u { sub = Stop; control = Some c.next; index = i; deadline = moment_after c.moment s.timeout_stop }))
     else terminates s c (record u { result = result.Resources; index = i })
 
 -- the unit goes down: by its ExecStop= commands where it has any

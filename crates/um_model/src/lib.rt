@@ -24,9 +24,7 @@ pub use refusals::Limit;
 pub use requests::{Mode, Verb};
 pub use service::{ActiveState, End, Signal, SubState, UnitResult, UnitState};
 pub use settings::{RestartPolicy, TimeSpan};
-pub use transition::{
-    Around, Change, CommandList, Order, Process, StartJob, UnitEvent, UnitKind,
-};
+pub use transition::{Around, Change, CommandList, Order, Process, StartJob, UnitEvent, UnitKind};
 pub use tree::Layer;
 pub use units::LoadState;
 pub use warnings::WarningKind;

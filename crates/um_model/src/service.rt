@@ -124,8 +124,9 @@ impl UnitState {
         ensures { result ≡ holds_nothing self.now }
     {
         match (self.sub, self.result) {
-            (SubState::Dead, UnitResult::Success) =>
-                self.has_no_process() && self.has_no_moment() && self.has_no_past(),
+            (SubState::Dead, UnitResult::Success) => self.has_no_process()
+                && self.has_no_moment()
+                && self.has_no_past(),
             _ => false,
         }
     }

@@ -1,0 +1,33 @@
+//! What the service table says of all units together, as functions that do nothing.
+
+ghost use Rattle.std.specs.Prelude.{◌≡◌, ◌+◌, ◌^◌, ◌≤◌, ◌⊎◌, ℕ, List};
+ghost use Rattle.um_model.specs.Service.{Action};
+ghost use Rattle.um_model.specs.Settings.{ServiceSettings};
+ghost use Rattle.um_model.specs.Transitions.{transition, spawned, AreActions, HasItsProcess, HasNumber};
+ghost use Rattle.um_model.specs.declared.service.UnitState.{UnitState};
+ghost use Rattle.um_model.specs.declared.transition.Around.{Around};
+ghost use Rattle.um_model.specs.declared.transition.Order.{Order};
+ghost use Rattle.um_model.specs.declared.transition.UnitEvent.{UnitEvent};
+
+/// Whatever happens to a unit that has its live process, it has one after it: a unit that starts or runs its main process,
+/// one that its `ExecStop=` commands stop a control process, and one that is told to end one of them.
+pub fn a_process_is_kept()
+    ensures { (s : ServiceSettings) (around : Around) (unit : UnitState) (event : UnitEvent) → HasItsProcess unit → HasItsProcess (transition s around unit event).unit }
+{}
+
+/// Each process number that is new to a unit is the next one, and a process was started under it.
+pub fn new_numbers_are_the_next()
+    ensures { (s : ServiceSettings) (around : Around) (unit : UnitState) (event : UnitEvent) (n : ℕ) → HasNumber (transition s around unit event).unit n
+        → HasNumber unit n ⊎ ((n ≡ around.next) × (spawned (transition s around unit event).order ≡ 1)) }
+{}
+
+/// The next process number stays within 2^63: past it no process is started.
+pub fn the_next_number_stays_small()
+    ensures { (s : ServiceSettings) (around : Around) (unit : UnitState) (event : UnitEvent) → around.next ≤ 2 ^ 63
+        → around.next + spawned (transition s around unit event).order ≤ 2 ^ 63 }
+{}
+
+/// What is asked of a unit's processes is one list of actions at most.
+pub fn an_order_has_one_list_of_actions()
+    ensures { (s : ServiceSettings) (around : Around) (unit : UnitState) (order : Order) (a b : List Action) → AreActions s around unit order a → AreActions s around unit order b → a ≡ b }
+{}

@@ -1,0 +1,85 @@
+//! How a unit comes to rest.
+
+ghost use Rattle.std.specs.Prelude.{◌≡◌, ℕ};
+ghost use Rattle.um_model.specs.Transitions.{resting, rests_for_good, awaits_restart, rests, rests_unless_live, terminates};
+ghost use Rattle.um_unit.specs.ServiceView.{service_settings_of};
+
+use crate::change::{asking, is_live, just, moment_after, stop_ends};
+use crate::ends::is_restart_wanted;
+use um_model::{Around, Change, Order, Signal, SubState, UnitResult, UnitState};
+use um_unit::ServiceSettings;
+
+/// Dead where all went well, else failed.
+fn resting(left: UnitResult) -> SubState
+    ensures { result ≡ resting left }
+{
+    match left {
+        UnitResult::Success => SubState::Dead,
+        _ => SubState::Failed,
+    }
+}
+
+/// The unit comes to rest, and isn't started again by itself.
+pub fn rests_for_good(unit: UnitState) -> Change
+    ensures { result ≡ rests_for_good unit }
+{
+    stop_ends(just(UnitState {
+        sub: resting(unit.result),
+        main: None,
+        control: None,
+        deadline: None,
+        ..unit
+    }))
+}
+
+/// The unit waits for its restart (systemd.service(5), `RestartSec=`).
+fn awaits_restart(settings: &ServiceSettings, around: Around, unit: UnitState) -> Change
+    ensures { result ≡ awaits_restart (service_settings_of settings.now) around unit }
+{
+    stop_ends(just(UnitState {
+        sub: SubState::AutoRestart,
+        main: None,
+        control: None,
+        deadline: moment_after(around.moment, settings.restart_delay),
+        ..unit
+    }))
+}
+
+/// The unit comes to rest; one that nobody asked to stop may wait for its restart instead.
+pub fn rests(settings: &ServiceSettings, around: Around, unit: UnitState) -> Change
+    ensures { result ≡ rests (service_settings_of settings.now) around unit }
+{
+    if !unit.asked && !around.stop_waits && is_restart_wanted(settings, unit) {
+        awaits_restart(settings, around, unit)
+    } else {
+        rests_for_good(unit)
+    }
+}
+
+/// The unit stays as it is while one of its processes is live.
+pub fn rests_unless_live(settings: &ServiceSettings, around: Around, unit: UnitState) -> Change
+    ensures { result ≡ rests_unless_live (service_settings_of settings.now) around unit }
+{
+    if is_live(unit) {
+        just(unit)
+    } else {
+        rests(settings, around, unit)
+    }
+}
+
+/// The unit's live processes are told to end; without one it comes to rest.
+pub fn terminates(settings: &ServiceSettings, around: Around, unit: UnitState) -> Change
+    ensures { result ≡ terminates (service_settings_of settings.now) around unit }
+{
+    if !is_live(unit) {
+        return rests(settings, around, unit);
+    }
+    asking(
+        Order::Signal(Signal::Term),
+        UnitState {
+            sub: SubState::StopSigterm,
+            deadline: moment_after(around.moment, settings.timeout_stop),
+            ..unit
+        },
+    )
+}

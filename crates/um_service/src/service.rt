@@ -1,0 +1,105 @@
+//! A unit, and what an event makes of it.
+
+ghost use Rattle.std.specs.Prelude.{◌≡◌, ◌+◌, ◌^◌, ◌≤◌, ℕ, map, IfOk, OnOk, OnErr};
+ghost use Rattle.um_model.specs.Transitions.{transition, spawned, AreActions, HasItsProcess};
+ghost use Rattle.um_model.specs.declared.service.UnitState.{UnitState};
+ghost use Rattle.um_service.specs.View.{action_of};
+ghost use Rattle.um_unit.specs.ServiceView.{service_settings_of};
+
+use crate::actions::{Action, actions_of};
+use crate::table::transition;
+use std::alloc::{AllocError, Global};
+use std::marker::Model;
+use um_model::{Around, Order, StartJob, UnitEvent, UnitState};
+use um_unit::ServiceSettings;
+
+/// What an event of a unit asks of its processes, and what becomes of its jobs.
+#[derive(Debug, Drop)]
+pub struct Actions {
+    /// In this order.
+    pub actions: Vec<Action>,
+    /// What becomes of the running start job, where there is one.
+    pub start: StartJob,
+    /// Whether the running stop job ends, where there is one.
+    pub stop_ends: bool,
+    /// The next process number from now on.
+    pub next: u64,
+}
+
+/// A unit as its processes and jobs have left it.
+#[derive(Debug, Drop)]
+pub struct Service {
+    unit: UnitState,
+}
+
+impl Model for Service {
+    ghost Value = { UnitState };
+
+    ghost view = { λ s. s.unit };
+}
+
+/// How many process numbers the order takes.
+fn spawned(order: Order) -> u64
+    ensures value { result ≡ spawned order }
+    ensures few { result ≤ 1 }
+{
+    match order {
+        Order::Spawn(_, _) => 1,
+        Order::Nothing | Order::Signal(_) => 0,
+    }
+}
+
+impl Service {
+    /// A unit in this state.
+    pub fn of(unit: UnitState) -> Service
+        ensures { result ≡ unit }
+    {
+        Service { unit }
+    }
+
+    /// How the unit stands.
+    pub fn unit(&self) -> UnitState
+        ensures { result ≡ self.now }
+    {
+        self.unit
+    }
+
+    /// The same unit again.
+    pub fn copy(&self) -> Service
+        ensures { result ≡ self.now }
+    {
+        Service { unit: self.unit }
+    }
+
+    /// Something happens to the unit, which has these settings: it changes by the first row of the service table that fits
+    /// (systemd.service(5)), and what the row asks of its processes is told. A command is started under the next process
+    /// number, with its words and the environment as they are then; a signal goes to each live process, the main one first.
+    /// Refused only for want of memory, and then the unit is as before.
+    pub fn on(
+        &mut self,
+        alloc: Global,
+        event: UnitEvent,
+        settings: &ServiceSettings,
+        around: Around,
+    ) -> Result<Actions, AllocError>
+        ensures unit { OnOk result (self.new ≡ (transition (service_settings_of settings.now) around self.old event).unit) }
+        ensures actions { IfOk result (λ r. let after = transition (service_settings_of settings.now) around self.old event in
+            AreActions (service_settings_of settings.now) around after.unit after.order (map action_of r.actions.items)) }
+        ensures start { IfOk result (λ r. r.start ≡ (transition (service_settings_of settings.now) around self.old event).start) }
+        ensures stop { IfOk result (λ r. r.stop_ends ≡ (transition (service_settings_of settings.now) around self.old event).stop_ends) }
+        ensures next { IfOk result (λ r. r.next ≡ around.next + spawned (transition (service_settings_of settings.now) around self.old event).order) }
+        ensures small { IfOk result (λ r. around.next ≤ 2 ^ 63 → r.next ≤ 2 ^ 63) }
+        ensures held { HasItsProcess self.old → HasItsProcess self.new }
+        ensures err { OnErr result (self.new ≡ self.old) }
+    {
+        let change = transition(settings, around, self.unit, event);
+        let actions = actions_of(alloc, settings, around, change.unit, change.order)?;
+        self.unit = change.unit;
+        Ok(Actions {
+            actions,
+            start: change.start,
+            stop_ends: change.stop_ends,
+            next: around.next + spawned(change.order),
+        })
+    }
+}
