@@ -1,5 +1,5 @@
 -- A tree map whose keys are seen as texts, as unit names are, beside the finite map that it stands for; and a copy of one.
-use Rattle.std.proofs.Common.{ℕ, ◌≡◌, ◌∙◌, Bool, true, false, cond, List, [], ◌∷◌, Option, Some, None, refl, sym, ap, Less, is_eq}
+use Rattle.std.proofs.Common.{ℕ, ◌≡◌, ◌∙◌, Bool, true, false, cond, List, [], ◌∷◌, Option, Some, None, refl, sym, ap, subst, T, Less, is_eq}
 use Rattle.std.specs.List.{AllByRecursion}
 use Rattle.std.specs.List.Sorted.{IsStrictlySortedBy}
 use Rattle.std.specs.Map.{keys_of}
@@ -11,8 +11,10 @@ use Rattle.std.specs.FinMap as map
 use Rattle.std.specs.FinMap.{slice_cmp-IsAntisymmetric, nat_cmp-IsAntisymmetric}
 use Rattle.std.specs.Cmp.Lexicographic.{slice_cmp, nat_list_cmp_total}
 use Rattle.std.specs.Cmp.{eq_by_cmp_equiv}
-use Rattle.std.specs.Ordering.{nat_cmp, eq_by_cmp}
+use Rattle.std.specs.Ordering.{nat_cmp, eq_by_cmp, is_lt}
 use Rattle.std.specs.Map.{lookup}
+use Rattle.std.specs.FinMap.Entries.{below_all}
+use Rattle.um_model.proofs.BytesLaws.{both_hold}
 
 module _ {X : Type 0} where
   abbrev pub seen : BTreeMap (List ℕ) X → map.FinMap (slice_cmp nat_cmp) X
@@ -84,3 +86,24 @@ module _ {X : Type 0} where
       (λ q. get-insert_all map.empty m.entries q o
       ∙ (ap (or_else (map.find (slice_cmp nat_cmp) q m.entries)) (map.get-empty (slice_cmp nat_cmp) q)
       ∙ (or_else-none (map.find (slice_cmp nat_cmp) q m.entries) ∙ sym (map.get-from_entries nat_list_cmp_total m.entries q))))
+
+  below_here : (k : List ℕ) (es : List (List ℕ × X)) → AllByRecursion (λ y. slice_cmp nat_cmp k y ≡ Less) (keys_of es) → T (below_all (slice_cmp nat_cmp) k es)
+  below_here k [] h = tt
+  below_here k (e ∷ es) h = both_hold _ _ (subst (λ r. T (is_lt r)) (sym h.0) tt) (below_here k es h.1)
+
+  sorted_here : (es : List (List ℕ × X)) → IsStrictlySortedBy (slice_cmp nat_cmp) (keys_of es) → T (map.is_sorted (slice_cmp nat_cmp) es)
+  unfolding IsStrictlySortedBy
+  sorted_here [] h = tt
+  sorted_here (e ∷ es) h = both_hold _ _ (below_here e.0 es h.0) (sorted_here es h.1)
+
+  -- the entries of the finite map are those of the tree map
+  pub entries_kept : (m : BTreeMap (List ℕ) X) → tree.IsOrdered (slice_cmp nat_cmp) m → map.entries (seen m) ≡ m.entries
+  entries_kept m o =
+      let sorted = sorted_here m.entries o in
+      ap map.entries (map.same_map nat_list_cmp_total (slice_cmp-IsAntisymmetric nat_cmp-IsAntisymmetric) _ _
+        (λ q. map.get-from_entries nat_list_cmp_total m.entries q ∙ sym (map.get-from_sorted (slice_cmp nat_cmp) m.entries q sorted)))
+      ∙ map.entries-from_sorted (slice_cmp nat_cmp) m.entries sorted
+
+  -- tree maps that stand for the same have the same entries
+  pub same_entries : (m n : BTreeMap (List ℕ) X) → tree.IsOrdered (slice_cmp nat_cmp) m → tree.IsOrdered (slice_cmp nat_cmp) n → seen m ≡ seen n → m.entries ≡ n.entries
+  same_entries m n o p e = sym (entries_kept m o) ∙ (ap map.entries e ∙ entries_kept n p)

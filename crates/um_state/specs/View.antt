@@ -1,7 +1,6 @@
 -- Inputs, replies, actions and states of the code as those of the definitions.
 use Rattle.std.specs.Prelude.{map, string_bytes}
 use Rattle.um_model.specs.Machine as model
-use Rattle.um_model.specs.Service as service
 use Rattle.um_unit.specs.View.{warning_of}
 use Rattle.um_wire.specs.Refusal.{refused_of}
 use Rattle.um_state.specs.declared.input.Event.{Event}
@@ -9,8 +8,7 @@ use Rattle.um_state.specs.declared.input.Event.TheVariants as event
 use Rattle.um_state.specs.declared.input.Input.{Input}
 use Rattle.um_state.specs.declared.input.Query.{Query}
 use Rattle.um_state.specs.declared.input.Query.TheVariants as query
-use Rattle.um_state.specs.declared.reply.Action.{Action}
-use Rattle.um_state.specs.declared.reply.Action.TheVariants as action
+pub use Rattle.um_service.specs.View.{action_of}
 use Rattle.um_state.specs.declared.reply.UnitShown.{UnitShown}
 use Rattle.um_state.specs.declared.reply.Reply.{Reply}
 use Rattle.um_state.specs.declared.reply.Reply.TheVariants as reply
@@ -30,10 +28,6 @@ input_of i = record { moment = i.moment; event = event_of i.event }
 abbrev pub query_of : Query → model.Query
 query_of (query.Show unit) = model.Show unit
 query_of (query.IsActive unit) = model.IsActive unit
-
-abbrev pub action_of : Action → service.Action
-action_of (action.Spawn number words environment) = service.SpawnProcess number (map string_bytes words.items) (map string_bytes environment.items)
-action_of (action.Signal number signal) = service.SendSignal number signal
 
 abbrev pub shown_of : UnitShown → model.UnitShown
 shown_of u = record { id = string_bytes u.id; load = u.load; description = string_bytes u.description; warnings = map warning_of u.warnings.items; state = u.state }

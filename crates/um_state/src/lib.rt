@@ -7,6 +7,7 @@ mod state;
 mod units;
 
 pub use input::{Event, Input, Query};
-pub use reply::{Action, Reply, UnitShown};
+pub use reply::{Reply, UnitShown};
 pub use state::State;
+pub use um_service::Action;
 pub use units::{Pending, Units};

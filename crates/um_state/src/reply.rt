@@ -1,23 +1,7 @@
-use um_model::{ActiveState, LoadState, Signal, UnitState};
+use um_model::{ActiveState, LoadState, UnitState};
+use um_service::Action;
 use um_unit::Warning;
 use um_wire::Refusal;
-
-/// What is asked of the children.
-#[derive(Debug, Drop)]
-pub enum Action {
-    /// To start a process under this number.
-    Spawn {
-        number: u64,
-        words: Vec<String>,
-        /// `NAME=value` each.
-        environment: Vec<String>,
-    },
-    /// To signal the process of this number.
-    Signal {
-        number: u64,
-        signal: Signal,
-    },
-}
 
 /// A unit as `show` tells it.
 #[derive(Debug, Drop)]

@@ -99,7 +99,7 @@ impl Units {
     pub fn is_same(&self, other: &Units) -> bool
         ensures { IsTrue result ↔ (self.now ≡ other.now) }
     {
-        self.entries == other.entries
+        self.entries.len() == other.entries.len() && self.entries == other.entries
     }
 
     /// The same again.
@@ -196,7 +196,7 @@ impl Pending {
     pub fn is_same(&self, other: &Pending) -> bool
         ensures { IsTrue result ↔ (self.now ≡ other.now) }
     {
-        self.entries == other.entries
+        self.entries.len() == other.entries.len() && self.entries == other.entries
     }
 
     /// The same again.
