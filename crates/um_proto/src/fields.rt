@@ -1,4 +1,4 @@
-ghost use Rattle.std.specs.Prelude.{◌≡◌, ◌-◌, ◌^◌, codes, string_bytes, IfOk};
+ghost use Rattle.std.specs.Prelude.{◌≡◌, ◌≤◌, ◌-◌, ◌^◌, codes, string_bytes, IfOk};
 ghost use Rattle.serde_json.specs.View.{view};
 ghost use Rattle.um_model.specs.Requests as model;
 ghost use Rattle.um_wire.specs.Gives.{Gives};
@@ -95,7 +95,8 @@ pub fn unit_at(alloc: Global, value: &Value) -> Result<UnitName, Refusal>
 /// The whole number of a field, of at most this size.
 #[tactic(auto, unfolding(um_model::specs::Requests::number_at))]
 fn number_at(value: &Value, name: &str, limit: u64) -> Result<u64, Refusal>
-    ensures { Gives (λ n. n) result (model.number_at name.now limit (view value.now)) }
+    ensures number { Gives (λ n. n) result (model.number_at name.now limit (view value.now)) }
+    ensures within { IfOk result (λ n. n ≤ limit) }
 {
     let Some(field) = value.get(name) else {
         return Err(Refusal::BadRequest);
