@@ -1,16 +1,21 @@
 -- One step more of settling and of firing, with the actions before and after.
-use Rattle.std.proofs.Common.{◌≡◌, ℕ, ◌≤◌, List, [], ◌++◌, refl, sym, ap, ◌∙◌, append_assoc, append_nil}
+use Rattle.std.proofs.Common.{◌≡◌, ◌≢◌, ℕ, ◌≤◌, List, [], ◌++◌, refl, sym, ap, ◌∙◌, append_assoc, append-nil, ◌<◌, ◌⊎◌, inl, inr, Bool, true, false, Some, None, arith, true≢false}
 use Rattle.std.specs.FinMap as map
 use Rattle.um_model.specs.Jobs.{Job, IsReady, BeginsNext}
 use Rattle.um_model.specs.Machine as model
 use Rattle.um_model.specs.Machine.{State, begun, begins, rests, begins_next, none_due, fires, passes}
 use Rattle.um_model.specs.Service.{Action}
-use Rattle.um_model.specs.Timers.{Timers}
+use Rattle.std.specs.Str.{bytes_eq}
+use Rattle.std.specs.Cmp.Lexicographic.{slice_cmp}
+use Rattle.std.specs.Ordering.{nat_cmp}
+use Rattle.std.proofs.lemmas.Option.{same_Some, none-some}
+use Rattle.std.proofs.lemmas.Slice.Eq.{bytes_eq-Decides}
+use Rattle.um_model.specs.Timers.{Timers, IsDueFirst, IsDueBefore, earlier, by_name}
 use Rattle.um_engine.specs.Engine.{HappensTo, SettlesTo, FiresOneTo, passed, fired, FiresFrom, IsDue, NoneIsDue}
 
 -- where no job is ready, all has settled
 pub settled : (t : ℕ) (s : State) (before : List Action) → ((j : Job) → ¬ IsReady s.units s.pending j) → SettlesTo t s before s before
-settled t s before none = ([], rests none, sym (append_nil before))
+settled t s before none = ([], rests none, sym (append-nil before))
 
 -- a job begins, and then the others
 pub settles_more : (t : ℕ) (s u v : State) (before between after : List Action) (j : Job) → BeginsNext s.units s.pending j
@@ -20,7 +25,7 @@ settles_more t s u v before between after j next (first, happens, is) (more, set
 
 -- where no deadline is due, none fires
 pub none_fires : (t : ℕ) (timers : Timers) (s : State) (before : List Action) → NoneIsDue t timers → FiresFrom t timers s before s before
-none_fires t timers s before none = ([], none_due none, sym (append_nil before))
+none_fires t timers s before none = ([], none_due none, sym (append-nil before))
 
 -- a deadline fires, or has passed, and then the others
 pub fires_more : (t : ℕ) (timers : Timers) (deadline : ℕ) (unit : List ℕ) (s u v : State) (before between after : List Action) → IsDue t timers deadline unit
@@ -29,3 +34,24 @@ fires_more t timers deadline unit s u v before between after due (passed gone) (
 fires_more t timers deadline unit s u v before between after due (fired first next stands happens settles is) (more, later, all) =
     (first ++ (next ++ more), fires deadline unit due.0 due.1 stands happens settles later,
       all ∙ (ap (λ l. l ++ more) is ∙ (append_assoc before (first ++ next) more ∙ ap (λ l. before ++ l) (append_assoc first next more))))
+
+same_name : (n o : List ℕ) → (n ≡ o) ⊎ (n ≢ o)
+same_name n o = elim (bytes_eq n o) as (λ b. bytes_eq n o ≡ b → (n ≡ o) ⊎ (n ≢ o)) [
+  | true ↦ λ t. inl ((bytes_eq-Decides n o).0 t)
+  | false ↦ λ f. inr (λ e. true≢false (sym ((bytes_eq-Decides n o).1 e) ∙ f))
+] refl
+
+no_earlier : (t deadline later : ℕ) (unit other : List ℕ) → t < deadline → IsDueBefore deadline unit later other → t < later
+no_earlier t deadline later unit other low (earlier le) = omega arith
+no_earlier t deadline later unit other low (by_name same le) = omega arith
+
+-- where the first deadline is past the moment, none is due
+pub first_is_late : (t : ℕ) (timers : Timers) (deadline : ℕ) (unit : List ℕ) → IsDueFirst timers deadline unit → t < deadline → NoneIsDue t timers
+first_is_late t timers deadline unit first low later other at = elim (same_name other unit) as (λ _. t < later) [
+  | inl same ↦ let e = same_Some deadline later (sym first.is_set ∙ (ap (map.get timers) (sym same) ∙ at)) in omega arith
+  | inr apart ↦ no_earlier t deadline later unit other low (first.first later other at apart)
+]
+
+-- where no deadline stands, none is due
+pub none_stands : (t : ℕ) (timers : Timers) → timers ≡ map.empty → NoneIsDue t timers
+none_stands t timers e later other at = absurd (none-some later (sym (map.get-empty (slice_cmp nat_cmp) other) ∙ (ap (λ m. map.get m other) (sym e) ∙ at)))

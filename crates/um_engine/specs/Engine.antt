@@ -1,5 +1,5 @@
 -- What an engine, a planned step and the way back hold.
-use Rattle.std.specs.Prelude.{◌≡◌, ◌≢◌, ℕ, ◌<◌, ◌≤◌, Bool, List, ◌++◌, Option, Some, None, Result, Ok, Err, map}
+use Rattle.std.specs.Prelude.{◌≡◌, ◌≢◌, ℕ, ◌<◌, ◌≤◌, ⊤, Bool, true, false, List, ◌++◌, Option, Some, None, Result, Ok, Err, map}
 use Rattle.std.specs.FinMap as finite
 use Rattle.um_model.specs.Machine as model
 use Rattle.um_model.specs.Service.{Action, state_of_unit}
@@ -83,6 +83,15 @@ NoneIsDue t timers = (deadline : ℕ) (unit : List ℕ) → finite.get timers un
 -- an event has its effect
 abbrev pub TakesTo : ℕ → model.State → model.Event → List Action → model.State → List Action → Type 0
 TakesTo t s event before s' after = (new : List Action) × model.Takes t s event new s' × (after ≡ before ++ new)
+
+abbrev pub IsEnd : model.Event → Type 0
+IsEnd (model.ProcessEnded number end) = ⊤
+IsEnd other = ⊥
+
+-- an event had its effect, or it is the end of a process that isn't live, and nothing has changed
+abbrev pub Took : ℕ → model.State → model.Event → List Action → model.State → List Action → Bool → Type 0
+Took t s event before s' after true = TakesTo t s event before s' after
+Took t s event before s' after false = model.HasNoEffect t s event × IsEnd event × (s' ≡ s) × (after ≡ before)
 
 -- a call is refused for this cause, or passes where there is none; or it lacks memory
 abbrev pub Refuses : {X : Type 0} → Result X Refusal → Option Refused → Type 0

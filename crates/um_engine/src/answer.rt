@@ -30,11 +30,17 @@ fn shown_without_file(
 fn shown_loaded(alloc: Global, unit: LoadedUnit, state: UnitState) -> Result<UnitShown, AllocError>
     ensures { IfOk result (λ u. shown_view u ≡ model.shown_of_loaded (unit_of unit) state) }
 {
+    let LoadedUnit {
+        name,
+        settings,
+        warnings,
+        ..
+    } = unit;
     Ok(UnitShown {
-        id: String::from_str(alloc, unit.name.as_str())?,
+        id: String::from_str(alloc, name.as_str())?,
         load: LoadState::Loaded,
-        description: unit.settings.description,
-        warnings: unit.warnings,
+        description: settings.description,
+        warnings,
         state,
     })
 }

@@ -1,5 +1,5 @@
-ghost use Rattle.std.specs.Prelude.{◌≡◌, Some, None, map, if◌then◌else◌, string_bytes, IfOk, OnOk, IfErr, MatchOption};
-ghost use Rattle.um_engine.specs.Engine.{TakesTo, Refuses};
+ghost use Rattle.std.specs.Prelude.{◌≡◌, Some, None, map, string_bytes, IfOk, OnOk, IfErr, MatchOption};
+ghost use Rattle.um_engine.specs.Engine.{Took, Refuses};
 ghost use Rattle.um_model.specs.Machine as model;
 ghost use Rattle.um_model.specs.Units as units;
 ghost use Rattle.um_state.specs.View.{state_of, event_of, action_of};
@@ -14,7 +14,7 @@ use um_model::{End, JobKind, UnitEvent, UnitKind, UnitState};
 use um_name::UnitName;
 use um_state::{Action, Event, State, Units};
 use um_tree::Tree;
-use um_unit::{Loading, load};
+use um_unit::{LoadedUnit, Loading, load};
 use um_wire::Refusal;
 
 fn text_of(alloc: Global, unit: &UnitName) -> Result<String, AllocError>
@@ -27,8 +27,8 @@ fn text_of(alloc: Global, unit: &UnitName) -> Result<String, AllocError>
 fn check_start(alloc: Global, tree: &Tree, unit: &UnitName) -> Result<(), Refusal>
     ensures { Refuses result (model.start_refusal unit.now (units.load tree.now unit.now)) }
 {
-    let loaded = match load(alloc, tree, unit)? {
-        Loading::Found(loaded) => loaded,
+    let kind = match load(alloc, tree, unit)? {
+        Loading::Found(LoadedUnit { settings, .. }) => settings.service.kind,
         Loading::NotFound => {
             let unit = text_of(alloc, unit)?;
             return Err(Refusal::NotFound { unit });
@@ -42,7 +42,7 @@ fn check_start(alloc: Global, tree: &Tree, unit: &UnitName) -> Result<(), Refusa
             return Err(Refusal::BadSetting { unit, reason });
         }
     };
-    let reason = match loaded.settings.service.kind {
+    let reason = match kind {
         UnitKind::Simple if !unit.is_template() => return Ok(()),
         UnitKind::Simple => "template",
         UnitKind::Exec | UnitKind::Oneshot | UnitKind::Target => "type",
@@ -104,7 +104,7 @@ fn take_end(
     number: u64,
     end: End,
 ) -> Result<bool, AllocError>
-    ensures { IfOk result (λ live. if live then TakesTo moment (state_of state.old) (model.ProcessEnded number end) (map action_of actions.old.items) (state_of state.new) (map action_of actions.new.items) else model.IsOver (state_of state.old).units number) }
+    ensures { IfOk result (Took moment (state_of state.old) (model.ProcessEnded number end) (map action_of actions.old.items) (state_of state.new) (map action_of actions.new.items)) }
 {
     let Some(unit) = process(&state.units, number)? else {
         return Ok(false);
@@ -125,7 +125,7 @@ pub fn take(
     moment: u64,
     event: &Event,
 ) -> Result<bool, Refusal>
-    ensures ok { IfOk result (λ live. if live then TakesTo moment (state_of state.old) (event_of event.now) (map action_of actions.old.items) (state_of state.new) (map action_of actions.new.items) else model.HasNoEffect moment (state_of state.old) (event_of event.now)) }
+    ensures ok { IfOk result (Took moment (state_of state.old) (event_of event.now) (map action_of actions.old.items) (state_of state.new) (map action_of actions.new.items)) }
     ensures taken { OnOk result (model.refusal_of (state_of state.old) (event_of event.now) ≡ None) }
     ensures refused { IfErr result (λ e. ¬ (e ≡ NoMemory) → model.refusal_of (state_of state.old) (event_of event.now) ≡ Some (refused_of e)) }
 {

@@ -10,7 +10,7 @@ use um_name::UnitName;
 use um_service::Service;
 use um_state::{Action, State};
 use um_tree::Tree;
-use um_unit::{Loading, ServiceSettings, load};
+use um_unit::{LoadedUnit, Loading, ServiceSettings, load};
 
 /// What the service table knows of a unit.
 #[derive(Drop)]
@@ -25,8 +25,8 @@ fn startable_in(alloc: Global, tree: &Tree, unit: &UnitName) -> Result<Startable
     ensures { IfOk result (λ s. startable_of s ≡ model.startable_in tree.now unit.now) }
 {
     match load(alloc, tree, unit)? {
-        Loading::Found(loaded) => Ok(Startable {
-            settings: loaded.settings.service,
+        Loading::Found(LoadedUnit { settings, .. }) => Ok(Startable {
+            settings: settings.service,
             loadable: !unit.is_template(),
         }),
         Loading::Masked | Loading::NotFound | Loading::BadSetting { .. } => Ok(Startable {

@@ -1,6 +1,8 @@
 ghost use Rattle.std.specs.Prelude.{◌≡◌, ◌↔◌, ◌++◌, ℕ, List};
-ghost use Rattle.um_model.proofs.MachineLaws.{IsSameOutcome};
-ghost use Rattle.um_model.specs.Machine.{State, Input, Reply, Action, Step, Run};
+ghost use Rattle.um_model.specs.Live.{IsNotStuck};
+ghost use Rattle.um_model.specs.Machine.{State, Input, Reply, Step, Run, empty_state};
+ghost use Rattle.um_model.specs.Numbers.{AreNew, started_numbers, actions_in};
+ghost use Rattle.um_model.specs.Service.{Action};
 
 /// A step has one outcome.
 pub fn a_step_has_one_outcome()
@@ -17,4 +19,23 @@ pub fn a_run_has_one_end()
 pub fn runs_join()
     ensures { (size : ℕ) (s u : State) (p q : List Input)
         → ((t : State) × Run size s p t × Run size t q u) ↔ Run size s (p ++ q) u }
+{}
+
+/// The machine is never stuck: where a job is pending after a run from the empty state, some pending job's unit is in start or in a
+/// stop state and has a live process.
+pub fn the_machine_is_never_stuck()
+    ensures { (size : ℕ) (inputs : List Input) (t : State) → Run size empty_state inputs t → IsNotStuck t }
+{}
+
+/// The numbers of the processes that a step starts are new: the next number never falls, and each number started is at least the one
+/// before the step, below the one after it, and started once.
+pub fn numbers_rise()
+    ensures { (size : ℕ) (s : State) (input : Input) (reply : Reply) (actions : List Action) (t : State)
+        → Step size s input reply actions t → AreNew s.next t.next (started_numbers actions) }
+{}
+
+/// No process number is started twice in a run.
+pub fn no_number_is_started_twice()
+    ensures { (size : ℕ) (s t : State) (inputs : List Input) (run : Run size s inputs t)
+        → AreNew s.next t.next (started_numbers (actions_in run)) }
 {}

@@ -11,4 +11,7 @@ mod laws;
 mod settling;
 
 pub use engine::{Back, Engine, Next};
-pub use laws::{a_run_has_one_end, a_step_has_one_outcome, runs_join};
+pub use laws::{
+    a_run_has_one_end, a_step_has_one_outcome, no_number_is_started_twice, numbers_rise, runs_join,
+    the_machine_is_never_stuck,
+};

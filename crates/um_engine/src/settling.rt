@@ -47,10 +47,13 @@ pub fn settle(
 fn next_due(timers: &Timers, moment: u64) -> Result<Option<(u64, UnitName)>, AllocError>
     ensures { IfOk result (λ next. MatchOption next (NoneIsDue moment timers.now) (λ due. IsDue moment timers.now due.0 due.1)) }
 {
-    match timers.next_due() {
-        Some((deadline, unit)) if deadline <= moment => Ok(Some((deadline, unit.copy()?))),
-        _ => Ok(None),
+    let Some((deadline, unit)) = timers.next_due() else {
+        return Ok(None);
+    };
+    if deadline > moment {
+        return Ok(None);
     }
+    Ok(Some((deadline, unit.copy()?)))
 }
 
 /// Fires one deadline, if it still stands, and lets jobs begin.
