@@ -17,3 +17,4 @@ pub mod FramesLaws
 pub mod ValuesLaws
 pub mod SpecifiersLaws
 pub mod DiskLaws
+pub mod StoreLaws

@@ -19,3 +19,4 @@ pub mod Timers
 pub mod Values
 pub mod Specifiers
 pub mod Disk
+pub mod Store

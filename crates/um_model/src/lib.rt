@@ -4,6 +4,7 @@
 
 mod frames;
 mod jobs;
+mod layout;
 mod limit;
 mod names;
 mod refusals;
@@ -17,6 +18,7 @@ mod words;
 
 pub use frames::Ending;
 pub use jobs::{JobState, UnitJobs};
+pub use layout::{Layout, Slot};
 pub use limit::Counted;
 pub use names::Suffix;
 pub use refusals::Limit;
