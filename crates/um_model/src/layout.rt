@@ -20,7 +20,23 @@ pub struct Layout {
     ghost log_most: { log_sectors ≤ 1048576 },
 }
 
+impl Slot {
+    ghost use Rattle.um_model.specs.Store.{other};
+
+    /// The other one.
+    pub fn other(self) -> Slot
+        ensures { result ≡ other self }
+    {
+        match self {
+            Slot::A => Slot::B,
+            Slot::B => Slot::A,
+        }
+    }
+}
+
 impl Layout {
+    ghost use Rattle.um_model.specs.Store.{slot_start, body_limit, log_start, log_end};
+
     /// The layout of a store with slots and a log of so many sectors; None outside the limits.
     pub fn new(slot_sectors: u32, log_sectors: u32) -> Option<Layout>
         ensures sizes { IfSome result (λ layout. (layout.slot_sectors ≡ slot_sectors) × (layout.log_sectors ≡ log_sectors)) }
@@ -36,5 +52,36 @@ impl Layout {
         } else {
             None
         }
+    }
+
+    /// The first sector of a slot, which holds its header.
+    pub fn slot_start(self, slot: Slot) -> usize
+        ensures { result ≡ slot_start self slot }
+    {
+        match slot {
+            Slot::A => 1,
+            Slot::B => self.slot_sectors as usize + 1,
+        }
+    }
+
+    /// The longest body of a slot, in bytes.
+    pub fn body_limit(self) -> usize
+        ensures { result ≡ body_limit self }
+    {
+        (self.slot_sectors as usize - 1) * 512
+    }
+
+    /// The first sector of the log.
+    pub fn log_start(self) -> usize
+        ensures { result ≡ log_start self }
+    {
+        2 * self.slot_sectors as usize + 1
+    }
+
+    /// The first sector behind the log: so many sectors has the store.
+    pub fn log_end(self) -> usize
+        ensures { result ≡ log_end self }
+    {
+        self.log_start() + self.log_sectors as usize
     }
 }
