@@ -28,13 +28,17 @@ header_size generation size fits = big_number-reads_back 8 size (replicate 488 0
 size_fits : {layout : Layout} {sector : Sector} {generation size : ℕ} → IsHeader layout sector generation size → size < 2 ^ 64
 size_fits {layout} h = omega (arith, h.fits, layout.slot_most)
 
+-- what a well-formed header says is read from it
+pub header_says : {layout : Layout} {sector : Sector} {generation size : ℕ} → IsHeader layout sector generation size
+    → (big_number 8 (drop 8 sector) ≡ generation) × (big_number 8 (drop 16 sector) ≡ size)
+header_says {generation} {size} h = (
+  ap (λ (s : Sector). big_number 8 (drop 8 s)) h.is ∙ header_generation generation size h.last,
+  ap (λ (s : Sector). big_number 8 (drop 16 s)) h.is ∙ header_size generation size (size_fits h),
+)
+
 -- a sector is one header at most
 pub same_header : {layout : Layout} {sector : Sector} {g n h m : ℕ} → IsHeader layout sector g n → IsHeader layout sector h m → (g ≡ h) × (n ≡ m)
-same_header {layout} {sector} {g} {n} {h} {m} one two =
-    let same : header_sector g n ≡ header_sector h m = sym one.is ∙ two.is in (
-      sym (header_generation g n one.last) ∙ ap (λ (s : Sector). big_number 8 (drop 8 s)) same ∙ header_generation h m two.last,
-      sym (header_size g n (size_fits one)) ∙ ap (λ (s : Sector). big_number 8 (drop 16 s)) same ∙ header_size h m (size_fits two),
-    )
+same_header one two = let a = header_says one in let b = header_says two in (sym a.0 ∙ b.0, sym a.1 ∙ b.1)
 
 -- the newest of two slots is one
 same_slot : {layout : Layout} {image : Image} {s t : Slot} {g h : ℕ} {x y : List ℕ} → IsNewest layout image s g x → IsNewest layout image t h y → s ≡ t

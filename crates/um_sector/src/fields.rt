@@ -1,5 +1,5 @@
 ghost use Rattle.std.specs.Prelude.{◌≡◌, ◌+◌, ◌-◌, ◌≤◌, ◌++◌, ℕ, List, [], length, take, drop, replicate};
-ghost use Rattle.byteorder.specs.Endian.{big_bytes};
+ghost use Rattle.byteorder.specs.Endian.{big_bytes, big_number};
 ghost use Rattle.um_model.specs.Store.{filled};
 
 use crate::disk::Sector;
@@ -75,4 +75,22 @@ impl Fields {
     {
         self.sector
     }
+}
+
+/// The number in the four bytes of a sector from `at` on, the highest first.
+pub fn u32_at(sector: &Sector, at: usize) -> u32
+    requires { at + 4 ≤ 512 }
+    ensures { result ≡ big_number 4 (drop at sector.now) }
+{
+    let (_, behind) = sector.split_at(at);
+    BigEndian::read_u32(behind)
+}
+
+/// The number in the eight bytes of a sector from `at` on, the highest first.
+pub fn u64_at(sector: &Sector, at: usize) -> u64
+    requires { at + 8 ≤ 512 }
+    ensures { result ≡ big_number 8 (drop at sector.now) }
+{
+    let (_, behind) = sector.split_at(at);
+    BigEndian::read_u64(behind)
 }

@@ -14,7 +14,7 @@ mod tests;
 
 pub use disk::{Disk, Sector};
 pub use fault::Fault;
-pub use fields::Fields;
+pub use fields::{Fields, u32_at, u64_at};
 pub use fuse::Fuse;
 pub use laws::{
     a_new_disk_is_settled, a_run_of_calls_ends, a_sync_leaves_what_a_read_gives,
