@@ -3,10 +3,10 @@
 #![tactic(auto)]
 
 mod header;
-mod newest;
+mod read;
 mod sectors;
+mod write;
 
-pub use header::{Header, Home, header_sector, read_header};
-pub use newest::Newest;
-pub use sectors::body_sectors;
+pub use header::Home;
+pub use read::{Snapshot, newest};
 pub use um_model::{Layout, Slot};

@@ -1,7 +1,7 @@
 use Rattle.std.specs.Prelude.{◌≡◌, ◌+◌, ◌-◌, ◌*◌, ◌++◌, take, IsTrue}
 use Rattle.um_model.specs.Disk.{seen}
 use Rattle.um_model.specs.Store.{sector_count, joined}
-use Rattle.um_slot.proofs.newest.read_body.Given as goal
+use Rattle.um_slot.proofs.read.read_body.Given as goal
 
 abbrev pub invariant-loop-i : goal.invariant-loop-i
 invariant-loop-i g l =

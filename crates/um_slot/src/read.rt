@@ -1,4 +1,4 @@
-ghost use Rattle.std.specs.Prelude.{◌≡◌, ◌⊎◌, ◌+◌, ◌≤◌, ℕ, take, IfOk, IfErr, OnOk, IsErrOf, IsTrue};
+ghost use Rattle.std.specs.Prelude.{◌≡◌, ◌⊎◌, ◌^◌, ◌≤◌, ℕ, take, IfOk, IfErr, OnOk, IsErrOf, IsTrue};
 ghost use Rattle.um_model.specs.Disk.{seen};
 ghost use Rattle.um_model.specs.Store.{sector_count, joined, HasNoHeader, IsNewest};
 ghost use Rattle.um_sector.specs.Refused.{CountsDevice, IsLost};
@@ -12,7 +12,7 @@ use um_wire::Refusal;
 
 /// The newest snapshot.
 #[derive(Debug, Drop)]
-pub struct Newest {
+pub struct Snapshot {
     pub home: Home,
     pub body: Vec<u8>,
 }
@@ -65,7 +65,7 @@ fn front(sector: &Sector, count: usize) -> &[u8]
 
 /// So many bytes of the sectors from `at` on.
 fn read_body<D: Disk>(alloc: Global, disk: &mut D, at: usize, size: usize) -> Result<Vec<u8>, Refusal>
-    requires { at + size + 511 ≤ usize.MAX }
+    requires { at ≤ 2 ^ 32 }
     ensures body { IfOk result (λ body. IsTrue (D.honest disk.old) → body.items ≡ take size (joined (sector_count size) (seen (D.past disk.old)) at)) }
     ensures past { IsTrue (D.honest disk.old) → D.past disk.new ≡ D.past disk.old }
     ensures failures { CountsDevice result (D.failures disk.old) (D.failures disk.new) }
@@ -80,4 +80,27 @@ fn read_body<D: Disk>(alloc: Global, disk: &mut D, at: usize, size: usize) -> Re
         body.extend_from_slice(front(&sector, size - 512 * i))?;
     }
     Ok(body)
+}
+
+/// Reads both headers and takes the well-formed one of the greater generation, of equal ones slot A's, with its body.
+///
+/// E18 with sector 1 where no header is well-formed; E15; E16 where a read fails.
+pub fn newest<D: Disk>(alloc: Global, disk: &mut D, layout: Layout) -> Result<Snapshot, Refusal>
+    ensures ok { IfOk result (λ newest. IsTrue (D.honest disk.old) → IsNewest layout (seen (D.past disk.old)) newest.home.slot newest.home.generation newest.body.items) }
+    ensures err { IfErr result (λ e. IsLost e ⊎ ((e ≡ Refusal.Damaged 1) × (IsTrue (D.honest disk.old) → HasNoHeader layout (seen (D.past disk.old))))) }
+    ensures past { IsTrue (D.honest disk.old) → D.past disk.new ≡ D.past disk.old }
+    ensures failures { CountsDevice result (D.failures disk.old) (D.failures disk.new) }
+    ensures size { D.size disk.new ≡ D.size disk.old }
+    ensures honest { D.honest disk.new ≡ D.honest disk.old }
+{
+    let Some((slot, header)) = newest_header(disk, layout)? else {
+        return Err(Refusal::Damaged { sector: 1 });
+    };
+    let at = layout.slot_start(slot) + 1;
+    let body = read_body(alloc, disk, at, header.size as usize)?;
+    let home = Home {
+        slot,
+        generation: header.generation,
+    };
+    Ok(Snapshot { home, body })
 }
