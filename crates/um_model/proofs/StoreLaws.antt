@@ -6,11 +6,12 @@ use Rattle.std.proofs.lemmas.Bool.{cases_lt}
 use Rattle.std.proofs.lemmas.List.{take-append-drop, length-drop, length-take, nil_from_length, take_all, drop-drop, append-nil}
 use Rattle.byteorder.specs.Endian.{big_number, big_bytes}
 use Rattle.byteorder.specs.Numbers.{big_number-reads_back}
-use Rattle.um_model.specs.Disk.{Sector, Image}
+use Rattle.um_model.specs.Disk.{Sector, Image, Past, seen, During, IsSettled}
+use Rattle.um_model.proofs.DiskLaws.{started, weaker}
 use Rattle.um_model.specs.declared.layout.Layout.{Layout}
 use Rattle.um_model.specs.declared.layout.Slot.{Slot}
 use Rattle.um_model.specs.declared.layout.Slot.TheVariants.{A, B}
-use Rattle.um_model.specs.Store.{log_start, log_end, IsRecord, AreRecords, stops, goes_on, IsOf, IsFree, IsLogEnd, IsStore, filled, superblock, slot_start, other, body_limit, header_sector, IsHeader, sector_count, joined, body_at, IsNewest, HasNoHeader, body_sector, IsSnapshot, MaybeSnapshot, IsSlotRead, head, behind, log_sector, part_count, part_of}
+use Rattle.um_model.specs.Store.{log_start, log_end, IsRecord, AreRecords, stops, goes_on, IsOf, IsFree, IsLogEnd, IsStore, IsReady, EitherSnapshot, filled, superblock, slot_start, other, body_limit, header_sector, IsHeader, sector_count, joined, body_at, IsNewest, HasNoHeader, body_sector, IsSnapshot, MaybeSnapshot, IsSlotRead, head, behind, log_sector, part_count, part_of}
 
 -- ---- headers
 
@@ -132,6 +133,12 @@ module _ (layout : Layout) (a b : Image) (same : (j : ℕ) → IsSlotRead layout
   -- or none
   pub unread_none : HasNoHeader layout a → HasNoHeader layout b
   unread_none none slot generation size header = none slot generation size (subst (λ (s : Sector). IsHeader layout s generation size) (same _ (head slot)) header)
+
+-- sector 0 isn't one of them
+read_from_one : (layout : Layout) (image : Image) (j : ℕ) → IsSlotRead layout image j → 1 ≤ j
+read_from_one layout image j (head A) = omega arith
+read_from_one layout image j (head B) = omega arith
+read_from_one layout image j (behind newest i below) = omega arith
 
 -- ---- log sectors
 
@@ -286,9 +293,69 @@ module _ {layout : Layout} {old image : Image} {slot : Slot} {generation : ℕ} 
   }
 
   -- What a crash leaves meanwhile is the store as it was, or with the new snapshot and no record.
-  pub either_store : generation + 1 < 2 ^ 64 → length body ≤ body_limit layout → IsStore layout image slot generation before records ⊎ IsStore layout image (other slot) (generation + 1) body []
+  pub either_store : generation + 1 < 2 ^ 64 → length body ≤ body_limit layout → EitherSnapshot layout slot generation before records body image
   either_store last fits = ⊎_elim (λ same. inl (kept_store same)) (λ snapshot. inr (new_store last fits snapshot)) maybe.inside
 
   -- The log of a new snapshot begins at its first sector.
   pub new_end : IsLogEnd layout (generation + 1) image [] 0 (log_start layout)
   new_end = record { count = refl; place = omega arith; within = omega arith; free = next_free }
+
+-- ---- the same of whole runs of calls
+
+module _ {layout : Layout} (past : Past) {slot : Slot} {generation : ℕ} {before : List ℕ} {records : List (List ℕ)} (settled : IsSettled past) (store : IsStore layout (seen past) slot generation before records) where
+  -- each image of a settled disk is that store
+  pub still_store : (image : Image) → image ≡ seen past → IsStore layout image slot generation before records
+  still_store image is = subst (λ (i : Image). IsStore layout i slot generation before records) (sym is) store
+
+  -- before the first call
+  pub before_other : (body : List ℕ) → During past past (EitherSnapshot layout slot generation before records body)
+  before_other body = started past _ (λ image is. inl (still_store image (settled image is)))
+
+  -- while a snapshot is written into the other slot
+  pub during_other : {new : Past} {body : List ℕ} → generation + 1 < 2 ^ 64 → length body ≤ body_limit layout
+      → During past new (MaybeSnapshot layout (seen past) (other slot) (generation + 1) body) → During past new (EitherSnapshot layout slot generation before records body)
+  during_other {new} last fits run = weaker past new _ _ (λ image maybe. either_store store maybe last fits) run
+
+  -- and behind it
+  pub ready_other : {new : Past} {body : List ℕ} → generation + 1 < 2 ^ 64 → length body ≤ body_limit layout
+      → MaybeSnapshot layout (seen past) (other slot) (generation + 1) body (seen new) → IsSnapshot layout (seen new) (other slot) (generation + 1) body → IsSettled new
+      → IsReady layout new (other slot) (generation + 1) body [] 0 (log_start layout)
+  ready_other last fits maybe snapshot done = record { settled = done; store = new_store store maybe last fits snapshot; end = new_end store maybe }
+
+-- ---- the first snapshot of a store
+
+-- a sector of zeros is no header
+pub blank_header : (layout : Layout) (generation size : ℕ) → IsHeader layout (replicate 512 0) generation size → ⊥
+blank_header layout generation size is = let says = header_says is in let first = is.first in let zero_is : 0 ≡ generation = says.0 in omega (arith, first, zero_is)
+
+-- and none of the log
+pub blank_log : (generation : ℕ) → IsOf generation (replicate 512 0) → ⊥
+blank_log generation is = no_name is.name
+  where
+    no_name : 0 ∷ 0 ∷ 0 ∷ 0 ∷ [] ≡ codes "UMLG" → ⊥
+    no_name e = absurd (cc)
+
+-- On a disk without a header the first snapshot in slot A is the newest.
+pub first_newest : {layout : Layout} {old image : Image} {generation : ℕ} {body : List ℕ} → HasNoHeader layout old → 1 ≤ generation → generation < 2 ^ 64 → length body ≤ body_limit layout
+    → MaybeSnapshot layout old A generation body image → IsSnapshot layout image A generation body → IsNewest layout image A generation body
+first_newest {layout} {old} {image} nothing first last fits maybe snapshot = record {
+  size = _;
+  header = written_header first last fits snapshot;
+  newer = λ theirs size header. absurd (nothing B theirs size (subst (λ (s : Sector). IsHeader layout s theirs size) (maybe.outside (slot_start layout B) (inr (omega arith))) header));
+  body_is = written_body snapshot;
+}
+
+-- With sector 0 it is a store without records.
+pub made_store : {layout : Layout} {old image : Image} {slot : Slot} {generation : ℕ} {body : List ℕ} → IsNewest layout old slot generation body → generation < 2 ^ 64 → IsFree layout generation old (log_start layout)
+    → ((j : ℕ) → 1 ≤ j → image j ≡ old j) → image 0 ≡ superblock layout → IsStore layout image slot generation body []
+made_store {layout} {old} {image} {slot} {generation} {body} newest last free same first = record {
+  first = first;
+  newest = unread_newest layout old image (λ j read. same j (read_from_one layout old j read)) newest;
+  records_are = stops (λ bytes. none_of last (λ theirs j low high is. free theirs j low high (subst (IsOf theirs) (same j (omega (arith, low))) is)) 0 (log_start layout) bytes (omega arith));
+  none_later = λ theirs j low high is. let below = free theirs j low high (subst (IsOf theirs) (same j (omega (arith, low))) is) in omega (arith, below);
+}
+
+-- The log stays as free as it was.
+pub kept_free : {layout : Layout} {old image : Image} {slot : Slot} {generation later : ℕ} {body : List ℕ} → MaybeSnapshot layout old slot generation body image
+    → IsFree layout later old (log_start layout) → IsFree layout later image (log_start layout)
+kept_free {layout} {slot} maybe free theirs j low high is = free theirs j low high (subst (IsOf theirs) (maybe.outside j (inr (behind_slot layout slot j low))) is)

@@ -168,6 +168,11 @@ pub record IsStore (layout : Layout) (image : Image) (slot : Slot) (generation :
   pub records_are : HasRecords layout generation image records
   pub none_later : IsFree layout (generation + 1) image (log_start layout)
 
+-- the store as it was, or with this body as the next generation and no record
+abbrev pub EitherSnapshot : Layout → Slot → ℕ → List ℕ → List (List ℕ) → List ℕ → Image → Type 0
+EitherSnapshot layout slot generation before records body image =
+    IsStore layout image slot generation before records ⊎ IsStore layout image (other slot) (generation + 1) body []
+
 -- All of it is on the disk, and the log goes on from there.
 pub record IsReady (layout : Layout) (past : Past) (slot : Slot) (generation : ℕ) (body : List ℕ) (records : List (List ℕ)) (number next : ℕ) : Type 0 where
   pub settled : IsSettled past

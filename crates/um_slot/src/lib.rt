@@ -10,3 +10,4 @@ mod write;
 pub use header::Home;
 pub use read::{Snapshot, newest};
 pub use um_model::{Layout, Slot};
+pub use write::{write_first, write_other};
