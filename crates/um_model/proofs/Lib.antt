@@ -18,3 +18,4 @@ pub mod ValuesLaws
 pub mod SpecifiersLaws
 pub mod DiskLaws
 pub mod StoreLaws
+pub mod LogLaws

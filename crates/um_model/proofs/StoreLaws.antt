@@ -186,7 +186,7 @@ before_slot layout A = omega arith
 before_slot layout B = omega arith
 
 -- a body that fits ends within its slot
-body_within : (layout : Layout) (size i : ℕ) → size ≤ body_limit layout → i < sector_count size → 1 + i < layout.slot_sectors
+pub body_within : (layout : Layout) (size i : ℕ) → size ≤ body_limit layout → i < sector_count size → 1 + i < layout.slot_sectors
 body_within layout size i fits below = omega (arith, fits, below, layout.slot_least)
 
 module _ {layout : Layout} {old image : Image} {slot : Slot} {generation : ℕ} {before : List ℕ} (newest : IsNewest layout old slot generation before)
@@ -233,7 +233,7 @@ new_newest {layout} {old} {image} {slot = B} {generation} {before} {body} newest
 -- ---- records
 
 -- a sector of a record is of its generation
-is_of : (generation number part size : ℕ) (payload : List ℕ) → generation < 2 ^ 64 → IsOf generation (log_sector generation number part size payload)
+pub is_of : (generation number part size : ℕ) (payload : List ℕ) → generation < 2 ^ 64 → IsOf generation (log_sector generation number part size payload)
 is_of generation number part size payload last = record { name = log_name generation number part size payload; generation_is = log_generation generation number part size payload last }
 
 -- where nothing is of a generation, no record of it begins

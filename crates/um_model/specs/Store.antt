@@ -1,7 +1,7 @@
 -- What the sectors of a store are: its layout, the two slots with a header and a body each, and the log of records.
 -- No manual page has it: it is the project's own format (docs/FORMATS.md, "The store on its disk").
 -- The slots, the log and the keeper stand on this file.
-use Rattle.std.specs.Prelude.{◌≡◌, ◌⊎◌, ◌+◌, ◌-◌, ◌*◌, ◌/◌, ◌^◌, ◌<◌, ◌≤◌, ℕ, zero, suc, List, [], ◌∷◌, ◌++◌, length, take, drop, replicate, codes}
+use Rattle.std.specs.Prelude.{◌≡◌, ◌⊎◌, ◌+◌, ◌-◌, ◌*◌, ◌/◌, ◌^◌, ◌<◌, ◌≤◌, min, ℕ, zero, suc, List, [], ◌∷◌, ◌++◌, length, take, drop, replicate, codes}
 use Rattle.byteorder.specs.Endian.{big_number, big_bytes}
 use Rattle.um_model.specs.Disk.{Sector, Image, Past, seen, IsSettled}
 use Rattle.um_model.specs.declared.layout.Layout.{Layout}
@@ -159,6 +159,20 @@ pub record IsLogEnd (layout : Layout) (generation : ℕ) (image : Image) (record
   pub within : next ≤ log_end layout
   pub free : IsFree layout generation image next
 
+-- a sector that is that part of a record of so many bytes
+pub record IsPart (generation number part size : ℕ) (sector : Sector) : Type 0 where
+  pub payload : List ℕ
+  pub long : length payload ≡ min 480 (size - 480 * part)
+  pub is : sector ≡ log_sector generation number part size payload
+
+-- A sector that the reading of the records from a place on looks at: up to and with the first that isn't the next part in its place.
+pub data IsLogRead (layout : Layout) (generation : ℕ) (image : Image) : ℕ → ℕ → ℕ → Type 0 where
+  first : {number at : ℕ} → at < log_end layout → IsLogRead layout generation image number at at
+  after : {number at : ℕ} (size part : ℕ) → size ≤ record_limit → suc part < part_count size → at + part_count size ≤ log_end layout
+      → ((i : ℕ) → i ≤ part → IsPart generation number i size (image (at + i))) → IsLogRead layout generation image number at (at + suc part)
+  later : {number at j : ℕ} {bytes : List ℕ} → IsRecord layout generation image number at bytes
+      → IsLogRead layout generation image (suc number) (at + part_count (length bytes)) j → IsLogRead layout generation image number at j
+
 -- ---- the whole store
 
 -- What an image of a store holds: the newest header with its body, the records of its generation, and no later generation in the log.
@@ -172,6 +186,11 @@ pub record IsStore (layout : Layout) (image : Image) (slot : Slot) (generation :
 abbrev pub EitherSnapshot : Layout → Slot → ℕ → List ℕ → List (List ℕ) → List ℕ → Image → Type 0
 EitherSnapshot layout slot generation before records body image =
     IsStore layout image slot generation before records ⊎ IsStore layout image (other slot) (generation + 1) body []
+
+-- the store as it was, or with this record behind the others
+abbrev pub EitherRecord : Layout → Slot → ℕ → List ℕ → List (List ℕ) → List ℕ → Image → Type 0
+EitherRecord layout slot generation body records bytes image =
+    IsStore layout image slot generation body records ⊎ IsStore layout image slot generation body (records ++ bytes ∷ [])
 
 -- All of it is on the disk, and the log goes on from there.
 pub record IsReady (layout : Layout) (past : Past) (slot : Slot) (generation : ℕ) (body : List ℕ) (records : List (List ℕ)) (number next : ℕ) : Type 0 where
