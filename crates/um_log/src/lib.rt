@@ -4,7 +4,8 @@
 
 mod read;
 mod sectors;
+mod write;
 
-pub use read::{RECORD_LIMIT, fits, scan};
-pub use sectors::{log_sector, payload, record_sectors};
+pub use read::{RECORD_LIMIT, scan};
 pub use um_model::Layout;
+pub use write::Log;
