@@ -2,10 +2,12 @@
 //! reads them again up to the first that isn't whole.
 #![tactic(auto)]
 
+mod laws;
 mod read;
 mod sectors;
 mod write;
 
+pub use laws::{records_have_one_reading, unread_sectors_of_the_log_do_not_count};
 pub use read::{RECORD_LIMIT, scan};
 pub use um_model::Layout;
 pub use write::Log;
