@@ -2,12 +2,16 @@
 //! the one before or the new one whole.
 #![tactic(auto)]
 
+mod first;
 mod header;
+mod laws;
 mod read;
 mod sectors;
 mod write;
 
+pub use first::superblock;
 pub use header::Home;
+pub use laws::{the_newest_body_is_one, unread_sectors_of_the_slots_do_not_count};
 pub use read::{Snapshot, newest};
 pub use um_model::{Layout, Slot};
 pub use write::{write_first, write_other};
