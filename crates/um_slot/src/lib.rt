@@ -7,6 +7,8 @@ mod header;
 mod laws;
 mod read;
 mod sectors;
+#[cfg(test)]
+mod tests;
 mod write;
 
 pub use first::superblock;
