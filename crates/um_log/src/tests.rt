@@ -45,6 +45,12 @@ fn lengths<D: Disk>(alloc: Global, disk: &mut D, log: &Log) -> Result<String, Fa
     Ok(text)
 }
 
+/// What a scan gives after the crash that these picks choose.
+fn left(alloc: Global, disk: &MemDisk, picks: &[usize], log: &Log) -> Result<String, Fail> {
+    let mut left = disk.crash(alloc, picks)?;
+    lengths(alloc, &mut left, log)
+}
+
 /// Whether a sector has these bytes from a place on.
 fn has<D: Disk>(disk: &mut D, k: usize, at: usize, bytes: &[u8]) -> bool {
     let mut sector: Sector = [1; 512];
@@ -96,16 +102,10 @@ fn a_torn_record_is_absent(rt: HostRuntime) -> Result<(), Fail> {
     );
     assert!(rt; failed && log.next == START && log.number == 0);
     let disk = disk.into_inner();
-    let images: [([usize; 2], &str); 4] = [
-        ([0, 0], ""),
-        ([1, 0], ""),
-        ([0, 1], ""),
-        ([1, 1], "481 "),
-    ];
-    for (picks, records) in images {
-        let mut left = disk.crash(alloc, &picks)?;
-        assert!(rt; lengths(alloc, &mut left, &log)?.as_str() == records);
-    }
+    assert!(rt; left(alloc, &disk, &[0, 0], &log)?.is_empty());
+    assert!(rt; left(alloc, &disk, &[1, 0], &log)?.is_empty());
+    assert!(rt; left(alloc, &disk, &[0, 1], &log)?.is_empty());
+    assert!(rt; left(alloc, &disk, &[1, 1], &log)?.as_str() == "481 ");
     Ok(())
 }
 

@@ -63,6 +63,16 @@ fn first(alloc: Global) -> Result<MemDisk, Fail> {
     Ok(disk)
 }
 
+/// Whether the crash that these picks choose leaves the new snapshot, or the one before.
+fn leaves(alloc: Global, disk: &MemDisk, picks: &[usize], new: bool) -> Result<bool, Fail> {
+    let mut left = disk.crash(alloc, picks)?;
+    if new {
+        is_newest(alloc, &mut left, B2, 513, 8)
+    } else {
+        is_newest(alloc, &mut left, A1, 37, 7)
+    }
+}
+
 const A1: Home = Home {
     slot: Slot::A,
     generation: 1,
@@ -102,13 +112,11 @@ fn a_crash_leaves_the_snapshot_before_or_the_new_one(rt: HostRuntime) -> Result<
         let written = write_other(alloc, &mut disk, small()?, A1, &[8; 513]);
         assert!(rt; matches!(written, Err(Refusal::Device)));
         let disk = disk.into_inner();
-        for picks in [[0, 0], [1, 0], [0, 1], [1, 1]] {
-            let mut left = disk.crash(alloc, &picks)?;
-            let before = is_newest(alloc, &mut left, A1, 37, 7)?;
-            let new = is_newest(alloc, &mut left, B2, 513, 8)?;
-            assert!(rt; before || new);
-            assert!(rt; new == (fails == 5 && picks[0] == 1));
-        }
+        let new = fails == 5;
+        assert!(rt; leaves(alloc, &disk, &[0, 0], false)?);
+        assert!(rt; leaves(alloc, &disk, &[1, 0], new)?);
+        assert!(rt; leaves(alloc, &disk, &[0, 1], false)?);
+        assert!(rt; leaves(alloc, &disk, &[1, 1], new)?);
     }
     let mut disk = first(alloc)?;
     let written = write_other(alloc, &mut disk, small()?, A1, &[8; 513]);
