@@ -40,7 +40,7 @@ none_part layout generation number at size part image sector payload told below 
     let long : length x ≡ size = sym (record_size whole) ∙ sym told in
     let low : part < part_count (length x) = omega (arith, below, long) in
     let bytes : payload ≡ part_of x part = cut ∙ ap (λ (s : Sector). take (min 480 (size - 480 * part)) (drop 32 s)) is
-        ∙ part_bytes whole part (min 480 (size - 480 * part)) low (ap (λ (n : ℕ). min 480 (n - 480 * part)) long) in
+    ∙ part_bytes whole part (min 480 (size - 480 * part)) low (ap (λ (n : ℕ). min 480 (n - 480 * part)) long) in
     differs (is ∙ whole.parts part low ∙ (λ i. log_sector generation number part (long i) (sym bytes i)))
 
 -- so many bytes were read

@@ -1,7 +1,7 @@
 -- What the reading of one record finds.
 -- No manual page has it: it is the project's own format.
 -- um_log's functions stand on this file.
-use Rattle.std.specs.Prelude.{ℕ, ◌≡◌, ◌<◌, ◌≤◌, ◌+◌, List, map, Option, Some, None, Vec}
+use Rattle.std.specs.Prelude.{ℕ, ◌<◌, ◌≤◌, ◌+◌, List, map, Option, Some, None, Vec}
 use Rattle.std.specs.declared.alloc.Global.{Global}
 use Rattle.um_model.specs.Disk.{Image}
 use Rattle.um_model.specs.declared.layout.Layout.{Layout}

@@ -60,7 +60,12 @@ fn record_at<D: Disk>(
 /// The records of a generation, up to the first that isn't whole.
 ///
 /// E15; E16 where a read fails.
-pub fn scan<D: Disk>(alloc: Global, disk: &mut D, layout: Layout, generation: u64) -> Result<Vec<Vec<u8>>, Refusal>
+pub fn scan<D: Disk>(
+    alloc: Global,
+    disk: &mut D,
+    layout: Layout,
+    generation: u64,
+) -> Result<Vec<Vec<u8>>, Refusal>
     ensures records { IfOk result (λ records. IsTrue (D.honest disk.old) → HasRecords layout generation (seen (D.past disk.old)) (bytes_of records.items)) }
     ensures past { IsTrue (D.honest disk.old) → D.past disk.new ≡ D.past disk.old }
     ensures failures { CountsDevice result (D.failures disk.old) (D.failures disk.new) }

@@ -49,7 +49,12 @@ fn next_chunk(bytes: &[u8]) -> (&[u8], &[u8])
 }
 
 /// The sectors of a record.
-pub fn record_sectors(alloc: Global, generation: u64, number: u64, bytes: &[u8]) -> Result<Vec<Sector>, AllocError>
+pub fn record_sectors(
+    alloc: Global,
+    generation: u64,
+    number: u64,
+    bytes: &[u8],
+) -> Result<Vec<Sector>, AllocError>
     requires { length bytes.now ≤ record_limit }
     ensures count { IfOk result (λ run. length run.items ≡ part_count (length bytes.now)) }
     ensures each { IfOk result (λ run. (i : ℕ) → i < length run.items

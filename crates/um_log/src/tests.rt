@@ -96,10 +96,7 @@ fn a_torn_record_is_absent(rt: HostRuntime) -> Result<(), Fail> {
     let mut disk = Fuse::new(MemDisk::new(alloc, 641)?, 3);
     let mut log = new_log()?;
     let record = [9; 481];
-    let failed = matches!(
-        log.append(alloc, &mut disk, &record),
-        Err(Refusal::Device)
-    );
+    let failed = matches!(log.append(alloc, &mut disk, &record), Err(Refusal::Device));
     assert!(rt; failed && log.next == START && log.number == 0);
     let disk = disk.into_inner();
     assert!(rt; left(alloc, &disk, &[0, 0], &log)?.is_empty());

@@ -54,7 +54,12 @@ impl Log {
     ///
     /// E14 where the record doesn't fit, with nothing written; E15, with nothing written; E16 where a disk call fails. After
     /// each of them the log is as before, but after E16 its sectors may have been written.
-    pub fn append<D: Disk>(&mut self, alloc: Global, disk: &mut D, bytes: &[u8]) -> Result<(), Refusal>
+    pub fn append<D: Disk>(
+        &mut self,
+        alloc: Global,
+        disk: &mut D,
+        bytes: &[u8],
+    ) -> Result<(), Refusal>
         ensures during { IsTrue (D.honest disk.old) → (slot : Slot) (body : List ℕ) (records : List (List ℕ))
             → IsReady self.old.layout (D.past disk.old) slot self.old.generation body records self.old.number self.old.next
             → During (D.past disk.old) (D.past disk.new) (EitherRecord self.old.layout slot self.old.generation body records bytes.now) }

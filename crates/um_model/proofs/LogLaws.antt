@@ -1,6 +1,6 @@
 -- What the log says: its records have one reading, what isn't read doesn't count, and a record that is being written is there whole or not at all.
-use Rattle.std.specs.Prelude.{◌≡◌, ◌≢◌, ◌⊎◌, ◌+◌, ◌-◌, ◌*◌, ◌/◌, ◌^◌, ◌<◌, ◌≤◌, min, ℕ, zero, suc, List, [], ◌∷◌, ◌++◌, length, take, drop, slice_index_or, refl}
-use Rattle.std.proofs.Common.{sym, ◌∙◌, ap, subst, inl, inr, ⊎_elim, arith, append_assoc}
+use Rattle.std.specs.Prelude.{◌≡◌, ◌⊎◌, ◌+◌, ◌-◌, ◌*◌, ◌^◌, ◌<◌, ◌≤◌, min, ℕ, zero, suc, List, [], ◌∷◌, ◌++◌, length, take, drop, slice_index_or, refl}
+use Rattle.std.proofs.Common.{sym, ◌∙◌, ap, subst, inl, inr, ⊎_elim, arith}
 use Rattle.std.proofs.lemmas.Bool.{cases_lt, cases_eq}
 use Rattle.std.proofs.lemmas.List.{take-append-drop, length-drop, length-take, length-append, nil_from_length, drop-drop, append-nil}
 use Rattle.byteorder.specs.Endian.{big_number}
@@ -9,7 +9,7 @@ use Rattle.um_model.proofs.DiskLaws.{started, weaker, laid_maybe}
 use Rattle.um_model.specs.declared.layout.Layout.{Layout}
 use Rattle.um_model.specs.declared.layout.Slot.{Slot}
 use Rattle.um_model.specs.declared.layout.Slot.TheVariants.{A, B}
-use Rattle.um_model.specs.Store.{log_start, log_end, record_limit, part_count, part_of, log_sector, IsRecord, AreRecords, stops, goes_on, HasRecords, sectors_of, IsOf, IsFree, IsLogEnd, IsPart, IsLogRead, first, after, later, IsStore, IsReady, EitherRecord, IsSlotRead, head, behind, slot_start}
+use Rattle.um_model.specs.Store.{log_start, log_end, record_limit, part_count, part_of, log_sector, IsRecord, AreRecords, stops, goes_on, HasRecords, sectors_of, IsOf, IsFree, IsLogEnd, IsPart, IsLogRead, first, after, later, IsStore, IsReady, EitherRecord, IsSlotRead, head, behind}
 use Rattle.um_model.proofs.StoreLaws.{log_generation, log_size, log_payload, is_of, none_of, same_record, unread_newest, body_within}
 
 -- ---- one reading
@@ -30,7 +30,7 @@ same_parts zero x y fx fy same = nil_from_length x (omega (arith, fx)) ∙ sym (
 same_parts (suc n) x y fx fy same =
     let front : take 480 x ≡ take 480 y = same 0 (omega arith) in
     let rest : drop 480 x ≡ drop 480 y = same_parts n (drop 480 x) (drop 480 y) (omega (arith, fx, length-drop 480 x)) (omega (arith, fy, length-drop 480 y))
-        (λ part below. sym (next_part x part) ∙ same (suc part) (omega (arith, below)) ∙ next_part y part) in
+    (λ part below. sym (next_part x part) ∙ same (suc part) (omega (arith, below)) ∙ next_part y part) in
     sym (take-append-drop 480 x) ∙ (λ i. front i ++ rest i) ∙ take-append-drop 480 y
 
 -- a record's first sector tells its length
@@ -54,7 +54,7 @@ one_record {x} {y} a b =
     let size : length x ≡ length y = sym (record_size a) ∙ record_size b in
     same_parts (part_count (length x)) x y (omega arith) (omega (arith, size))
     (λ part below. sym (part_bytes a part (min 480 (length x - 480 * part)) below refl)
-      ∙ part_bytes b part (min 480 (length x - 480 * part)) (omega (arith, below, size)) (ap (λ (n : ℕ). min 480 (n - 480 * part)) (sym size)))
+    ∙ part_bytes b part (min 480 (length x - 480 * part)) (omega (arith, below, size)) (ap (λ (n : ℕ). min 480 (n - 480 * part)) (sym size)))
 
 -- The records from a place on have one reading.
 pub same_list : {layout : Layout} {generation : ℕ} {image : Image} (number at : ℕ) (xs ys : List (List ℕ)) → AreRecords layout generation image number at xs → AreRecords layout generation image number at ys → xs ≡ ys
@@ -94,7 +94,7 @@ module _ (layout : Layout) (generation : ℕ) (a b : Image) where
   read_along {number} {at} {bytes} is same zero (suc part) low below = absurd (omega (arith, low))
   read_along {number} {at} {bytes} is same (suc most) (suc part) low below =
       sym (same (at + suc part) (after (length bytes) part is.short below is.within
-        (λ i small. subst (IsPart generation number i (length bytes)) (sym (read_along is same most i (omega (arith, small, low)) (omega (arith, small, below)))) (is_part is i (omega (arith, small, below))))))
+      (λ i small. subst (IsPart generation number i (length bytes)) (sym (read_along is same most i (omega (arith, small, low)) (omega (arith, small, below)))) (is_part is i (omega (arith, small, below))))))
 
   -- Images that agree in all sectors that the reading looks at have the same records.
   pub unread_records : (number at : ℕ) (records : List (List ℕ)) → ((j : ℕ) → IsLogRead layout generation a number at j → b j ≡ a j)
@@ -118,9 +118,9 @@ all_or_one : (n : ℕ) (P Q : ℕ → Type 0) → ((i : ℕ) → i < n → P i �
 all_or_one zero P Q each = inl (λ i below. absurd (omega (arith, below)))
 all_or_one (suc n) P Q each = ⊎_elim
     (λ before. ⊎_elim
-      (λ here. inl (λ i below. ⊎_elim (λ same. subst P (sym same) here) (λ less. before i (omega (arith, below, less))) (cases_eq i n)))
-      (λ other. inr (n, omega arith, other))
-      (each n (omega arith)))
+    (λ here. inl (λ i below. ⊎_elim (λ same. subst P (sym same) here) (λ less. before i (omega (arith, below, less))) (cases_eq i n)))
+    (λ other. inr (n, omega arith, other))
+    (each n (omega arith)))
     (λ found. inr (found.0, omega (arith, found.1), found.2))
     (all_or_one n P Q (λ i below. each i (omega (arith, below))))
 
@@ -164,7 +164,7 @@ module _ (layout : Layout) (generation number next : ℕ) (bytes : List ℕ) (ru
       whole : ((i : ℕ) → i < length run → image (next + i) ≡ slice_index_or run i []) → HasRecords layout generation image (records ++ bytes ∷ [])
       whole all = with_more (bytes ∷ [])
           (goes_on (record { some = some; short = short; within = room; parts = λ part below. let low : part < length run = omega (arith, below, count) in all part low ∙ each part low })
-            (stops (λ x. none_of last free_behind (suc number) (next + size) x (omega arith))))
+          (stops (λ x. none_of last free_behind (suc number) (next + size) x (omega arith))))
 
       -- where a sector of it is old, no record stands there
       torn : (i : ℕ) → i < length run → image (next + i) ≡ old (next + i) → (image (next + 0) ≡ old (next + 0)) ⊎ (image (next + 0) ≡ slice_index_or run 0 [])
@@ -175,7 +175,7 @@ module _ (layout : Layout) (generation number next : ℕ) (bytes : List ℕ) (ru
           old_of k as_before low =
               let within = is.within in
               let smaller : generation < generation = end.free generation (next + k) (omega arith) (omega (arith, low, within))
-                (subst (IsOf generation) (sym (is.parts k low) ∙ as_before) (is_of generation number k (length x) (part_of x k) last)) in
+              (subst (IsOf generation) (sym (is.parts k low) ∙ as_before) (is_of generation number k (length x) (part_of x k) last)) in
               omega (arith, smaller)
 
           same_size : image (next + 0) ≡ slice_index_or run 0 [] → length x ≡ length bytes
@@ -189,7 +189,7 @@ module _ (layout : Layout) (generation number next : ℕ) (bytes : List ℕ) (ru
     maybe_appended image maybe = ⊎_elim
         (λ all. inr (whole image maybe.outside all))
         (λ found. inl (subst (HasRecords layout generation image) (append-nil records)
-          (with_more image maybe.outside [] (stops (torn image maybe.outside found.0 found.1 found.2 (maybe.inside 0 (omega (arith, count, some))))))))
+        (with_more image maybe.outside [] (stops (torn image maybe.outside found.0 found.1 found.2 (maybe.inside 0 (omega (arith, count, some))))))))
         (all_or_one (length run) (λ i. image (next + i) ≡ slice_index_or run i []) (λ i. image (next + i) ≡ old (next + i)) (λ i below. ⊎_elim (λ o. inr o) (λ n. inl n) (maybe.inside i below)))
 
     -- Afterwards it is there, and the log goes on behind it.
@@ -209,16 +209,16 @@ module _ (layout : Layout) (generation number next : ℕ) (bytes : List ℕ) (ru
     none_later image maybe before theirs j low high is = ⊎_elim
         (λ under. before theirs j low high (subst (IsOf theirs) (maybe.outside j (inl under)) is))
         (λ over. ⊎_elim
-          (λ inside. in_run (j - next) (omega (arith, inside, over)) (omega (arith, over)))
-          (λ behind_it. before theirs j low high (subst (IsOf theirs) (maybe.outside j (inr behind_it)) is))
-          (cases_lt j (next + length run)))
+        (λ inside. in_run (j - next) (omega (arith, inside, over)) (omega (arith, over)))
+        (λ behind_it. before theirs j low high (subst (IsOf theirs) (maybe.outside j (inr behind_it)) is))
+        (cases_lt j (next + length run)))
         (cases_lt j next)
       where
         in_run : (i : ℕ) → i < length run → j ≡ next + i → theirs < generation + 1
         in_run i below place = ⊎_elim
             (λ old_one. before theirs j low high (subst (IsOf theirs) (ap image place ∙ old_one ∙ sym (ap old place)) is))
             (λ new. let says = (subst (IsOf theirs) (ap image place ∙ new ∙ each i below) is).generation_is in
-              let ours : theirs ≡ generation = sym says ∙ log_generation generation number i (length bytes) (part_of bytes i) last in omega (arith, ours))
+            let ours : theirs ≡ generation = sym says ∙ log_generation generation number i (length bytes) (part_of bytes i) last in omega (arith, ours))
             (maybe.inside i below)
 
   -- ---- the whole store meanwhile

@@ -2,7 +2,6 @@
 -- No manual page has it: it is the project's own protocol.
 -- The log, the slots and the keeper stand on this file.
 use Rattle.std.specs.Prelude.{◌≡◌, ◌⊎◌, ℕ, Result, Ok, Err}
-use Rattle.std.proofs.Common.{inl, inr, ◌∙◌, sym}
 use Rattle.um_model.specs.Disk.{one_more}
 use Rattle.um_wire.specs.declared.refusal.Refusal.{Refusal}
 use Rattle.um_wire.specs.declared.refusal.Refusal.TheVariants.{Device, NoMemory}

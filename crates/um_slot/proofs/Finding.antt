@@ -1,15 +1,14 @@
 -- The newer of the headers that were read is the newest of the image.
-use Rattle.std.specs.Prelude.{ℕ, ◌+◌, ◌<◌, ◌≤◌, Option, Some, None, Bool, true, false, nat_le, if◌then◌else◌}
-use Rattle.std.proofs.Common.{◌≡◌, sym, subst, ⊎_elim, arith, ◌∙◌}
+use Rattle.std.specs.Prelude.{Option, Some, None, nat_le}
+use Rattle.std.proofs.Common.{sym, subst, ⊎_elim, arith}
 use Rattle.std.proofs.lemmas.Bool.{cases_Bool, leb-true, leb-false, cond-true, cond-false}
-use Rattle.um_model.specs.Disk.{Sector, Image}
+use Rattle.um_model.specs.Disk.{Image}
 use Rattle.um_model.specs.declared.layout.Layout.{Layout}
-use Rattle.um_model.specs.declared.layout.Slot.{Slot}
 use Rattle.um_model.specs.declared.layout.Slot.TheVariants.{A, B}
-use Rattle.um_model.specs.Store.{slot_start, IsHeader, HasNoHeader}
+use Rattle.um_model.specs.Store.{slot_start, HasNoHeader}
 use Rattle.um_model.proofs.StoreLaws.{same_header}
 use Rattle.um_slot.specs.declared.header.Header.{Header}
-use Rattle.um_slot.specs.Reading.{ReadsHeader, newer_of, IsNewestHeader, Finds}
+use Rattle.um_slot.specs.Reading.{ReadsHeader, newer_of, Finds}
 
 module _ (layout : Layout) (image : Image) where
   no_header : ReadsHeader layout (image (slot_start layout A)) None → ReadsHeader layout (image (slot_start layout B)) None → HasNoHeader layout image
@@ -22,7 +21,7 @@ module _ (layout : Layout) (image : Image) where
   finds None (Some b) ha hb = record { here = hb; newer = λ theirs size there. absurd (ha theirs size there) }
   finds (Some a) (Some b) ha hb = ⊎_elim
       (λ older. subst (Finds layout image) (sym (cond-true _ (Some (A, a)) (Some (B, b)) older))
-        (record { here = ha; newer = λ theirs size there. let low = leb-true _ _ older in let same = same_header there hb in omega (arith, low, same.0) }))
+      (record { here = ha; newer = λ theirs size there. let low = leb-true _ _ older in let same = same_header there hb in omega (arith, low, same.0) }))
       (λ newer. subst (Finds layout image) (sym (cond-false _ (Some (A, a)) (Some (B, b)) newer))
-        (record { here = hb; newer = λ theirs size there. let high = leb-false _ _ newer in let same = same_header there ha in omega (arith, high, same.0) }))
+      (record { here = hb; newer = λ theirs size there. let high = leb-false _ _ newer in let same = same_header there ha in omega (arith, high, same.0) }))
       (cases_Bool (nat_le b.generation a.generation))

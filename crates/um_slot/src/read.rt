@@ -64,7 +64,12 @@ fn front(sector: &Sector, count: usize) -> &[u8]
 }
 
 /// So many bytes of the sectors from `at` on.
-fn read_body<D: Disk>(alloc: Global, disk: &mut D, at: usize, size: usize) -> Result<Vec<u8>, Refusal>
+fn read_body<D: Disk>(
+    alloc: Global,
+    disk: &mut D,
+    at: usize,
+    size: usize,
+) -> Result<Vec<u8>, Refusal>
     requires { at ≤ 2 ^ 32 }
     ensures body { IfOk result (λ body. IsTrue (D.honest disk.old) → body.items ≡ take size (joined (sector_count size) (seen (D.past disk.old)) at)) }
     ensures past { IsTrue (D.honest disk.old) → D.past disk.new ≡ D.past disk.old }

@@ -77,6 +77,7 @@ const A1: Home = Home {
     slot: Slot::A,
     generation: 1,
 };
+
 const B2: Home = Home {
     slot: Slot::B,
     generation: 2,

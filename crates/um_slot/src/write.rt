@@ -49,7 +49,13 @@ fn write_slot<D: Disk>(
 ///
 /// E20 where the generation is 2^64 - 1, and then E14 where the body is longer than a slot holds, with nothing written; E15,
 /// with nothing written; E16 where a disk call fails.
-pub fn write_other<D: Disk>(alloc: Global, disk: &mut D, layout: Layout, home: Home, body: &[u8]) -> Result<Home, Refusal>
+pub fn write_other<D: Disk>(
+    alloc: Global,
+    disk: &mut D,
+    layout: Layout,
+    home: Home,
+    body: &[u8],
+) -> Result<Home, Refusal>
     ensures during { IsTrue (D.honest disk.old) → IsSettled (D.past disk.old) → (before : List ℕ) (records : List (List ℕ))
         → IsStore layout (seen (D.past disk.old)) home.slot home.generation before records
         → During (D.past disk.old) (D.past disk.new) (EitherSnapshot layout home.slot home.generation before records body.now) }
@@ -85,7 +91,12 @@ pub fn write_other<D: Disk>(alloc: Global, disk: &mut D, layout: Layout, home: H
 /// stood before, the body is the newest and the log is free.
 ///
 /// E14 where the body is longer than a slot holds, with nothing written; E15, with nothing written; E16 where a disk call fails.
-pub fn write_first<D: Disk>(alloc: Global, disk: &mut D, layout: Layout, body: &[u8]) -> Result<Home, Refusal>
+pub fn write_first<D: Disk>(
+    alloc: Global,
+    disk: &mut D,
+    layout: Layout,
+    body: &[u8],
+) -> Result<Home, Refusal>
     ensures during { IsTrue (D.honest disk.old) → IsSettled (D.past disk.old)
         → During (D.past disk.old) (D.past disk.new) (λ image. image 0 ≡ seen (D.past disk.old) 0) }
     ensures ok { OnOk result (IsTrue (D.honest disk.old) → HasNoHeader layout (seen (D.past disk.old)) → IsFree layout 1 (seen (D.past disk.old)) (log_start layout)

@@ -1,11 +1,10 @@
-use Rattle.std.specs.Prelude.{◌≡◌, ◌≢◌, ◌+◌, ◌-◌, ◌*◌, ◌<◌, ◌++◌, min, ℕ, List, take, drop, length, false, true}
+use Rattle.std.specs.Prelude.{◌≡◌, ◌+◌, ◌<◌, ℕ, List, drop}
 use Rattle.std.proofs.lemmas.Bool.{true≢false}
-use Rattle.std.proofs.Common.{sym, ◌∙◌, ap, subst, arith}
+use Rattle.std.proofs.Common.{sym, ◌∙◌, ap, arith}
 use Rattle.byteorder.specs.Endian.{big_number}
 use Rattle.um_model.specs.Disk.{Past, seen}
-use Rattle.um_model.specs.Store.{log_sector, part_count, part_of}
-use Rattle.um_log.specs.Reading.{Fits}
-use Rattle.um_log.proofs.Scanning.{none_fits, none_part, differ, agree, long_more, parts_more, all_parts}
+use Rattle.um_model.specs.Store.{log_sector, part_count}
+use Rattle.um_log.proofs.Scanning.{none_fits, none_part, differ, agree, long_more, parts_more}
 use Rattle.um_log.proofs.read.record_at.Goals as goal
 
 pub returns-then-not-fits-clause-found : goal.returns-then-not-fits-clause-found

@@ -1,4 +1,4 @@
-use Rattle.std.specs.Prelude.{List, ℕ, ◌++◌, ◌-◌, ◌*◌, ◌+◌, take}
+use Rattle.std.specs.Prelude.{List, ℕ, ◌++◌, ◌+◌}
 use Rattle.std.proofs.Common.{◌∙◌, ap, arith}
 use Rattle.um_model.specs.Disk.{Past, seen}
 use Rattle.um_slot.proofs.Joining.{body_more}

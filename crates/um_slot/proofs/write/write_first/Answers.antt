@@ -1,7 +1,5 @@
-use Rattle.std.specs.Prelude.{◌≡◌}
-use Rattle.std.proofs.Common.{ap, arith, inl}
-use Rattle.um_model.specs.Disk.{seen}
-use Rattle.um_model.proofs.DiskLaws.{started, weaker}
+use Rattle.std.proofs.Common.{arith}
+use Rattle.um_model.proofs.DiskLaws.{started}
 use Rattle.um_model.proofs.StoreLaws.{first_newest, kept_free}
 use Rattle.um_slot.proofs.write.write_first.Goals as goal
 

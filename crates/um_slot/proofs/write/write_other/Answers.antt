@@ -1,5 +1,5 @@
-use Rattle.std.specs.Prelude.{ℕ, List, []}
-use Rattle.std.proofs.Common.{◌≡◌, ◌+◌, ◌<◌, ◌^◌, sym, subst, arith}
+use Rattle.std.specs.Prelude.{[]}
+use Rattle.std.proofs.Common.{◌+◌, sym, subst, arith}
 use Rattle.um_model.specs.Disk.{During, seen}
 use Rattle.um_model.specs.declared.layout.Slot.{Slot}
 use Rattle.um_model.specs.Store.{log_start, IsSnapshot, MaybeSnapshot, IsReady}
@@ -30,6 +30,6 @@ returns-clause-ok g c h settled before records store =
     let new = g.D.Disk.past c.write_slot.new.disk in
     subst (λ (s : Slot). IsReady c.args.layout new s (c.args.home.generation + 1) c.args.body.now [] 0 (log_start c.args.layout)) (sym c.other.ensures)
     (ready_other old settled store (omega (arith, c.if-home-eq18446744073709551615.false, store.newest.header.last)) (omega (arith, c.if-body-body_limit.false, c.body_limit.ensures))
-      (subst (λ (s : Slot). MaybeSnapshot c.args.layout (seen old) s (c.args.home.generation + 1) c.args.body.now (seen new)) c.other.ensures (c.in_ok-write_slot.ensures.beside h))
-      (subst (λ (s : Slot). IsSnapshot c.args.layout (seen new) s (c.args.home.generation + 1) c.args.body.now) c.other.ensures (c.in_ok-write_slot.ensures.written h))
-      (c.in_ok-write_slot.ensures.settled h))
+    (subst (λ (s : Slot). MaybeSnapshot c.args.layout (seen old) s (c.args.home.generation + 1) c.args.body.now (seen new)) c.other.ensures (c.in_ok-write_slot.ensures.beside h))
+    (subst (λ (s : Slot). IsSnapshot c.args.layout (seen new) s (c.args.home.generation + 1) c.args.body.now) c.other.ensures (c.in_ok-write_slot.ensures.written h))
+    (c.in_ok-write_slot.ensures.settled h))

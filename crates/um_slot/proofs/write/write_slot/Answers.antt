@@ -1,10 +1,7 @@
-use Rattle.std.specs.Prelude.{List, ℕ, [], ◌∷◌, ◌+◌, ◌<◌, ◌≡◌, length, slice_index_or}
-use Rattle.std.proofs.Common.{sym, ◌∙◌, ap, subst}
-use Rattle.um_model.specs.Disk.{Sector, Image, Past, seen, During, IsSettled, IsLaid, MaybeLaid}
-use Rattle.um_model.specs.declared.layout.Layout.{Layout}
-use Rattle.um_model.specs.declared.layout.Slot.{Slot}
-use Rattle.um_model.specs.Store.{slot_start, body_limit, sector_count, body_sector, header_sector, IsSnapshot, MaybeSnapshot}
-use Rattle.um_slot.proofs.Writing.{before_snapshot, body_maybe, both_runs, header_done, done_maybe}
+use Rattle.std.specs.Prelude.{List, ℕ, [], ◌∷◌, ◌+◌, ◌≡◌}
+use Rattle.std.proofs.Common.{◌∙◌, ap, subst}
+use Rattle.um_model.specs.Disk.{Sector, seen, During, IsLaid, MaybeLaid}
+use Rattle.um_slot.proofs.Writing.{before_snapshot, both_runs, header_done, done_maybe}
 use Rattle.um_slot.proofs.write.write_slot.Goals as goal
 
 -- what a run at a place says, of the same run at the same place
@@ -25,7 +22,7 @@ returns-in_err-write_run_synced-2-clause-during g c h settled =
     (moved (λ n r. During old mid (MaybeLaid (seen old) (n + 1) r)) start run (c.write_run_synced.ensures.settled_during h settled))
     (moved (λ n r. IsLaid (seen old) (n + 1) r (seen mid)) start run (c.in_ok-write_run_synced.ensures.ok h))
     (moved (λ n r. During mid new (MaybeLaid (seen mid) n r)) start (ap (λ (s : Sector). s ∷ []) c.header_sector.ensures)
-      (c.write_run_synced-2.ensures.settled_during (c.write_run_synced.ensures.honest ∙ h) (c.in_ok-write_run_synced.ensures.settled h)))
+    (c.write_run_synced-2.ensures.settled_during (c.write_run_synced.ensures.honest ∙ h) (c.in_ok-write_run_synced.ensures.settled h)))
 
 pub returns-clause-during : goal.returns-clause-during
 returns-clause-during g c h settled =
@@ -38,7 +35,7 @@ returns-clause-during g c h settled =
     (moved (λ n r. During old mid (MaybeLaid (seen old) (n + 1) r)) start run (c.write_run_synced.ensures.settled_during h settled))
     (moved (λ n r. IsLaid (seen old) (n + 1) r (seen mid)) start run (c.in_ok-write_run_synced.ensures.ok h))
     (moved (λ n r. During mid new (MaybeLaid (seen mid) n r)) start (ap (λ (s : Sector). s ∷ []) c.header_sector.ensures)
-      (c.write_run_synced-2.ensures.settled_during (c.write_run_synced.ensures.honest ∙ h) (c.in_ok-write_run_synced.ensures.settled h)))
+    (c.write_run_synced-2.ensures.settled_during (c.write_run_synced.ensures.honest ∙ h) (c.in_ok-write_run_synced.ensures.settled h)))
 
 pub returns-clause-written : goal.returns-clause-written
 returns-clause-written g c h =

@@ -1,8 +1,8 @@
-use Rattle.std.specs.Prelude.{◌≡◌, ◌⊎◌, ◌+◌, ◌<◌, ◌≤◌, ◌++◌, ◌∷◌, [], ℕ, List, length}
-use Rattle.std.proofs.Common.{sym, ◌∙◌, ap, subst, inl, inr, ⊎_elim, arith}
-use Rattle.um_model.specs.Disk.{Sector, Image, seen, During, MaybeLaid, IsLaid}
+use Rattle.std.specs.Prelude.{◌≡◌, ◌+◌, ◌++◌, ◌∷◌, [], ℕ, List, length}
+use Rattle.std.proofs.Common.{subst, arith}
+use Rattle.um_model.specs.Disk.{Sector, seen, During, MaybeLaid, IsLaid}
 use Rattle.um_model.specs.Store.{part_count, IsReady}
-use Rattle.um_model.proofs.DiskLaws.{started, weaker}
+use Rattle.um_model.proofs.DiskLaws.{started}
 use Rattle.um_model.proofs.LogLaws.{before_record, during_record, ready_record}
 use Rattle.um_log.proofs.write.Log.append.Goals as goal
 
@@ -46,4 +46,4 @@ returns-clause-ok g c h slot body records ready =
     let size : log.next + part_count (length c.args.bytes.now) ≡ log.next + c.len.result = omega (arith, c.len.ensures, c.in_ok-run.run'.ok, count) in
     subst (λ (n : ℕ). IsReady log.layout new slot log.generation body (records ++ c.args.bytes.now ∷ []) (log.number + 1) n) size
     (ready_record log.layout log.generation log.number log.next c.args.bytes.now c.in_ok-run.run'.items ready.store.newest.header.last room.some room.short room.within count c.in_ok-run.ensures.each old new slot body records ready
-      (subst (λ (r : List Sector). IsLaid (seen old) log.next r (seen new)) c.deref.ensures.value (c.in_ok-write_run_synced.ensures.ok h)) (c.in_ok-write_run_synced.ensures.settled h))
+    (subst (λ (r : List Sector). IsLaid (seen old) log.next r (seen new)) c.deref.ensures.value (c.in_ok-write_run_synced.ensures.ok h)) (c.in_ok-write_run_synced.ensures.settled h))

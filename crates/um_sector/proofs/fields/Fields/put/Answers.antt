@@ -1,4 +1,4 @@
-use Rattle.std.proofs.Common.{◌≡◌, ◌+◌, ◌≤◌, ◌++◌, List, ℕ, length, ◌∙◌, ap}
+use Rattle.std.proofs.Common.{◌+◌, ◌≤◌, ◌++◌, List, ℕ, length, ◌∙◌, ap}
 use Rattle.um_sector.proofs.Front.{front_grown, front_room, zeros_kept}
 use Rattle.um_sector.proofs.fields.Fields.put.Goals as goal
 
