@@ -359,3 +359,23 @@ made_store {layout} {old} {image} {slot} {generation} {body} newest last free sa
 pub kept_free : {layout : Layout} {old image : Image} {slot : Slot} {generation later : ℕ} {body : List ℕ} → MaybeSnapshot layout old slot generation body image
     → IsFree layout later old (log_start layout) → IsFree layout later image (log_start layout)
 kept_free {layout} {slot} maybe free theirs j low high is = free theirs j low high (subst (IsOf theirs) (maybe.outside j (inr (behind_slot layout slot j low))) is)
+
+-- ---- sector 0
+
+-- sector 0 tells the layout's sizes
+pub superblock_says : (layout : Layout) → (big_number 4 (drop 8 (superblock layout)) ≡ layout.slot_sectors) × (big_number 4 (drop 12 (superblock layout)) ≡ layout.log_sectors)
+unfolding superblock filled
+superblock_says layout = (
+  big_number-reads_back 4 layout.slot_sectors (big_bytes 4 layout.log_sectors ++ replicate 496 0) (omega (arith, layout.slot_most)),
+  big_number-reads_back 4 layout.log_sectors (replicate 496 0) (omega (arith, layout.log_most)),
+)
+
+-- layouts of the same sizes have the same sector 0
+pub same_superblock : (a b : Layout) → a.slot_sectors ≡ b.slot_sectors → a.log_sectors ≡ b.log_sectors → superblock a ≡ superblock b
+unfolding superblock
+same_superblock a b slots log = λ i. filled (codes "UMDISK01" ++ (big_bytes 4 (slots i) ++ big_bytes 4 (log i)))
+
+-- it begins with its name
+pub superblock_name : (layout : Layout) → take 8 (superblock layout) ≡ codes "UMDISK01"
+unfolding superblock filled
+superblock_name layout = refl

@@ -22,4 +22,4 @@ pub use laws::{
     runs_of_calls_join,
 };
 pub use memory::MemDisk;
-pub use run::{write_run, write_run_synced};
+pub use run::{write_blank, write_run, write_run_synced};

@@ -11,7 +11,7 @@ mod sectors;
 mod tests;
 mod write;
 
-pub use first::superblock;
+pub use first::{read_superblock, superblock};
 pub use header::Home;
 pub use laws::{the_newest_body_is_one, unread_sectors_of_the_slots_do_not_count};
 pub use read::{Snapshot, newest};

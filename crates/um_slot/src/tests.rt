@@ -1,4 +1,4 @@
-use crate::{Home, Layout, Slot, newest, superblock, write_first, write_other};
+use crate::{Home, Layout, Slot, newest, read_superblock, superblock, write_first, write_other};
 use std::alloc::Global;
 use std::test::Fail;
 use um_sector::{Disk, Fuse, MemDisk, Sector};
@@ -166,5 +166,30 @@ fn the_last_generation_and_a_long_body_are_refused(rt: HostRuntime) -> Result<()
     let no_room = write_other(alloc, &mut disk, small()?, A1, &long);
     assert!(rt; matches!(no_room, Err(Refusal::NoRoom)));
     assert!(rt; disk.syncs() == 2);
+    Ok(())
+}
+
+/// Sector 0 of a store with a log of 512 sectors, with one byte changed.
+fn sector_0(at: usize, byte: u8) -> Result<Sector, Fail> {
+    let mut sector = superblock(small()?);
+    if at < 512 {
+        sector[at] = byte;
+    }
+    Ok(sector)
+}
+
+#[test]
+fn sector_0_tells_the_layout(rt: HostRuntime) -> Result<(), Fail> {
+    let read = read_superblock(&superblock(small()?));
+    assert!(rt;
+        matches!(read, Ok(layout) if layout.slot_sectors == 64 && layout.log_sectors == 512)
+    );
+    // another name; an unused byte; slots of 63 sectors
+    let read = read_superblock(&sector_0(7, 0)?);
+    assert!(rt; matches!(read, Err(Refusal::NotFormatted)));
+    let read = read_superblock(&sector_0(16, 1)?);
+    assert!(rt; matches!(read, Err(Refusal::Damaged { sector: 0 })));
+    let read = read_superblock(&sector_0(11, 63)?);
+    assert!(rt; matches!(read, Err(Refusal::Damaged { sector: 0 })));
     Ok(())
 }
