@@ -108,15 +108,13 @@ fn a_synced_run_stands_in_its_place(rt: HostRuntime) -> Result<(), Fail> {
 
 #[test]
 fn fields_lie_one_behind_the_other_and_zeros_behind_them(rt: HostRuntime) -> Result<(), Fail> {
-    let alloc = rt.alloc();
     let mut fields = Fields::new();
     fields.put(b"ab");
     fields.put_u32(258);
     fields.put_u64(3);
     let sector = fields.sector();
-    assert!(rt; sector[0] == 97 && sector[4] == 1 && sector[13] == 3 && sector[14] == 0);
-    assert!(rt; u32_at(&sector, 2) == 258 && u64_at(&sector, 6) == 3);
-    let mut disk = MemDisk::new(alloc, 3)?;
+    assert!(rt; sector[4] == 1 && u64_at(&sector, 6) == 3 && u32_at(&sector, 14) == 0);
+    let mut disk = MemDisk::new(rt.alloc(), 3)?;
     assert!(rt; put(&mut disk, 0, 7) && put(&mut disk, 1, 8) && put(&mut disk, 2, 9));
     assert!(rt; write_blank(&mut disk, 1, 2).is_ok() && holds(&mut disk, [7, 0, 0]));
     Ok(())
