@@ -9,7 +9,7 @@ use Rattle.um_model.proofs.DiskLaws.{started, weaker, laid_maybe}
 use Rattle.um_model.specs.declared.layout.Layout.{Layout}
 use Rattle.um_model.specs.declared.layout.Slot.{Slot}
 use Rattle.um_model.specs.declared.layout.Slot.TheVariants.{A, B}
-use Rattle.um_model.specs.Store.{log_start, log_end, record_limit, part_count, part_of, log_sector, IsRecord, AreRecords, stops, goes_on, HasRecords, sectors_of, IsOf, IsFree, IsLogEnd, IsPart, IsLogRead, first, after, later, IsStore, IsReady, EitherRecord, IsSlotRead, head, behind}
+use Rattle.um_model.specs.Store.{log_start, log_end, record_limit, part_count, part_of, log_sector, IsRecord, AreRecords, stops, goes_on, HasRecords, sectors_of, IsOf, IsFree, IsLogEnd, IsPart, IsLogRead, begins, part_behind, record_behind, IsStore, IsReady, EitherRecord, IsSlotRead, head, behind}
 use Rattle.um_model.proofs.StoreLaws.{log_generation, log_size, log_payload, is_of, none_of, same_record, unread_newest, body_within}
 
 -- ---- one reading
@@ -80,9 +80,9 @@ module _ (layout : Layout) (generation : ℕ) (a b : Image) where
   record_read {number} {at} {bytes} is same zero below =
       let here : at + 0 ≡ at = omega arith in
       let within = is.within in
-      ap b here ∙ same at (first (omega (arith, within, below))) ∙ sym (ap a here)
+      ap b here ∙ same at (begins (omega (arith, within, below))) ∙ sym (ap a here)
   record_read {number} {at} {bytes} is same (suc part) below =
-      same (at + suc part) (after (length bytes) part is.short below is.within (λ i low. is_part is i (omega (arith, low, below))))
+      same (at + suc part) (part_behind (length bytes) part is.short below is.within (λ i low. is_part is i (omega (arith, low, below))))
 
   -- and where the other image has a record, it was read to its end
   read_along : {number at : ℕ} {bytes : List ℕ} → IsRecord layout generation b number at bytes → ((j : ℕ) → IsLogRead layout generation a number at j → b j ≡ a j)
@@ -90,10 +90,10 @@ module _ (layout : Layout) (generation : ℕ) (a b : Image) where
   read_along {number} {at} {bytes} is same most zero low below =
       let here : at + 0 ≡ at = omega arith in
       let within = is.within in
-      ap a here ∙ sym (same at (first (omega (arith, within, below)))) ∙ sym (ap b here)
+      ap a here ∙ sym (same at (begins (omega (arith, within, below)))) ∙ sym (ap b here)
   read_along {number} {at} {bytes} is same zero (suc part) low below = absurd (omega (arith, low))
   read_along {number} {at} {bytes} is same (suc most) (suc part) low below =
-      sym (same (at + suc part) (after (length bytes) part is.short below is.within
+      sym (same (at + suc part) (part_behind (length bytes) part is.short below is.within
       (λ i small. subst (IsPart generation number i (length bytes)) (sym (read_along is same most i (omega (arith, small, low)) (omega (arith, small, below)))) (is_part is i (omega (arith, small, below))))))
 
   -- Images that agree in all sectors that the reading looks at have the same records.
@@ -102,7 +102,7 @@ module _ (layout : Layout) (generation : ℕ) (a b : Image) where
   unread_records number at [] same (stops nothing) =
       stops (λ bytes is. nothing bytes (same_record is (λ part below. read_along is same part part (omega arith) below)))
   unread_records number at (bytes ∷ records) same (goes_on is rest) =
-      goes_on (same_record is (record_read is same)) (unread_records (suc number) (at + part_count (length bytes)) records (λ j read. same j (later is read)) rest)
+      goes_on (same_record is (record_read is same)) (unread_records (suc number) (at + part_count (length bytes)) records (λ j read. same j (record_behind is read)) rest)
 
 -- ---- a record more
 

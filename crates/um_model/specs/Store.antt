@@ -167,10 +167,10 @@ pub record IsPart (generation number part size : ℕ) (sector : Sector) : Type 0
 
 -- A sector that the reading of the records from a place on looks at: up to and with the first that isn't the next part in its place.
 pub data IsLogRead (layout : Layout) (generation : ℕ) (image : Image) : ℕ → ℕ → ℕ → Type 0 where
-  first : {number at : ℕ} → at < log_end layout → IsLogRead layout generation image number at at
-  after : {number at : ℕ} (size part : ℕ) → size ≤ record_limit → suc part < part_count size → at + part_count size ≤ log_end layout
+  begins : {number at : ℕ} → at < log_end layout → IsLogRead layout generation image number at at
+  part_behind : {number at : ℕ} (size part : ℕ) → size ≤ record_limit → suc part < part_count size → at + part_count size ≤ log_end layout
       → ((i : ℕ) → i ≤ part → IsPart generation number i size (image (at + i))) → IsLogRead layout generation image number at (at + suc part)
-  later : {number at j : ℕ} {bytes : List ℕ} → IsRecord layout generation image number at bytes
+  record_behind : {number at j : ℕ} {bytes : List ℕ} → IsRecord layout generation image number at bytes
       → IsLogRead layout generation image (suc number) (at + part_count (length bytes)) j → IsLogRead layout generation image number at j
 
 -- ---- the whole store
