@@ -28,3 +28,5 @@ pub mod DeadlinesLaws
 pub mod KeepsLaws
 pub mod BytesLaws
 pub mod TransitionLaws
+pub mod StoreLaws
+pub mod LogLaws

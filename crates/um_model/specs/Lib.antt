@@ -26,3 +26,4 @@ pub mod Timers
 pub mod Specifiers
 pub mod Disk
 pub mod Bytes
+pub mod Store

@@ -4,6 +4,7 @@
 
 mod frames;
 mod jobs;
+mod layout;
 mod limit;
 mod names;
 mod refusals;
@@ -18,6 +19,8 @@ mod words;
 
 pub use frames::Ending;
 pub use jobs::{JobKind, JobState, UnitJobs};
+pub use jobs::{JobState, UnitJobs};
+pub use layout::{Layout, Slot};
 pub use limit::Counted;
 pub use names::Suffix;
 pub use refusals::Limit;

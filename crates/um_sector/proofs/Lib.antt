@@ -1,2 +1,3 @@
+mod Front
 mod Notes
 mod Picks

@@ -3,6 +3,7 @@
 
 mod disk;
 mod fault;
+mod fields;
 mod fuse;
 mod laws;
 mod memory;
@@ -13,6 +14,7 @@ mod tests;
 
 pub use disk::{Disk, Sector};
 pub use fault::Fault;
+pub use fields::{Fields, u32_at, u64_at};
 pub use fuse::Fuse;
 pub use laws::{
     a_new_disk_is_settled, a_run_of_calls_ends, a_sync_leaves_what_a_read_gives,
@@ -20,4 +22,4 @@ pub use laws::{
     runs_of_calls_join,
 };
 pub use memory::MemDisk;
-pub use run::{write_run, write_run_synced};
+pub use run::{write_blank, write_run, write_run_synced};

@@ -1,4 +1,5 @@
-ghost use Rattle.std.specs.Prelude.{◌≡◌, ◌+◌, ◌<◌, ◌≤◌, length, IsTrue, OnOk};
+ghost use Rattle.std.specs.Prelude.{◌≡◌, ◌+◌, ◌<◌, ◌≤◌, length, replicate, IsTrue, OnOk};
+ghost use Rattle.um_sector.specs.Noted.{blank};
 ghost use Rattle.um_model.specs.Disk.{seen, more, CountsFailure, During, IsSettled, IsLaid, MaybeLaid, AfterRun};
 
 use crate::disk::{Disk, Sector};
@@ -41,4 +42,22 @@ pub fn write_run_synced<D: Disk>(disk: &mut D, at: usize, run: &[Sector]) -> Res
 {
     write_run(disk, at, run)?;
     disk.sync()
+}
+
+/// Writes sectors of zeros one behind the other, from sector `at` on.
+///
+/// Each image that a crash leaves during it is one of before, with any of these sectors zero.
+pub fn write_blank<D: Disk>(disk: &mut D, at: usize, count: usize) -> Result<(), Fault>
+    requires { at + count ≤ usize.MAX }
+    ensures during { IsTrue (D.honest disk.old) → During (D.past disk.old) (D.past disk.new) (AfterRun (D.past disk.old) at (replicate count blank)) }
+    ensures ok { OnOk result (IsTrue (D.honest disk.old) → IsLaid (seen (D.past disk.old)) at (replicate count blank) (seen (D.past disk.new))) }
+    ensures failures { CountsFailure result (D.failures disk.old) (D.failures disk.new) }
+    ensures size { D.size disk.new ≡ D.size disk.old }
+    ensures honest { D.honest disk.new ≡ D.honest disk.old }
+{
+    let blank: Sector = [0; 512];
+    for i in 0..count {
+        disk.write(at + i, &blank)?;
+    }
+    Ok(())
 }

@@ -1,4 +1,6 @@
-use crate::{Disk, Fault, Fuse, MemDisk, Sector, write_run_synced};
+use crate::{
+    Disk, Fault, Fields, Fuse, MemDisk, Sector, u32_at, u64_at, write_blank, write_run_synced,
+};
 use std::alloc::Global;
 use std::test::Fail;
 
@@ -101,5 +103,19 @@ fn a_synced_run_stands_in_its_place(rt: HostRuntime) -> Result<(), Fail> {
     assert!(rt; write_run_synced(&mut disk, 1, &run).is_ok());
     assert!(rt; holds(&mut disk, [0, 6, 7]) && disk.unsynced(alloc)?.is_empty());
     assert!(rt; write_run_synced(&mut disk, 2, &run).is_err());
+    Ok(())
+}
+
+#[test]
+fn fields_lie_one_behind_the_other_and_zeros_behind_them(rt: HostRuntime) -> Result<(), Fail> {
+    let mut fields = Fields::new();
+    fields.put(b"ab");
+    fields.put_u32(258);
+    fields.put_u64(3);
+    let sector = fields.sector();
+    assert!(rt; sector[4] == 1 && u64_at(&sector, 6) == 3 && u32_at(&sector, 14) == 0);
+    let mut disk = MemDisk::new(rt.alloc(), 3)?;
+    assert!(rt; put(&mut disk, 0, 7) && put(&mut disk, 1, 8) && put(&mut disk, 2, 9));
+    assert!(rt; write_blank(&mut disk, 1, 2).is_ok() && holds(&mut disk, [7, 0, 0]));
     Ok(())
 }

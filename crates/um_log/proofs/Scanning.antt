@@ -1,0 +1,105 @@
+-- Steps of the loops that read the log.
+use Rattle.std.specs.Cmp.Lexicographic.{pointwise, same_text, other_text}
+use Rattle.std.specs.Prelude.{Bool, true, false, not, nat_eq, ◌≡◌, ◌≢◌, ◌+◌, ◌-◌, ◌*◌, ◌<◌, ◌≤◌, min, ℕ, List, ◌++◌, ◌∷◌, [], suc, length, take, drop}
+use Rattle.std.proofs.Common.{refl, sym, ◌∙◌, ap, subst, ⊎_elim, arith, append_assoc}
+use Rattle.std.proofs.lemmas.Bool.{cases_eq, true≢false}
+use Rattle.std.proofs.lemmas.List.{length-append, length-drop, take-append-le, drop-append-le, drop_at, take_all, append-nil}
+use Rattle.byteorder.specs.Endian.{big_number}
+use Rattle.um_model.specs.Disk.{Sector, Image}
+use Rattle.um_model.specs.declared.layout.Layout.{Layout}
+use Rattle.um_model.specs.Store.{log_sector, part_count, part_of, log_end, IsRecord, AreRecords, stops, goes_on, HasRecords}
+use Rattle.um_model.proofs.LogLaws.{record_size, part_bytes}
+use Rattle.um_log.specs.Reading.{Fits}
+
+-- what a test that two texts differ has told
+pub differ : (xs ys : List ℕ) (r : Bool) → r ≡ not (pointwise nat_eq xs ys) → r ≡ true → xs ≢ ys
+differ xs ys r is told same = true≢false (sym told ∙ is ∙ ap not (sym (by_case (pointwise nat_eq xs ys) refl)))
+  where
+    by_case : (b : Bool) → b ≡ pointwise nat_eq xs ys → true ≡ pointwise nat_eq xs ys
+    by_case true e = e
+    by_case false e = absurd (other_text xs ys e same)
+
+pub agree : (xs ys : List ℕ) (r : Bool) → r ≡ not (pointwise nat_eq xs ys) → r ≡ false → xs ≡ ys
+agree xs ys r is told = same_text xs ys (by_case (pointwise nat_eq xs ys) refl)
+  where
+    by_case : (b : Bool) → b ≡ pointwise nat_eq xs ys → true ≡ pointwise nat_eq xs ys
+    by_case true e = e
+    by_case false e = absurd (true≢false (ap not e ∙ sym is ∙ told))
+
+-- a first sector that tells an impossible length begins no record
+pub none_fits : (layout : Layout) (generation number at size : ℕ) (image : Image) → size ≡ big_number 4 (drop 28 (image at)) → (Fits layout at size → ⊥) → (x : List ℕ) → IsRecord layout generation image number at x → ⊥
+none_fits layout generation number at size image told no_room x is =
+    let long : length x ≡ size = sym (record_size is) ∙ sym told in
+    let a = is.some in let b = is.short in let w = is.within in
+    no_room (record { some = omega (arith, a, long); short = omega (arith, b, long); within = omega (arith, w, long) })
+
+-- nor does one whose next part isn't in its place
+pub none_part : (layout : Layout) (generation number at size part : ℕ) (image : Image) (sector payload : List ℕ) → size ≡ big_number 4 (drop 28 (image at)) → part < part_count size → sector ≡ image (at + part)
+    → payload ≡ take (min 480 (size - 480 * part)) (drop 32 sector) → sector ≢ log_sector generation number part size payload → (x : List ℕ) → IsRecord layout generation image number at x → ⊥
+none_part layout generation number at size part image sector payload told below is cut differs x whole =
+    let long : length x ≡ size = sym (record_size whole) ∙ sym told in
+    let low : part < part_count (length x) = omega (arith, below, long) in
+    let bytes : payload ≡ part_of x part = cut ∙ ap (λ (s : Sector). take (min 480 (size - 480 * part)) (drop 32 s)) is
+    ∙ part_bytes whole part (min 480 (size - 480 * part)) low (ap (λ (n : ℕ). min 480 (n - 480 * part)) long) in
+    differs (is ∙ whole.parts part low ∙ (λ i. log_sector generation number part (long i) (sym bytes i)))
+
+-- so many bytes were read
+pub long_more : (bytes payload more : List ℕ) (part size : ℕ) → part < part_count size → length bytes ≡ min (480 * part) size → length payload ≡ min 480 (size - 480 * part) → more ≡ bytes ++ payload
+    → length more ≡ min (480 * (part + 1)) size
+long_more bytes payload more part size below long last grown = omega (arith, ap length grown, length-append bytes payload, long, last, below)
+
+-- one part more
+pub parts_more : (sector_of : ℕ → List ℕ → Sector) (image : Image) (at part size : ℕ) (bytes payload more : List ℕ) → part < part_count size → length bytes ≡ min (480 * part) size → length payload ≡ min 480 (size - 480 * part)
+    → more ≡ bytes ++ payload → ((i : ℕ) → i < part → image (at + i) ≡ sector_of i (part_of bytes i)) → image (at + part) ≡ sector_of part payload
+    → (i : ℕ) → i < part + 1 → image (at + i) ≡ sector_of i (part_of more i)
+parts_more sector_of image at part size bytes payload more below long last grown before here i low = ⊎_elim
+    (λ same. (λ k. image (at + same k)) ∙ here ∙ (λ k. sector_of (sym same k) (sym (newest same) k)))
+    (λ less. before i (omega (arith, low, less)) ∙ ap (sector_of i) (sym (older (omega (arith, low, less)))))
+    (cases_eq i part)
+  where
+    full : length bytes ≡ 480 * part
+    full = omega (arith, long, below)
+
+    newest : i ≡ part → part_of more i ≡ payload
+    newest same =
+        let moved : 480 * i ≡ 480 * part = omega (arith, same) in
+        (λ k. take 480 (drop (moved k) (grown k))) ∙ ap (take 480) (drop_at bytes payload (480 * part) full) ∙ take_all 480 payload (omega (arith, last))
+
+    older : i < part → part_of more i ≡ part_of bytes i
+    older less =
+        ap (λ (l : List ℕ). part_of l i) grown ∙ ap (take 480) (drop-append-le (480 * i) bytes payload (omega (arith, full, less)))
+        ∙ take-append-le 480 (drop (480 * i) bytes) payload (omega (arith, length-drop (480 * i) bytes, full, less))
+
+-- all parts are there
+pub all_parts : (layout : Layout) (generation number at size part : ℕ) (image : Image) (bytes : List ℕ) → Fits layout at size → part_count size ≤ part → length bytes ≡ min (480 * part) size
+    → ((i : ℕ) → i < part → image (at + i) ≡ log_sector generation number i size (part_of bytes i)) → IsRecord layout generation image number at bytes
+all_parts layout generation number at size part image bytes fits done long parts =
+    let whole : length bytes ≡ size = omega (arith, long, done) in
+    let a = fits.some in let b = fits.short in let w = fits.within in
+    record {
+      some = omega (arith, a, whole);
+      short = omega (arith, b, whole);
+      within = omega (arith, w, whole);
+      parts = λ i low. parts i (omega (arith, low, whole, done)) ∙ ap (λ (n : ℕ). log_sector generation number i n (part_of bytes i)) (sym whole);
+    }
+
+-- ---- the records one behind the other
+
+-- no record begins behind the log
+pub none_behind : (layout : Layout) (generation number at : ℕ) (image : Image) → log_end layout ≤ at → AreRecords layout generation image number at []
+none_behind layout generation number at image high = stops (λ bytes is. let some = is.some in let within = is.within in omega (arith, some, within, high))
+
+-- one record more: whatever serves the rest serves the whole
+pub serves_more : (layout : Layout) (generation number at next : ℕ) (image : Image) (bytes : List ℕ) (before grown : List (List ℕ)) → IsRecord layout generation image number at bytes
+    → ((more : List (List ℕ)) → AreRecords layout generation image number at more → HasRecords layout generation image (before ++ more))
+    → next ≡ at + part_count (length bytes) → grown ≡ before ++ bytes ∷ []
+    → (more : List (List ℕ)) → AreRecords layout generation image (number + 1) next more → HasRecords layout generation image (grown ++ more)
+serves_more layout generation number at next image bytes before grown is serves place all more rest =
+    let one : number + 1 ≡ suc number = omega arith in
+    let tail = subst (λ (n : ℕ). AreRecords layout generation image n (at + part_count (length bytes)) more) one (subst (λ (m : ℕ). AreRecords layout generation image (number + 1) m more) place rest) in
+    subst (HasRecords layout generation image) (sym (append_assoc before (bytes ∷ []) more) ∙ ap (λ (l : List (List ℕ)). l ++ more) (sym all)) (serves (bytes ∷ more) (goes_on is tail))
+
+-- nothing is left
+pub serves_all : (layout : Layout) (generation number at : ℕ) (image : Image) (all : List (List ℕ)) → ((more : List (List ℕ)) → AreRecords layout generation image number at more → HasRecords layout generation image (all ++ more))
+    → AreRecords layout generation image number at [] → HasRecords layout generation image all
+serves_all layout generation number at image all serves nothing = subst (HasRecords layout generation image) (append-nil all) (serves [] nothing)

@@ -1,0 +1,23 @@
+-- What the reading of one record finds.
+-- No manual page has it: it is the project's own format.
+-- um_log's functions stand on this file.
+use Rattle.std.specs.Prelude.{ℕ, ◌<◌, ◌≤◌, ◌+◌, List, map, Option, Some, None, Vec}
+use Rattle.std.specs.declared.alloc.Global.{Global}
+use Rattle.um_model.specs.Disk.{Image}
+use Rattle.um_model.specs.declared.layout.Layout.{Layout}
+use Rattle.um_model.specs.Store.{IsRecord, part_count, record_limit, log_end}
+
+-- a whole record stands there, or none
+abbrev pub ReadsRecord : Layout → ℕ → Image → ℕ → ℕ → Option (Vec ℕ Global) → Type 0
+ReadsRecord layout generation image number at None = (bytes : List ℕ) → IsRecord layout generation image number at bytes → ⊥
+ReadsRecord layout generation image number at (Some bytes) = IsRecord layout generation image number at bytes.items
+
+-- records of so many bytes are possible at that sector
+pub record Fits (layout : Layout) (next size : ℕ) : Type 0 where
+  pub some : 0 < size
+  pub short : size ≤ record_limit
+  pub within : next + part_count size ≤ log_end layout
+
+-- the bytes of records
+abbrev pub bytes_of : List (Vec ℕ Global) → List (List ℕ)
+bytes_of records = map (λ bytes. bytes.items) records

@@ -1,0 +1,15 @@
+//! The log of a store: appends records behind those of its generation so that a crash leaves each one whole or absent, and
+//! reads them again up to the first that isn't whole.
+#![tactic(auto)]
+
+mod laws;
+mod read;
+mod sectors;
+#[cfg(test)]
+mod tests;
+mod write;
+
+pub use laws::{records_have_one_reading, unread_sectors_of_the_log_do_not_count};
+pub use read::{RECORD_LIMIT, scan};
+pub use um_model::Layout;
+pub use write::Log;

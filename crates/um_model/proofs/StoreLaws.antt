@@ -1,0 +1,381 @@
+-- What the sectors of a store say: each header, body and record has one reading, and what isn't read doesn't count.
+use Rattle.std.specs.Prelude.{◌≡◌, ◌⊎◌, ◌+◌, ◌-◌, ◌*◌, ◌^◌, ◌<◌, ◌≤◌, ℕ, zero, suc, List, [], ◌∷◌, ◌++◌, length, take, drop, replicate, codes, refl}
+use Rattle.std.proofs.Common.{sym, ◌∙◌, ap, subst, inl, inr, ⊎_elim, arith, append_assoc}
+use Rattle.std.proofs.Math.Seq.{take-append_seam, take-append-add}
+use Rattle.std.proofs.lemmas.Bool.{cases_lt}
+use Rattle.std.proofs.lemmas.List.{take-append-drop, length-drop, length-take, nil_from_length, take_all, drop-drop, append-nil}
+use Rattle.byteorder.specs.Endian.{big_number, big_bytes}
+use Rattle.byteorder.specs.Numbers.{big_number-reads_back}
+use Rattle.um_model.specs.Disk.{Sector, Image, Past, seen, During, IsSettled}
+use Rattle.um_model.proofs.DiskLaws.{started, weaker}
+use Rattle.um_model.specs.declared.layout.Layout.{Layout}
+use Rattle.um_model.specs.declared.layout.Slot.{Slot}
+use Rattle.um_model.specs.declared.layout.Slot.TheVariants.{A, B}
+use Rattle.um_model.specs.Store.{log_start, log_end, IsRecord, AreRecords, stops, goes_on, IsOf, IsFree, IsLogEnd, IsStore, IsReady, EitherSnapshot, filled, superblock, slot_start, other, body_limit, header_sector, IsHeader, sector_count, joined, body_at, IsNewest, HasNoHeader, body_sector, IsSnapshot, MaybeSnapshot, IsSlotRead, head, behind, log_sector, part_count, part_of}
+
+-- ---- headers
+
+-- a header tells its generation
+pub header_generation : (generation size : ℕ) → generation < 2 ^ 64 → big_number 8 (drop 8 (header_sector generation size)) ≡ generation
+unfolding header_sector filled
+header_generation generation size fits = big_number-reads_back 8 generation (big_bytes 8 size ++ replicate 488 0) fits
+
+-- and its length
+pub header_size : (generation size : ℕ) → size < 2 ^ 64 → big_number 8 (drop 16 (header_sector generation size)) ≡ size
+unfolding header_sector filled
+header_size generation size fits = big_number-reads_back 8 size (replicate 488 0) fits
+
+-- a length that fits is far below the last value of its field
+size_fits : {layout : Layout} {sector : Sector} {generation size : ℕ} → IsHeader layout sector generation size → size < 2 ^ 64
+size_fits {layout} h = omega (arith, h.fits, layout.slot_most)
+
+-- what a well-formed header says is read from it
+pub header_says : {layout : Layout} {sector : Sector} {generation size : ℕ} → IsHeader layout sector generation size
+    → (big_number 8 (drop 8 sector) ≡ generation) × (big_number 8 (drop 16 sector) ≡ size)
+header_says {generation} {size} h = (
+  ap (λ (s : Sector). big_number 8 (drop 8 s)) h.is ∙ header_generation generation size h.last,
+  ap (λ (s : Sector). big_number 8 (drop 16 s)) h.is ∙ header_size generation size (size_fits h),
+)
+
+-- a sector is one header at most
+pub same_header : {layout : Layout} {sector : Sector} {g n h m : ℕ} → IsHeader layout sector g n → IsHeader layout sector h m → (g ≡ h) × (n ≡ m)
+same_header one two = let a = header_says one in let b = header_says two in (sym a.0 ∙ b.0, sym a.1 ∙ b.1)
+
+-- the newest of two slots is one
+same_slot : {layout : Layout} {image : Image} {s t : Slot} {g h : ℕ} {x y : List ℕ} → IsNewest layout image s g x → IsNewest layout image t h y → s ≡ t
+same_slot {s = A} {t = A} one two = refl
+same_slot {s = B} {t = B} one two = refl
+same_slot {s = A} {t = B} {g} {h} one two = let a : h ≤ g = one.newer h two.size two.header in let b : g < h = two.newer g one.size one.header in absurd (omega (arith, a, b))
+same_slot {s = B} {t = A} {g} {h} one two = let a : h < g = one.newer h two.size two.header in let b : g ≤ h = two.newer g one.size one.header in absurd (omega (arith, a, b))
+
+-- An image has one newest body at most.
+pub same_newest : {layout : Layout} {image : Image} {s t : Slot} {g h : ℕ} {x y : List ℕ} → IsNewest layout image s g x → IsNewest layout image t h y
+    → (s ≡ t) × (g ≡ h) × (x ≡ y)
+same_newest {layout} {image} {s} {t} {g} {h} {x} {y} one two =
+    let slot = same_slot one two in
+    let both = same_header (subst (λ (k : Slot). IsHeader layout (image (slot_start layout k)) g one.size) slot one.header) two.header in
+    (slot, both.0, one.body_is ∙ (λ i. body_at layout image (slot i) (both.1 i)) ∙ sym two.body_is)
+
+-- and none where there is no header
+pub no_newest : {layout : Layout} {image : Image} {s : Slot} {g : ℕ} {x : List ℕ} → IsNewest layout image s g x → HasNoHeader layout image → ⊥
+no_newest {s} {g} one none = none s g one.size one.header
+
+-- ---- bodies
+
+-- what agrees there is the same joined
+pub same_joined : (n : ℕ) (a b : Image) (at : ℕ) → ((i : ℕ) → i < n → b (at + i) ≡ a (at + i)) → joined n b at ≡ joined n a at
+same_joined zero a b at same = refl
+same_joined (suc n) a b at same =
+    let here : at + 0 ≡ at = omega arith in
+    let first : b at ≡ a at = sym (ap b here) ∙ same 0 (omega arith) ∙ ap a here in
+    let rest : joined n b (suc at) ≡ joined n a (suc at) = same_joined n a b (suc at)
+    (λ i below. let moved : suc at + i ≡ at + suc i = omega arith in ap b moved ∙ same (suc i) (omega (arith, below)) ∙ ap a (sym moved)) in
+    λ k. first k ++ rest k
+
+-- a whole sector has no zeros behind
+pub filled_whole : (front : List ℕ) → length front ≡ 512 → filled front ≡ front
+unfolding filled
+filled_whole front is = let none : 512 - length front ≡ 0 = omega (arith, is) in ap (λ (n : ℕ). front ++ replicate n 0) none ∙ append-nil front
+
+-- what fills a sector is read back from its front
+pub take-filled : (front rest : List ℕ) → take (length front) (filled front ++ rest) ≡ front
+unfolding filled
+take-filled front rest = ap (take (length front)) (append_assoc front (replicate (512 - length front) 0) rest) ∙ take-append_seam front (replicate (512 - length front) 0 ++ rest)
+
+-- a body's next sector is the first of what is behind
+next_sector : (bytes : List ℕ) (i : ℕ) → body_sector bytes (suc i) ≡ body_sector (drop 512 bytes) i
+next_sector bytes i =
+    let moved : 512 * suc i ≡ 512 + 512 * i = omega arith in
+    ap (λ (l : List ℕ). filled (take 512 l)) (ap (λ (n : ℕ). drop n bytes) moved ∙ sym (drop-drop (512 * i) 512 bytes))
+
+-- the first sector of a body, and then the rest
+body_step : (bytes : List ℕ) (sector : Sector) (rest : List ℕ) → sector ≡ filled (take 512 bytes) → take (length (drop 512 bytes)) rest ≡ drop 512 bytes
+    → take (length bytes) (sector ++ rest) ≡ bytes
+body_step bytes sector rest is back = ⊎_elim long short (cases_lt 512 (length bytes))
+  where
+    long : 512 < length bytes → take (length bytes) (sector ++ rest) ≡ bytes
+    long more =
+        let size : length (take 512 bytes) ≡ 512 = omega (arith, length-take 512 bytes, more) in
+        let whole : sector ≡ take 512 bytes = is ∙ filled_whole (take 512 bytes) size in
+        let count : length bytes ≡ length (take 512 bytes) + length (drop 512 bytes) = omega (arith, size, length-drop 512 bytes, more) in
+        (λ k. take (count k) (whole k ++ rest))
+        ∙ take-append-add (take 512 bytes) rest (length (drop 512 bytes))
+        ∙ ap (λ (l : List ℕ). take 512 bytes ++ l) back ∙ take-append-drop 512 bytes
+
+    short : length bytes ≤ 512 → take (length bytes) (sector ++ rest) ≡ bytes
+    short few =
+        let all : take 512 bytes ≡ bytes = take_all 512 bytes few in
+        ap (λ (s : Sector). take (length bytes) (s ++ rest)) (is ∙ ap filled all) ∙ take-filled bytes rest
+
+-- A body that stands as it is written is read back.
+pub body_back : (n : ℕ) (bytes : List ℕ) (image : Image) (at : ℕ) → length bytes ≤ 512 * n → ((i : ℕ) → i < n → image (at + i) ≡ body_sector bytes i)
+    → take (length bytes) (joined n image at) ≡ bytes
+body_back zero bytes image at fits stands =
+    let none : bytes ≡ [] = nil_from_length bytes (omega (arith, fits)) in ap (λ (l : List ℕ). take (length l) []) none ∙ sym none
+body_back (suc n) bytes image at fits stands =
+    let here : at ≡ at + 0 = omega arith in
+    body_step bytes (image at) (joined n image (suc at)) (ap image here ∙ stands 0 (omega arith))
+    (body_back n (drop 512 bytes) image (suc at) (omega (arith, fits, length-drop 512 bytes))
+    (λ i below. let moved : suc at + i ≡ at + suc i = omega arith in ap image moved ∙ stands (suc i) (omega (arith, below)) ∙ next_sector bytes i))
+
+-- ---- what the reading of the newest body doesn't look at
+
+module _ (layout : Layout) (a b : Image) (same : (j : ℕ) → IsSlotRead layout a j → b j ≡ a j) where
+  -- Images that agree in all sectors that the reading looks at have the same newest body.
+  pub unread_newest : {slot : Slot} {generation : ℕ} {body : List ℕ} → IsNewest layout a slot generation body → IsNewest layout b slot generation body
+  unread_newest {slot} {generation} newest = record {
+    size = newest.size;
+    header = subst (λ (s : Sector). IsHeader layout s generation newest.size) (sym (same _ (head slot))) newest.header;
+    newer = λ theirs size header. newest.newer theirs size (subst (λ (s : Sector). IsHeader layout s theirs size) (same _ (head (other slot))) header);
+    body_is = newest.body_is ∙ ap (take newest.size) (sym (same_joined (sector_count newest.size) a b (slot_start layout slot + 1) (λ i below. same _ (behind newest i below))));
+  }
+
+  -- or none
+  pub unread_none : HasNoHeader layout a → HasNoHeader layout b
+  unread_none none slot generation size header = none slot generation size (subst (λ (s : Sector). IsHeader layout s generation size) (same _ (head slot)) header)
+
+-- sector 0 isn't one of them
+read_from_one : (layout : Layout) (image : Image) (j : ℕ) → IsSlotRead layout image j → 1 ≤ j
+read_from_one layout image j (head A) = omega arith
+read_from_one layout image j (head B) = omega arith
+read_from_one layout image j (behind newest i below) = omega arith
+
+-- ---- log sectors
+
+-- the zeros behind a part's bytes
+abbrev zeros_behind : List ℕ → List ℕ
+zeros_behind payload = replicate (512 - length (replicate 32 0 ++ payload)) 0
+
+-- a sector of the log tells its generation
+pub log_generation : (generation number part size : ℕ) (payload : List ℕ) → generation < 2 ^ 64 → big_number 8 (drop 4 (log_sector generation number part size payload)) ≡ generation
+unfolding log_sector filled
+log_generation generation number part size payload fits =
+    big_number-reads_back 8 generation (big_bytes 8 number ++ (big_bytes 4 part ++ (big_bytes 4 (part_count size) ++ (big_bytes 4 size ++ (payload ++ zeros_behind payload))))) fits
+
+-- and the record's length
+pub log_size : (generation number part size : ℕ) (payload : List ℕ) → size < 2 ^ 32 → big_number 4 (drop 28 (log_sector generation number part size payload)) ≡ size
+unfolding log_sector filled
+log_size generation number part size payload fits = big_number-reads_back 4 size (payload ++ zeros_behind payload) fits
+
+-- it says that it is of the log
+pub log_name : (generation number part size : ℕ) (payload : List ℕ) → take 4 (log_sector generation number part size payload) ≡ codes "UMLG"
+unfolding log_sector filled
+log_name generation number part size payload = refl
+
+-- and it has that part's bytes
+pub log_payload : (generation number part size : ℕ) (payload : List ℕ) → take (length payload) (drop 32 (log_sector generation number part size payload)) ≡ payload
+unfolding log_sector filled
+log_payload generation number part size payload = take-append_seam payload (zeros_behind payload)
+
+-- ---- a snapshot into the other slot
+
+-- a slot's sectors are none of the other's
+apart : (layout : Layout) (slot : Slot) (j : ℕ) → slot_start layout slot ≤ j → j < slot_start layout slot + layout.slot_sectors
+    → (j < slot_start layout (other slot)) ⊎ (slot_start layout (other slot) + layout.slot_sectors ≤ j)
+apart layout A j low high = inl (omega (arith, high))
+apart layout B j low high = inr (omega (arith, low))
+
+-- the log lies behind both
+behind_slot : (layout : Layout) (slot : Slot) (j : ℕ) → log_start layout ≤ j → slot_start layout slot + layout.slot_sectors ≤ j
+behind_slot layout A j low = omega (arith, low)
+behind_slot layout B j low = omega (arith, low)
+
+-- sector 0 lies before both
+before_slot : (layout : Layout) (slot : Slot) → 0 < slot_start layout slot
+before_slot layout A = omega arith
+before_slot layout B = omega arith
+
+-- a body that fits ends within its slot
+pub body_within : (layout : Layout) (size i : ℕ) → size ≤ body_limit layout → i < sector_count size → 1 + i < layout.slot_sectors
+body_within layout size i fits below = omega (arith, fits, below, layout.slot_least)
+
+module _ {layout : Layout} {old image : Image} {slot : Slot} {generation : ℕ} {before : List ℕ} (newest : IsNewest layout old slot generation before)
+    (outside : (j : ℕ) → (j < slot_start layout (other slot)) ⊎ (slot_start layout (other slot) + layout.slot_sectors ≤ j) → image j ≡ old j) where
+  home_same : image (slot_start layout slot) ≡ old (slot_start layout slot)
+  home_same = outside _ (apart layout slot (slot_start layout slot) (omega arith) (omega (arith, layout.slot_least)))
+
+  -- what changes in the other slot behind its header isn't read
+  pub kept_newest : image (slot_start layout (other slot)) ≡ old (slot_start layout (other slot)) → IsNewest layout image slot generation before
+  kept_newest same = record {
+    size = newest.size;
+    header = subst (λ (s : Sector). IsHeader layout s generation newest.size) (sym home_same) newest.header;
+    newer = λ theirs size header. newest.newer theirs size (subst (λ (s : Sector). IsHeader layout s theirs size) same header);
+    body_is = newest.body_is ∙ ap (take newest.size) (sym (same_joined (sector_count newest.size) old image (slot_start layout slot + 1)
+        (λ i below. let inside = body_within layout newest.size i newest.header.fits below in outside _ (apart layout slot (slot_start layout slot + 1 + i) (omega arith) (omega (arith, inside))))));
+  }
+
+-- a header that is written there is well-formed
+written_header : {layout : Layout} {image : Image} {slot : Slot} {generation : ℕ} {body : List ℕ} → 1 ≤ generation → generation < 2 ^ 64 → length body ≤ body_limit layout
+    → IsSnapshot layout image slot generation body → IsHeader layout (image (slot_start layout slot)) generation (length body)
+written_header first last fits snapshot = record { first = first; last = last; fits = fits; is = snapshot.header }
+
+-- and the body behind it is read back
+written_body : {layout : Layout} {image : Image} {slot : Slot} {generation : ℕ} {body : List ℕ} → IsSnapshot layout image slot generation body → body ≡ body_at layout image slot (length body)
+written_body {layout} {image} {slot} {generation} {body} snapshot = sym (body_back (sector_count (length body)) body image (slot_start layout slot + 1) (omega arith) snapshot.sectors)
+
+-- The snapshot of the next generation in the other slot is the newest.
+pub new_newest : {layout : Layout} {old image : Image} {slot : Slot} {generation : ℕ} {before body : List ℕ} → IsNewest layout old slot generation before
+    → image (slot_start layout slot) ≡ old (slot_start layout slot) → generation + 1 < 2 ^ 64 → length body ≤ body_limit layout
+    → IsSnapshot layout image (other slot) (generation + 1) body → IsNewest layout image (other slot) (generation + 1) body
+new_newest {layout} {old} {image} {slot = A} {generation} {before} {body} newest same last fits snapshot = record {
+  size = length body;
+  header = written_header (omega arith) last fits snapshot;
+  newer = λ theirs size header. let g = same_header (subst (λ (s : Sector). IsHeader layout s theirs size) same header) newest.header in omega (arith, g.0);
+  body_is = written_body snapshot;
+}
+new_newest {layout} {old} {image} {slot = B} {generation} {before} {body} newest same last fits snapshot = record {
+  size = length body;
+  header = written_header (omega arith) last fits snapshot;
+  newer = λ theirs size header. let g = same_header (subst (λ (s : Sector). IsHeader layout s theirs size) same header) newest.header in omega (arith, g.0);
+  body_is = written_body snapshot;
+}
+
+-- ---- records
+
+-- a sector of a record is of its generation
+pub is_of : (generation number part size : ℕ) (payload : List ℕ) → generation < 2 ^ 64 → IsOf generation (log_sector generation number part size payload)
+is_of generation number part size payload last = record { name = log_name generation number part size payload; generation_is = log_generation generation number part size payload last }
+
+-- where nothing is of a generation, no record of it begins
+pub none_of : {layout : Layout} {generation : ℕ} {image : Image} {next : ℕ} → generation < 2 ^ 64 → IsFree layout generation image next
+    → (number at : ℕ) (bytes : List ℕ) → next ≤ at → IsRecord layout generation image number at bytes → ⊥
+none_of {layout} {generation} {image} {next} last free number at bytes low is =
+    let some = is.some in
+    let within = is.within in
+    let first = is.parts 0 (omega (arith, some)) in
+    let below : generation < generation = free generation (at + 0) (omega (arith, low)) (omega (arith, some, within))
+    (subst (IsOf generation) (sym first) (is_of generation number 0 (length bytes) (part_of bytes 0) last)) in
+    omega (arith, below)
+
+-- what agrees on a record's sectors has the record
+pub same_record : {layout : Layout} {generation number at : ℕ} {bytes : List ℕ} {a b : Image} → IsRecord layout generation a number at bytes
+    → ((i : ℕ) → i < part_count (length bytes) → b (at + i) ≡ a (at + i)) → IsRecord layout generation b number at bytes
+same_record is same = record { some = is.some; short = is.short; within = is.within; parts = λ part below. same part below ∙ is.parts part below }
+
+-- what agrees from a place on has the same records
+pub same_records : {layout : Layout} {generation : ℕ} {a b : Image} (number at : ℕ) (records : List (List ℕ)) → ((j : ℕ) → at ≤ j → j < log_end layout → b j ≡ a j)
+    → AreRecords layout generation a number at records → AreRecords layout generation b number at records
+same_records number at [] same (stops nothing) =
+    stops (λ bytes is. nothing bytes (same_record is (λ i below. let within = is.within in sym (same (at + i) (omega arith) (omega (arith, within, below))))))
+same_records number at (bytes ∷ records) same (goes_on is rest) =
+    goes_on (same_record is (λ i below. let within = is.within in same (at + i) (omega arith) (omega (arith, within, below))))
+    (same_records (suc number) (at + part_count (length bytes)) records (λ j low high. same j (omega (arith, low)) high) rest)
+
+-- ---- the whole store while a snapshot is written into the other slot
+
+module _ {layout : Layout} {old image : Image} {slot : Slot} {generation : ℕ} {before body : List ℕ} {records : List (List ℕ)} (store : IsStore layout old slot generation before records)
+    (maybe : MaybeSnapshot layout old (other slot) (generation + 1) body image) where
+  log_same : (j : ℕ) → log_start layout ≤ j → image j ≡ old j
+  log_same j low = maybe.outside j (inr (behind_slot layout (other slot) j low))
+
+  first_same : image 0 ≡ superblock layout
+  first_same = maybe.outside 0 (inl (before_slot layout (other slot))) ∙ store.first
+
+  -- no log sector is of the next generation
+  pub next_free : IsFree layout (generation + 1) image (log_start layout)
+  next_free theirs j low high is = store.none_later theirs j low high (subst (IsOf theirs) (log_same j low) is)
+
+  kept_store : image (slot_start layout (other slot)) ≡ old (slot_start layout (other slot)) → IsStore layout image slot generation before records
+  kept_store same = record {
+    first = first_same;
+    newest = kept_newest store.newest maybe.outside same;
+    records_are = same_records 0 (log_start layout) records (λ j low high. log_same j low) store.records_are;
+    none_later = next_free;
+  }
+
+  -- with the whole snapshot, nothing of its generation stands in the log
+  pub new_store : generation + 1 < 2 ^ 64 → length body ≤ body_limit layout → IsSnapshot layout image (other slot) (generation + 1) body → IsStore layout image (other slot) (generation + 1) body []
+  new_store last fits snapshot = record {
+    first = first_same;
+    newest = new_newest store.newest (home_same store.newest maybe.outside) last fits snapshot;
+    records_are = stops (λ bytes. none_of last next_free 0 (log_start layout) bytes (omega arith));
+    none_later = λ theirs j low high is. let below = next_free theirs j low high is in omega (arith, below);
+  }
+
+  -- What a crash leaves meanwhile is the store as it was, or with the new snapshot and no record.
+  pub either_store : generation + 1 < 2 ^ 64 → length body ≤ body_limit layout → EitherSnapshot layout slot generation before records body image
+  either_store last fits = ⊎_elim (λ same. inl (kept_store same)) (λ snapshot. inr (new_store last fits snapshot)) maybe.inside
+
+  -- The log of a new snapshot begins at its first sector.
+  pub new_end : IsLogEnd layout (generation + 1) image [] 0 (log_start layout)
+  new_end = record { count = refl; place = omega arith; within = omega arith; free = next_free }
+
+-- ---- the same of whole runs of calls
+
+module _ {layout : Layout} (past : Past) {slot : Slot} {generation : ℕ} {before : List ℕ} {records : List (List ℕ)} (settled : IsSettled past) (store : IsStore layout (seen past) slot generation before records) where
+  -- each image of a settled disk is that store
+  pub still_store : (image : Image) → image ≡ seen past → IsStore layout image slot generation before records
+  still_store image is = subst (λ (i : Image). IsStore layout i slot generation before records) (sym is) store
+
+  -- before the first call
+  pub before_other : (body : List ℕ) → During past past (EitherSnapshot layout slot generation before records body)
+  before_other body = started past _ (λ image is. inl (still_store image (settled image is)))
+
+  -- while a snapshot is written into the other slot
+  pub during_other : {new : Past} {body : List ℕ} → generation + 1 < 2 ^ 64 → length body ≤ body_limit layout
+      → During past new (MaybeSnapshot layout (seen past) (other slot) (generation + 1) body) → During past new (EitherSnapshot layout slot generation before records body)
+  during_other {new} last fits run = weaker past new _ _ (λ image maybe. either_store store maybe last fits) run
+
+  -- and behind it
+  pub ready_other : {new : Past} {body : List ℕ} → generation + 1 < 2 ^ 64 → length body ≤ body_limit layout
+      → MaybeSnapshot layout (seen past) (other slot) (generation + 1) body (seen new) → IsSnapshot layout (seen new) (other slot) (generation + 1) body → IsSettled new
+      → IsReady layout new (other slot) (generation + 1) body [] 0 (log_start layout)
+  ready_other last fits maybe snapshot done = record { settled = done; store = new_store store maybe last fits snapshot; end = new_end store maybe }
+
+-- ---- the first snapshot of a store
+
+-- a sector of zeros is no header
+pub blank_header : (layout : Layout) (generation size : ℕ) → IsHeader layout (replicate 512 0) generation size → ⊥
+blank_header layout generation size is = let says = header_says is in let first = is.first in let zero_is : 0 ≡ generation = says.0 in omega (arith, first, zero_is)
+
+-- and none of the log
+pub blank_log : (generation : ℕ) → IsOf generation (replicate 512 0) → ⊥
+blank_log generation is = no_name is.name
+  where
+    no_name : 0 ∷ 0 ∷ 0 ∷ 0 ∷ [] ≡ codes "UMLG" → ⊥
+    no_name e = absurd (cc)
+
+-- On a disk without a header the first snapshot in slot A is the newest.
+pub first_newest : {layout : Layout} {old image : Image} {generation : ℕ} {body : List ℕ} → HasNoHeader layout old → 1 ≤ generation → generation < 2 ^ 64 → length body ≤ body_limit layout
+    → MaybeSnapshot layout old A generation body image → IsSnapshot layout image A generation body → IsNewest layout image A generation body
+first_newest {layout} {old} {image} nothing first last fits maybe snapshot = record {
+  size = _;
+  header = written_header first last fits snapshot;
+  newer = λ theirs size header. absurd (nothing B theirs size (subst (λ (s : Sector). IsHeader layout s theirs size) (maybe.outside (slot_start layout B) (inr (omega arith))) header));
+  body_is = written_body snapshot;
+}
+
+-- With sector 0 it is a store without records.
+pub made_store : {layout : Layout} {old image : Image} {slot : Slot} {generation : ℕ} {body : List ℕ} → IsNewest layout old slot generation body → generation < 2 ^ 64 → IsFree layout generation old (log_start layout)
+    → ((j : ℕ) → 1 ≤ j → image j ≡ old j) → image 0 ≡ superblock layout → IsStore layout image slot generation body []
+made_store {layout} {old} {image} {slot} {generation} {body} newest last free same first = record {
+  first = first;
+  newest = unread_newest layout old image (λ j read. same j (read_from_one layout old j read)) newest;
+  records_are = stops (λ bytes. none_of last (λ theirs j low high is. free theirs j low high (subst (IsOf theirs) (same j (omega (arith, low))) is)) 0 (log_start layout) bytes (omega arith));
+  none_later = λ theirs j low high is. let below = free theirs j low high (subst (IsOf theirs) (same j (omega (arith, low))) is) in omega (arith, below);
+}
+
+-- The log stays as free as it was.
+pub kept_free : {layout : Layout} {old image : Image} {slot : Slot} {generation later : ℕ} {body : List ℕ} → MaybeSnapshot layout old slot generation body image
+    → IsFree layout later old (log_start layout) → IsFree layout later image (log_start layout)
+kept_free {layout} {slot} maybe free theirs j low high is = free theirs j low high (subst (IsOf theirs) (maybe.outside j (inr (behind_slot layout slot j low))) is)
+
+-- ---- sector 0
+
+-- sector 0 tells the layout's sizes
+pub superblock_says : (layout : Layout) → (big_number 4 (drop 8 (superblock layout)) ≡ layout.slot_sectors) × (big_number 4 (drop 12 (superblock layout)) ≡ layout.log_sectors)
+unfolding superblock filled
+superblock_says layout = (
+  big_number-reads_back 4 layout.slot_sectors (big_bytes 4 layout.log_sectors ++ replicate 496 0) (omega (arith, layout.slot_most)),
+  big_number-reads_back 4 layout.log_sectors (replicate 496 0) (omega (arith, layout.log_most)),
+)
+
+-- layouts of the same sizes have the same sector 0
+pub same_superblock : (a b : Layout) → a.slot_sectors ≡ b.slot_sectors → a.log_sectors ≡ b.log_sectors → superblock a ≡ superblock b
+unfolding superblock
+same_superblock a b slots log = λ i. filled (codes "UMDISK01" ++ (big_bytes 4 (slots i) ++ big_bytes 4 (log i)))
+
+-- it begins with its name
+pub superblock_name : (layout : Layout) → take 8 (superblock layout) ≡ codes "UMDISK01"
+unfolding superblock filled
+superblock_name layout = refl

@@ -1,0 +1,199 @@
+-- What the sectors of a store are: its layout, the two slots with a header and a body each, and the log of records.
+-- No manual page has it: it is the project's own format (docs/FORMATS.md, "The store on its disk").
+-- The slots, the log and the keeper stand on this file.
+use Rattle.std.specs.Prelude.{◌≡◌, ◌⊎◌, ◌+◌, ◌-◌, ◌*◌, ◌/◌, ◌^◌, ◌<◌, ◌≤◌, min, ℕ, zero, suc, List, [], ◌∷◌, ◌++◌, length, take, drop, replicate, codes}
+use Rattle.byteorder.specs.Endian.{big_number, big_bytes}
+use Rattle.um_model.specs.Disk.{Sector, Image, Past, seen, IsSettled}
+use Rattle.um_model.specs.declared.layout.Layout.{Layout}
+use Rattle.um_model.specs.declared.layout.Slot.{Slot}
+use Rattle.um_model.specs.declared.layout.Slot.TheVariants.{A, B}
+
+-- ---- the layout
+
+-- a sector that begins with these bytes, zeros behind them
+unfoldable pub filled : List ℕ → Sector
+filled front = front ++ replicate (512 - length front) 0
+
+-- sector 0 of a store
+unfoldable pub superblock : Layout → Sector
+superblock layout = filled (codes "UMDISK01" ++ (big_bytes 4 layout.slot_sectors ++ big_bytes 4 layout.log_sectors))
+
+-- the first sector of a slot, which holds its header
+abbrev pub slot_start : Layout → Slot → ℕ
+slot_start layout A = 1
+slot_start layout B = layout.slot_sectors + 1
+
+-- the first sector of the log
+abbrev pub log_start : Layout → ℕ
+log_start layout = 2 * layout.slot_sectors + 1
+
+-- the first sector behind the log
+abbrev pub log_end : Layout → ℕ
+log_end layout = log_start layout + layout.log_sectors
+
+-- the slot beside this one
+abbrev pub other : Slot → Slot
+other A = B
+other B = A
+
+-- ---- the slots
+
+-- the longest body of a slot, in bytes
+abbrev pub body_limit : Layout → ℕ
+body_limit layout = (layout.slot_sectors - 1) * 512
+
+-- a header as it is written: a generation, and the body's length in bytes
+unfoldable pub header_sector : ℕ → ℕ → Sector
+header_sector generation size = filled (codes "UMSLOT01" ++ (big_bytes 8 generation ++ big_bytes 8 size))
+
+-- a sector is a well-formed header: it is just as one is written
+pub record IsHeader (layout : Layout) (sector : Sector) (generation size : ℕ) : Type 0 where
+  pub first : 1 ≤ generation
+  pub last : generation < 2 ^ 64
+  pub fits : size ≤ body_limit layout
+  pub is : sector ≡ header_sector generation size
+
+-- the least number of sectors that hold so many bytes
+abbrev pub sector_count : ℕ → ℕ
+sector_count size = (size + 511) / 512
+
+-- so many sectors from a place on, joined
+abbrev pub joined : ℕ → Image → ℕ → List ℕ
+joined zero image at = []
+joined (suc n) image at = image at ++ joined n image (suc at)
+
+-- the body behind a slot's header
+abbrev pub body_at : Layout → Image → Slot → ℕ → List ℕ
+body_at layout image slot size = take size (joined (sector_count size) image (slot_start layout slot + 1))
+
+-- whatever header the other slot has, it is older; of equal generations slot A's counts
+abbrev pub IsOlder : Slot → ℕ → ℕ → Type 0
+IsOlder A generation theirs = theirs ≤ generation
+IsOlder B generation theirs = theirs < generation
+
+-- the newest well-formed header, with its body
+pub record IsNewest (layout : Layout) (image : Image) (slot : Slot) (generation : ℕ) (body : List ℕ) : Type 0 where
+  pub size : ℕ
+  pub header : IsHeader layout (image (slot_start layout slot)) generation size
+  pub newer : (theirs length_of : ℕ) → IsHeader layout (image (slot_start layout (other slot))) theirs length_of → IsOlder slot generation theirs
+  pub body_is : body ≡ body_at layout image slot size
+
+-- neither slot has a well-formed header
+abbrev pub HasNoHeader : Layout → Image → Type 0
+HasNoHeader layout image = (slot : Slot) (generation size : ℕ) → IsHeader layout (image (slot_start layout slot)) generation size → ⊥
+
+-- a body's sectors as they are written, each by its place
+abbrev pub body_sector : List ℕ → ℕ → Sector
+body_sector body i = filled (take 512 (drop (512 * i) body))
+
+-- a body and its header stand in a slot, as they are written
+pub record IsSnapshot (layout : Layout) (image : Image) (slot : Slot) (generation : ℕ) (body : List ℕ) : Type 0 where
+  pub header : image (slot_start layout slot) ≡ header_sector generation (length body)
+  pub sectors : (i : ℕ) → i < sector_count (length body) → image (slot_start layout slot + 1 + i) ≡ body_sector body i
+
+-- While a snapshot is written into a slot: all else is as before, and its header is too, or all of the snapshot stands there.
+pub record MaybeSnapshot (layout : Layout) (old : Image) (slot : Slot) (generation : ℕ) (body : List ℕ) (image : Image) : Type 0 where
+  pub outside : (j : ℕ) → (j < slot_start layout slot) ⊎ (slot_start layout slot + layout.slot_sectors ≤ j) → image j ≡ old j
+  pub inside : (image (slot_start layout slot) ≡ old (slot_start layout slot)) ⊎ IsSnapshot layout image slot generation body
+
+-- a sector that the reading of the newest body looks at: both headers, and what the newest one's length covers
+pub data IsSlotRead (layout : Layout) (image : Image) : ℕ → Type 0 where
+  head : (slot : Slot) → IsSlotRead layout image (slot_start layout slot)
+  behind : {slot : Slot} {generation : ℕ} {body : List ℕ} (newest : IsNewest layout image slot generation body) (i : ℕ)
+      → i < sector_count newest.size → IsSlotRead layout image (slot_start layout slot + 1 + i)
+
+-- ---- the log
+
+-- the longest record, in bytes
+abbrev pub record_limit : ℕ
+record_limit = 131072
+
+-- the least number of parts, of 480 bytes each, that hold a record of so many bytes
+abbrev pub part_count : ℕ → ℕ
+part_count size = (size + 479) / 480
+
+-- the bytes of a record that one of its parts holds
+abbrev pub part_of : List ℕ → ℕ → List ℕ
+part_of bytes part = take 480 (drop (480 * part) bytes)
+
+-- a sector of the log as it is written: the record's generation, number, part and length, and that part's bytes
+unfoldable pub log_sector : ℕ → ℕ → ℕ → ℕ → List ℕ → Sector
+log_sector generation number part size payload =
+    filled (codes "UMLG" ++ (big_bytes 8 generation ++ (big_bytes 8 number ++ (big_bytes 4 part ++ (big_bytes 4 (part_count size) ++ (big_bytes 4 size ++ payload))))))
+
+-- a whole record stands there: all its sectors are just as they are written
+pub record IsRecord (layout : Layout) (generation : ℕ) (image : Image) (number at : ℕ) (bytes : List ℕ) : Type 0 where
+  pub some : 0 < length bytes
+  pub short : length bytes ≤ record_limit
+  pub within : at + part_count (length bytes) ≤ log_end layout
+  pub parts : (part : ℕ) → part < part_count (length bytes) → image (at + part) ≡ log_sector generation number part (length bytes) (part_of bytes part)
+
+-- the records from a place on, each directly behind the one before, up to the first that isn't whole
+pub data AreRecords (layout : Layout) (generation : ℕ) (image : Image) : ℕ → ℕ → List (List ℕ) → Type 0 where
+  stops : {number at : ℕ} → ((bytes : List ℕ) → IsRecord layout generation image number at bytes → ⊥) → AreRecords layout generation image number at []
+  goes_on : {number at : ℕ} {bytes : List ℕ} {records : List (List ℕ)} → IsRecord layout generation image number at bytes
+      → AreRecords layout generation image (suc number) (at + part_count (length bytes)) records → AreRecords layout generation image number at (bytes ∷ records)
+
+-- the records of a generation
+abbrev pub HasRecords : Layout → ℕ → Image → List (List ℕ) → Type 0
+HasRecords layout generation image records = AreRecords layout generation image 0 (log_start layout) records
+
+-- how many sectors records take
+abbrev pub sectors_of : List (List ℕ) → ℕ
+sectors_of [] = 0
+sectors_of (bytes ∷ records) = part_count (length bytes) + sectors_of records
+
+-- a sector that says of itself that it is of the log is of that generation, whole or not
+pub record IsOf (generation : ℕ) (sector : Sector) : Type 0 where
+  pub name : take 4 sector ≡ codes "UMLG"
+  pub generation_is : big_number 8 (drop 4 sector) ≡ generation
+
+-- from a sector on, none of the log is of this generation or a later one
+abbrev pub IsFree : Layout → ℕ → Image → ℕ → Type 0
+IsFree layout generation image next = (theirs j : ℕ) → next ≤ j → j < log_end layout → IsOf theirs (image j) → theirs < generation
+
+-- Where the log's next record goes: directly behind those of its generation, and nothing of it stands there.
+pub record IsLogEnd (layout : Layout) (generation : ℕ) (image : Image) (records : List (List ℕ)) (number next : ℕ) : Type 0 where
+  pub count : number ≡ length records
+  pub place : next ≡ log_start layout + sectors_of records
+  pub within : next ≤ log_end layout
+  pub free : IsFree layout generation image next
+
+-- a sector that is that part of a record of so many bytes
+pub record IsPart (generation number part size : ℕ) (sector : Sector) : Type 0 where
+  pub payload : List ℕ
+  pub long : length payload ≡ min 480 (size - 480 * part)
+  pub is : sector ≡ log_sector generation number part size payload
+
+-- A sector that the reading of the records from a place on looks at: up to and with the first that isn't the next part in its place.
+pub data IsLogRead (layout : Layout) (generation : ℕ) (image : Image) : ℕ → ℕ → ℕ → Type 0 where
+  begins : {number at : ℕ} → at < log_end layout → IsLogRead layout generation image number at at
+  part_behind : {number at : ℕ} (size part : ℕ) → size ≤ record_limit → suc part < part_count size → at + part_count size ≤ log_end layout
+      → ((i : ℕ) → i ≤ part → IsPart generation number i size (image (at + i))) → IsLogRead layout generation image number at (at + suc part)
+  record_behind : {number at j : ℕ} {bytes : List ℕ} → IsRecord layout generation image number at bytes
+      → IsLogRead layout generation image (suc number) (at + part_count (length bytes)) j → IsLogRead layout generation image number at j
+
+-- ---- the whole store
+
+-- What an image of a store holds: the newest header with its body, the records of its generation, and no later generation in the log.
+pub record IsStore (layout : Layout) (image : Image) (slot : Slot) (generation : ℕ) (body : List ℕ) (records : List (List ℕ)) : Type 0 where
+  pub first : image 0 ≡ superblock layout
+  pub newest : IsNewest layout image slot generation body
+  pub records_are : HasRecords layout generation image records
+  pub none_later : IsFree layout (generation + 1) image (log_start layout)
+
+-- the store as it was, or with this body as the next generation and no record
+abbrev pub EitherSnapshot : Layout → Slot → ℕ → List ℕ → List (List ℕ) → List ℕ → Image → Type 0
+EitherSnapshot layout slot generation before records body image =
+    IsStore layout image slot generation before records ⊎ IsStore layout image (other slot) (generation + 1) body []
+
+-- the store as it was, or with this record behind the others
+abbrev pub EitherRecord : Layout → Slot → ℕ → List ℕ → List (List ℕ) → List ℕ → Image → Type 0
+EitherRecord layout slot generation body records bytes image =
+    IsStore layout image slot generation body records ⊎ IsStore layout image slot generation body (records ++ bytes ∷ [])
+
+-- All of it is on the disk, and the log goes on from there.
+pub record IsReady (layout : Layout) (past : Past) (slot : Slot) (generation : ℕ) (body : List ℕ) (records : List (List ℕ)) (number next : ℕ) : Type 0 where
+  pub settled : IsSettled past
+  pub store : IsStore layout (seen past) slot generation body records
+  pub end : IsLogEnd layout generation (seen past) records number next

@@ -1,0 +1,74 @@
+-- What a crash leaves while a snapshot is written into a slot.
+use Rattle.std.specs.Prelude.{◌≡◌, ◌⊎◌, ◌+◌, ◌<◌, ◌≤◌, ℕ, List, [], ◌∷◌, length, slice_index_or}
+use Rattle.std.proofs.Common.{refl, sym, ◌∙◌, ap, subst, inl, inr, ⊎_elim, arith}
+use Rattle.um_model.specs.Disk.{Sector, Image, Past, seen, During, IsSettled, IsLaid, MaybeLaid}
+use Rattle.um_model.proofs.DiskLaws.{started, weaker, followed}
+use Rattle.um_model.specs.declared.layout.Layout.{Layout}
+use Rattle.um_model.specs.declared.layout.Slot.{Slot}
+use Rattle.um_model.specs.Store.{slot_start, body_limit, sector_count, body_sector, header_sector, IsSnapshot, MaybeSnapshot}
+
+-- nothing of it is written yet
+pub nothing_written : (layout : Layout) (old : Image) (slot : Slot) (generation : ℕ) (body : List ℕ) → MaybeSnapshot layout old slot generation body old
+nothing_written layout old slot generation body = record { outside = λ j out. refl; inside = inl refl }
+
+-- before the first call
+pub before_snapshot : (layout : Layout) (past : Past) (slot : Slot) (generation : ℕ) (body : List ℕ) → IsSettled past → During past past (MaybeSnapshot layout (seen past) slot generation body)
+before_snapshot layout past slot generation body settled =
+    started past _ (λ image is. subst (MaybeSnapshot layout (seen past) slot generation body) (sym (settled image is)) (nothing_written layout (seen past) slot generation body))
+
+module _ (layout : Layout) (slot : Slot) (generation : ℕ) (body : List ℕ) (run : List Sector) (count : length run ≡ sector_count (length body))
+    (each : (i : ℕ) → i < length run → slice_index_or run i [] ≡ body_sector body i) (fits : length body ≤ body_limit layout) where
+  abbrev start : ℕ
+  start = slot_start layout slot
+
+  within : start + 1 + length run ≤ start + layout.slot_sectors
+  within = omega (arith, count, fits, layout.slot_least)
+
+  -- while the body is written
+  pub body_maybe : (old image : Image) → MaybeLaid old (start + 1) run image → MaybeSnapshot layout old slot generation body image
+  body_maybe old image maybe = record {
+    outside = λ j out. maybe.outside j (⊎_elim (λ low. inl (omega (arith, low))) (λ high. inr (omega (arith, high, within))) out);
+    inside = inl (maybe.outside start (inl (omega arith)));
+  }
+
+  module _ (old mid : Image) (laid : IsLaid old (start + 1) run mid) where
+    outside_mid : (j : ℕ) → (j < start) ⊎ (start + layout.slot_sectors ≤ j) → mid j ≡ old j
+    outside_mid j out = laid.outside j (⊎_elim (λ low. inl (omega (arith, low))) (λ high. inr (omega (arith, high, within))) out)
+
+    header_beside : (j : ℕ) → (j < start) ⊎ (start + layout.slot_sectors ≤ j) → (j < start) ⊎ (start + 1 ≤ j)
+    header_beside j out = ⊎_elim (λ low. inl low) (λ high. inr (omega (arith, high, layout.slot_least))) out
+
+    whole : (image : Image) → image start ≡ header_sector generation (length body) → ((j : ℕ) → (j < start) ⊎ (start + 1 ≤ j) → image j ≡ mid j) → IsSnapshot layout image slot generation body
+    whole image header same = record {
+      header = header;
+      sectors = λ i below. let low : i < length run = omega (arith, below, count) in same (start + 1 + i) (inr (omega arith)) ∙ laid.inside i low ∙ each i low;
+    }
+
+    here : start + 0 ≡ start
+    here = omega arith
+
+    -- while its header is written
+    pub header_maybe : (image : Image) → MaybeLaid mid start (header_sector generation (length body) ∷ []) image → MaybeSnapshot layout old slot generation body image
+    header_maybe image maybe = record {
+      outside = λ j out. maybe.outside j (header_beside j out) ∙ outside_mid j out;
+      inside = ⊎_elim
+          (λ kept. inl (sym (ap image here) ∙ kept ∙ ap mid here ∙ laid.outside start (inl (omega arith))))
+          (λ new. inr (whole image (sym (ap image here) ∙ new) maybe.outside))
+          (maybe.inside 0 (omega arith));
+    }
+
+    -- and behind it
+    pub header_done : (image : Image) → IsLaid mid start (header_sector generation (length body) ∷ []) image → IsSnapshot layout image slot generation body
+    header_done image all = whole image (sym (ap image here) ∙ all.inside 0 (omega arith)) all.outside
+
+    pub done_maybe : (image : Image) → IsLaid mid start (header_sector generation (length body) ∷ []) image → MaybeSnapshot layout old slot generation body image
+    done_maybe image all = record {
+      outside = λ j out. all.outside j (header_beside j out) ∙ outside_mid j out;
+      inside = inr (header_done image all);
+    }
+
+  -- both runs of calls
+  pub both_runs : (old mid new : Past) → During old mid (MaybeLaid (seen old) (start + 1) run) → IsLaid (seen old) (start + 1) run (seen mid)
+      → During mid new (MaybeLaid (seen mid) start (header_sector generation (length body) ∷ [])) → During old new (MaybeSnapshot layout (seen old) slot generation body)
+  both_runs old mid new first laid second =
+      followed old mid new (MaybeSnapshot layout (seen old) slot generation body) (weaker old mid _ _ (body_maybe (seen old)) first) (weaker mid new _ _ (header_maybe (seen old) (seen mid) laid) second)

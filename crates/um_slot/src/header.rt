@@ -1,0 +1,48 @@
+ghost use Rattle.std.specs.Prelude.{◌≡◌};
+ghost use Rattle.um_model.specs.Store as store;
+ghost use Rattle.um_slot.specs.Reading.{ReadsHeader};
+
+use um_model::{Layout, Slot};
+use um_sector::{Fields, Sector, u64_at};
+
+/// Where a snapshot stands.
+#[derive(Clone, Copy, Debug, PartialEq, Eq)]
+pub struct Home {
+    pub slot: Slot,
+    pub generation: u64,
+}
+
+/// What a well-formed header says.
+#[derive(Clone, Copy)]
+pub struct Header {
+    pub generation: u64,
+    /// The length of the body, in bytes.
+    pub size: u64,
+}
+
+/// The sector of a header.
+pub fn header_sector(generation: u64, size: u64) -> Sector
+    ensures { result ≡ store.header_sector generation size }
+{
+    let mut fields = Fields::new();
+    fields.put(b"UMSLOT01");
+    fields.put_u64(generation);
+    fields.put_u64(size);
+    fields.sector()
+}
+
+/// Reads a header: a sector is one where it is just as one is written, of a generation from 1 on, with a length that fits.
+pub fn read_header(layout: Layout, sector: &Sector) -> Option<Header>
+    ensures { ReadsHeader layout sector.now result }
+{
+    let generation = u64_at(sector, 8);
+    let size = u64_at(sector, 16);
+    if generation == 0 || size > layout.body_limit() as u64 {
+        return None;
+    }
+    if *sector == header_sector(generation, size) {
+        Some(Header { generation, size })
+    } else {
+        None
+    }
+}

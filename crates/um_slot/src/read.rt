@@ -1,0 +1,111 @@
+ghost use Rattle.std.specs.Prelude.{◌≡◌, ◌⊎◌, ◌^◌, ◌≤◌, ℕ, take, IfOk, IfErr, OnOk, IsErrOf, IsTrue};
+ghost use Rattle.um_model.specs.Disk.{seen};
+ghost use Rattle.um_model.specs.Store.{sector_count, joined, HasNoHeader, IsNewest};
+ghost use Rattle.um_sector.specs.Refused.{CountsDevice, IsLost};
+ghost use Rattle.um_slot.specs.Reading.{newer_of, Finds};
+
+use crate::header::{Header, Home, read_header};
+use std::alloc::Global;
+use um_model::{Layout, Slot};
+use um_sector::{Disk, Sector};
+use um_wire::Refusal;
+
+/// The newest snapshot.
+#[derive(Debug, Drop)]
+pub struct Snapshot {
+    pub home: Home,
+    pub body: Vec<u8>,
+}
+
+/// Of two headers the one of the greater generation, of equal ones slot A's.
+fn newer(a: Option<Header>, b: Option<Header>) -> Option<(Slot, Header)>
+    ensures { result ≡ newer_of a b }
+{
+    match (a, b) {
+        (Some(a), Some(b)) => {
+            if b.generation <= a.generation {
+                Some((Slot::A, a))
+            } else {
+                Some((Slot::B, b))
+            }
+        }
+        (Some(a), None) => Some((Slot::A, a)),
+        (None, Some(b)) => Some((Slot::B, b)),
+        (None, None) => None,
+    }
+}
+
+/// The newest well-formed header, and whose it is.
+fn newest_header<D: Disk>(disk: &mut D, layout: Layout) -> Result<Option<(Slot, Header)>, Refusal>
+    ensures found { IfOk result (λ found. IsTrue (D.honest disk.old) → Finds layout (seen (D.past disk.old)) found) }
+    ensures past { IsTrue (D.honest disk.old) → D.past disk.new ≡ D.past disk.old }
+    ensures failures { CountsDevice result (D.failures disk.old) (D.failures disk.new) }
+    ensures lost { IfErr result IsLost }
+    ensures size { D.size disk.new ≡ D.size disk.old }
+    ensures honest { D.honest disk.new ≡ D.honest disk.old }
+{
+    let mut a: Sector = [0; 512];
+    let mut b: Sector = [0; 512];
+    disk.read(layout.slot_start(Slot::A), &mut a)?;
+    disk.read(layout.slot_start(Slot::B), &mut b)?;
+    Ok(newer(read_header(layout, &a), read_header(layout, &b)))
+}
+
+/// At most so many bytes of a sector's front.
+fn front(sector: &Sector, count: usize) -> &[u8]
+    ensures { result.now ≡ take count sector.now }
+{
+    if count < 512 {
+        let (front, _) = sector.split_at(count);
+        front
+    } else {
+        sector
+    }
+}
+
+/// So many bytes of the sectors from `at` on.
+fn read_body<D: Disk>(
+    alloc: Global,
+    disk: &mut D,
+    at: usize,
+    size: usize,
+) -> Result<Vec<u8>, Refusal>
+    requires { at ≤ 2 ^ 32 }
+    ensures body { IfOk result (λ body. IsTrue (D.honest disk.old) → body.items ≡ take size (joined (sector_count size) (seen (D.past disk.old)) at)) }
+    ensures past { IsTrue (D.honest disk.old) → D.past disk.new ≡ D.past disk.old }
+    ensures failures { CountsDevice result (D.failures disk.old) (D.failures disk.new) }
+    ensures lost { IfErr result IsLost }
+    ensures size { D.size disk.new ≡ D.size disk.old }
+    ensures honest { D.honest disk.new ≡ D.honest disk.old }
+{
+    let mut body = Vec::new(alloc);
+    let mut sector: Sector = [0; 512];
+    for i in 0..size.div_ceil(512) {
+        disk.read(at + i, &mut sector)?;
+        body.extend_from_slice(front(&sector, size - 512 * i))?;
+    }
+    Ok(body)
+}
+
+/// Reads both headers and takes the well-formed one of the greater generation, of equal ones slot A's, with its body.
+///
+/// E18 with sector 1 where no header is well-formed; E15; E16 where a read fails.
+pub fn newest<D: Disk>(alloc: Global, disk: &mut D, layout: Layout) -> Result<Snapshot, Refusal>
+    ensures ok { IfOk result (λ newest. IsTrue (D.honest disk.old) → IsNewest layout (seen (D.past disk.old)) newest.home.slot newest.home.generation newest.body.items) }
+    ensures err { IfErr result (λ e. IsLost e ⊎ ((e ≡ Refusal.Damaged 1) × (IsTrue (D.honest disk.old) → HasNoHeader layout (seen (D.past disk.old))))) }
+    ensures past { IsTrue (D.honest disk.old) → D.past disk.new ≡ D.past disk.old }
+    ensures failures { CountsDevice result (D.failures disk.old) (D.failures disk.new) }
+    ensures size { D.size disk.new ≡ D.size disk.old }
+    ensures honest { D.honest disk.new ≡ D.honest disk.old }
+{
+    let Some((slot, header)) = newest_header(disk, layout)? else {
+        return Err(Refusal::Damaged { sector: 1 });
+    };
+    let at = layout.slot_start(slot) + 1;
+    let body = read_body(alloc, disk, at, header.size as usize)?;
+    let home = Home {
+        slot,
+        generation: header.generation,
+    };
+    Ok(Snapshot { home, body })
+}
