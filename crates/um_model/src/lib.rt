@@ -19,7 +19,6 @@ mod words;
 
 pub use frames::Ending;
 pub use jobs::{JobKind, JobState, UnitJobs};
-pub use jobs::{JobState, UnitJobs};
 pub use layout::{Layout, Slot};
 pub use limit::Counted;
 pub use names::Suffix;
