@@ -1,7 +1,7 @@
 -- What a manager in memory holds, and what it writes for what it reads.
 use Rattle.std.specs.Prelude.{◌≡◌, ℕ, List, [], ◌++◌, map, Option}
 use Rattle.std.specs.Io.KnownBytes.{Appends}
-use Rattle.um_model.specs.Machine.{State, Event, Reply, Step}
+use Rattle.um_model.specs.Machine.{State, Event, Reply, Told, Step}
 use Rattle.um_model.specs.Service.{Action}
 use Rattle.um_model.specs.Frames.{Answers, frame_of, input_of}
 use Rattle.um_model.specs.Replies.{reply_text}
@@ -19,6 +19,11 @@ size_of m = size_in m.engine
 
 abbrev pub kept_of : Manager → List Action
 kept_of m = map action_of m.kept.items
+
+-- the actions that a reply tells
+abbrev pub actions_told : Reply → List Action
+actions_told (Told actions) = actions
+actions_told other = []
 
 -- one step for an event at the moment told, or at the clock's; its actions are kept
 abbrev pub StepsTo : Manager → Option ℕ → Event → Reply → Manager → Type 0

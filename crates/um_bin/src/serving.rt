@@ -1,12 +1,12 @@
-ghost use Rattle.std.specs.Prelude.{◌≡◌, ◌≤◌, ◌++◌, ℕ, List, [], length, Option, Ok, None, MatchOption, ⊤, IfOk, OnOk, OnErr};
+ghost use Rattle.std.specs.Prelude.{◌≡◌, ◌≤◌, ◌++◌, ℕ, List, [], length, map, Option, Ok, None, MatchOption, ⊤, IfOk, OnOk, OnErr};
 ghost use Rattle.std.specs.Io.KnownBytes.{Appends};
-ghost use Rattle.um_bin.specs.Managers.{state_of, size_of, kept_of, StepsTo, IsAnswered, WritesReply, BeginsReply, WritesReplies, WritesBeginning};
+ghost use Rattle.um_bin.specs.Managers.{state_of, size_of, kept_of, actions_told, StepsTo, IsAnswered, WritesReply, BeginsReply, WritesReplies, WritesBeginning};
 ghost use Rattle.um_bin.specs.Streams.{WritesFrom, BeginsFrom};
 ghost use Rattle.um_model.specs.Frames.{kept_after, last_reply, memory_size};
 ghost use Rattle.um_model.specs.Machine.{Told, empty_state};
 ghost use Rattle.um_model.specs.Replies.{reply_text, reply_limit};
 ghost use Rattle.um_model.specs.declared.frames.Ending as ending;
-ghost use Rattle.um_state.specs.View.{event_of, reply_of};
+ghost use Rattle.um_state.specs.View.{action_of, event_of, reply_of};
 
 use crate::fault::Fault;
 use crate::frames::{Piece, next_piece, put_frame};
@@ -16,12 +16,30 @@ use std::io::{ErrorKind, Read, Write};
 use std::mem;
 use um_engine::Engine;
 use um_model::{Ending, Mode};
-use um_proto::{Asked, Request, read_request, write_reply};
+use um_proto::{Asked, ReplyText, Request, read_request, write_reply};
 use um_state::{Action, Event, Input, Reply, State};
 use um_wire::{Limit, Refusal};
 
 /// The size of the store that `umd --memory` works over, in bytes.
 const MEMORY_SIZE: u64 = 8_388_096;
+
+/// The actions that a reply tells.
+fn told_in(alloc: Global, reply: Reply) -> Vec<Action>
+    ensures { map action_of result.items ≡ actions_told (reply_of reply) }
+{
+    match reply {
+        Reply::Told(actions) => actions,
+        _other => Vec::new(alloc),
+    }
+}
+
+/// The text of a reply.
+fn text_of(alloc: Global, reply: &Reply) -> Result<Vec<u8>, AllocError>
+    ensures text { IfOk result (λ text. text.items ≡ reply_text (reply_of reply.now)) }
+    ensures short { IfOk result (λ text. length text.items ≤ reply_limit) }
+{
+    Ok(write_reply(alloc, reply)?.bytes)
+}
 
 /// The manager in memory.
 #[derive(Drop)]
@@ -58,13 +76,11 @@ impl Manager {
         ensures size { size_of self.new ≡ size_of self.old }
     {
         let reply = Reply::Told(mem::replace(&mut self.kept, Vec::new(alloc)));
-        let text = write_reply(alloc, &reply)?;
-        if !text.is_whole {
-            if let Reply::Told(kept) = reply {
-                self.kept = kept;
-            }
+        let ReplyText { bytes, is_whole } = write_reply(alloc, &reply)?;
+        if !is_whole {
+            self.kept = told_in(alloc, reply);
         }
-        Ok(text.bytes)
+        Ok(bytes)
     }
 
     /// The text of the reply to a frame.
@@ -73,16 +89,21 @@ impl Manager {
         ensures short { IfOk result (λ text. length text.items ≤ reply_limit) }
         ensures size { size_of self.new ≡ size_of self.old }
     {
-        let reply = match read_request(alloc, bytes, Mode::Memory) {
+        match read_request(alloc, bytes, Mode::Memory) {
             Ok(Request { at, asked }) => match asked {
-                Asked::Query(query) => self.engine.query(&query)?,
-                Asked::Event(event) => self.take_event(at, event)?,
-                Asked::Actions => return self.tell_actions(alloc),
+                Asked::Query(query) => {
+                    let reply = self.engine.query(&query)?;
+                    text_of(alloc, &reply)
+                }
+                Asked::Event(event) => {
+                    let reply = self.take_event(at, event)?;
+                    text_of(alloc, &reply)
+                }
+                Asked::Actions => self.tell_actions(alloc),
             },
-            Err(Refusal::NoMemory) => return Err(AllocError),
-            Err(refusal) => Reply::Refused(refusal),
-        };
-        Ok(write_reply(alloc, &reply)?.bytes)
+            Err(Refusal::NoMemory) => Err(AllocError),
+            Err(refusal) => text_of(alloc, &Reply::Refused(refusal)),
+        }
     }
 }
 

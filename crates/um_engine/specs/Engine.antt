@@ -1,9 +1,11 @@
 -- What an engine, a planned step and the way back hold.
-use Rattle.std.specs.Prelude.{◌≡◌, ◌≢◌, ℕ, ◌<◌, ◌≤◌, ⊤, Bool, true, false, List, ◌++◌, Option, Some, None, Result, Ok, Err, map}
+use Rattle.std.specs.Prelude.{◌≡◌, ◌≢◌, ℕ, ◌<◌, ◌≤◌, ⊤, Bool, true, false, List, [], ◌++◌, Option, Some, None, Result, Ok, Err, map}
 use Rattle.std.specs.FinMap as finite
 use Rattle.um_model.specs.Machine as model
 use Rattle.um_model.specs.Service.{Action, state_of_unit}
 use Rattle.um_model.specs.Timers.{Timers, IsDueFirst}
+use Rattle.um_model.specs.Tree.{Tree, put_file}
+use Rattle.um_model.specs.declared.jobs.JobKind.TheVariants.{Stop, Start}
 use Rattle.um_model.specs.declared.transition.UnitEvent.{UnitEvent}
 use Rattle.um_model.specs.declared.transition.UnitEvent.TheVariants.{DeadlinePasses}
 use Rattle.um_unit.specs.ServiceView.{service_settings_of}
@@ -92,6 +94,31 @@ IsEnd other = ⊥
 abbrev pub Took : ℕ → model.State → model.Event → List Action → model.State → List Action → Bool → Type 0
 Took t s event before s' after true = TakesTo t s event before s' after
 Took t s event before s' after false = model.HasNoEffect t s event × IsEnd event × (s' ≡ s) × (after ≡ before)
+
+-- a command, not the end of a process or a tick
+abbrev pub IsCommand : model.Event → Type 0
+IsCommand (model.ProcessEnded number end) = ⊥
+IsCommand model.Tick = ⊥
+IsCommand other = ⊤
+
+-- what a command does to the state, before any job begins
+pub data Changes (s : model.State) : model.Event → model.State → Type 0 where
+  puts : {path text : List ℕ} (tree : Tree) → put_file s.tree path text ≡ Ok tree → Changes s (model.PutFile path text) (record s { tree = tree })
+  reloads : Changes s model.DaemonReload (record s { loaded = s.tree })
+  starts : {unit : List ℕ} → Changes s (model.StartUnit unit) (model.planned Start s unit)
+  stops : {unit : List ℕ} → Changes s (model.StopUnit unit) (model.planned Stop s unit)
+
+-- the same units, jobs and next number
+pub record IsSame (s v : model.State) : Type 0 where
+  pub units : s.units ≡ v.units
+  pub pending : s.pending ≡ v.pending
+  pub next : s.next ≡ v.next
+
+-- a tick that asked for nothing and changed nothing
+pub record IsIdle (event : model.Event) (s v : model.State) (actions : List Action) : Type 0 where
+  pub tick : event ≡ model.Tick
+  pub nothing : actions ≡ []
+  pub same : IsSame s v
 
 -- a call is refused for this cause, or passes where there is none; or it lacks memory
 abbrev pub Refuses : {X : Type 0} → Result X Refusal → Option Refused → Type 0

@@ -1,10 +1,8 @@
-ghost use Rattle.std.specs.Prelude.{◌≡◌, Some, None, map, string_bytes, IfOk, OnOk, IfErr, MatchOption};
-ghost use Rattle.um_engine.specs.Engine.{Took, Refuses};
+ghost use Rattle.std.specs.Prelude.{◌≡◌, map, string_bytes, IfOk, OnOk, MatchOption};
+ghost use Rattle.um_engine.specs.Engine.{Took, Changes, IsCommand, Refuses};
 ghost use Rattle.um_model.specs.Machine as model;
 ghost use Rattle.um_model.specs.Units as units;
 ghost use Rattle.um_state.specs.View.{state_of, event_of, action_of};
-ghost use Rattle.um_wire.specs.Refusal.{refused_of};
-ghost use Rattle.um_wire.specs.declared.refusal.Refusal.TheVariants.{NoMemory};
 
 use crate::happening::happen;
 use crate::jobs::jobs_after;
@@ -115,6 +113,31 @@ fn take_end(
     Ok(true)
 }
 
+/// What a command does to the state, before any job begins. Where it is refused the state is of no use; of a command alone.
+fn change(alloc: Global, state: &mut State, event: &Event) -> Result<(), Refusal>
+    ensures changed { OnOk result (IsCommand (event_of event.now) → Changes (state_of state.old) (event_of event.now) (state_of state.new)) }
+    ensures refused { Refuses result (model.refusal_of (state_of state.old) (event_of event.now)) }
+{
+    match event {
+        Event::PutFile { path, text } => state.tree.put(path.as_str(), text.as_str()),
+        Event::DaemonReload => {
+            state.loaded = state.tree.copy()?;
+            Ok(())
+        }
+        Event::StartUnit { unit } => {
+            check_start(alloc, &state.loaded, unit)?;
+            plan_unit(state, JobKind::Start, unit)?;
+            Ok(())
+        }
+        Event::StopUnit { unit } => {
+            check_stop(alloc, state, unit)?;
+            plan_unit(state, JobKind::Stop, unit)?;
+            Ok(())
+        }
+        Event::ProcessEnded { .. } | Event::Tick => Ok(()),
+    }
+}
+
 /// The event has its effect on the state at the moment, in microseconds, and jobs begin where it made them ready; what is asked of
 /// processes comes behind the other actions. False where it is the end of a process that isn't live. Where it is refused the state is
 /// of no use.
@@ -126,28 +149,17 @@ pub fn take(
     event: &Event,
 ) -> Result<bool, Refusal>
     ensures ok { IfOk result (Took moment (state_of state.old) (event_of event.now) (map action_of actions.old.items) (state_of state.new) (map action_of actions.new.items)) }
-    ensures taken { OnOk result (model.refusal_of (state_of state.old) (event_of event.now) ≡ None) }
-    ensures refused { IfErr result (λ e. ¬ (e ≡ NoMemory) → model.refusal_of (state_of state.old) (event_of event.now) ≡ Some (refused_of e)) }
+    ensures refused { Refuses result (model.refusal_of (state_of state.old) (event_of event.now)) }
 {
-    match event {
-        Event::PutFile { path, text } => state.tree.put(path.as_str(), text.as_str())?,
-        Event::DaemonReload => state.loaded = state.tree.copy()?,
-        Event::StartUnit { unit } => {
-            check_start(alloc, &state.loaded, unit)?;
-            plan_unit(state, JobKind::Start, unit)?;
-        }
-        Event::StopUnit { unit } => {
-            check_stop(alloc, state, unit)?;
-            plan_unit(state, JobKind::Stop, unit)?;
-        }
-        Event::ProcessEnded { number, end } => {
-            return Ok(take_end(alloc, state, actions, moment, *number, *end)?);
-        }
-        Event::Tick => {
-            fire(alloc, state, actions, moment)?;
-            return Ok(true);
-        }
+    if let Event::ProcessEnded { number, end } = event {
+        let is_live = take_end(alloc, state, actions, moment, *number, *end)?;
+        return Ok(is_live);
     }
+    if let Event::Tick = event {
+        fire(alloc, state, actions, moment)?;
+        return Ok(true);
+    }
+    change(alloc, state, event)?;
     settle(alloc, state, actions, moment)?;
     Ok(true)
 }

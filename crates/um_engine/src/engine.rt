@@ -1,5 +1,5 @@
 ghost use Rattle.std.specs.Prelude.{◌≡◌, ◌↔◌, [], false, map, IsTrue, IfOk, IfErr};
-ghost use Rattle.um_engine.specs.Engine.{state_in, size_in, has_effect_in, state_after, reply_in, actions_in, state_before};
+ghost use Rattle.um_engine.specs.Engine.{state_in, size_in, has_effect_in, IsIdle, IsSame, state_after, reply_in, actions_in, state_before};
 ghost use Rattle.um_model.specs.Machine as model;
 ghost use Rattle.um_model.specs.Machine.{Step, HasNoEffect, moment_of};
 ghost use Rattle.um_state.specs.View.{state_of, input_of, event_of, query_of, reply_of, action_of};
@@ -31,6 +31,21 @@ pub struct Next {
 }
 
 impl Next {
+    /// A step without effect.
+    fn idle(state: State, actions: Vec<Action>) -> Next
+        ensures state { state_after result ≡ state_of state }
+        ensures reply { reply_in result ≡ model.Done }
+        ensures actions { actions_in result ≡ map action_of actions.items }
+        ensures effect { has_effect_in result ≡ false }
+    {
+        Next {
+            state,
+            reply: Reply::Done,
+            actions,
+            has_effect: false,
+        }
+    }
+
     /// Whether the step changes anything: the end of a process that isn't live and a tick at which nothing happens don't, and need
     /// no record.
     pub fn has_effect(&self) -> bool
@@ -46,9 +61,19 @@ pub struct Back {
     state: State,
 }
 
+/// Whether it is a tick that asked for nothing and changed nothing.
+fn is_idle(event: &Event, before: &State, after: &State, actions: &[Action]) -> bool
+    ensures { IsTrue result ↔ IsIdle (event_of event.now) (state_of before.now) (state_of after.now) (map action_of actions.now) }
+{
+    let Event::Tick = event else {
+        return false;
+    };
+    actions.is_empty() && is_same(before, after)
+}
+
 /// Whether both have the same units, jobs and next number.
 fn is_same(state: &State, other: &State) -> bool
-    ensures { IsTrue result ↔ ((state.now.units ≡ other.now.units) × (state.now.pending ≡ other.now.pending) × (state.now.next ≡ other.now.next)) }
+    ensures { IsTrue result ↔ IsSame (state_of state.now) (state_of other.now) }
 {
     state.next == other.next
         && state.units.is_same(&other.units)
@@ -83,19 +108,25 @@ impl Engine {
         let mut state = self.state.copy()?;
         let mut actions = Vec::new(self.alloc);
         let moment = self.state.clock.max(input.moment);
-        let is_live = take(self.alloc, &mut state, &mut actions, moment, &input.event)?;
-        let has_effect = match input.event {
-            Event::Tick => !is_same(&self.state, &state) || !actions.is_empty(),
-            _ => is_live,
-        };
-        if has_effect {
-            state.clock = moment;
+        let is_live = take(
+            self.alloc,
+            &mut state,
+            &mut actions,
+            moment,
+            &input.event,
+        )?;
+        if !is_live {
+            return Ok(Next::idle(state, actions));
         }
+        if is_idle(&input.event, &self.state, &state, actions.as_slice()) {
+            return Ok(Next::idle(state, actions));
+        }
+        state.clock = moment;
         Ok(Next {
             state,
             reply: Reply::Done,
             actions,
-            has_effect,
+            has_effect: true,
         })
     }
 

@@ -1,6 +1,8 @@
-ghost use Rattle.std.specs.Prelude.{◌≡◌, map, IfOk, OnOk};
+ghost use Rattle.std.specs.Prelude.{◌≡◌, false, map, IfOk, OnOk};
 ghost use Rattle.um_engine.specs.Engine.{startable_of, HappensTo};
 ghost use Rattle.um_model.specs.Machine as model;
+ghost use Rattle.um_model.specs.Settings.{default_settings};
+ghost use Rattle.um_model.specs.declared.transition.UnitKind.TheVariants.{Simple};
 ghost use Rattle.um_state.specs.View.{state_of, action_of};
 
 use crate::jobs::{is_waiting, jobs_left};
@@ -20,7 +22,17 @@ pub struct Startable {
     pub loadable: bool,
 }
 
-/// The unit by the loaded tree; one that can't be loaded counts as a simple service in which nothing is set.
+/// A unit that can't be loaded: it counts as a simple service in which nothing is set.
+fn not_loadable(alloc: Global) -> Startable
+    ensures { startable_of result ≡ record { settings = default_settings Simple; loadable = false } }
+{
+    Startable {
+        settings: ServiceSettings::new(alloc, UnitKind::Simple),
+        loadable: false,
+    }
+}
+
+/// The unit by the loaded tree.
 fn startable_in(alloc: Global, tree: &Tree, unit: &UnitName) -> Result<Startable, AllocError>
     ensures { IfOk result (λ s. startable_of s ≡ model.startable_in tree.now unit.now) }
 {
@@ -29,10 +41,9 @@ fn startable_in(alloc: Global, tree: &Tree, unit: &UnitName) -> Result<Startable
             settings: settings.service,
             loadable: !unit.is_template(),
         }),
-        Loading::Masked | Loading::NotFound | Loading::BadSetting { .. } => Ok(Startable {
-            settings: ServiceSettings::new(alloc, UnitKind::Simple),
-            loadable: false,
-        }),
+        Loading::Masked => Ok(not_loadable(alloc)),
+        Loading::NotFound => Ok(not_loadable(alloc)),
+        Loading::BadSetting { .. } => Ok(not_loadable(alloc)),
     }
 }
 
@@ -64,5 +75,6 @@ pub fn happen(
         jobs_left(asked.start, asked.stop_ends, jobs),
     )?;
     state.next = asked.next;
-    actions.append(&mut asked.actions)
+    actions.append(&mut asked.actions)?;
+    Ok(())
 }

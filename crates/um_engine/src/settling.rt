@@ -1,6 +1,7 @@
-ghost use Rattle.std.specs.Prelude.{map, IfOk, OnOk, MatchOption};
+ghost use Rattle.std.specs.Prelude.{◌≡◌, map, IfOk, OnOk, MatchOption};
 ghost use Rattle.um_engine.specs.Engine.{SettlesTo, FiresOneTo, FiresTo, IsDue, NoneIsDue};
 ghost use Rattle.um_model.specs.Jobs.{IsReady, BeginsNext, Job};
+ghost use Rattle.um_model.specs.Machine.{begun};
 ghost use Rattle.um_state.specs.View.{state_of, action_of};
 
 use crate::happening::happen;
@@ -23,6 +24,14 @@ fn next_job(state: &State) -> Result<Option<(UnitName, JobKind)>, AllocError>
     }
 }
 
+/// The job runs from now on.
+fn begin_job(state: &mut State, unit: &UnitName, kind: JobKind) -> Result<(), AllocError>
+    ensures { OnOk result (state_of state.new ≡ begun (state_of state.old) (record { unit = unit.now; kind = kind })) }
+{
+    let jobs = state.pending.get(unit);
+    state.pending.set(unit, with_running(kind, jobs))
+}
+
 /// Lets jobs begin at the moment, one after another, until none is ready. Where memory is refused the state is of no use.
 pub fn settle(
     alloc: Global,
@@ -36,8 +45,7 @@ pub fn settle(
         let Some((unit, kind)) = next_job(state)? else {
             return Ok(());
         };
-        let jobs = state.pending.get(&unit);
-        state.pending.set(&unit, with_running(kind, jobs))?;
+        begin_job(state, &unit, kind)?;
         happen(alloc, state, actions, moment, &unit, begins(kind))?;
     }
     Err(AllocError)
@@ -78,7 +86,8 @@ fn fire_one(
         unit,
         UnitEvent::DeadlinePasses,
     )?;
-    settle(alloc, state, actions, moment)
+    settle(alloc, state, actions, moment)?;
+    Ok(())
 }
 
 /// Fires the deadlines that stand and aren't past the moment, earliest first, then by the names of their units; after each one jobs

@@ -1,6 +1,6 @@
 use Rattle.std.proofs.KnownBytes.{Appends-nil}
-use Rattle.um_bin.proofs.Served.{beginning_nothing}
+use Rattle.um_bin.proofs.Served.{begins_nothing}
 use Rattle.um_bin.proofs.serving.memory.Goals as goal
 
 pub returns-clause-err : goal.returns-clause-err
-returns-clause-err g c = c.frames.invariant.begins _ (beginning_nothing _ _ _ _ _ (Appends-nil _))
+returns-clause-err g c = c.frames.invariant.begins _ (begins_nothing _ _ _ _ _ _ (Appends-nil _))
