@@ -31,9 +31,11 @@ none_fires t timers s before none = ([], none_due none, sym (append-nil before))
 pub fires_more : (t : ℕ) (timers : Timers) (deadline : ℕ) (unit : List ℕ) (s u v : State) (before between after : List Action) → IsDue t timers deadline unit
     → FiresOneTo t deadline unit s before u between → FiresFrom t (map.remove timers unit) u between v after → FiresFrom t timers s before v after
 fires_more t timers deadline unit s u v before between after due (passed gone) (more, later, all) = (more, passes deadline unit due.0 due.1 gone later, all)
-fires_more t timers deadline unit s u v before between after due (fired first next stands happens settles is) (more, later, all) =
-    (first ++ (next ++ more), fires deadline unit due.0 due.1 stands happens settles later,
-      all ∙ (ap (λ l. l ++ more) is ∙ (append_assoc before (first ++ next) more ∙ ap (λ l. before ++ l) (append_assoc first next more))))
+fires_more t timers deadline unit s u v before between after due (fired first next stands happens settles is) (more, later, all) = (
+  first ++ (next ++ more),
+  fires deadline unit due.0 due.1 stands happens settles later,
+  all ∙ (ap (λ l. l ++ more) is ∙ (append_assoc before (first ++ next) more ∙ ap (λ l. before ++ l) (append_assoc first next more))),
+)
 
 same_name : (n o : List ℕ) → (n ≡ o) ⊎ (n ≢ o)
 same_name n o = elim (bytes_eq n o) as (λ b. bytes_eq n o ≡ b → (n ≡ o) ⊎ (n ≢ o)) [

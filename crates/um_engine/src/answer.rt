@@ -71,8 +71,6 @@ pub fn reply_to(alloc: Global, state: &State, query: &Query) -> Result<Reply, Al
             let shown = shown(alloc, unit, loading, state.units.get(unit))?;
             Ok(Reply::Shown(shown))
         }
-        Query::IsActive { unit } => Ok(Reply::Activity(
-            state.units.get(unit).sub.active_state(),
-        )),
+        Query::IsActive { unit } => Ok(Reply::Activity(state.units.get(unit).sub.active_state())),
     }
 }

@@ -108,13 +108,7 @@ impl Engine {
         let mut state = self.state.copy()?;
         let mut actions = Vec::new(self.alloc);
         let moment = self.state.clock.max(input.moment);
-        let is_live = take(
-            self.alloc,
-            &mut state,
-            &mut actions,
-            moment,
-            &input.event,
-        )?;
+        let is_live = take(self.alloc, &mut state, &mut actions, moment, &input.event)?;
         if !is_live {
             return Ok(Next::idle(state, actions));
         }

@@ -70,10 +70,9 @@ pub fn happen(
     let mut service = Service::of(state.units.get(unit));
     let mut asked = service.on(alloc, event, &startable.settings, around)?;
     state.units.set(unit, service.unit())?;
-    state.pending.set(
-        unit,
-        jobs_left(asked.start, asked.stop_ends, jobs),
-    )?;
+    state
+        .pending
+        .set(unit, jobs_left(asked.start, asked.stop_ends, jobs))?;
     state.next = asked.next;
     actions.append(&mut asked.actions)?;
     Ok(())

@@ -101,7 +101,7 @@ module _ {X : Type 0} where
   entries_kept m o =
       let sorted = sorted_here m.entries o in
       ap map.entries (map.same_map nat_list_cmp_total (slice_cmp-IsAntisymmetric nat_cmp-IsAntisymmetric) _ _
-        (λ q. map.get-from_entries nat_list_cmp_total m.entries q ∙ sym (map.get-from_sorted (slice_cmp nat_cmp) m.entries q sorted)))
+      (λ q. map.get-from_entries nat_list_cmp_total m.entries q ∙ sym (map.get-from_sorted (slice_cmp nat_cmp) m.entries q sorted)))
       ∙ map.entries-from_sorted (slice_cmp nat_cmp) m.entries sorted
 
   -- tree maps that stand for the same have the same entries

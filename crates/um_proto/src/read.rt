@@ -4,9 +4,7 @@ ghost use Rattle.um_model.specs.Requests as model;
 ghost use Rattle.um_proto.specs.View.{asked_of, request_of};
 ghost use Rattle.um_wire.specs.Gives.{Gives};
 
-use crate::fields::{
-    end_at, field_count, moment_at, process_number_at, text_at, unit_at, verb_at,
-};
+use crate::fields::{end_at, field_count, moment_at, process_number_at, text_at, unit_at, verb_at};
 use crate::request::{Asked, Request};
 use crate::verb::own_fields;
 use serde_json::Value;

@@ -12,6 +12,8 @@ mod framing;
 #[cfg(test)]
 mod lines;
 #[cfg(test)]
+mod one_service;
+#[cfg(test)]
 mod refusals;
 #[cfg(test)]
 mod script;

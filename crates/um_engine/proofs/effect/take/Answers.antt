@@ -15,6 +15,6 @@ returns c =
     let command = is_command c.args.event.now c.in_default.not-ProcessEnded c.in_default-event.not-Tick in
     record {
       ok = changes_take c.args.moment (state_of c.args.state.now) (state_of c.change.new.state) (state_of c.settle.new.state) (event_of c.args.event.now)
-        (map action_of c.args.actions.now.items) (map action_of c.settle.new.actions.items) (c.in_ok-change.ensures.changed command) c.in_ok-settle.ensures;
+          (map action_of c.args.actions.now.items) (map action_of c.settle.new.actions.items) (c.in_ok-change.ensures.changed command) c.in_ok-settle.ensures;
       refused = c.in_ok-change.ensures.refused;
     }

@@ -4,13 +4,15 @@ use Rattle.um_state.specs.View.{state_of, action_of}
 use Rattle.um_engine.proofs.settling.fire.Goals as goal
 
 pub returns-in_default : goal.returns-in_default
-returns-in_default c =
-    (c.in_ok-timers.timers, c.in_ok-timers.ensures,
-      c.timers.invariant _ _ (none_fires c.args.moment c.timers.timers (state_of c.timers.state) (map action_of c.timers.actions.items) (rw c.in_default.is at c.in_ok-deadline.ensures)))
+returns-in_default c = (
+  c.in_ok-timers.timers,
+  c.in_ok-timers.ensures,
+  c.timers.invariant _ _ (none_fires c.args.moment c.timers.timers (state_of c.timers.state) (map action_of c.timers.actions.items) (rw c.in_default.is at c.in_ok-deadline.ensures)),
+)
 
 pub timers-preserved : goal.timers-preserved
 timers-preserved c = λ v after later.
     let due = rw c.in-Some.is at c.in_ok-deadline.ensures in
     c.timers.invariant v after
     (fires_more c.args.moment c.timers.timers c.in-Some.deadline c.in-Some.unit (state_of c.timers.state) (state_of c.fire_one.new.state) v
-      (map action_of c.timers.actions.items) (map action_of c.fire_one.new.actions.items) after due c.in_ok-fire_one.ensures (rw c.clear.ensures at later))
+    (map action_of c.timers.actions.items) (map action_of c.fire_one.new.actions.items) after due c.in_ok-fire_one.ensures (rw c.clear.ensures at later))

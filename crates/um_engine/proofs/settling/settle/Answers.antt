@@ -12,4 +12,4 @@ jobs-preserved c = λ v after later.
     let next = rw c.in-Some.is at c.in_ok-unit.ensures in
     c.jobs.invariant v after
     (settles_more c.args.moment (state_of c.jobs.state) (state_of c.happen.new.state) v (map action_of c.jobs.actions.items) (map action_of c.happen.new.actions.items) after
-      (record { unit = c.in-Some.unit; kind = c.in-Some.kind }) next (rw (c.begins.ensures, c.in_ok-begin_job.ensures) at c.in_ok-happen.ensures) later)
+    (record { unit = c.in-Some.unit; kind = c.in-Some.kind }) next (rw (c.begins.ensures, c.in_ok-begin_job.ensures) at c.in_ok-happen.ensures) later)

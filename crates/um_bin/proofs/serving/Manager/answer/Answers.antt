@@ -35,8 +35,11 @@ pub returns-in-Actions-clause-reply : goal.returns-in-Actions-clause-reply
 returns-in-Actions-clause-reply c =
     let request = rw c.in-Actions.is at c.in-Ok.ensures in
     if_ok_with c.tell_actions.result _ _ _ c.tell_actions.ensures.text c.tell_actions.ensures.kept
-    (λ t is left. (Told (kept_of c.args.self.now), is,
-      told_answers (size_of c.args.self.now) (state_of c.args.self.now) (state_of c.tell_actions.new.self) (kept_of c.args.self.now) (kept_of c.tell_actions.new.self) c.args.bytes.now _ request c.tell_actions.ensures.state left))
+    (λ t is left. (
+      Told (kept_of c.args.self.now),
+      is,
+      told_answers (size_of c.args.self.now) (state_of c.args.self.now) (state_of c.tell_actions.new.self) (kept_of c.args.self.now) (kept_of c.tell_actions.new.self) c.args.bytes.now _ request c.tell_actions.ensures.state left,
+    ))
 
 pub returns-in-Err : goal.returns-in-Err
 returns-in-Err c = record {
