@@ -17,19 +17,34 @@ pub fn superblock(layout: Layout) -> Sector
     fields.sector()
 }
 
-/// The layout that sector 0 of a store tells.
-///
-/// E19 where it doesn't begin as that of a store; E18 with sector 0 where it isn't just as it is written for a layout within
-/// the limits.
-pub fn read_superblock(sector: &Sector) -> Result<Layout, Refusal>
-    ensures ok { IfOk result (λ layout. sector.now ≡ store.superblock layout) }
-    ensures err { IfErr result (λ e. (e ≡ Refusal.NotFormatted) ⊎ ((e ≡ Refusal.Damaged 0) × ((layout : declared.Layout) → ¬ (sector.now ≡ store.superblock layout)))) }
-    ensures unformatted { (result ≡ Err Refusal.NotFormatted) ↔ ¬ (take 8 sector.now ≡ codes "UMDISK01") }
+/// Whether sector 0 begins as that of a store of this layout: E19 where it is of no store, E22 where it is of another layout.
+fn check_name(sector: &Sector) -> Result<(), Refusal>
+    ensures unformatted { (result ≡ Err Refusal.NotFormatted) ↔ ¬ (take 6 sector.now ≡ codes "UMDISK") }
+    ensures other { (result ≡ Err Refusal.OtherLayout) ↔ ((take 6 sector.now ≡ codes "UMDISK") × ¬ (take 8 sector.now ≡ codes "UMDISK01")) }
+    ensures only { IfErr result (λ e. (e ≡ Refusal.NotFormatted) ⊎ (e ≡ Refusal.OtherLayout)) }
 {
-    let (name, _) = sector.split_at(8);
-    if name != b"UMDISK01".as_slice() {
+    let (name, _) = sector.split_at(6);
+    if name != b"UMDISK".as_slice() {
         return Err(Refusal::NotFormatted);
     }
+    let (name, _) = sector.split_at(8);
+    if name != b"UMDISK01".as_slice() {
+        return Err(Refusal::OtherLayout);
+    }
+    Ok(())
+}
+
+/// The layout that sector 0 of a store tells.
+///
+/// E19 where it doesn't begin as that of a store; E22 where it begins as that of another layout; E18 with sector 0 where it isn't
+/// just as it is written for a layout within the limits.
+pub fn read_superblock(sector: &Sector) -> Result<Layout, Refusal>
+    ensures ok { IfOk result (λ layout. sector.now ≡ store.superblock layout) }
+    ensures err { IfErr result (λ e. ((e ≡ Refusal.NotFormatted) ⊎ (e ≡ Refusal.OtherLayout)) ⊎ ((e ≡ Refusal.Damaged 0) × ((layout : declared.Layout) → ¬ (sector.now ≡ store.superblock layout)))) }
+    ensures unformatted { (result ≡ Err Refusal.NotFormatted) ↔ ¬ (take 6 sector.now ≡ codes "UMDISK") }
+    ensures other { (result ≡ Err Refusal.OtherLayout) ↔ ((take 6 sector.now ≡ codes "UMDISK") × ¬ (take 8 sector.now ≡ codes "UMDISK01")) }
+{
+    check_name(sector)?;
     let Some(layout) = Layout::new(u32_at(sector, 8), u32_at(sector, 12)) else {
         return Err(Refusal::Damaged { sector: 0 });
     };

@@ -184,9 +184,11 @@ fn sector_0_tells_the_layout(rt: HostRuntime) -> Result<(), Fail> {
     assert!(rt;
         matches!(read, Ok(layout) if layout.slot_sectors == 64 && layout.log_sectors == 512)
     );
-    // another name; an unused byte; slots of 63 sectors
-    let read = read_superblock(&sector_0(7, 0)?);
+    // another name; another layout; an unused byte; slots of 63 sectors
+    let read = read_superblock(&sector_0(0, 0)?);
     assert!(rt; matches!(read, Err(Refusal::NotFormatted)));
+    let read = read_superblock(&sector_0(7, 50)?);
+    assert!(rt; matches!(read, Err(Refusal::OtherLayout)));
     let read = read_superblock(&sector_0(16, 1)?);
     assert!(rt; matches!(read, Err(Refusal::Damaged { sector: 0 })));
     let read = read_superblock(&sector_0(11, 63)?);
