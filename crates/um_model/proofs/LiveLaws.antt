@@ -7,7 +7,7 @@ use Rattle.um_model.specs.Ends.{is_stopping}
 use Rattle.um_model.specs.Transitions.{transition, HasItsProcess, has_its_process, HasNumber}
 use Rattle.um_model.specs.Jobs.{Job, job_of, jobs, no_jobs, jobs_of_unit, is_active, is_up, started_anew, started, stopped, jobs_after, IsPending, ComesBefore, IsReady, with_running, unless_running, start_left, jobs_left}
 use Rattle.um_model.specs.Timers.{Timers}
-use Rattle.um_model.specs.Machine.{State, empty_state, Event, Input, Reply, Happens, change_of, changed, startable_in, around, begins, begun, Settles, begins_next, planned, end_of, Fires, none_due, fires, passes, Takes, puts, reloads, starts, stops, ends, ticks, moment_of, Step, refused, idle, taken, Run, goes}
+use Rattle.um_model.specs.Machine.{State, empty_state, Event, Input, Reply, Happens, change_of, changed, startable_in, around, begins, begun, Settles, begins_next, planned, unit_asked, end_of, Fires, none_due, fires, passes, Takes, puts, links, removes, reloads, starts, stops, ends, ticks, moment_of, Step, refused, idle, taken, Run, goes}
 use Rattle.um_model.specs.Live.{is_starting, WaitsFor, IsNotStuck}
 use Rattle.um_model.specs.declared.jobs.JobKind.{JobKind}
 use Rattle.um_model.specs.declared.jobs.JobKind.TheVariants as job
@@ -224,9 +224,11 @@ module _ (keeps : (s : ServiceSettings) (c : Around) (u : UnitState) (e : UnitEv
 
   taken_fits : (t : ℕ) (s : State) (event : Event) (actions : List Action) (v : State) → Takes t s event actions v → AllFit s × IsStill s → AllFit v × IsStill v
   taken_fits t s event actions v (puts tree e h) calm = settled_fits t (record s { tree = tree }) actions v h calm.0
+  taken_fits t s event actions v (links tree e h) calm = settled_fits t (record s { tree = tree }) actions v h calm.0
+  taken_fits t s event actions v (removes tree e h) calm = settled_fits t (record s { tree = tree }) actions v h calm.0
   taken_fits t s event actions v (reloads h) calm = settled_fits t (record s { loaded = s.tree }) actions v h calm.0
-  taken_fits t s event actions v (starts {unit = unit} h) calm = settled_fits t (planned job.Start s unit) actions v h (planned_fits job.Start s unit calm.0)
-  taken_fits t s event actions v (stops {unit = unit} h) calm = settled_fits t (planned job.Stop s unit) actions v h (planned_fits job.Stop s unit calm.0)
+  taken_fits t s event actions v (starts {asked = asked} h) calm = settled_fits t (planned job.Start s (unit_asked s asked)) actions v h (planned_fits job.Start s (unit_asked s asked) calm.0)
+  taken_fits t s event actions v (stops {asked = asked} h) calm = settled_fits t (planned job.Stop s (unit_asked s asked)) actions v h (planned_fits job.Stop s (unit_asked s asked) calm.0)
   taken_fits t s event actions v (ends {number = number} {end = end} {first = first} {more = more} {u = u} unit is h k) calm =
       settled_fits t u more v k (happening_fits t unit (end_of (state_of_unit s.units unit) number end) s first u h calm.0)
   taken_fits t s event actions v (ticks timers are h) calm = fired_fits t timers s actions v h calm

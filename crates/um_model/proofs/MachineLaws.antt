@@ -5,12 +5,12 @@ use Rattle.std.specs.FinMap as map
 use Rattle.std.specs.FinMap.{slice_cmp-IsAntisymmetric, nat_cmp-IsAntisymmetric}
 use Rattle.std.specs.Cmp.Lexicographic.{nat_list_cmp_total}
 use Rattle.um_model.specs.Refusals.{Refused}
-use Rattle.um_model.specs.Tree.{Tree, put_file}
+use Rattle.um_model.specs.Tree.{Tree, put_file, put_link, remove_at}
 use Rattle.um_model.specs.Service.{Action, ByUnit, state_of_unit}
 use Rattle.um_model.specs.Jobs.{Job, IsToldBefore, by_name, stop_first, BeginsNext}
 use Rattle.um_model.specs.Timers.{Timers}
 use Rattle.um_model.specs.Transitions.{HasNumber}
-use Rattle.um_model.specs.Machine.{State, Event, ProcessEnded, Tick, Input, Reply, Refusal, Happens, change_of, startable_in, around, begins, begun, Settles, begins_next, IsProcessOf, AreDeadlines, end_of, Fires, none_due, fires, passes, Takes, puts, reloads, starts, stops, ends, ticks, HasNoEffect, is_over, is_idle, refusal_of, planned, moment_of, Step, refused, idle, taken, Run, goes}
+use Rattle.um_model.specs.Machine.{State, Event, ProcessEnded, Tick, Input, Reply, Refusal, Happens, change_of, startable_in, around, begins, begun, Settles, begins_next, IsProcessOf, AreDeadlines, end_of, Fires, none_due, fires, passes, Takes, puts, links, removes, reloads, starts, stops, ends, ticks, HasNoEffect, is_over, is_idle, refusal_of, planned, unit_asked, moment_of, Step, refused, idle, taken, Run, goes}
 use Rattle.um_model.specs.declared.jobs.JobKind.{JobKind}
 use Rattle.um_model.specs.declared.jobs.JobKind.TheVariants.{Stop, Start}
 use Rattle.um_model.specs.declared.jobs.UnitJobs.{UnitJobs}
@@ -120,9 +120,15 @@ pub one_taken : (t : ℕ) (s : State) (event : Event) (a b : List Action) (v w :
 one_taken t s event a b v w (puts {path = path} {text = text} tree e h) (puts other f k) =
     let same = same_ok (put_file s.tree path text) other tree f e in
     one_settled t (record s { tree = tree }) a b v w h (subst (λ (x : Tree). Settles t (record s { tree = x }) b w) same k)
+one_taken t s event a b v w (links {path = path} {target = target} tree e h) (links other f k) =
+    let same = same_ok (put_link s.tree path target) other tree f e in
+    one_settled t (record s { tree = tree }) a b v w h (subst (λ (x : Tree). Settles t (record s { tree = x }) b w) same k)
+one_taken t s event a b v w (removes {path = path} tree e h) (removes other f k) =
+    let same = same_ok (remove_at s.tree path) other tree f e in
+    one_settled t (record s { tree = tree }) a b v w h (subst (λ (x : Tree). Settles t (record s { tree = x }) b w) same k)
 one_taken t s event a b v w (reloads h) (reloads k) = one_settled t (record s { loaded = s.tree }) a b v w h k
-one_taken t s event a b v w (starts {unit = unit} h) (starts k) = one_settled t (planned Start s unit) a b v w h k
-one_taken t s event a b v w (stops {unit = unit} h) (stops k) = one_settled t (planned Stop s unit) a b v w h k
+one_taken t s event a b v w (starts {asked = asked} h) (starts k) = one_settled t (planned Start s (unit_asked s asked)) a b v w h k
+one_taken t s event a b v w (stops {asked = asked} h) (stops k) = one_settled t (planned Stop s (unit_asked s asked)) a b v w h k
 one_taken t s event a b v w (ends {number = number} {end = end} {first = first} {more = more} {u = u} unit is h k) (ends {first = other} {more = others} {u = x} unit' is' h' k') =
     let same = one_process s.units number unit' unit is' is in
     let both = one_happening t unit (end_of (state_of_unit s.units unit) number end) s first other u x h

@@ -6,7 +6,7 @@ use Rattle.um_model.specs.Service.{Action, SpawnProcess, SendSignal, state_of_un
 use Rattle.um_model.specs.Settings.{ServiceSettings}
 use Rattle.um_model.specs.Timers.{Timers}
 use Rattle.um_model.specs.Transitions.{AreActions, nothing, spawn, signals, spawned, live_numbers}
-use Rattle.um_model.specs.Machine.{State, Event, Input, Reply, Happens, change_of, startable_in, around, begins, begun, Settles, begins_next, planned, end_of, Fires, none_due, fires, passes, Takes, puts, reloads, starts, stops, ends, ticks, moment_of, Step, refused, idle, taken, Run, goes}
+use Rattle.um_model.specs.Machine.{State, Event, Input, Reply, Happens, change_of, startable_in, around, begins, begun, Settles, begins_next, planned, unit_asked, end_of, Fires, none_due, fires, passes, Takes, puts, links, removes, reloads, starts, stops, ends, ticks, moment_of, Step, refused, idle, taken, Run, goes}
 use Rattle.um_model.specs.Numbers.{started_numbers, actions_in, AreNew}
 use Rattle.um_model.specs.declared.jobs.JobKind.TheVariants as job
 use Rattle.um_model.specs.declared.service.Signal as sent
@@ -93,9 +93,11 @@ fired_counts t timers s actions v (passes {more = z} d n first due isnt l) = fir
 
 taken_counts : (t : ℕ) (s : State) (event : Event) (actions : List Action) (v : State) → Takes t s event actions v → Counts s actions v
 taken_counts t s event actions v (puts tree e h) = settled_counts t (record s { tree = tree }) actions v h
+taken_counts t s event actions v (links tree e h) = settled_counts t (record s { tree = tree }) actions v h
+taken_counts t s event actions v (removes tree e h) = settled_counts t (record s { tree = tree }) actions v h
 taken_counts t s event actions v (reloads h) = settled_counts t (record s { loaded = s.tree }) actions v h
-taken_counts t s event actions v (starts {unit = unit} h) = settled_counts t (planned job.Start s unit) actions v h
-taken_counts t s event actions v (stops {unit = unit} h) = settled_counts t (planned job.Stop s unit) actions v h
+taken_counts t s event actions v (starts {asked = asked} h) = settled_counts t (planned job.Start s (unit_asked s asked)) actions v h
+taken_counts t s event actions v (stops {asked = asked} h) = settled_counts t (planned job.Stop s (unit_asked s asked)) actions v h
 taken_counts t s event actions v (ends {number = number} {end = end} {first = first} {more = more} {u = u} unit is h k) =
     both_count s u v first more (happening_counts t unit (end_of (state_of_unit s.units unit) number end) s first u h) (settled_counts t u more v k)
 taken_counts t s event actions v (ticks timers are h) = fired_counts t timers s actions v h

@@ -3,21 +3,7 @@ use Rattle.std.proofs.Common.{◌≡◌, ◌-◌, ◌<◌, ◌≤◌, ℕ, zero,
 use Rattle.std.proofs.lemmas.List.{length-drop}
 use Rattle.std.proofs.lemmas.Option.{none-some, same_Some}
 use Rattle.um_model.specs.Pieces.{Front, Unreadable, Gives, StandsForText, done, piece}
-
--- these bytes, and then what is read
-abbrev pub prefixed : List ℕ → Option (List ℕ) → Option (List ℕ)
-prefixed bytes r = option_map (λ rest. bytes ++ rest) r
-
--- what is read, where the front is this one and what follows so many skipped bytes is read so
-abbrev pub read_by_front : Front → (ℕ → Option (List ℕ)) → Option (List ℕ)
-read_by_front Unreadable later = None
-read_by_front (Gives bytes n) later = prefixed bytes (later (n - 1))
-
--- what a text stands for, after so many bytes are skipped
-abbrev pub reading : (ℕ → List ℕ → Front) → ℕ → List ℕ → Option (List ℕ)
-reading front skip [] = Some []
-reading front (suc skip) (b ∷ bs) = reading front skip bs
-reading front zero (b ∷ bs) = read_by_front (front b bs) (λ n. reading front n bs)
+pub use Rattle.um_model.specs.Pieces.{prefixed, read_by_front, reading}
 
 pub reading-drop : (front : ℕ → List ℕ → Front) (n : ℕ) (bs : List ℕ) → reading front n bs ≡ reading front 0 (drop n bs)
 reading-drop front zero bs = refl

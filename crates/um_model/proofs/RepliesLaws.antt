@@ -6,10 +6,11 @@ use Rattle.serde_json.proofs.OnLiterals.{serde_json_on_literals}
 use Rattle.serde_json.specs.Data.{string}
 use Rattle.serde_json.specs.View.{items_of}
 use Rattle.serde_json.specs.Written.{has_float, items_have_float, compact_text}
-use Rattle.um_model.specs.Machine.{Reply, Done, Shown, Activity, Told, Refusal}
+use Rattle.um_model.specs.Machine.{Reply, Done, Shown, Activity, Files, Told, Refusal}
+use Rattle.um_model.specs.Resolution.{UnitFile}
 use Rattle.um_model.specs.Service.{Action, SpawnProcess, SendSignal}
 use Rattle.um_model.specs.Refusals.{Refused, too_large}
-use Rattle.um_model.specs.Replies.{warning_data, action_data, refused_data, reply_data, reply_text, within_limit}
+use Rattle.um_model.specs.Replies.{warning_data, file_data, action_data, refused_data, reply_data, reply_text, within_limit}
 use Rattle.um_model.specs.Units.{Warning}
 use Rattle.um_model.specs.declared.refusals.Limit.TheVariants.{Reply as ReplyLimit}
 
@@ -29,6 +30,10 @@ actions_plain : (actions : List Action) → items_have_float (items_of (map acti
 actions_plain [] = refl
 actions_plain (a ∷ others) = rw (action_plain a, actions_plain others) refl
 
+files_plain : (files : List UnitFile) → items_have_float (items_of (map file_data files)) ≡ false
+files_plain [] = refl
+files_plain (f ∷ fs) = files_plain fs
+
 -- no reply holds a float
 pub refused_plain : (r : Refused) → has_float (refused_data r) ≡ false
 refused_plain r = rw (texts_plain r.detail) refl
@@ -37,6 +42,7 @@ pub reply_plain : (reply : Reply) → has_float (reply_data reply) ≡ false
 reply_plain Done = refl
 reply_plain (Shown u) = rw (warnings_plain u.warnings) refl
 reply_plain (Activity state) = refl
+reply_plain (Files files) = rw (files_plain files) refl
 reply_plain (Told actions) = rw (actions_plain actions) refl
 reply_plain (Refusal r) = refused_plain r
 

@@ -7,31 +7,9 @@ use Rattle.std.proofs.lemmas.Bool.{cases_Bool, true≢false, cond-true, cond-fal
 use Rattle.std.proofs.lemmas.Option.{some_pair_parts, none-some}
 use Rattle.um_model.specs.Ascii.{is_space}
 use Rattle.um_model.specs.declared.words.WordRules.{WordRules}
-use Rattle.um_model.specs.declared.words.WordRules.TheVariants.{Escaped, Plain}
+use Rattle.um_model.specs.declared.words.WordRules.TheVariants.{Escaped, Plain, Names}
+pub use Rattle.um_model.specs.Words.{with_front, at_end, by_spelling, read}
 use Rattle.um_model.specs.Words.{is_quote, Spelling, Stop, Bad, Turn, Means, Kept, begins_escape, bare, spelled_at, may_end, InWord, ends, stops, turns, stands, keeps, Word, before, AreSpelled, none, space, word_first, values_of, AreWords, Command, is_separator, value_in_command, command_of, commands_of, AreCommands}
-
--- these bytes, and then what is read
-abbrev pub with_front : List ℕ → Option (List ℕ × List ℕ) → Option (List ℕ × List ℕ)
-with_front bytes None = None
-with_front bytes (Some found) = Some (bytes ++ found.0, found.1)
-
--- nothing is left
-abbrev pub at_end : WordRules → Option ℕ → Option (List ℕ × List ℕ)
-at_end rules quote = cond (may_end rules quote) (Some ([], [])) None
-
--- what is read, where the front is spelled so and what follows so many skipped bytes is read so
-abbrev pub by_spelling : Spelling → Option ℕ → ℕ → List ℕ → (ℕ → Option ℕ → Option (List ℕ × List ℕ)) → Option (List ℕ × List ℕ)
-by_spelling Stop quote b bs later = Some ([], b ∷ bs)
-by_spelling Bad quote b bs later = None
-by_spelling (Turn other) quote b bs later = later 0 other
-by_spelling (Means meaning n) quote b bs later = with_front (meaning ∷ []) (later (n - 1) quote)
-by_spelling (Kept n) quote b bs later = with_front (b ∷ take (n - 1) bs) (later (n - 1) quote)
-
--- the word and what follows it, after so many bytes are skipped
-abbrev pub read : WordRules → ℕ → Option ℕ → List ℕ → Option (List ℕ × List ℕ)
-read rules skip quote [] = at_end rules quote
-read rules (suc skip) quote (b ∷ bs) = read rules skip quote bs
-read rules zero quote (b ∷ bs) = by_spelling (spelled_at rules quote b bs) quote b bs (λ n other. read rules n other bs)
 
 -- the byte ends or turns a word, outside quotes or in one
 abbrev pub marks : Option ℕ → ℕ → Bool
@@ -84,6 +62,7 @@ plain_spelling rules quote b bs h =
 escape_ascii : (rules : WordRules) (b : ℕ) → begins_escape rules b ≡ true → b < 128
 escape_ascii Escaped b e = omega (arith, eqb-true b 92 e)
 escape_ascii Plain b e = absurd (cc)
+escape_ascii Names b e = absurd (cc)
 
 pub space_ascii : (b : ℕ) → is_space b ≡ true → b < 128
 space_ascii b white = elim (or_cases (eqb b 32) (eqb b 9) white) [ inl e ↦ omega (arith, eqb-true b 32 e) | inr e ↦ omega (arith, eqb-true b 9 e) ]

@@ -9,8 +9,11 @@ pub mod Tree
 pub mod Syntax
 pub mod Order
 pub mod Limit
-pub mod Settings
 pub mod Values
+pub mod Settings
+pub mod Resolution
+pub mod Keys
+pub mod Readings
 pub mod Units
 pub mod Service
 pub mod Ends

@@ -8,9 +8,10 @@ use Rattle.std.specs.Cmp.Lexicographic.{slice_cmp}
 use Rattle.std.specs.Ordering.{nat_cmp}
 use Rattle.um_model.specs.Refusals.{Refused, not_found, masked, bad_setting, not_loaded, cause, first_cause}
 use Rattle.um_model.specs.Names.{is_template}
-use Rattle.um_model.specs.Tree.{Tree, put_file}
-use Rattle.um_model.specs.Settings.{ServiceSettings, default_settings}
-use Rattle.um_model.specs.Units.{LoadedUnit, Loading, Found, Masked, NotFound, BadSetting, load, Warning}
+use Rattle.um_model.specs.Tree.{Tree, put_file, put_link, remove_at}
+use Rattle.um_model.specs.Settings.{ServiceSettings, default_settings, acting_settings}
+use Rattle.um_model.specs.Resolution.{UnitFile, Resolution, AtFile, AtNoFile, AtMask, Nowhere, files_at, resolution_of}
+use Rattle.um_model.specs.Units.{LoadedUnit, Loading, Found, Masked, NotFound, BadSetting, load, name_in, Warning}
 use Rattle.um_model.specs.Service.{ByUnit, state_of_unit, with_unit, active_state_of, is_number, Action}
 use Rattle.um_model.specs.Transitions.{transition, AreActions, HasNumber, spawned}
 use Rattle.um_model.specs.Jobs.{Job, job_of, jobs_of_unit, with_jobs, jobs_after, jobs_left, with_running, IsReady, BeginsNext}
@@ -50,6 +51,10 @@ empty_state = record { tree = map.empty; loaded = map.empty; boot = []; clock = 
 pub data Event : Type 0 where
   -- put the text into the tree as the file at the path
   PutFile : (path text : List ℕ) → Event
+  -- put a link to the target into the tree at the path
+  PutLink : (path target : List ℕ) → Event
+  -- remove what stands in the tree at the path
+  Remove : (path : List ℕ) → Event
   -- load the tree in hand
   DaemonReload : Event
   -- start the unit, or stop it
@@ -71,6 +76,8 @@ pub data Query : Type 0 where
   Show : (unit : List ℕ) → Query
   -- its active state
   IsActive : (unit : List ℕ) → Query
+  -- its files in the tree in hand
+  Cat : (unit : List ℕ) → Query
 
 -- a unit as `show` tells it
 pub record UnitShown : Type 0 where
@@ -85,27 +92,43 @@ pub data Reply : Type 0 where
   Done : Reply
   Shown : UnitShown → Reply
   Activity : ActiveState → Reply
+  Files : List UnitFile → Reply
   -- the actions since they were last asked for
   Told : List Action → Reply
   Refusal : Refused → Reply
 
-abbrev pub shown_without_file : List ℕ → LoadState → UnitState → UnitShown
-shown_without_file unit load state = record { id = unit; load = load; description = []; warnings = []; state = state }
+abbrev pub shown_without_settings : List ℕ → LoadState → UnitState → UnitShown
+shown_without_settings unit load state = record { id = unit; load = load; description = []; warnings = []; state = state }
 
 abbrev pub shown_of_loaded : LoadedUnit → UnitState → UnitShown
 shown_of_loaded l state = record { id = l.name; load = load_state.Loaded; description = l.settings.description; warnings = l.warnings; state = state }
 
 -- a description and warnings are shown of a loaded unit alone
 abbrev pub shown_of : List ℕ → Loading → UnitState → UnitShown
-shown_of unit (Found l) state = shown_of_loaded l state
-shown_of unit Masked state = shown_without_file unit load_state.Masked state
-shown_of unit NotFound state = shown_without_file unit load_state.NotFound state
-shown_of unit (BadSetting reason) state = shown_without_file unit load_state.BadSetting state
+shown_of asked (Found l) state = shown_of_loaded l state
+shown_of asked (Masked unit) state = shown_without_settings unit load_state.Masked state
+shown_of asked NotFound state = shown_without_settings asked load_state.NotFound state
+shown_of asked (BadSetting unit reason) state = shown_without_settings unit load_state.BadSetting state
+
+-- the unit that counts for the name that was asked for, by the loaded tree
+abbrev pub unit_asked : State → List ℕ → List ℕ
+unit_asked s asked = name_in asked (load s.loaded asked)
+
+abbrev pub state_asked : State → List ℕ → UnitState
+state_asked s asked = state_of_unit s.units (unit_asked s asked)
+
+-- the files of a unit, if it is found and not masked
+abbrev pub files_told : Tree → List ℕ → Resolution → Reply
+files_told tree asked (AtFile unit path text) = Files (files_at tree (AtFile unit path text))
+files_told tree asked (AtNoFile unit) = Files (files_at tree (AtNoFile unit))
+files_told tree asked (AtMask unit) = Refusal (masked unit)
+files_told tree asked Nowhere = Refusal (not_found asked)
 
 -- the reply to a query: a function of the state
 abbrev pub reply_to : State → Query → Reply
-reply_to s (Show unit) = Shown (shown_of unit (load s.loaded unit) (state_of_unit s.units unit))
-reply_to s (IsActive unit) = Activity (active_state_of (state_of_unit s.units unit).sub)
+reply_to s (Show asked) = Shown (shown_of asked (load s.loaded asked) (state_asked s asked))
+reply_to s (IsActive asked) = Activity (active_state_of (state_asked s asked).sub)
+reply_to s (Cat asked) = files_told s.tree asked (resolution_of s.tree asked)
 
 -- ---- one unit and what happens to it
 
@@ -115,13 +138,13 @@ pub record Startable : Type 0 where
   pub loadable : Bool
 
 -- a unit counts as loaded for a start where it is found and is no template
-abbrev pub startable_of : List ℕ → Loading → Startable
-startable_of unit (Found l) = record { settings = l.settings.service; loadable = not (is_template unit) }
-startable_of unit other = record { settings = default_settings Simple; loadable = false }
+abbrev pub startable_of : Loading → Startable
+startable_of (Found l) = record { settings = acting_settings l.settings.service; loadable = not (is_template l.name) }
+startable_of other = record { settings = default_settings Simple; loadable = false }
 
 -- by the loaded tree
 abbrev pub startable_in : Tree → List ℕ → Startable
-startable_in tree unit = startable_of unit (load tree unit)
+startable_in tree unit = startable_of (load tree unit)
 
 abbrev pub is_waiting : Option JobState → Bool
 is_waiting (Some Waiting) = true
@@ -181,11 +204,11 @@ refusal_in (Err r) = Some r
 
 -- a unit that can't be started is refused for the first cause
 abbrev pub start_refusal : List ℕ → Loading → Option Refused
-start_refusal unit NotFound = Some (not_found unit)
-start_refusal unit Masked = Some (masked unit)
-start_refusal unit (BadSetting reason) = Some (bad_setting unit reason)
-start_refusal unit (Found l) =
-    first_cause (cause (not (is_served_kind l.settings.service.kind)) (bad_setting unit (codes "type")) ∷ cause (is_template unit) (bad_setting unit (codes "template")) ∷ [])
+start_refusal asked NotFound = Some (not_found asked)
+start_refusal asked (Masked unit) = Some (masked unit)
+start_refusal asked (BadSetting unit reason) = Some (bad_setting unit reason)
+start_refusal asked (Found l) =
+    first_cause (cause (not (is_served_kind l.settings.service.kind)) (bad_setting l.name (codes "type")) ∷ cause (is_template l.name) (bad_setting l.name (codes "template")) ∷ [])
 
 abbrev pub is_found : Loading → Bool
 is_found NotFound = false
@@ -194,8 +217,10 @@ is_found other = true
 -- a command is refused before it has any effect
 abbrev pub refusal_of : State → Event → Option Refused
 refusal_of s (PutFile path text) = refusal_in (put_file s.tree path text)
-refusal_of s (StartUnit unit) = start_refusal unit (load s.loaded unit)
-refusal_of s (StopUnit unit) = cause (not (is_found (load s.loaded unit)) && not (is_some (map.get s.units unit))) (not_loaded unit)
+refusal_of s (PutLink path target) = refusal_in (put_link s.tree path target)
+refusal_of s (Remove path) = refusal_in (remove_at s.tree path)
+refusal_of s (StartUnit asked) = start_refusal asked (load s.loaded asked)
+refusal_of s (StopUnit asked) = cause (not (is_found (load s.loaded asked)) && not (is_some (map.get s.units asked))) (not_loaded asked)
 refusal_of s other = None
 
 -- the state with the plan of a command for one unit
@@ -233,9 +258,13 @@ pub data Fires (t : ℕ) : Timers → State → List Action → State → Type 0
 pub data Takes (t : ℕ) (s : State) : Event → List Action → State → Type 0 where
   puts : {path text : List ℕ} {actions : List Action} {v : State} (tree : Tree) → put_file s.tree path text ≡ Ok tree
       → Settles t (record s { tree = tree }) actions v → Takes t s (PutFile path text) actions v
+  links : {path target : List ℕ} {actions : List Action} {v : State} (tree : Tree) → put_link s.tree path target ≡ Ok tree
+      → Settles t (record s { tree = tree }) actions v → Takes t s (PutLink path target) actions v
+  removes : {path : List ℕ} {actions : List Action} {v : State} (tree : Tree) → remove_at s.tree path ≡ Ok tree
+      → Settles t (record s { tree = tree }) actions v → Takes t s (Remove path) actions v
   reloads : {actions : List Action} {v : State} → Settles t (record s { loaded = s.tree }) actions v → Takes t s DaemonReload actions v
-  starts : {unit : List ℕ} {actions : List Action} {v : State} → Settles t (planned job.Start s unit) actions v → Takes t s (StartUnit unit) actions v
-  stops : {unit : List ℕ} {actions : List Action} {v : State} → Settles t (planned job.Stop s unit) actions v → Takes t s (StopUnit unit) actions v
+  starts : {asked : List ℕ} {actions : List Action} {v : State} → Settles t (planned job.Start s (unit_asked s asked)) actions v → Takes t s (StartUnit asked) actions v
+  stops : {asked : List ℕ} {actions : List Action} {v : State} → Settles t (planned job.Stop s (unit_asked s asked)) actions v → Takes t s (StopUnit asked) actions v
   ends : {number : ℕ} {end : End} {first more : List Action} {u v : State} (unit : List ℕ) → IsProcessOf s.units number unit
       → Happens t unit (end_of (state_of_unit s.units unit) number end) s first u → Settles t u more v → Takes t s (ProcessEnded number end) (first ++ more) v
   ticks : {actions : List Action} {v : State} (timers : Timers) → AreDeadlines s.units timers → Fires t timers s actions v → Takes t s Tick actions v

@@ -11,7 +11,8 @@ use Rattle.um_model.specs.declared.service.Signal.{Signal}
 use Rattle.um_model.specs.declared.service.Signal.TheVariants.{Term, Kill}
 use Rattle.um_model.specs.Syntax.{warning_number}
 use Rattle.um_model.specs.Units.{Warning, load_state_text}
-use Rattle.um_model.specs.Machine.{Reply, Done, Shown, Activity, Told, Refusal, UnitShown}
+use Rattle.um_model.specs.Resolution.{UnitFile}
+use Rattle.um_model.specs.Machine.{Reply, Done, Shown, Activity, Files, Told, Refusal, UnitShown}
 use Rattle.um_model.specs.declared.refusals.Limit.TheVariants.{Reply as ReplyLimit}
 
 abbrev pub number_data : ℕ → Data
@@ -45,6 +46,10 @@ abbrev pub action_data : Action → Data
 action_data (SpawnProcess n words environment) = array (items_of (string (codes "spawn") ∷ number_data n ∷ texts_data words ∷ []))
 action_data (SendSignal n signal) = array (items_of (string (codes "signal") ∷ number_data n ∷ string (signal_text signal) ∷ []))
 
+-- a file: its path and its text
+abbrev pub file_data : UnitFile → Data
+file_data file = texts_data (file.path ∷ file.text ∷ [])
+
 -- a reply with a value
 abbrev pub valued : Data → Data
 valued value = object (member (codes "ok") (boolean true) (member (codes "value") value no_members))
@@ -57,6 +62,7 @@ abbrev pub reply_data : Reply → Data
 reply_data Done = object (member (codes "ok") (boolean true) no_members)
 reply_data (Shown u) = valued (shown_data u)
 reply_data (Activity state) = valued (string (active_state_text state))
+reply_data (Files files) = valued (array (items_of (map file_data files)))
 reply_data (Told actions) = valued (array (items_of (map action_data actions)))
 reply_data (Refusal r) = refused_data r
 

@@ -10,7 +10,7 @@ use Rattle.serde_json.specs.Events.{members_len}
 use Rattle.serde_json.specs.Read.{read}
 use Rattle.um_model.specs.Refusals.{Refused, bad_request, unknown_verb, bad_name}
 use Rattle.um_model.specs.Names.{suffix_of, is_unit_name}
-use Rattle.um_model.specs.Machine.{Event, PutFile, DaemonReload, StartUnit, StopUnit, ProcessEnded, Tick, Query, Show, IsActive}
+use Rattle.um_model.specs.Machine.{Event, PutFile, PutLink, Remove, DaemonReload, StartUnit, StopUnit, ProcessEnded, Tick, Query, Show, IsActive, Cat}
 use Rattle.um_model.specs.declared.service.End.{End}
 use Rattle.um_model.specs.declared.service.End.TheVariants.{Code, Signal, Lost}
 use Rattle.um_model.specs.declared.requests.Verb.{Verb}
@@ -43,14 +43,17 @@ bad = Err bad_request
 abbrev pub verb_named : List ℕ → Option Verb
 verb_named text =
     if bytes_eq text (codes "put-file") then Some verb.PutFile
+    else (if bytes_eq text (codes "put-link") then Some verb.PutLink
+    else (if bytes_eq text (codes "remove") then Some verb.Remove
     else (if bytes_eq text (codes "daemon-reload") then Some verb.DaemonReload
     else (if bytes_eq text (codes "start") then Some verb.Start
     else (if bytes_eq text (codes "stop") then Some verb.Stop
     else (if bytes_eq text (codes "show") then Some verb.Show
     else (if bytes_eq text (codes "is-active") then Some verb.IsActive
+    else (if bytes_eq text (codes "cat") then Some verb.Cat
     else (if bytes_eq text (codes "tick") then Some verb.Tick
     else (if bytes_eq text (codes "end") then Some verb.End
-    else (if bytes_eq text (codes "actions") then Some verb.Actions else None))))))))
+    else (if bytes_eq text (codes "actions") then Some verb.Actions else None)))))))))))
 
 -- these verbs are known over standard input alone
 abbrev pub is_for_memory : Verb → Bool
@@ -105,11 +108,14 @@ field_count d = members_count (as_object d)
 -- how many fields a verb has beside itself
 abbrev pub own_fields : Verb → ℕ
 own_fields verb.PutFile = 2
+own_fields verb.PutLink = 2
+own_fields verb.Remove = 1
 own_fields verb.DaemonReload = 0
 own_fields verb.Start = 1
 own_fields verb.Stop = 1
 own_fields verb.Show = 1
 own_fields verb.IsActive = 1
+own_fields verb.Cat = 1
 own_fields verb.Tick = 0
 own_fields verb.End = 2
 own_fields verb.Actions = 0
@@ -139,6 +145,17 @@ put_file_at d = do
   path ← text_at (codes "path") d
   text ← text_at (codes "text") d
   Ok (OfEvent (PutFile path text))
+
+unfoldable pub put_link_at : Data → Result Asked Refused
+put_link_at d = do
+  path ← text_at (codes "path") d
+  target ← text_at (codes "target") d
+  Ok (OfEvent (PutLink path target))
+
+unfoldable pub remove_at : Data → Result Asked Refused
+remove_at d = do
+  path ← text_at (codes "path") d
+  Ok (OfEvent (Remove path))
 
 -- what is asked for a unit
 unfoldable pub for_unit : (List ℕ → Asked) → Data → Result Asked Refused
@@ -183,11 +200,14 @@ process_ended_at d = do
 -- what a verb asks for with its fields
 abbrev pub asked_at : Verb → Data → Result Asked Refused
 asked_at verb.PutFile d = put_file_at d
+asked_at verb.PutLink d = put_link_at d
+asked_at verb.Remove d = remove_at d
 asked_at verb.DaemonReload d = Ok (OfEvent DaemonReload)
 asked_at verb.Start d = for_unit (λ unit. OfEvent (StartUnit unit)) d
 asked_at verb.Stop d = for_unit (λ unit. OfEvent (StopUnit unit)) d
 asked_at verb.Show d = for_unit (λ unit. OfQuery (Show unit)) d
 asked_at verb.IsActive d = for_unit (λ unit. OfQuery (IsActive unit)) d
+asked_at verb.Cat d = for_unit (λ unit. OfQuery (Cat unit)) d
 asked_at verb.Tick d = Ok (OfEvent Tick)
 asked_at verb.End d = process_ended_at d
 asked_at verb.Actions d = Ok OfActions

@@ -33,7 +33,7 @@ pub record ServiceSettings : Type 0 where
 abbrev pub no_end : End → Bool
 no_end end = false
 
--- a unit of this kind in which nothing is set; starts aren't limited yet
+-- a unit of this kind that the service table acts on as if nothing were set: starts aren't limited yet
 abbrev pub default_settings : UnitKind → ServiceSettings
 default_settings kind = record {
   kind = kind;
@@ -71,3 +71,7 @@ variable_text v = v.name ++ (61 ∷ v.value)
 
 abbrev pub environment_texts : ServiceSettings → List (List ℕ)
 environment_texts s = map variable_text s.environment
+
+-- until services are served in full, the table acts on the commands of ExecStart= and their environment alone
+abbrev pub acting_settings : ServiceSettings → ServiceSettings
+acting_settings s = record (default_settings s.kind) { start = s.start; environment = s.environment }

@@ -3,10 +3,10 @@
 -- Settings and enabling stand on this file.
 use Rattle.std.specs.Prelude.{ℕ, List, [], ◌∷◌, Option, Some, None, unwrap_or, if◌then◌else◌, ◌==◌}
 use Rattle.std.specs.List.{after_last}
-use Rattle.std.specs.Str.{IsUtf8}
+use Rattle.std.specs.Str.{IsUtf8, is_utf8}
 use Rattle.um_model.specs.Ascii.{is_letter}
-use Rattle.um_model.specs.Names.{stem_of, prefix_of, instance_of, StandsForBytes}
-use Rattle.um_model.specs.Pieces.{Front, Unreadable, Gives, StandsForText}
+use Rattle.um_model.specs.Names.{stem_of, prefix_of, instance_of, unescape_front, StandsForBytes}
+use Rattle.um_model.specs.Pieces.{Front, Unreadable, Gives, StandsForText, reading}
 
 -- the instance of a name; empty where it has none
 abbrev pub instance_or_empty : List ℕ → List ℕ
@@ -49,3 +49,19 @@ pub record IsExpanded (name text expanded : List ℕ) : Type 0 where
   pub unescaped : Option (List ℕ)
   pub instance : IsUnescaped (instance_or_empty name) unescaped
   pub pieces : StandsForText (specifier_front name unescaped) text expanded
+
+-- The same as functions, for definitions that go on from an expansion; the laws in proofs/SpecifiersLaws say that they tell the
+-- relations above.
+
+-- the bytes, where they are a text
+abbrev pub as_text : Option (List ℕ) → Option (List ℕ)
+as_text None = None
+as_text (Some bytes) = if is_utf8 bytes then Some bytes else None
+
+-- the text that the escapes of an instance stand for, where it is one
+abbrev pub unescaped_of : List ℕ → Option (List ℕ)
+unescaped_of escaped = as_text (reading unescape_front 0 escaped)
+
+-- what the text stands for in the files of the unit of that name
+unfoldable pub expanded_of : List ℕ → List ℕ → Option (List ℕ)
+expanded_of name text = reading (specifier_front name (unescaped_of (instance_or_empty name))) 0 text

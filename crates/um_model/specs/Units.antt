@@ -1,27 +1,35 @@
--- Units by their files: how a name is resolved in a tree, and what the file that it leads to sets and warns of.
--- Follows systemd.unit(5) and systemd.service(5), in the keys that are known and in `Description=`, `ExecStart=` and `Type=`.
--- The machine stands on this file: what `show` tells, and later what a start does.
-use Rattle.std.specs.Prelude.{ℕ, Bool, true, false, not, ◌&&◌, ◌||◌, ◌==◌, nat_eq, List, [], ◌∷◌, ◌++◌, length, Option, Some, None, option_map, option_and_then, map as each, filter, filter_map, if◌then◌else◌, codes}
-use Rattle.std.specs.List.{flat_map, list_any, starts_with, after_last}
+-- What a unit's files set and warn of, by one list of assignments, and whether the unit can be loaded.
+-- Follows systemd.unit(5) and systemd.service(5).
+-- The machine stands on this file: what `show` tells, and what a start does.
+use Rattle.std.specs.Prelude.{ℕ, Bool, true, false, not, ◌&&◌, ◌||◌, ◌==◌, List, [], ◌∷◌, ◌++◌, length, find, filter_map, map as each, Option, Some, None, Result, Ok, Err, option_map, is_some, if◌then◌else◌, codes}
+use Rattle.std.specs.List.{flat_map, list_any, after_last}
 use Rattle.std.specs.Str.{bytes_eq}
-use Rattle.std.specs.FinMap as map
-use Rattle.um_model.specs.Names.{suffix_of, template_of}
+use Rattle.um_model.specs.Names.{suffix_of, is_unit_name}
 use Rattle.um_model.specs.Text.{is_empty}
 use Rattle.um_model.specs.Syntax.{Item, Section, Assignment, Warning as Warned, Placed, line_number, reading_of}
-use Rattle.um_model.specs.Tree.{Tree, Entry, File, Link, layer_text}
+use Rattle.um_model.specs.Tree.{Tree}
+use Rattle.um_model.specs.Resolution.{or_else, is_of_same_type, UnitFile, Resolution, AtFile, AtNoFile, AtMask, Nowhere, files_at, resolution_of}
+use Rattle.um_model.specs.Keys.{is_foreign, is_known_section, is_refused_key, kind_of_key}
+use Rattle.um_model.specs.Readings.{Reading, read_in, warning_in, text_reading, commands_reading, environment_reading, names_reading, first_warning, names_said, value_reading, instance_in}
 use Rattle.um_model.specs.Settings.{ServiceSettings, default_settings}
-use Rattle.um_model.specs.Values.{words_in}
-use Rattle.um_model.specs.Words.{Command, is_sign, is_executable_word}
+use Rattle.um_model.specs.Values.{boolean_of, number_of, span_of, exits_of, policy_named}
+use Rattle.um_model.specs.Words.{Command}
+use Rattle.um_model.specs.Substitution.{Variable}
+use Rattle.um_model.specs.declared.service.End.{End}
+use Rattle.um_model.specs.declared.settings.RestartPolicy.{RestartPolicy}
+use Rattle.um_model.specs.declared.settings.RestartPolicy.TheVariants.{No, Always, OnSuccess}
+use Rattle.um_model.specs.declared.settings.TimeSpan.{TimeSpan}
+use Rattle.um_model.specs.declared.settings.TimeSpan.TheVariants.{Micros, Infinite}
 use Rattle.um_model.specs.declared.transition.UnitKind.{UnitKind}
 use Rattle.um_model.specs.declared.transition.UnitKind.TheVariants.{Simple, Exec, Oneshot, Target}
 use Rattle.um_model.specs.declared.names.Suffix.{Suffix}
-use Rattle.um_model.specs.declared.names.Suffix.TheVariants.{Service, Target as TargetUnit}
-use Rattle.um_model.specs.declared.tree.Layer.{Layer}
-use Rattle.um_model.specs.declared.tree.Layer.TheVariants.{Etc, Run, Lib}
+use Rattle.um_model.specs.declared.names.Suffix.TheVariants.{Service}
 use Rattle.um_model.specs.declared.units.LoadState.{LoadState}
 use Rattle.um_model.specs.declared.units.LoadState.TheVariants as load_state
+use Rattle.um_model.specs.declared.units.ValueKind.{ValueKind}
+use Rattle.um_model.specs.declared.units.ValueKind.TheVariants as kind
 use Rattle.um_model.specs.declared.warnings.WarningKind.{WarningKind}
-use Rattle.um_model.specs.declared.warnings.WarningKind.TheVariants.{UnknownSection, UnknownKey, UnreadableValue, UnreadableSpecifier}
+use Rattle.um_model.specs.declared.warnings.WarningKind.TheVariants.{UnknownSection, UnknownKey}
 
 -- the word for a load state
 abbrev pub load_state_text : LoadState → List ℕ
@@ -30,217 +38,328 @@ load_state_text load_state.Masked = codes "masked"
 load_state_text load_state.NotFound = codes "not-found"
 load_state_text load_state.BadSetting = codes "bad-setting"
 
--- ---- resolution of a name
+-- ---- assignments
 
--- the first of two, where it is there
-abbrev pub or_else : {A : Type 0} → Option A → Option A → Option A
-or_else (Some a) other = Some a
-or_else None other = other
+-- a file that was read
+pub record Source : Type 0 where
+  pub path : List ℕ
+  pub reading : List Placed
 
--- the path of a unit in a layer
-abbrev pub unit_path : Layer → List ℕ → List ℕ
-unit_path layer unit = layer_text layer ++ unit
+abbrev pub source_of : UnitFile → Source
+source_of file = record { path = file.path; reading = reading_of file.text }
 
--- what stands there, with the path
-abbrev pub held_in : Layer → Tree → List ℕ → Option (List ℕ × Entry)
-held_in layer tree unit = option_map (λ e. (unit_path layer unit, e)) (map.get tree (unit_path layer unit))
+-- an assignment in a known section
+pub record Assigned : Type 0 where
+  pub section : List ℕ
+  pub key : List ℕ
+  pub value : List ℕ
 
--- the first layer that holds the unit counts
-abbrev pub first_held : Tree → List ℕ → Option (List ℕ × Entry)
-first_held tree unit = or_else (held_in Etc tree unit) (or_else (held_in Run tree unit) (held_in Lib tree unit))
+abbrev pub assigned_by : Option Suffix → Option (List ℕ) → Item → List Assigned
+assigned_by type (Some section) (Assignment key value line whole) =
+    if is_known_section type section then record { section = section; key = key; value = value } ∷ [] else []
+assigned_by type (Some section) (Section name line) = []
+assigned_by type (Some section) (Warned warning line) = []
+assigned_by type None item = []
 
--- the unit's own entry, or else that of its template
-abbrev pub held : Tree → List ℕ → Option (List ℕ × Entry)
-held tree unit = or_else (first_held tree unit) (option_and_then (λ t. first_held tree t) (template_of unit))
+-- the assignments of a unit's files as one list, in the order in which they are read
+abbrev pub assignments_in : Option Suffix → List Source → List Assigned
+assignments_in type sources = flat_map (λ s. flat_map (λ p. assigned_by type p.section p.item) s.reading) sources
 
--- where a name leads: to a file that isn't empty, to a mask, or nowhere
-pub data Resolution : Type 0 where
-  AtFile : (path text : List ℕ) → Resolution
-  AtMask : Resolution
-  Nowhere : Resolution
+-- a key in its section
+abbrev pub Key : Type 0
+Key = List ℕ × List ℕ
 
--- an empty file masks its unit; links aren't followed yet
-abbrev pub resolution_at : Option (List ℕ × Entry) → Resolution
-resolution_at None = Nowhere
-resolution_at (Some (path, File [])) = AtMask
-resolution_at (Some (path, File (b ∷ bs))) = AtFile path (b ∷ bs)
-resolution_at (Some (path, Link target)) = Nowhere
+abbrev pub assigns : List Key → Assigned → Bool
+assigns keys a = list_any (λ key. bytes_eq a.section key.0 && bytes_eq a.key key.1) keys
 
--- of the types of units, services and targets are served
-abbrev pub is_served_type : Option Suffix → Bool
-is_served_type (Some Service) = true
-is_served_type (Some TargetUnit) = true
-is_served_type other = false
+-- the values of one setting, in order: each assignment to one of its keys
+abbrev pub values_of : List Key → List Assigned → List (List ℕ)
+values_of keys assigned = flat_map (λ a. if assigns keys a then a.value ∷ [] else []) assigned
 
--- where the name leads
-abbrev pub resolution_of : Tree → List ℕ → Resolution
-resolution_of tree unit = if is_served_type (suffix_of unit) then resolution_at (held tree unit) else Nowhere
+abbrev pub in_unit : List ℕ → Key
+in_unit key = (codes "Unit", key)
 
--- ---- sections and keys
+abbrev pub in_service : List ℕ → Key
+in_service key = (codes "Service", key)
 
-abbrev pub is_among : List ℕ → List (List ℕ) → Bool
-is_among text words = list_any (λ w. bytes_eq text w) words
+abbrev pub in_install : List ℕ → Key
+in_install key = (codes "Install", key)
 
--- the keys of [Unit]
-abbrev pub unit_keys : List (List ℕ)
-unit_keys =
-    codes "Description" ∷ codes "Documentation" ∷ codes "After" ∷ codes "Before" ∷ codes "Wants" ∷ codes "Requires" ∷ codes "BindsTo"
-    ∷ codes "PartOf" ∷ codes "Conflicts" ∷ codes "DefaultDependencies" ∷ codes "StartLimitIntervalSec" ∷ codes "StartLimitBurst" ∷ []
-
--- the keys of [Service]
-abbrev pub service_keys : List (List ℕ)
-service_keys =
-    codes "Type" ∷ codes "ExecStart" ∷ codes "ExecStop" ∷ codes "Environment" ∷ codes "RemainAfterExit" ∷ codes "Restart" ∷ codes "RestartSec"
-    ∷ codes "TimeoutStartSec" ∷ codes "TimeoutStopSec" ∷ codes "TimeoutSec" ∷ codes "SuccessExitStatus" ∷ codes "RestartPreventExitStatus"
-    ∷ codes "RestartForceExitStatus" ∷ codes "StartLimitInterval" ∷ codes "StartLimitBurst" ∷ []
-
--- the keys of [Install]
-abbrev pub install_keys : List (List ℕ)
-install_keys = codes "Alias" ∷ codes "WantedBy" ∷ codes "RequiredBy" ∷ codes "Also" ∷ codes "DefaultInstance" ∷ []
-
--- keys that no unit may have, in any section: a start that ignored one would do what its author didn't write
-abbrev pub refused_keys : List (List ℕ)
-refused_keys =
-    codes "User" ∷ codes "Group" ∷ codes "DynamicUser" ∷ codes "RootDirectory" ∷ codes "WorkingDirectory" ∷ codes "EnvironmentFile"
-    ∷ codes "ExecCondition" ∷ codes "ExecStartPre" ∷ codes "ExecStartPost" ∷ codes "ExecStopPost" ∷ codes "Requisite" ∷ codes "Upholds"
-    ∷ codes "OnFailure" ∷ codes "OnSuccess" ∷ []
-
-abbrev pub begins_with : List ℕ → List ℕ → Bool
-begins_with front text = starts_with nat_eq text front
-
--- a key of those, or one that begins with Condition or Assert
-abbrev pub is_refused_key : List ℕ → Bool
-is_refused_key key = is_among key refused_keys || begins_with (codes "Condition") key || begins_with (codes "Assert") key
-
--- a section or a key that isn't ours
-abbrev pub is_foreign : List ℕ → Bool
-is_foreign text = begins_with (codes "X-") text
-
--- [Unit] and [Install], and in a service [Service]
-abbrev pub is_known_section : Option Suffix → List ℕ → Bool
-is_known_section (Some Service) section = bytes_eq section (codes "Unit") || bytes_eq section (codes "Install") || bytes_eq section (codes "Service")
-is_known_section other section = bytes_eq section (codes "Unit") || bytes_eq section (codes "Install")
-
--- the keys of a known section
-abbrev pub keys_of : List ℕ → List (List ℕ)
-keys_of section =
-    if bytes_eq section (codes "Unit") then unit_keys else (if bytes_eq section (codes "Install") then install_keys else service_keys)
-
-abbrev pub is_known_key : List ℕ → List ℕ → Bool
-is_known_key section key = is_among key (keys_of section) || is_refused_key key
-
--- ---- settings and warnings
-
-abbrev pub value_in : List ℕ → List ℕ → Option (List ℕ) → Item → List (List ℕ)
-value_in section key (Some s) (Assignment k value line whole) = if bytes_eq s section && bytes_eq k key then value ∷ [] else []
-value_in section key (Some s) (Section name line) = []
-value_in section key (Some s) (Warned kind line) = []
-value_in section key None item = []
-
--- the values that a text gives to a key of a section, in order
-abbrev pub values_of : List ℕ → List ℕ → List Placed → List (List ℕ)
-values_of section key reading = flat_map (λ p. value_in section key p.section p.item) reading
-
--- a description can be read where it has no `%`: specifiers aren't expanded yet
-abbrev pub is_readable_description : List ℕ → Bool
-is_readable_description value = not (list_any (λ b. b == 37) value)
+-- ---- settings, each by its own rule over the one list of assignments
 
 -- the last one, or the default
 abbrev pub last_or : {A : Type 0} → A → List A → A
 last_or default [] = default
 last_or default (value ∷ values) = last_or value values
 
--- ---- commands: a value is split at whitespace, and what only quotes, escapes or variables could tell can't be read yet
+-- a single value: the last that can be read
+abbrev pub last_read : {A : Type 0} → (List ℕ → Option A) → A → List (List ℕ) → A
+last_read read default values = last_or default (filter_map read values)
 
--- `"`, `'`, `\`, `$`, `%` or `;`
-abbrev pub is_unserved_byte : ℕ → Bool
-is_unserved_byte b = b == 34 || b == 39 || b == 92 || b == 36 || b == 37 || b == 59
+-- a list that an empty value clears: all that the values behind the last empty one say
+abbrev pub since_empty : List (List ℕ) → List (List ℕ)
+since_empty values = after_last is_empty values
 
-abbrev pub begins_with_sign : List ℕ → Bool
-begins_with_sign [] = false
-begins_with_sign (b ∷ bs) = is_sign b
+abbrev pub said_in : {A : Type 0} → Reading (List A) → List A
+said_in (Ok said) = said
+said_in (Err warning) = []
 
-abbrev pub first_is_executable : List (List ℕ) → Bool
-first_is_executable [] = false
-first_is_executable (word ∷ words) = is_executable_word word
+-- everything that is named
+abbrev pub names_of : (List ℕ → Bool) → List ℕ → List (List ℕ) → List (List ℕ)
+names_of fits unit values = flat_map (names_said fits unit) values
 
--- the value of ExecStart= reads as a command: its first word can be run, and no byte in it means anything else than itself
-abbrev pub is_readable_command : List ℕ → Bool
-is_readable_command value = not (list_any is_unserved_byte value) && not (begins_with_sign value) && first_is_executable (words_in value)
+-- what other units the unit names, each list in order: as After=, Before=, Wants=, Requires=, BindsTo=, PartOf= and Conflicts=
+pub record Dependencies : Type 0 where
+  pub after : List (List ℕ)
+  pub before : List (List ℕ)
+  pub wants : List (List ℕ)
+  pub required : List (List ℕ)
+  pub binds_to : List (List ℕ)
+  pub part_of : List (List ℕ)
+  pub conflicts : List (List ℕ)
+  pub default_dependencies : Bool
 
-abbrev pub command_read : List ℕ → Command
-command_read value = record { words = words_in value; ignores_failure = false; substitutes = true }
+abbrev pub units_named : List ℕ → List ℕ → List Assigned → List (List ℕ)
+units_named key unit assigned = names_of is_unit_name unit (values_of (in_unit key ∷ []) assigned)
 
--- the commands of ExecStart=: an empty value takes back those before it
-abbrev pub start_commands : List Placed → List Command
-start_commands reading = each command_read (filter is_readable_command (after_last is_empty (values_of (codes "Service") (codes "ExecStart") reading)))
+unfoldable pub dependencies_of : List ℕ → List Assigned → Dependencies
+dependencies_of unit assigned = record {
+  after = units_named (codes "After") unit assigned;
+  before = units_named (codes "Before") unit assigned;
+  wants = units_named (codes "Wants") unit assigned;
+  required = units_named (codes "Requires") unit assigned;
+  binds_to = units_named (codes "BindsTo") unit assigned;
+  part_of = units_named (codes "PartOf") unit assigned;
+  conflicts = units_named (codes "Conflicts") unit assigned;
+  default_dependencies = last_read boolean_of true (values_of (in_unit (codes "DefaultDependencies") ∷ []) assigned);
+}
 
--- the words of Type= that are read so far
-abbrev pub kind_named : List ℕ → Option UnitKind
-kind_named value =
-    if bytes_eq value (codes "simple") then Some Simple
-    else (if bytes_eq value (codes "exec") then Some Exec
-    else (if bytes_eq value (codes "oneshot") then Some Oneshot else None))
+-- what enabling the unit makes
+pub record InstallSettings : Type 0 where
+  pub alias : List (List ℕ)
+  pub wanted_by : List (List ℕ)
+  pub required_by : List (List ℕ)
+  pub also : List (List ℕ)
+  pub default_instance : Option (List ℕ)
 
--- the kind of a service: by the last Type= that can be read, else simple
-abbrev pub service_kind : List Placed → UnitKind
-service_kind reading = last_or Simple (filter_map kind_named (values_of (codes "Service") (codes "Type") reading))
+abbrev pub nothing_installed : InstallSettings
+nothing_installed = record { alias = []; wanted_by = []; required_by = []; also = []; default_instance = None }
 
--- ---- settings
+-- another name of a unit has its suffix
+abbrev pub is_alias_for : List ℕ → List ℕ → Bool
+is_alias_for unit text = is_unit_name text && is_of_same_type unit text
 
--- what a unit's file sets: its description, and what it says of its processes
+-- an empty value gives the default back
+abbrev pub default_instance_in : List ℕ → Option (Option (List ℕ))
+default_instance_in value = if is_empty value then Some None else option_map Some (instance_in value)
+
+unfoldable pub install_settings_of : List ℕ → List Assigned → InstallSettings
+install_settings_of unit assigned = record {
+  alias = names_of (is_alias_for unit) unit (since_empty (values_of (in_install (codes "Alias") ∷ []) assigned));
+  wanted_by = names_of is_unit_name unit (since_empty (values_of (in_install (codes "WantedBy") ∷ []) assigned));
+  required_by = names_of is_unit_name unit (since_empty (values_of (in_install (codes "RequiredBy") ∷ []) assigned));
+  also = names_of is_unit_name unit (values_of (in_install (codes "Also") ∷ []) assigned);
+  default_instance = last_read default_instance_in None (values_of (in_install (codes "DefaultInstance") ∷ []) assigned);
+}
+
+-- what Type= says: a type that is served, or one that isn't; any other word can't be read
+pub data TypeSaid : Type 0 where
+  Unsaid : TypeSaid
+  Served : UnitKind → TypeSaid
+  Unserved : TypeSaid
+
+abbrev pub is_unserved_type : List ℕ → Bool
+is_unserved_type value =
+    list_any (λ word. bytes_eq value word) (codes "notify" ∷ codes "notify-reload" ∷ codes "dbus" ∷ codes "forking" ∷ codes "idle" ∷ [])
+
+unfoldable pub type_said : List ℕ → Option TypeSaid
+type_said value =
+    if bytes_eq value (codes "simple") then Some (Served Simple)
+    else (if bytes_eq value (codes "exec") then Some (Served Exec)
+    else (if bytes_eq value (codes "oneshot") then Some (Served Oneshot)
+    else (if is_unserved_type value then Some Unserved else None)))
+
+-- Type= of the unit
+abbrev pub type_of : List Assigned → TypeSaid
+type_of assigned = last_read type_said Unsaid (values_of (in_service (codes "Type") ∷ []) assigned)
+
+abbrev pub is_none_left : {A : Type 0} → List A → Bool
+is_none_left [] = true
+is_none_left (a ∷ others) = false
+
+-- simple where nothing is said and a command is left, oneshot where neither is given
+abbrev pub kind_by : TypeSaid → List Command → UnitKind
+kind_by Unsaid start = if is_none_left start then Oneshot else Simple
+kind_by (Served kind) start = kind
+kind_by Unserved start = Simple
+
+-- all commands of the setting with this key
+abbrev pub commands_of : List ℕ → List ℕ → List Assigned → List Command
+commands_of key unit assigned = flat_map (λ value. said_in (commands_reading unit value)) (since_empty (values_of (in_service key ∷ []) assigned))
+
+abbrev pub environment_of : List ℕ → List Assigned → List Variable
+environment_of unit assigned =
+    flat_map (λ value. said_in (environment_reading unit value)) (since_empty (values_of (in_service (codes "Environment") ∷ []) assigned))
+
+abbrev pub tells_any : List (End → Bool) → End → Bool
+tells_any sets end = list_any (λ set. set end) sets
+
+-- the ends that the setting's values tell
+abbrev pub exits_in : List ℕ → List Assigned → End → Bool
+exits_in key assigned = tells_any (filter_map exits_of (since_empty (values_of (in_service key ∷ []) assigned)))
+
+-- microseconds, or none where the span never ends
+abbrev pub micros_in : TimeSpan → Option ℕ
+micros_in Infinite = None
+micros_in (Micros n) = Some n
+
+-- a time-out of 0 never passes
+abbrev pub timeout_in : TimeSpan → Option ℕ
+timeout_in Infinite = None
+timeout_in (Micros n) = if n == 0 then None else Some n
+
+abbrev pub span_said : List ℕ → Option (Option ℕ)
+span_said value = option_map micros_in (span_of value)
+
+abbrev pub timeout_said : List ℕ → Option (Option ℕ)
+timeout_said value = option_map timeout_in (span_of value)
+
+-- a oneshot service may start as long as it likes
+abbrev pub default_timeout_start : UnitKind → Option ℕ
+default_timeout_start Oneshot = None
+default_timeout_start other = Some 90000000
+
+-- the settings of a service of this kind with these commands
+abbrev pub service_settings_with : List Command → UnitKind → List ℕ → List Assigned → ServiceSettings
+service_settings_with start kind unit assigned = record {
+  kind = kind;
+  start = start;
+  stop = commands_of (codes "ExecStop") unit assigned;
+  environment = environment_of unit assigned;
+  remains = last_read boolean_of false (values_of (in_service (codes "RemainAfterExit") ∷ []) assigned);
+  restart = last_read policy_named No (values_of (in_service (codes "Restart") ∷ []) assigned);
+  restart_delay = last_read span_said (Some 100000) (values_of (in_service (codes "RestartSec") ∷ []) assigned);
+  timeout_start = last_read timeout_said (default_timeout_start kind) (values_of (in_service (codes "TimeoutStartSec") ∷ in_service (codes "TimeoutSec") ∷ []) assigned);
+  timeout_stop = last_read timeout_said (Some 90000000) (values_of (in_service (codes "TimeoutStopSec") ∷ in_service (codes "TimeoutSec") ∷ []) assigned);
+  limit_interval = last_read span_said (Some 10000000) (values_of (in_unit (codes "StartLimitIntervalSec") ∷ in_service (codes "StartLimitInterval") ∷ []) assigned);
+  limit_burst = last_read number_of 5 (values_of (in_unit (codes "StartLimitBurst") ∷ in_service (codes "StartLimitBurst") ∷ []) assigned);
+  success = exits_in (codes "SuccessExitStatus") assigned;
+  prevents_restart = exits_in (codes "RestartPreventExitStatus") assigned;
+  forces_restart = exits_in (codes "RestartForceExitStatus") assigned;
+}
+
+-- of a unit that isn't a service, the list has no assignment in [Service]: it is a target in which the limit alone may be set
+unfoldable pub service_settings_of : Option Suffix → List ℕ → List Assigned → ServiceSettings
+service_settings_of (Some Service) unit assigned =
+    let start = commands_of (codes "ExecStart") unit assigned in service_settings_with start (kind_by (type_of assigned) start) unit assigned
+service_settings_of other unit assigned = service_settings_with [] Target unit assigned
+
+-- what a unit's files set: its description, what other units it names, what it says of its processes, and what enabling it makes
 pub record Settings : Type 0 where
   pub description : List ℕ
+  pub dependencies : Dependencies
   pub service : ServiceSettings
+  pub install : InstallSettings
 
-abbrev pub description_of : List Placed → List ℕ
-description_of reading = last_or [] (filter is_readable_description (values_of (codes "Unit") (codes "Description") reading))
+abbrev pub description_in : List ℕ → List ℕ → Option (List ℕ)
+description_in unit value = read_in (text_reading unit value)
 
--- a target has no processes
-abbrev pub service_settings_of : Option Suffix → List Placed → ServiceSettings
-service_settings_of (Some Service) reading = record (default_settings (service_kind reading)) { start = start_commands reading }
-service_settings_of other reading = default_settings Target
+abbrev pub settings_of : List ℕ → List Assigned → Settings
+settings_of unit assigned = record {
+  description = last_read (description_in unit) [] (values_of (in_unit (codes "Description") ∷ []) assigned);
+  dependencies = dependencies_of unit assigned;
+  service = service_settings_of (suffix_of unit) unit assigned;
+  install = install_settings_of unit assigned;
+}
 
-abbrev pub settings_of : Option Suffix → List Placed → Settings
-settings_of type reading = record { description = description_of reading; service = service_settings_of type reading }
+-- ---- settings that are refused
 
-abbrev pub is_description : List ℕ → List ℕ → Bool
-is_description section key = bytes_eq section (codes "Unit") && bytes_eq key (codes "Description")
+abbrev pub is_refused : Assigned → Bool
+is_refused a = is_refused_key a.key && not (is_empty a.value)
 
-abbrev pub is_start_command : List ℕ → List ℕ → Bool
-is_start_command section key = bytes_eq section (codes "Service") && bytes_eq key (codes "ExecStart")
+-- `setting` and the first key that no unit may have, where it is given a value
+abbrev pub refused_setting : List Assigned → Option (List ℕ)
+refused_setting assigned = option_map (λ a. codes "setting " ++ a.key) (find is_refused assigned)
 
--- a command that can't be read; the empty value takes commands back
-abbrev pub is_unreadable_command : List ℕ → List ℕ → List ℕ → Bool
-is_unreadable_command section key value = is_start_command section key && not (is_empty value) && not (is_readable_command value)
+abbrev pub is_unserved : TypeSaid → Bool
+is_unserved Unserved = true
+is_unserved other = false
 
--- an assignment in a known section: an unknown key, unless it is foreign; a command or a description that can't be read
-abbrev pub assignment_warning : List ℕ → List ℕ → List ℕ → Option WarningKind
-assignment_warning section key value =
-    if is_foreign key then None
-    else (if not (is_known_key section key) then Some UnknownKey
-    else (if is_unreadable_command section key value then Some UnreadableValue
-    else (if is_description section key && not (is_readable_description value) then Some UnreadableSpecifier else None)))
+-- a oneshot service has a command, or remains with a command to stop it
+abbrev pub lacks_command : ServiceSettings → Bool
+lacks_command s = is_none_left s.start && not (s.remains && not (is_none_left s.stop))
+
+-- any other service has exactly one
+abbrev pub has_wrong_count : UnitKind → ServiceSettings → Bool
+has_wrong_count Oneshot s = lacks_command s
+has_wrong_count other s = not (length s.start == 1)
+
+-- a oneshot service isn't started again after a success
+abbrev pub restarts_after_success : UnitKind → RestartPolicy → Bool
+restarts_after_success Oneshot Always = true
+restarts_after_success Oneshot OnSuccess = true
+restarts_after_success kind policy = false
+
+-- why a service can't be loaded, by its type, its commands and its restarts
+abbrev pub refused_service : Option Suffix → TypeSaid → ServiceSettings → Option (List ℕ)
+refused_service (Some Service) said s =
+    if is_unserved said then Some (codes "type")
+    else (if has_wrong_count s.kind s then Some (codes "exec-count")
+    else (if restarts_after_success s.kind s.restart then Some (codes "restart") else None))
+refused_service other said s = None
+
+-- the first reason why a unit can't be loaded
+abbrev pub reason_of : List ℕ → List Assigned → Option (List ℕ)
+reason_of unit assigned =
+    or_else (refused_setting assigned) (refused_service (suffix_of unit) (type_of assigned) (service_settings_of (suffix_of unit) unit assigned))
+
+-- ---- warnings
+
+-- the warning that a value of this kind gives
+unfoldable pub value_warning : List ℕ → ValueKind → List ℕ → Option WarningKind
+value_warning unit kind.Text value = warning_in (text_reading unit value)
+value_warning unit kind.Unused value = None
+value_warning unit kind.Units value = first_warning (names_reading is_unit_name unit value)
+value_warning unit kind.Aliases value = first_warning (names_reading (is_alias_for unit) unit value)
+value_warning unit kind.Instance value = warning_in (value_reading (instance_in value))
+value_warning unit kind.Truth value = warning_in (value_reading (boolean_of value))
+value_warning unit kind.Span value = warning_in (value_reading (span_of value))
+value_warning unit kind.Number value = warning_in (value_reading (number_of value))
+value_warning unit kind.Commands value = warning_in (commands_reading unit value)
+value_warning unit kind.Environment value = warning_in (environment_reading unit value)
+value_warning unit kind.Exits value = warning_in (value_reading (exits_of value))
+value_warning unit kind.Policy value = warning_in (value_reading (policy_named value))
+value_warning unit kind.ServiceType value = warning_in (value_reading (type_said value))
+value_warning unit kind.Refused value = None
+
+abbrev pub warning_by_kind : List ℕ → Option ValueKind → List ℕ → Option WarningKind
+warning_by_kind unit None value = Some UnknownKey
+warning_by_kind unit (Some kind) value = value_warning unit kind value
+
+-- an assignment in a known section: an unknown key, unless it is foreign, or a value that can't be read
+abbrev pub assignment_warning : List ℕ → List ℕ → List ℕ → List ℕ → Option WarningKind
+assignment_warning unit section key value = if is_foreign key then None else warning_by_kind unit (kind_of_key section key) value
 
 -- the head of a section: an unknown one, unless it is foreign
 abbrev pub head_warning : Option Suffix → List ℕ → Option WarningKind
 head_warning type name = if is_known_section type name || is_foreign name then None else Some UnknownSection
 
 -- the warning that an assignment gives; the lines of a section that isn't known give none
-abbrev pub warning_of_assignment : Option Suffix → Option (List ℕ) → List ℕ → List ℕ → Option WarningKind
-warning_of_assignment type None key value = None
-warning_of_assignment type (Some section) key value = if is_known_section type section then assignment_warning section key value else None
+abbrev pub warning_of_assignment : List ℕ → Option (List ℕ) → List ℕ → List ℕ → Option WarningKind
+warning_of_assignment unit None key value = None
+warning_of_assignment unit (Some section) key value =
+    if is_known_section (suffix_of unit) section then assignment_warning unit section key value else None
 
 -- a warning of the syntax stands, but for those in a section that isn't known
 abbrev pub warning_of_syntax : Option Suffix → Option (List ℕ) → WarningKind → Option WarningKind
-warning_of_syntax type None kind = Some kind
-warning_of_syntax type (Some section) kind = if is_known_section type section then Some kind else None
+warning_of_syntax type None warning = Some warning
+warning_of_syntax type (Some section) warning = if is_known_section type section then Some warning else None
 
--- the warning that an item gives in a unit of this type
-abbrev pub warning_of : Option Suffix → Option (List ℕ) → Item → Option WarningKind
-warning_of type section (Section name line) = head_warning type name
-warning_of type section (Assignment key value line whole) = warning_of_assignment type section key value
-warning_of type section (Warned kind line) = warning_of_syntax type section kind
+-- the warning that an item gives in a file of this unit
+abbrev pub warning_of : List ℕ → Option (List ℕ) → Item → Option WarningKind
+warning_of unit section (Section name line) = head_warning (suffix_of unit) name
+warning_of unit section (Assignment key value line whole) = warning_of_assignment unit section key value
+warning_of unit section (Warned warning line) = warning_of_syntax (suffix_of unit) section warning
 
 -- a warning of a unit: its kind, the path of the file and the line
 pub record Warning : Type 0 where
@@ -253,8 +372,12 @@ warnings_at path line None = []
 warnings_at path line (Some kind) = record { kind = kind; path = path; line = line } ∷ []
 
 -- the warnings of a file, by line
-abbrev pub warnings_of : Option Suffix → List ℕ → List Placed → List Warning
-warnings_of type path reading = flat_map (λ p. warnings_at path (line_number p.item) (warning_of type p.section p.item)) reading
+abbrev pub warnings_in : List ℕ → Source → List Warning
+warnings_in unit source = flat_map (λ p. warnings_at source.path (line_number p.item) (warning_of unit p.section p.item)) source.reading
+
+-- the warnings of a unit, by file in the order in which they are read
+abbrev pub warnings_of : List ℕ → List Source → List Warning
+warnings_of unit sources = flat_map (warnings_in unit) sources
 
 -- ---- loading
 
@@ -268,33 +391,43 @@ pub record LoadedUnit : Type 0 where
 -- what became of the look for a unit: it was found, is masked, isn't found, or has a setting that is refused, for this reason
 pub data Loading : Type 0 where
   Found : LoadedUnit → Loading
-  Masked : Loading
+  Masked : (unit : List ℕ) → Loading
   NotFound : Loading
-  BadSetting : (reason : List ℕ) → Loading
+  BadSetting : (unit reason : List ℕ) → Loading
 
--- a unit by its file
-abbrev pub unit_of_file : List ℕ → List ℕ → List Placed → LoadedUnit
-unit_of_file unit path reading = record { name = unit; path = Some path; settings = settings_of (suffix_of unit) reading; warnings = warnings_of (suffix_of unit) path reading }
+-- a unit by its files
+abbrev pub unit_by : List ℕ → Option (List ℕ) → List Source → LoadedUnit
+unit_by unit path sources = record { name = unit; path = path; settings = settings_of unit (assignments_in (suffix_of unit) sources); warnings = warnings_of unit sources }
 
--- shutdown.target is found even where nothing holds it
-abbrev pub unit_without_file : List ℕ → LoadedUnit
-unit_without_file unit = record { name = unit; path = None; settings = record { description = []; service = default_settings Target }; warnings = [] }
+abbrev pub found_unless : Option (List ℕ) → LoadedUnit → Loading
+found_unless None u = Found u
+found_unless (Some reason) u = BadSetting u.name reason
 
--- a service has exactly one command
-abbrev pub lacks_its_command : Option Suffix → List Placed → Bool
-lacks_its_command (Some Service) reading = not (length (start_commands reading) == 1)
-lacks_its_command other reading = false
+-- a unit with a file: found, unless a setting is refused
+abbrev pub loading_by_file : List ℕ → List ℕ → List Source → Loading
+loading_by_file unit path sources = found_unless (reason_of unit (assignments_in (suffix_of unit) sources)) (unit_by unit (Some path) sources)
 
--- a unit that was read: found, unless a setting is refused
-abbrev pub loading_of_file : List ℕ → List ℕ → List Placed → Loading
-loading_of_file unit path reading =
-    if lacks_its_command (suffix_of unit) reading then BadSetting (codes "exec-count") else Found (unit_of_file unit path reading)
+abbrev pub without_install : LoadedUnit → LoadedUnit
+without_install u = record u { settings = record u.settings { install = nothing_installed } }
 
-abbrev pub loading_at : List ℕ → Resolution → Loading
-loading_at unit (AtFile path text) = loading_of_file unit path (reading_of text)
-loading_at unit AtMask = Masked
-loading_at unit Nowhere = if bytes_eq unit (codes "shutdown.target") then Found (unit_without_file unit) else NotFound
+-- the sources of a unit
+abbrev pub sources_at : Tree → Resolution → List Source
+sources_at tree resolution = each source_of (files_at tree resolution)
+
+-- a unit that needs no file is found, whatever its drop-ins set; nothing in them enables it
+abbrev pub loading_at : Tree → Resolution → Loading
+loading_at tree (AtFile unit path text) = loading_by_file unit path (sources_at tree (AtFile unit path text))
+loading_at tree (AtNoFile unit) = Found (without_install (unit_by unit None (sources_at tree (AtNoFile unit))))
+loading_at tree (AtMask unit) = Masked unit
+loading_at tree Nowhere = NotFound
 
 -- the unit of that name in the tree: a function of the tree and the name
 unfoldable pub load : Tree → List ℕ → Loading
-load tree unit = loading_at unit (resolution_of tree unit)
+load tree unit = loading_at tree (resolution_of tree unit)
+
+-- the name that counts for the one that was asked for: the last one, or where it leads nowhere the name itself
+abbrev pub name_in : List ℕ → Loading → List ℕ
+name_in asked (Found u) = u.name
+name_in asked (Masked unit) = unit
+name_in asked NotFound = asked
+name_in asked (BadSetting unit reason) = unit

@@ -1,7 +1,7 @@
 -- What the values of settings mean: truth values, numbers, time spans, sets of exits, and when a service is started again.
 -- Follows systemd.syntax(7) in truth values, systemd.time(7), "Parsing Time Spans", and systemd.service(5) in `Restart=` and `SuccessExitStatus=`.
 -- Settings and the service table stand on this file.
-use Rattle.std.specs.Prelude.{◌≡◌, ℕ, ◌+◌, ◌-◌, ◌*◌, ◌^◌, ◌<◌, ◌≤◌, Bool, true, false, not, ◌&&◌, ◌||◌, ◌==◌, nat_le, nat_lt, List, [], ◌∷◌, length, drop, map, filter, take_while, codes, Option, Some, None, option_map, is_some, if◌then◌else◌}
+use Rattle.std.specs.Prelude.{◌≡◌, ℕ, zero, suc, ◌+◌, ◌-◌, ◌*◌, ◌^◌, ◌<◌, ◌≤◌, Bool, true, false, not, ◌&&◌, ◌||◌, ◌==◌, nat_le, nat_lt, List, [], ◌∷◌, length, drop, map, filter, take_while, codes, Option, Some, None, option_map, find, is_some, if◌then◌else◌}
 use Rattle.std.specs.List.{list_any, list_all, slice_split}
 use Rattle.std.specs.Char.{to_ascii_lowercase}
 use Rattle.std.specs.Str.{bytes_eq}
@@ -166,3 +166,54 @@ restart_text OnFailure = codes "on-failure"
 restart_text OnAbnormal = codes "on-abnormal"
 restart_text OnAbort = codes "on-abort"
 restart_text OnWatchdog = codes "on-watchdog"
+
+-- ---- the same as functions, for definitions that go on from a reading; the laws in proofs/ValuesLaws say that they tell the
+-- relations above
+
+-- the truth value that the text is a word for
+unfoldable pub boolean_of : List ℕ → Option Bool
+boolean_of text =
+    if list_any (is_same_in_any_case text) (words_for true) then Some true
+    else (if list_any (is_same_in_any_case text) (words_for false) then Some false else None)
+
+-- the number that the text spells, where it isn't too great
+unfoldable pub number_of : List ℕ → Option ℕ
+number_of text = if is_decimal text && nat_le (decimal text) number_limit then Some (decimal text) else None
+
+-- the microseconds that a number and a unit say
+abbrev pub time_of : List ℕ → List ℕ → Option ℕ
+time_of digits unit = if nat_lt 0 (length digits) then option_map (λ size. decimal digits * size) (unit_size unit) else None
+
+abbrev pub sum_of : Option ℕ → Option ℕ → Option ℕ
+sum_of None other = None
+sum_of (Some n) other = option_map (λ m. n + m) other
+
+-- what the parts of a text add up to, after so many bytes are skipped
+abbrev pub parts_of : ℕ → List ℕ → Option ℕ
+parts_of skip [] = Some 0
+parts_of (suc skip) (b ∷ bs) = parts_of skip bs
+parts_of zero (b ∷ bs) =
+    if is_space b then parts_of zero bs
+    else sum_of (time_of (digits_of (b ∷ bs)) (unit_of (b ∷ bs))) (parts_of (length bs - length (past_part (b ∷ bs))) bs)
+
+abbrev pub span_within : Option ℕ → Option TimeSpan
+span_within None = None
+span_within (Some n) = if nat_le n span_limit then Some (Micros n) else None
+
+-- the time span that the text says
+unfoldable pub span_of : List ℕ → Option TimeSpan
+span_of text =
+    if bytes_eq text (codes "infinity") then Some Infinite
+    else (if is_empty (trim_start text) then None else span_within (parts_of 0 text))
+
+-- the set of the ends that the text's words tell, where each of them tells one
+unfoldable pub exits_of : List ℕ → Option (End → Bool)
+exits_of text = if list_all is_exit (words_in text) then Some (tells_end text) else None
+
+-- all policies
+abbrev pub policies : List RestartPolicy
+policies = No ∷ Always ∷ OnSuccess ∷ OnFailure ∷ OnAbnormal ∷ OnAbort ∷ OnWatchdog ∷ []
+
+-- the policy of this name
+unfoldable pub policy_named : List ℕ → Option RestartPolicy
+policy_named text = find (λ policy. bytes_eq text (restart_text policy)) policies

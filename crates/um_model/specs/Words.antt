@@ -1,12 +1,12 @@
 -- A text as words, with quotes and escapes, and words as commands.
 -- Follows systemd.syntax(7), "Quoting", and systemd.service(5), "Command lines".
 -- Substitution and the settings of units stand on this file.
-use Rattle.std.specs.Prelude.{◌≡◌, ℕ, ◌+◌, ◌*◌, ◌-◌, Bool, true, false, not, ◌&&◌, ◌||◌, ◌==◌, nat_lt, nat_le, if◌then◌else◌, List, [], ◌∷◌, ◌++◌, length, map, take, drop, take_while, slice_index, Option, Some, None, is_none, bytes_eq}
+use Rattle.std.specs.Prelude.{◌≡◌, ℕ, zero, suc, ◌+◌, ◌*◌, ◌-◌, Bool, true, false, not, ◌&&◌, ◌||◌, ◌==◌, nat_lt, nat_le, if◌then◌else◌, List, [], ◌∷◌, ◌++◌, length, map, take, drop, take_while, slice_index, Option, Some, None, option_map, is_none, bytes_eq}
 use Rattle.std.specs.Char.{digit_value}
 use Rattle.std.specs.List.{list_all, list_any, flat_map, slice_split}
 use Rattle.um_model.specs.Ascii.{is_space}
 use Rattle.um_model.specs.declared.words.WordRules.{WordRules}
-use Rattle.um_model.specs.declared.words.WordRules.TheVariants.{Escaped, Plain}
+use Rattle.um_model.specs.declared.words.WordRules.TheVariants.{Escaped, Plain, Names}
 
 -- " and '
 abbrev pub is_quote : ℕ → Bool
@@ -75,19 +75,21 @@ abbrev pub bare : Option ℕ → ℕ → Spelling
 bare None b = if is_space b then Stop else (if is_quote b then Turn (Some b) else Kept 1)
 bare (Some quote) b = if b == quote then Turn None else Kept 1
 
--- the byte begins an escape: a backslash, but for a value
+-- the byte begins an escape: a backslash in a setting that is words, but not in a variable's value or a list of unit names
 abbrev pub begins_escape : WordRules → ℕ → Bool
 begins_escape Escaped b = b == 92
 begins_escape Plain b = false
+begins_escape Names b = false
 
 -- how the front of a text is spelled, inside this quote or none
 abbrev pub spelled_at : WordRules → Option ℕ → ℕ → List ℕ → Spelling
 spelled_at rules quote b bs = if begins_escape rules b then escape bs else bare quote b
 
--- a word may end with the text: outside quotes, and in a value anywhere
+-- a word may end with the text: outside quotes, and in a variable's value anywhere
 abbrev pub may_end : WordRules → Option ℕ → Bool
 may_end Escaped quote = is_none quote
 may_end Plain quote = true
+may_end Names quote = is_none quote
 
 -- inside this quote, or none, the text begins with spellings of the word's bytes up to the word's end, and then the rest
 pub data InWord (rules : WordRules) : Option ℕ → List ℕ → List ℕ → List ℕ → Type 0 where
@@ -170,3 +172,50 @@ AreCommands text commands = (spelled : List Word) × AreSpelled Escaped text spe
 abbrev pub is_executable_word : List ℕ → Bool
 is_executable_word [] = false
 is_executable_word (b ∷ bs) = b == 47 || not (list_any (λ c. c == 47) (b ∷ bs))
+
+-- The same as functions, for definitions that go on from a reading; the laws in proofs/WordsLaws say that they tell the relations
+-- above.
+
+-- these bytes, and then what is read
+abbrev pub with_front : List ℕ → Option (List ℕ × List ℕ) → Option (List ℕ × List ℕ)
+with_front bytes None = None
+with_front bytes (Some found) = Some (bytes ++ found.0, found.1)
+
+-- nothing is left
+abbrev pub at_end : WordRules → Option ℕ → Option (List ℕ × List ℕ)
+at_end rules quote = if may_end rules quote then Some ([], []) else None
+
+-- what is read, where the front is spelled so and what follows so many skipped bytes is read so
+abbrev pub by_spelling : Spelling → Option ℕ → ℕ → List ℕ → (ℕ → Option ℕ → Option (List ℕ × List ℕ)) → Option (List ℕ × List ℕ)
+by_spelling Stop quote b bs later = Some ([], b ∷ bs)
+by_spelling Bad quote b bs later = None
+by_spelling (Turn other) quote b bs later = later 0 other
+by_spelling (Means meaning n) quote b bs later = with_front (meaning ∷ []) (later (n - 1) quote)
+by_spelling (Kept n) quote b bs later = with_front (b ∷ take (n - 1) bs) (later (n - 1) quote)
+
+-- the word and what follows it, after so many bytes are skipped
+abbrev pub read : WordRules → ℕ → Option ℕ → List ℕ → Option (List ℕ × List ℕ)
+read rules skip quote [] = at_end rules quote
+read rules (suc skip) quote (b ∷ bs) = read rules skip quote bs
+read rules zero quote (b ∷ bs) = by_spelling (spelled_at rules quote b bs) quote b bs (λ n other. read rules n other bs)
+
+-- a word that was found at the front of a text, and the words that are read behind it, past so many bytes of what follows the first
+abbrev pub word_then : Option (List ℕ × List ℕ) → List ℕ → (ℕ → Option (List Word)) → Option (List Word)
+word_then None text later = None
+word_then (Some (value, rest)) text later =
+    option_map (λ words. record { spelling = before rest text; value = value } ∷ words) (later (length text - length rest - 1))
+
+-- the words of a text, after so many bytes are skipped
+abbrev pub read_words : WordRules → ℕ → List ℕ → Option (List Word)
+read_words rules skip [] = Some []
+read_words rules (suc skip) (b ∷ bs) = read_words rules skip bs
+read_words rules zero (b ∷ bs) =
+    if is_space b then read_words rules zero bs else word_then (read rules zero None (b ∷ bs)) (b ∷ bs) (λ n. read_words rules n bs)
+
+-- the words that the text reads as, where it can be read
+unfoldable pub words_of : WordRules → List ℕ → Option (List (List ℕ))
+words_of rules text = option_map values_of (read_words rules 0 text)
+
+-- the commands that the text reads as, where it can be read
+unfoldable pub commands_read : List ℕ → Option (List Command)
+commands_read text = option_map commands_of (read_words Escaped 0 text)

@@ -28,6 +28,6 @@ pub use service::{ActiveState, End, Signal, SubState, UnitResult, UnitState};
 pub use settings::{RestartPolicy, TimeSpan};
 pub use transition::{Around, Change, CommandList, Order, Process, StartJob, UnitEvent, UnitKind};
 pub use tree::Layer;
-pub use units::LoadState;
+pub use units::{LoadState, ValueKind};
 pub use warnings::WarningKind;
 pub use words::WordRules;

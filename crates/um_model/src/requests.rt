@@ -9,11 +9,14 @@ pub enum Mode {
 #[derive(Clone, Copy, Debug, PartialEq, Eq)]
 pub enum Verb {
     PutFile,
+    PutLink,
+    Remove,
     DaemonReload,
     Start,
     Stop,
     Show,
     IsActive,
+    Cat,
     Tick,
     End,
     Actions,

@@ -23,3 +23,36 @@ impl LoadState {
         }
     }
 }
+
+/// What kind of value a key of a unit file takes.
+#[derive(Clone, Copy, Debug, PartialEq, Eq)]
+pub enum ValueKind {
+    /// A text with specifiers.
+    Text,
+    /// Any text: it has no effect.
+    Unused,
+    /// Names of units.
+    Units,
+    /// Other names of the unit.
+    Aliases,
+    /// What an instance may be.
+    Instance,
+    /// A truth value.
+    Truth,
+    /// A time span.
+    Span,
+    /// A number.
+    Number,
+    /// Commands.
+    Commands,
+    /// Variables with their values.
+    Environment,
+    /// Ends of processes: exit codes and signals.
+    Exits,
+    /// When a service is started again.
+    Policy,
+    /// The type of a service.
+    ServiceType,
+    /// Any text: no unit may have the key with a value.
+    Refused,
+}

@@ -5,4 +5,6 @@ pub enum WordRules {
     Escaped,
     /// Those of a variable's value: a backslash stands for itself, and an unclosed quote reaches to the end.
     Plain,
+    /// Those of a list of unit names: a backslash stands for itself, and each quote must be closed.
+    Names,
 }

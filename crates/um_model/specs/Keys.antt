@@ -1,0 +1,76 @@
+-- The sections and keys of unit files, and what kind of value each key takes.
+-- Follows systemd.unit(5), "[Unit] Section Options" and "[Install] Section Options", and systemd.service(5), "Options".
+-- Settings and warnings stand on this file.
+use Rattle.std.specs.Prelude.{ℕ, Bool, true, false, ◌||◌, if◌then◌else◌, nat_eq, List, [], ◌∷◌, find, map, Option, Some, None, option_map, codes}
+use Rattle.std.specs.List.{list_any, starts_with}
+use Rattle.std.specs.Str.{bytes_eq}
+use Rattle.um_model.specs.declared.names.Suffix.{Suffix}
+use Rattle.um_model.specs.declared.names.Suffix.TheVariants.{Service}
+use Rattle.um_model.specs.declared.units.ValueKind.{ValueKind}
+use Rattle.um_model.specs.declared.units.ValueKind.TheVariants.{Text, Unused, Units, Aliases, Instance, Truth, Span, Number, Commands, Environment, Exits, Policy, ServiceType, Refused}
+
+-- a key with the kind of its values
+abbrev pub Keys : Type 0
+Keys = List (List ℕ × ValueKind)
+
+-- the keys of [Unit]
+abbrev pub unit_keys : Keys
+unit_keys =
+    (codes "Description", Text) ∷ (codes "Documentation", Unused) ∷ (codes "After", Units) ∷ (codes "Before", Units) ∷ (codes "Wants", Units)
+    ∷ (codes "Requires", Units) ∷ (codes "BindsTo", Units) ∷ (codes "PartOf", Units) ∷ (codes "Conflicts", Units)
+    ∷ (codes "DefaultDependencies", Truth) ∷ (codes "StartLimitIntervalSec", Span) ∷ (codes "StartLimitBurst", Number) ∷ []
+
+-- the keys of [Service]
+abbrev pub service_keys : Keys
+service_keys =
+    (codes "Type", ServiceType) ∷ (codes "ExecStart", Commands) ∷ (codes "ExecStop", Commands) ∷ (codes "Environment", Environment)
+    ∷ (codes "RemainAfterExit", Truth) ∷ (codes "Restart", Policy) ∷ (codes "RestartSec", Span) ∷ (codes "TimeoutStartSec", Span)
+    ∷ (codes "TimeoutStopSec", Span) ∷ (codes "TimeoutSec", Span) ∷ (codes "SuccessExitStatus", Exits)
+    ∷ (codes "RestartPreventExitStatus", Exits) ∷ (codes "RestartForceExitStatus", Exits) ∷ (codes "StartLimitInterval", Span)
+    ∷ (codes "StartLimitBurst", Number) ∷ []
+
+-- the keys of [Install]
+abbrev pub install_keys : Keys
+install_keys =
+    (codes "Alias", Aliases) ∷ (codes "WantedBy", Units) ∷ (codes "RequiredBy", Units) ∷ (codes "Also", Units) ∷ (codes "DefaultInstance", Instance) ∷ []
+
+-- keys that no unit may have, in any section: a start that ignored one would do what its author didn't write
+abbrev pub refused_keys : List (List ℕ)
+refused_keys =
+    codes "User" ∷ codes "Group" ∷ codes "DynamicUser" ∷ codes "RootDirectory" ∷ codes "WorkingDirectory" ∷ codes "EnvironmentFile"
+    ∷ codes "ExecCondition" ∷ codes "ExecStartPre" ∷ codes "ExecStartPost" ∷ codes "ExecStopPost" ∷ codes "Requisite" ∷ codes "Upholds"
+    ∷ codes "OnFailure" ∷ codes "OnSuccess" ∷ []
+
+abbrev pub begins_with : List ℕ → List ℕ → Bool
+begins_with front text = starts_with nat_eq text front
+
+-- a key of those, or one that begins with Condition or Assert
+abbrev pub is_refused_key : List ℕ → Bool
+is_refused_key key =
+    list_any (λ refused. bytes_eq key refused) refused_keys || begins_with (codes "Condition") key || begins_with (codes "Assert") key
+
+-- a section or a key that isn't ours
+abbrev pub is_foreign : List ℕ → Bool
+is_foreign text = begins_with (codes "X-") text
+
+-- [Unit] and [Install], and in a service [Service]
+abbrev pub is_known_section : Option Suffix → List ℕ → Bool
+is_known_section (Some Service) section = bytes_eq section (codes "Unit") || bytes_eq section (codes "Install") || bytes_eq section (codes "Service")
+is_known_section other section = bytes_eq section (codes "Unit") || bytes_eq section (codes "Install")
+
+-- the keys of a known section
+abbrev pub keys_of : List ℕ → Keys
+keys_of section =
+    if bytes_eq section (codes "Unit") then unit_keys else (if bytes_eq section (codes "Install") then install_keys else service_keys)
+
+-- the kind of a key's values among these keys
+abbrev pub kind_among : Keys → List ℕ → Option ValueKind
+kind_among keys key = option_map (λ entry. entry.1) (find (λ entry. bytes_eq key entry.0) keys)
+
+abbrev pub or_refused : List ℕ → Option ValueKind → Option ValueKind
+or_refused key (Some kind) = Some kind
+or_refused key None = if is_refused_key key then Some Refused else None
+
+-- the kind of a key's values in a known section, where the key is known
+unfoldable pub kind_of_key : List ℕ → List ℕ → Option ValueKind
+kind_of_key section key = or_refused key (kind_among (keys_of section) key)

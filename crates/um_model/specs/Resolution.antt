@@ -1,0 +1,186 @@
+-- Where a unit's name leads in a tree: by the layers, templates, masks and other names to its file, and to its drop-ins.
+-- Follows systemd.unit(5), "Unit File Load Path" and "Description" (aliases, templates, masks, drop-ins).
+-- Settings, `cat` and enabling stand on this file.
+use Rattle.std.specs.Prelude.{ℕ, zero, suc, Bool, true, false, if◌then◌else◌, List, [], ◌∷◌, ◌++◌, map as each, Option, Some, None, option_map, option_and_then, codes}
+use Rattle.std.specs.List.{flat_map, after_last}
+use Rattle.std.specs.Str.{bytes_eq}
+use Rattle.std.specs.FinMap as map
+use Rattle.std.specs.Cmp.Lexicographic.{slice_cmp}
+use Rattle.std.specs.Ordering.{nat_cmp}
+use Rattle.um_model.specs.Names.{suffix_of, suffix_text_of, instance_of, template_of, is_template, with_instance, named}
+use Rattle.um_model.specs.Tree.{Tree, Entry, File, Link, layer_text, is_slash, behind}
+use Rattle.um_model.specs.declared.names.Suffix.{Suffix}
+use Rattle.um_model.specs.declared.names.Suffix.TheVariants.{Service, Target}
+use Rattle.um_model.specs.declared.tree.Layer.{Layer}
+use Rattle.um_model.specs.declared.tree.Layer.TheVariants.{Etc, Run, Lib}
+
+-- ---- a unit's entry
+
+-- the first of two, where it is there
+abbrev pub or_else : {A : Type 0} → Option A → Option A → Option A
+or_else (Some a) other = Some a
+or_else None other = other
+
+-- the path of a unit in a layer
+abbrev pub unit_path : Layer → List ℕ → List ℕ
+unit_path layer unit = layer_text layer ++ unit
+
+-- what stands there, with the path
+abbrev pub held_in : Layer → Tree → List ℕ → Option (List ℕ × Entry)
+held_in layer tree unit = option_map (λ e. (unit_path layer unit, e)) (map.get tree (unit_path layer unit))
+
+-- the first layer that holds the unit counts
+abbrev pub first_held : Tree → List ℕ → Option (List ℕ × Entry)
+first_held tree unit = or_else (held_in Etc tree unit) (or_else (held_in Run tree unit) (held_in Lib tree unit))
+
+-- the unit that a link leads to: the last part of its target
+abbrev pub unit_in_target : List ℕ → List ℕ
+unit_in_target target = after_last is_slash target
+
+-- a link to the unit's own template stands for what the template is
+abbrev pub leads_to_template : Option (List ℕ) → Entry → Bool
+leads_to_template None entry = false
+leads_to_template (Some template) (File text) = false
+leads_to_template (Some template) (Link target) = bytes_eq (unit_in_target target) template
+
+abbrev pub unless_to_template : Option (List ℕ) → Option (List ℕ × Entry) → Option (List ℕ × Entry)
+unless_to_template template None = None
+unless_to_template template (Some found) = if leads_to_template template found.1 then None else Some found
+
+-- the unit's own entry, or else that of its template
+abbrev pub held : Tree → List ℕ → Option (List ℕ × Entry)
+held tree unit = or_else (unless_to_template (template_of unit) (first_held tree unit)) (option_and_then (first_held tree) (template_of unit))
+
+-- ---- where a name leads
+
+-- to the file of a unit, which isn't empty; to a unit that needs no file; to a masked unit; or nowhere
+pub data Resolution : Type 0 where
+  AtFile : (unit path text : List ℕ) → Resolution
+  AtNoFile : (unit : List ℕ) → Resolution
+  AtMask : (unit : List ℕ) → Resolution
+  Nowhere : Resolution
+
+-- of the types of units, services and targets are served
+abbrev pub is_served_type : Option Suffix → Bool
+is_served_type (Some Service) = true
+is_served_type (Some Target) = true
+is_served_type other = false
+
+-- shutdown.target is found even where nothing holds it
+abbrev pub needs_no_file : List ℕ → Bool
+needs_no_file unit = bytes_eq unit (codes "shutdown.target")
+
+-- a link to this masks its unit
+abbrev pub is_mask : List ℕ → Bool
+is_mask target = bytes_eq target (codes "/dev/null")
+
+-- both names have the same suffix
+abbrev pub is_of_same_type : List ℕ → List ℕ → Bool
+is_of_same_type unit other = bytes_eq (suffix_text_of (suffix_of unit)) (suffix_text_of (suffix_of other))
+
+abbrev pub of_same_type : List ℕ → Option (List ℕ) → Option (List ℕ)
+of_same_type unit None = None
+of_same_type unit (Some other) = if is_of_same_type unit other then Some other else None
+
+-- a template takes the instance of the name that leads to it, where there is one
+abbrev pub with_instance_of : Option (List ℕ) → List ℕ → List ℕ
+with_instance_of None other = other
+with_instance_of (Some instance) other = if is_template other then with_instance other instance else other
+
+-- one hop: the name that a link leads on to, which has the same suffix
+abbrev pub next_name : List ℕ → List ℕ → Option (List ℕ)
+next_name unit target = of_same_type unit (named (with_instance_of (instance_of unit) (unit_in_target target)))
+
+-- where a hop goes on, if it does
+abbrev pub followed : Option (List ℕ) → (List ℕ → Resolution) → Resolution
+followed None follow = Nowhere
+followed (Some other) follow = follow other
+
+-- where a name leads by what holds it: an empty file and a link to `/dev/null` mask, any other link leads on
+abbrev pub resolution_at : List ℕ → Option (List ℕ × Entry) → (List ℕ → Resolution) → Resolution
+resolution_at unit None follow = if needs_no_file unit then AtNoFile unit else Nowhere
+resolution_at unit (Some (path, File [])) follow = AtMask unit
+resolution_at unit (Some (path, File (b ∷ bs))) follow = AtFile unit path (b ∷ bs)
+resolution_at unit (Some (path, Link target)) follow = if is_mask target then AtMask unit else followed (next_name unit target) follow
+
+-- where a name leads by so many hops at most
+abbrev pub resolved : ℕ → Tree → List ℕ → Resolution
+resolved zero tree unit = resolution_at unit (held tree unit) (λ other. Nowhere)
+resolved (suc hops) tree unit = resolution_at unit (held tree unit) (resolved hops tree)
+
+abbrev pub hop_limit : ℕ
+hop_limit = 8
+
+-- where the name leads
+unfoldable pub resolution_of : Tree → List ℕ → Resolution
+resolution_of tree unit = if is_served_type (suffix_of unit) then resolved hop_limit tree unit else Nowhere
+
+-- the name that counts for the one that was asked for: the last one, or where it leads nowhere the name itself
+abbrev pub name_at : List ℕ → Resolution → List ℕ
+name_at asked (AtFile unit path text) = unit
+name_at asked (AtNoFile unit) = unit
+name_at asked (AtMask unit) = unit
+name_at asked Nowhere = asked
+
+-- ---- drop-ins
+
+-- a drop-in: its name in its folder, its path and its text
+pub record DropIn : Type 0 where
+  pub file : List ℕ
+  pub path : List ℕ
+  pub text : List ℕ
+
+-- a layer's folder of drop-ins of a unit
+abbrev pub drop_in_folder : List ℕ → Layer → List ℕ
+drop_in_folder unit layer = layer_text layer ++ (unit ++ codes ".d/")
+
+abbrev pub folders_of : List ℕ → List (List ℕ)
+folders_of unit = each (drop_in_folder unit) (Etc ∷ Run ∷ Lib ∷ [])
+
+abbrev pub folders_of_template : Option (List ℕ) → List (List ℕ)
+folders_of_template None = []
+folders_of_template (Some template) = folders_of template
+
+-- the folders of drop-ins, of equal files the earlier counts: the unit's own, and then its template's
+abbrev pub drop_in_folders : List ℕ → List (List ℕ)
+drop_in_folders unit = folders_of unit ++ folders_of_template (template_of unit)
+
+abbrev pub drop_in_named : Option (List ℕ) → List ℕ × Entry → List DropIn
+drop_in_named None held = []
+drop_in_named (Some file) (path, File text) = record { file = file; path = path; text = text } ∷ []
+drop_in_named (Some file) (path, Link target) = []
+
+-- the drop-in that an entry of the tree is, where it is a file in the folder
+abbrev pub drop_in_at : List ℕ → List ℕ × Entry → List DropIn
+drop_in_at folder held = drop_in_named (behind folder held.0) held
+
+abbrev pub drop_ins_in : Tree → List ℕ → List DropIn
+drop_ins_in tree folder = flat_map (drop_in_at folder) (map.entries tree)
+
+abbrev pub by_file : DropIn → List ℕ × DropIn
+by_file d = (d.file, d)
+
+-- drop-ins by their files' names; of equal ones the first counts
+abbrev pub drop_ins_by_file : List DropIn → map.FinMap (slice_cmp nat_cmp) DropIn
+drop_ins_by_file drop_ins = map.from_entries (each by_file drop_ins)
+
+-- the drop-ins of a unit, by the names of their files, whatever layer they lie in
+unfoldable pub drop_ins_of : Tree → List ℕ → List DropIn
+drop_ins_of tree unit = map.values (drop_ins_by_file (flat_map (drop_ins_in tree) (drop_in_folders unit)))
+
+-- ---- files
+
+-- a file of a unit: its path and its text
+pub record UnitFile : Type 0 where
+  pub path : List ℕ
+  pub text : List ℕ
+
+abbrev pub file_of_drop_in : DropIn → UnitFile
+file_of_drop_in d = record { path = d.path; text = d.text }
+
+-- the files of a unit in the order in which they are read: its own and then its drop-ins
+abbrev pub files_at : Tree → Resolution → List UnitFile
+files_at tree (AtFile unit path text) = record { path = path; text = text } ∷ each file_of_drop_in (drop_ins_of tree unit)
+files_at tree (AtNoFile unit) = each file_of_drop_in (drop_ins_of tree unit)
+files_at tree (AtMask unit) = []
+files_at tree Nowhere = []
