@@ -2,7 +2,7 @@
 
 ghost use Rattle.std.specs.Prelude.{◌≡◌, Bool, IfSome, IfNone};
 ghost use Rattle.std.specs.List.{list_any};
-ghost use Rattle.um_model.specs.Values.{IsBoolean, is_same_in_any_case};
+ghost use Rattle.um_model.specs.Values.{IsBoolean, boolean_of, is_same_in_any_case};
 
 const YES: [&str; 6] = ["1", "yes", "true", "on", "y", "t"];
 
@@ -26,6 +26,7 @@ fn is_one_of(words: &[&str], text: &str) -> bool
 pub fn boolean(text: &str) -> Option<bool>
     ensures found { IfSome result (λ b. IsBoolean text.now b) }
     ensures none { IfNone result ((b : Bool) → ¬ (IsBoolean text.now b)) }
+    ensures same { result ≡ boolean_of text.now }
 {
     if is_one_of(&YES, text) {
         Some(true)

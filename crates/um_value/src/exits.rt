@@ -1,14 +1,25 @@
 //! Sets of exits.
 
-ghost use Rattle.std.specs.Prelude.{◌≡◌, ◌||◌, ◌<◌, true, false, Some, Bool, IfSome, IfNone, ℕ};
+ghost use Rattle.std.specs.Prelude.{◌≡◌, ◌||◌, ◌<◌, true, false, Some, Bool, IfSome, IfNone, option_map, ℕ, length, slice_index_or};
 ghost use Rattle.std.specs.Str.{bytes_eq};
-ghost use Rattle.um_model.specs.Values.{signal_number, exit_of, is_end, IsExitSet};
+ghost use Rattle.um_model.specs.Values.{signal_number, exit_of, is_end, IsExitSet, exits_of};
 ghost use Rattle.um_model.specs.declared.service.End as ends;
 ghost use Rattle.um_value.specs.ExitSet.{holds, fits};
 
 use crate::numbers::{decimal, is_decimal};
 use um_model::End;
 use um_text::Class;
+
+/// What is in either of two sets of as many places.
+fn add_all(set: &mut [bool], other: &[bool])
+    requires { length set.old ≡ length other.now }
+    ensures same_length { length set.new ≡ length set.old }
+    ensures either { (i : ℕ) → slice_index_or set.new i false ≡ (slice_index_or set.old i false || slice_index_or other.now i false) }
+{
+    for (place, more) in set.iter_mut().zip(other) {
+        *place = *place || *more;
+    }
+}
 
 /// A set of ends of processes: exit codes, and signals from 1 to 15.
 #[derive(Clone, Copy, Debug, PartialEq, Eq)]
@@ -43,6 +54,14 @@ impl ExitSet {
                 .unwrap_or(false),
             End::Lost => false,
         }
+    }
+
+    /// Puts the ends of another set into this one.
+    pub fn add(&mut self, other: &ExitSet)
+        ensures { (end : ends.End) → holds self.new end ≡ (holds self.old end || holds other.now end) }
+    {
+        add_all(&mut self.codes, &other.codes);
+        add_all(&mut self.signals, &other.signals);
     }
 
     /// Puts the end into the set.
@@ -135,6 +154,7 @@ fn exit_of(word: &[u8]) -> Option<End>
 pub fn exit_set(text: &str) -> Option<ExitSet>
     ensures found { IfSome result (λ set. IsExitSet text.now (holds set)) }
     ensures none { IfNone result ((set : ends.End → Bool) → ¬ (IsExitSet text.now set)) }
+    ensures same { option_map holds result ≡ exits_of text.now }
 {
     let mut set = ExitSet::empty();
     let pieces = text.as_bytes().split(|b| Class::Space.contains(*b));

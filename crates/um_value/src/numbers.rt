@@ -3,7 +3,7 @@
 ghost use Rattle.std.specs.Prelude.{◌≡◌, ◌<◌, ◌≤◌, ◌^◌, ℕ, MatchOption, IfSome, IfNone};
 ghost use Rattle.std.specs.List.{list_all};
 ghost use Rattle.um_model.specs.Ascii.{is_digit};
-ghost use Rattle.um_model.specs.Values.{decimal, is_decimal, IsNumber};
+ghost use Rattle.um_model.specs.Values.{decimal, is_decimal, IsNumber, number_of};
 
 /// The greatest number that `decimal` reads.
 const LIMIT: u64 = 1 << 62;
@@ -41,6 +41,7 @@ pub fn is_decimal(text: &[u8]) -> bool
 pub fn number(text: &str) -> Option<u32>
     ensures found { IfSome result (λ n. IsNumber text.now n) }
     ensures none { IfNone result ((n : ℕ) → ¬ (IsNumber text.now n)) }
+    ensures same { result ≡ number_of text.now }
 {
     if !is_decimal(text.as_bytes()) {
         return None;

@@ -1,7 +1,7 @@
 //! Restart policies.
 
 ghost use Rattle.std.specs.Prelude.{◌≡◌, IfSome, IfNone};
-ghost use Rattle.um_model.specs.Values.{restart_text};
+ghost use Rattle.um_model.specs.Values.{restart_text, policy_named};
 ghost use Rattle.um_model.specs.declared.settings.RestartPolicy as policies;
 
 use um_model::RestartPolicy;
@@ -21,6 +21,7 @@ const POLICIES: [RestartPolicy; 7] = [
 pub fn restart(text: &str) -> Option<RestartPolicy>
     ensures found { IfSome result (λ policy. restart_text policy ≡ text.now) }
     ensures none { IfNone result ((policy : policies.RestartPolicy) → ¬ (restart_text policy ≡ text.now)) }
+    ensures same { result ≡ policy_named text.now }
 {
     POLICIES
         .iter()

@@ -2,7 +2,7 @@
 
 ghost use Rattle.std.specs.Prelude.{◌≡◌, ◌+◌, ◌<◌, ◌≤◌, ◌^◌, ℕ, length, IfSome, IfNone};
 ghost use Rattle.std.specs.Str.{bytes_eq};
-ghost use Rattle.um_model.specs.Values.{IsTime, IsSpan, unit_size, digits_of, unit_of, past_part};
+ghost use Rattle.um_model.specs.Values.{IsTime, IsSpan, span_of, unit_size, digits_of, unit_of, past_part};
 ghost use Rattle.um_model.specs.declared.settings.TimeSpan as spans;
 ghost use Rattle.um_model.specs.declared.settings.TimeSpan.TheVariants.{Micros};
 
@@ -116,6 +116,7 @@ fn sum_of_parts(text: &str) -> Option<u64>
 pub fn span(text: &str) -> Option<TimeSpan>
     ensures found { IfSome result (λ span. IsSpan text.now span) }
     ensures none { IfNone result ((span : spans.TimeSpan) → ¬ (IsSpan text.now span)) }
+    ensures same { result ≡ span_of text.now }
 {
     if text == "infinity" {
         return Some(TimeSpan::Infinite);

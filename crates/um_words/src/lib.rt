@@ -17,6 +17,6 @@ pub use laws::{
     a_substitution_has_one_result, commands_have_one_reading, each_value_has_words,
     words_have_one_reading,
 };
-pub use splitting::words;
+pub use splitting::{names, words};
 pub use substitution::substitute;
 pub use variables::Variable;

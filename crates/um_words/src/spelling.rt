@@ -46,7 +46,7 @@ pub fn begins_escape(rules: WordRules, b: u8) -> bool
 {
     match rules {
         WordRules::Escaped => b == b'\\',
-        WordRules::Plain => false,
+        WordRules::Plain | WordRules::Names => false,
     }
 }
 

@@ -1,8 +1,8 @@
 //! The words of a text.
 
-ghost use Rattle.std.specs.Prelude.{◌≡◌, ℕ, List, IfOk, MatchOption, map, string_bytes};
-ghost use Rattle.um_model.specs.Words.{Word, AreSpelled, AreWords};
-ghost use Rattle.um_model.specs.declared.words.WordRules.TheVariants.{Escaped};
+ghost use Rattle.std.specs.Prelude.{◌≡◌, ℕ, List, IfOk, MatchOption, map, option_map, string_bytes};
+ghost use Rattle.um_model.specs.Words.{Word, AreSpelled, AreWords, words_of};
+ghost use Rattle.um_model.specs.declared.words.WordRules.TheVariants.{Escaped, Names};
 ghost use Rattle.um_words.specs.Views.{word_of};
 
 use crate::spelling::is_space;
@@ -37,17 +37,14 @@ pub fn spelled<'a>(
     Ok(Some(words))
 }
 
-/// The words of a setting, split at spaces and tabs. `"` and `'` quote, and may open anywhere in a word. Inside quotes and
-/// outside, `\a \b \f \n \r \t \v \\ \" \'` mean what they do in C, `\s` a space and `\x01` to `\x7f` the byte of that
-/// number; any other backslash stays, with the character behind it. None for an unclosed quote, `\x` and two hexadecimal
-/// digits of another number, `\` and three octal digits, `\u` and four or `\U` and eight hexadecimal digits
-/// (systemd.syntax(7), "Quoting").
-pub fn words(alloc: Global, text: &str) -> Result<Option<Vec<String>>, AllocError>
-    ensures { IfOk result (λ r. MatchOption r
-        ((words : List (List ℕ)) → ¬ (AreWords Escaped text.now words))
-        (λ words. AreWords Escaped text.now (map string_bytes words.items))) }
+/// The words of a text by these rules; None where the text can't be read.
+fn words_by(alloc: Global, rules: WordRules, text: &str) -> Result<Option<Vec<String>>, AllocError>
+    ensures read { IfOk result (λ r. MatchOption r
+        ((words : List (List ℕ)) → ¬ (AreWords rules text.now words))
+        (λ words. AreWords rules text.now (map string_bytes words.items))) }
+    ensures same { IfOk result (λ r. option_map (λ words. map string_bytes words.items) r ≡ words_of rules text.now) }
 {
-    let Some(spelled) = spelled(alloc, WordRules::Escaped, text)? else {
+    let Some(spelled) = spelled(alloc, rules, text)? else {
         return Ok(None);
     };
     let mut words = Vec::new(alloc);
@@ -55,4 +52,29 @@ pub fn words(alloc: Global, text: &str) -> Result<Option<Vec<String>>, AllocErro
         words.push(word.value)?;
     }
     Ok(Some(words))
+}
+
+/// The words of a setting, split at spaces and tabs. `"` and `'` quote, and may open anywhere in a word. Inside quotes and
+/// outside, `\a \b \f \n \r \t \v \\ \" \'` mean what they do in C, `\s` a space and `\x01` to `\x7f` the byte of that
+/// number; any other backslash stays, with the character behind it. None for an unclosed quote, `\x` and two hexadecimal
+/// digits of another number, `\` and three octal digits, `\u` and four or `\U` and eight hexadecimal digits
+/// (systemd.syntax(7), "Quoting").
+pub fn words(alloc: Global, text: &str) -> Result<Option<Vec<String>>, AllocError>
+    ensures read { IfOk result (λ r. MatchOption r
+        ((words : List (List ℕ)) → ¬ (AreWords Escaped text.now words))
+        (λ words. AreWords Escaped text.now (map string_bytes words.items))) }
+    ensures same { IfOk result (λ r. option_map (λ words. map string_bytes words.items) r ≡ words_of Escaped text.now) }
+{
+    words_by(alloc, WordRules::Escaped, text)
+}
+
+/// The words of a list of unit names: `"` and `'` quote, and each backslash stays as it is written. None for an unclosed quote
+/// (systemd.unit(5)).
+pub fn names(alloc: Global, text: &str) -> Result<Option<Vec<String>>, AllocError>
+    ensures read { IfOk result (λ r. MatchOption r
+        ((words : List (List ℕ)) → ¬ (AreWords Names text.now words))
+        (λ words. AreWords Names text.now (map string_bytes words.items))) }
+    ensures same { IfOk result (λ r. option_map (λ words. map string_bytes words.items) r ≡ words_of Names text.now) }
+{
+    words_by(alloc, WordRules::Names, text)
 }

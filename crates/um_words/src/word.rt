@@ -44,7 +44,7 @@ fn may_end(rules: WordRules, quote: Option<u8>) -> bool
     ensures { result ≡ may_end rules quote }
 {
     match rules {
-        WordRules::Escaped => quote.is_none(),
+        WordRules::Escaped | WordRules::Names => quote.is_none(),
         WordRules::Plain => true,
     }
 }
