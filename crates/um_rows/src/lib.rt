@@ -17,3 +17,5 @@ mod one_service;
 mod refusals;
 #[cfg(test)]
 mod script;
+#[cfg(test)]
+mod unit_files;
