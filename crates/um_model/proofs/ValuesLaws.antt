@@ -1,5 +1,5 @@
 -- The laws of values: at most one reading of each kind, and the steps of a sum of parts.
-use Rattle.std.proofs.Common.{◌≡◌, ◌<◌, ◌≤◌, ℕ, zero, suc, ◌+◌, ◌-◌, ◌*◌, Bool, true, false, ◌&&◌, ◌||◌, not, cond, eqb, leb, List, [], ◌∷◌, ◌++◌, length, take, drop, map, Option, Some, None, option_map, find, inl, inr, refl, sym, ap, subst, ◌∙◌, codes, append_assoc, arith}
+use Rattle.std.proofs.Common.{◌≡◌, ◌<◌, ◌≤◌, ℕ, zero, suc, ◌+◌, ◌-◌, ◌*◌, Bool, true, false, ◌&&◌, not, cond, eqb, leb, List, [], ◌∷◌, ◌++◌, length, take, drop, map, Option, Some, None, option_map, find, inl, inr, refl, sym, ap, subst, ◌∙◌, codes, append_assoc, arith}
 use Rattle.std.specs.Prelude.{nat_lt}
 use Rattle.std.specs.Char.{to_ascii_lowercase}
 use Rattle.std.specs.List.{list_any, list_all}
@@ -13,7 +13,7 @@ use Rattle.std.proofs.lemmas.Bool.{cases_Bool, cond-true, cond-false, and_from, 
 use Rattle.std.proofs.lemmas.Slice.Eq.{bytes_eq-Decides}
 use Rattle.um_model.specs.Ascii.{is_space, is_digit}
 use Rattle.um_model.specs.Text.{trim_start, is_empty}
-use Rattle.um_model.specs.Values.{words_for, is_same_in_any_case, IsBoolean, boolean_of, decimal, is_decimal, number_limit, IsNumber, number_of, unit_size, digits_of, past_digits, unit_of, past_part, IsTime, AddUpTo, nothing, space, part, span_limit, IsSpan, time_of, sum_of, parts_of, span_within, span_of, words_in, tells_end, is_exit, IsExitSet, exits_of, restart_text, policies, policy_named}
+use Rattle.um_model.specs.Values.{words_for, is_same_in_any_case, IsBoolean, boolean_of, decimal, is_decimal, number_limit, IsNumber, number_of, unit_size, digits_of, unit_of, past_part, IsTime, AddUpTo, nothing, space, part, span_limit, IsSpan, time_of, sum_of, parts_of, span_within, span_of, words_in, tells_end, is_exit, IsExitSet, exits_of, restart_text, policies, policy_named}
 use Rattle.um_model.specs.declared.service.End.{End}
 use Rattle.um_model.specs.declared.settings.RestartPolicy.{RestartPolicy}
 use Rattle.um_model.specs.declared.settings.RestartPolicy.TheVariants.{No, Always, OnSuccess, OnFailure, OnAbnormal, OnAbort, OnWatchdog}
@@ -71,41 +71,8 @@ trim_start-trim_start (b ∷ bs) = elim (cases_Bool (is_space b)) [
   | inr other ↦ ap trim_start (cond-false (is_space b) (trim_start bs) (b ∷ bs) other)
 ]
 
-sum-nil : (text : List ℕ) (n : ℕ) → length text ≡ 0 → AddUpTo text n → n ≡ 0
-sum-nil text n none nothing = refl
-sum-nil text n none (space b more m white sum) = absurd (omega arith)
-sum-nil [] n none (part text first m time sum) = absurd (omega (arith, time.some))
-sum-nil (b ∷ bs) n none (part text first m time sum) = absurd (omega arith)
-
-sum-space : (b : ℕ) (bs : List ℕ) (n : ℕ) → is_space b ≡ true → AddUpTo (b ∷ bs) n → AddUpTo bs n
-sum-space b bs n white (space c more m other sum) = sum
-sum-space b bs n white (part text first m time sum) = absurd (no_space_first b bs time.some white)
-
-sum-part : (text : List ℕ) (n : ℕ) → 0 < length (digits_of text) → AddUpTo text n
-    → (first : ℕ) × (m : ℕ) × IsTime (digits_of text) (unit_of text) first × AddUpTo (past_part text) m × (n ≡ first + m)
-sum-part text n some nothing = absurd (omega arith)
-sum-part text n some (space b more m white sum) = absurd (no_space_first b more some white)
-sum-part text n some (part t first m time sum) = (first, m, time, sum, refl)
-
--- parts add up to one time
-pub one_sum : (text : List ℕ) (a b : ℕ) → AddUpTo text a → AddUpTo text b → a ≡ b
-one_sum text a b nothing other = sym (sum-nil [] b refl other)
-one_sum text a b (space c more m white sum) other = one_sum more m b sum (sum-space c more b white other)
-one_sum text a b (part t first m time sum) other =
-    let q = sum-part text b time.some other in
-    let same : first ≡ q.0 = one_time (digits_of text) (unit_of text) first q.0 time q.2 in
-    let rest : m ≡ q.1 = one_sum (past_part text) m q.1 sum q.3 in
-    omega (arith, q.4)
-
 no_sum : (n : ℕ) → AddUpTo (codes "infinity") n → ⊥
 no_sum n sum = let q = sum-first (codes "infinity") n refl refl sum in omega (arith, q.2.some)
-
--- a text is one time span at most
-pub one_span : (text : List ℕ) (a b : TimeSpan) → IsSpan text a → IsSpan text b → a ≡ b
-one_span text Infinite Infinite p q = refl
-one_span text Infinite (Micros n) p q = absurd (no_sum n (subst (λ x. AddUpTo x n) p q.1))
-one_span text (Micros m) Infinite p q = absurd (no_sum m (subst (λ x. AddUpTo x m) q p.1))
-one_span text (Micros m) (Micros n) p q = ap Micros (one_sum text m n p.1 q.1)
 
 -- The same as functions.
 
@@ -316,3 +283,7 @@ span_by text false false span is some e =
 pub IsSpan-span_of : (text : List ℕ) (span : TimeSpan) → span_of text ≡ Some span → IsSpan text span
 unfolding span_of
 IsSpan-span_of text span e = span_by text _ _ span refl refl e
+
+-- a text is one time span at most
+pub one_span : (text : List ℕ) (a b : TimeSpan) → IsSpan text a → IsSpan text b → a ≡ b
+one_span text a b p q = same_Some a b (sym (span_of-IsSpan text a p) ∙ span_of-IsSpan text b q)
