@@ -5,9 +5,11 @@ use Rattle.std.specs.Str.{is_utf8}
 use Rattle.std.proofs.lemmas.List.Sums.{suffix_len_is}
 use Rattle.std.proofs.lemmas.Bool.{cases_Bool, cond-true, cond-false, ne_eqb, eq-eqb, true≢false}
 use Rattle.std.proofs.lemmas.Str.{IsUtf8-from_is_utf8, is_utf8-from_IsUtf8}
+use Rattle.um_model.specs.Finds.{Finds}
 use Rattle.um_model.specs.Names.{unescape_front}
 use Rattle.um_model.specs.Pieces.{Gives, StandsForText, reading}
 use Rattle.um_model.specs.Specifiers.{IsUnescaped, IsExpanded, instance_or_empty, specifier_front, as_text, unescaped_of, expanded_of}
+use Rattle.um_model.proofs.FindsLaws.{one_found}
 use Rattle.um_model.proofs.PiecesLaws.{one_reading, no_reading, reading-StandsForText, StandsForText-reading}
 
 -- there is one unescaped text at most, or none
@@ -16,12 +18,6 @@ one_unescaped escaped (Some a) (Some b) p q = ap Some (one_reading unescape_fron
 one_unescaped escaped (Some a) None p q = absurd (q a p.0 p.1)
 one_unescaped escaped None (Some b) p q = absurd (p b q.0 q.1)
 one_unescaped escaped None None p q = refl
-
--- a text stands for one other at most
-pub one_expansion : (name text a b : List ℕ) → IsExpanded name text a → IsExpanded name text b → a ≡ b
-one_expansion name text a b p q =
-    let same = one_unescaped (instance_or_empty name) q.unescaped p.unescaped q.instance p.instance in
-    one_reading (specifier_front name p.unescaped) text a b p.pieces (subst (λ u. StandsForText (specifier_front name u) text b) same q.pieces)
 
 unescaped_as : (escaped : List ℕ) (r : Option (List ℕ)) → reading unescape_front 0 escaped ≡ r → IsUnescaped escaped (as_text r)
 unescaped_as escaped None e = λ bytes stands utf8. no_reading unescape_front escaped bytes e stands
@@ -55,6 +51,14 @@ IsExpanded-expanded_of name text expanded e =
       instance = IsUnescaped-unescaped_of instance;
       pieces = StandsForText-reading (specifier_front name (unescaped_of instance)) text expanded e;
     }
+
+-- the function finds what the relation tells
+pub finds_expanded : (name text : List ℕ) → Finds (expanded_of name text) (IsExpanded name text)
+finds_expanded name text = λ expanded. (IsExpanded-expanded_of name text expanded, expanded_of-IsExpanded name text expanded)
+
+-- a text stands for one other at most
+pub one_expansion : (name text a b : List ℕ) → IsExpanded name text a → IsExpanded name text b → a ≡ b
+one_expansion name text = one_found (expanded_of name text) (IsExpanded name text) (finds_expanded name text)
 
 -- any byte but a `%` stands for itself
 pub plain_front : (name : List ℕ) (unescaped : Option (List ℕ)) (b : ℕ) (bs : List ℕ) → b ≢ 37 → specifier_front name unescaped b bs ≡ Gives (b ∷ []) 1

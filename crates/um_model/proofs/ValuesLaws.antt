@@ -13,10 +13,12 @@ use Rattle.std.proofs.lemmas.Bool.{cases_Bool, cond-true, cond-false, and_from, 
 use Rattle.std.proofs.lemmas.Slice.Eq.{bytes_eq-Decides}
 use Rattle.um_model.specs.Ascii.{is_space, is_digit}
 use Rattle.um_model.specs.Text.{trim_start, is_empty}
+use Rattle.um_model.specs.Finds.{Finds}
 use Rattle.um_model.specs.Values.{words_for, is_same_in_any_case, IsBoolean, boolean_of, decimal, is_decimal, number_limit, IsNumber, number_of, unit_size, digits_of, unit_of, past_part, IsTime, AddUpTo, nothing, space, part, span_limit, IsSpan, time_of, sum_of, parts_of, span_within, span_of, words_in, tells_end, is_exit, IsExitSet, exits_of, restart_text, policies, policy_named}
 use Rattle.um_model.specs.declared.service.End.{End}
 use Rattle.um_model.specs.declared.settings.RestartPolicy.{RestartPolicy}
 use Rattle.um_model.specs.declared.settings.RestartPolicy.TheVariants.{No, Always, OnSuccess, OnFailure, OnAbnormal, OnAbort, OnWatchdog}
+use Rattle.um_model.proofs.FindsLaws.{one_found}
 use Rattle.um_model.proofs.TextLaws.{trim_start_cuts}
 use Rattle.um_model.specs.declared.settings.TimeSpan.{TimeSpan}
 use Rattle.um_model.specs.declared.settings.TimeSpan.TheVariants.{Micros, Infinite}
@@ -284,6 +286,23 @@ pub IsSpan-span_of : (text : List ℕ) (span : TimeSpan) → span_of text ≡ So
 unfolding span_of
 IsSpan-span_of text span e = span_by text _ _ span refl refl e
 
+-- each function finds what its relation tells
+
+pub finds_boolean : (text : List ℕ) → Finds (boolean_of text) (IsBoolean text)
+finds_boolean text = λ b. (IsBoolean-boolean_of text b, boolean_of-IsBoolean text b)
+
+pub finds_number : (text : List ℕ) → Finds (number_of text) (IsNumber text)
+finds_number text = λ n. (IsNumber-number_of text n, number_of-IsNumber text n)
+
+pub finds_span : (text : List ℕ) → Finds (span_of text) (IsSpan text)
+finds_span text = λ span. (IsSpan-span_of text span, span_of-IsSpan text span)
+
+pub finds_exits : (text : List ℕ) → Finds (exits_of text) (IsExitSet text)
+finds_exits text = λ holds. (IsExitSet-exits_of text holds, exits_of-IsExitSet text holds)
+
+pub finds_policy : (text : List ℕ) → Finds (policy_named text) (λ policy. restart_text policy ≡ text)
+finds_policy text = λ policy. (restart_text-policy_named text policy, λ is. subst (λ t. policy_named t ≡ Some policy) is (policy_named-restart_text policy))
+
 -- a text is one time span at most
 pub one_span : (text : List ℕ) (a b : TimeSpan) → IsSpan text a → IsSpan text b → a ≡ b
-one_span text a b p q = same_Some a b (sym (span_of-IsSpan text a p) ∙ span_of-IsSpan text b q)
+one_span text = one_found (span_of text) (IsSpan text) (finds_span text)

@@ -7,9 +7,11 @@ use Rattle.std.proofs.Math.Seq.{drop-append_seam}
 use Rattle.std.proofs.lemmas.Bool.{cases_Bool, true≢false, cond-true, cond-false, or_parts, or_cases, not-true, not-false, eqb-true}
 use Rattle.std.proofs.lemmas.Option.{some_pair_parts, none-some, same_Some}
 use Rattle.um_model.specs.Ascii.{is_space}
+use Rattle.um_model.specs.Finds.{Finds}
 use Rattle.um_model.specs.declared.words.WordRules.{WordRules}
 use Rattle.um_model.specs.declared.words.WordRules.TheVariants.{Escaped, Plain, Names}
 pub use Rattle.um_model.specs.Words.{with_front, at_end, by_spelling, read}
+use Rattle.um_model.proofs.FindsLaws.{one_found}
 use Rattle.um_model.specs.Words.{is_quote, Spelling, Stop, Bad, Turn, Means, Kept, begins_escape, meaning_of, hex_value, hex_spelling, is_left_out, rare_escape, means_or, escape, bare, spelled_at, may_end, InWord, ends, stops, turns, stands, keeps, Word, before, AreSpelled, none, space, word_first, values_of, AreWords, Command, is_separator, value_in_command, command_of, commands_of, AreCommands, word_then, read_words, words_of, commands_read}
 
 -- the byte ends or turns a word, outside quotes or in one
@@ -346,17 +348,24 @@ AreCommands-commands_read text commands e =
     let t = mapped commands_of (read_words Escaped 0 text) commands e in
     (t.0, AreSpelled-read_words Escaped text t.0 t.1, t.2)
 
--- a text is one list of words at most
-pub same_spelled : (rules : WordRules) (text : List ℕ) (a b : List Word) → AreSpelled rules text a → AreSpelled rules text b → a ≡ b
-same_spelled rules text a b first second = same_Some a b (sym (read_words-AreSpelled rules text a first) ∙ read_words-AreSpelled rules text b second)
+-- each function finds what its relation tells
 
--- and so reads as one list of texts
+pub finds_spelled : (rules : WordRules) (text : List ℕ) → Finds (read_words rules 0 text) (AreSpelled rules text)
+finds_spelled rules text = λ words. (AreSpelled-read_words rules text words, read_words-AreSpelled rules text words)
+
+pub finds_words : (rules : WordRules) (text : List ℕ) → Finds (words_of rules text) (AreWords rules text)
+finds_words rules text = λ words. (AreWords-words_of rules text words, words_of-AreWords rules text words)
+
+pub finds_commands : (text : List ℕ) → Finds (commands_read text) (AreCommands text)
+finds_commands text = λ commands. (AreCommands-commands_read text commands, commands_read-AreCommands text commands)
+
+-- a text reads as one list of words at most
 pub same_words : (rules : WordRules) (text : List ℕ) (a b : List (List ℕ)) → AreWords rules text a → AreWords rules text b → a ≡ b
-same_words rules text a b first second = sym first.2 ∙ ap values_of (same_spelled rules text first.0 second.0 first.1 second.1) ∙ second.2
+same_words rules text = one_found (words_of rules text) (AreWords rules text) (finds_words rules text)
 
 -- and as one list of commands
 pub same_commands : (text : List ℕ) (a b : List Command) → AreCommands text a → AreCommands text b → a ≡ b
-same_commands text a b first second = sym first.2 ∙ ap commands_of (same_spelled Escaped text first.0 second.0 first.1 second.1) ∙ second.2
+same_commands text = one_found (commands_read text) (AreCommands text) (finds_commands text)
 
 -- the commands of words, where these values stand before the first separator already
 abbrev pub commands_after : List (List ℕ) → List Word → List Command
