@@ -7,7 +7,7 @@ use Rattle.std.proofs.lemmas.Bool.{cases_Bool, cond-true, cond-false, ne_eqb, eq
 use Rattle.std.proofs.lemmas.Str.{IsUtf8-from_is_utf8, is_utf8-from_IsUtf8}
 use Rattle.um_model.specs.Finds.{Finds}
 use Rattle.um_model.specs.Names.{unescape_front}
-use Rattle.um_model.specs.Pieces.{Gives, StandsForText, reading}
+use Rattle.um_model.specs.Pieces.{Gives, reading}
 use Rattle.um_model.specs.Specifiers.{IsUnescaped, IsExpanded, instance_or_empty, specifier_front, as_text, unescaped_of, expanded_of}
 use Rattle.um_model.proofs.FindsLaws.{one_found}
 use Rattle.um_model.proofs.PiecesLaws.{one_reading, no_reading, reading-StandsForText, StandsForText-reading}
