@@ -3,7 +3,7 @@
 ghost use Rattle.std.specs.Prelude.{◌≡◌, ◌-◌, ◌+◌, ◌<◌, ◌≤◌, ◌==◌, ℕ, List, length, IfOk, IfSome, MatchOption, string_bytes, option_map, option_copied};
 ghost use Rattle.std.specs.List.{after_last};
 ghost use Rattle.std.specs.Str.{IsCharBoundary};
-ghost use Rattle.um_model.specs.Pieces.{StandsForText};
+ghost use Rattle.um_model.specs.Pieces.{reading};
 ghost use Rattle.um_model.specs.Specifiers.{IsUnescaped, IsExpanded, expanded_of, instance_or_empty, specified, percent_front, specifier_front};
 ghost use Rattle.um_spec.specs.Piece.{front_of};
 
@@ -81,9 +81,7 @@ fn expand_with(
     unit: &UnitName,
     unescaped: Option<&str>,
 ) -> Result<Option<String>, AllocError>
-    ensures { IfOk result (λ r. MatchOption r
-        ((expanded : List ℕ) → ¬ (StandsForText (specifier_front unit.now (option_copied unescaped.entry)) text.now expanded))
-        (λ expanded. StandsForText (specifier_front unit.now (option_copied unescaped.entry)) text.now (string_bytes expanded))) }
+    ensures { IfOk result (λ r. option_map string_bytes r ≡ reading (specifier_front unit.now (option_copied unescaped.entry)) 0 text.now) }
 {
     let mut expanded = String::new(alloc);
     let mut rest = text;

@@ -7,4 +7,4 @@ mod laws;
 mod tests;
 
 pub use expansion::expand;
-pub use laws::a_text_has_one_expansion;
+pub use laws::{a_text_has_one_expansion, each_expansion_is_found};

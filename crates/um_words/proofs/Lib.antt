@@ -1,3 +1,4 @@
 pub mod WordLemmas
 pub mod VariableLemmas
 pub mod CommandLemmas
+pub mod ReadingLemmas

@@ -68,13 +68,18 @@ seen r = option_map (λ p. (string_bytes p.0, p.1.now)) r
 pub seen_is : (r s : Option (String Global × Bor (List ℕ))) (found : Option (List ℕ × List ℕ)) → r ≡ s → seen r ≡ found → seen s ≡ found
 seen_is r s found e h = ap seen (sym e) ∙ h
 
--- one word more
-pub pushed_words : (old new : List Spelled) (x : Spelled) (w : Word) (words : List Word) → new ≡ old ++ x ∷ [] → word_of x ≡ w
+pushed_words : (old new : List Spelled) (x : Spelled) (w : Word) (words : List Word) → new ≡ old ++ x ∷ [] → word_of x ≡ w
     → map word_of old ++ (w ∷ words) ≡ map word_of new ++ words
 pushed_words old new x w words is same =
     sym (append_assoc (map word_of old) (w ∷ []) words)
     ∙ ap (λ y. (map word_of old ++ y ∷ []) ++ words) (sym same)
     ∙ ap (λ f. f ++ words) (sym (map-append word_of old (x ∷ [])) ∙ ap (map word_of) (sym is))
+
+-- one word more, and what is read behind it
+pub pushed_more : (old new : List Spelled) (x : Spelled) (w : Word) (r : Option (List Word)) → new ≡ old ++ x ∷ [] → word_of x ≡ w
+    → option_map (λ more. map word_of new ++ more) r ≡ option_map (λ more. map word_of old ++ more) (option_map (λ more. w ∷ more) r)
+pushed_more old new x w None is same = refl
+pushed_more old new x w (Some words) is same = ap Some (sym (pushed_words old new x w words is same))
 
 -- a text may be cut behind a run of ASCII characters
 pub boundary_behind : (test : ℕ → Bool) → ((b : ℕ) → test b ≡ true → b < 128) → (text : List ℕ) → IsUtf8 text → IsCharBoundary text (prefix_len test text)

@@ -3,10 +3,11 @@
 ghost use Rattle.std.specs.Prelude.{◌≡◌, ℕ, List};
 ghost use Rattle.um_model.specs.declared.words.WordRules.{WordRules};
 ghost use Rattle.um_model.specs.declared.words.WordRules.TheVariants.{Plain};
-ghost use Rattle.um_model.specs.Words.{AreWords, AreCommands, Command};
+ghost use Rattle.um_model.specs.Finds.{Finds};
+ghost use Rattle.um_model.specs.Words.{AreWords, AreCommands, Command, words_of, commands_read};
 ghost use Rattle.um_model.specs.Substitution.{Variable, AreSubstituted};
 
-/// By the rules of a setting and by those of a value, a text reads as one list of words at most.
+/// By the rules of a setting, of a value and of a list of names, a text reads as one list of words at most.
 pub fn words_have_one_reading()
     ensures { (rules : WordRules) (text : List ℕ) (a b : List (List ℕ)) → AreWords rules text a → AreWords rules text b → a ≡ b }
 {}
@@ -19,6 +20,12 @@ pub fn each_value_has_words()
 /// A text reads as one list of commands at most.
 pub fn commands_have_one_reading()
     ensures { (text : List ℕ) (a b : List Command) → AreCommands text a → AreCommands text b → a ≡ b }
+{}
+
+/// The functions of the definitions find each reading of a text as words or as commands, and nothing else.
+pub fn each_reading_is_found()
+    ensures words { (rules : WordRules) (text : List ℕ) → Finds (words_of rules text) (AreWords rules text) }
+    ensures commands { (text : List ℕ) → Finds (commands_read text) (AreCommands text) }
 {}
 
 /// With these variables the words of a command become one list of words at most.

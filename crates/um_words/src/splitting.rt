@@ -1,7 +1,7 @@
 //! The words of a text.
 
 ghost use Rattle.std.specs.Prelude.{◌≡◌, ℕ, List, IfOk, MatchOption, map, option_map, string_bytes};
-ghost use Rattle.um_model.specs.Words.{Word, AreSpelled, AreWords, words_of};
+ghost use Rattle.um_model.specs.Words.{AreWords, read_words, words_of};
 ghost use Rattle.um_model.specs.declared.words.WordRules.TheVariants.{Escaped, Names};
 ghost use Rattle.um_words.specs.Views.{word_of};
 
@@ -16,9 +16,7 @@ pub fn spelled<'a>(
     rules: WordRules,
     text: &'a str,
 ) -> Result<Option<Vec<Spelled<'a>>>, AllocError>
-    ensures { IfOk result (λ r. MatchOption r
-        ((words : List Word) → ¬ (AreSpelled rules text.now words))
-        (λ words. AreSpelled rules text.now (map word_of words.items))) }
+    ensures { IfOk result (λ r. option_map (λ words. map word_of words.items) r ≡ read_words rules 0 text.now) }
 {
     let mut words = Vec::new(alloc);
     let mut rest = text;
@@ -38,11 +36,9 @@ pub fn spelled<'a>(
 }
 
 /// The words of a text by these rules; None where the text can't be read.
+#[tactic(auto, unfolding(um_model::specs::Words::words_of))]
 fn words_by(alloc: Global, rules: WordRules, text: &str) -> Result<Option<Vec<String>>, AllocError>
-    ensures read { IfOk result (λ r. MatchOption r
-        ((words : List (List ℕ)) → ¬ (AreWords rules text.now words))
-        (λ words. AreWords rules text.now (map string_bytes words.items))) }
-    ensures same { IfOk result (λ r. option_map (λ words. map string_bytes words.items) r ≡ words_of rules text.now) }
+    ensures { IfOk result (λ r. option_map (λ words. map string_bytes words.items) r ≡ words_of rules text.now) }
 {
     let Some(spelled) = spelled(alloc, rules, text)? else {
         return Ok(None);

@@ -1,4 +1,4 @@
-use crate::{Command, Variable, commands, is_executable_word, substitute, words};
+use crate::{Command, Variable, commands, is_executable_word, names, substitute, words};
 use std::alloc::{AllocError, Global};
 use std::test::Fail;
 
@@ -68,6 +68,30 @@ fn unclosed_quotes_and_escapes_left_out_are_unreadable(rt: HostRuntime) -> Resul
         "b \"\\x80\"",
     ] {
         assert_eq!(rt; read(rt.alloc(), text)?.as_str(), "!");
+    }
+    Ok(())
+}
+
+/// The names of the text, or a `!` where it can't be read.
+fn named(alloc: Global, text: &str) -> Result<String, AllocError> {
+    match names(alloc, text)? {
+        Some(names) => joined(alloc, &names),
+        None => Ok(String::from_str(alloc, "!")?),
+    }
+}
+
+#[test]
+fn names_are_quoted_and_keep_each_backslash(rt: HostRuntime) -> Result<(), Fail> {
+    for (text, wanted) in [
+        ("", ""),
+        ("a.service\tb.target", "|a.service|b.target"),
+        ("a\\x2db.service \\", "|a\\x2db.service|\\"),
+        ("\"a\\\" 'b c'd", "|a\\|b cd"),
+        ("\\\"a b\"", "|\\a b"),
+        ("a 'b", "!"),
+        ("\"a\\\"\"", "!"),
+    ] {
+        assert_eq!(rt; named(rt.alloc(), text)?.as_str(), wanted);
     }
     Ok(())
 }

@@ -1,7 +1,5 @@
 use Rattle.std.proofs.Common.{◌++◌, Some, None, option_copied, string_bytes, lit<, sym, ap, ◌∙◌, rules}
 use Rattle.std.proofs.lemmas.Str.Pattern.{split_parts}
-use Rattle.um_model.specs.Specifiers.{specifier_front}
-use Rattle.um_model.proofs.PiecesLaws.{no_reading, StandsForText-reading}
 use Rattle.um_spec.proofs.ExpansionLemmas.{told_more, told_none, told_all}
 use Rattle.um_spec.proofs.expansion.expand_with.Goals as goal
 
@@ -10,7 +8,7 @@ returns-in_default-percent c =
     let unescaped = option_copied c.args.unescaped in
     let cut = split_parts 37 c.loop-before.rest.now (Some (c.in-Some.before, c.in-Some.after)) c.in-Some.ensures.cases (lit< tt) in
     let none = told_none c.args.unit.now unescaped (string_bytes c.loop-before.expanded) c.loop-before.rest.now c.in-Some.before.now c.in-Some.after.now cut (sym c.in_default-percent.ensures.front) in
-    λ expanded. no_reading (specifier_front c.args.unit.now unescaped) c.args.text.now expanded (sym c.loop-before.invariant.told ∙ none)
+    sym none ∙ c.loop-before.invariant.told
 
 pub loop-before-preserved : goal.loop-before-preserved
 loop-before-preserved c =
@@ -27,5 +25,6 @@ pub returns : goal.returns
 returns c =
     let unescaped = option_copied c.args.unescaped in
     let apart = split_parts 37 c.loop-before.rest.now None c.in_default.ensures.cases (lit< tt) in
-    StandsForText-reading (specifier_front c.args.unit.now unescaped) c.args.text.now _
-    (sym c.loop-before.invariant.told ∙ told_all c.args.unit.now unescaped (string_bytes c.loop-before.expanded) c.loop-before.rest.now apart ∙ ap Some (sym c.in_ok-push_str-3.ensures.bytes))
+    ap Some c.in_ok-push_str-3.ensures.bytes
+    ∙ sym (told_all c.args.unit.now unescaped (string_bytes c.loop-before.expanded) c.loop-before.rest.now apart)
+    ∙ c.loop-before.invariant.told

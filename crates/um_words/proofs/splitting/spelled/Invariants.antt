@@ -1,16 +1,15 @@
-use Rattle.std.proofs.Common.{◌++◌, List, length, map}
+use Rattle.std.proofs.Common.{◌≡◌, ◌++◌, length, map, option_map}
 use denote.Text.{Utf8}
 use denote.Shadow.{shadow}
-use Rattle.um_model.specs.Words.{Word, AreSpelled}
+use Rattle.um_model.specs.Words.{read_words}
 use Rattle.um_words.specs.Views.{word_of}
 use Rattle.um_words.proofs.splitting.spelled.Given as goal
 
--- the words so far and those of the rest are those of the text, and where the text has words the rest has
+-- the words so far, and then those of the rest, are those of the text
 abbrev pub invariant-loop-first : goal.invariant-loop-first
 invariant-loop-first l = record {
   utf8 : shadow (Utf8 l.rest);
-  found : (words : List Word) → AreSpelled l.rules l.rest words → AreSpelled l.rules l.text (map word_of l.words.items ++ words);
-  only : (words : List Word) → AreSpelled l.rules l.text words → (more : List Word) × AreSpelled l.rules l.rest more;
+  told : option_map (λ more. map word_of l.words.items ++ more) (read_words l.rules 0 l.rest) ≡ read_words l.rules 0 l.text;
 }
 
 abbrev pub decreases-loop-first : goal.decreases-loop-first
