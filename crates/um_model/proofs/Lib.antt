@@ -30,3 +30,4 @@ pub mod BytesLaws
 pub mod TransitionLaws
 pub mod StoreLaws
 pub mod LogLaws
+pub mod FindsLaws

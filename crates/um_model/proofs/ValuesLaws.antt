@@ -1,11 +1,25 @@
 -- The laws of values: at most one reading of each kind, and the steps of a sum of parts.
-use Rattle.std.proofs.Common.{◌≡◌, ◌<◌, ◌≤◌, ℕ, ◌+◌, ◌*◌, true, false, eqb, leb, List, [], ◌∷◌, length, inl, inr, refl, sym, ap, subst, ◌∙◌, codes, arith}
+use Rattle.std.proofs.Common.{◌≡◌, ◌<◌, ◌≤◌, ℕ, zero, suc, ◌+◌, ◌-◌, ◌*◌, Bool, true, false, ◌&&◌, not, cond, eqb, leb, List, [], ◌∷◌, ◌++◌, length, take, drop, map, Option, Some, None, option_map, find, inl, inr, refl, sym, ap, subst, ◌∙◌, codes, append_assoc, arith}
+use Rattle.std.specs.Prelude.{nat_lt}
+use Rattle.std.specs.Char.{to_ascii_lowercase}
+use Rattle.std.specs.List.{list_any, list_all}
+use Rattle.std.specs.Str.{bytes_eq}
+use Rattle.std.proofs.Math.Path.{fun_ext}
+use Rattle.std.proofs.Math.Seq.{drop-append_seam}
+use Rattle.std.proofs.lemmas.List.{length-append, take-append-drop}
 use Rattle.std.proofs.lemmas.List.Sums.{take_while-cons}
-use Rattle.std.proofs.lemmas.Option.{same_Some}
-use Rattle.std.proofs.lemmas.Bool.{cases_Bool, cond-true, cond-false, and_parts, or_cases, eqb-true, leb-true, false_from_ne_true, true≢false}
+use Rattle.std.proofs.lemmas.Option.{same_Some, none-some}
+use Rattle.std.proofs.lemmas.Bool.{cases_Bool, cond-true, cond-false, and_from, and_parts, or_cases, not-true, eqb-true, lt-ltb, ltb-true, le-leb, leb-true, false_from_ne_true, true≢false}
+use Rattle.std.proofs.lemmas.Slice.Eq.{bytes_eq-Decides}
 use Rattle.um_model.specs.Ascii.{is_space, is_digit}
 use Rattle.um_model.specs.Text.{trim_start, is_empty}
-use Rattle.um_model.specs.Values.{decimal, digits_of, unit_of, past_part, IsTime, AddUpTo, nothing, space, part, IsSpan}
+use Rattle.um_model.specs.Finds.{Finds}
+use Rattle.um_model.specs.Values.{words_for, is_same_in_any_case, IsBoolean, boolean_of, decimal, is_decimal, number_limit, IsNumber, number_of, unit_size, digits_of, unit_of, past_part, IsTime, AddUpTo, nothing, space, part, span_limit, IsSpan, time_of, sum_of, parts_of, span_within, span_of, words_in, tells_end, is_exit, IsExitSet, exits_of, restart_text, policies, policy_named}
+use Rattle.um_model.specs.declared.service.End.{End}
+use Rattle.um_model.specs.declared.settings.RestartPolicy.{RestartPolicy}
+use Rattle.um_model.specs.declared.settings.RestartPolicy.TheVariants.{No, Always, OnSuccess, OnFailure, OnAbnormal, OnAbort, OnWatchdog}
+use Rattle.um_model.proofs.FindsLaws.{one_found}
+use Rattle.um_model.proofs.TextLaws.{trim_start_cuts}
 use Rattle.um_model.specs.declared.settings.TimeSpan.{TimeSpan}
 use Rattle.um_model.specs.declared.settings.TimeSpan.TheVariants.{Micros, Infinite}
 
@@ -59,38 +73,236 @@ trim_start-trim_start (b ∷ bs) = elim (cases_Bool (is_space b)) [
   | inr other ↦ ap trim_start (cond-false (is_space b) (trim_start bs) (b ∷ bs) other)
 ]
 
-sum-nil : (text : List ℕ) (n : ℕ) → length text ≡ 0 → AddUpTo text n → n ≡ 0
-sum-nil text n none nothing = refl
-sum-nil text n none (space b more m white sum) = absurd (omega arith)
-sum-nil [] n none (part text first m time sum) = absurd (omega (arith, time.some))
-sum-nil (b ∷ bs) n none (part text first m time sum) = absurd (omega arith)
-
-sum-space : (b : ℕ) (bs : List ℕ) (n : ℕ) → is_space b ≡ true → AddUpTo (b ∷ bs) n → AddUpTo bs n
-sum-space b bs n white (space c more m other sum) = sum
-sum-space b bs n white (part text first m time sum) = absurd (no_space_first b bs time.some white)
-
-sum-part : (text : List ℕ) (n : ℕ) → 0 < length (digits_of text) → AddUpTo text n
-    → (first : ℕ) × (m : ℕ) × IsTime (digits_of text) (unit_of text) first × AddUpTo (past_part text) m × (n ≡ first + m)
-sum-part text n some nothing = absurd (omega arith)
-sum-part text n some (space b more m white sum) = absurd (no_space_first b more some white)
-sum-part text n some (part t first m time sum) = (first, m, time, sum, refl)
-
--- parts add up to one time
-pub one_sum : (text : List ℕ) (a b : ℕ) → AddUpTo text a → AddUpTo text b → a ≡ b
-one_sum text a b nothing other = sym (sum-nil [] b refl other)
-one_sum text a b (space c more m white sum) other = one_sum more m b sum (sum-space c more b white other)
-one_sum text a b (part t first m time sum) other =
-    let q = sum-part text b time.some other in
-    let same : first ≡ q.0 = one_time (digits_of text) (unit_of text) first q.0 time q.2 in
-    let rest : m ≡ q.1 = one_sum (past_part text) m q.1 sum q.3 in
-    omega (arith, q.4)
-
 no_sum : (n : ℕ) → AddUpTo (codes "infinity") n → ⊥
 no_sum n sum = let q = sum-first (codes "infinity") n refl refl sum in omega (arith, q.2.some)
 
+-- The same as functions.
+
+-- no word for yes is one for no
+no_word_for_both : (lower : List ℕ) (words : List (List ℕ)) → list_all (λ w. not (list_any (is_same_in_any_case w) (words_for true))) words ≡ true
+    → list_any (λ w. bytes_eq lower (map to_ascii_lowercase w)) words ≡ true → list_any (λ w. bytes_eq lower (map to_ascii_lowercase w)) (words_for true) ≡ false
+no_word_for_both lower [] apart h = absurd (true≢false (sym h))
+no_word_for_both lower (w ∷ words) apart h =
+    let t = and_parts (not (list_any (is_same_in_any_case w) (words_for true))) _ apart in
+    elim (or_cases (bytes_eq lower (map to_ascii_lowercase w)) _ h) [
+      | inl same ↦ ap (λ x. list_any (λ v. bytes_eq x (map to_ascii_lowercase v)) (words_for true)) ((bytes_eq-Decides lower (map to_ascii_lowercase w)).0 same) ∙ not-true _ t.0
+      | inr later ↦ no_word_for_both lower words t.1 later
+    ]
+
+-- a text is a word for this truth value where the function tells it
+pub boolean_of-IsBoolean : (text : List ℕ) (b : Bool) → IsBoolean text b → boolean_of text ≡ Some b
+unfolding boolean_of
+boolean_of-IsBoolean text true is = cond-true _ _ _ is
+boolean_of-IsBoolean text false is = cond-false _ _ _ (no_word_for_both (map to_ascii_lowercase text) (words_for false) refl is) ∙ cond-true _ _ _ is
+
+boolean_by : (text : List ℕ) (y n b : Bool) → list_any (is_same_in_any_case text) (words_for true) ≡ y → list_any (is_same_in_any_case text) (words_for false) ≡ n
+    → cond y (Some true) (cond n (Some false) None) ≡ Some b → IsBoolean text b
+boolean_by text true n b is other e = subst (IsBoolean text) (same_Some true b e) is
+boolean_by text false true b other is e = subst (IsBoolean text) (same_Some false b e) is
+boolean_by text false false b other more e = absurd (none-some b e)
+
+pub IsBoolean-boolean_of : (text : List ℕ) (b : Bool) → boolean_of text ≡ Some b → IsBoolean text b
+unfolding boolean_of
+IsBoolean-boolean_of text b e = boolean_by text _ _ b refl refl e
+
+-- the function tells the number of a text
+pub number_of-IsNumber : (text : List ℕ) (n : ℕ) → IsNumber text n → number_of text ≡ Some n
+unfolding number_of
+number_of-IsNumber text n is =
+    cond-true _ _ _ (and_from (is_decimal text) (leb (decimal text) number_limit) is.digits (le-leb (decimal text) number_limit (omega (arith, is.value, is.limit))))
+    ∙ ap Some (sym is.value)
+
+pub IsNumber-number_of : (text : List ℕ) (n : ℕ) → number_of text ≡ Some n → IsNumber text n
+unfolding number_of
+IsNumber-number_of text n e = elim (cases_Bool (is_decimal text && leb (decimal text) number_limit)) [
+  | inl fits ↦
+      let value : decimal text ≡ n = same_Some (decimal text) n (sym (cond-true _ _ _ fits) ∙ e) in
+      let t = and_parts (is_decimal text) (leb (decimal text) number_limit) fits in
+      let low = leb-true (decimal text) number_limit t.1 in
+      record { digits = t.0; value = sym value; limit = subst (λ x. x ≤ number_limit) value low }
+  | inr other ↦ absurd (none-some n (sym (cond-false _ _ _ other) ∙ e))
+]
+
+-- the function tells the set of the exits
+pub exits_of-IsExitSet : (text : List ℕ) (holds : End → Bool) → IsExitSet text holds → exits_of text ≡ Some holds
+unfolding exits_of
+exits_of-IsExitSet text holds is = cond-true _ _ _ is.readable ∙ ap Some (sym (fun_ext is.exact))
+
+pub IsExitSet-exits_of : (text : List ℕ) (holds : End → Bool) → exits_of text ≡ Some holds → IsExitSet text holds
+unfolding exits_of
+IsExitSet-exits_of text holds e = elim (cases_Bool (list_all is_exit (words_in text))) [
+  | inl readable ↦
+      let same = same_Some (tells_end text) holds (sym (cond-true _ _ _ readable) ∙ e) in
+      record { readable = readable; exact = λ end. ap (λ f. f end) (sym same) }
+  | inr other ↦ absurd (none-some holds (sym (cond-false _ _ _ other) ∙ e))
+]
+
+-- the function tells the policy of a name
+pub policy_named-restart_text : (policy : RestartPolicy) → policy_named (restart_text policy) ≡ Some policy
+unfolding policy_named
+policy_named-restart_text No = refl
+policy_named-restart_text Always = refl
+policy_named-restart_text OnSuccess = refl
+policy_named-restart_text OnFailure = refl
+policy_named-restart_text OnAbnormal = refl
+policy_named-restart_text OnAbort = refl
+policy_named-restart_text OnWatchdog = refl
+
+found_passes : (test : RestartPolicy → Bool) (t : Bool) (all : List RestartPolicy) (first policy : RestartPolicy) → test first ≡ t
+    → (find test all ≡ Some policy → test policy ≡ true) → cond t (Some first) (find test all) ≡ Some policy → test policy ≡ true
+found_passes test true all first policy is later e = ap test (sym (same_Some first policy e)) ∙ is
+found_passes test false all first policy is later e = later e
+
+found_so : (test : RestartPolicy → Bool) (all : List RestartPolicy) (policy : RestartPolicy) → find test all ≡ Some policy → test policy ≡ true
+found_so test [] policy e = absurd (none-some policy e)
+found_so test (first ∷ all) policy e = found_passes test (test first) all first policy refl (found_so test all policy) e
+
+pub restart_text-policy_named : (text : List ℕ) (policy : RestartPolicy) → policy_named text ≡ Some policy → restart_text policy ≡ text
+unfolding policy_named
+restart_text-policy_named text policy e = sym ((bytes_eq-Decides text (restart_text policy)).0 (found_so (λ p. bytes_eq text (restart_text p)) policies policy e))
+
+-- the time of a number and its unit
+time_of-IsTime : (digits unit : List ℕ) (n : ℕ) → IsTime digits unit n → time_of digits unit ≡ Some n
+time_of-IsTime digits unit n time =
+    cond-true _ _ _ (lt-ltb 0 (length digits) time.some) ∙ ap (option_map (λ size. decimal digits * size)) time.unit_is ∙ ap Some (sym time.value)
+
+mapped : {A B : Type 0} (f : A → B) (r : Option A) (y : B) → option_map f r ≡ Some y → (x : A) × (r ≡ Some x) × (f x ≡ y)
+mapped f None y e = absurd (none-some y e)
+mapped f (Some x) y e = (x, refl, same_Some (f x) y e)
+
+IsTime-time_of : (digits unit : List ℕ) (n : ℕ) → time_of digits unit ≡ Some n → IsTime digits unit n
+IsTime-time_of digits unit n e = elim (cases_Bool (nat_lt 0 (length digits))) [
+  | inl some ↦
+      let t = mapped (λ size. decimal digits * size) (unit_size unit) n (sym (cond-true _ _ _ some) ∙ e) in
+      record { some = ltb-true 0 (length digits) some; size = t.0; unit_is = t.1; value = sym t.2 }
+  | inr other ↦ absurd (none-some n (sym (cond-false _ _ _ other) ∙ e))
+]
+
+-- what is in front of the rest of a text
+abbrev Follows : List ℕ → List ℕ → Type 0
+Follows text rest = (front : List ℕ) × (text ≡ front ++ rest)
+
+trimmed_follows : (m : ℕ) (text : List ℕ) → Follows text (drop m (trim_start text))
+trimmed_follows m text =
+    let cut = trim_start_cuts text in
+    let rest = trim_start text in (
+      cut.front ++ take m rest,
+      cut.parts ∙ ap (λ x. cut.front ++ x) (sym (take-append-drop m rest)) ∙ sym (append_assoc cut.front (take m rest) (drop m rest)),
+    )
+
+part_follows : (n m b : ℕ) (bs : List ℕ) → 0 < n → Follows bs (drop m (trim_start (drop n (b ∷ bs))))
+part_follows zero m b bs some = absurd (omega arith)
+part_follows (suc n) m b bs some =
+    let later = trimmed_follows m (drop n bs) in
+    (take n bs ++ later.0, sym (take-append-drop n bs) ∙ ap (λ x. take n bs ++ x) later.1 ∙ sym (append_assoc (take n bs) later.0 _))
+
+-- a part takes a byte at least
+past_follows : (b : ℕ) (bs : List ℕ) → 0 < length (digits_of (b ∷ bs)) → Follows bs (past_part (b ∷ bs))
+past_follows b bs some = part_follows (length (digits_of (b ∷ bs))) (length (unit_of (b ∷ bs))) b bs some
+
+parts_skip : (n : ℕ) (bs : List ℕ) → parts_of n bs ≡ parts_of 0 (drop n bs)
+parts_skip zero bs = refl
+parts_skip (suc n) [] = refl
+parts_skip (suc n) (b ∷ bs) = parts_skip n bs
+
+-- behind a first part the rest is added up
+past_read : (bs past : List ℕ) → Follows bs past → parts_of (length bs - length past) bs ≡ parts_of 0 past
+past_read bs past at =
+    let place : length bs - length past ≡ length at.0 = omega (arith, ap length at.1, length-append at.0 past) in
+    parts_skip (length bs - length past) bs
+    ∙ ap (parts_of 0) (ap (λ n. drop n bs) place ∙ ap (drop (length at.0)) at.1 ∙ drop-append_seam at.0 past)
+
+-- the function finds each sum
+pub parts_of-AddUpTo : (text : List ℕ) (n : ℕ) → AddUpTo text n → parts_of 0 text ≡ Some n
+parts_of-AddUpTo text n nothing = refl
+parts_of-AddUpTo text n (space b bs m white sum) = cond-true _ _ _ white ∙ parts_of-AddUpTo bs m sum
+parts_of-AddUpTo [] n (part text first m time sum) = absurd (omega (arith, time.some))
+parts_of-AddUpTo (b ∷ bs) n (part text first m time sum) =
+    let past = past_part (b ∷ bs) in
+    cond-false _ _ _ (false_from_ne_true _ (no_space_first b bs time.some))
+    ∙ ap (λ r. sum_of r (parts_of (length bs - length past) bs)) (time_of-IsTime (digits_of (b ∷ bs)) (unit_of (b ∷ bs)) first time)
+    ∙ ap (sum_of (Some first)) (past_read bs past (past_follows b bs time.some) ∙ parts_of-AddUpTo past m sum)
+
+summed : (r s : Option ℕ) (n : ℕ) → sum_of r s ≡ Some n → (first : ℕ) × (m : ℕ) × (r ≡ Some first) × (s ≡ Some m) × (first + m ≡ n)
+summed None s n e = absurd (none-some n e)
+summed (Some first) s n e = let t = mapped (λ m. first + m) s n e in (first, t.0, refl, t.1, t.2)
+
+abbrev FindsSums : ℕ → Type 0
+FindsSums size = (text : List ℕ) (n : ℕ) → length text ≤ size → parts_of 0 text ≡ Some n → AddUpTo text n
+
+by_part : (size : ℕ) → FindsSums size → (b : ℕ) (bs : List ℕ) (n : ℕ) → length bs ≤ size
+    → sum_of (time_of (digits_of (b ∷ bs)) (unit_of (b ∷ bs))) (parts_of (length bs - length (past_part (b ∷ bs))) bs) ≡ Some n → AddUpTo (b ∷ bs) n
+by_part size finds b bs n small e =
+    let past = past_part (b ∷ bs) in
+    let t = summed (time_of (digits_of (b ∷ bs)) (unit_of (b ∷ bs))) (parts_of (length bs - length past) bs) n e in
+    let time = IsTime-time_of (digits_of (b ∷ bs)) (unit_of (b ∷ bs)) t.0 t.2 in
+    let at = past_follows b bs time.some in
+    subst (AddUpTo (b ∷ bs)) t.4
+    (part (b ∷ bs) t.0 t.1 time (finds past t.1 (omega (arith, ap length at.1, length-append at.0 past)) (sym (past_read bs past at) ∙ t.3)))
+
+AddUpTo-sized : (size : ℕ) → FindsSums size
+AddUpTo-sized size [] n small e = subst (AddUpTo []) (same_Some 0 n e) nothing
+AddUpTo-sized zero (b ∷ bs) n small e = absurd (omega arith)
+AddUpTo-sized (suc size) (b ∷ bs) n small e = elim (cases_Bool (is_space b)) [
+  | inl white ↦ space b bs n white (AddUpTo-sized size bs n (omega arith) (sym (cond-true _ _ _ white) ∙ e))
+  | inr apart ↦ by_part size (AddUpTo-sized size) b bs n (omega arith) (sym (cond-false _ _ _ apart) ∙ e)
+]
+
+-- what the function finds is a sum
+pub AddUpTo-parts_of : (text : List ℕ) (n : ℕ) → parts_of 0 text ≡ Some n → AddUpTo text n
+AddUpTo-parts_of text n e = AddUpTo-sized (length text) text n (omega arith) e
+
+-- a text that adds up to something isn't the word for an endless span
+not_endless : (text : List ℕ) (n : ℕ) → AddUpTo text n → bytes_eq text (codes "infinity") ≡ false
+not_endless text n sum =
+    false_from_ne_true _ (λ e. no_sum n (subst (λ x. AddUpTo x n) ((bytes_eq-Decides text (codes "infinity")).0 e) sum))
+
+-- the function tells the time span of a text
+pub span_of-IsSpan : (text : List ℕ) (span : TimeSpan) → IsSpan text span → span_of text ≡ Some span
+unfolding span_of
+span_of-IsSpan text Infinite is = cond-true _ _ _ ((bytes_eq-Decides text (codes "infinity")).1 is)
+span_of-IsSpan text (Micros n) is =
+    cond-false _ _ _ (not_endless text n is.1)
+    ∙ cond-false _ _ _ is.0
+    ∙ ap span_within (parts_of-AddUpTo text n is.1)
+    ∙ cond-true _ _ _ (le-leb n span_limit is.2)
+
+within_limit : (r : Option ℕ) (span : TimeSpan) → span_within r ≡ Some span → (n : ℕ) × (r ≡ Some n) × (n ≤ span_limit) × (Micros n ≡ span)
+within_limit None span e = absurd (none-some span e)
+within_limit (Some n) span e = elim (cases_Bool (leb n span_limit)) [
+  | inl fits ↦ (n, refl, leb-true n span_limit fits, same_Some (Micros n) span (sym (cond-true _ _ _ fits) ∙ e))
+  | inr other ↦ absurd (none-some span (sym (cond-false _ _ _ other) ∙ e))
+]
+
+span_by : (text : List ℕ) (endless empty : Bool) (span : TimeSpan) → bytes_eq text (codes "infinity") ≡ endless → is_empty (trim_start text) ≡ empty
+    → cond endless (Some Infinite) (cond empty None (span_within (parts_of 0 text))) ≡ Some span → IsSpan text span
+span_by text true empty span is other e = subst (IsSpan text) (same_Some Infinite span e) ((bytes_eq-Decides text (codes "infinity")).0 is)
+span_by text false true span is other e = absurd (none-some span e)
+span_by text false false span is some e =
+    let t = within_limit (parts_of 0 text) span e in
+    subst (IsSpan text) t.3 (some, AddUpTo-parts_of text t.0 t.1, t.2)
+
+pub IsSpan-span_of : (text : List ℕ) (span : TimeSpan) → span_of text ≡ Some span → IsSpan text span
+unfolding span_of
+IsSpan-span_of text span e = span_by text _ _ span refl refl e
+
+-- each function finds what its relation tells
+
+pub finds_boolean : (text : List ℕ) → Finds (boolean_of text) (IsBoolean text)
+finds_boolean text = λ b. (IsBoolean-boolean_of text b, boolean_of-IsBoolean text b)
+
+pub finds_number : (text : List ℕ) → Finds (number_of text) (IsNumber text)
+finds_number text = λ n. (IsNumber-number_of text n, number_of-IsNumber text n)
+
+pub finds_span : (text : List ℕ) → Finds (span_of text) (IsSpan text)
+finds_span text = λ span. (IsSpan-span_of text span, span_of-IsSpan text span)
+
+pub finds_exits : (text : List ℕ) → Finds (exits_of text) (IsExitSet text)
+finds_exits text = λ holds. (IsExitSet-exits_of text holds, exits_of-IsExitSet text holds)
+
+pub finds_policy : (text : List ℕ) → Finds (policy_named text) (λ policy. restart_text policy ≡ text)
+finds_policy text = λ policy. (restart_text-policy_named text policy, λ is. subst (λ t. policy_named t ≡ Some policy) is (policy_named-restart_text policy))
+
 -- a text is one time span at most
 pub one_span : (text : List ℕ) (a b : TimeSpan) → IsSpan text a → IsSpan text b → a ≡ b
-one_span text Infinite Infinite p q = refl
-one_span text Infinite (Micros n) p q = absurd (no_sum n (subst (λ x. AddUpTo x n) p q.1))
-one_span text (Micros m) Infinite p q = absurd (no_sum m (subst (λ x. AddUpTo x m) q p.1))
-one_span text (Micros m) (Micros n) p q = ap Micros (one_sum text m n p.1 q.1)
+one_span text = one_found (span_of text) (IsSpan text) (finds_span text)

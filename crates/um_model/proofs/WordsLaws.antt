@@ -1,15 +1,18 @@
 -- The laws of words: at most one reading, and the function that finds it.
-use Rattle.std.proofs.Common.{◌≡◌, ◌<◌, ◌≤◌, ℕ, zero, suc, ◌+◌, ◌-◌, Bool, true, false, ◌||◌, not, cond, eqb, List, [], ◌∷◌, ◌++◌, length, take, drop, map, Option, Some, None, refl, sym, ap, ◌∙◌, subst, inl, inr, append_assoc, append-nil, arith}
-use Rattle.std.specs.Prelude.{IfSome}
+use Rattle.std.proofs.Common.{◌≡◌, ◌<◌, ◌≤◌, ℕ, zero, suc, ◌+◌, ◌-◌, Bool, true, false, ◌||◌, not, cond, eqb, List, [], ◌∷◌, ◌++◌, length, take, drop, map, Option, Some, None, option_map, refl, sym, ap, ◌∙◌, subst, inl, inr, append_assoc, append-nil, arith}
+use Rattle.std.specs.Prelude.{IfSome, ◌&&◌, nat_lt}
 use Rattle.std.specs.List.{prefix_len, flat_map, slice_split, onto_first}
-use Rattle.std.proofs.lemmas.List.{drop-drop, length-drop}
+use Rattle.std.proofs.lemmas.List.{drop-drop, length-drop, length-append, take-append-drop}
+use Rattle.std.proofs.Math.Seq.{drop-append_seam}
 use Rattle.std.proofs.lemmas.Bool.{cases_Bool, true≢false, cond-true, cond-false, or_parts, or_cases, not-true, not-false, eqb-true}
-use Rattle.std.proofs.lemmas.Option.{some_pair_parts, none-some}
+use Rattle.std.proofs.lemmas.Option.{some_pair_parts, none-some, same_Some}
 use Rattle.um_model.specs.Ascii.{is_space}
+use Rattle.um_model.specs.Finds.{Finds}
 use Rattle.um_model.specs.declared.words.WordRules.{WordRules}
 use Rattle.um_model.specs.declared.words.WordRules.TheVariants.{Escaped, Plain, Names}
 pub use Rattle.um_model.specs.Words.{with_front, at_end, by_spelling, read}
-use Rattle.um_model.specs.Words.{is_quote, Spelling, Stop, Bad, Turn, Means, Kept, begins_escape, bare, spelled_at, may_end, InWord, ends, stops, turns, stands, keeps, Word, before, AreSpelled, none, space, word_first, values_of, AreWords, Command, is_separator, value_in_command, command_of, commands_of, AreCommands}
+use Rattle.um_model.proofs.FindsLaws.{one_found}
+use Rattle.um_model.specs.Words.{is_quote, Spelling, Stop, Bad, Turn, Means, Kept, begins_escape, meaning_of, hex_value, hex_spelling, is_left_out, rare_escape, means_or, escape, bare, spelled_at, may_end, InWord, ends, stops, turns, stands, keeps, Word, before, AreSpelled, none, space, word_first, values_of, AreWords, Command, is_separator, value_in_command, command_of, commands_of, AreCommands, word_then, read_words, words_of, commands_read}
 
 -- the byte ends or turns a word, outside quotes or in one
 abbrev pub marks : Option ℕ → ℕ → Bool
@@ -183,61 +186,186 @@ InWord-read rules zero quote (b ∷ bs) word rest small e = absurd (omega arith)
 InWord-read rules (suc size) quote (b ∷ bs) word rest small e =
     by_case rules size (InWord-read rules size) (spelled_at rules quote b bs) quote b bs word rest (omega arith) refl e
 
--- the words of a text that begins with a word
-pub words_after : (rules : WordRules) (text rest later : List ℕ) (b : ℕ) (word : List ℕ) (words : List Word) → text ≡ b ∷ later → is_space b ≡ false
-    → read rules 0 None text ≡ Some (word, rest) → AreSpelled rules rest words → AreSpelled rules text (record { spelling = before rest text; value = word } ∷ words)
-words_after rules text rest later b word words e apart found are =
-    subst (λ t. AreSpelled rules t (record { spelling = before rest t; value = word } ∷ words)) (sym e)
-    (word_first b later word rest words apart (InWord-read rules (length (b ∷ later)) None (b ∷ later) word rest (omega arith) (ap (read rules 0 None) (sym e) ∙ found)) are)
+-- an option that is mapped to something was something
+mapped : {A B : Type 0} (f : A → B) (r : Option A) (y : B) → option_map f r ≡ Some y → (x : A) × (r ≡ Some x) × (f x ≡ y)
+mapped f None y e = absurd (none-some y e)
+mapped f (Some x) y e = (x, refl, same_Some (f x) y e)
+
+-- a spelling that ends a word
+abbrev is_stop : Spelling → Bool
+is_stop Stop = true
+is_stop Bad = false
+is_stop (Turn other) = false
+is_stop (Means meaning n) = false
+is_stop (Kept n) = false
+
+goes_either : (t : Bool) (f g : Spelling) → is_stop f ≡ false → is_stop g ≡ false → is_stop (cond t f g) ≡ false
+goes_either true f g first second = first
+goes_either false f g first second = second
+
+goes_meant : (meaning : Option ℕ) (other : Spelling) → is_stop other ≡ false → is_stop (means_or meaning other) ≡ false
+goes_meant (Some meaning) other goes = refl
+goes_meant None other goes = goes
+
+hex_goes : (value : ℕ) → is_stop (hex_spelling value) ≡ false
+hex_goes value = goes_either (nat_lt 0 value && nat_lt value 128) (Means value 4) Bad refl refl
+
+-- no escape ends a word
+escape_goes : (bs : List ℕ) → is_stop (escape bs) ≡ false
+escape_goes [] = refl
+escape_goes (b ∷ bs) =
+    goes_meant (meaning_of b) (rare_escape b bs)
+    (goes_either _ (hex_spelling (hex_value bs)) _ (hex_goes (hex_value bs))
+    (goes_either (is_left_out b bs) Bad _ refl (goes_either (is_space b) (Kept 2) (Kept 1) refl refl)))
+
+bare_goes : (b : ℕ) → is_space b ≡ false → is_stop (bare None b) ≡ false
+bare_goes b apart = ap is_stop (cond-false _ _ _ apart) ∙ goes_either (is_quote b) (Turn (Some b)) (Kept 1) refl refl
+
+-- outside quotes whitespace alone ends a word
+word_goes : (rules : WordRules) (b : ℕ) (bs : List ℕ) → is_space b ≡ false → spelled_at rules None b bs ≡ Stop → ⊥
+word_goes rules b bs apart e = true≢false (sym (ap is_stop e) ∙ goes_either (begins_escape rules b) (escape bs) (bare None b) (escape_goes bs) (bare_goes b apart))
+
+-- what is in front of the rest of a text
+abbrev Follows : List ℕ → List ℕ → Type 0
+Follows text rest = (front : List ℕ) × (text ≡ front ++ rest)
+
+follows_more : (bs rest : List ℕ) (n : ℕ) → Follows (drop n bs) rest → Follows bs rest
+follows_more bs rest n later =
+    (take n bs ++ later.0, sym (take-append-drop n bs) ∙ ap (λ x. take n bs ++ x) later.1 ∙ sym (append_assoc (take n bs) later.0 rest))
+
+-- the rest stands at the end of the text
+rest_follows : (rules : WordRules) (quote : Option ℕ) (bs word rest : List ℕ) → InWord rules quote bs word rest → Follows bs rest
+rest_follows rules quote bs word rest (ends q e) = ([], refl)
+rest_follows rules quote bs word rest (stops q b more e) = ([], refl)
+rest_follows rules quote bs word rest (turns q other b more w r e inside) = follows_more (b ∷ more) r 1 (rest_follows rules other more w r inside)
+rest_follows rules quote bs word rest (stands q b meaning n more w r e inside) =
+    follows_more (b ∷ more) r 1 (follows_more more r (n - 1) (rest_follows rules q (drop (n - 1) more) w r inside))
+rest_follows rules quote bs word rest (keeps q b n more w r e inside) =
+    follows_more (b ∷ more) r 1 (follows_more more r (n - 1) (rest_follows rules q (drop (n - 1) more) w r inside))
+
+-- a word that doesn't begin with whitespace takes a byte at least
+rest_follows_first : (rules : WordRules) (b : ℕ) (bs word rest : List ℕ) → is_space b ≡ false → InWord rules None (b ∷ bs) word rest → Follows bs rest
+rest_follows_first rules b bs word rest apart (stops q c more e) = absurd (word_goes rules b bs apart e)
+rest_follows_first rules b bs word rest apart (turns q other c more w r e inside) = rest_follows rules other more w r inside
+rest_follows_first rules b bs word rest apart (stands q c meaning n more w r e inside) =
+    follows_more more r (n - 1) (rest_follows rules q (drop (n - 1) more) w r inside)
+rest_follows_first rules b bs word rest apart (keeps q c n more w r e inside) =
+    follows_more more r (n - 1) (rest_follows rules q (drop (n - 1) more) w r inside)
+
+read_words_skip : (rules : WordRules) (n : ℕ) (bs : List ℕ) → read_words rules n bs ≡ read_words rules 0 (drop n bs)
+read_words_skip rules zero bs = refl
+read_words_skip rules (suc n) [] = refl
+read_words_skip rules (suc n) (b ∷ bs) = read_words_skip rules n bs
+
+-- behind a first word the rest is read
+rest_read : (rules : WordRules) (b : ℕ) (bs rest : List ℕ) → Follows bs rest → read_words rules (length (b ∷ bs) - length rest - 1) bs ≡ read_words rules 0 rest
+rest_read rules b bs rest at =
+    let place : length (b ∷ bs) - length rest - 1 ≡ length at.0 = omega (arith, ap length at.1, length-append at.0 rest) in
+    read_words_skip rules (length (b ∷ bs) - length rest - 1) bs
+    ∙ ap (read_words rules 0) (ap (λ n. drop n bs) place ∙ ap (drop (length at.0)) at.1 ∙ drop-append_seam at.0 rest)
 
 -- a text that begins with whitespace is as many words as what follows
-pub space_after : (rules : WordRules) (b : ℕ) (later : List ℕ) (words : List Word) → is_space b ≡ true → AreSpelled rules (b ∷ later) words → AreSpelled rules later words
-space_after rules b later words white (space c more ws h are) = are
-space_after rules b later words white (word_first c more w r ws h inside are) = absurd (true≢false (sym white ∙ h))
+pub space_read : (rules : WordRules) (b : ℕ) (bs : List ℕ) → is_space b ≡ true → read_words rules 0 (b ∷ bs) ≡ read_words rules 0 bs
+space_read rules b bs white = cond-true _ _ _ white
 
--- a text of words that doesn't begin with whitespace begins with the word that is read
-word_read : (rules : WordRules) (b : ℕ) (later : List ℕ) (words : List Word) → is_space b ≡ false → AreSpelled rules (b ∷ later) words
-    → (word : List ℕ) × (rest : List ℕ) × (more : List Word) × (read rules 0 None (b ∷ later) ≡ Some (word, rest)) × AreSpelled rules rest more
-    × (words ≡ record { spelling = before rest (b ∷ later); value = word } ∷ more)
-word_read rules b later words apart (space c more ws h are) = absurd (true≢false (sym h ∙ apart))
-word_read rules b later words apart (word_first c more w r ws h inside are) = (w, r, ws, read-InWord rules None (b ∷ later) w r inside, are, refl)
+-- a word that is read at the front of a text
+abbrev pub first_word : List ℕ → List ℕ → List ℕ → Word
+first_word text rest value = record { spelling = before rest text; value = value }
 
--- where nothing is read there are no words
-pub none_reads : (rules : WordRules) (text : List ℕ) (b : ℕ) (later : List ℕ) (words : List Word) → text ≡ b ∷ later → is_space b ≡ false
-    → None ≡ read rules 0 None text → AreSpelled rules text words → ⊥
-none_reads rules text b later words e apart nothing are =
-    let w = word_read rules b later words apart (subst (λ t. AreSpelled rules t words) e are) in
-    none-some (w.0, w.1) (nothing ∙ ap (read rules 0 None) e ∙ w.3)
+first_read : (rules : WordRules) (b : ℕ) (bs value rest : List ℕ) → is_space b ≡ false → InWord rules None (b ∷ bs) value rest
+    → read_words rules 0 (b ∷ bs) ≡ option_map (λ words. first_word (b ∷ bs) rest value ∷ words) (read_words rules 0 rest)
+first_read rules b bs value rest apart inside =
+    cond-false _ _ _ apart
+    ∙ ap (λ r. word_then r (b ∷ bs) (λ n. read_words rules n bs)) (read-InWord rules None (b ∷ bs) value rest inside)
+    ∙ ap (option_map (λ words. first_word (b ∷ bs) rest value ∷ words)) (rest_read rules b bs rest (rest_follows_first rules b bs value rest apart inside))
 
--- the words after the one that is read
-pub later_words : (rules : WordRules) (text : List ℕ) (b : ℕ) (later word rest : List ℕ) (words : List Word) → text ≡ b ∷ later → is_space b ≡ false
-    → Some (word, rest) ≡ read rules 0 None text → AreSpelled rules text words → (more : List Word) × AreSpelled rules rest more
-later_words rules text b later word rest words e apart found are =
-    let w = word_read rules b later words apart (subst (λ t. AreSpelled rules t words) e are) in
-    let p = some_pair_parts w.0 word w.1 rest (sym w.3 ∙ ap (read rules 0 None) (sym e) ∙ sym found) in
-    (w.2, subst (λ t. AreSpelled rules t w.2) p.1 w.4)
+-- a text that begins with a word is this word, and the words that follow it
+pub word_read : (rules : WordRules) (text rest later : List ℕ) (b : ℕ) (value : List ℕ) → text ≡ b ∷ later → is_space b ≡ false
+    → read rules 0 None text ≡ Some (value, rest)
+    → read_words rules 0 text ≡ option_map (λ words. first_word text rest value ∷ words) (read_words rules 0 rest)
+word_read rules text rest later b value e apart found =
+    ap (read_words rules 0) e
+    ∙ first_read rules b later value rest apart (InWord-read rules (length (b ∷ later)) None (b ∷ later) value rest (omega arith) (ap (read rules 0 None) (sym e) ∙ found))
+    ∙ ap (λ t. option_map (λ words. first_word t rest value ∷ words) (read_words rules 0 rest)) (sym e)
 
-nil_words : (rules : WordRules) (words : List Word) → AreSpelled rules [] words → words ≡ []
-nil_words rules words none = refl
+-- where no word is read there are none
+pub none_read : (rules : WordRules) (text later : List ℕ) (b : ℕ) → text ≡ b ∷ later → is_space b ≡ false → read rules 0 None text ≡ None → read_words rules 0 text ≡ None
+none_read rules text later b e apart nothing =
+    ap (read_words rules 0) e ∙ cond-false _ _ _ apart
+    ∙ ap (λ r. word_then r (b ∷ later) (λ n. read_words rules n later)) (ap (read rules 0 None) (sym e) ∙ nothing)
 
--- a text is one list of words at most
-pub same_spelled : (rules : WordRules) (text : List ℕ) (a b : List Word) → AreSpelled rules text a → AreSpelled rules text b → a ≡ b
-same_spelled rules text a b none others = sym (nil_words rules b others)
-same_spelled rules text a b (space c more ws h are) others = same_spelled rules more ws b are (space_after rules c more b h others)
-same_spelled rules text a b (word_first c more w rest ws h inside are) others =
-    let t = word_read rules c more b h others in
-    let p = some_pair_parts t.0 w t.1 rest (sym t.3 ∙ read-InWord rules None (c ∷ more) w rest inside) in
-    let tail = same_spelled rules rest ws t.2 are (subst (λ r. AreSpelled rules r t.2) p.1 t.4) in
-    let head : List ℕ → List ℕ → Word = λ r v. record { spelling = before r (c ∷ more); value = v } in
-    ap (λ x. head rest x ∷ ws) (sym p.0) ∙ ap (λ r. head r t.0 ∷ ws) (sym p.1) ∙ ap (λ x. head t.1 t.0 ∷ x) tail ∙ sym t.5
+-- the function finds each reading of a text as words
+pub read_words-AreSpelled : (rules : WordRules) (text : List ℕ) (words : List Word) → AreSpelled rules text words → read_words rules 0 text ≡ Some words
+read_words-AreSpelled rules text words none = refl
+read_words-AreSpelled rules text words (space b bs ws white are) = space_read rules b bs white ∙ read_words-AreSpelled rules bs ws are
+read_words-AreSpelled rules text words (word_first b bs value rest ws apart inside are) =
+    first_read rules b bs value rest apart inside ∙ ap (option_map (λ more. first_word (b ∷ bs) rest value ∷ more)) (read_words-AreSpelled rules rest ws are)
 
--- and so reads as one list of texts
+abbrev FindsSpelled : WordRules → ℕ → Type 0
+FindsSpelled rules size = (text : List ℕ) (words : List Word) → length text ≤ size → read_words rules 0 text ≡ Some words → AreSpelled rules text words
+
+by_first : (rules : WordRules) (size : ℕ) → FindsSpelled rules size → (r : Option (List ℕ × List ℕ)) (b : ℕ) (bs : List ℕ) (words : List Word) → length bs ≤ size
+    → is_space b ≡ false → read rules 0 None (b ∷ bs) ≡ r → word_then r (b ∷ bs) (λ n. read_words rules n bs) ≡ Some words → AreSpelled rules (b ∷ bs) words
+by_first rules size finds None b bs words small apart is h = absurd (none-some words h)
+by_first rules size finds (Some p) b bs words small apart is h =
+    let inside = InWord-read rules (length (b ∷ bs)) None (b ∷ bs) p.0 p.1 (omega arith) is in
+    let at = rest_follows_first rules b bs p.0 p.1 apart inside in
+    let t = mapped (λ ws. first_word (b ∷ bs) p.1 p.0 ∷ ws) (read_words rules (length (b ∷ bs) - length p.1 - 1) bs) words h in
+    subst (AreSpelled rules (b ∷ bs)) t.2
+    (word_first b bs p.0 p.1 t.0 apart inside (finds p.1 t.0 (omega (arith, ap length at.1, length-append at.0 p.1)) (sym (rest_read rules b bs p.1 at) ∙ t.1)))
+
+AreSpelled-sized : (rules : WordRules) (size : ℕ) → FindsSpelled rules size
+AreSpelled-sized rules size [] words small e = subst (AreSpelled rules []) (same_Some [] words e) none
+AreSpelled-sized rules zero (b ∷ bs) words small e = absurd (omega arith)
+AreSpelled-sized rules (suc size) (b ∷ bs) words small e = elim (cases_Bool (is_space b)) [
+  | inl white ↦ space b bs words white (AreSpelled-sized rules size bs words (omega arith) (sym (space_read rules b bs white) ∙ e))
+  | inr apart ↦ by_first rules size (AreSpelled-sized rules size) (read rules 0 None (b ∷ bs)) b bs words (omega arith) apart refl (sym (cond-false _ _ _ apart) ∙ e)
+]
+
+-- what the function finds is a reading
+pub AreSpelled-read_words : (rules : WordRules) (text : List ℕ) (words : List Word) → read_words rules 0 text ≡ Some words → AreSpelled rules text words
+AreSpelled-read_words rules text words e = AreSpelled-sized rules (length text) text words (omega arith) e
+
+-- the same of what the words stand for
+pub words_of-AreWords : (rules : WordRules) (text : List ℕ) (words : List (List ℕ)) → AreWords rules text words → words_of rules text ≡ Some words
+unfolding words_of
+words_of-AreWords rules text words are = ap (option_map values_of) (read_words-AreSpelled rules text are.0 are.1) ∙ ap Some are.2
+
+pub AreWords-words_of : (rules : WordRules) (text : List ℕ) (words : List (List ℕ)) → words_of rules text ≡ Some words → AreWords rules text words
+unfolding words_of
+AreWords-words_of rules text words e =
+    let t = mapped values_of (read_words rules 0 text) words e in
+    (t.0, AreSpelled-read_words rules text t.0 t.1, t.2)
+
+-- and of commands
+pub commands_read-AreCommands : (text : List ℕ) (commands : List Command) → AreCommands text commands → commands_read text ≡ Some commands
+unfolding commands_read
+commands_read-AreCommands text commands are = ap (option_map commands_of) (read_words-AreSpelled Escaped text are.0 are.1) ∙ ap Some are.2
+
+pub AreCommands-commands_read : (text : List ℕ) (commands : List Command) → commands_read text ≡ Some commands → AreCommands text commands
+unfolding commands_read
+AreCommands-commands_read text commands e =
+    let t = mapped commands_of (read_words Escaped 0 text) commands e in
+    (t.0, AreSpelled-read_words Escaped text t.0 t.1, t.2)
+
+-- each function finds what its relation tells
+
+pub finds_spelled : (rules : WordRules) (text : List ℕ) → Finds (read_words rules 0 text) (AreSpelled rules text)
+finds_spelled rules text = λ words. (AreSpelled-read_words rules text words, read_words-AreSpelled rules text words)
+
+pub finds_words : (rules : WordRules) (text : List ℕ) → Finds (words_of rules text) (AreWords rules text)
+finds_words rules text = λ words. (AreWords-words_of rules text words, words_of-AreWords rules text words)
+
+pub finds_commands : (text : List ℕ) → Finds (commands_read text) (AreCommands text)
+finds_commands text = λ commands. (AreCommands-commands_read text commands, commands_read-AreCommands text commands)
+
+-- a text reads as one list of words at most
 pub same_words : (rules : WordRules) (text : List ℕ) (a b : List (List ℕ)) → AreWords rules text a → AreWords rules text b → a ≡ b
-same_words rules text a b first second = sym first.2 ∙ ap values_of (same_spelled rules text first.0 second.0 first.1 second.1) ∙ second.2
+same_words rules text = one_found (words_of rules text) (AreWords rules text) (finds_words rules text)
 
 -- and as one list of commands
 pub same_commands : (text : List ℕ) (a b : List Command) → AreCommands text a → AreCommands text b → a ≡ b
-same_commands text a b first second = sym first.2 ∙ ap commands_of (same_spelled Escaped text first.0 second.0 first.1 second.1) ∙ second.2
+same_commands text = one_found (commands_read text) (AreCommands text) (finds_commands text)
 
 -- the commands of words, where these values stand before the first separator already
 abbrev pub commands_after : List (List ℕ) → List Word → List Command

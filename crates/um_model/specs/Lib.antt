@@ -30,3 +30,4 @@ pub mod Specifiers
 pub mod Disk
 pub mod Bytes
 pub mod Store
+pub mod Finds

@@ -16,8 +16,8 @@ fn add_all(set: &mut [bool], other: &[bool])
     ensures same_length { length set.new ≡ length set.old }
     ensures either { (i : ℕ) → slice_index_or set.new i false ≡ (slice_index_or set.old i false || slice_index_or other.now i false) }
 {
-    for (place, more) in set.iter_mut().zip(other) {
-        *place = *place || *more;
+    for (index, place) in set.iter_mut().enumerate() {
+        *place = *place || other[index];
     }
 }
 

@@ -1,7 +1,8 @@
-//! What the definitions of values say together, as a function that does nothing.
+//! What the definitions of values say together, as functions that do nothing.
 
 ghost use Rattle.std.specs.Prelude.{◌≡◌, ℕ, List, Bool};
-ghost use Rattle.um_model.specs.Values.{IsBoolean, IsNumber, IsSpan, IsExitSet, restart_text};
+ghost use Rattle.um_model.specs.Finds.{Finds};
+ghost use Rattle.um_model.specs.Values.{IsBoolean, IsNumber, IsSpan, IsExitSet, restart_text, boolean_of, number_of, span_of, exits_of, policy_named};
 ghost use Rattle.um_model.specs.declared.service.End as ends;
 ghost use Rattle.um_model.specs.declared.settings.RestartPolicy as policies;
 ghost use Rattle.um_model.specs.declared.settings.TimeSpan as spans;
@@ -13,4 +14,13 @@ pub fn a_value_has_one_reading()
     ensures span { (text : List ℕ) (a b : spans.TimeSpan) → IsSpan text a → IsSpan text b → a ≡ b }
     ensures exits { (text : List ℕ) (a b : ends.End → Bool) → IsExitSet text a → IsExitSet text b → (end : ends.End) → a end ≡ b end }
     ensures restart { (a b : policies.RestartPolicy) → restart_text a ≡ restart_text b → a ≡ b }
+{}
+
+/// The functions of the definitions find each reading of a text as a value, and nothing else.
+pub fn each_value_is_found()
+    ensures boolean { (text : List ℕ) → Finds (boolean_of text) (IsBoolean text) }
+    ensures number { (text : List ℕ) → Finds (number_of text) (IsNumber text) }
+    ensures span { (text : List ℕ) → Finds (span_of text) (IsSpan text) }
+    ensures exits { (text : List ℕ) → Finds (exits_of text) (IsExitSet text) }
+    ensures restart { (text : List ℕ) → Finds (policy_named text) (λ policy. restart_text policy ≡ text) }
 {}

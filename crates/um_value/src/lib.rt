@@ -13,7 +13,7 @@ mod tests;
 
 pub use booleans::boolean;
 pub use exits::{ExitSet, exit_set};
-pub use laws::a_value_has_one_reading;
+pub use laws::{a_value_has_one_reading, each_value_is_found};
 pub use numbers::number;
 pub use policies::restart;
 pub use spans::span;

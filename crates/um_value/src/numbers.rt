@@ -36,6 +36,7 @@ pub fn is_decimal(text: &[u8]) -> bool
     !text.is_empty() && is_digits(text)
 }
 
+#[tactic(auto, unfolding(um_model::specs::Values::number_of))]
 /// The number that the text's decimal digits spell, at most 4,294,967,295. None for a greater one, for any other byte than a
 /// digit, and for no digit.
 pub fn number(text: &str) -> Option<u32>

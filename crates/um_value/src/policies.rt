@@ -16,6 +16,7 @@ const POLICIES: [RestartPolicy; 7] = [
     RestartPolicy::OnWatchdog,
 ];
 
+#[tactic(auto, unfolding(um_model::specs::Values::policy_named))]
 /// The policy of that name: `no always on-success on-failure on-abnormal on-abort on-watchdog` (systemd.service(5),
 /// `Restart=`). None for any other text.
 pub fn restart(text: &str) -> Option<RestartPolicy>
@@ -26,5 +27,5 @@ pub fn restart(text: &str) -> Option<RestartPolicy>
     POLICIES
         .iter()
         .copied()
-        .find(|policy| policy.text() == text)
+        .find(|policy| text == policy.text())
 }

@@ -147,6 +147,26 @@ fn an_exit_set_holds_what_its_words_tell(rt: HostRuntime) -> Result<(), Fail> {
 }
 
 #[test]
+fn a_set_is_joined_with_another(rt: HostRuntime) -> Result<(), Fail> {
+    let mut set = exit_set("7 SIGHUP").unwrap_or(ExitSet::empty());
+    set.add(&exit_set("255 SIGHUP SIGTERM").unwrap_or(ExitSet::empty()));
+    for end in [
+        End::Code(7),
+        End::Code(255),
+        End::Signal(1),
+        End::Signal(15),
+    ] {
+        assert!(rt; set.holds(end));
+    }
+    for end in [End::Code(1), End::Code(15), End::Signal(7), End::Lost] {
+        assert!(rt; !set.holds(end));
+    }
+    set.add(&ExitSet::empty());
+    assert!(rt; set.holds(End::Code(7)) && !set.holds(End::Code(0)));
+    Ok(())
+}
+
+#[test]
 fn each_signal_has_its_number(rt: HostRuntime) -> Result<(), Fail> {
     let names = [
         "SIGHUP", "SIGINT", "SIGQUIT", "SIGILL", "SIGTRAP", "SIGABRT", "SIGBUS", "SIGFPE",

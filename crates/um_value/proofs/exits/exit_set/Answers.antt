@@ -5,7 +5,10 @@ use Rattle.std.proofs.lemmas.List.{length_push, take_all}
 use Rattle.std.proofs.lemmas.Iterator.Consumers.{YieldsList-from_filter, YieldsList-turn, YieldsList-end}
 use Rattle.std.proofs.lemmas.Iterator.Splits.{YieldsList-from_slice_split}
 use Rattle.um_model.specs.Ascii.{is_space}
-use Rattle.um_model.specs.Values.{exit_of, is_end, is_exit, words_in}
+use Rattle.um_model.specs.Values.{exit_of, is_end, is_exit, words_in, IsExitSet, exits_of}
+use Rattle.um_model.proofs.FindsLaws.{told_by_relation}
+use Rattle.um_model.proofs.ValuesLaws.{exits_of-IsExitSet, finds_exits}
+use Rattle.um_value.specs.ExitSet.{holds}
 use Rattle.um_value.proofs.ExitLemmas.{word_more, readable_more, exact_more, unreadable}
 use Rattle.um_value.proofs.exits.exit_set.Goals as goal
 
@@ -44,3 +47,11 @@ returns-clause-found c =
       readable = ap (list_all is_exit) (sym all) ∙ c.loop-word.invariant.readable;
       exact = λ end. c.loop-word.invariant.exact end ∙ ap (list_any (λ w. is_end end (exit_of w))) all;
     }
+
+pub returns-in_err-exit_of-clause-same : goal.returns-in_err-exit_of-clause-same
+returns-in_err-exit_of-clause-same c =
+    let text = c.args.text.now in
+    told_by_relation (exits_of text) (IsExitSet text) (finds_exits text) holds c.from_residual.result (rw c.from_residual.ensures tt) (returns-in_err-exit_of-clause-none c)
+
+pub returns-clause-same : goal.returns-clause-same
+returns-clause-same c = sym (exits_of-IsExitSet c.args.text.now (holds c.loop-word.set) (returns-clause-found c))
