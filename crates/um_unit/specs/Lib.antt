@@ -1,3 +1,6 @@
 pub mod View
+pub mod FilesView
 pub mod ServiceView
-pub mod Commands
+pub mod Readings
+pub mod Sources
+pub mod Values

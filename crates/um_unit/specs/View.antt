@@ -1,14 +1,14 @@
 -- Units of the code as the units of the definitions.
-use Rattle.std.specs.Prelude.{List, ℕ, option_map, map, string_bytes}
-use Rattle.um_model.specs.Tree.{Entry}
+use Rattle.std.specs.Prelude.{List, ℕ, Bool, Option, Some, None, option_map, map, string_bytes}
+use Rattle.um_model.specs.Resolution.{Resolution, AtFile, AtNoFile, AtMask, Nowhere}
 use Rattle.um_model.specs.Units as model
-use Rattle.um_tree.specs.View.{entry_of}
 use Rattle.um_unit.specs.ServiceView.{service_settings_of}
-use Rattle.um_unit.specs.declared.resolve.Located.{Located}
-use Rattle.um_unit.specs.declared.resolve.Resolution.{Resolution}
-use Rattle.um_unit.specs.declared.resolve.Resolution.TheVariants as resolution
-use Rattle.um_unit.specs.declared.loaded.Warning.{Warning}
-use Rattle.um_unit.specs.declared.loaded.Settings.{Settings}
+use Rattle.um_unit.specs.declared.warnings.Warning.{Warning}
+use Rattle.um_unit.specs.declared.settings.Dependencies.{Dependencies}
+use Rattle.um_unit.specs.declared.settings.InstallSettings.{InstallSettings}
+use Rattle.um_unit.specs.declared.settings.Settings.{Settings}
+use Rattle.um_unit.specs.declared.singles.TypeSaid.{TypeSaid}
+use Rattle.um_unit.specs.declared.singles.TypeSaid.TheVariants as said
 use Rattle.um_unit.specs.declared.loaded.LoadedUnit.{LoadedUnit}
 use Rattle.um_unit.specs.declared.loaded.Loading.{Loading}
 use Rattle.um_unit.specs.declared.loaded.Loading.TheVariants as loading
@@ -16,22 +16,52 @@ use Rattle.um_unit.specs.declared.loaded.Loading.TheVariants as loading
 abbrev pub warning_of : Warning → model.Warning
 warning_of w = record { kind = w.kind; path = string_bytes w.path; line = w.line }
 
+abbrev pub said_of : TypeSaid → model.TypeSaid
+said_of said.Unsaid = model.Unsaid
+said_of (said.Served kind) = model.Served kind
+said_of said.Unserved = model.Unserved
+
+abbrev pub dependencies_of : Dependencies → model.Dependencies
+dependencies_of d = record {
+  after = map string_bytes d.after.items;
+  before = map string_bytes d.before.items;
+  wants = map string_bytes d.wants.items;
+  required = map string_bytes d.required.items;
+  binds_to = map string_bytes d.binds_to.items;
+  part_of = map string_bytes d.part_of.items;
+  conflicts = map string_bytes d.conflicts.items;
+  default_dependencies = d.default_dependencies;
+}
+
+abbrev pub install_of : InstallSettings → model.InstallSettings
+install_of i = record {
+  alias = map string_bytes i.alias.items;
+  wanted_by = map string_bytes i.wanted_by.items;
+  required_by = map string_bytes i.required_by.items;
+  also = map string_bytes i.also.items;
+  default_instance = option_map string_bytes i.default_instance;
+}
+
 abbrev pub settings_of : Settings → model.Settings
-settings_of s = record { description = string_bytes s.description; service = service_settings_of s.service }
+settings_of s = record {
+  description = string_bytes s.description;
+  dependencies = dependencies_of s.dependencies;
+  service = service_settings_of s.service;
+  install = install_of s.install;
+}
 
 abbrev pub unit_of : LoadedUnit → model.LoadedUnit
 unit_of u = record { name = u.name; path = option_map string_bytes u.path; settings = settings_of u.settings; warnings = map warning_of u.warnings.items }
 
 abbrev pub loading_of : Loading → model.Loading
 loading_of (loading.Found u) = model.Found (unit_of u)
-loading_of loading.Masked = model.Masked
+loading_of (loading.Masked unit) = model.Masked unit
 loading_of loading.NotFound = model.NotFound
-loading_of (loading.BadSetting reason) = model.BadSetting (string_bytes reason)
+loading_of (loading.BadSetting unit reason) = model.BadSetting unit (string_bytes reason)
 
-abbrev pub located_of : Located → List ℕ × Entry
-located_of h = (string_bytes h.path, entry_of h.entry)
-
-abbrev pub resolution_of : Resolution → model.Resolution
-resolution_of (resolution.File path text) = model.AtFile (string_bytes path) text.now
-resolution_of resolution.Mask = model.AtMask
-resolution_of resolution.Nowhere = model.Nowhere
+-- what becomes of a name that leads there, with these files
+abbrev pub loading_with : Resolution → List model.Source → model.Loading
+loading_with (AtFile unit path text) sources = model.loading_by_file unit path sources
+loading_with (AtNoFile unit) sources = model.Found (model.without_install (model.unit_by unit None sources))
+loading_with (AtMask unit) sources = model.Masked unit
+loading_with Nowhere sources = model.NotFound

@@ -1,47 +1,55 @@
-ghost use Rattle.std.specs.Prelude.{◌≡◌, Some};
+//! The sections and keys of unit files.
+
+ghost use Rattle.std.specs.Prelude.{◌≡◌, Some, map};
 ghost use Rattle.std.specs.List.{list_any};
 ghost use Rattle.std.specs.Str.{bytes_eq};
-ghost use Rattle.um_model.specs.Units as model;
+ghost use Rattle.um_model.specs.Keys as keys;
 
-use um_model::Suffix;
+use um_model::{Suffix, ValueKind};
 
 /// The keys of `[Unit]` (systemd.unit(5)).
-const UNIT_KEYS: [&str; 12] = [
-    "Description",
-    "Documentation",
-    "After",
-    "Before",
-    "Wants",
-    "Requires",
-    "BindsTo",
-    "PartOf",
-    "Conflicts",
-    "DefaultDependencies",
-    "StartLimitIntervalSec",
-    "StartLimitBurst",
+const UNIT_KEYS: [(&str, ValueKind); 12] = [
+    ("Description", ValueKind::Text),
+    ("Documentation", ValueKind::Unused),
+    ("After", ValueKind::Units),
+    ("Before", ValueKind::Units),
+    ("Wants", ValueKind::Units),
+    ("Requires", ValueKind::Units),
+    ("BindsTo", ValueKind::Units),
+    ("PartOf", ValueKind::Units),
+    ("Conflicts", ValueKind::Units),
+    ("DefaultDependencies", ValueKind::Truth),
+    ("StartLimitIntervalSec", ValueKind::Span),
+    ("StartLimitBurst", ValueKind::Number),
 ];
 
 /// The keys of `[Service]` (systemd.service(5)).
-const SERVICE_KEYS: [&str; 15] = [
-    "Type",
-    "ExecStart",
-    "ExecStop",
-    "Environment",
-    "RemainAfterExit",
-    "Restart",
-    "RestartSec",
-    "TimeoutStartSec",
-    "TimeoutStopSec",
-    "TimeoutSec",
-    "SuccessExitStatus",
-    "RestartPreventExitStatus",
-    "RestartForceExitStatus",
-    "StartLimitInterval",
-    "StartLimitBurst",
+const SERVICE_KEYS: [(&str, ValueKind); 15] = [
+    ("Type", ValueKind::ServiceType),
+    ("ExecStart", ValueKind::Commands),
+    ("ExecStop", ValueKind::Commands),
+    ("Environment", ValueKind::Environment),
+    ("RemainAfterExit", ValueKind::Truth),
+    ("Restart", ValueKind::Policy),
+    ("RestartSec", ValueKind::Span),
+    ("TimeoutStartSec", ValueKind::Span),
+    ("TimeoutStopSec", ValueKind::Span),
+    ("TimeoutSec", ValueKind::Span),
+    ("SuccessExitStatus", ValueKind::Exits),
+    ("RestartPreventExitStatus", ValueKind::Exits),
+    ("RestartForceExitStatus", ValueKind::Exits),
+    ("StartLimitInterval", ValueKind::Span),
+    ("StartLimitBurst", ValueKind::Number),
 ];
 
 /// The keys of `[Install]` (systemd.unit(5)).
-const INSTALL_KEYS: [&str; 5] = ["Alias", "WantedBy", "RequiredBy", "Also", "DefaultInstance"];
+const INSTALL_KEYS: [(&str, ValueKind); 5] = [
+    ("Alias", ValueKind::Aliases),
+    ("WantedBy", ValueKind::Units),
+    ("RequiredBy", ValueKind::Units),
+    ("Also", ValueKind::Units),
+    ("DefaultInstance", ValueKind::Instance),
+];
 
 /// Keys that no unit may have, in any section: a start that ignored one would do what its author didn't write.
 const REFUSED_KEYS: [&str; 14] = [
@@ -68,13 +76,14 @@ fn is_among(text: &str, words: &[&str]) -> bool
 }
 
 fn begins_with(front: &str, text: &str) -> bool
-    ensures { result ≡ model.begins_with front.now text.now }
+    ensures { result ≡ keys.begins_with front.now text.now }
 {
     text.as_bytes().starts_with(front.as_bytes())
 }
 
-fn is_refused_key(key: &str) -> bool
-    ensures { result ≡ model.is_refused_key key.now }
+/// Whether no unit may have the key with a value: it is one of those, or begins with `Condition` or `Assert`.
+pub fn is_refused_key(key: &str) -> bool
+    ensures { result ≡ keys.is_refused_key key.now }
 {
     if is_among(key, &REFUSED_KEYS) {
         return true;
@@ -84,14 +93,14 @@ fn is_refused_key(key: &str) -> bool
 
 /// Whether a section or a key isn't ours: it begins with `X-` (systemd.unit(5)).
 pub fn is_foreign(text: &str) -> bool
-    ensures { result ≡ model.is_foreign text.now }
+    ensures { result ≡ keys.is_foreign text.now }
 {
     begins_with("X-", text)
 }
 
 /// Whether a unit of this type has the section.
 pub fn is_known_section(suffix: Suffix, section: &str) -> bool
-    ensures { result ≡ model.is_known_section (Some suffix) section.now }
+    ensures { result ≡ keys.is_known_section (Some suffix) section.now }
 {
     match suffix {
         Suffix::Service => section == "Unit" || section == "Install" || section == "Service",
@@ -99,21 +108,44 @@ pub fn is_known_section(suffix: Suffix, section: &str) -> bool
     }
 }
 
-/// Whether the key is known in a known section.
-pub fn is_known_key(section: &str, key: &str) -> bool
-    ensures { result ≡ model.is_known_key section.now key.now }
+/// The kind of a key's values among these keys.
+fn kind_among(known: &[(&str, ValueKind)], key: &str) -> Option<ValueKind>
+    ensures { result ≡ keys.kind_among (map (λ k. (k.0.now, k.1)) known.now) key.now }
 {
-    is_key_of(section, key) || is_refused_key(key)
+    for (name, kind) in known {
+        if key == *name {
+            return Some(*kind);
+        }
+    }
+    None
 }
 
-fn is_key_of(section: &str, key: &str) -> bool
-    ensures { result ≡ model.is_among key.now (model.keys_of section.now) }
+/// The kind of a key's values among the keys of a known section.
+fn kind_in(section: &str, key: &str) -> Option<ValueKind>
+    ensures { result ≡ keys.kind_among (keys.keys_of section.now) key.now }
 {
     if section == "Unit" {
-        return is_among(key, &UNIT_KEYS);
+        return kind_among(&UNIT_KEYS, key);
     }
     if section == "Install" {
-        return is_among(key, &INSTALL_KEYS);
+        return kind_among(&INSTALL_KEYS, key);
     }
-    is_among(key, &SERVICE_KEYS)
+    kind_among(&SERVICE_KEYS, key)
+}
+
+/// The kind of a key's values in a known section, where the key is known.
+#[tactic(auto, unfolding(um_model::specs::Keys::kind_of_key))]
+pub fn kind_of_key(section: &str, key: &str) -> Option<ValueKind>
+    ensures { result ≡ keys.kind_of_key section.now key.now }
+{
+    match kind_in(section, key) {
+        Some(kind) => Some(kind),
+        None => {
+            if is_refused_key(key) {
+                Some(ValueKind::Refused)
+            } else {
+                None
+            }
+        }
+    }
 }

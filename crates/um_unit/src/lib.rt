@@ -2,18 +2,24 @@
 //! and warnings, or that it is masked, not found or refused.
 #![tactic(auto)]
 
-mod commands;
-mod file_settings;
-mod items;
+mod assignments;
+mod files;
 mod keys;
+mod lists;
 mod loaded;
 mod loader;
-mod read;
+mod readings;
+mod reasons;
 mod resolve;
 mod service_settings;
+mod settings;
+mod singles;
 #[cfg(test)]
 mod tests;
+mod warnings;
 
-pub use loaded::{LoadedUnit, Loading, Settings, Warning};
+pub use loaded::{LoadedUnit, Loading};
 pub use loader::load;
 pub use service_settings::ServiceSettings;
+pub use settings::{Dependencies, InstallSettings, Settings};
+pub use warnings::Warning;

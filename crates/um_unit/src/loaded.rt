@@ -1,34 +1,16 @@
-use crate::service_settings::ServiceSettings;
-use um_model::WarningKind;
+use crate::settings::Settings;
+use crate::warnings::Warning;
 use um_name::UnitName;
-
-/// A line of a unit's file, or a word in it, that is without effect.
-#[derive(Debug, Drop)]
-pub struct Warning {
-    pub kind: WarningKind,
-    /// The path of the file in the tree.
-    pub path: String,
-    /// The number of the first physical line, from 1.
-    pub line: usize,
-}
-
-/// What a unit's file sets.
-#[derive(Debug, Drop)]
-pub struct Settings {
-    /// The text for people, empty where none is given (systemd.unit(5), `Description=`).
-    pub description: String,
-    /// What it says of its processes, its restarts and its start limit; a target has the defaults.
-    pub service: ServiceSettings,
-}
 
 /// A unit that was found.
 #[derive(Drop)]
 pub struct LoadedUnit {
+    /// Its own name, to which the name that was asked for leads.
     pub name: UnitName,
     /// The path of its file in the tree; none for the `shutdown.target` that nothing holds.
     pub path: Option<String>,
     pub settings: Settings,
-    /// By line.
+    /// By file in the order in which they are read, and by line.
     pub warnings: Vec<Warning>,
 }
 
@@ -36,9 +18,9 @@ pub struct LoadedUnit {
 #[derive(Drop)]
 pub enum Loading {
     Found(LoadedUnit),
-    /// Its file is empty.
-    Masked,
+    /// An empty file or a link to `/dev/null` holds the unit of this name.
+    Masked { unit: UnitName },
     NotFound,
-    /// It has a setting that is refused, for this reason: a service without exactly one command has `exec-count`.
-    BadSetting { reason: String },
+    /// The unit of this name has a setting that is refused, for this reason.
+    BadSetting { unit: UnitName, reason: String },
 }

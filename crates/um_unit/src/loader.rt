@@ -1,114 +1,110 @@
-ghost use Rattle.std.specs.Prelude.{◌≡◌, IfOk, List, Some, codes, not, string_bytes};
-ghost use Rattle.std.specs.Str.{bytes_eq};
-ghost use Rattle.um_model.specs.Syntax.{Placed, reading_of};
-ghost use Rattle.um_model.specs.Units as model;
-ghost use Rattle.um_unit.specs.View.{loading_of, unit_of};
-ghost use Rattle.um_words.specs.Commands.{commands_seen};
+//! Units by their files.
 
-use crate::file_settings::settings_of;
-use crate::loaded::{LoadedUnit, Loading, Settings};
-use crate::read::warnings_of;
+ghost use Rattle.std.specs.Prelude.{◌≡◌, IfOk, Some, None, map, string_bytes};
+ghost use Rattle.um_model.specs.Names.{suffix_of};
+ghost use Rattle.um_model.specs.Resolution.{files_at};
+ghost use Rattle.um_model.specs.Units as model;
+ghost use Rattle.um_unit.specs.FilesView.{resolution_of, unit_file_of};
+ghost use Rattle.um_unit.specs.Sources.{source_of};
+ghost use Rattle.um_unit.specs.View.{loading_of, loading_with, unit_of};
+
+use crate::assignments::{Source, assignments};
+use crate::files::{SourceFile, source_files};
+use crate::loaded::{LoadedUnit, Loading};
+use crate::reasons::reason_of;
 use crate::resolve::{Resolution, resolve};
-use crate::service_settings::ServiceSettings;
+use crate::settings::{InstallSettings, settings_of};
+use crate::warnings::warnings_of;
 use std::alloc::{AllocError, Global};
-use um_model::{Suffix, UnitKind};
 use um_name::UnitName;
 use um_syntax::parse;
 use um_tree::Tree;
 
-/// A unit by its file.
-fn unit_of_file(
-    alloc: Global,
-    unit: &UnitName,
-    path: String,
-    text: &str,
-) -> Result<LoadedUnit, AllocError>
-    ensures { IfOk result (λ u. unit_of u ≡ model.unit_of_file unit.now (string_bytes path) (reading_of text.now)) }
+/// The files as they are read.
+fn sources<'t>(alloc: Global, files: &[SourceFile<'t>]) -> Result<Vec<Source<'t>>, AllocError>
+    ensures { IfOk result (λ s. map source_of s.items ≡ map model.source_of (map unit_file_of files.now)) }
 {
-    let items = parse(alloc, text)?;
-    let suffix = unit.suffix();
-    let settings = settings_of(alloc, suffix, items.as_slice())?;
-    let warnings = warnings_of(alloc, suffix, path.as_str(), items.as_slice())?;
-    Ok(LoadedUnit {
-        name: unit.copy()?,
-        path: Some(path),
-        settings,
-        warnings,
-    })
-}
-
-/// Whether it is a service that has no command of `ExecStart=`, or more than one.
-fn lacks_its_command(suffix: Suffix, found: &LoadedUnit) -> bool
-    ensures { (reading : List Placed) → commands_seen found.now.settings.service.start.items ≡ (model.service_settings_of (Some suffix) reading).start
-        → result ≡ model.lacks_its_command (Some suffix) reading }
-{
-    match suffix {
-        Suffix::Service => found.settings.service.start.len() != 1,
-        _ => false,
+    let mut sources = Vec::new(alloc);
+    for file in files {
+        let items = parse(alloc, file.text)?;
+        sources.push(Source {
+            path: file.path,
+            items,
+        })?;
     }
+    Ok(sources)
 }
 
-/// What becomes of a unit that has a file.
-fn loading_of_file(
+/// A unit with a file: found, unless a setting is refused.
+fn loading_by_file(
     alloc: Global,
     unit: &UnitName,
-    path: String,
-    text: &str,
+    path: &str,
+    sources: &[Source<'_>],
 ) -> Result<Loading, AllocError>
-    ensures { IfOk result (λ l. loading_of l ≡ model.loading_of_file unit.now (string_bytes path) (reading_of text.now)) }
+    ensures { IfOk result (λ l. loading_of l ≡ model.loading_by_file unit.now path.now (map source_of sources.now)) }
 {
-    let found = unit_of_file(alloc, unit, path, text)?;
-    if lacks_its_command(unit.suffix(), &found) {
-        let reason = String::from_str(alloc, "exec-count")?;
-        return Ok(Loading::BadSetting { reason });
+    let assigned = assignments(alloc, unit.suffix(), sources)?;
+    let settings = settings_of(alloc, unit, assigned.as_slice())?;
+    let reason = reason_of(alloc, unit.suffix(), assigned.as_slice(), &settings.service)?;
+    if let Some(reason) = reason {
+        return Ok(Loading::BadSetting {
+            unit: unit.copy()?,
+            reason,
+        });
     }
-    Ok(Loading::Found(found))
+    Ok(Loading::Found(LoadedUnit {
+        name: unit.copy()?,
+        path: Some(String::from_str(alloc, path)?),
+        settings,
+        warnings: warnings_of(alloc, unit, sources)?,
+    }))
 }
 
-/// A unit that is found where nothing holds it.
-fn unit_without_file(alloc: Global, unit: &UnitName) -> Result<LoadedUnit, AllocError>
-    ensures { IfOk result (λ u. unit_of u ≡ model.unit_without_file unit.now) }
+/// A unit that needs no file: found, whatever its drop-ins set, and nothing in them enables it.
+fn unit_without_file(
+    alloc: Global,
+    unit: &UnitName,
+    sources: &[Source<'_>],
+) -> Result<LoadedUnit, AllocError>
+    ensures { IfOk result (λ u. unit_of u ≡ model.without_install (model.unit_by unit.now None (map source_of sources.now))) }
 {
+    let assigned = assignments(alloc, unit.suffix(), sources)?;
+    let mut settings = settings_of(alloc, unit, assigned.as_slice())?;
+    settings.install = InstallSettings::nothing(alloc);
     Ok(LoadedUnit {
         name: unit.copy()?,
         path: None,
-        settings: Settings {
-            description: String::new(alloc),
-            service: ServiceSettings::new(alloc, UnitKind::Target),
-        },
-        warnings: Vec::new(alloc),
+        settings,
+        warnings: warnings_of(alloc, unit, sources)?,
     })
 }
 
-/// Whether a unit is found only where a file holds it.
-fn needs_file(unit: &UnitName) -> bool
-    ensures { result ≡ not (bytes_eq unit.now (codes "shutdown.target")) }
+/// What becomes of a name that leads there.
+fn loading_at(
+    alloc: Global,
+    resolution: &Resolution<'_>,
+    sources: &[Source<'_>],
+) -> Result<Loading, AllocError>
+    ensures { IfOk result (λ l. loading_of l ≡ loading_with (resolution_of resolution.now) (map source_of sources.now)) }
 {
-    unit.as_str() != "shutdown.target"
-}
-
-/// What becomes of a unit that nothing holds.
-fn loading_without_file(alloc: Global, unit: &UnitName) -> Result<Loading, AllocError>
-    ensures { IfOk result (λ l. loading_of l ≡ model.loading_at unit.now model.Nowhere) }
-{
-    if needs_file(unit) {
-        return Ok(Loading::NotFound);
+    match resolution {
+        Resolution::File { unit, path, .. } => loading_by_file(alloc, unit, path.as_str(), sources),
+        Resolution::NoFile { unit } => Ok(Loading::Found(unit_without_file(alloc, unit, sources)?)),
+        Resolution::Mask { unit } => Ok(Loading::Masked { unit: unit.copy()? }),
+        Resolution::Nowhere => Ok(Loading::NotFound),
     }
-    let found = unit_without_file(alloc, unit)?;
-    Ok(Loading::Found(found))
 }
 
-/// The unit of that name in the tree: found, masked by an empty file, or not found. The first layer that holds `LAYER/NAME`
-/// counts, or else the first that holds its template (systemd.unit(5), "Unit File Load Path"). Units of the types other than
-/// service and target are never found; `shutdown.target` is found even where nothing holds it. A service without exactly one
-/// command of `ExecStart=` has a bad setting, `exec-count` (systemd.service(5)).
+/// The unit of that name in the tree: found, masked, not found, or refused for a setting. Names lead on by links, templates
+/// and masks (systemd.unit(5), "Unit File Load Path"); drop-ins are read behind the unit's own file. Units of the types other
+/// than service and target are never found; `shutdown.target` is found even where nothing holds it.
 #[tactic(auto, unfolding(um_model::specs::Units::load))]
 pub fn load(alloc: Global, tree: &Tree, unit: &UnitName) -> Result<Loading, AllocError>
     ensures { IfOk result (λ l. loading_of l ≡ model.load tree.now unit.now) }
 {
-    match resolve(alloc, tree, unit)? {
-        Resolution::File { path, text } => loading_of_file(alloc, unit, path, text),
-        Resolution::Mask => Ok(Loading::Masked),
-        Resolution::Nowhere => loading_without_file(alloc, unit),
-    }
+    let resolution = resolve(alloc, tree, unit)?;
+    let files = source_files(alloc, tree, &resolution)?;
+    let sources = sources(alloc, files.as_slice())?;
+    loading_at(alloc, &resolution, sources.as_slice())
 }

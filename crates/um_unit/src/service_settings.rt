@@ -1,5 +1,5 @@
 ghost use Rattle.std.specs.Prelude.{◌≡◌};
-ghost use Rattle.um_model.specs.Settings.{default_settings};
+ghost use Rattle.um_model.specs.Settings.{acting_settings, default_settings};
 ghost use Rattle.um_unit.specs.ServiceView.{service_settings_of};
 
 use std::alloc::Global;
@@ -62,5 +62,15 @@ impl ServiceSettings {
             prevents_restart: ExitSet::empty(),
             forces_restart: ExitSet::empty(),
         }
+    }
+
+    /// What the service table acts on until services are served in full: the commands of `ExecStart=` and their environment.
+    pub fn acting(self, alloc: Global) -> ServiceSettings
+        ensures { service_settings_of result ≡ acting_settings (service_settings_of self) }
+    {
+        let mut settings = ServiceSettings::new(alloc, self.kind);
+        settings.start = self.start;
+        settings.environment = self.environment;
+        settings
     }
 }

@@ -19,4 +19,4 @@ pub use laws::{
 };
 pub use splitting::{names, words};
 pub use substitution::substitute;
-pub use variables::Variable;
+pub use variables::{Variable, is_variable_name};

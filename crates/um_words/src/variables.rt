@@ -36,7 +36,7 @@ fn are_name_bytes(bytes: &[u8]) -> bool
 }
 
 /// Whether the text is the name of a variable.
-fn is_variable_name(text: &str) -> bool
+pub fn is_variable_name(text: &str) -> bool
     ensures { result ≡ is_variable_name text.now }
 {
     match text.as_bytes() {

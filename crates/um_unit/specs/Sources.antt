@@ -1,0 +1,19 @@
+-- Sources and assignments of the code as those of the definitions.
+use Rattle.std.specs.Prelude.{ℕ, List, Option, None, map}
+use Rattle.std.specs.List.{flat_map}
+use Rattle.um_model.specs.Syntax.{Placed, in_sections}
+use Rattle.um_model.specs.Units as model
+use Rattle.um_model.specs.declared.names.Suffix.{Suffix}
+use Rattle.um_syntax.specs.Items.{item_of}
+use Rattle.um_unit.specs.declared.assignments.Assigned.{Assigned}
+use Rattle.um_unit.specs.declared.assignments.Source.{Source}
+
+abbrev pub source_of : Source → model.Source
+source_of s = record { path = s.path.now; reading = in_sections None (map item_of s.items.items) }
+
+abbrev pub assigned_of : Assigned → model.Assigned
+assigned_of a = record { section = a.section.now; key = a.key.now; value = a.value.now }
+
+-- the assignments of one file
+abbrev pub assigned_in : Option Suffix → List Placed → List model.Assigned
+assigned_in type reading = flat_map (λ p. model.assigned_by type p.section p.item) reading

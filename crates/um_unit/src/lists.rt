@@ -1,0 +1,141 @@
+//! Settings of several values: each adds to what the earlier ones say.
+
+ghost use Rattle.std.specs.Prelude.{◌≡◌, ◌++◌, ◌∷◌, [], IfOk, OnOk, codes, map, string_bytes, filter_map};
+ghost use Rattle.std.specs.List.{flat_map};
+ghost use Rattle.um_model.specs.Names.{is_unit_name};
+ghost use Rattle.um_model.specs.Readings as readings;
+ghost use Rattle.um_model.specs.Units as model;
+ghost use Rattle.um_unit.specs.Readings.{fits_use};
+ghost use Rattle.um_unit.specs.Sources.{assigned_of};
+ghost use Rattle.um_value.specs.ExitSet.{holds};
+ghost use Rattle.um_words.specs.Commands.{commands_seen};
+ghost use Rattle.um_words.specs.Environment.{variables_of};
+
+use crate::assignments::{Assigned, since_empty, values_of};
+use crate::readings::{
+    NameUse, Reading, commands_reading, environment_reading, names_reading,
+};
+use std::alloc::{AllocError, Global};
+use um_name::UnitName;
+use um_value::{ExitSet, exit_set};
+use um_words::{Command, Variable};
+
+/// Adds the names that could be read.
+fn add_names(names: &mut Vec<String>, readings: Vec<Reading<String>>) -> Result<(), AllocError>
+    ensures { OnOk result (map string_bytes names.new.items ≡ map string_bytes names.old.items ++ map string_bytes (filter_map readings.read_in readings.items)) }
+{
+    for reading in readings {
+        if let Ok(name) = reading {
+            names.push(name)?;
+        }
+    }
+    Ok(())
+}
+
+/// Everything that the values name.
+fn names_of(
+    alloc: Global,
+    uses: NameUse,
+    unit: &UnitName,
+    values: &[&str],
+) -> Result<Vec<String>, AllocError>
+    ensures { IfOk result (λ names. map string_bytes names.items ≡ model.names_of (fits_use uses unit.now) unit.now (map (λ v. v.now) values.now)) }
+{
+    let mut names = Vec::new(alloc);
+    for value in values {
+        add_names(&mut names, names_reading(alloc, uses, unit, value)?)?;
+    }
+    Ok(names)
+}
+
+/// The units that a setting of `[Unit]` names; an empty value takes nothing back.
+pub fn units_named(
+    alloc: Global,
+    unit: &UnitName,
+    assigned: &[Assigned<'_>],
+    key: &str,
+) -> Result<Vec<String>, AllocError>
+    ensures { IfOk result (λ names. map string_bytes names.items ≡ model.units_named key.now unit.now (map assigned_of assigned.now)) }
+{
+    let values = values_of(alloc, assigned, &[("Unit", key)])?;
+    names_of(alloc, NameUse::Units, unit, values.as_slice())
+}
+
+/// What a setting of `[Install]` names, behind the last empty value.
+pub fn install_names(
+    alloc: Global,
+    uses: NameUse,
+    unit: &UnitName,
+    assigned: &[Assigned<'_>],
+    key: &str,
+) -> Result<Vec<String>, AllocError>
+    ensures { IfOk result (λ names. map string_bytes names.items
+        ≡ model.names_of (fits_use uses unit.now) unit.now (model.since_empty (model.values_of (model.in_install key.now ∷ []) (map assigned_of assigned.now)))) }
+{
+    let values = values_of(alloc, assigned, &[("Install", key)])?;
+    names_of(alloc, uses, unit, since_empty(values.as_slice()))
+}
+
+/// What `Also=` names; an empty value takes nothing back.
+pub fn also_names(
+    alloc: Global,
+    unit: &UnitName,
+    assigned: &[Assigned<'_>],
+) -> Result<Vec<String>, AllocError>
+    ensures { IfOk result (λ names. map string_bytes names.items
+        ≡ model.names_of is_unit_name unit.now (model.values_of (model.in_install (codes "Also") ∷ []) (map assigned_of assigned.now))) }
+{
+    let values = values_of(alloc, assigned, &[("Install", "Also")])?;
+    names_of(alloc, NameUse::Units, unit, values.as_slice())
+}
+
+/// The commands of a setting of `[Service]`, behind the last empty value.
+pub fn commands_of(
+    alloc: Global,
+    unit: &UnitName,
+    assigned: &[Assigned<'_>],
+    key: &str,
+) -> Result<Vec<Command>, AllocError>
+    ensures { IfOk result (λ commands. commands_seen commands.items ≡ model.commands_of key.now unit.now (map assigned_of assigned.now)) }
+{
+    let values = values_of(alloc, assigned, &[("Service", key)])?;
+    let mut commands = Vec::new(alloc);
+    for value in since_empty(values.as_slice()) {
+        if let Ok(read) = commands_reading(alloc, unit, value)? {
+            commands.extend(read)?;
+        }
+    }
+    Ok(commands)
+}
+
+/// The variables of `Environment=`, behind the last empty value.
+pub fn environment_of(
+    alloc: Global,
+    unit: &UnitName,
+    assigned: &[Assigned<'_>],
+) -> Result<Vec<Variable>, AllocError>
+    ensures { IfOk result (λ variables. variables_of variables.items ≡ model.environment_of unit.now (map assigned_of assigned.now)) }
+{
+    let values = values_of(alloc, assigned, &[("Service", "Environment")])?;
+    let mut variables = Vec::new(alloc);
+    for value in since_empty(values.as_slice()) {
+        if let Ok(read) = environment_reading(alloc, unit, value)? {
+            variables.extend(read)?;
+        }
+    }
+    Ok(variables)
+}
+
+/// The ends that a setting of `[Service]` tells, behind the last empty value.
+pub fn exits_in(alloc: Global, assigned: &[Assigned<'_>], key: &str) -> Result<ExitSet, AllocError>
+    ensures { IfOk result (λ set. holds set ≡ model.exits_in key.now (map assigned_of assigned.now)) }
+{
+    let values = values_of(alloc, assigned, &[("Service", key)])?;
+    let mut exits = ExitSet::empty();
+    for value in since_empty(values.as_slice()) {
+        if let Some(set) = exit_set(value) {
+            exits.add(&set);
+        }
+    }
+    Ok(exits)
+}

@@ -1,0 +1,227 @@
+//! What a unit's files set.
+
+ghost use Rattle.std.specs.Prelude.{◌≡◌, IfOk, map};
+ghost use Rattle.um_model.specs.Names.{suffix_of};
+ghost use Rattle.um_model.specs.Units as model;
+ghost use Rattle.um_unit.specs.ServiceView.{service_settings_of};
+ghost use Rattle.um_unit.specs.Sources.{assigned_of};
+ghost use Rattle.um_unit.specs.View.{dependencies_of, install_of, said_of, settings_of};
+ghost use Rattle.um_words.specs.Commands.{commands_seen};
+
+use crate::assignments::Assigned;
+use crate::lists::{
+    also_names, commands_of, environment_of, exits_in, install_names, units_named,
+};
+use crate::readings::NameUse;
+use crate::service_settings::ServiceSettings;
+use crate::singles::{
+    TypeSaid, count, delay, instance, policy, text, timeout, truth, type_of,
+};
+use std::alloc::{AllocError, Global};
+use um_model::{Suffix, UnitKind};
+use um_name::UnitName;
+use um_words::Command;
+
+/// What other units a unit names, each list in order (systemd.unit(5)).
+#[derive(Debug, Drop)]
+pub struct Dependencies {
+    /// `After=`.
+    pub after: Vec<String>,
+    /// `Before=`.
+    pub before: Vec<String>,
+    /// `Wants=`.
+    pub wants: Vec<String>,
+    /// `Requires=`.
+    pub required: Vec<String>,
+    /// `BindsTo=`.
+    pub binds_to: Vec<String>,
+    /// `PartOf=`.
+    pub part_of: Vec<String>,
+    /// `Conflicts=`.
+    pub conflicts: Vec<String>,
+    /// `DefaultDependencies=`.
+    pub default_dependencies: bool,
+}
+
+/// What enabling a unit makes (systemd.unit(5), "[Install] Section Options").
+#[derive(Debug, Drop)]
+pub struct InstallSettings {
+    /// `Alias=`.
+    pub alias: Vec<String>,
+    /// `WantedBy=`.
+    pub wanted_by: Vec<String>,
+    /// `RequiredBy=`.
+    pub required_by: Vec<String>,
+    /// `Also=`.
+    pub also: Vec<String>,
+    /// `DefaultInstance=`.
+    pub default_instance: Option<String>,
+}
+
+/// What a unit's files set.
+#[derive(Debug, Drop)]
+pub struct Settings {
+    /// The text for people, empty where none is given (systemd.unit(5), `Description=`).
+    pub description: String,
+    /// What other units it names.
+    pub dependencies: Dependencies,
+    /// What it says of its processes, its restarts and its start limit; of these a target has the limit alone.
+    pub service: ServiceSettings,
+    /// What enabling it makes.
+    pub install: InstallSettings,
+}
+
+impl InstallSettings {
+    /// Those of a unit that enabling makes nothing for.
+    pub fn nothing(alloc: Global) -> InstallSettings
+        ensures { install_of result ≡ model.nothing_installed }
+    {
+        InstallSettings {
+            alias: Vec::new(alloc),
+            wanted_by: Vec::new(alloc),
+            required_by: Vec::new(alloc),
+            also: Vec::new(alloc),
+            default_instance: None,
+        }
+    }
+}
+
+#[tactic(auto, unfolding(um_model::specs::Units::dependencies_of))]
+fn dependencies_of(
+    alloc: Global,
+    unit: &UnitName,
+    assigned: &[Assigned<'_>],
+) -> Result<Dependencies, AllocError>
+    ensures { IfOk result (λ d. dependencies_of d ≡ model.dependencies_of unit.now (map assigned_of assigned.now)) }
+{
+    Ok(Dependencies {
+        after: units_named(alloc, unit, assigned, "After")?,
+        before: units_named(alloc, unit, assigned, "Before")?,
+        wants: units_named(alloc, unit, assigned, "Wants")?,
+        required: units_named(alloc, unit, assigned, "Requires")?,
+        binds_to: units_named(alloc, unit, assigned, "BindsTo")?,
+        part_of: units_named(alloc, unit, assigned, "PartOf")?,
+        conflicts: units_named(alloc, unit, assigned, "Conflicts")?,
+        default_dependencies: truth(alloc, assigned, &[("Unit", "DefaultDependencies")], true)?,
+    })
+}
+
+#[tactic(auto, unfolding(um_model::specs::Units::install_settings_of))]
+fn install_settings_of(
+    alloc: Global,
+    unit: &UnitName,
+    assigned: &[Assigned<'_>],
+) -> Result<InstallSettings, AllocError>
+    ensures { IfOk result (λ i. install_of i ≡ model.install_settings_of unit.now (map assigned_of assigned.now)) }
+{
+    Ok(InstallSettings {
+        alias: install_names(alloc, NameUse::Aliases, unit, assigned, "Alias")?,
+        wanted_by: install_names(alloc, NameUse::Units, unit, assigned, "WantedBy")?,
+        required_by: install_names(alloc, NameUse::Units, unit, assigned, "RequiredBy")?,
+        also: also_names(alloc, unit, assigned)?,
+        default_instance: instance(alloc, assigned, &[("Install", "DefaultInstance")])?,
+    })
+}
+
+/// The kind of a service by its type: where nothing is said, simple with a command and oneshot without (systemd.service(5),
+/// `Type=`).
+fn kind_by(said: TypeSaid, start: &[Command]) -> UnitKind
+    ensures { result ≡ model.kind_by (said_of said) (commands_seen start.now) }
+{
+    match said {
+        TypeSaid::Served(kind) => kind,
+        TypeSaid::Unsaid if start.is_empty() => UnitKind::Oneshot,
+        TypeSaid::Unsaid | TypeSaid::Unserved => UnitKind::Simple,
+    }
+}
+
+/// A oneshot service may start as long as it likes, any other 90 seconds.
+fn default_timeout_start(kind: UnitKind) -> Option<u64>
+    ensures { result ≡ model.default_timeout_start kind }
+{
+    match kind {
+        UnitKind::Oneshot => None,
+        _ => Some(90_000_000),
+    }
+}
+
+/// The settings of a service of this kind with these commands.
+fn service_settings_with(
+    alloc: Global,
+    start: Vec<Command>,
+    kind: UnitKind,
+    unit: &UnitName,
+    assigned: &[Assigned<'_>],
+) -> Result<ServiceSettings, AllocError>
+    ensures { IfOk result (λ s. service_settings_of s ≡ model.service_settings_with (commands_seen start.items) kind unit.now (map assigned_of assigned.now)) }
+{
+    Ok(ServiceSettings {
+        kind,
+        start,
+        stop: commands_of(alloc, unit, assigned, "ExecStop")?,
+        environment: environment_of(alloc, unit, assigned)?,
+        remains: truth(alloc, assigned, &[("Service", "RemainAfterExit")], false)?,
+        restart: policy(alloc, assigned, &[("Service", "Restart")])?,
+        restart_delay: delay(alloc, assigned, &[("Service", "RestartSec")], 100_000)?,
+        timeout_start: timeout(
+            alloc,
+            assigned,
+            &[("Service", "TimeoutStartSec"), ("Service", "TimeoutSec")],
+            default_timeout_start(kind),
+        )?,
+        timeout_stop: timeout(
+            alloc,
+            assigned,
+            &[("Service", "TimeoutStopSec"), ("Service", "TimeoutSec")],
+            Some(90_000_000),
+        )?,
+        limit_interval: delay(
+            alloc,
+            assigned,
+            &[("Unit", "StartLimitIntervalSec"), ("Service", "StartLimitInterval")],
+            10_000_000,
+        )?,
+        limit_burst: count(
+            alloc,
+            assigned,
+            &[("Unit", "StartLimitBurst"), ("Service", "StartLimitBurst")],
+            5,
+        )?,
+        success: exits_in(alloc, assigned, "SuccessExitStatus")?,
+        prevents_restart: exits_in(alloc, assigned, "RestartPreventExitStatus")?,
+        forces_restart: exits_in(alloc, assigned, "RestartForceExitStatus")?,
+    })
+}
+
+/// What a unit's files say of its processes. A unit that isn't a service has none, and may set the start limit alone.
+#[tactic(auto, unfolding(um_model::specs::Units::service_settings_of))]
+fn service_settings_of(
+    alloc: Global,
+    unit: &UnitName,
+    assigned: &[Assigned<'_>],
+) -> Result<ServiceSettings, AllocError>
+    ensures { IfOk result (λ s. service_settings_of s ≡ model.service_settings_of (suffix_of unit.now) unit.now (map assigned_of assigned.now)) }
+{
+    let Suffix::Service = unit.suffix() else {
+        return service_settings_with(alloc, Vec::new(alloc), UnitKind::Target, unit, assigned);
+    };
+    let start = commands_of(alloc, unit, assigned, "ExecStart")?;
+    let kind = kind_by(type_of(alloc, assigned)?, start.as_slice());
+    service_settings_with(alloc, start, kind, unit, assigned)
+}
+
+/// The settings of a unit by its assignments.
+pub fn settings_of(
+    alloc: Global,
+    unit: &UnitName,
+    assigned: &[Assigned<'_>],
+) -> Result<Settings, AllocError>
+    ensures { IfOk result (λ s. settings_of s ≡ model.settings_of unit.now (map assigned_of assigned.now)) }
+{
+    Ok(Settings {
+        description: text(alloc, unit, assigned, &[("Unit", "Description")])?,
+        dependencies: dependencies_of(alloc, unit, assigned)?,
+        service: service_settings_of(alloc, unit, assigned)?,
+        install: install_settings_of(alloc, unit, assigned)?,
+    })
+}

@@ -1,0 +1,231 @@
+//! What the lines of a unit's files warn of.
+
+ghost use Rattle.std.specs.Prelude.{◌≡◌, ◌++◌, ℕ, List, true, Some, OnOk, IfOk, map, option_map};
+ghost use Rattle.um_model.specs.Readings as readings;
+ghost use Rattle.um_model.specs.Syntax.{line_number};
+ghost use Rattle.um_model.specs.Units as model;
+ghost use Rattle.um_syntax.specs.Items.{item_of};
+ghost use Rattle.um_unit.specs.Readings.{fits_use};
+ghost use Rattle.um_unit.specs.Sources.{source_of};
+ghost use Rattle.um_unit.specs.Values.{is_plain, unless_readable};
+ghost use Rattle.um_unit.specs.View.{warning_of};
+
+use crate::assignments::{Source, section_after};
+use crate::keys::{is_foreign, is_known_section, kind_of_key};
+use crate::readings::{
+    NameUse, Reading, commands_reading, environment_reading, first_warning, is_instance,
+    names_reading, text_reading,
+};
+use crate::singles::type_said;
+use std::alloc::{AllocError, Global};
+use um_model::{Suffix, ValueKind, WarningKind};
+use um_name::UnitName;
+use um_syntax::Item;
+use um_value::{boolean, exit_set, number, restart, span};
+
+/// A line of a unit's file, or a word in it, that is without effect.
+#[derive(Debug, Drop)]
+pub struct Warning {
+    pub kind: WarningKind,
+    /// The path of the file in the tree.
+    pub path: String,
+    /// The number of the first physical line, from 1.
+    pub line: usize,
+}
+
+fn warning_in<T: Drop>(reading: Reading<T>) -> Option<WarningKind>
+    ensures { result ≡ readings.warning_in reading }
+{
+    reading.err()
+}
+
+fn unless_readable(readable: bool) -> Option<WarningKind>
+    ensures { result ≡ unless_readable readable }
+{
+    if readable {
+        None
+    } else {
+        Some(WarningKind::UnreadableValue)
+    }
+}
+
+/// The warning of a value that takes no memory to read.
+fn plain_warning(kind: ValueKind, value: &str) -> Option<WarningKind>
+    ensures { (unit : List ℕ) → is_plain kind ≡ true → result ≡ model.value_warning unit kind value.now }
+{
+    unless_readable(match kind {
+        ValueKind::Instance => is_instance(value),
+        ValueKind::Truth => boolean(value).is_some(),
+        ValueKind::Span => span(value).is_some(),
+        ValueKind::Number => number(value).is_some(),
+        ValueKind::Exits => exit_set(value).is_some(),
+        ValueKind::Policy => restart(value).is_some(),
+        ValueKind::ServiceType => type_said(value).is_some(),
+        _ => true,
+    })
+}
+
+fn names_warning(
+    alloc: Global,
+    uses: NameUse,
+    unit: &UnitName,
+    value: &str,
+) -> Result<Option<WarningKind>, AllocError>
+    ensures { IfOk result (λ w. w ≡ readings.first_warning (readings.names_reading (fits_use uses unit.now) unit.now value.now)) }
+{
+    let readings = names_reading(alloc, uses, unit, value)?;
+    Ok(first_warning(readings.as_slice()))
+}
+
+/// The warning that a value of this kind gives.
+#[tactic(auto, unfolding(um_model::specs::Units::value_warning))]
+fn value_warning(
+    alloc: Global,
+    unit: &UnitName,
+    kind: ValueKind,
+    value: &str,
+) -> Result<Option<WarningKind>, AllocError>
+    ensures { IfOk result (λ w. w ≡ model.value_warning unit.now kind value.now) }
+{
+    match kind {
+        ValueKind::Text => Ok(warning_in(text_reading(alloc, unit, value)?)),
+        ValueKind::Units => names_warning(alloc, NameUse::Units, unit, value),
+        ValueKind::Aliases => names_warning(alloc, NameUse::Aliases, unit, value),
+        ValueKind::Commands => Ok(warning_in(commands_reading(alloc, unit, value)?)),
+        ValueKind::Environment => Ok(warning_in(environment_reading(alloc, unit, value)?)),
+        other => Ok(plain_warning(other, value)),
+    }
+}
+
+/// The warning of an assignment in a known section.
+fn assignment_warning(
+    alloc: Global,
+    unit: &UnitName,
+    section: &str,
+    key: &str,
+    value: &str,
+) -> Result<Option<WarningKind>, AllocError>
+    ensures { IfOk result (λ w. w ≡ model.assignment_warning unit.now section.now key.now value.now) }
+{
+    if is_foreign(key) {
+        return Ok(None);
+    }
+    match kind_of_key(section, key) {
+        Some(kind) => value_warning(alloc, unit, kind, value),
+        None => Ok(Some(WarningKind::UnknownKey)),
+    }
+}
+
+fn head_warning(suffix: Suffix, name: &str) -> Option<WarningKind>
+    ensures { result ≡ model.head_warning (Some suffix) name.now }
+{
+    if is_known_section(suffix, name) || is_foreign(name) {
+        None
+    } else {
+        Some(WarningKind::UnknownSection)
+    }
+}
+
+/// The lines of a section that isn't known give no warning.
+fn warning_of_assignment(
+    alloc: Global,
+    unit: &UnitName,
+    section: Option<&str>,
+    key: &str,
+    value: &str,
+) -> Result<Option<WarningKind>, AllocError>
+    ensures { IfOk result (λ w. w ≡ model.warning_of_assignment unit.now (option_map (λ s. s.now) section.entry) key.now value.now) }
+{
+    match section {
+        Some(section) if is_known_section(unit.suffix(), section) =>
+            assignment_warning(alloc, unit, section, key, value),
+        _ => Ok(None),
+    }
+}
+
+fn warning_of_syntax(
+    suffix: Suffix,
+    section: Option<&str>,
+    kind: WarningKind,
+) -> Option<WarningKind>
+    ensures { result ≡ model.warning_of_syntax (Some suffix) (option_map (λ s. s.now) section.entry) kind }
+{
+    match section {
+        Some(section) => {
+            if is_known_section(suffix, section) {
+                Some(kind)
+            } else {
+                None
+            }
+        }
+        None => Some(kind),
+    }
+}
+
+/// The warning that an item gives in this section.
+fn item_warning(
+    alloc: Global,
+    unit: &UnitName,
+    section: Option<&str>,
+    item: &Item<'_>,
+) -> Result<Option<WarningKind>, AllocError>
+    ensures { IfOk result (λ w. w ≡ model.warning_of unit.now (option_map (λ s. s.now) section.entry) (item_of item.now)) }
+{
+    match item {
+        Item::Section { name, .. } => Ok(head_warning(unit.suffix(), name.as_str())),
+        Item::Assignment { key, value, .. } => warning_of_assignment(
+            alloc,
+            unit,
+            section,
+            key.as_str(),
+            value.as_str(),
+        ),
+        Item::Warning { kind, .. } => Ok(warning_of_syntax(unit.suffix(), section, *kind)),
+    }
+}
+
+/// The line of an item.
+fn line_of(item: &Item<'_>) -> usize
+    ensures { result ≡ line_number (item_of item.now) }
+{
+    match item {
+        Item::Section { line, .. } | Item::Assignment { line, .. } | Item::Warning { line, .. } =>
+            *line,
+    }
+}
+
+/// Adds the warnings of a file, by line.
+fn add_warnings(
+    alloc: Global,
+    unit: &UnitName,
+    source: &Source<'_>,
+    warnings: &mut Vec<Warning>,
+) -> Result<(), AllocError>
+    ensures { OnOk result (map warning_of warnings.new.items ≡ map warning_of warnings.old.items ++ model.warnings_in unit.now (source_of source.now)) }
+{
+    let mut section = None;
+    for item in &source.items {
+        section = section_after(section, item);
+        if let Some(kind) = item_warning(alloc, unit, section, item)? {
+            let path = String::from_str(alloc, source.path)?;
+            let line = line_of(item);
+            warnings.push(Warning { kind, path, line })?;
+        }
+    }
+    Ok(())
+}
+
+/// The warnings of a unit, by file in the order in which they are read.
+pub fn warnings_of(
+    alloc: Global,
+    unit: &UnitName,
+    sources: &[Source<'_>],
+) -> Result<Vec<Warning>, AllocError>
+    ensures { IfOk result (λ w. map warning_of w.items ≡ model.warnings_of unit.now (map source_of sources.now)) }
+{
+    let mut warnings = Vec::new(alloc);
+    for source in sources {
+        add_warnings(alloc, unit, source, &mut warnings)?;
+    }
+    Ok(warnings)
+}
