@@ -1,3 +1,1 @@
-pub mod View
-pub mod ServiceView
-pub mod Commands
+pub mod FilesView

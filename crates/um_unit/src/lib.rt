@@ -1,19 +1,7 @@
-//! Units by their files: `load` gives exactly what the definition gives for a tree and a name - the unit with its settings
-//! and warnings, or that it is masked, not found or refused.
+//! Units by their files.
 #![tactic(auto)]
 
-mod commands;
-mod file_settings;
-mod items;
-mod keys;
-mod loaded;
-mod loader;
-mod read;
+// mod drop_ins;
+// mod files;
 mod resolve;
-mod service_settings;
-#[cfg(test)]
-mod tests;
 
-pub use loaded::{LoadedUnit, Loading, Settings, Warning};
-pub use loader::load;
-pub use service_settings::ServiceSettings;
