@@ -1,7 +1,7 @@
 //! Units by their files.
 #![tactic(auto)]
 
-// mod drop_ins;
+mod drop_ins;
 // mod files;
 mod resolve;
 
