@@ -4,10 +4,16 @@ use Rattle.std.specs.Cmp.Lexicographic.{slice_cmp}
 use Rattle.std.specs.FinMap as map
 use Rattle.std.specs.Ordering.{nat_cmp}
 use Rattle.std.specs.declared.alloc.Global.{Global}
+use Rattle.um_model.specs.Machine.{Reply, Files as FilesTold, Refusal}
+use Rattle.um_model.specs.Refusals.{masked, not_found}
 use Rattle.um_model.specs.Resolution as model
 use Rattle.um_model.specs.Tree.{Entry}
 use Rattle.um_tree.specs.View.{entry_of}
 use Rattle.um_unit.specs.declared.drop_ins.DropIn.{DropIn}
+use Rattle.um_unit.specs.declared.files.Files.{Files}
+use Rattle.um_unit.specs.declared.files.Files.TheVariants as files
+use Rattle.um_unit.specs.declared.files.SourceFile.{SourceFile}
+use Rattle.um_unit.specs.declared.files.UnitFile.{UnitFile}
 use Rattle.um_unit.specs.declared.resolve.Located.{Located}
 use Rattle.um_unit.specs.declared.resolve.Resolution.{Resolution}
 use Rattle.um_unit.specs.declared.resolve.Resolution.TheVariants as resolution
@@ -53,3 +59,16 @@ first_kept found d = if map.contains_key found d.file then found else map.insert
 abbrev pub added : ByFile → List model.DropIn → ByFile
 added found [] = found
 added found (d ∷ ds) = added (first_kept found d) ds
+
+-- a file as it is borrowed, and as it is handed out
+abbrev pub unit_file_of : SourceFile → model.UnitFile
+unit_file_of f = record { path = f.path.now; text = f.text.now }
+
+abbrev pub file_of : UnitFile → model.UnitFile
+file_of f = record { path = string_bytes f.path; text = string_bytes f.text }
+
+-- the reply that tells the files of the unit that was asked for
+abbrev pub reply_by : List ℕ → Files → Reply
+reply_by asked (files.Found found) = FilesTold (each file_of found.items)
+reply_by asked (files.Masked unit) = Refusal (masked unit)
+reply_by asked files.NotFound = Refusal (not_found asked)

@@ -2,6 +2,8 @@
 #![tactic(auto)]
 
 mod drop_ins;
-// mod files;
+mod files;
 mod resolve;
 
+
+pub use files::{Files, UnitFile, files_of};
