@@ -10,6 +10,7 @@ mod order;
 mod suffixes;
 #[cfg(test)]
 mod tests;
+mod text;
 mod unit_name;
 
 pub use escapes::{escape, unescape};
@@ -20,5 +21,6 @@ pub use laws::{
 };
 pub use maps::copy_by_name;
 pub use suffixes::suffix_of;
+pub use text::{is_template, with_instance};
 pub use um_model::Suffix;
 pub use unit_name::{UnitName, is_unit_name};

@@ -87,6 +87,19 @@ impl UnitName {
         }
     }
 
+    /// The name that the text is, if it is a unit name.
+    pub fn named(alloc: Global, text: &str) -> Result<Option<UnitName>, AllocError>
+        ensures { IfOk result (λ name. name ≡ names.named text.now) }
+    {
+        match named_suffix(text) {
+            Some(suffix) => {
+                let text = String::from_str(alloc, text)?;
+                Ok(Some(UnitName { text, suffix }))
+            }
+            None => Ok(None),
+        }
+    }
+
     /// The whole name.
     pub fn as_str(&self) -> &str
         ensures value { result.now ≡ self.now }

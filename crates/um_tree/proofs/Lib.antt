@@ -1,4 +1,3 @@
-pub mod Names
 pub mod TextMaps
 pub mod TextParts
 pub mod Trees

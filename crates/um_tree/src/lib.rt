@@ -15,5 +15,6 @@ pub use entries::Entries;
 pub use entry::Entry;
 pub use laws::{a_path_has_one_reading, a_served_path_has_its_parts};
 pub use path::{Place, ServedPath};
+pub use text::{behind, last_part};
 pub use tree::Tree;
 pub use um_model::Layer;

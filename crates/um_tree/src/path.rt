@@ -8,7 +8,7 @@ ghost use Rattle.um_tree.specs.View.{layer_and_text, text_and_place};
 use crate::text::{around_slash, before, behind, last_part};
 use std::marker::Model;
 use um_model::Layer;
-use um_name::{is_unit_name, suffix_of};
+use um_name::{is_template, is_unit_name};
 
 /// What a path names, beside its unit.
 #[derive(Clone, Copy, Debug, PartialEq, Eq)]
@@ -42,26 +42,6 @@ impl<'a> Model for ServedPath<'a> {
     ghost view = { λ p. record { layer = p.layer; unit = p.unit.now; place = place_of p.place } };
 
     ghost invariant = { λ p. model.is_fit_place p.unit.now (place_of p.place) ≡ true };
-}
-
-/// What stands before the suffix.
-fn stem_of(text: &str) -> &str
-    ensures { result.now ≡ names.stem_of text.now }
-{
-    match suffix_of(text) {
-        Some(suffix) => before(suffix.text(), text).unwrap_or(text),
-        None => text,
-    }
-}
-
-/// Whether the text, which is a unit name, is a template: it has `@` and an empty instance.
-fn is_template(text: &str) -> bool
-    ensures { result ≡ names.is_template text.now }
-{
-    match stem_of(text).split_once('@') {
-        Some((_, instance)) => instance.is_empty(),
-        None => false,
-    }
 }
 
 fn is_plain_name(text: &str) -> bool

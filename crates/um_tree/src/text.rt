@@ -4,7 +4,7 @@ ghost use Rattle.um_model.specs.Tree.{is_slash, behind, before, around_slash};
 ghost use Rattle.um_tree.specs.View.{text_of, two_texts};
 
 /// What follows the front, of a text that begins so.
-pub(crate) fn behind<'a>(front: &str, text: &'a str) -> Option<&'a str>
+pub fn behind<'a>(front: &str, text: &'a str) -> Option<&'a str>
     ensures { option_map text_of result ≡ behind front.now text.now }
 {
     text.strip_prefix(front)
@@ -25,7 +25,7 @@ pub(crate) fn around_slash(text: &str) -> Option<(&str, &str)>
 }
 
 /// The part behind the last `/`, or the whole text without one.
-pub(crate) fn last_part(text: &str) -> &str
+pub fn last_part(text: &str) -> &str
     ensures { result.now ≡ after_last is_slash text.now }
 {
     match text.rsplit_once('/') {

@@ -1,8 +1,9 @@
 //! Units by their files: `load` gives exactly what the definition gives for a tree and a name - the unit with its settings
-//! and warnings, or that it is masked, not found or refused.
+//! and warnings, or that it is masked, not found or refused - and `files_of` the files that it is read from.
 #![tactic(auto)]
 
 mod assignments;
+mod drop_ins;
 mod files;
 mod keys;
 mod lists;
@@ -18,6 +19,7 @@ mod singles;
 mod tests;
 mod warnings;
 
+pub use files::{Files, UnitFile, files_of};
 pub use loaded::{LoadedUnit, Loading};
 pub use loader::load;
 pub use service_settings::ServiceSettings;

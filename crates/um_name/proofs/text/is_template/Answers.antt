@@ -1,8 +1,8 @@
 use Rattle.std.proofs.Common.{ap, sym, ◌∙◌, None, Some}
 use Rattle.um_model.specs.Names.{after_at}
 use Rattle.um_name.proofs.Splits.{split_at}
-use Rattle.um_tree.proofs.Names.{is_template-after_at}
-use Rattle.um_tree.proofs.path.is_template.Goals as goal
+use Rattle.um_name.proofs.Stems.{is_template-after_at}
+use Rattle.um_name.proofs.text.is_template.Goals as goal
 
 pub returns-in-Some : goal.returns-in-Some
 returns-in-Some c =
