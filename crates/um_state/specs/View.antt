@@ -1,6 +1,7 @@
 -- Inputs, replies, actions and states of the code as those of the definitions.
 use Rattle.std.specs.Prelude.{map, string_bytes}
 use Rattle.um_model.specs.Machine as model
+use Rattle.um_unit.specs.FilesView.{file_of}
 use Rattle.um_unit.specs.View.{warning_of}
 use Rattle.um_wire.specs.Refusal.{refused_of}
 use Rattle.um_state.specs.declared.input.Event.{Event}
@@ -16,6 +17,8 @@ use Rattle.um_state.specs.declared.state.State.{State}
 
 abbrev pub event_of : Event → model.Event
 event_of (event.PutFile path text) = model.PutFile (string_bytes path) (string_bytes text)
+event_of (event.PutLink path target) = model.PutLink (string_bytes path) (string_bytes target)
+event_of (event.Remove path) = model.Remove (string_bytes path)
 event_of event.DaemonReload = model.DaemonReload
 event_of (event.StartUnit unit) = model.StartUnit unit
 event_of (event.StopUnit unit) = model.StopUnit unit
@@ -28,6 +31,7 @@ input_of i = record { moment = i.moment; event = event_of i.event }
 abbrev pub query_of : Query → model.Query
 query_of (query.Show unit) = model.Show unit
 query_of (query.IsActive unit) = model.IsActive unit
+query_of (query.Cat unit) = model.Cat unit
 
 abbrev pub shown_of : UnitShown → model.UnitShown
 shown_of u = record { id = string_bytes u.id; load = u.load; description = string_bytes u.description; warnings = map warning_of u.warnings.items; state = u.state }
@@ -36,6 +40,7 @@ abbrev pub reply_of : Reply → model.Reply
 reply_of reply.Done = model.Done
 reply_of (reply.Shown u) = model.Shown (shown_of u)
 reply_of (reply.Activity state) = model.Activity state
+reply_of (reply.Files files) = model.Files (map file_of files.items)
 reply_of (reply.Told actions) = model.Told (map action_of actions.items)
 reply_of (reply.Refused r) = model.Refusal (refused_of r)
 

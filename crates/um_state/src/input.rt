@@ -6,6 +6,10 @@ use um_name::UnitName;
 pub enum Event {
     /// Put the text into the tree as the file at the path.
     PutFile { path: String, text: String },
+    /// Put a link to the target into the tree at the path.
+    PutLink { path: String, target: String },
+    /// Remove what stands in the tree at the path.
+    Remove { path: String },
     /// Load the tree in hand (systemctl(1), `daemon-reload`).
     DaemonReload,
     /// Start the unit (systemctl(1), `start`).
@@ -33,4 +37,6 @@ pub enum Query {
     Show { unit: UnitName },
     /// Its active state (systemctl(1), `is-active`).
     IsActive { unit: UnitName },
+    /// Its files in the tree in hand (systemctl(1), `cat`).
+    Cat { unit: UnitName },
 }

@@ -1,12 +1,12 @@
 use um_model::{ActiveState, LoadState, UnitState};
 use um_service::Action;
-use um_unit::Warning;
+use um_unit::{UnitFile, Warning};
 use um_wire::Refusal;
 
 /// A unit as `show` tells it.
 #[derive(Debug, Drop)]
 pub struct UnitShown {
-    /// The name of the unit that was found, else the name as it was asked.
+    /// The name that counts for the one that was asked for, or that one itself where it leads nowhere.
     pub id: String,
     pub load: LoadState,
     /// Empty where the unit isn't loaded.
@@ -23,6 +23,8 @@ pub enum Reply {
     Shown(UnitShown),
     /// The active state of a unit.
     Activity(ActiveState),
+    /// The files of a unit, its own and then its drop-ins.
+    Files(Vec<UnitFile>),
     /// The actions since they were last asked for.
     Told(Vec<Action>),
     Refused(Refusal),
