@@ -32,6 +32,8 @@ differs_or s v new differs (none, same) =
 -- every other event that is taken has an effect
 pub has_effect : (t : ℕ) (s v : State) (e : Event) (new : List Action) → Takes t s e new v → (IsIdle e s v new → ⊥) → HasNoEffect t s e → ⊥
 has_effect t s v (model.PutFile path text) new takes differs h = elim h [ ]
+has_effect t s v (model.PutLink path target) new takes differs h = elim h [ ]
+has_effect t s v (model.Remove path) new takes differs h = elim h [ ]
 has_effect t s v model.DaemonReload new takes differs h = elim h [ ]
 has_effect t s v (model.StartUnit unit) new takes differs h = elim h [ ]
 has_effect t s v (model.StopUnit unit) new takes differs h = elim h [ ]

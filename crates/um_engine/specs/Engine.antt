@@ -4,7 +4,7 @@ use Rattle.std.specs.FinMap as finite
 use Rattle.um_model.specs.Machine as model
 use Rattle.um_model.specs.Service.{Action, state_of_unit}
 use Rattle.um_model.specs.Timers.{Timers, IsDueFirst}
-use Rattle.um_model.specs.Tree.{Tree, put_file}
+use Rattle.um_model.specs.Tree.{Tree, put_file, put_link, remove_at}
 use Rattle.um_model.specs.declared.jobs.JobKind.TheVariants.{Stop, Start}
 use Rattle.um_model.specs.declared.transition.UnitEvent.{UnitEvent}
 use Rattle.um_model.specs.declared.transition.UnitEvent.TheVariants.{DeadlinePasses}
@@ -104,9 +104,11 @@ IsCommand other = ⊤
 -- what a command does to the state, before any job begins
 pub data Changes (s : model.State) : model.Event → model.State → Type 0 where
   puts : {path text : List ℕ} (tree : Tree) → put_file s.tree path text ≡ Ok tree → Changes s (model.PutFile path text) (record s { tree = tree })
+  links : {path target : List ℕ} (tree : Tree) → put_link s.tree path target ≡ Ok tree → Changes s (model.PutLink path target) (record s { tree = tree })
+  removes : {path : List ℕ} (tree : Tree) → remove_at s.tree path ≡ Ok tree → Changes s (model.Remove path) (record s { tree = tree })
   reloads : Changes s model.DaemonReload (record s { loaded = s.tree })
-  starts : {unit : List ℕ} → Changes s (model.StartUnit unit) (model.planned Start s unit)
-  stops : {unit : List ℕ} → Changes s (model.StopUnit unit) (model.planned Stop s unit)
+  starts : {asked : List ℕ} → Changes s (model.StartUnit asked) (model.planned Start s (model.unit_asked s asked))
+  stops : {asked : List ℕ} → Changes s (model.StopUnit asked) (model.planned Stop s (model.unit_asked s asked))
 
 -- the same units, jobs and next number
 pub record IsSame (s v : model.State) : Type 0 where

@@ -1,25 +1,29 @@
 ghost use Rattle.std.specs.Prelude.{◌≡◌, IfOk};
 ghost use Rattle.um_model.specs.Machine as model;
+ghost use Rattle.um_model.specs.Resolution.{resolution_of};
 ghost use Rattle.um_state.specs.View.{state_of, query_of, reply_of, shown_of as shown_view};
 ghost use Rattle.um_unit.specs.View.{loading_of, unit_of};
 
+use crate::names::{name_in, text_of};
 use std::alloc::{AllocError, Global};
 use um_model::{LoadState, UnitState};
 use um_name::UnitName;
 use um_state::{Query, Reply, State, UnitShown};
-use um_unit::{LoadedUnit, Loading, load};
+use um_tree::Tree;
+use um_unit::{Files, LoadedUnit, Loading, files_of, load};
+use um_wire::Refusal;
 
 /// A unit that isn't loaded is shown with no description and no warning.
-fn shown_without_file(
+fn shown_without_settings(
     alloc: Global,
     unit: &UnitName,
     load: LoadState,
     state: UnitState,
 ) -> Result<UnitShown, AllocError>
-    ensures { IfOk result (λ u. shown_view u ≡ model.shown_without_file unit.now load state) }
+    ensures { IfOk result (λ u. shown_view u ≡ model.shown_without_settings unit.now load state) }
 {
     Ok(UnitShown {
-        id: String::from_str(alloc, unit.as_str())?,
+        id: text_of(alloc, unit)?,
         load,
         description: String::new(alloc),
         warnings: Vec::new(alloc),
@@ -47,17 +51,54 @@ fn shown_loaded(alloc: Global, unit: LoadedUnit, state: UnitState) -> Result<Uni
 
 fn shown(
     alloc: Global,
-    unit: &UnitName,
+    asked: &UnitName,
     loading: Loading,
     state: UnitState,
 ) -> Result<UnitShown, AllocError>
-    ensures { IfOk result (λ u. shown_view u ≡ model.shown_of unit.now (loading_of loading) state) }
+    ensures { IfOk result (λ u. shown_view u ≡ model.shown_of asked.now (loading_of loading) state) }
 {
     match loading {
         Loading::Found(loaded) => shown_loaded(alloc, loaded, state),
-        Loading::Masked => shown_without_file(alloc, unit, LoadState::Masked, state),
-        Loading::NotFound => shown_without_file(alloc, unit, LoadState::NotFound, state),
-        Loading::BadSetting { .. } => shown_without_file(alloc, unit, LoadState::BadSetting, state),
+        Loading::Masked { unit } => shown_without_settings(alloc, &unit, LoadState::Masked, state),
+        Loading::NotFound => shown_without_settings(alloc, asked, LoadState::NotFound, state),
+        Loading::BadSetting { unit, .. } => {
+            shown_without_settings(alloc, &unit, LoadState::BadSetting, state)
+        }
+    }
+}
+
+/// How the unit stands that counts for the name that was asked for.
+fn show(alloc: Global, state: &State, asked: &UnitName) -> Result<Reply, AllocError>
+    ensures { IfOk result (λ reply. reply_of reply ≡ model.reply_to (state_of state.now) (model.Show asked.now)) }
+{
+    let loading = load(alloc, &state.loaded, asked)?;
+    let stands = state.units.get(name_in(asked, &loading));
+    Ok(Reply::Shown(shown(alloc, asked, loading, stands)?))
+}
+
+/// The active state of that unit.
+fn is_active(alloc: Global, state: &State, asked: &UnitName) -> Result<Reply, AllocError>
+    ensures { IfOk result (λ reply. reply_of reply ≡ model.reply_to (state_of state.now) (model.IsActive asked.now)) }
+{
+    let loading = load(alloc, &state.loaded, asked)?;
+    let stands = state.units.get(name_in(asked, &loading));
+    Ok(Reply::Activity(stands.sub.active_state()))
+}
+
+/// The files of a unit in the tree in hand. Refused is one that isn't found (E4) or is masked (E5).
+fn cat(alloc: Global, tree: &Tree, asked: &UnitName) -> Result<Reply, AllocError>
+    ensures { IfOk result (λ reply. reply_of reply ≡ model.files_told tree.now asked.now (resolution_of tree.now asked.now)) }
+{
+    match files_of(alloc, tree, asked)? {
+        Files::Found(files) => Ok(Reply::Files(files)),
+        Files::Masked { unit } => {
+            let unit = text_of(alloc, &unit)?;
+            Ok(Reply::Refused(Refusal::Masked { unit }))
+        }
+        Files::NotFound => {
+            let unit = text_of(alloc, asked)?;
+            Ok(Reply::Refused(Refusal::NotFound { unit }))
+        }
     }
 }
 
@@ -66,11 +107,8 @@ pub fn reply_to(alloc: Global, state: &State, query: &Query) -> Result<Reply, Al
     ensures { IfOk result (λ reply. reply_of reply ≡ model.reply_to (state_of state.now) (query_of query.now)) }
 {
     match query {
-        Query::Show { unit } => {
-            let loading = load(alloc, &state.loaded, unit)?;
-            let shown = shown(alloc, unit, loading, state.units.get(unit))?;
-            Ok(Reply::Shown(shown))
-        }
-        Query::IsActive { unit } => Ok(Reply::Activity(state.units.get(unit).sub.active_state())),
+        Query::Show { unit } => show(alloc, state, unit),
+        Query::IsActive { unit } => is_active(alloc, state, unit),
+        Query::Cat { unit } => cat(alloc, &state.tree, unit),
     }
 }

@@ -1,11 +1,14 @@
-ghost use Rattle.std.specs.Prelude.{◌≡◌, map, string_bytes, IfOk, OnOk, MatchOption};
+ghost use Rattle.std.specs.Prelude.{◌≡◌, map, IfOk, OnOk, MatchOption};
 ghost use Rattle.um_engine.specs.Engine.{Took, Changes, IsCommand, Refuses};
 ghost use Rattle.um_model.specs.Machine as model;
 ghost use Rattle.um_model.specs.Units as units;
+ghost use Rattle.um_model.specs.declared.jobs.JobKind.TheVariants.{Start, Stop};
 ghost use Rattle.um_state.specs.View.{state_of, event_of, action_of};
+ghost use Rattle.um_unit.specs.View.{unit_of};
 
 use crate::happening::happen;
 use crate::jobs::jobs_after;
+use crate::names::{name_in, text_of};
 use crate::settling::{fire, settle};
 use std::alloc::{AllocError, Global};
 use um_model::{End, JobKind, UnitEvent, UnitKind, UnitState};
@@ -15,52 +18,60 @@ use um_tree::Tree;
 use um_unit::{LoadedUnit, Loading, load};
 use um_wire::Refusal;
 
-fn text_of(alloc: Global, unit: &UnitName) -> Result<String, AllocError>
-    ensures { IfOk result (λ s. string_bytes s ≡ unit.now) }
+/// Refuses to start a unit that was found and isn't a simple service, or is a template (E6).
+fn check_found(alloc: Global, found: &LoadedUnit) -> Result<(), Refusal>
+    ensures { Refuses result (model.start_refusal (unit_of found.now).name (units.Found (unit_of found.now))) }
 {
-    Ok(String::from_str(alloc, unit.as_str())?)
-}
-
-/// Refuses to start a unit that isn't found (E4), is masked (E5), has a refused setting, isn't a simple service or is a template (E6).
-fn check_start(alloc: Global, tree: &Tree, unit: &UnitName) -> Result<(), Refusal>
-    ensures { Refuses result (model.start_refusal unit.now (units.load tree.now unit.now)) }
-{
-    let kind = match load(alloc, tree, unit)? {
-        Loading::Found(LoadedUnit { settings, .. }) => settings.service.kind,
-        Loading::NotFound => {
-            let unit = text_of(alloc, unit)?;
-            return Err(Refusal::NotFound { unit });
-        }
-        Loading::Masked => {
-            let unit = text_of(alloc, unit)?;
-            return Err(Refusal::Masked { unit });
-        }
-        Loading::BadSetting { reason } => {
-            let unit = text_of(alloc, unit)?;
-            return Err(Refusal::BadSetting { unit, reason });
-        }
-    };
-    let reason = match kind {
-        UnitKind::Simple if !unit.is_template() => return Ok(()),
+    let reason = match found.settings.service.kind {
+        UnitKind::Simple if !found.name.is_template() => return Ok(()),
         UnitKind::Simple => "template",
         UnitKind::Exec | UnitKind::Oneshot | UnitKind::Target => "type",
     };
-    let unit = text_of(alloc, unit)?;
+    let unit = text_of(alloc, &found.name)?;
     let reason = String::from_str(alloc, reason)?;
     Err(Refusal::BadSetting { unit, reason })
 }
 
-/// Refuses to stop a unit that is neither found in the loaded tree nor held in the state (E7).
-fn check_stop(alloc: Global, state: &State, unit: &UnitName) -> Result<(), Refusal>
-    ensures { Refuses result (model.refusal_of (state_of state.now) (model.StopUnit unit.now)) }
+/// The unit that a start of the name that was asked for starts. Refused is one that isn't found (E4), is masked (E5), has a refused
+/// setting, isn't a simple service or is a template (E6).
+fn unit_to_start(alloc: Global, tree: &Tree, asked: &UnitName) -> Result<UnitName, Refusal>
+    ensures refused { Refuses result (model.start_refusal asked.now (units.load tree.now asked.now)) }
+    ensures unit { IfOk result (λ unit. unit ≡ units.name_in asked.now (units.load tree.now asked.now)) }
 {
-    if let Loading::NotFound = load(alloc, &state.loaded, unit)? {
-        if !state.units.holds(unit) {
-            let unit = text_of(alloc, unit)?;
+    match load(alloc, tree, asked)? {
+        Loading::Found(found) => {
+            check_found(alloc, &found)?;
+            Ok(found.name)
+        }
+        Loading::NotFound => {
+            let unit = text_of(alloc, asked)?;
+            Err(Refusal::NotFound { unit })
+        }
+        Loading::Masked { unit } => {
+            let unit = text_of(alloc, &unit)?;
+            Err(Refusal::Masked { unit })
+        }
+        Loading::BadSetting { unit, reason } => {
+            let unit = text_of(alloc, &unit)?;
+            Err(Refusal::BadSetting { unit, reason })
+        }
+    }
+}
+
+/// The unit that a stop of the name that was asked for stops. Refused is one that is neither found in the loaded tree nor held in
+/// the state (E7).
+fn unit_to_stop(alloc: Global, state: &State, asked: &UnitName) -> Result<UnitName, Refusal>
+    ensures refused { Refuses result (model.refusal_of (state_of state.now) (model.StopUnit asked.now)) }
+    ensures unit { IfOk result (λ unit. unit ≡ model.unit_asked (state_of state.now) asked.now) }
+{
+    let loading = load(alloc, &state.loaded, asked)?;
+    if let Loading::NotFound = &loading {
+        if !state.units.holds(asked) {
+            let unit = text_of(alloc, asked)?;
             return Err(Refusal::NotLoaded { unit });
         }
     }
-    Ok(())
+    Ok(name_in(asked, &loading).copy()?)
 }
 
 /// Changes the pending jobs of a unit as a command for it says.
@@ -113,6 +124,26 @@ fn take_end(
     Ok(true)
 }
 
+/// Plans the start of a unit.
+fn plan_start(alloc: Global, state: &mut State, asked: &UnitName) -> Result<(), Refusal>
+    ensures changed { OnOk result (state_of state.new ≡ model.planned Start (state_of state.old) (model.unit_asked (state_of state.old) asked.now)) }
+    ensures refused { Refuses result (model.refusal_of (state_of state.old) (model.StartUnit asked.now)) }
+{
+    let unit = unit_to_start(alloc, &state.loaded, asked)?;
+    plan_unit(state, JobKind::Start, &unit)?;
+    Ok(())
+}
+
+/// Plans the stop of a unit.
+fn plan_stop(alloc: Global, state: &mut State, asked: &UnitName) -> Result<(), Refusal>
+    ensures changed { OnOk result (state_of state.new ≡ model.planned Stop (state_of state.old) (model.unit_asked (state_of state.old) asked.now)) }
+    ensures refused { Refuses result (model.refusal_of (state_of state.old) (model.StopUnit asked.now)) }
+{
+    let unit = unit_to_stop(alloc, state, asked)?;
+    plan_unit(state, JobKind::Stop, &unit)?;
+    Ok(())
+}
+
 /// What a command does to the state, before any job begins. Where it is refused the state is of no use; of a command alone.
 fn change(alloc: Global, state: &mut State, event: &Event) -> Result<(), Refusal>
     ensures changed { OnOk result (IsCommand (event_of event.now) → Changes (state_of state.old) (event_of event.now) (state_of state.new)) }
@@ -120,20 +151,14 @@ fn change(alloc: Global, state: &mut State, event: &Event) -> Result<(), Refusal
 {
     match event {
         Event::PutFile { path, text } => state.tree.put(path.as_str(), text.as_str()),
+        Event::PutLink { path, target } => state.tree.link(path.as_str(), target.as_str()),
+        Event::Remove { path } => state.tree.remove(path.as_str()),
         Event::DaemonReload => {
             state.loaded = state.tree.copy()?;
             Ok(())
         }
-        Event::StartUnit { unit } => {
-            check_start(alloc, &state.loaded, unit)?;
-            plan_unit(state, JobKind::Start, unit)?;
-            Ok(())
-        }
-        Event::StopUnit { unit } => {
-            check_stop(alloc, state, unit)?;
-            plan_unit(state, JobKind::Stop, unit)?;
-            Ok(())
-        }
+        Event::StartUnit { unit } => plan_start(alloc, state, unit),
+        Event::StopUnit { unit } => plan_stop(alloc, state, unit),
         Event::ProcessEnded { .. } | Event::Tick => Ok(()),
     }
 }

@@ -4,6 +4,7 @@ ghost use Rattle.um_model.specs.Machine as model;
 ghost use Rattle.um_model.specs.Settings.{default_settings};
 ghost use Rattle.um_model.specs.declared.transition.UnitKind.TheVariants.{Simple};
 ghost use Rattle.um_state.specs.View.{state_of, action_of};
+ghost use Rattle.um_unit.specs.View.{loading_of};
 
 use crate::jobs::{is_waiting, jobs_left};
 use std::alloc::{AllocError, Global};
@@ -32,19 +33,26 @@ fn not_loadable(alloc: Global) -> Startable
     }
 }
 
+/// A unit by what was found.
+fn known(alloc: Global, loading: Loading) -> Startable
+    ensures { startable_of result ≡ model.startable_of (loading_of loading) }
+{
+    match loading {
+        Loading::Found(LoadedUnit { name, settings, .. }) => Startable {
+            settings: settings.service.acting(alloc),
+            loadable: !name.is_template(),
+        },
+        Loading::Masked { .. } => not_loadable(alloc),
+        Loading::NotFound => not_loadable(alloc),
+        Loading::BadSetting { .. } => not_loadable(alloc),
+    }
+}
+
 /// The unit by the loaded tree.
 fn startable_in(alloc: Global, tree: &Tree, unit: &UnitName) -> Result<Startable, AllocError>
     ensures { IfOk result (λ s. startable_of s ≡ model.startable_in tree.now unit.now) }
 {
-    match load(alloc, tree, unit)? {
-        Loading::Found(LoadedUnit { settings, .. }) => Ok(Startable {
-            settings: settings.service,
-            loadable: !unit.is_template(),
-        }),
-        Loading::Masked => Ok(not_loadable(alloc)),
-        Loading::NotFound => Ok(not_loadable(alloc)),
-        Loading::BadSetting { .. } => Ok(not_loadable(alloc)),
-    }
+    Ok(known(alloc, load(alloc, tree, unit)?))
 }
 
 /// Something happens to a unit at the moment, in microseconds; what is asked of its processes comes behind the other actions. Where

@@ -8,6 +8,7 @@ mod engine;
 mod happening;
 mod jobs;
 mod laws;
+mod names;
 mod settling;
 
 pub use engine::{Back, Engine, Next};
