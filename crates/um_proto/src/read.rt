@@ -24,6 +24,26 @@ fn put_file_at(alloc: Global, value: &Value) -> Result<Asked, Refusal>
     Ok(Asked::Event(Event::PutFile { path, text }))
 }
 
+#[tactic(auto, unfolding(um_model::specs::Requests::put_link_at))]
+fn put_link_at(alloc: Global, value: &Value) -> Result<Asked, Refusal>
+    ensures { Gives asked_of result (model.put_link_at (view value.now)) }
+{
+    let path = text_at(value, "path")?;
+    let target = text_at(value, "target")?;
+    let path = String::from_str(alloc, path)?;
+    let target = String::from_str(alloc, target)?;
+    Ok(Asked::Event(Event::PutLink { path, target }))
+}
+
+#[tactic(auto, unfolding(um_model::specs::Requests::remove_at))]
+fn remove_at(alloc: Global, value: &Value) -> Result<Asked, Refusal>
+    ensures { Gives asked_of result (model.remove_at (view value.now)) }
+{
+    let path = text_at(value, "path")?;
+    let path = String::from_str(alloc, path)?;
+    Ok(Asked::Event(Event::Remove { path }))
+}
+
 #[tactic(auto, unfolding(um_model::specs::Requests::process_ended_at))]
 fn process_ended_at(value: &Value) -> Result<Asked, Refusal>
     ensures { Gives asked_of result (model.process_ended_at (view value.now)) }
@@ -40,6 +60,8 @@ fn asked_at(alloc: Global, verb: Verb, value: &Value) -> Result<Asked, Refusal>
 {
     match verb {
         Verb::PutFile => put_file_at(alloc, value),
+        Verb::PutLink => put_link_at(alloc, value),
+        Verb::Remove => remove_at(alloc, value),
         Verb::DaemonReload => Ok(Asked::Event(Event::DaemonReload)),
         Verb::Start => {
             let unit = unit_at(alloc, value)?;
@@ -56,6 +78,10 @@ fn asked_at(alloc: Global, verb: Verb, value: &Value) -> Result<Asked, Refusal>
         Verb::IsActive => {
             let unit = unit_at(alloc, value)?;
             Ok(Asked::Query(Query::IsActive { unit }))
+        }
+        Verb::Cat => {
+            let unit = unit_at(alloc, value)?;
+            Ok(Asked::Query(Query::Cat { unit }))
         }
         Verb::Tick => Ok(Asked::Event(Event::Tick)),
         Verb::End => process_ended_at(value),

@@ -9,6 +9,10 @@ fn verb_named(text: &str) -> Option<Verb>
 {
     if text == "put-file" {
         Some(Verb::PutFile)
+    } else if text == "put-link" {
+        Some(Verb::PutLink)
+    } else if text == "remove" {
+        Some(Verb::Remove)
     } else if text == "daemon-reload" {
         Some(Verb::DaemonReload)
     } else if text == "start" {
@@ -19,6 +23,8 @@ fn verb_named(text: &str) -> Option<Verb>
         Some(Verb::Show)
     } else if text == "is-active" {
         Some(Verb::IsActive)
+    } else if text == "cat" {
+        Some(Verb::Cat)
     } else if text == "tick" {
         Some(Verb::Tick)
     } else if text == "end" {
@@ -54,7 +60,12 @@ pub fn own_fields(verb: Verb) -> usize
 {
     match verb {
         Verb::DaemonReload | Verb::Tick | Verb::Actions => 0,
-        Verb::Start | Verb::Stop | Verb::Show | Verb::IsActive => 1,
-        Verb::PutFile | Verb::End => 2,
+        Verb::Remove
+        | Verb::Start
+        | Verb::Stop
+        | Verb::Show
+        | Verb::IsActive
+        | Verb::Cat => 1,
+        Verb::PutFile | Verb::PutLink | Verb::End => 2,
     }
 }

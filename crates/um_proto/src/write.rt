@@ -3,6 +3,7 @@ ghost use Rattle.serde_json.specs.Data.{array};
 ghost use Rattle.serde_json.specs.View.{view, items_of};
 ghost use Rattle.um_model.specs.Replies as model;
 ghost use Rattle.um_state.specs.View.{action_of, shown_of, reply_of};
+ghost use Rattle.um_unit.specs.FilesView.{file_of};
 ghost use Rattle.um_unit.specs.View.{warning_of};
 ghost use Rattle.um_wire.specs.Refusal.{refused_of};
 
@@ -10,7 +11,7 @@ use serde_json::{Value, json};
 use std::alloc::{AllocError, Global};
 use um_model::Signal;
 use um_state::{Action, Reply, UnitShown};
-use um_unit::Warning;
+use um_unit::{UnitFile, Warning};
 use um_wire::{Limit, Refusal};
 
 /// The longest text of a reply, in bytes.
@@ -138,6 +139,23 @@ fn actions_value(alloc: Global, actions: &[Action]) -> Result<Value, AllocError>
     Ok(Value::Array(list))
 }
 
+/// A file: its path and its text.
+fn file_value(alloc: Global, file: &UnitFile) -> Result<Value, AllocError>
+    ensures { IfOk result (λ v. view v ≡ model.file_data (file_of file.now)) }
+{
+    json!(in alloc; [&file.path, &file.text])
+}
+
+fn files_value(alloc: Global, files: &[UnitFile]) -> Result<Value, AllocError>
+    ensures { IfOk result (λ v. view v ≡ array (items_of (map model.file_data (map file_of files.now)))) }
+{
+    let mut list = Vec::new(alloc);
+    for file in files {
+        list.push(file_value(alloc, file)?)?;
+    }
+    Ok(Value::Array(list))
+}
+
 fn reply_value(alloc: Global, reply: &Reply) -> Result<Value, AllocError>
     ensures { IfOk result (λ v. view v ≡ model.reply_data (reply_of reply.now)) }
 {
@@ -148,6 +166,10 @@ fn reply_value(alloc: Global, reply: &Reply) -> Result<Value, AllocError>
             json!(in alloc; {"ok": true, "value": value})
         }
         Reply::Activity(state) => json!(in alloc; {"ok": true, "value": state.text()}),
+        Reply::Files(files) => {
+            let value = files_value(alloc, files.as_slice())?;
+            json!(in alloc; {"ok": true, "value": value})
+        }
         Reply::Told(actions) => {
             let value = actions_value(alloc, actions.as_slice())?;
             json!(in alloc; {"ok": true, "value": value})
