@@ -10,6 +10,8 @@ mod jobs;
 mod laws;
 mod names;
 mod settling;
+#[cfg(test)]
+mod tests;
 
 pub use engine::{Back, Engine, Next};
 pub use laws::{

@@ -4,6 +4,8 @@
 mod input;
 mod reply;
 mod state;
+#[cfg(test)]
+mod tests;
 mod units;
 
 pub use input::{Event, Input, Query};
