@@ -16,7 +16,6 @@ const POLICIES: [RestartPolicy; 7] = [
     RestartPolicy::OnWatchdog,
 ];
 
-#[tactic(auto, unfolding(um_model::specs::Values::policy_named))]
 /// The policy of that name: `no always on-success on-failure on-abnormal on-abort on-watchdog` (systemd.service(5),
 /// `Restart=`). None for any other text.
 pub fn restart(text: &str) -> Option<RestartPolicy>
