@@ -1,7 +1,6 @@
 -- What happens to a unit, from what its parts have become.
 use Rattle.std.proofs.Common.{◌≡◌, ℕ, ◌+◌, List, ◌++◌}
 use Rattle.um_model.specs.Jobs.{jobs_of_unit, jobs_left, with_jobs}
-use Rattle.um_model.specs.Machine as model
 use Rattle.um_model.specs.Machine.{State, startable_in, change_of, around}
 use Rattle.um_model.specs.Service.{Action, ByUnit, with_unit}
 use Rattle.um_model.specs.Transitions.{AreActions, spawned}

@@ -13,7 +13,7 @@ takes_all t s v e before after (new, takes, is) none = subst (λ l. Takes t s e 
 
 -- a tick that leaves units, jobs and the next number leaves the state
 tick_same : (t : ℕ) (s v : State) (new : List Action) → Takes t s model.Tick new v → IsSame s v → v ≡ s
-tick_same t s v new (model.ticks timers are fires) same = same_state s v (fires_keeps t timers s new v fires) (sym same.units) (sym same.pending) (sym same.next)
+tick_same t s v new (model.ticks timers are fired) same = same_state s v (fires_keeps t timers s new v fired) (sym same.units) (sym same.pending) (sym same.next)
 
 pub idle_same : (t : ℕ) (s v : State) (e : Event) (new : List Action) → Takes t s e new v → IsIdle e s v new → v ≡ s
 idle_same t s v e new takes idle = tick_same t s v new (subst (λ x. Takes t s x new v) idle.tick takes) idle.same

@@ -1,12 +1,11 @@
 -- One step more of settling and of firing, with the actions before and after.
-use Rattle.std.proofs.Common.{◌≡◌, ◌≢◌, ℕ, ◌≤◌, List, [], ◌++◌, refl, sym, ap, ◌∙◌, append_assoc, append-nil, ◌<◌, ◌⊎◌, inl, inr, Bool, true, false, Some, None, arith, true≢false}
+use Rattle.std.proofs.Common.{◌≡◌, ◌≢◌, ℕ, zero, suc, ◌-◌, cond, is_some, List, [], ◌++◌, refl, sym, ap, ◌∙◌, append_assoc, append-nil, ◌<◌, ◌⊎◌, inl, inr, true, false, Some, arith, true≢false}
 use Rattle.std.specs.FinMap as map
 use Rattle.um_model.specs.Jobs.{Job, IsReady, BeginsNext}
-use Rattle.um_model.specs.Machine as model
 use Rattle.um_model.specs.Machine.{State, begun, begins, rests, begins_next, none_due, fires, passes}
 use Rattle.um_model.specs.Service.{Action}
 use Rattle.std.specs.Str.{bytes_eq}
-use Rattle.std.specs.Cmp.Lexicographic.{slice_cmp}
+use Rattle.std.specs.Cmp.Lexicographic.{slice_cmp, nat_list_cmp_total}
 use Rattle.std.specs.Ordering.{nat_cmp}
 use Rattle.std.proofs.lemmas.Option.{same_Some, none-some}
 use Rattle.std.proofs.lemmas.Slice.Eq.{bytes_eq-Decides}
@@ -37,7 +36,7 @@ fires_more t timers deadline unit s u v before between after due (fired first ne
   all ∙ (ap (λ l. l ++ more) is ∙ (append_assoc before (first ++ next) more ∙ ap (λ l. before ++ l) (append_assoc first next more))),
 )
 
-same_name : (n o : List ℕ) → (n ≡ o) ⊎ (n ≢ o)
+pub same_name : (n o : List ℕ) → (n ≡ o) ⊎ (n ≢ o)
 same_name n o = elim (bytes_eq n o) as (λ b. bytes_eq n o ≡ b → (n ≡ o) ⊎ (n ≢ o)) [
   | true ↦ λ t. inl ((bytes_eq-Decides n o).0 t)
   | false ↦ λ f. inr (λ e. true≢false (sym ((bytes_eq-Decides n o).1 e) ∙ f))
@@ -57,3 +56,15 @@ first_is_late t timers deadline unit first low later other at = elim (same_name 
 -- where no deadline stands, none is due
 pub none_stands : (t : ℕ) (timers : Timers) → timers ≡ map.empty → NoneIsDue t timers
 none_stands t timers e later other at = absurd (none-some later (sym (map.get-empty (slice_cmp nat_cmp) other) ∙ (ap (λ m. map.get m other) (sym e) ∙ at)))
+
+some_set : (timers : Timers) (deadline : ℕ) (unit : List ℕ) → map.get timers unit ≡ Some deadline → (n : ℕ) → map.len timers ≡ n → 0 < n
+some_set timers deadline unit set zero e =
+    absurd (none-some deadline (sym (map.get-empty (slice_cmp nat_cmp) unit) ∙ (ap (λ m. map.get m unit) (sym (map.empty_of_len timers e)) ∙ set)))
+some_set timers deadline unit set (suc n) e = omega arith
+
+-- a timer that was set is taken away: one fewer is left
+pub fewer_timers : (timers later : Timers) (deadline : ℕ) (unit : List ℕ) → later ≡ map.remove timers unit → map.get timers unit ≡ Some deadline → map.len later < map.len timers
+fewer_timers timers later deadline unit is set =
+    let left = ap map.len is ∙ (map.len-remove nat_list_cmp_total timers unit ∙ ap (λ o. cond (is_some o) (map.len timers - 1) (map.len timers)) set) in
+    let some = some_set timers deadline unit set (map.len timers) refl in
+    omega arith

@@ -41,14 +41,11 @@ pub fn settle(
 ) -> Result<(), AllocError>
     ensures { OnOk result (SettlesTo moment (state_of state.old) (map action_of actions.old.items) (state_of state.new) (map action_of actions.new.items)) }
 {
-    'jobs: for _ in 0..u64::MAX {
-        let Some((unit, kind)) = next_job(state)? else {
-            return Ok(());
-        };
+    'jobs: while let Some((unit, kind)) = next_job(state)? {
         begin_job(state, &unit, kind)?;
         happen(alloc, state, actions, moment, &unit, begins(kind))?;
     }
-    Err(AllocError)
+    Ok(())
 }
 
 /// The timer that is due first, where its deadline isn't past the moment.
@@ -101,12 +98,9 @@ pub fn fire(
     ensures { OnOk result (FiresTo moment (state_of state.old) (map action_of actions.old.items) (state_of state.new) (map action_of actions.new.items)) }
 {
     let mut timers = state.units.deadlines()?;
-    'timers: for _ in 0..u64::MAX {
-        let Some((deadline, unit)) = next_due(&timers, moment)? else {
-            return Ok(());
-        };
+    'timers: while let Some((deadline, unit)) = next_due(&timers, moment)? {
         timers.clear(&unit);
         fire_one(alloc, state, actions, moment, deadline, &unit)?;
     }
-    Err(AllocError)
+    Ok(())
 }

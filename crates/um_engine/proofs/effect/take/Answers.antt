@@ -7,8 +7,8 @@ use Rattle.um_engine.proofs.effect.take.Goals as goal
 pub returns-in-Tick : goal.returns-in-Tick
 returns-in-Tick c =
     let (timers, are, fired) = c.in_ok-fire.ensures in
-    let (new, fires, is) = fired in
-    rw c.in-Tick.is (record { ok = (new, model.ticks timers are fires, is); refused = refl })
+    let (new, all, is) = fired in
+    rw c.in-Tick.is (record { ok = (new, model.ticks timers are all, is); refused = refl })
 
 pub returns : goal.returns
 returns c =

@@ -1,4 +1,5 @@
-use Rattle.std.proofs.Common.{ℕ, List, map}
+use Rattle.std.proofs.Common.{List, map}
+use Rattle.std.specs.FinMap as finite
 use Rattle.um_engine.specs.Engine.{FiresFrom}
 use Rattle.um_model.specs.Machine.{State}
 use Rattle.um_model.specs.Service.{Action}
@@ -9,3 +10,7 @@ use Rattle.um_engine.proofs.settling.fire.Given as goal
 abbrev pub invariant-timers : goal.invariant-timers
 invariant-timers l = (v : State) (after : List Action) → FiresFrom l.moment l.timers (state_of l.state) (map action_of l.actions.items) v after
     → FiresFrom l.moment l.initial.timers (state_of l.initial.state) (map action_of l.initial.actions.items) v after
+
+-- the timers that are left
+abbrev pub decreases-timers : goal.decreases-timers
+decreases-timers l = finite.len l.timers

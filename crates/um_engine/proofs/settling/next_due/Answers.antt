@@ -1,5 +1,5 @@
 use Rattle.std.proofs.Common.{rules}
-use Rattle.um_engine.proofs.Steps.{first_is_late, none_stands}
+use Rattle.um_engine.proofs.Steps.{none_stands}
 use Rattle.um_engine.proofs.settling.next_due.Goals as goal
 
 pub returns-in_default : goal.returns-in_default

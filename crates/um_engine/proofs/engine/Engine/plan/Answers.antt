@@ -1,6 +1,6 @@
-use Rattle.std.proofs.Common.{◌≡◌, ◌∙◌, [], map, ap, sym, refl, rules, true≢false}
+use Rattle.std.proofs.Common.{◌≡◌, ◌∙◌, [], map, ap, sym, rules, true≢false}
 use Rattle.um_model.specs.Machine.{Step, Refusal, refused}
-use Rattle.um_state.specs.View.{state_of, event_of, input_of, action_of}
+use Rattle.um_state.specs.View.{state_of, input_of, action_of}
 use Rattle.um_wire.specs.Refusal.{refused_of}
 use Rattle.um_wire.specs.declared.refusal.Refusal.TheVariants.{NoMemory}
 use Rattle.um_engine.proofs.Planned.{takes_all, idle_same, idle_quiet, has_effect, idle_step, taken_step}
