@@ -91,7 +91,8 @@ fn files_are_told_as_paths_and_texts(rt: HostRuntime) -> Result<(), Fail> {
         text: String::new(alloc),
     };
     let text = write_reply(alloc, &Reply::Files(vec![in alloc; own, drop_in]?))?;
-    let told = "{\"ok\":true,\"value\":[[\"lib/a.service\",\"[Unit]\\nDescription=\\\"a\\\"\\n\"],[\"etc/a.service.d/b.conf\",\"\"]]}";
+    let told =
+        "{\"ok\":true,\"value\":[[\"lib/a.service\",\"[Unit]\\nDescription=\\\"a\\\"\\n\"],[\"etc/a.service.d/b.conf\",\"\"]]}";
     assert!(rt; text.bytes.as_slice() == told.as_bytes());
     Ok(())
 }

@@ -60,12 +60,7 @@ pub fn own_fields(verb: Verb) -> usize
 {
     match verb {
         Verb::DaemonReload | Verb::Tick | Verb::Actions => 0,
-        Verb::Remove
-        | Verb::Start
-        | Verb::Stop
-        | Verb::Show
-        | Verb::IsActive
-        | Verb::Cat => 1,
+        Verb::Remove | Verb::Start | Verb::Stop | Verb::Show | Verb::IsActive | Verb::Cat => 1,
         Verb::PutFile | Verb::PutLink | Verb::End => 2,
     }
 }
