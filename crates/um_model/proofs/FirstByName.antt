@@ -1,5 +1,5 @@
 -- The first entry by name that passes a test, in a tree map by the names of units.
-use Rattle.std.proofs.Common.{ℕ, ◌≡◌, ◌≢◌, ◌∙◌, ◌+◌, ◌<◌, Bool, true, false, cond, List, [], ◌∷◌, length, Option, Some, None, find, refl, sym, ap, subst, arith, zero, suc, Contains, get_or, Less, true≢false}
+use Rattle.std.proofs.Common.{ℕ, ◌≡◌, ◌≢◌, ◌∙◌, ◌<◌, Bool, true, false, cond, List, [], ◌∷◌, length, Some, None, find, refl, sym, ap, subst, arith, zero, suc, Contains, get_or, Less, true≢false}
 use Rattle.std.specs.List.{AllByRecursion}
 use Rattle.std.specs.List.Sorted.{IsStrictlySortedBy}
 use Rattle.std.specs.BTreeMap as tree

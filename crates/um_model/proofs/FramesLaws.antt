@@ -1,5 +1,5 @@
 -- What is written for a stream, frame by frame.
-use Rattle.std.proofs.Common.{◌≡◌, ℕ, List, ◌∷◌, ◌++◌, []}
+use Rattle.std.proofs.Common.{ℕ, List, ◌∷◌, ◌++◌, []}
 use Rattle.um_model.specs.Frames.{frame_of, BeginsWith, EndsSo, ends, frame, Answers, last_reply, last, reply, Serves}
 use Rattle.um_model.specs.Machine.{State, Reply}
 use Rattle.um_model.specs.Replies.{reply_text}

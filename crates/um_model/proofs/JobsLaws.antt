@@ -1,11 +1,7 @@
 -- Which job is ready, as a function of its unit's state and jobs; and which begins next.
-use Rattle.std.proofs.Common.{ℕ, ◌≡◌, ◌≢◌, List, Option, Some, None, refl, sym, ap, ◌∙◌, subst}
-use Rattle.std.specs.FinMap as map
-use Rattle.std.specs.Cmp.Lexicographic.{slice_cmp}
-use Rattle.std.specs.Ordering.{nat_cmp}
-use Rattle.std.specs.declared.cmp.Ordering.TheVariants.{Less}
-use Rattle.std.proofs.lemmas.Option.{same_Some, none-some}
-use Rattle.um_model.specs.Jobs.{Job, job_of, jobs_of_unit, no_jobs, IsReady, IsPending, ComesBefore, stop_first, IsToldBefore, by_name, BeginsNext, ready_kind, ready_of, start_where_still}
+use Rattle.std.proofs.Common.{ℕ, ◌≡◌, ◌≢◌, List, Option, Some, None, refl, sym}
+use Rattle.std.proofs.lemmas.Option.{none-some}
+use Rattle.um_model.specs.Jobs.{Job, job_of, jobs_of_unit, IsReady, IsPending, ComesBefore, stop_first, ready_kind, ready_of, start_where_still}
 use Rattle.um_model.specs.Service.{ByUnit, active_state_of, state_of_unit}
 use Rattle.um_model.specs.declared.jobs.JobKind.{JobKind}
 use Rattle.um_model.specs.declared.jobs.JobKind.TheVariants.{Stop, Start}

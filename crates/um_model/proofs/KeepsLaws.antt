@@ -1,7 +1,6 @@
 -- What unit events and ticks leave as it was: trees, boot and clock.
-use Rattle.std.proofs.Common.{ℕ, ◌≡◌, ◌∙◌, List, refl, sym, ap}
-use Rattle.um_model.specs.Machine.{State, Happens, changed, begun, Settles, rests, begins_next, Fires, none_due, fires, passes}
-use Rattle.um_model.specs.Jobs.{Job}
+use Rattle.std.proofs.Common.{ℕ, ◌≡◌, ◌∙◌, List, refl, ap}
+use Rattle.um_model.specs.Machine.{State, Happens, begun, Settles, rests, begins_next, Fires, none_due, fires, passes}
 use Rattle.um_model.specs.Service.{Action}
 use Rattle.um_model.specs.Timers.{Timers}
 use Rattle.um_model.specs.declared.transition.UnitEvent.{UnitEvent}

@@ -1,14 +1,11 @@
 -- The unit of a process number, the job that begins next and the deadlines, as a scan by the names of units finds them.
-use Rattle.std.proofs.Common.{ℕ, ◌≡◌, ◌≢◌, ◌∙◌, ◌⊎◌, ◌||◌, ◌==◌, Bool, true, false, cond, List, [], ◌∷◌, Option, Some, None, is_some, unwrap_or, refl, sym, ap, subst, inl, inr, true≢false, arith, Less}
+use Rattle.std.proofs.Common.{ℕ, ◌≡◌, ◌≢◌, ◌∙◌, ◌⊎◌, ◌||◌, Bool, true, false, List, Option, Some, None, is_some, unwrap_or, refl, sym, ap, subst, inl, inr, true≢false, arith}
 use Rattle.std.specs.Str.{bytes_eq}
 use Rattle.std.specs.FinMap as map
-use Rattle.std.specs.FinMap.{slice_cmp-IsAntisymmetric, nat_cmp-IsAntisymmetric}
-use Rattle.std.specs.Cmp.Lexicographic.{slice_cmp, nat_list_cmp_total}
-use Rattle.std.specs.Ordering.{nat_cmp}
 use Rattle.std.proofs.lemmas.Bool.Decides.{nat_tests}
-use Rattle.std.proofs.lemmas.Option.{same_Some, none-some}
+use Rattle.std.proofs.lemmas.Option.{same_Some}
 use Rattle.std.proofs.lemmas.Slice.Eq.{bytes_eq-Decides}
-use Rattle.um_model.specs.Jobs.{Job, job_of, jobs_of_unit, IsReady, IsToldBefore, by_name, stop_first, BeginsNext, ready_kind}
+use Rattle.um_model.specs.Jobs.{Job, job_of, jobs_of_unit, IsReady, IsToldBefore, by_name, BeginsNext, ready_kind}
 use Rattle.um_model.specs.Machine.{IsProcessOf, IsOver}
 use Rattle.um_model.specs.Service.{ByUnit, active_state_of, state_of_unit, dead_unit, is_number}
 use Rattle.um_model.specs.Transitions.{HasNumber}

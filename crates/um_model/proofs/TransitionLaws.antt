@@ -7,10 +7,10 @@ use Rattle.um_model.specs.Limit.{lets_through, window_after}
 use Rattle.um_model.specs.Service.{Action, SpawnProcess, SendSignal}
 use Rattle.um_model.specs.Settings.{ServiceSettings, environment_texts, commands_in}
 use Rattle.um_model.specs.Ends.{is_clean, is_restart_wanted}
-use Rattle.um_model.specs.Transitions.{moment_after, has_number, is_live, just, asking, start_ends, start_fails, stop_ends, resting, rests_for_good, awaits_restart, rests, terminates, stop_command, winds_down, next_stop, lacks_number, start_command, start_simple, start_oneshot, start_of, start_at_rest, on_start, on_stop, run_ends, next_command, next_start, start_run_ends, rests_unless_live, noted, without_main, on_main_end, goes_on, stop_command_ends, on_control_end, timed_out, on_deadline, on_executed, transition, AreStarted, no_command, substituted, as_written, AreActions, nothing, spawn, signals, spawned, live_numbers, has_its_process, HasItsProcess, HasNumber}
+use Rattle.um_model.specs.Transitions.{moment_after, has_number, is_live, just, asking, start_ends, start_fails, stop_ends, resting, rests_for_good, awaits_restart, rests, terminates, stop_command, winds_down, next_stop, lacks_number, start_command, start_simple, start_of, start_at_rest, on_start, on_stop, run_ends, next_start, start_run_ends, rests_unless_live, noted, without_main, on_main_end, goes_on, stop_command_ends, on_control_end, timed_out, on_deadline, on_executed, transition, AreStarted, no_command, substituted, as_written, AreActions, nothing, spawn, signals, spawned, live_numbers, has_its_process, HasItsProcess, HasNumber}
 use Rattle.um_model.specs.declared.service.End.{End}
 use Rattle.um_model.specs.declared.service.Signal as signal
-use Rattle.um_model.specs.declared.service.Signal.TheVariants.{Term, Kill}
+use Rattle.um_model.specs.declared.service.Signal.TheVariants.{Term}
 use Rattle.um_model.specs.declared.service.SubState.{SubState}
 use Rattle.um_model.specs.declared.service.SubState.TheVariants.{Dead, Start, Running, Exited, Stop, StopSigterm, StopSigkill, Failed, AutoRestart, Active}
 use Rattle.um_model.specs.declared.service.UnitResult.{UnitResult}

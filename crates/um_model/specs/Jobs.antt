@@ -1,7 +1,7 @@
 -- Pending jobs: what a command makes of those of its unit, and which job is ready to begin.
 -- Follows systemctl(1), "start" and "stop", and systemd.unit(5), "Before=".
 -- The machine stands on this file.
-use Rattle.std.specs.Prelude.{◌≡◌, ◌≢◌, ◌⊎◌, ℕ, Bool, true, false, not, ◌&&◌, ◌||◌, if◌then◌else◌, List, Option, Some, None, is_some, unwrap_or}
+use Rattle.std.specs.Prelude.{◌≡◌, ◌≢◌, ℕ, Bool, true, false, ◌||◌, if◌then◌else◌, List, Option, Some, None, is_some, unwrap_or}
 use Rattle.std.specs.FinMap as map
 use Rattle.std.specs.declared.cmp.Ordering.TheVariants.{Less}
 use Rattle.std.specs.Cmp.Lexicographic.{slice_cmp}
@@ -13,10 +13,10 @@ use Rattle.um_model.specs.declared.jobs.JobState.{JobState}
 use Rattle.um_model.specs.declared.jobs.JobState.TheVariants.{Waiting, Running}
 use Rattle.um_model.specs.declared.jobs.UnitJobs.{UnitJobs}
 use Rattle.um_model.specs.declared.service.ActiveState.{ActiveState}
-use Rattle.um_model.specs.declared.service.ActiveState.TheVariants.{Inactive, Activating, Active, Deactivating, Failed}
+use Rattle.um_model.specs.declared.service.ActiveState.TheVariants.{Inactive, Active, Deactivating, Failed}
 use Rattle.um_model.specs.declared.service.UnitState.{UnitState}
 use Rattle.um_model.specs.declared.transition.StartJob.{StartJob}
-use Rattle.um_model.specs.declared.transition.StartJob.TheVariants.{Stays, Ends, Fails}
+use Rattle.um_model.specs.declared.transition.StartJob.TheVariants.{Stays}
 
 abbrev pub jobs : Option JobState → Option JobState → UnitJobs
 jobs stop start = record { stop = stop; start = start }

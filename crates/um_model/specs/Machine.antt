@@ -1,7 +1,7 @@
 -- The machine: its state, what comes in, what is answered, one step, and a run.
 -- The rules of single inputs follow systemctl(1); the machine itself is this project's own.
 -- The engine, the keeper, the manager and the program stand on this file.
-use Rattle.std.specs.Prelude.{◌≡◌, ◌≢◌, ℕ, ◌+◌, ◌<◌, ◌≤◌, max, Bool, true, false, not, ◌&&◌, ◌==◌, is_some, if◌then◌else◌, List, [], ◌∷◌, ◌++◌, Option, Some, None, Result, Ok, Err, codes}
+use Rattle.std.specs.Prelude.{◌≡◌, ◌≢◌, ℕ, ◌+◌, ◌<◌, ◌≤◌, max, Bool, true, false, not, ◌&&◌, is_some, if◌then◌else◌, List, [], ◌∷◌, ◌++◌, Option, Some, None, Result, Ok, Err, codes}
 use Rattle.std.specs.FinMap as map
 use Rattle.std.specs.declared.cmp.Ordering.TheVariants.{Less}
 use Rattle.std.specs.Cmp.Lexicographic.{slice_cmp}
@@ -14,7 +14,7 @@ use Rattle.um_model.specs.Resolution.{UnitFile, Resolution, AtFile, AtNoFile, At
 use Rattle.um_model.specs.Units.{LoadedUnit, Loading, Found, Masked, NotFound, BadSetting, load, name_in, Warning}
 use Rattle.um_model.specs.Service.{ByUnit, state_of_unit, with_unit, active_state_of, is_number, Action}
 use Rattle.um_model.specs.Transitions.{transition, AreActions, HasNumber, spawned}
-use Rattle.um_model.specs.Jobs.{Job, job_of, jobs_of_unit, with_jobs, jobs_after, jobs_left, with_running, IsReady, BeginsNext}
+use Rattle.um_model.specs.Jobs.{Job, jobs_of_unit, with_jobs, jobs_after, jobs_left, with_running, IsReady, BeginsNext}
 use Rattle.um_model.specs.Timers.{Timers, IsDueFirst}
 use Rattle.um_model.specs.declared.jobs.JobKind.{JobKind}
 use Rattle.um_model.specs.declared.jobs.JobKind.TheVariants as job

@@ -7,10 +7,6 @@ use Rattle.um_model.specs.Names.{is_instance_byte}
 use Rattle.um_model.specs.Specifiers.{expanded_of}
 use Rattle.um_model.specs.Words.{Command, words_of, commands_read, is_executable_word}
 use Rattle.um_model.specs.Substitution.{Variable, is_variable_name}
-use Rattle.um_model.specs.Values.{boolean_of, number_of, span_of, exits_of, policy_named}
-use Rattle.um_model.specs.declared.service.End.{End}
-use Rattle.um_model.specs.declared.settings.RestartPolicy.{RestartPolicy}
-use Rattle.um_model.specs.declared.settings.TimeSpan.{TimeSpan}
 use Rattle.um_model.specs.declared.warnings.WarningKind.{WarningKind}
 use Rattle.um_model.specs.declared.warnings.WarningKind.TheVariants.{UnreadableValue, UnreadableSpecifier}
 use Rattle.um_model.specs.declared.words.WordRules.TheVariants.{Escaped, Names}

@@ -1,7 +1,7 @@
 -- What the settings of a unit say of its processes, its restarts and its limit.
 -- Follows systemd.service(5) and, for the start limit, systemd.unit(5).
 -- Units, clean ends, the service table and the machine stand on this file.
-use Rattle.std.specs.Prelude.{ℕ, Bool, true, false, List, [], ◌∷◌, ◌++◌, map, Option, Some, None, slice_get}
+use Rattle.std.specs.Prelude.{ℕ, Bool, false, List, [], ◌∷◌, ◌++◌, map, Option, Some, None, slice_get}
 use Rattle.um_model.specs.Words.{Command}
 use Rattle.um_model.specs.Substitution.{Variable}
 use Rattle.um_model.specs.declared.service.End.{End}
@@ -10,7 +10,6 @@ use Rattle.um_model.specs.declared.settings.RestartPolicy.TheVariants.{No}
 use Rattle.um_model.specs.declared.transition.CommandList.{CommandList}
 use Rattle.um_model.specs.declared.transition.CommandList.TheVariants.{OfStart, OfStop}
 use Rattle.um_model.specs.declared.transition.UnitKind.{UnitKind}
-use Rattle.um_model.specs.declared.transition.UnitKind.TheVariants.{Simple}
 
 -- spans are in microseconds; one that is None never ends
 pub record ServiceSettings : Type 0 where

@@ -1,7 +1,7 @@
 -- What a unit's files set and warn of, by one list of assignments, and whether the unit can be loaded.
 -- Follows systemd.unit(5) and systemd.service(5).
 -- The machine stands on this file: what `show` tells, and what a start does.
-use Rattle.std.specs.Prelude.{ℕ, Bool, true, false, not, ◌&&◌, ◌||◌, ◌==◌, List, [], ◌∷◌, ◌++◌, length, find, filter_map, map as each, Option, Some, None, Result, Ok, Err, option_map, is_some, if◌then◌else◌, codes}
+use Rattle.std.specs.Prelude.{ℕ, Bool, true, false, not, ◌&&◌, ◌||◌, ◌==◌, List, [], ◌∷◌, ◌++◌, length, find, filter_map, map as each, Option, Some, None, Ok, Err, option_map, if◌then◌else◌, codes}
 use Rattle.std.specs.List.{flat_map, list_any, after_last}
 use Rattle.std.specs.Str.{bytes_eq}
 use Rattle.um_model.specs.Names.{suffix_of, is_unit_name}
@@ -11,7 +11,7 @@ use Rattle.um_model.specs.Tree.{Tree}
 use Rattle.um_model.specs.Resolution.{or_else, is_of_same_type, UnitFile, Resolution, AtFile, AtNoFile, AtMask, Nowhere, files_at, resolution_of}
 use Rattle.um_model.specs.Keys.{is_foreign, is_known_section, is_refused_key, kind_of_key}
 use Rattle.um_model.specs.Readings.{Reading, read_in, warning_in, text_reading, commands_reading, environment_reading, names_reading, first_warning, names_said, value_reading, instance_in}
-use Rattle.um_model.specs.Settings.{ServiceSettings, default_settings}
+use Rattle.um_model.specs.Settings.{ServiceSettings}
 use Rattle.um_model.specs.Values.{boolean_of, number_of, span_of, exits_of, policy_named}
 use Rattle.um_model.specs.Words.{Command}
 use Rattle.um_model.specs.Substitution.{Variable}
