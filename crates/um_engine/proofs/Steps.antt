@@ -36,12 +36,6 @@ fires_more t timers deadline unit s u v before between after due (fired first ne
   all ∙ (ap (λ l. l ++ more) is ∙ (append_assoc before (first ++ next) more ∙ ap (λ l. before ++ l) (append_assoc first next more))),
 )
 
-pub same_name : (n o : List ℕ) → (n ≡ o) ⊎ (n ≢ o)
-same_name n o = elim (bytes_eq n o) as (λ b. bytes_eq n o ≡ b → (n ≡ o) ⊎ (n ≢ o)) [
-  | true ↦ λ t. inl ((bytes_eq-Decides n o).0 t)
-  | false ↦ λ f. inr (λ e. true≢false (sym ((bytes_eq-Decides n o).1 e) ∙ f))
-] refl
-
 no_earlier : (t deadline later : ℕ) (unit other : List ℕ) → t < deadline → IsDueBefore deadline unit later other → t < later
 no_earlier t deadline later unit other low (earlier le) = omega arith
 no_earlier t deadline later unit other low (by_name same le) = omega arith

@@ -17,7 +17,7 @@ use Rattle.um_model.specs.declared.jobs.JobState.TheVariants.{Waiting, Running}
 use Rattle.um_model.specs.declared.jobs.UnitJobs.{UnitJobs}
 use Rattle.um_model.specs.declared.transition.StartJob.{StartJob}
 use Rattle.um_model.specs.declared.transition.StartJob.TheVariants.{Stays, Ends, Fails}
-use Rattle.um_engine.proofs.Steps.{same_name}
+use Rattle.um_model.proofs.TimersLaws.{same_name}
 
 abbrev pub waits : Option JobState → ℕ
 waits (Some Waiting) = 1

@@ -1,38 +1,16 @@
 -- The first entry by name that passes a test, in a tree map by the names of units.
 use Rattle.std.proofs.Common.{ℕ, ◌≡◌, ◌≢◌, ◌∙◌, ◌<◌, Bool, true, false, cond, List, [], ◌∷◌, length, Some, None, find, refl, sym, ap, subst, arith, zero, suc, Contains, get_or, Less, true≢false}
-use Rattle.std.specs.List.{AllByRecursion}
-use Rattle.std.specs.List.Sorted.{IsStrictlySortedBy}
 use Rattle.std.specs.BTreeMap as tree
 use Rattle.std.specs.BTreeMap.{BTreeMap}
 use Rattle.std.specs.FinMap as map
-use Rattle.std.specs.Map.{keys_of}
 use Rattle.std.specs.Cmp.Lexicographic.{slice_cmp, nat_list_cmp_total}
 use Rattle.std.specs.Ordering.{nat_cmp}
 use Rattle.std.proofs.lemmas.Option.{same_Some, none-some}
 use Rattle.std.proofs.lemmas.Map.Views.{btree_map_get_iff}
 use Rattle.std.proofs.lemmas.Map.Lookups.{exact_bytes}
-use Rattle.um_model.proofs.NameMaps.{seen, get_seen}
+use Rattle.um_model.proofs.NameMaps.{seen, get_seen, After, Rising, rising}
 
 module _ {X : Type 0} (test : List ℕ × X → Bool) where
-  -- all names of these come after this one
-  abbrev After : List ℕ → List (List ℕ × X) → Type 0
-  After n [] = Unit {0}
-  After n (e ∷ es) = (slice_cmp nat_cmp n e.0 ≡ Less) × After n es
-
-  -- the names ascend
-  abbrev Rising : List (List ℕ × X) → Type 0
-  Rising [] = Unit {0}
-  Rising (e ∷ es) = After e.0 es × Rising es
-
-  after : (n : List ℕ) (es : List (List ℕ × X)) → AllByRecursion (λ y. slice_cmp nat_cmp n y ≡ Less) (keys_of es) → After n es
-  after n [] a = tt
-  after n (e ∷ es) a = (a.0, after n es a.1)
-
-  rising : (es : List (List ℕ × X)) → IsStrictlySortedBy (slice_cmp nat_cmp) (keys_of es) → Rising es
-  unfolding IsStrictlySortedBy
-  rising [] s = tt
-  rising (e ∷ es) s = (after e.0 es s.0, rising es s.1)
-
   after_at : (n : List ℕ) (es : List (List ℕ × X)) → After n es → (k : ℕ) (e : List ℕ × X) → k < length es → get_or es k e ≡ e → slice_cmp nat_cmp n e.0 ≡ Less
   after_at n [] a k e h g = absurd (omega arith)
   after_at n (x ∷ es) a zero e h g = subst (λ y. slice_cmp nat_cmp n y.0 ≡ Less) g a.0

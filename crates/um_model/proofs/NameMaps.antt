@@ -107,3 +107,22 @@ module _ {X : Type 0} where
   -- tree maps that stand for the same have the same entries
   pub same_entries : (m n : BTreeMap (List ℕ) X) → tree.IsOrdered (slice_cmp nat_cmp) m → tree.IsOrdered (slice_cmp nat_cmp) n → seen m ≡ seen n → m.entries ≡ n.entries
   same_entries m n o p e = sym (entries_kept m o) ∙ (ap map.entries e ∙ entries_kept n p)
+
+-- all names of these come after this one
+abbrev pub After : {X : Type 0} → List ℕ → List (List ℕ × X) → Type 0
+After n [] = Unit {0}
+After n (e ∷ es) = (slice_cmp nat_cmp n e.0 ≡ Less) × After n es
+
+-- the names ascend
+abbrev pub Rising : {X : Type 0} → List (List ℕ × X) → Type 0
+Rising [] = Unit {0}
+Rising (e ∷ es) = After e.0 es × Rising es
+
+after : {X : Type 0} (n : List ℕ) (es : List (List ℕ × X)) → AllByRecursion (λ y. slice_cmp nat_cmp n y ≡ Less) (keys_of es) → After n es
+after n [] a = tt
+after n (e ∷ es) a = (a.0, after n es a.1)
+
+pub rising : {X : Type 0} (es : List (List ℕ × X)) → IsStrictlySortedBy (slice_cmp nat_cmp) (keys_of es) → Rising es
+unfolding IsStrictlySortedBy
+rising [] s = tt
+rising (e ∷ es) s = (after e.0 es s.0, rising es s.1)

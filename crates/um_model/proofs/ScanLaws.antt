@@ -1,10 +1,8 @@
 -- The unit of a process number, the job that begins next and the deadlines, as a scan by the names of units finds them.
 use Rattle.std.proofs.Common.{ℕ, ◌≡◌, ◌≢◌, ◌∙◌, ◌⊎◌, ◌||◌, Bool, true, false, List, Option, Some, None, is_some, unwrap_or, refl, sym, ap, subst, inl, inr, true≢false, arith}
-use Rattle.std.specs.Str.{bytes_eq}
 use Rattle.std.specs.FinMap as map
 use Rattle.std.proofs.lemmas.Bool.Decides.{nat_tests}
 use Rattle.std.proofs.lemmas.Option.{same_Some}
-use Rattle.std.proofs.lemmas.Slice.Eq.{bytes_eq-Decides}
 use Rattle.um_model.specs.Jobs.{Job, job_of, jobs_of_unit, IsReady, IsToldBefore, by_name, BeginsNext, ready_kind}
 use Rattle.um_model.specs.Machine.{IsProcessOf, IsOver}
 use Rattle.um_model.specs.Service.{ByUnit, active_state_of, state_of_unit, dead_unit, is_number}
@@ -16,6 +14,7 @@ use Rattle.um_model.specs.declared.jobs.UnitJobs.{UnitJobs}
 use Rattle.um_model.specs.declared.service.UnitState.{UnitState}
 use Rattle.um_model.proofs.FirstByName.{IsFirst}
 use Rattle.um_model.proofs.JobsLaws.{ready_is, is_ready}
+use Rattle.um_model.proofs.TimersLaws.{same_name}
 
 -- ---- process numbers
 
@@ -85,12 +84,6 @@ jobs_held : (pending : ByUnit UnitJobs) (job : Job) (o : Option UnitJobs) → ma
     → map.get pending job.unit ≡ Some (unwrap_or o (record { stop = None; start = None }))
 jobs_held pending job None is w = absurd (no_job job.kind w)
 jobs_held pending job (Some j) is w = is
-
-same_name : (n o : List ℕ) → (n ≡ o) ⊎ (n ≢ o)
-same_name n o = elim (bytes_eq n o) as (λ b. bytes_eq n o ≡ b → (n ≡ o) ⊎ (n ≢ o)) [
-  | true ↦ λ t. inl ((bytes_eq-Decides n o).0 t)
-  | false ↦ λ f. inr (λ e. true≢false (sym ((bytes_eq-Decides n o).1 e) ∙ f))
-] refl
 
 told_first : (units : ByUnit UnitState) (pending : ByUnit UnitJobs) (unit : List ℕ) (kind : JobKind) (j : UnitJobs) → IsFirst (is_ready_here units) pending unit j
     → ready_kind (active_state_of (state_of_unit units unit).sub) (jobs_of_unit pending unit) ≡ Some kind

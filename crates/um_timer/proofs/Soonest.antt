@@ -16,30 +16,11 @@ use Rattle.std.proofs.lemmas.Map.Views.{btree_map_get_iff}
 use Rattle.std.proofs.lemmas.Map.Lookups.{exact_bytes}
 use Rattle.um_model.specs.Timers.{IsDueBefore, earlier, by_name, IsDueFirst}
 use Rattle.um_timer.specs.Due.{sooner, soonest, seen_due}
-use Rattle.um_model.proofs.NameMaps.{seen, get_seen, seen_nothing}
-
--- all names of these come after this one
-abbrev After : List ℕ → List (List ℕ × ℕ) → Type 0
-After n [] = Unit {0}
-After n (e ∷ es) = (slice_cmp nat_cmp n e.0 ≡ Less) × After n es
+use Rattle.um_model.proofs.NameMaps.{seen, get_seen, seen_nothing, After, Rising, rising}
 
 abbrev AfterDue : Option (ℕ × List ℕ) → List (List ℕ × ℕ) → Type 0
 AfterDue None es = Unit {0}
 AfterDue (Some due) es = After due.1 es
-
--- the names ascend
-abbrev Rising : List (List ℕ × ℕ) → Type 0
-Rising [] = Unit {0}
-Rising (e ∷ es) = After e.0 es × Rising es
-
-after : (n : List ℕ) (es : List (List ℕ × ℕ)) → AllByRecursion (λ y. slice_cmp nat_cmp n y ≡ Less) (keys_of es) → After n es
-after n [] a = tt
-after n (e ∷ es) a = (a.0, after n es a.1)
-
-rising : (es : List (List ℕ × ℕ)) → IsStrictlySortedBy (slice_cmp nat_cmp) (keys_of es) → Rising es
-unfolding IsStrictlySortedBy
-rising [] s = tt
-rising (e ∷ es) s = (after e.0 es s.0, rising es s.1)
 
 -- this timer is that one, or due before it
 abbrev IsDue : ℕ → List ℕ → List ℕ × ℕ → Type 0
