@@ -10,6 +10,7 @@ use Rattle.std.specs.Ordering.{nat_cmp}
 use Rattle.std.proofs.lemmas.Option.{same_Some, none-some}
 use Rattle.std.proofs.lemmas.Slice.Eq.{bytes_eq-Decides}
 use Rattle.um_model.specs.Timers.{Timers, IsDueFirst, IsDueBefore, earlier, by_name}
+use Rattle.um_model.proofs.TimersLaws.{same_name}
 use Rattle.um_engine.specs.Engine.{HappensTo, SettlesTo, FiresOneTo, passed, fired, FiresFrom, IsDue, NoneIsDue}
 
 -- where no job is ready, all has settled
