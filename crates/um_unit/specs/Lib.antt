@@ -3,4 +3,4 @@ pub mod FilesView
 pub mod ServiceView
 pub mod Readings
 pub mod Sources
-pub mod Values
+pub mod Leads

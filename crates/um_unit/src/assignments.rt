@@ -1,7 +1,9 @@
 //! The assignments of a unit's files as one list.
 
-ghost use Rattle.std.specs.Prelude.{◌≡◌, Some, IfOk, OnOk, ◌++◌, map, option_map};
-ghost use Rattle.std.specs.List.{flat_map};
+ghost use Rattle.std.specs.Prelude.{◌≡◌, ◌&&◌, Some, None, IfOk, OnOk, ◌++◌, map, not, option_map, option_to_list};
+ghost use Rattle.std.specs.List.{suffix_len};
+ghost use Rattle.std.specs.Str.{bytes_eq};
+ghost use Rattle.um_model.specs.Text.{is_empty};
 ghost use Rattle.um_model.specs.Syntax.{in_sections, section_after};
 ghost use Rattle.um_model.specs.Units as model;
 ghost use Rattle.um_syntax.specs.Items.{item_of};
@@ -97,12 +99,23 @@ pub fn assignments<'a>(
     Ok(assigned)
 }
 
+/// Whether it assigns to the key.
+fn is_of(assigned: &Assigned<'_>, section: &str, key: &str) -> bool
+    ensures { result ≡ (bytes_eq assigned.now.section.now section.now && bytes_eq assigned.now.key.now key.now) }
+{
+    assigned.section == section && assigned.key == key
+}
+
 /// Whether it assigns to one of the keys.
 fn assigns(keys: &[Key<'_>], assigned: &Assigned<'_>) -> bool
     ensures { result ≡ model.assigns (map (λ k. (k.0.now, k.1.now)) keys.now) (assigned_of assigned.now) }
 {
-    keys.iter()
-        .any(|key| assigned.section == key.0 && assigned.key == key.1)
+    for (section, key) in keys {
+        if is_of(assigned, section, key) {
+            return true;
+        }
+    }
+    false
 }
 
 /// The values of one setting, in order: each assignment to one of its keys.
@@ -122,10 +135,17 @@ pub fn values_of<'a>(
     Ok(values)
 }
 
+/// How many values stand behind the last empty one.
+fn said_len(values: &[&str]) -> usize
+    ensures { result ≡ suffix_len (λ v. not (is_empty v.now)) values.now }
+{
+    let last = values.iter().rev();
+    last.take_while(|value| !value.is_empty()).count()
+}
+
 /// The values behind the last empty one, which takes back those before it.
 pub fn since_empty<'v, 'a>(values: &'v [&'a str]) -> &'v [&'a str]
     ensures { map (λ v. v.now) result.now ≡ model.since_empty (map (λ v. v.now) values.now) }
 {
-    let said = values.iter().rev().take_while(|value| !value.is_empty());
-    &values[values.len() - said.count()..]
+    &values[values.len() - said_len(values)..]
 }

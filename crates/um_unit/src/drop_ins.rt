@@ -44,11 +44,7 @@ fn drop_in_at<'t>(folder: &str, path: &'t str, entry: Entry<'t>) -> Option<DropI
 }
 
 /// Adds a drop-in, unless there is one of that file already.
-fn add<'t>(
-    alloc: Global,
-    by_file: &mut ByFile<'t>,
-    drop_in: DropIn<'t>,
-) -> Result<(), AllocError>
+fn add<'t>(alloc: Global, by_file: &mut ByFile<'t>, drop_in: DropIn<'t>) -> Result<(), AllocError>
     ensures { OnOk result (by_file_of by_file.new.entries ≡ first_kept (by_file_of by_file.old.entries) (drop_in_of drop_in.entry)) }
 {
     if by_file.contains_key(drop_in.file) {

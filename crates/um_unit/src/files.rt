@@ -29,9 +29,7 @@ pub struct UnitFile {
 pub enum Files {
     /// Its own and then its drop-ins.
     Found(Vec<UnitFile>),
-    Masked {
-        unit: UnitName,
-    },
+    Masked { unit: UnitName },
     NotFound,
 }
 

@@ -5,7 +5,10 @@
 mod assignments;
 mod drop_ins;
 mod files;
+#[cfg(test)]
+mod files_tests;
 mod keys;
+mod laws;
 mod lists;
 mod loaded;
 mod loader;
@@ -20,6 +23,7 @@ mod tests;
 mod warnings;
 
 pub use files::{Files, UnitFile, files_of};
+pub use laws::a_unit_is_found_by_hops;
 pub use loaded::{LoadedUnit, Loading};
 pub use loader::load;
 pub use service_settings::ServiceSettings;

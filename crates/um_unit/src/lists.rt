@@ -3,7 +3,7 @@
 ghost use Rattle.std.specs.Prelude.{◌≡◌, ◌++◌, ◌∷◌, [], IfOk, OnOk, codes, map, string_bytes, filter_map};
 ghost use Rattle.std.specs.List.{flat_map};
 ghost use Rattle.um_model.specs.Names.{is_unit_name};
-ghost use Rattle.um_model.specs.Readings as readings;
+ghost use Rattle.um_model.specs.Readings as said;
 ghost use Rattle.um_model.specs.Units as model;
 ghost use Rattle.um_unit.specs.Readings.{fits_use};
 ghost use Rattle.um_unit.specs.Sources.{assigned_of};
@@ -22,7 +22,7 @@ use um_words::{Command, Variable};
 
 /// Adds the names that could be read.
 fn add_names(names: &mut Vec<String>, readings: Vec<Reading<String>>) -> Result<(), AllocError>
-    ensures { OnOk result (map string_bytes names.new.items ≡ map string_bytes names.old.items ++ map string_bytes (filter_map readings.read_in readings.items)) }
+    ensures { OnOk result (map string_bytes names.new.items ≡ map string_bytes names.old.items ++ map string_bytes (filter_map said.read_in readings.items)) }
 {
     for reading in readings {
         if let Ok(name) = reading {

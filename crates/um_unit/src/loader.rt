@@ -20,17 +20,22 @@ use um_name::UnitName;
 use um_syntax::parse;
 use um_tree::Tree;
 
-/// The files as they are read.
+/// A file as it is read.
+fn source<'t>(alloc: Global, file: &SourceFile<'t>) -> Result<Source<'t>, AllocError>
+    ensures { IfOk result (λ s. source_of s ≡ model.source_of (unit_file_of file.now)) }
+{
+    Ok(Source {
+        path: file.path,
+        items: parse(alloc, file.text)?,
+    })
+}
+
 fn sources<'t>(alloc: Global, files: &[SourceFile<'t>]) -> Result<Vec<Source<'t>>, AllocError>
     ensures { IfOk result (λ s. map source_of s.items ≡ map model.source_of (map unit_file_of files.now)) }
 {
     let mut sources = Vec::new(alloc);
     for file in files {
-        let items = parse(alloc, file.text)?;
-        sources.push(Source {
-            path: file.path,
-            items,
-        })?;
+        sources.push(source(alloc, file)?)?;
     }
     Ok(sources)
 }

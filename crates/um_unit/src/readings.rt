@@ -1,9 +1,9 @@
 //! What the value of a setting means under a unit's name: its words with their specifiers expanded, or why it can't be read.
 
-ghost use Rattle.std.specs.Prelude.{◌≡◌, IfOk, map, option_map, string_bytes};
+ghost use Rattle.std.specs.Prelude.{◌≡◌, IfOk, map, option_copied, option_map, string_bytes};
 ghost use Rattle.std.specs.List.{list_all};
-ghost use Rattle.um_model.specs.Names.{is_instance_byte};
-ghost use Rattle.um_model.specs.Readings as readings;
+ghost use Rattle.um_model.specs.Names.{is_instance_byte, suffix_of, suffix_text_of};
+ghost use Rattle.um_model.specs.Readings as said;
 ghost use Rattle.um_model.specs.Units as model;
 ghost use Rattle.um_unit.specs.Readings.{fits_use, read_as};
 ghost use Rattle.um_words.specs.Commands.{command_seen, commands_seen};
@@ -20,7 +20,7 @@ pub type Reading<T> = Result<T, WarningKind>;
 
 /// What was read, or the warning of a value that can't be read.
 pub fn value_reading<T: Drop>(read: Option<T>) -> Reading<T>
-    ensures { result ≡ readings.value_reading read }
+    ensures { result ≡ said.value_reading read }
 {
     read.ok_or(WarningKind::UnreadableValue)
 }
@@ -30,7 +30,7 @@ pub fn all_read<T: Drop>(
     alloc: Global,
     readings: Vec<Reading<T>>,
 ) -> Result<Reading<Vec<T>>, AllocError>
-    ensures { IfOk result (λ r. read_as (λ all. all.items) r ≡ readings.all_read readings.items) }
+    ensures { IfOk result (λ r. read_as (λ all. all.items) r ≡ said.all_read readings.items) }
 {
     let mut all = Vec::new(alloc);
     for reading in readings {
@@ -48,7 +48,7 @@ pub fn text_reading(
     unit: &UnitName,
     text: &str,
 ) -> Result<Reading<String>, AllocError>
-    ensures { IfOk result (λ r. read_as string_bytes r ≡ readings.text_reading unit.now text.now) }
+    ensures { IfOk result (λ r. read_as string_bytes r ≡ said.text_reading unit.now text.now) }
 {
     let expanded = expand(alloc, text, unit)?;
     Ok(expanded.ok_or(WarningKind::UnreadableSpecifier))
@@ -60,7 +60,7 @@ fn executable_reading(
     unit: &UnitName,
     word: &str,
 ) -> Result<Reading<String>, AllocError>
-    ensures { IfOk result (λ r. read_as string_bytes r ≡ readings.then_read (readings.text_reading unit.now word.now) readings.if_executable) }
+    ensures { IfOk result (λ r. read_as string_bytes r ≡ said.then_read (said.text_reading unit.now word.now) said.if_executable) }
 {
     match text_reading(alloc, unit, word)? {
         Ok(text) if !is_executable_word(text.as_str()) => Ok(Err(WarningKind::UnreadableValue)),
@@ -74,7 +74,7 @@ fn words_reading(
     unit: &UnitName,
     words: &[String],
 ) -> Result<Reading<Vec<String>>, AllocError>
-    ensures { IfOk result (λ r. read_as (λ texts. map string_bytes texts.items) r ≡ readings.words_reading unit.now (map string_bytes words.now)) }
+    ensures { IfOk result (λ r. read_as (λ texts. map string_bytes texts.items) r ≡ said.words_reading unit.now (map string_bytes words.now)) }
 {
     let mut readings = Vec::new(alloc);
     let [first, others @ ..] = words else {
@@ -92,7 +92,7 @@ fn command_reading(
     unit: &UnitName,
     command: &Command,
 ) -> Result<Reading<Command>, AllocError>
-    ensures { IfOk result (λ r. read_as command_seen r ≡ readings.command_reading unit.now (command_seen command.now)) }
+    ensures { IfOk result (λ r. read_as command_seen r ≡ said.command_reading unit.now (command_seen command.now)) }
 {
     match words_reading(alloc, unit, command.words.as_slice())? {
         Ok(words) => Ok(Ok(Command {
@@ -111,7 +111,7 @@ pub fn commands_reading(
     unit: &UnitName,
     value: &str,
 ) -> Result<Reading<Vec<Command>>, AllocError>
-    ensures { IfOk result (λ r. read_as (λ all. commands_seen all.items) r ≡ readings.commands_reading unit.now value.now) }
+    ensures { IfOk result (λ r. read_as (λ all. commands_seen all.items) r ≡ said.commands_reading unit.now value.now) }
 {
     let Some(commands) = commands(alloc, value)? else {
         return Ok(Err(WarningKind::UnreadableValue));
@@ -125,7 +125,7 @@ pub fn commands_reading(
 
 /// The variable that a word `NAME=value` sets.
 fn variable_in(alloc: Global, word: &str) -> Result<Option<Variable>, AllocError>
-    ensures { IfOk result (λ r. option_map variable_of r ≡ readings.variable_in word.now) }
+    ensures { IfOk result (λ r. option_map variable_of r ≡ said.variable_in word.now) }
 {
     match word.split_once('=') {
         Some((name, value)) if is_variable_name(name) => Ok(Some(Variable {
@@ -141,7 +141,7 @@ fn variable_reading(
     unit: &UnitName,
     word: &str,
 ) -> Result<Reading<Variable>, AllocError>
-    ensures { IfOk result (λ r. read_as variable_of r ≡ readings.variable_reading unit.now word.now) }
+    ensures { IfOk result (λ r. read_as variable_of r ≡ said.variable_reading unit.now word.now) }
 {
     match text_reading(alloc, unit, word)? {
         Ok(text) => Ok(value_reading(variable_in(alloc, text.as_str())?)),
@@ -156,7 +156,7 @@ pub fn environment_reading(
     unit: &UnitName,
     value: &str,
 ) -> Result<Reading<Vec<Variable>>, AllocError>
-    ensures { IfOk result (λ r. read_as (λ all. variables_of all.items) r ≡ readings.environment_reading unit.now value.now) }
+    ensures { IfOk result (λ r. read_as (λ all. variables_of all.items) r ≡ said.environment_reading unit.now value.now) }
 {
     let Some(words) = words(alloc, value)? else {
         return Ok(Err(WarningKind::UnreadableValue));
@@ -177,11 +177,20 @@ pub enum NameUse {
     Aliases,
 }
 
+fn suffix_text_of(text: &str) -> &'static str
+    ensures { result.now ≡ suffix_text_of (suffix_of text.now) }
+{
+    match suffix_of(text) {
+        Some(suffix) => suffix.text(),
+        None => "",
+    }
+}
+
 /// Whether the text is another name for the unit.
 fn is_alias_for(unit: &UnitName, text: &str) -> bool
     ensures { result ≡ model.is_alias_for unit.now text.now }
 {
-    is_unit_name(text) && suffix_of(text).is_some_and(|s| s.text() == unit.suffix().text())
+    is_unit_name(text) && suffix_text_of(unit.as_str()) == suffix_text_of(text)
 }
 
 fn fits(uses: NameUse, unit: &UnitName, text: &str) -> bool
@@ -199,7 +208,7 @@ fn name_reading(
     unit: &UnitName,
     word: &str,
 ) -> Result<Reading<String>, AllocError>
-    ensures { IfOk result (λ r. read_as string_bytes r ≡ readings.unit_reading (fits_use uses unit.now) unit.now word.now) }
+    ensures { IfOk result (λ r. read_as string_bytes r ≡ said.unit_reading (fits_use uses unit.now) unit.now word.now) }
 {
     match text_reading(alloc, unit, word)? {
         Ok(text) if !fits(uses, unit, text.as_str()) => Ok(Err(WarningKind::UnreadableValue)),
@@ -216,7 +225,7 @@ pub fn names_reading(
     unit: &UnitName,
     value: &str,
 ) -> Result<Vec<Reading<String>>, AllocError>
-    ensures { IfOk result (λ r. map (read_as string_bytes) r.items ≡ readings.names_reading (fits_use uses unit.now) unit.now value.now) }
+    ensures { IfOk result (λ r. map (read_as string_bytes) r.items ≡ said.names_reading (fits_use uses unit.now) unit.now value.now) }
 {
     let mut readings = Vec::new(alloc);
     let Some(words) = names(alloc, value)? else {
@@ -231,7 +240,7 @@ pub fn names_reading(
 
 /// The first warning of several readings.
 pub fn first_warning(readings: &[Reading<String>]) -> Option<WarningKind>
-    ensures { result ≡ readings.first_warning (map (read_as string_bytes) readings.now) }
+    ensures { result ≡ said.first_warning (map (read_as string_bytes) readings.now) }
 {
     for reading in readings {
         if let Err(warning) = reading {
@@ -247,9 +256,19 @@ fn is_instance_byte(b: u8) -> bool
     b.is_ascii_alphanumeric() || matches!(b, b':' | b'-' | b'_' | b'.' | b'\\' | b'@')
 }
 
-/// Whether the text can be an instance, which may be empty.
-pub fn is_instance(text: &str) -> bool
+fn are_instance_bytes(text: &str) -> bool
     ensures { result ≡ list_all is_instance_byte text.now }
 {
     text.as_bytes().iter().all(|b| is_instance_byte(*b))
+}
+
+/// The instance that the value is, which may be empty.
+pub fn instance_in(value: &str) -> Option<&str>
+    ensures { option_copied result ≡ said.instance_in value.now }
+{
+    if are_instance_bytes(value) {
+        Some(value)
+    } else {
+        None
+    }
 }

@@ -1,6 +1,6 @@
 //! Why a unit can't be loaded.
 
-ghost use Rattle.std.specs.Prelude.{◌≡◌, IfOk, Some, map, option_map, string_bytes};
+ghost use Rattle.std.specs.Prelude.{◌≡◌, ◌++◌, IfOk, Some, codes, map, option_map, string_bytes};
 ghost use Rattle.um_model.specs.Resolution.{or_else};
 ghost use Rattle.um_model.specs.Units as model;
 ghost use Rattle.um_unit.specs.ServiceView.{service_settings_of};
@@ -14,6 +14,20 @@ use crate::singles::{TypeSaid, type_of};
 use std::alloc::{AllocError, Global};
 use um_model::{RestartPolicy, Suffix, UnitKind};
 
+fn setting_reason(alloc: Global, key: &str) -> Result<String, AllocError>
+    ensures { IfOk result (λ reason. string_bytes reason ≡ codes "setting " ++ key.now) }
+{
+    let mut reason = String::from_str(alloc, "setting ")?;
+    reason.push_str(key)?;
+    Ok(reason)
+}
+
+fn is_refused(assigned: &Assigned<'_>) -> bool
+    ensures { result ≡ model.is_refused (assigned_of assigned.now) }
+{
+    is_refused_key(assigned.key) && !assigned.value.is_empty()
+}
+
 /// `setting` and the first key that no unit may have, where it is given a value.
 fn refused_setting(
     alloc: Global,
@@ -22,10 +36,8 @@ fn refused_setting(
     ensures { IfOk result (λ reason. option_map string_bytes reason ≡ model.refused_setting (map assigned_of assigned.now)) }
 {
     for one in assigned {
-        if is_refused_key(one.key) && !one.value.is_empty() {
-            let mut reason = String::from_str(alloc, "setting ")?;
-            reason.push_str(one.key)?;
-            return Ok(Some(reason));
+        if is_refused(one) {
+            return Ok(Some(setting_reason(alloc, one.key)?));
         }
     }
     Ok(None)

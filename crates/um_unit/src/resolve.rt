@@ -1,5 +1,4 @@
 ghost use Rattle.std.specs.Prelude.{◌≡◌, ℕ, List, Some, None, IfOk, if◌then◌else◌, option_copied, option_map, string_bytes};
-
 ghost use Rattle.um_model.specs.Resolution as model;
 ghost use Rattle.um_model.specs.Tree.{File};
 ghost use Rattle.um_tree.specs.View.{entry_of};
@@ -30,9 +29,13 @@ pub enum Resolution<'t> {
         text: &'t str,
     },
     /// To the unit, which is found with no file.
-    NoFile { unit: UnitName },
+    NoFile {
+        unit: UnitName,
+    },
     /// To the unit, which is masked.
-    Mask { unit: UnitName },
+    Mask {
+        unit: UnitName,
+    },
     Nowhere,
 }
 
@@ -131,15 +134,11 @@ fn with_instance_of(
 fn is_of_same_type(unit: &UnitName, other: &UnitName) -> bool
     ensures { result ≡ model.is_of_same_type unit.now other.now }
 {
-    unit.suffix().text() == other.suffix().text()
+    unit.suffix() == other.suffix()
 }
 
 /// The name that a link leads on to, which has the same suffix.
-fn next_name(
-    alloc: Global,
-    unit: &UnitName,
-    target: &str,
-) -> Result<Option<UnitName>, AllocError>
+fn next_name(alloc: Global, unit: &UnitName, target: &str) -> Result<Option<UnitName>, AllocError>
     ensures { IfOk result (λ name. name ≡ model.next_name unit.now target.now) }
 {
     let text = with_instance_of(alloc, unit.instance(), last_part(target))?;

@@ -1,6 +1,6 @@
 //! Settings of one value: the last that can be read counts, or else the default.
 
-ghost use Rattle.std.specs.Prelude.{◌≡◌, IfOk, Some, None, [], map, option_map, string_bytes};
+ghost use Rattle.std.specs.Prelude.{◌≡◌, IfOk, Some, None, [], map, option_copied, option_map, string_bytes};
 ghost use Rattle.um_model.specs.Units as model;
 ghost use Rattle.um_model.specs.Values as values;
 ghost use Rattle.um_unit.specs.Sources.{assigned_of};
@@ -8,7 +8,7 @@ ghost use Rattle.um_unit.specs.View.{said_of};
 ghost use Rattle.um_model.specs.declared.settings.RestartPolicy.TheVariants.{No};
 
 use crate::assignments::{Assigned, Key, values_of};
-use crate::readings::{is_instance, text_reading};
+use crate::readings::{instance_in, text_reading};
 use std::alloc::{AllocError, Global};
 use um_model::{RestartPolicy, TimeSpan, UnitKind};
 use um_name::UnitName;
@@ -145,15 +145,13 @@ pub fn timeout(
 }
 
 /// What a value of `DefaultInstance=` says: an empty one gives the default back.
-fn instance_in(value: &str) -> Option<Option<&str>>
-    ensures { option_map (λ i. option_map (λ t. t.now) i) result ≡ model.default_instance_in value.now }
+fn default_instance_in(value: &str) -> Option<Option<&str>>
+    ensures { option_map option_copied result ≡ model.default_instance_in value.now }
 {
     if value.is_empty() {
         Some(None)
-    } else if is_instance(value) {
-        Some(Some(value))
     } else {
-        None
+        instance_in(value).map(Some)
     }
 }
 
@@ -168,7 +166,7 @@ pub fn instance(
 {
     let mut last = None;
     for value in &values_of(alloc, assigned, keys)? {
-        if let Some(read) = instance_in(value) {
+        if let Some(read) = default_instance_in(value) {
             last = read;
         }
     }

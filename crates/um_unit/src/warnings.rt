@@ -1,19 +1,18 @@
 //! What the lines of a unit's files warn of.
 
-ghost use Rattle.std.specs.Prelude.{◌≡◌, ◌++◌, ℕ, List, true, Some, OnOk, IfOk, map, option_map};
-ghost use Rattle.um_model.specs.Readings as readings;
+ghost use Rattle.std.specs.Prelude.{◌≡◌, ◌++◌, Some, OnOk, IfOk, map, option_map};
+ghost use Rattle.um_model.specs.Readings as said;
 ghost use Rattle.um_model.specs.Syntax.{line_number};
 ghost use Rattle.um_model.specs.Units as model;
 ghost use Rattle.um_syntax.specs.Items.{item_of};
 ghost use Rattle.um_unit.specs.Readings.{fits_use};
 ghost use Rattle.um_unit.specs.Sources.{source_of};
-ghost use Rattle.um_unit.specs.Values.{is_plain, unless_readable};
 ghost use Rattle.um_unit.specs.View.{warning_of};
 
 use crate::assignments::{Source, section_after};
 use crate::keys::{is_foreign, is_known_section, kind_of_key};
 use crate::readings::{
-    NameUse, Reading, commands_reading, environment_reading, first_warning, is_instance,
+    NameUse, Reading, commands_reading, environment_reading, first_warning, instance_in,
     names_reading, text_reading,
 };
 use crate::singles::type_said;
@@ -34,35 +33,19 @@ pub struct Warning {
 }
 
 fn warning_in<T: Drop>(reading: Reading<T>) -> Option<WarningKind>
-    ensures { result ≡ readings.warning_in reading }
+    ensures { result ≡ said.warning_in reading }
 {
     reading.err()
 }
 
-fn unless_readable(readable: bool) -> Option<WarningKind>
-    ensures { result ≡ unless_readable readable }
+/// The warning of a value that has no reading.
+fn unread<T: Drop>(read: Option<T>) -> Option<WarningKind>
+    ensures { result ≡ said.warning_in (said.value_reading read) }
 {
-    if readable {
-        None
-    } else {
-        Some(WarningKind::UnreadableValue)
+    match read {
+        Some(_) => None,
+        None => Some(WarningKind::UnreadableValue),
     }
-}
-
-/// The warning of a value that takes no memory to read.
-fn plain_warning(kind: ValueKind, value: &str) -> Option<WarningKind>
-    ensures { (unit : List ℕ) → is_plain kind ≡ true → result ≡ model.value_warning unit kind value.now }
-{
-    unless_readable(match kind {
-        ValueKind::Instance => is_instance(value),
-        ValueKind::Truth => boolean(value).is_some(),
-        ValueKind::Span => span(value).is_some(),
-        ValueKind::Number => number(value).is_some(),
-        ValueKind::Exits => exit_set(value).is_some(),
-        ValueKind::Policy => restart(value).is_some(),
-        ValueKind::ServiceType => type_said(value).is_some(),
-        _ => true,
-    })
 }
 
 fn names_warning(
@@ -71,7 +54,7 @@ fn names_warning(
     unit: &UnitName,
     value: &str,
 ) -> Result<Option<WarningKind>, AllocError>
-    ensures { IfOk result (λ w. w ≡ readings.first_warning (readings.names_reading (fits_use uses unit.now) unit.now value.now)) }
+    ensures { IfOk result (λ w. w ≡ said.first_warning (said.names_reading (fits_use uses unit.now) unit.now value.now)) }
 {
     let readings = names_reading(alloc, uses, unit, value)?;
     Ok(first_warning(readings.as_slice()))
@@ -93,7 +76,14 @@ fn value_warning(
         ValueKind::Aliases => names_warning(alloc, NameUse::Aliases, unit, value),
         ValueKind::Commands => Ok(warning_in(commands_reading(alloc, unit, value)?)),
         ValueKind::Environment => Ok(warning_in(environment_reading(alloc, unit, value)?)),
-        other => Ok(plain_warning(other, value)),
+        ValueKind::Instance => Ok(unread(instance_in(value))),
+        ValueKind::Truth => Ok(unread(boolean(value))),
+        ValueKind::Span => Ok(unread(span(value))),
+        ValueKind::Number => Ok(unread(number(value))),
+        ValueKind::Exits => Ok(unread(exit_set(value))),
+        ValueKind::Policy => Ok(unread(restart(value))),
+        ValueKind::ServiceType => Ok(unread(type_said(value))),
+        ValueKind::Unused | ValueKind::Refused => Ok(None),
     }
 }
 

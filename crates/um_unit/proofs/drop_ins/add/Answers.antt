@@ -1,6 +1,4 @@
-use Rattle.std.proofs.Common.{◌≡◌, Bool, true, false, string_bytes, sym, ap, ◌∙◌, subst, List, ℕ}
-use Rattle.std.specs.FinMap as map
-use Rattle.um_tree.proofs.TextMaps.{map_of_inserted}
+use Rattle.std.proofs.Common.{string_bytes, sym, ◌∙◌}
 use Rattle.um_unit.specs.FilesView.{by_file_of, drop_in_of}
 use Rattle.um_unit.proofs.ByFileLemmas.{contains_file, kept_new, kept_old, inserted}
 use Rattle.um_unit.proofs.drop_ins.add.Goals as goal

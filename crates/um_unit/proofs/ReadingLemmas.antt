@@ -1,0 +1,83 @@
+-- Several readings, one after the other.
+use Rattle.std.proofs.Common.{◌≡◌, Bool, List, [], ◌∷◌, ◌++◌, map, filter_map, append_assoc, Option, Some, None, Result, Ok, Err, option_map, refl, sym, ap, ◌∙◌}
+use Rattle.std.specs.List.{cons_option}
+use Rattle.std.proofs.lemmas.List.{append-nil, map-append}
+use Rattle.std.proofs.lemmas.List.Elements.{filter_map-append}
+use Rattle.um_model.specs.Readings.{Reading, all_read, in_front, or_warning, read_in, then_read, value_reading, warning_in}
+use Rattle.um_model.specs.declared.warnings.WarningKind.{WarningKind}
+use Rattle.um_unit.specs.Readings.{read_as}
+
+-- those that were read already, and then these
+abbrev pub read_after : {A : Type 0} → List A → Reading (List A) → Reading (List A)
+read_after done (Ok others) = Ok (done ++ others)
+read_after done (Err warning) = Err warning
+
+-- one more was read
+pub one_more : {A : Type 0} (done : List A) (a : A) (others : Reading (List A)) → read_after done (in_front (Ok a) others) ≡ read_after (done ++ a ∷ []) others
+one_more done a (Ok others) = ap Ok (sym (append_assoc done (a ∷ []) others))
+one_more done a (Err warning) = refl
+
+-- whatever readings follow, all is what was read so far and then what these read
+abbrev pub AreRead : {A : Type 0} → List (Reading A) → List A → Type 0
+AreRead {A} readings done = (more : List (Reading A)) → all_read (readings ++ more) ≡ read_after done (all_read more)
+
+pub read_more : {A : Type 0} (readings : List (Reading A)) (done : List A) (reading : Reading A) (a : A) → AreRead readings done → reading ≡ Ok a → AreRead (readings ++ reading ∷ []) (done ++ a ∷ [])
+read_more readings done reading a so_far is more =
+    ap all_read (append_assoc readings (reading ∷ []) more) ∙ so_far (reading ∷ more) ∙ ap (λ r. read_after done (in_front r (all_read more))) is ∙ one_more done a (all_read more)
+
+pub read_stops : {A : Type 0} (readings : List (Reading A)) (done : List A) (reading : Reading A) (warning : WarningKind) (more : List (Reading A)) → AreRead readings done → reading ≡ Err warning
+    → all_read (readings ++ reading ∷ more) ≡ Err warning
+read_stops readings done reading warning more so_far is = so_far (reading ∷ more) ∙ ap (λ r. read_after done (in_front r (all_read more))) is
+
+pub all_are_read : {A : Type 0} (readings : List (Reading A)) (done : List A) → AreRead readings done → all_read readings ≡ Ok done
+all_are_read readings done so_far = ap all_read (sym (append-nil readings)) ∙ so_far [] ∙ ap Ok (append-nil done)
+
+-- what is read doesn't hang on how it is seen
+read_in_front : {A B : Type 0} (f : A → B) (a : A) (others : Reading (List A)) → read_as (map f) (in_front (Ok a) others) ≡ in_front (Ok (f a)) (read_as (map f) others)
+read_in_front f a (Ok others) = refl
+read_in_front f a (Err warning) = refl
+
+pub all_seen : {A B : Type 0} (f : A → B) (readings : List (Reading A)) → read_as (map f) (all_read readings) ≡ all_read (map (read_as f) readings)
+all_seen f [] = refl
+all_seen f (Ok a ∷ others) = read_in_front f a (all_read others) ∙ ap (in_front (Ok (f a))) (all_seen f others)
+all_seen f (Err warning ∷ others) = refl
+
+pub seen_twice : {A B C : Type 0} (f : B → C) (g : A → B) (r : Reading A) → read_as f (read_as g r) ≡ read_as (λ a. f (g a)) r
+seen_twice f g (Ok a) = refl
+seen_twice f g (Err warning) = refl
+
+-- a warning behind what was read
+pub warned_later : {A : Type 0} (a : A) (others : Reading (List A)) → warning_in (in_front (Ok a) others) ≡ warning_in others
+warned_later a (Ok others) = refl
+warned_later a (Err warning) = refl
+
+pub same_warning : {A B : Type 0} (f : A → B) (r : Reading A) → warning_in (read_as f r) ≡ warning_in r
+same_warning f (Ok a) = refl
+same_warning f (Err warning) = refl
+
+pub same_unread : {A B : Type 0} (f : A → B) (o : Option A) → warning_in (value_reading (option_map f o)) ≡ warning_in (value_reading o)
+same_unread f None = refl
+same_unread f (Some a) = refl
+
+-- one name more
+pub named_more : {A B : Type 0} (f : A → B) (old : List B) (done more : List A) (readings : List (Reading A)) (reading : Reading A) (name : A) → reading ≡ Ok name → more ≡ done ++ name ∷ []
+    → map f done ≡ old ++ map f (filter_map read_in readings) → map f more ≡ old ++ map f (filter_map read_in (readings ++ reading ∷ []))
+named_more f old done more readings reading name is e so_far =
+    ap (map f) e ∙ map-append f done (name ∷ []) ∙ ap (λ names. names ++ f name ∷ []) so_far
+    ∙ append_assoc old (map f (filter_map read_in readings)) (f name ∷ [])
+    ∙ ap (λ names. old ++ names) (sym (map-append f (filter_map read_in readings) (name ∷ [])))
+    ∙ ap (λ r. old ++ map f (filter_map read_in readings ++ filter_map read_in (r ∷ []))) (sym is)
+    ∙ ap (λ names. old ++ map f names) (sym (filter_map-append read_in readings (reading ∷ [])))
+
+-- one that names nothing
+pub named_no_more : {A B : Type 0} (f : A → B) (old : List B) (done : List A) (readings : List (Reading A)) (reading : Reading A) → read_in reading ≡ None
+    → map f done ≡ old ++ map f (filter_map read_in readings) → map f done ≡ old ++ map f (filter_map read_in (readings ++ reading ∷ []))
+named_no_more f old done readings reading none so_far =
+    so_far
+    ∙ ap (λ names. old ++ map f names) (sym (append-nil (filter_map read_in readings)))
+    ∙ ap (λ o. old ++ map f (filter_map read_in readings ++ cons_option o [])) (sym none)
+    ∙ ap (λ names. old ++ map f names) (sym (filter_map-append read_in readings (reading ∷ [])))
+
+pub names_nothing : {A : Type 0} (reading : Reading A) → ((a : A) → reading ≡ Ok a → ⊥) → read_in reading ≡ None
+names_nothing (Ok a) not = absurd (not a refl)
+names_nothing (Err warning) not = refl

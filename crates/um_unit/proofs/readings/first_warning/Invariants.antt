@@ -1,0 +1,8 @@
+use Rattle.std.proofs.Common.{◌≡◌, map, drop, string_bytes}
+use Rattle.um_model.specs.Readings.{first_warning}
+use Rattle.um_unit.specs.Readings.{read_as}
+use Rattle.um_unit.proofs.readings.first_warning.Given as goal
+
+-- the readings so far give no warning
+abbrev pub invariant-loop-reading : goal.invariant-loop-reading
+invariant-loop-reading l = first_warning (map (read_as string_bytes) (drop l.reading-index l.readings)) ≡ first_warning (map (read_as string_bytes) l.readings)
