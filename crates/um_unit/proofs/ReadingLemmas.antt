@@ -1,10 +1,13 @@
 -- Several readings, one after the other.
-use Rattle.std.proofs.Common.{◌≡◌, Bool, List, [], ◌∷◌, ◌++◌, map, filter_map, append_assoc, Option, Some, None, Result, Ok, Err, option_map, refl, sym, ap, ◌∙◌}
+use Rattle.std.proofs.Common.{◌≡◌, ℕ, List, [], ◌∷◌, ◌++◌, map, filter_map, append_assoc, Option, Some, None, Result, Ok, Err, option_map, refl, sym, ap, ◌∙◌}
 use Rattle.std.specs.List.{cons_option}
 use Rattle.std.proofs.lemmas.List.{append-nil, map-append}
 use Rattle.std.proofs.lemmas.List.Elements.{filter_map-append}
-use Rattle.um_model.specs.Readings.{Reading, all_read, in_front, or_warning, read_in, then_read, value_reading, warning_in}
+use Rattle.um_model.specs.Readings.{Reading, all_read, command_reading, commands_reading, environment_reading, in_front, variable_reading, or_warning, read_in, then_read, value_reading, warning_in}
+use Rattle.um_model.specs.Words.{Command, commands_read, words_of}
 use Rattle.um_model.specs.declared.warnings.WarningKind.{WarningKind}
+use Rattle.um_model.specs.declared.warnings.WarningKind.TheVariants.{UnreadableValue}
+use Rattle.um_model.specs.declared.words.WordRules.TheVariants.{Escaped}
 use Rattle.um_unit.specs.Readings.{read_as}
 
 -- those that were read already, and then these
@@ -81,3 +84,22 @@ named_no_more f old done readings reading none so_far =
 pub names_nothing : {A : Type 0} (reading : Reading A) → ((a : A) → reading ≡ Ok a → ⊥) → read_in reading ≡ None
 names_nothing (Ok a) not = absurd (not a refl)
 names_nothing (Err warning) not = refl
+
+-- all of several readings, what they read seen in another way
+pub read_all : {V A B : Type 0} (f : A → B) (items : V → List A) (r : Reading V) (readings : List (Reading A)) (others : List (Reading B)) → read_as items r ≡ all_read readings → map (read_as f) readings ≡ others
+    → read_as (λ v. map f (items v)) r ≡ all_read others
+read_all f items r readings others all seen = sym (seen_twice (map f) items r) ∙ ap (read_as (map f)) all ∙ all_seen f readings ∙ ap all_read seen
+
+-- the names that readings say, seen in another way
+pub said_seen : {A B : Type 0} (f : A → B) (readings : List (Reading A)) → map f (filter_map read_in readings) ≡ filter_map read_in (map (read_as f) readings)
+said_seen f [] = refl
+said_seen f (Ok a ∷ others) = ap (λ names. f a ∷ names) (said_seen f others)
+said_seen f (Err warning ∷ others) = said_seen f others
+
+pub commands_by : (unit value : List ℕ) (commands : List Command) → commands_read value ≡ Some commands → commands_reading unit value ≡ all_read (map (command_reading unit) commands)
+unfolding commands_reading
+commands_by unit value commands e = ap (λ o. then_read (or_warning UnreadableValue o) (λ read. all_read (map (command_reading unit) read))) e
+
+pub environment_by : (unit value : List ℕ) (words : List (List ℕ)) → words_of Escaped value ≡ Some words → environment_reading unit value ≡ all_read (map (variable_reading unit) words)
+unfolding environment_reading
+environment_by unit value words e = ap (λ o. then_read (or_warning UnreadableValue o) (λ read. all_read (map (variable_reading unit) read))) e

@@ -5,7 +5,7 @@ ghost use Rattle.std.specs.List.{flat_map};
 ghost use Rattle.um_model.specs.Names.{is_unit_name};
 ghost use Rattle.um_model.specs.Readings as said;
 ghost use Rattle.um_model.specs.Units as model;
-ghost use Rattle.um_unit.specs.Readings.{fits_use};
+ghost use Rattle.um_unit.specs.Readings.{fits_use, read_as};
 ghost use Rattle.um_unit.specs.Sources.{assigned_of};
 ghost use Rattle.um_value.specs.ExitSet.{holds};
 ghost use Rattle.um_words.specs.Commands.{commands_seen};
@@ -22,7 +22,7 @@ use um_words::{Command, Variable};
 
 /// Adds the names that could be read.
 fn add_names(names: &mut Vec<String>, readings: Vec<Reading<String>>) -> Result<(), AllocError>
-    ensures { OnOk result (map string_bytes names.new.items ≡ map string_bytes names.old.items ++ map string_bytes (filter_map said.read_in readings.items)) }
+    ensures { OnOk result (map string_bytes names.new.items ≡ map string_bytes names.old.items ++ filter_map said.read_in (map (read_as string_bytes) readings.items)) }
 {
     for reading in readings {
         if let Ok(name) = reading {

@@ -1,6 +1,6 @@
 //! What the value of a setting means under a unit's name: its words with their specifiers expanded, or why it can't be read.
 
-ghost use Rattle.std.specs.Prelude.{◌≡◌, IfOk, map, option_copied, option_map, string_bytes};
+ghost use Rattle.std.specs.Prelude.{◌≡◌, ◌∷◌, IfOk, map, option_copied, option_map, string_bytes};
 ghost use Rattle.std.specs.List.{list_all};
 ghost use Rattle.um_model.specs.Names.{is_instance_byte, suffix_of, suffix_text_of};
 ghost use Rattle.um_model.specs.Readings as said;
@@ -68,7 +68,24 @@ fn executable_reading(
     }
 }
 
-/// The words of a command; the first one, its signs cut off already, is what is run.
+/// The words of a command: the first one, its signs cut off already, and the others.
+fn command_words(
+    alloc: Global,
+    unit: &UnitName,
+    first: &str,
+    others: &[String],
+) -> Result<Reading<Vec<String>>, AllocError>
+    ensures { IfOk result (λ r. read_as (λ texts. map string_bytes texts.items) r ≡ said.words_reading unit.now (first.now ∷ map string_bytes others.now)) }
+{
+    let mut readings = Vec::new(alloc);
+    readings.push(executable_reading(alloc, unit, first)?)?;
+    for word in others {
+        readings.push(text_reading(alloc, unit, word.as_str())?)?;
+    }
+    let read = all_read(alloc, readings)?;
+    Ok(read)
+}
+
 fn words_reading(
     alloc: Global,
     unit: &UnitName,
@@ -76,15 +93,13 @@ fn words_reading(
 ) -> Result<Reading<Vec<String>>, AllocError>
     ensures { IfOk result (λ r. read_as (λ texts. map string_bytes texts.items) r ≡ said.words_reading unit.now (map string_bytes words.now)) }
 {
-    let mut readings = Vec::new(alloc);
-    let [first, others @ ..] = words else {
-        return Ok(Ok(Vec::new(alloc)));
-    };
-    readings.push(executable_reading(alloc, unit, first.as_str())?)?;
-    for word in others {
-        readings.push(text_reading(alloc, unit, word.as_str())?)?;
+    match words {
+        [first, others @ ..] => {
+            let read = command_words(alloc, unit, first.as_str(), others)?;
+            Ok(read)
+        }
+        [] => Ok(Ok(Vec::new(alloc))),
     }
-    all_read(alloc, readings)
 }
 
 fn command_reading(
@@ -120,7 +135,8 @@ pub fn commands_reading(
     for command in &commands {
         readings.push(command_reading(alloc, unit, command)?)?;
     }
-    all_read(alloc, readings)
+    let read = all_read(alloc, readings)?;
+    Ok(read)
 }
 
 /// The variable that a word `NAME=value` sets.
@@ -165,7 +181,8 @@ pub fn environment_reading(
     for word in &words {
         readings.push(variable_reading(alloc, unit, word.as_str())?)?;
     }
-    all_read(alloc, readings)
+    let read = all_read(alloc, readings)?;
+    Ok(read)
 }
 
 /// Which names a list of names takes.

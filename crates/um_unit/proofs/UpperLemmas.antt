@@ -1,0 +1,53 @@
+-- What a service's settings are, field by field, and when a unit is the one of its files.
+use Rattle.std.proofs.Common.{◌≡◌, ℕ, Bool, List, Option, Some, None, sym, ap, ◌∙◌}
+use Rattle.um_model.specs.Names.{suffix_of}
+use Rattle.um_model.specs.Resolution.{or_else}
+use Rattle.um_model.specs.Settings.{ServiceSettings}
+use Rattle.um_model.specs.Substitution.{Variable}
+use Rattle.um_model.specs.Units.{Assigned, Found, LoadedUnit, Loading, Settings, Source, Warning, assignments_in, found_unless, loading_by_file, reason_of, refused_service, refused_setting, service_settings_of, settings_of, type_of, unit_by, warnings_of}
+use Rattle.um_model.specs.Words.{Command}
+use Rattle.um_model.specs.declared.names.Suffix.{Suffix}
+use Rattle.um_model.specs.declared.service.End.{End}
+use Rattle.um_model.specs.declared.settings.RestartPolicy.{RestartPolicy}
+use Rattle.um_model.specs.declared.transition.UnitKind.{UnitKind}
+
+pub same_settings : {kind : UnitKind} {start stop stop' : List Command} {environment environment' : List Variable} {remains remains' : Bool} {restart restart' : RestartPolicy}
+    {delay delay' timeout_start timeout_start' timeout_stop timeout_stop' interval interval' : Option ℕ} {burst burst' : ℕ}
+    {success success' prevents prevents' forces forces' : End → Bool}
+    → stop ≡ stop' → environment ≡ environment' → remains ≡ remains' → restart ≡ restart' → delay ≡ delay' → timeout_start ≡ timeout_start' → timeout_stop ≡ timeout_stop'
+    → interval ≡ interval' → burst ≡ burst' → success ≡ success' → prevents ≡ prevents' → forces ≡ forces'
+    → ◌≡◌ {A = ServiceSettings}
+        (record { kind = kind; start = start; stop = stop; environment = environment; remains = remains; restart = restart; restart_delay = delay; timeout_start = timeout_start; timeout_stop = timeout_stop; limit_interval = interval; limit_burst = burst; success = success; prevents_restart = prevents; forces_restart = forces })
+        (record { kind = kind; start = start; stop = stop'; environment = environment'; remains = remains'; restart = restart'; restart_delay = delay'; timeout_start = timeout_start'; timeout_stop = timeout_stop'; limit_interval = interval'; limit_burst = burst'; success = success'; prevents_restart = prevents'; forces_restart = forces' })
+same_settings stop environment remains restart delay timeout_start timeout_stop interval burst success prevents forces = cc
+
+-- ---- loading
+
+same_unit : {name name' : List ℕ} {path path' : Option (List ℕ)} {settings settings' : Settings} {warnings warnings' : List Warning}
+    → name ≡ name' → path ≡ path' → settings ≡ settings' → warnings ≡ warnings'
+    → ◌≡◌ {A = LoadedUnit} (record { name = name; path = path; settings = settings; warnings = warnings }) (record { name = name'; path = path'; settings = settings'; warnings = warnings' })
+same_unit named placed sets warns = cc
+
+-- a unit with these settings and warnings is the one of its files
+pub unit_is : (unit : List ℕ) (sources : List Source) → {name : List ℕ} {path path' : Option (List ℕ)} {suffix : Suffix} {assigned : List Assigned} {settings : Settings} {warnings : List Warning}
+    → name ≡ unit → path ≡ path' → suffix_of unit ≡ Some suffix → assigned ≡ assignments_in (Some suffix) sources → settings ≡ settings_of unit assigned → warnings ≡ warnings_of unit sources
+    → ◌≡◌ {A = LoadedUnit} (record { name = name; path = path; settings = settings; warnings = warnings }) (unit_by unit path' sources)
+unit_is unit sources {name} {path} {path'} {suffix} {assigned} {settings} {warnings} named placed typed assigns sets warns =
+    let assigned_is : assigned ≡ assignments_in (suffix_of unit) sources = assigns ∙ ap (λ t. assignments_in t sources) (sym typed) in
+    same_unit named placed (sets ∙ ap (settings_of unit) assigned_is) warns
+
+-- the reason by the settings that are already known
+pub reason_is : (unit : List ℕ) (sources : List Source) → {suffix other : Suffix} {assigned : List Assigned} {settings : Settings} {reason : Option (List ℕ)}
+    → suffix_of unit ≡ Some suffix → suffix_of unit ≡ Some other → assigned ≡ assignments_in (Some suffix) sources → settings ≡ settings_of unit assigned
+    → reason ≡ or_else (refused_setting assigned) (refused_service (Some other) (type_of assigned) settings.service)
+    → reason ≡ reason_of unit (assignments_in (suffix_of unit) sources)
+reason_is unit sources {suffix} {other} {assigned} {settings} {reason} typed typed_too assigns sets is =
+    let assigned_is : assigned ≡ assignments_in (suffix_of unit) sources = assigns ∙ ap (λ t. assignments_in t sources) (sym typed) in
+    is ∙ ap (λ s. or_else (refused_setting assigned) (refused_service (Some other) (type_of assigned) s)) (ap (λ s. s.service) sets)
+    ∙ ap (λ t. or_else (refused_setting assigned) (refused_service t (type_of assigned) (service_settings_of (suffix_of unit) unit assigned))) (sym typed_too)
+    ∙ ap (reason_of unit) assigned_is
+
+-- with no reason against it, the unit of the file is found
+pub found_by_file : (unit path : List ℕ) (sources : List Source) → {u : LoadedUnit} → None ≡ reason_of unit (assignments_in (suffix_of unit) sources) → u ≡ unit_by unit (Some path) sources
+    → Found u ≡ loading_by_file unit path sources
+found_by_file unit path sources {u} free is = ap Found is ∙ ap (λ r. found_unless r (unit_by unit (Some path) sources)) free
