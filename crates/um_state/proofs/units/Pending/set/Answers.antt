@@ -1,4 +1,4 @@
-use Rattle.std.proofs.Common.{◌∙◌, ap, sym}
+use Rattle.std.proofs.Common.{◌∙◌, ap}
 use Rattle.std.specs.FinMap as map
 use Rattle.um_model.proofs.NameMaps.{seen_inserted, seen_removed}
 use Rattle.um_state.proofs.units.Pending.set.Goals as goal

@@ -4,7 +4,7 @@ use Rattle.std.specs.FinMap as map
 use Rattle.std.proofs.lemmas.Bool.Decides.{nat_tests}
 use Rattle.std.proofs.lemmas.Map.Lookups.{btree_map_eq-Decides}
 use Rattle.std.proofs.lemmas.Slice.Eq.{bytes_eq-Decides}
-use Rattle.um_model.proofs.NameMaps.{seen, same_entries}
+use Rattle.um_model.proofs.NameMaps.{same_entries}
 use Rattle.um_state.proofs.SameUnits.{unit_decides}
 use Rattle.um_state.proofs.units.Units.is_same.Goals as goal
 
