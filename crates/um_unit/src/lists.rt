@@ -5,6 +5,8 @@ ghost use Rattle.std.specs.List.{flat_map};
 ghost use Rattle.um_model.specs.Names.{is_unit_name};
 ghost use Rattle.um_model.specs.Readings as said;
 ghost use Rattle.um_model.specs.Units as model;
+ghost use Rattle.um_model.specs.Values.{exits_of};
+ghost use Rattle.um_model.specs.declared.service.End as ends;
 ghost use Rattle.um_unit.specs.Readings.{fits_use, read_as};
 ghost use Rattle.um_unit.specs.Sources.{assigned_of};
 ghost use Rattle.um_value.specs.ExitSet.{holds};
@@ -19,6 +21,12 @@ use std::alloc::{AllocError, Global};
 use um_name::UnitName;
 use um_value::{ExitSet, exit_set};
 use um_words::{Command, Variable};
+
+fn add_all<T: Drop>(all: &mut Vec<T>, more: Vec<T>) -> Result<(), AllocError>
+    ensures { OnOk result (all.new.items ≡ all.old.items ++ more.items) }
+{
+    all.extend(more)
+}
 
 /// Adds the names that could be read.
 fn add_names(names: &mut Vec<String>, readings: Vec<Reading<String>>) -> Result<(), AllocError>
@@ -89,6 +97,20 @@ pub fn also_names(
     names_of(alloc, NameUse::Units, unit, values.as_slice())
 }
 
+/// The commands of a value that can be read, else none.
+fn commands_said(
+    alloc: Global,
+    unit: &UnitName,
+    value: &str,
+) -> Result<Vec<Command>, AllocError>
+    ensures { IfOk result (λ all. commands_seen all.items ≡ model.said_in (said.commands_reading unit.now value.now)) }
+{
+    match commands_reading(alloc, unit, value)? {
+        Ok(commands) => Ok(commands),
+        Err(_) => Ok(Vec::new(alloc)),
+    }
+}
+
 /// The commands of a setting of `[Service]`, behind the last empty value.
 pub fn commands_of(
     alloc: Global,
@@ -101,11 +123,23 @@ pub fn commands_of(
     let values = values_of(alloc, assigned, &[("Service", key)])?;
     let mut commands = Vec::new(alloc);
     for value in since_empty(values.as_slice()) {
-        if let Ok(read) = commands_reading(alloc, unit, value)? {
-            commands.extend(read)?;
-        }
+        add_all(&mut commands, commands_said(alloc, unit, value)?)?;
     }
     Ok(commands)
+}
+
+/// The variables of a value that can be read, else none.
+fn variables_said(
+    alloc: Global,
+    unit: &UnitName,
+    value: &str,
+) -> Result<Vec<Variable>, AllocError>
+    ensures { IfOk result (λ all. variables_of all.items ≡ model.said_in (said.environment_reading unit.now value.now)) }
+{
+    match environment_reading(alloc, unit, value)? {
+        Ok(variables) => Ok(variables),
+        Err(_) => Ok(Vec::new(alloc)),
+    }
 }
 
 /// The variables of `Environment=`, behind the last empty value.
@@ -119,11 +153,16 @@ pub fn environment_of(
     let values = values_of(alloc, assigned, &[("Service", "Environment")])?;
     let mut variables = Vec::new(alloc);
     for value in since_empty(values.as_slice()) {
-        if let Ok(read) = environment_reading(alloc, unit, value)? {
-            variables.extend(read)?;
-        }
+        add_all(&mut variables, variables_said(alloc, unit, value)?)?;
     }
     Ok(variables)
+}
+
+/// The ends that a value tells, none where it can't be read.
+fn exits_said(value: &str) -> ExitSet
+    ensures { (end : ends.End) → holds result end ≡ model.tells_any (filter_map exits_of (value.now ∷ [])) end }
+{
+    exit_set(value).unwrap_or(ExitSet::empty())
 }
 
 /// The ends that a setting of `[Service]` tells, behind the last empty value.
@@ -133,9 +172,7 @@ pub fn exits_in(alloc: Global, assigned: &[Assigned<'_>], key: &str) -> Result<E
     let values = values_of(alloc, assigned, &[("Service", key)])?;
     let mut exits = ExitSet::empty();
     for value in since_empty(values.as_slice()) {
-        if let Some(set) = exit_set(value) {
-            exits.add(&set);
-        }
+        exits.add(&exits_said(value));
     }
     Ok(exits)
 }

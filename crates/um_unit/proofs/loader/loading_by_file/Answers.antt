@@ -1,4 +1,4 @@
-use Rattle.std.proofs.Common.{◌≡◌, Some, map, sym, ap, ◌∙◌, option_map, string_bytes}
+use Rattle.std.proofs.Common.{Some, map, sym, ap, ◌∙◌, option_map, string_bytes}
 use Rattle.um_unit.specs.Sources.{source_of}
 use Rattle.um_unit.specs.View.{settings_of}
 use Rattle.um_unit.proofs.UpperLemmas.{found_by_file, reason_is, unit_is}

@@ -1,4 +1,4 @@
-use Rattle.std.proofs.Common.{◌≡◌, None, map, ap, ◌∙◌, refl}
+use Rattle.std.proofs.Common.{None, map, ap, ◌∙◌, refl}
 use Rattle.um_model.specs.Units.{LoadedUnit, without_install}
 use Rattle.um_unit.specs.Sources.{source_of}
 use Rattle.um_unit.specs.View.{settings_of, warning_of}

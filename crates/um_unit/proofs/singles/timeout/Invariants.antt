@@ -6,4 +6,4 @@ use Rattle.um_unit.proofs.singles.timeout.Given as goal
 abbrev pub invariant-loop-value : goal.invariant-loop-value
 invariant-loop-value l =
     model.last_or l.last (filter_map model.timeout_said (map (λ v. v.now) (drop l.value-index l.value-items)))
-    ≡ model.last_or l.default (filter_map model.timeout_said (map (λ v. v.now) l.value-items))
+    ≡ model.last_or l.fn.default (filter_map model.timeout_said (map (λ v. v.now) l.value-items))

@@ -1,4 +1,4 @@
-use Rattle.std.proofs.Common.{◌≡◌, ◌++◌, map, drop, None, option_map}
+use Rattle.std.proofs.Common.{◌≡◌, ◌++◌, map, drop, option_map}
 use Rattle.std.specs.List.{flat_map}
 use Rattle.um_model.specs.Syntax.{in_sections, line_number}
 use Rattle.um_model.specs.Units as model

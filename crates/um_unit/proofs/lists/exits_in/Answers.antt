@@ -1,0 +1,24 @@
+use Rattle.std.proofs.Common.{◌≡◌, [], ◌∷◌, ◌||◌, map, take, filter_map, sym, ap, ◌∙◌}
+use Rattle.std.proofs.Math.Path.{fun_ext}
+use Rattle.std.proofs.lemmas.List.{take_all}
+use Rattle.um_model.specs.Units.{tells_any, since_empty}
+use Rattle.um_model.specs.Values.{exits_of}
+use Rattle.um_unit.proofs.SettingLemmas.{ends_more, value_more}
+use Rattle.um_unit.proofs.lists.exits_in.Goals as goal
+
+pub returns : goal.returns
+returns c = fun_ext (λ end. c.loop-value.invariant end
+    ∙ ap (λ values. tells_any (filter_map exits_of (map (λ v. v.now) values)) end) (take_all _ c.since_empty-value-items.result.now c.loop-value-test.false)
+    ∙ ap (λ values. tells_any (filter_map exits_of values) end) c.since_empty-value-items.ensures
+    ∙ ap (λ values. tells_any (filter_map exits_of (since_empty (map (λ v. v.now) values))) end) c.as_slice.ensures.value
+    ∙ ap (λ values. tells_any (filter_map exits_of (since_empty values)) end) c.in_ok-values.ensures)
+
+pub loop-value-preserved : goal.loop-value-preserved
+loop-value-preserved c = λ end.
+    let values = c.since_empty-value-items.result.now in
+    let i = c.loop-value.value-index in
+    let more = value_more values i (record { ref_ptr = (0, 0); now = [] }) c.loop-value-test.true in
+    c.add.ensures end
+    ∙ (λ k. c.loop-value.invariant end k || c.exits_said.ensures end k)
+    ∙ sym (ends_more (map (λ v. v.now) (take i values)) (_ ∷ []) end)
+    ∙ ap (λ vs. tells_any (filter_map exits_of vs) end) (sym more)
