@@ -8,9 +8,10 @@ use crate::names::{name_in, text_of};
 use std::alloc::{AllocError, Global};
 use um_model::{LoadState, UnitState};
 use um_name::UnitName;
+use um_resolve::{Files, files_of};
 use um_state::{Query, Reply, State, UnitShown};
 use um_tree::Tree;
-use um_unit::{Files, LoadedUnit, Loading, files_of, load};
+use um_unit::{LoadedUnit, Loading, load};
 use um_wire::Refusal;
 
 /// A unit that isn't loaded is shown with no description and no warning.

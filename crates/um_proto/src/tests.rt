@@ -1,7 +1,7 @@
 use crate::{Asked, Mode, Request, read_request, write_reply};
 use std::test::Fail;
+use um_resolve::UnitFile;
 use um_state::{Event, Reply};
-use um_unit::UnitFile;
 
 #[test]
 fn requests_are_read_or_refused_for_the_first_cause(rt: HostRuntime) -> Result<(), Fail> {

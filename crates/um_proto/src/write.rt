@@ -2,16 +2,17 @@ ghost use Rattle.std.specs.Prelude.{◌≡◌, [], map, string_bytes, IfOk, leng
 ghost use Rattle.serde_json.specs.Data.{array};
 ghost use Rattle.serde_json.specs.View.{view, items_of};
 ghost use Rattle.um_model.specs.Replies as model;
+ghost use Rattle.um_resolve.specs.View.{file_of};
 ghost use Rattle.um_state.specs.View.{action_of, shown_of, reply_of};
-ghost use Rattle.um_unit.specs.FilesView.{file_of};
 ghost use Rattle.um_unit.specs.View.{warning_of};
 ghost use Rattle.um_wire.specs.Refusal.{refused_of};
 
 use serde_json::{Value, json};
 use std::alloc::{AllocError, Global};
 use um_model::Signal;
+use um_resolve::UnitFile;
 use um_state::{Action, Reply, UnitShown};
-use um_unit::{UnitFile, Warning};
+use um_unit::Warning;
 use um_wire::{Limit, Refusal};
 
 /// The longest text of a reply, in bytes.

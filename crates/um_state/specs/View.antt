@@ -1,7 +1,7 @@
 -- Inputs, replies, actions and states of the code as those of the definitions.
 use Rattle.std.specs.Prelude.{map, string_bytes}
 use Rattle.um_model.specs.Machine as model
-use Rattle.um_unit.specs.FilesView.{file_of}
+use Rattle.um_resolve.specs.View.{file_of}
 use Rattle.um_unit.specs.View.{warning_of}
 use Rattle.um_wire.specs.Refusal.{refused_of}
 use Rattle.um_state.specs.declared.input.Event.{Event}

@@ -1,6 +1,7 @@
 use um_model::{ActiveState, LoadState, UnitState};
+use um_resolve::UnitFile;
 use um_service::Action;
-use um_unit::{UnitFile, Warning};
+use um_unit::Warning;
 use um_wire::Refusal;
 
 /// A unit as `show` tells it.

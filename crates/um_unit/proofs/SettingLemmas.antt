@@ -1,5 +1,5 @@
 -- What the values of settings say, one after the other.
-use Rattle.std.proofs.Common.{◌≡◌, ◌<◌, ℕ, ◌+◌, Bool, ◌||◌, Bor, List, [], ◌∷◌, ◌++◌, filter_map, get_or, length, map, take, ap, ◌∙◌}
+use Rattle.std.proofs.Common.{◌≡◌, ◌<◌, ℕ, ◌+◌, ◌||◌, Bor, List, [], ◌∷◌, ◌++◌, filter_map, get_or, length, map, take, ap, ◌∙◌}
 use Rattle.std.proofs.lemmas.List.{map-append, take_more}
 use Rattle.std.proofs.lemmas.List.Elements.{filter_map-append}
 use Rattle.std.proofs.lemmas.List.Folds.{list_any-append}

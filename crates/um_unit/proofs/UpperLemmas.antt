@@ -17,8 +17,8 @@ pub same_settings : {kind : UnitKind} {start stop stop' : List Command} {environ
     → stop ≡ stop' → environment ≡ environment' → remains ≡ remains' → restart ≡ restart' → delay ≡ delay' → timeout_start ≡ timeout_start' → timeout_stop ≡ timeout_stop'
     → interval ≡ interval' → burst ≡ burst' → success ≡ success' → prevents ≡ prevents' → forces ≡ forces'
     → ◌≡◌ {A = ServiceSettings}
-        (record { kind = kind; start = start; stop = stop; environment = environment; remains = remains; restart = restart; restart_delay = delay; timeout_start = timeout_start; timeout_stop = timeout_stop; limit_interval = interval; limit_burst = burst; success = success; prevents_restart = prevents; forces_restart = forces })
-        (record { kind = kind; start = start; stop = stop'; environment = environment'; remains = remains'; restart = restart'; restart_delay = delay'; timeout_start = timeout_start'; timeout_stop = timeout_stop'; limit_interval = interval'; limit_burst = burst'; success = success'; prevents_restart = prevents'; forces_restart = forces' })
+    (record { kind = kind; start = start; stop = stop; environment = environment; remains = remains; restart = restart; restart_delay = delay; timeout_start = timeout_start; timeout_stop = timeout_stop; limit_interval = interval; limit_burst = burst; success = success; prevents_restart = prevents; forces_restart = forces })
+    (record { kind = kind; start = start; stop = stop'; environment = environment'; remains = remains'; restart = restart'; restart_delay = delay'; timeout_start = timeout_start'; timeout_stop = timeout_stop'; limit_interval = interval'; limit_burst = burst'; success = success'; prevents_restart = prevents'; forces_restart = forces' })
 same_settings stop environment remains restart delay timeout_start timeout_stop interval burst success prevents forces = cc
 
 -- ---- loading

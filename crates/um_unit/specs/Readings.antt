@@ -1,5 +1,5 @@
 -- Readings of the code as the readings of the definitions, and which names a list takes.
-use Rattle.std.specs.Prelude.{ℕ, Bool, List, Result, Ok, Err}
+use Rattle.std.specs.Prelude.{ℕ, Bool, List, Ok, Err}
 use Rattle.um_model.specs.Names.{is_unit_name}
 use Rattle.um_model.specs.Readings.{Reading}
 use Rattle.um_model.specs.Units.{is_alias_for}

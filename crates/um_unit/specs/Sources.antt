@@ -1,5 +1,5 @@
 -- Sources and assignments of the code as those of the definitions.
-use Rattle.std.specs.Prelude.{ℕ, List, Option, None, map}
+use Rattle.std.specs.Prelude.{List, Option, None, map}
 use Rattle.std.specs.List.{flat_map}
 use Rattle.um_model.specs.Syntax.{Placed, in_sections}
 use Rattle.um_model.specs.Units as model

@@ -1,5 +1,5 @@
 -- Units of the code as the units of the definitions.
-use Rattle.std.specs.Prelude.{List, ℕ, Bool, Option, Some, None, option_map, map, string_bytes}
+use Rattle.std.specs.Prelude.{List, None, option_map, map, string_bytes}
 use Rattle.um_model.specs.Resolution.{Resolution, AtFile, AtNoFile, AtMask, Nowhere}
 use Rattle.um_model.specs.Units as model
 use Rattle.um_unit.specs.ServiceView.{service_settings_of}

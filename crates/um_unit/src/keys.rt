@@ -139,13 +139,7 @@ pub fn kind_of_key(section: &str, key: &str) -> Option<ValueKind>
     ensures { result ≡ keys.kind_of_key section.now key.now }
 {
     match kind_in(section, key) {
-        Some(kind) => Some(kind),
-        None => {
-            if is_refused_key(key) {
-                Some(ValueKind::Refused)
-            } else {
-                None
-            }
-        }
+        None if is_refused_key(key) => Some(ValueKind::Refused),
+        kind => kind,
     }
 }

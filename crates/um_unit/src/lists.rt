@@ -1,6 +1,6 @@
 //! Settings of several values: each adds to what the earlier ones say.
 
-ghost use Rattle.std.specs.Prelude.{◌≡◌, ◌++◌, ◌∷◌, [], IfOk, OnOk, codes, map, string_bytes, filter_map};
+ghost use Rattle.std.specs.Prelude.{◌≡◌, ◌++◌, ◌∷◌, [], IfOk, OnOk, map, string_bytes, filter_map};
 ghost use Rattle.std.specs.List.{flat_map};
 ghost use Rattle.um_model.specs.Names.{is_unit_name};
 ghost use Rattle.um_model.specs.Readings as said;
@@ -13,10 +13,8 @@ ghost use Rattle.um_value.specs.ExitSet.{holds};
 ghost use Rattle.um_words.specs.Commands.{commands_seen};
 ghost use Rattle.um_words.specs.Environment.{variables_of};
 
-use crate::assignments::{Assigned, since_empty, values_of};
-use crate::readings::{
-    NameUse, Reading, commands_reading, environment_reading, names_reading,
-};
+use crate::assignments::{Assigned, Key, since_empty, values_of};
+use crate::readings::{NameUse, Reading, commands_reading, environment_reading, names_reading};
 use std::alloc::{AllocError, Global};
 use um_name::UnitName;
 use um_value::{ExitSet, exit_set};
@@ -56,16 +54,17 @@ fn names_of(
     Ok(names)
 }
 
-/// The units that a setting of `[Unit]` names; an empty value takes nothing back.
+/// The units that a setting names; an empty value takes nothing back.
 pub fn units_named(
     alloc: Global,
     unit: &UnitName,
     assigned: &[Assigned<'_>],
-    key: &str,
+    key: Key<'_>,
 ) -> Result<Vec<String>, AllocError>
-    ensures { IfOk result (λ names. map string_bytes names.items ≡ model.units_named key.now unit.now (map assigned_of assigned.now)) }
+    ensures { IfOk result (λ names. map string_bytes names.items
+        ≡ model.names_of is_unit_name unit.now (model.values_of ((key.entry.0.now, key.entry.1.now) ∷ []) (map assigned_of assigned.now))) }
 {
-    let values = values_of(alloc, assigned, &[("Unit", key)])?;
+    let values = values_of(alloc, assigned, &[key])?;
     names_of(alloc, NameUse::Units, unit, values.as_slice())
 }
 
@@ -84,25 +83,8 @@ pub fn install_names(
     names_of(alloc, uses, unit, since_empty(values.as_slice()))
 }
 
-/// What `Also=` names; an empty value takes nothing back.
-pub fn also_names(
-    alloc: Global,
-    unit: &UnitName,
-    assigned: &[Assigned<'_>],
-) -> Result<Vec<String>, AllocError>
-    ensures { IfOk result (λ names. map string_bytes names.items
-        ≡ model.names_of is_unit_name unit.now (model.values_of (model.in_install (codes "Also") ∷ []) (map assigned_of assigned.now))) }
-{
-    let values = values_of(alloc, assigned, &[("Install", "Also")])?;
-    names_of(alloc, NameUse::Units, unit, values.as_slice())
-}
-
 /// The commands of a value that can be read, else none.
-fn commands_said(
-    alloc: Global,
-    unit: &UnitName,
-    value: &str,
-) -> Result<Vec<Command>, AllocError>
+fn commands_said(alloc: Global, unit: &UnitName, value: &str) -> Result<Vec<Command>, AllocError>
     ensures { IfOk result (λ all. commands_seen all.items ≡ model.said_in (said.commands_reading unit.now value.now)) }
 {
     match commands_reading(alloc, unit, value)? {
@@ -129,11 +111,7 @@ pub fn commands_of(
 }
 
 /// The variables of a value that can be read, else none.
-fn variables_said(
-    alloc: Global,
-    unit: &UnitName,
-    value: &str,
-) -> Result<Vec<Variable>, AllocError>
+fn variables_said(alloc: Global, unit: &UnitName, value: &str) -> Result<Vec<Variable>, AllocError>
     ensures { IfOk result (λ all. variables_of all.items ≡ model.said_in (said.environment_reading unit.now value.now)) }
 {
     match environment_reading(alloc, unit, value)? {

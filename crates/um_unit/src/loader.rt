@@ -4,19 +4,18 @@ ghost use Rattle.std.specs.Prelude.{◌≡◌, IfOk, Some, None, map, string_byt
 ghost use Rattle.um_model.specs.Names.{suffix_of};
 ghost use Rattle.um_model.specs.Resolution.{files_at};
 ghost use Rattle.um_model.specs.Units as model;
-ghost use Rattle.um_unit.specs.FilesView.{resolution_of, unit_file_of};
+ghost use Rattle.um_resolve.specs.View.{resolution_of, unit_file_of};
 ghost use Rattle.um_unit.specs.Sources.{source_of};
 ghost use Rattle.um_unit.specs.View.{loading_of, loading_with, unit_of};
 
 use crate::assignments::{Source, assignments};
-use crate::files::{SourceFile, source_files};
 use crate::loaded::{LoadedUnit, Loading};
 use crate::reasons::reason_of;
-use crate::resolve::{Resolution, resolve};
 use crate::settings::{InstallSettings, settings_of};
 use crate::warnings::warnings_of;
 use std::alloc::{AllocError, Global};
 use um_name::UnitName;
+use um_resolve::{Resolution, SourceFile, resolve, source_files};
 use um_syntax::parse;
 use um_tree::Tree;
 

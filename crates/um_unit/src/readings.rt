@@ -94,10 +94,7 @@ fn words_reading(
     ensures { IfOk result (λ r. read_as (λ texts. map string_bytes texts.items) r ≡ said.words_reading unit.now (map string_bytes words.now)) }
 {
     match words {
-        [first, others @ ..] => {
-            let read = command_words(alloc, unit, first.as_str(), others)?;
-            Ok(read)
-        }
+        [first, others @ ..] => command_words(alloc, unit, first.as_str(), others),
         [] => Ok(Ok(Vec::new(alloc))),
     }
 }
@@ -283,9 +280,5 @@ fn are_instance_bytes(text: &str) -> bool
 pub fn instance_in(value: &str) -> Option<&str>
     ensures { option_copied result ≡ said.instance_in value.now }
 {
-    if are_instance_bytes(value) {
-        Some(value)
-    } else {
-        None
-    }
+    are_instance_bytes(value).then_some(value)
 }

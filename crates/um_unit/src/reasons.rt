@@ -29,10 +29,7 @@ fn is_refused(assigned: &Assigned<'_>) -> bool
 }
 
 /// `setting` and the first key that no unit may have, where it is given a value.
-fn refused_setting(
-    alloc: Global,
-    assigned: &[Assigned<'_>],
-) -> Result<Option<String>, AllocError>
+fn refused_setting(alloc: Global, assigned: &[Assigned<'_>]) -> Result<Option<String>, AllocError>
     ensures { IfOk result (λ reason. option_map string_bytes reason ≡ model.refused_setting (map assigned_of assigned.now)) }
 {
     for one in assigned {

@@ -9,14 +9,10 @@ ghost use Rattle.um_unit.specs.View.{dependencies_of, install_of, said_of, setti
 ghost use Rattle.um_words.specs.Commands.{commands_seen};
 
 use crate::assignments::Assigned;
-use crate::lists::{
-    also_names, commands_of, environment_of, exits_in, install_names, units_named,
-};
+use crate::lists::{commands_of, environment_of, exits_in, install_names, units_named};
 use crate::readings::NameUse;
 use crate::service_settings::ServiceSettings;
-use crate::singles::{
-    TypeSaid, count, delay, instance, policy, text, timeout, truth, type_of,
-};
+use crate::singles::{TypeSaid, count, delay, instance, policy, text, timeout, truth, type_of};
 use std::alloc::{AllocError, Global};
 use um_model::{Suffix, UnitKind};
 use um_name::UnitName;
@@ -95,13 +91,13 @@ fn dependencies_of(
     ensures { IfOk result (λ d. dependencies_of d ≡ model.dependencies_of unit.now (map assigned_of assigned.now)) }
 {
     Ok(Dependencies {
-        after: units_named(alloc, unit, assigned, "After")?,
-        before: units_named(alloc, unit, assigned, "Before")?,
-        wants: units_named(alloc, unit, assigned, "Wants")?,
-        required: units_named(alloc, unit, assigned, "Requires")?,
-        binds_to: units_named(alloc, unit, assigned, "BindsTo")?,
-        part_of: units_named(alloc, unit, assigned, "PartOf")?,
-        conflicts: units_named(alloc, unit, assigned, "Conflicts")?,
+        after: units_named(alloc, unit, assigned, ("Unit", "After"))?,
+        before: units_named(alloc, unit, assigned, ("Unit", "Before"))?,
+        wants: units_named(alloc, unit, assigned, ("Unit", "Wants"))?,
+        required: units_named(alloc, unit, assigned, ("Unit", "Requires"))?,
+        binds_to: units_named(alloc, unit, assigned, ("Unit", "BindsTo"))?,
+        part_of: units_named(alloc, unit, assigned, ("Unit", "PartOf"))?,
+        conflicts: units_named(alloc, unit, assigned, ("Unit", "Conflicts"))?,
         default_dependencies: truth(alloc, assigned, &[("Unit", "DefaultDependencies")], true)?,
     })
 }
@@ -118,7 +114,7 @@ fn install_settings_of(
         alias: install_names(alloc, NameUse::Aliases, unit, assigned, "Alias")?,
         wanted_by: install_names(alloc, NameUse::Units, unit, assigned, "WantedBy")?,
         required_by: install_names(alloc, NameUse::Units, unit, assigned, "RequiredBy")?,
-        also: also_names(alloc, unit, assigned)?,
+        also: units_named(alloc, unit, assigned, ("Install", "Also"))?,
         default_instance: instance(alloc, assigned, &[("Install", "DefaultInstance")])?,
     })
 }
@@ -178,7 +174,10 @@ fn service_settings_with(
         limit_interval: delay(
             alloc,
             assigned,
-            &[("Unit", "StartLimitIntervalSec"), ("Service", "StartLimitInterval")],
+            &[
+                ("Unit", "StartLimitIntervalSec"),
+                ("Service", "StartLimitInterval"),
+            ],
             10_000_000,
         )?,
         limit_burst: count(

@@ -78,7 +78,8 @@ fn the_words_of_a_command_and_its_environment_are_kept(rt: HostRuntime) -> Resul
 #[test]
 fn a_span_that_cannot_be_read_leaves_the_one_before(rt: HostRuntime) -> Result<(), Fail> {
     let alloc = rt.alloc();
-    let text = "[Service]\nExecStart=a\nRestartSec=1min 200ms\nTimeoutStartSec=0\nTimeoutSec=infinity\nTimeoutStopSec=5\n";
+    let text =
+        "[Service]\nExecStart=a\nRestartSec=1min 200ms\nTimeoutStartSec=0\nTimeoutSec=infinity\nTimeoutStopSec=5\n";
     let unit = found(loaded(alloc, "a.service", &[("etc/a.service", text)])?)?;
     let service = &unit.settings.service;
     assert!(rt; service.restart_delay == Some(60_200_000));
@@ -96,9 +97,13 @@ fn a_span_that_cannot_be_read_leaves_the_one_before(rt: HostRuntime) -> Result<(
 #[test]
 fn each_line_of_a_target_is_warned_of_by_its_kind(rt: HostRuntime) -> Result<(), Fail> {
     let alloc = rt.alloc();
-    let text = "Description=x\n[Unit]\nfoo\nFrob=1\nDefaultDependencies=maybe\nDescription=%z\n[Zed]\na=b\n";
+    let text =
+        "Description=x\n[Unit]\nfoo\nFrob=1\nDefaultDependencies=maybe\nDescription=%z\n[Zed]\na=b\n";
     let unit = found(loaded(alloc, "w.target", &[("lib/w.target", text)])?)?;
-    assert_eq!(rt; shown_warnings(alloc, &unit)?.as_str(), "1:1 2:3 4:4 5:5 6:6 3:7 ");
+    assert_eq!(rt;
+        shown_warnings(alloc, &unit)?.as_str(),
+        "1:1 2:3 4:4 5:5 6:6 3:7 "
+    );
     assert!(rt; unit.settings.description.is_empty());
     assert!(rt; unit.settings.dependencies.default_dependencies);
     assert!(rt; unit.settings.service.kind == UnitKind::Target);
@@ -130,7 +135,10 @@ fn an_empty_value_in_a_drop_in_clears_the_commands(rt: HostRuntime) -> Result<()
         "a.service",
         &[
             ("etc/a.service", text),
-            ("etc/a.service.d/x.conf", "[Service]\nExecStart=\nExecStart=e\nTimeoutStartSec=7\n"),
+            (
+                "etc/a.service.d/x.conf",
+                "[Service]\nExecStart=\nExecStart=e\nTimeoutStartSec=7\n",
+            ),
         ],
     )?)?;
     assert_eq!(rt; unit.settings.service.start.len(), 1);
@@ -143,12 +151,16 @@ fn an_empty_value_in_a_drop_in_clears_the_commands(rt: HostRuntime) -> Result<()
 fn specifiers_stand_for_parts_of_the_units_name(rt: HostRuntime) -> Result<(), Fail> {
     let alloc = rt.alloc();
     let name = "app@x-y.service";
-    let text = "[Unit]\nDescription=%p %i %I %j %%\nAfter=db@%i.service cache.service %z x\nAfter=\"%N.target\"\nAfter=\n[Service]\nExecStart=run-%p %I\n[Install]\nAlias=a.target b@%i.service c\nWantedBy=x.target\nWantedBy=\nWantedBy=y.target\nDefaultInstance=z\nDefaultInstance=/\n";
+    let text =
+        "[Unit]\nDescription=%p %i %I %j %%\nAfter=db@%i.service cache.service %z x\nAfter=\"%N.target\"\nAfter=\n[Service]\nExecStart=run-%p %I\n[Install]\nAlias=a.target b@%i.service c\nWantedBy=x.target\nWantedBy=\nWantedBy=y.target\nDefaultInstance=z\nDefaultInstance=/\n";
     let unit = found(loaded(alloc, name, &[("etc/app@x-y.service", text)])?)?;
     let settings = &unit.settings;
     assert_eq!(rt; settings.description.as_str(), "app x-y x/y app %");
     let after = shown_texts(alloc, settings.dependencies.after.as_slice())?;
-    assert_eq!(rt; after.as_str(), "[db@x-y.service][cache.service][app@x-y.target]");
+    assert_eq!(rt;
+        after.as_str(),
+        "[db@x-y.service][cache.service][app@x-y.target]"
+    );
     let alias = shown_texts(alloc, settings.install.alias.as_slice())?;
     assert_eq!(rt; alias.as_str(), "[b@x-y.service]");
     let wanted = shown_texts(alloc, settings.install.wanted_by.as_slice())?;
@@ -168,17 +180,38 @@ fn specifiers_stand_for_parts_of_the_units_name(rt: HostRuntime) -> Result<(), F
 fn the_first_reason_counts(rt: HostRuntime) -> Result<(), Fail> {
     let alloc = rt.alloc();
     for (text, wanted) in [
-        ("[Service]\nExecStart=a\nUser=x\nUser=\nExecStartPre=b\n", "setting User"),
-        ("[Unit]\nConditionHost=\nAssertHost=x\n[Service]\nType=idle\n", "setting AssertHost"),
-        ("[Service]\nType=forking\nExecStart=a\nRestart=always\n", "type"),
-        ("[Service]\nType=forking\nType=simple\nType=other\nExecStart=a\n", ""),
+        (
+            "[Service]\nExecStart=a\nUser=x\nUser=\nExecStartPre=b\n",
+            "setting User",
+        ),
+        (
+            "[Unit]\nConditionHost=\nAssertHost=x\n[Service]\nType=idle\n",
+            "setting AssertHost",
+        ),
+        (
+            "[Service]\nType=forking\nExecStart=a\nRestart=always\n",
+            "type",
+        ),
+        (
+            "[Service]\nType=forking\nType=simple\nType=other\nExecStart=a\n",
+            "",
+        ),
         ("[Service]\nExecStart=a\nExecStart=b\n", "exec-count"),
         ("[Service]\nExecStart=bin/a\n", "exec-count"),
         ("[Unit]\nDescription=a\n", "exec-count"),
         ("[Service]\nRemainAfterExit=yes\nExecStop=a\n", ""),
-        ("[Service]\nType=simple\nRemainAfterExit=yes\nExecStop=a\n", "exec-count"),
-        ("[Service]\nType=oneshot\nExecStart=a\nRestart=always\n", "restart"),
-        ("[Service]\nType=oneshot\nExecStart=a\nRestart=on-failure\n", ""),
+        (
+            "[Service]\nType=simple\nRemainAfterExit=yes\nExecStop=a\n",
+            "exec-count",
+        ),
+        (
+            "[Service]\nType=oneshot\nExecStart=a\nRestart=always\n",
+            "restart",
+        ),
+        (
+            "[Service]\nType=oneshot\nExecStart=a\nRestart=on-failure\n",
+            "",
+        ),
         ("[Service]\nUser=\nExecStart=a\n", ""),
     ] {
         let told = reason(alloc, text)?;
@@ -190,7 +223,8 @@ fn the_first_reason_counts(rt: HostRuntime) -> Result<(), Fail> {
 #[test]
 fn restarts_and_exits_are_read(rt: HostRuntime) -> Result<(), Fail> {
     let alloc = rt.alloc();
-    let text = "[Unit]\nStartLimitBurst=7\n[Service]\nExecStart=a\nRestart=on-abort\nRestart=often\nSuccessExitStatus=1\nSuccessExitStatus=\nSuccessExitStatus=2 SIGKILL\nSuccessExitStatus=3 x\nSuccessExitStatus=4\nStartLimitInterval=infinity\n";
+    let text =
+        "[Unit]\nStartLimitBurst=7\n[Service]\nExecStart=a\nRestart=on-abort\nRestart=often\nSuccessExitStatus=1\nSuccessExitStatus=\nSuccessExitStatus=2 SIGKILL\nSuccessExitStatus=3 x\nSuccessExitStatus=4\nStartLimitInterval=infinity\n";
     let unit = found(loaded(alloc, "a.service", &[("etc/a.service", text)])?)?;
     let service = &unit.settings.service;
     assert!(rt; service.restart == RestartPolicy::OnAbort);
@@ -217,7 +251,10 @@ fn a_unit_is_masked_or_not_found(rt: HostRuntime) -> Result<(), Fail> {
     assert!(rt; matches!(masked, Loading::Masked { .. }));
     let lost = loaded(alloc, "a.service", &[])?;
     assert!(rt; matches!(lost, Loading::NotFound));
-    let drop_in = ("etc/shutdown.target.d/x.conf", "[Unit]\nUser=x\nDescription=y\n[Install]\nWantedBy=z.target\n");
+    let drop_in = (
+        "etc/shutdown.target.d/x.conf",
+        "[Unit]\nUser=x\nDescription=y\n[Install]\nWantedBy=z.target\n",
+    );
     let unit = found(loaded(alloc, "shutdown.target", &[drop_in])?)?;
     assert!(rt; unit.path.is_none());
     assert_eq!(rt; unit.settings.description.as_str(), "y");

@@ -13,7 +13,7 @@ use crate::assignments::{Source, section_after};
 use crate::keys::{is_foreign, is_known_section, kind_of_key};
 use crate::readings::{
     NameUse, Reading, commands_reading, environment_reading, first_warning, instance_in,
-    names_reading, text_reading,
+    names_reading, text_reading, value_reading,
 };
 use crate::singles::type_said;
 use std::alloc::{AllocError, Global};
@@ -42,10 +42,7 @@ fn warning_in<T: Drop>(reading: Reading<T>) -> Option<WarningKind>
 fn unread<T: Drop>(read: Option<T>) -> Option<WarningKind>
     ensures { result ≡ said.warning_in (said.value_reading read) }
 {
-    match read {
-        Some(_) => None,
-        None => Some(WarningKind::UnreadableValue),
-    }
+    warning_in(value_reading(read))
 }
 
 fn names_warning(
@@ -127,8 +124,9 @@ fn warning_of_assignment(
     ensures { IfOk result (λ w. w ≡ model.warning_of_assignment unit.now (option_map (λ s. s.now) section.entry) key.now value.now) }
 {
     match section {
-        Some(section) if is_known_section(unit.suffix(), section) =>
-            assignment_warning(alloc, unit, section, key, value),
+        Some(section) if is_known_section(unit.suffix(), section) => assignment_warning(
+            alloc, unit, section, key, value,
+        ),
         _ => Ok(None),
     }
 }
@@ -141,14 +139,8 @@ fn warning_of_syntax(
     ensures { result ≡ model.warning_of_syntax (Some suffix) (option_map (λ s. s.now) section.entry) kind }
 {
     match section {
-        Some(section) => {
-            if is_known_section(suffix, section) {
-                Some(kind)
-            } else {
-                None
-            }
-        }
-        None => Some(kind),
+        Some(section) if !is_known_section(suffix, section) => None,
+        _ => Some(kind),
     }
 }
 

@@ -1,4 +1,4 @@
-use Rattle.std.proofs.Common.{not, rules}
+use Rattle.std.proofs.Common.{not}
 use Rattle.std.proofs.lemmas.List.Sums.{suffix_len-le-length}
 use Rattle.um_model.specs.Text.{is_empty}
 use Rattle.um_unit.proofs.ListLemmas.{behind_last}

@@ -1,4 +1,3 @@
-
 use Rattle.um_unit.proofs.keys.kind_in.Goals as goal
 
 pub returns-then-eq : goal.returns-then-eq

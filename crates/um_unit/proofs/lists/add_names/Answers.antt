@@ -1,4 +1,4 @@
-use Rattle.std.proofs.Common.{rules, ◌≡◌, ◌++◌, map, filter_map, string_bytes, sym, ap, ◌∙◌}
+use Rattle.std.proofs.Common.{rules, ◌++◌, map, filter_map, string_bytes, sym, ap, ◌∙◌}
 use Rattle.std.proofs.lemmas.List.{map-id}
 use Rattle.std.proofs.lemmas.Iterator.Adapters.{YieldsList-from_vec}
 use Rattle.std.proofs.lemmas.Iterator.Consumers.{YieldsList-end}

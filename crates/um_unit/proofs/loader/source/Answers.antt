@@ -1,5 +1,4 @@
-use Rattle.std.proofs.Common.{◌≡◌, ap}
-use Rattle.um_model.specs.Syntax.{Placed}
+use Rattle.std.proofs.Common.{ap}
 use Rattle.um_model.specs.Units.{Source}
 use Rattle.um_model.proofs.SyntaxLaws.{reading_is}
 use Rattle.um_unit.proofs.loader.source.Goals as goal

@@ -1,6 +1,6 @@
 use Rattle.std.proofs.Common.{◌≡◌, map, take}
 use Rattle.um_model.specs.Units as model
-use Rattle.um_unit.specs.FilesView.{unit_file_of}
+use Rattle.um_resolve.specs.View.{unit_file_of}
 use Rattle.um_unit.specs.Sources.{source_of}
 use Rattle.um_unit.proofs.loader.sources.Given as goal
 

@@ -1,4 +1,4 @@
-use Rattle.std.proofs.Common.{◌≡◌, ◌∷◌, List, map, take, string_bytes, ap, ◌∙◌}
+use Rattle.std.proofs.Common.{◌≡◌, ◌∷◌, map, string_bytes, ap, ◌∙◌}
 use Rattle.std.proofs.lemmas.List.{take_all}
 use Rattle.um_model.specs.Readings.{if_executable, text_reading, then_read}
 use Rattle.um_unit.specs.Readings.{read_as}

@@ -1,7 +1,6 @@
-use Rattle.std.proofs.Common.{◌≡◌, Some, map, sym, ap, ◌∙◌, option_map}
+use Rattle.std.proofs.Common.{◌≡◌, map, sym, ap, ◌∙◌, option_map}
 use Rattle.std.proofs.lemmas.List.{take_all}
-use Rattle.um_model.specs.Readings.{command_reading, commands_reading}
-use Rattle.um_model.specs.Words.{commands_read}
+use Rattle.um_model.specs.Readings.{command_reading}
 use Rattle.um_unit.specs.Readings.{read_as}
 use Rattle.um_unit.proofs.ReadingLemmas.{commands_by, read_all}
 use Rattle.um_words.specs.Commands.{command_seen, commands_seen}

@@ -11,5 +11,5 @@ use Rattle.um_unit.proofs.warnings.add_warnings.Given as goal
 abbrev pub invariant-loop-item : goal.invariant-loop-item
 invariant-loop-item l =
     map warning_of l.warnings.items
-        ++ flat_map (λ p. model.warnings_at l.source.path.now (line_number p.item) (model.warning_of l.unit p.section p.item)) (in_sections (option_map (λ s. s.now) l.section) (map item_of (drop l.item-index l.item-items)))
+    ++ flat_map (λ p. model.warnings_at l.source.path.now (line_number p.item) (model.warning_of l.unit p.section p.item)) (in_sections (option_map (λ s. s.now) l.section) (map item_of (drop l.item-index l.item-items)))
     ≡ map warning_of l.fn.warnings.items ++ model.warnings_in l.unit (source_of l.source)
