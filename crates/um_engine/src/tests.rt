@@ -35,7 +35,10 @@ fn the_end_of_no_process_has_no_effect(rt: HostRuntime) -> Result<(), Fail> {
         number: 1,
         end: End::Code(0),
     };
-    let next = engine.plan(&Input { moment: 5, event: end })?;
+    let next = engine.plan(&Input {
+        moment: 5,
+        event: end,
+    })?;
     assert!(rt; !next.has_effect());
     Ok(())
 }
@@ -46,7 +49,12 @@ fn a_start_of_nothing_is_refused(rt: HostRuntime) -> Result<(), Fail> {
     let engine = Engine::of(alloc, State::empty(alloc), 8_388_096);
     let unit = UnitName::parse(alloc, "b.service")?;
     let start = Event::StartUnit { unit };
-    let refused = engine.plan(&Input { moment: 0, event: start }).is_err();
+    let refused = engine
+        .plan(&Input {
+            moment: 0,
+            event: start,
+        })
+        .is_err();
     assert!(rt; refused);
     Ok(())
 }

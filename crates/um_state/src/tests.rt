@@ -26,7 +26,9 @@ fn units_hold(alloc: Global, a: &UnitName, b: &UnitName) -> Result<bool, AllocEr
     units.set(b, starting(8, 60))?;
     let copy = units.copy()?;
     let timers = units.deadlines()?;
-    let due = timers.next_due().is_some_and(|(deadline, unit)| deadline == 60 && unit == b);
+    let due = timers
+        .next_due()
+        .is_some_and(|(deadline, unit)| deadline == 60 && unit == b);
     let found = units.process(7).is_some_and(|unit| unit == a) && units.process(9).is_none();
     units.set(a, UnitState::DEAD)?;
     let gone = !units.holds(a) && units.get(a) == UnitState::DEAD;
@@ -54,10 +56,14 @@ fn the_ready_job_of_the_least_name_begins(rt: HostRuntime) -> Result<(), Fail> {
     pending.set(&b, WAITS_TO_START)?;
     pending.set(&a, WAITS_TO_START)?;
     let copy = pending.copy()?;
-    let first = pending.next_job(&units).is_some_and(|(unit, kind)| *unit == a && kind == JobKind::Start);
+    let first = pending
+        .next_job(&units)
+        .is_some_and(|(unit, kind)| *unit == a && kind == JobKind::Start);
     assert!(rt; first);
     pending.set(&a, UnitJobs::NONE)?;
-    let second = pending.next_job(&units).is_some_and(|(unit, kind)| *unit == b && kind == JobKind::Start);
+    let second = pending
+        .next_job(&units)
+        .is_some_and(|(unit, kind)| *unit == b && kind == JobKind::Start);
     assert!(rt; second);
     let differ = !pending.is_same(&copy) && copy.get(&a) == WAITS_TO_START;
     assert!(rt; differ);
