@@ -1,5 +1,5 @@
 -- What a reader gave and a writer took, where they tell their bytes: frame by frame, and over a whole stream.
-use Rattle.std.specs.Prelude.{◌≡◌, ℕ, ◌<◌, List, ◌++◌, length, Option, Some, None, ⊤}
+use Rattle.std.specs.Prelude.{◌≡◌, ℕ, ◌<◌, List, length, Option, Some, None, ⊤}
 use Rattle.std.specs.Io.KnownBytes.{Appends, Consumes, IsAtEnd}
 use Rattle.um_model.specs.Machine.{State}
 use Rattle.um_model.specs.Service.{Action}

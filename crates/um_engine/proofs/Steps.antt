@@ -1,14 +1,12 @@
 -- One step more of settling and of firing, with the actions before and after.
-use Rattle.std.proofs.Common.{◌≡◌, ◌≢◌, ℕ, zero, suc, ◌-◌, cond, is_some, List, [], ◌++◌, refl, sym, ap, ◌∙◌, append_assoc, append-nil, ◌<◌, ◌⊎◌, inl, inr, true, false, Some, arith, true≢false}
+use Rattle.std.proofs.Common.{◌≡◌, ℕ, zero, suc, ◌-◌, cond, is_some, List, [], ◌++◌, refl, sym, ap, ◌∙◌, append_assoc, append-nil, ◌<◌, inl, inr, Some, arith}
 use Rattle.std.specs.FinMap as map
 use Rattle.um_model.specs.Jobs.{Job, IsReady, BeginsNext}
 use Rattle.um_model.specs.Machine.{State, begun, begins, rests, begins_next, none_due, fires, passes}
 use Rattle.um_model.specs.Service.{Action}
-use Rattle.std.specs.Str.{bytes_eq}
 use Rattle.std.specs.Cmp.Lexicographic.{slice_cmp, nat_list_cmp_total}
 use Rattle.std.specs.Ordering.{nat_cmp}
 use Rattle.std.proofs.lemmas.Option.{same_Some, none-some}
-use Rattle.std.proofs.lemmas.Slice.Eq.{bytes_eq-Decides}
 use Rattle.um_model.specs.Timers.{Timers, IsDueFirst, IsDueBefore, earlier, by_name}
 use Rattle.um_model.proofs.TimersLaws.{same_name}
 use Rattle.um_engine.specs.Engine.{HappensTo, SettlesTo, FiresOneTo, passed, fired, FiresFrom, IsDue, NoneIsDue}

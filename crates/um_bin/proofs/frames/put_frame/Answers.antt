@@ -1,7 +1,6 @@
-use Rattle.std.proofs.Common.{◌≡◌, List, [], ℕ, ◌++◌, length, append-nil, sym, subst, ◌∙◌}
+use Rattle.std.proofs.Common.{[], ◌++◌, append-nil, sym, subst, ◌∙◌}
 use Rattle.std.proofs.KnownBytes.{Appends-trans}
 use Rattle.std.specs.Io.KnownBytes.{Appends}
-use Rattle.byteorder.specs.Endian.{big_bytes}
 use Rattle.um_bin.proofs.Written.{frame_front, frame_more, frame_whole, on_ok}
 use Rattle.um_model.specs.Frames.{frame_of}
 use Rattle.um_bin.proofs.frames.put_frame.Goals as goal

@@ -1,4 +1,4 @@
-use Rattle.std.proofs.Common.{◌≤◌, ◌+◌, length, take, drop, arith, sym, subst, take-append-drop}
+use Rattle.std.proofs.Common.{◌+◌, take, drop, arith, sym, subst, take-append-drop}
 use Rattle.std.proofs.KnownBytes.{Appends-trans, Appends-kept}
 use Rattle.std.specs.Io.KnownBytes.{Appends}
 use Rattle.um_bin.proofs.Written.{take_more}
