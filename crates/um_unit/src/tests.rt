@@ -148,6 +148,51 @@ fn an_empty_value_in_a_drop_in_clears_the_commands(rt: HostRuntime) -> Result<()
 }
 
 #[test]
+fn an_empty_value_in_a_drop_in_clears_no_dependencies(rt: HostRuntime) -> Result<(), Fail> {
+    let alloc = rt.alloc();
+    let unit = found(loaded(
+        alloc,
+        "u.target",
+        &[
+            ("lib/u.target", "[Unit]\nAfter=a.service\n"),
+            (
+                "etc/u.target.d/10.conf",
+                "[Unit]\nAfter=\nAfter=b.service\n",
+            ),
+        ],
+    )?)?;
+    let after = shown_texts(alloc, unit.settings.dependencies.after.as_slice())?;
+    assert_eq!(rt; after.as_str(), "[a.service][b.service]");
+    Ok(())
+}
+
+#[test]
+fn the_earlier_layers_drop_in_of_a_name_is_read_alone(rt: HostRuntime) -> Result<(), Fail> {
+    let alloc = rt.alloc();
+    let unit = found(loaded(
+        alloc,
+        "o.service",
+        &[
+            (
+                "lib/o.service",
+                "[Service]\nType=oneshot\nExecStart=/bin/a\nExecStart=/bin/b\n",
+            ),
+            ("lib/o.service.d/10.conf", "[Service]\nExecStart=/bin/l\n"),
+            (
+                "etc/o.service.d/10.conf",
+                "[Service]\nExecStart=\nExecStart=/bin/c\n",
+            ),
+        ],
+    )?)?;
+    assert_eq!(rt; unit.settings.service.start.len(), 1);
+    for command in &unit.settings.service.start {
+        let words = shown_texts(alloc, command.words.as_slice())?;
+        assert_eq!(rt; words.as_str(), "[/bin/c]");
+    }
+    Ok(())
+}
+
+#[test]
 fn specifiers_stand_for_parts_of_the_units_name(rt: HostRuntime) -> Result<(), Fail> {
     let alloc = rt.alloc();
     let name = "app@x-y.service";
