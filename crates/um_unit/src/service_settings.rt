@@ -41,7 +41,7 @@ pub struct ServiceSettings {
 }
 
 impl ServiceSettings {
-    /// A unit of this kind in which nothing is set: no commands, no restart, time-outs of 90 seconds, and starts that
+    /// What the service table acts on where no setting counts: no commands, no restart, time-outs of 90 seconds, and starts that
     /// aren't limited. It takes no memory.
     pub fn new(alloc: Global, kind: UnitKind) -> ServiceSettings
         ensures { service_settings_of result ≡ default_settings kind }
