@@ -115,13 +115,6 @@ hop_limit = 8
 unfoldable pub resolution_of : Tree → List ℕ → Resolution
 resolution_of tree unit = if is_served_type (suffix_of unit) then resolved hop_limit tree unit else Nowhere
 
--- the name that counts for the one that was asked for: the last one, or where it leads nowhere the name itself
-abbrev pub name_at : List ℕ → Resolution → List ℕ
-name_at asked (AtFile unit path text) = unit
-name_at asked (AtNoFile unit) = unit
-name_at asked (AtMask unit) = unit
-name_at asked Nowhere = asked
-
 -- ---- drop-ins
 
 -- a drop-in: its name in its folder, its path and its text
