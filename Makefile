@@ -1,9 +1,29 @@
-# make test: the whole gate. Proves every crate and its tests from nothing, tries each must-fail edit, and runs the
-# tests and the program as two compilers build it.
-# make run: builds the program and shows its main job on real input.
-.PHONY: test run
+# make run: shows the program's main job; where no proved program stands, one is built without its proofs (two minutes).
+# make umd: builds the proved program, crates/umd/out/umd, and tells crate by crate how far it is.
+# make test: the whole gate. Proves every crate and its tests from nothing, tries each must-fail edit, and runs the tests and
+# the program as two compilers build it.
+# make edits NAME ..: tries the further edits of these crates, which stand in edits/NAME; with no name those of every crate.
+# make bench: measures the proved program; the figures that a document calls measured come from it.
+.PHONY: run umd test edits bench
+run:
+	@sh tools/show
+
+umd:
+	@sh tools/build
+
 test:
 	rt ci
 
-run:
-	@sh tools/show
+# the words behind 'edits' name crates, and aren't built
+ifeq ($(firstword $(MAKECMDGOALS)),edits)
+NAMES := $(wordlist 2,$(words $(MAKECMDGOALS)),$(MAKECMDGOALS))
+.PHONY: $(NAMES)
+$(NAMES):
+	@:
+endif
+
+edits:
+	@tools/edits $(NAMES) $(NAME)
+
+bench: umd
+	@bench/run crates/umd/out/umd

@@ -11,6 +11,9 @@ use std::alloc::Global;
 use std::io::{Read, Write};
 use um_model::Ending;
 
+/// The length of a frame stands in so many bytes in front of it.
+const HEADER: usize = 4;
+
 /// The longest frame of a request, in bytes.
 const FRAME_LIMIT: usize = 524_288;
 
@@ -37,11 +40,11 @@ fn next_body<R: Read>(alloc: Global, input: &mut R, size: usize) -> Result<Piece
 pub fn next_piece<R: Read>(alloc: Global, input: &mut R) -> Result<Piece, Fault>
     ensures { IfOk result (λ piece. Comes piece (R.remaining input.old) (R.remaining input.new)) }
 {
-    let header = read_up_to(alloc, input, 4)?;
+    let header = read_up_to(alloc, input, HEADER)?;
     if header.is_empty() {
         return Ok(Piece::End(Ending::Between));
     }
-    if header.len() < 4 {
+    if header.len() < HEADER {
         return Ok(Piece::End(Ending::Inside));
     }
     let size = BigEndian::read_u32(header.as_slice()) as usize;
@@ -57,7 +60,7 @@ pub fn put_frame<W: Write>(output: &mut W, text: &[u8]) -> Result<(), Fault>
     ensures ok { OnOk result (Appends (W.contents output.old) (W.contents output.new) (frame_of text.now)) }
     ensures front { (front more : List ℕ) × (frame_of text.now ≡ front ++ more) × Appends (W.contents output.old) (W.contents output.new) front }
 {
-    let mut header = [0u8; 4];
+    let mut header = [0u8; HEADER];
     BigEndian::write_u32(&mut header, text.len() as u32);
     put(output, &header)?;
     put(output, text)?;

@@ -4,11 +4,13 @@
 mod fault;
 mod frames;
 mod input;
+mod laws;
 mod line;
 mod output;
 mod serving;
 
 pub use fault::Fault;
+pub use laws::{a_stream_has_one_reading, a_stream_is_served_in_one_way};
 pub use line::{Line, read_line};
 pub use serving::memory;
 pub use um_model::Ending;

@@ -29,7 +29,8 @@ fn command<'a>(alloc: Global) -> Result<Command<'a>, AllocError>
     let command = Command::new(alloc, "umd")
         .arg(memory)?
         .version("0.1.0")
-        .about("A service manager that outlives crashes");
+        .about("Answers frames over standard input and output, as a service manager in memory")
+        .after_help("Its state is to outlive its crash; today the state ends with the program.");
     Ok(command)
 }
 

@@ -14,7 +14,7 @@ use std::alloc::{AllocError, Global};
 use std::io::{ErrorKind, Read, Write};
 use std::{io, mem};
 use um_engine::Engine;
-use um_model::{Ending, Mode};
+use um_model::{Ending, Mode, Moment};
 use um_proto::{Asked, ReplyText, Request, read_request, write_reply};
 use um_state::{Action, Event, Input, Reply, State};
 use um_wire::{Limit, Refusal};
@@ -50,12 +50,12 @@ struct Manager {
 
 impl Manager {
     /// The reply to an event at the moment told, or at the clock's.
-    fn take_event(&mut self, at: Option<u64>, event: Event) -> Result<Reply, AllocError>
+    fn take_event(&mut self, at: Option<Moment>, event: Event) -> Result<Reply, AllocError>
         ensures step { IfOk result (λ reply. StepsTo self.old at (event_of event) (reply_of reply) self.new) }
         ensures size { size_of self.new ≡ size_of self.old }
     {
         let moment = at.unwrap_or(self.engine.clock());
-        match self.engine.plan(&Input { moment, event }) {
+        match self.engine.plan(&Input::new(moment, event)) {
             Ok(next) => {
                 let (reply, mut actions, _) = self.engine.commit(next);
                 self.kept.append(&mut actions)?;

@@ -1,11 +1,16 @@
 ghost use Rattle.std.specs.Prelude.{◌≡◌, IfOk};
+ghost use Rattle.um_model.specs.Install.{IsEnabledAs};
 ghost use Rattle.um_model.specs.Machine as model;
 ghost use Rattle.um_model.specs.Resolution.{resolution_of};
+ghost use Rattle.um_model.specs.Service.{active_state_of};
+ghost use Rattle.um_model.specs.Units.{load as load_in};
 ghost use Rattle.um_state.specs.View.{state_of, query_of, reply_of, shown_of as shown_view};
+ghost use Rattle.um_model.specs.declared.install.Enabling.{Enabling};
 ghost use Rattle.um_unit.specs.View.{loading_of, unit_of};
 
 use crate::names::{name_in, text_of};
 use std::alloc::{AllocError, Global};
+use um_install::is_enabled;
 use um_model::{LoadState, UnitState};
 use um_name::UnitName;
 use um_resolve::{Files, files_of};
@@ -70,19 +75,20 @@ fn shown(
 
 /// How the unit stands that counts for the name that was asked for.
 fn show(alloc: Global, state: &State, asked: &UnitName) -> Result<Reply, AllocError>
-    ensures { IfOk result (λ reply. reply_of reply ≡ model.reply_to (state_of state.now) (model.Show asked.now)) }
+    ensures { IfOk result (λ reply. reply_of reply
+        ≡ model.Shown (model.shown_of asked.now (load_in (state_of state.now).loaded asked.now) (model.state_asked (state_of state.now) asked.now))) }
 {
-    let loading = load(alloc, &state.loaded, asked)?;
-    let stands = state.units.get(name_in(asked, &loading));
+    let loading = load(alloc, state.loaded(), asked)?;
+    let stands = state.units().get(name_in(asked, &loading));
     Ok(Reply::Shown(shown(alloc, asked, loading, stands)?))
 }
 
 /// The active state of that unit.
 fn is_active(alloc: Global, state: &State, asked: &UnitName) -> Result<Reply, AllocError>
-    ensures { IfOk result (λ reply. reply_of reply ≡ model.reply_to (state_of state.now) (model.IsActive asked.now)) }
+    ensures { IfOk result (λ reply. reply_of reply ≡ model.Activity (active_state_of (model.state_asked (state_of state.now) asked.now).sub)) }
 {
-    let loading = load(alloc, &state.loaded, asked)?;
-    let stands = state.units.get(name_in(asked, &loading));
+    let loading = load(alloc, state.loaded(), asked)?;
+    let stands = state.units().get(name_in(asked, &loading));
     Ok(Reply::Activity(stands.sub.active_state()))
 }
 
@@ -103,13 +109,21 @@ fn cat(alloc: Global, tree: &Tree, asked: &UnitName) -> Result<Reply, AllocError
     }
 }
 
+/// How a unit is enabled in the tree in hand.
+fn enabled_as(alloc: Global, tree: &Tree, asked: &UnitName) -> Result<Reply, AllocError>
+    ensures { IfOk result (λ reply. (answer : Enabling) × IsEnabledAs tree.now asked.now answer × (reply_of reply ≡ model.EnabledAs answer)) }
+{
+    Ok(Reply::EnabledAs(is_enabled(alloc, tree, asked)?))
+}
+
 /// The reply to a query.
 pub fn reply_to(alloc: Global, state: &State, query: &Query) -> Result<Reply, AllocError>
-    ensures { IfOk result (λ reply. reply_of reply ≡ model.reply_to (state_of state.now) (query_of query.now)) }
+    ensures { IfOk result (λ reply. model.IsReplyTo (state_of state.now) (query_of query.now) (reply_of reply)) }
 {
     match query {
         Query::Show { unit } => show(alloc, state, unit),
         Query::IsActive { unit } => is_active(alloc, state, unit),
-        Query::Cat { unit } => cat(alloc, &state.tree, unit),
+        Query::Cat { unit } => cat(alloc, state.tree(), unit),
+        Query::IsEnabled { unit } => enabled_as(alloc, state.tree(), unit),
     }
 }

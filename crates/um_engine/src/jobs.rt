@@ -1,8 +1,9 @@
-ghost use Rattle.std.specs.Prelude.{◌≡◌};
+ghost use Rattle.std.specs.Prelude.{◌≡◌, ◌||◌};
 ghost use Rattle.um_model.specs.Jobs as model;
-ghost use Rattle.um_model.specs.Machine.{is_waiting, begins};
+ghost use Rattle.um_model.specs.Machine.{is_waiting, begins, starts_it};
+ghost use Rattle.um_engine.specs.Drops.{is_dropped, drops_one};
 
-use um_model::{ActiveState, JobKind, JobState, StartJob, UnitEvent, UnitJobs};
+use um_model::{ActiveState, JobKind, JobState, StartJob, UnitEvent, UnitJobs, UnitVerb};
 
 fn is_active(active: ActiveState) -> bool
     ensures { result ≡ model.is_active active }
@@ -60,14 +61,59 @@ fn stopped(active: ActiveState, jobs: UnitJobs) -> UnitJobs
     UnitJobs { stop, start: None }
 }
 
-/// The pending jobs of a unit in this state after a command for it.
-pub fn jobs_after(kind: JobKind, active: ActiveState, jobs: UnitJobs) -> UnitJobs
-    ensures { result ≡ model.jobs_after kind active jobs }
+/// The jobs of a unit that is up after a restart (systemctl(1), `restart`): a start job that runs is dropped; a stop job is put where
+/// none is pending, and a start job where none waits.
+fn restarted(jobs: UnitJobs) -> UnitJobs
+    ensures { result ≡ model.restarted jobs.stop }
 {
-    match kind {
-        JobKind::Start => started(active, jobs),
-        JobKind::Stop => stopped(active, jobs),
+    UnitJobs {
+        stop: Some(jobs.stop.unwrap_or(JobState::Waiting)),
+        start: Some(JobState::Waiting),
     }
+}
+
+/// The pending jobs of a unit in this state after a command for it.
+pub fn jobs_after(verb: UnitVerb, active: ActiveState, jobs: UnitJobs) -> UnitJobs
+    ensures { result ≡ model.jobs_after verb active jobs }
+{
+    match verb {
+        UnitVerb::Start => started(active, jobs),
+        UnitVerb::Stop => stopped(active, jobs),
+        UnitVerb::Restart if is_up(active) => restarted(jobs),
+        UnitVerb::Restart => started(active, jobs),
+        UnitVerb::TryRestart if is_active(active) => restarted(jobs),
+        UnitVerb::TryRestart => jobs,
+    }
+}
+
+/// Whether the command starts its unit: a try-restart does where the unit is active.
+pub fn starts_it(verb: UnitVerb, active: ActiveState) -> bool
+    ensures { result ≡ starts_it verb active }
+{
+    match verb {
+        UnitVerb::Start | UnitVerb::Restart => true,
+        UnitVerb::Stop => false,
+        UnitVerb::TryRestart => is_active(active),
+    }
+}
+
+/// Whether a job that was pending is gone, or is no more as it was.
+fn is_dropped(before: Option<JobState>, after: Option<JobState>) -> bool
+    ensures { result ≡ is_dropped before after }
+{
+    match (before, after) {
+        (None, _) => false,
+        (Some(JobState::Waiting), Some(JobState::Waiting)) => false,
+        (Some(JobState::Running), Some(JobState::Running)) => false,
+        _ => true,
+    }
+}
+
+/// Whether one of the unit's jobs is dropped.
+pub fn drops_one(before: UnitJobs, after: UnitJobs) -> bool
+    ensures { result ≡ drops_one before after }
+{
+    is_dropped(before.stop, after.stop) || is_dropped(before.start, after.start)
 }
 
 /// The jobs with that one running.

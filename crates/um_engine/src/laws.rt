@@ -4,6 +4,12 @@ ghost use Rattle.um_model.specs.Machine.{State, Input, Reply, Step, Run, empty_s
 ghost use Rattle.um_model.specs.Numbers.{AreNew, started_numbers, actions_in};
 ghost use Rattle.um_model.specs.Service.{Action};
 
+/// Each state and input has a step.
+pub fn each_input_has_a_step()
+    ensures { (size : ℕ) (s : State) (input : Input)
+        → (reply : Reply) × (actions : List Action) × (t : State) × Step size s input reply actions t }
+{}
+
 /// A step has one outcome.
 pub fn a_step_has_one_outcome()
     ensures { (size : ℕ) (s : State) (input : Input) (r q : Reply) (a b : List Action) (t u : State)

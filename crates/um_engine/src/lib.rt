@@ -2,19 +2,19 @@
 //! from the state alone.
 #![tactic(auto)]
 
+mod acting;
 mod answer;
-mod effect;
+mod carrying;
+mod commands;
 mod engine;
-mod happening;
+mod happenings;
 mod jobs;
 mod laws;
 mod names;
 mod settling;
-#[cfg(test)]
-mod tests;
 
 pub use engine::{Back, Engine, Next};
 pub use laws::{
-    a_run_has_one_end, a_step_has_one_outcome, no_number_is_started_twice, numbers_rise, runs_join,
-    the_machine_is_never_stuck,
+    a_run_has_one_end, a_step_has_one_outcome, each_input_has_a_step, no_number_is_started_twice,
+    numbers_rise, runs_join, the_machine_is_never_stuck,
 };

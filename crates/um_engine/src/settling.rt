@@ -1,13 +1,13 @@
 ghost use Rattle.std.specs.Prelude.{◌≡◌, map, IfOk, OnOk, MatchOption};
 ghost use Rattle.um_engine.specs.Engine.{SettlesTo, FiresOneTo, FiresTo, IsDue, NoneIsDue};
-ghost use Rattle.um_model.specs.Jobs.{IsReady, BeginsNext, Job};
-ghost use Rattle.um_model.specs.Machine.{begun};
+ghost use Rattle.um_model.specs.Jobs.{BeginsNext, Job};
+ghost use Rattle.um_model.specs.Machine.{begun, IsBefore, IsStill};
 ghost use Rattle.um_state.specs.View.{state_of, action_of};
 
-use crate::happening::happen;
+use crate::carrying::carry_out;
 use crate::jobs::{begins, with_running};
 use std::alloc::{AllocError, Global};
-use um_model::{JobKind, UnitEvent};
+use um_model::{Deadline, JobKind, Moment, UnitEvent};
 use um_name::UnitName;
 use um_state::{Action, State};
 use um_timer::Timers;
@@ -15,10 +15,10 @@ use um_timer::Timers;
 /// The job that begins next, with its unit's name.
 fn next_job(state: &State) -> Result<Option<(UnitName, JobKind)>, AllocError>
     ensures { IfOk result (λ next. MatchOption next
-        ((job : Job) → ¬ IsReady state.now.units state.now.pending job)
-        (λ job. BeginsNext state.now.units state.now.pending (record { unit = job.0; kind = job.1 }))) }
+        (IsStill (state_of state.now))
+        (λ job. BeginsNext (IsBefore (state_of state.now).loaded) (state_of state.now).units (state_of state.now).pending (record { unit = job.0; kind = job.1 }))) }
 {
-    match state.pending.next_job(&state.units) {
+    match state.pending().next_job(state.units()) {
         Some((unit, kind)) => Ok(Some((unit.copy()?, kind))),
         None => Ok(None),
     }
@@ -28,8 +28,8 @@ fn next_job(state: &State) -> Result<Option<(UnitName, JobKind)>, AllocError>
 fn begin_job(state: &mut State, unit: &UnitName, kind: JobKind) -> Result<(), AllocError>
     ensures { OnOk result (state_of state.new ≡ begun (state_of state.old) (record { unit = unit.now; kind = kind })) }
 {
-    let jobs = state.pending.get(unit);
-    state.pending.set(unit, with_running(kind, jobs))
+    let jobs = state.pending().get(unit);
+    state.set_jobs(unit, with_running(kind, jobs))
 }
 
 /// Lets jobs begin at the moment, one after another, until none is ready. Where memory is refused the state is of no use.
@@ -37,28 +37,36 @@ pub fn settle(
     alloc: Global,
     state: &mut State,
     actions: &mut Vec<Action>,
-    moment: u64,
+    moment: Moment,
 ) -> Result<(), AllocError>
     ensures { OnOk result (SettlesTo moment (state_of state.old) (map action_of actions.old.items) (state_of state.new) (map action_of actions.new.items)) }
 {
     'jobs: while let Some((unit, kind)) = next_job(state)? {
         begin_job(state, &unit, kind)?;
-        happen(alloc, state, actions, moment, &unit, begins(kind))?;
+        carry_out(alloc, state, actions, moment, &unit, begins(kind))?;
     }
     Ok(())
 }
 
+/// A timer: its deadline and its unit.
+#[derive(Drop)]
+struct Due {
+    deadline: Deadline,
+    unit: UnitName,
+}
+
 /// The timer that is due first, where its deadline isn't past the moment.
-fn next_due(timers: &Timers, moment: u64) -> Result<Option<(u64, UnitName)>, AllocError>
-    ensures { IfOk result (λ next. MatchOption next (NoneIsDue moment timers.now) (λ due. IsDue moment timers.now due.0 due.1)) }
+fn next_due(timers: &Timers, moment: Moment) -> Result<Option<Due>, AllocError>
+    ensures { IfOk result (λ next. MatchOption next (NoneIsDue moment timers.now) (λ due. IsDue moment timers.now due.deadline due.unit)) }
 {
     let Some((deadline, unit)) = timers.next_due() else {
         return Ok(None);
     };
-    if deadline > moment {
+    if deadline.micros() > moment.micros() {
         return Ok(None);
     }
-    Ok(Some((deadline, unit.copy()?)))
+    let unit = unit.copy()?;
+    Ok(Some(Due { deadline, unit }))
 }
 
 /// Fires one deadline, if it still stands, and lets jobs begin.
@@ -66,23 +74,16 @@ fn fire_one(
     alloc: Global,
     state: &mut State,
     actions: &mut Vec<Action>,
-    moment: u64,
-    deadline: u64,
-    unit: &UnitName,
+    moment: Moment,
+    due: &Due,
 ) -> Result<(), AllocError>
-    ensures { OnOk result (FiresOneTo moment deadline unit.now (state_of state.old) (map action_of actions.old.items) (state_of state.new) (map action_of actions.new.items)) }
+    ensures { OnOk result (FiresOneTo moment due.now.deadline due.now.unit (state_of state.old) (map action_of actions.old.items) (state_of state.new) (map action_of actions.new.items)) }
 {
-    if state.units.get(unit).deadline != Some(deadline) {
+    if state.units().get(&due.unit).deadline != Some(due.deadline) {
         return Ok(());
     }
-    happen(
-        alloc,
-        state,
-        actions,
-        moment,
-        unit,
-        UnitEvent::DeadlinePasses,
-    )?;
+    let event = UnitEvent::DeadlinePasses;
+    carry_out(alloc, state, actions, moment, &due.unit, event)?;
     settle(alloc, state, actions, moment)?;
     Ok(())
 }
@@ -93,14 +94,14 @@ pub fn fire(
     alloc: Global,
     state: &mut State,
     actions: &mut Vec<Action>,
-    moment: u64,
+    moment: Moment,
 ) -> Result<(), AllocError>
     ensures { OnOk result (FiresTo moment (state_of state.old) (map action_of actions.old.items) (state_of state.new) (map action_of actions.new.items)) }
 {
-    let mut timers = state.units.deadlines()?;
-    'timers: while let Some((deadline, unit)) = next_due(&timers, moment)? {
-        timers.clear(&unit);
-        fire_one(alloc, state, actions, moment, deadline, &unit)?;
+    let mut timers = state.units().deadlines()?;
+    'timers: while let Some(due) = next_due(&timers, moment)? {
+        timers.clear(&due.unit);
+        fire_one(alloc, state, actions, moment, &due)?;
     }
     Ok(())
 }

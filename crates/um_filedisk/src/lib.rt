@@ -3,8 +3,6 @@
 
 mod fault;
 mod file;
-#[cfg(test)]
-mod tests;
 
 pub use fault::FileFault;
 pub use file::FileDisk;

@@ -1,9 +1,9 @@
-ghost use Rattle.std.specs.Prelude.{◌≡◌, ◌↔◌, ℕ, Bool, Option, None};
-ghost use Rattle.um_model.specs.Limit.{is_unlimited, is_open, lets_through, window_after, Counts};
+ghost use Rattle.std.specs.Prelude.{◌≡◌, ℕ, false, Option, None};
+ghost use Rattle.um_model.specs.Limit.{is_unlimited, is_over, counted};
 ghost use Rattle.um_model.specs.declared.limit.Counted.{Counted};
 
 use std::marker::Model;
-use um_model::Counted;
+use um_model::{Counted, Moment, Span};
 
 /// The window of time in which the starts of a unit are counted, if it has one (systemd.unit(5), "StartLimitIntervalSec=").
 #[derive(Clone, Copy, Debug, PartialEq, Eq)]
@@ -19,23 +19,23 @@ impl Model for Window {
     ghost inverse = { λ c. record { counted = c } };
 }
 
-/// Whether there is no limit. An interval is in microseconds; `None` is infinite.
-fn is_unlimited(interval: Option<u64>, burst: u32) -> bool
-    ensures { result ≡ is_unlimited interval burst }
+/// Whether there is no limit. An interval of `None` is infinite.
+fn is_unlimited(interval: &Option<Span>, burst: u32) -> bool
+    ensures { result ≡ is_unlimited interval.now burst }
 {
-    match interval {
-        Some(interval) => interval == 0 || burst == 0,
+    match *interval {
+        Some(interval) => interval.micros() == 0 || burst == 0,
         None => burst == 0,
     }
 }
 
-/// Whether no more than the interval went by since the window began.
-fn is_open(interval: Option<u64>, moment: u64, window: Counted) -> bool
-    ensures { result ≡ is_open interval moment window }
+/// Whether more than the interval went by since the moment at which the window began.
+fn is_over(interval: Option<Span>, moment: Moment, began: Moment) -> bool
+    ensures { result ≡ is_over interval moment began }
 {
     match interval {
-        Some(interval) => moment.saturating_sub(window.began) <= interval,
-        None => true,
+        Some(interval) => moment.micros() > began.after(interval).micros(),
+        None => false,
     }
 }
 
@@ -63,18 +63,17 @@ impl Window {
 
     /// Whether a start at the moment is let through. It is where the interval or the burst is 0, since then there is no limit
     /// and the window stays. Else it begins a window where there is none or more than the interval went by since the last
-    /// one began; else it is counted where fewer starts than the burst were; else it is refused and the window stays. The
-    /// moment and the interval are in microseconds, a moment before the window counts as its beginning, and an interval of
-    /// `None` is infinite: its window never ends.
-    pub fn count(&mut self, moment: u64, interval: Option<u64>, burst: u32) -> bool
-        ensures answer { result ≡ lets_through interval burst moment self.old }
-        ensures after { self.new ≡ window_after interval burst moment self.old }
+    /// one began; else it is counted where fewer starts than the burst were; else it is refused and the window stays. A moment
+    /// before the window counts as its beginning, and an interval of `None` is infinite: its window never ends.
+    pub fn count(&mut self, moment: Moment, interval: Option<Span>, burst: u32) -> bool
+        ensures answer { result ≡ (counted interval burst moment self.old).0 }
+        ensures after { self.new ≡ (counted interval burst moment self.old).1 }
     {
-        if is_unlimited(interval, burst) {
+        if is_unlimited(&interval, burst) {
             return true;
         }
         match self.counted {
-            Some(counted) if is_open(interval, moment, counted) => {
+            Some(counted) if !is_over(interval, moment, counted.began) => {
                 if counted.count >= burst {
                     return false;
                 }
@@ -101,7 +100,7 @@ impl Window {
     }
 }
 
-/// The answer and the window after a start are those that the sentences tell, and no others.
-pub fn the_window_follows_its_sentences()
-    ensures { (interval : Option ℕ) (burst moment : ℕ) (window : Option Counted) (allowed : Bool) (after : Option Counted) → Counts interval burst moment window allowed after ↔ ((allowed ≡ lets_through interval burst moment window) × (after ≡ window_after interval burst moment window)) }
+/// A start that is refused leaves the window as it was.
+pub fn a_refused_start_changes_nothing()
+    ensures { (interval : Option ℕ) (burst moment : ℕ) (window : Option Counted) → (counted interval burst moment window).0 ≡ false → (counted interval burst moment window).1 ≡ window }
 {}

@@ -5,8 +5,6 @@
 mod laws;
 mod read;
 mod sectors;
-#[cfg(test)]
-mod tests;
 mod write;
 
 pub use laws::{records_have_one_reading, unread_sectors_of_the_log_do_not_count};

@@ -4,10 +4,10 @@ ghost use Rattle.um_model.specs.Store.{part_count, log_end, HasRecords};
 ghost use Rattle.um_sector.specs.Refused.{CountsDevice, IsLost};
 ghost use Rattle.um_log.specs.Reading.{ReadsRecord, Fits, bytes_of};
 
-use crate::sectors::{log_sector, payload};
+use crate::sectors::{PART_BYTES, SIZE_AT, log_sector, payload};
 use std::alloc::Global;
 use um_model::Layout;
-use um_sector::{Disk, Sector, u32_at};
+use um_sector::{Disk, SECTOR_BYTES, Sector, u32_at};
 use um_wire::Refusal;
 
 /// The longest record, in bytes.
@@ -18,7 +18,9 @@ pub fn fits(layout: Layout, next: usize, size: usize) -> bool
     requires { next ≤ log_end layout }
     ensures { IsTrue result ↔ Fits layout next size }
 {
-    size > 0 && size <= RECORD_LIMIT && size.div_ceil(480) <= layout.log_end() - next
+    size > 0
+        && size <= RECORD_LIMIT
+        && size.div_ceil(PART_BYTES as usize) <= layout.log_end() - next
 }
 
 /// The record that begins at that sector, where it is whole.
@@ -39,16 +41,16 @@ fn record_at<D: Disk>(
     ensures size { D.size disk.new ≡ D.size disk.old }
     ensures honest { D.honest disk.new ≡ D.honest disk.old }
 {
-    let mut sector: Sector = [0; 512];
+    let mut sector: Sector = [0; SECTOR_BYTES];
     disk.read(at, &mut sector)?;
-    let size = u32_at(&sector, 28);
+    let size = u32_at(&sector, SIZE_AT);
     if !fits(layout, at, size as usize) {
         return Ok(None);
     }
     let mut bytes = Vec::new(alloc);
-    for part in 0..size.div_ceil(480) {
+    for part in 0..size.div_ceil(PART_BYTES) {
         disk.read(at + part as usize, &mut sector)?;
-        let payload = payload(&sector, size - 480 * part);
+        let payload = payload(&sector, size - PART_BYTES * part);
         if sector != log_sector(generation, number, part, size, payload) {
             return Ok(None);
         }
@@ -79,7 +81,7 @@ pub fn scan<D: Disk>(
     while at < layout.log_end() {
         match record_at(alloc, disk, layout, generation, number, at)? {
             Some(bytes) => {
-                at += bytes.len().div_ceil(480);
+                at += bytes.len().div_ceil(PART_BYTES as usize);
                 number += 1;
                 records.push(bytes)?;
             }

@@ -3,7 +3,19 @@ ghost use Rattle.um_model.specs.Store as store;
 ghost use Rattle.um_model.specs.Store.{record_limit, part_count, part_of};
 
 use std::alloc::{AllocError, Global};
-use um_sector::{Fields, Sector};
+use um_sector::{Fields, Sector, next_chunk};
+
+/// The first bytes of a sector of the log.
+const FORMAT: &[u8] = b"UMLG";
+
+/// The byte of a sector of the log at which the length of its record begins, in four bytes.
+pub const SIZE_AT: usize = 28;
+
+/// The byte of a sector of the log at which the bytes of its part begin.
+const PART_AT: usize = 32;
+
+/// A part of a record has at most so many bytes: the rest of its sector.
+pub const PART_BYTES: u32 = 480;
 
 /// The sector of one part of a record of so many bytes.
 pub fn log_sector(generation: u64, number: u64, part: u32, size: u32, payload: &[u8]) -> Sector
@@ -11,11 +23,11 @@ pub fn log_sector(generation: u64, number: u64, part: u32, size: u32, payload: &
     ensures { result ≡ store.log_sector generation number part size payload.now }
 {
     let mut fields = Fields::new();
-    fields.put(b"UMLG");
+    fields.put(FORMAT);
     fields.put_u64(generation);
     fields.put_u64(number);
     fields.put_u32(part);
-    fields.put_u32(size.div_ceil(480));
+    fields.put_u32(size.div_ceil(PART_BYTES));
     fields.put_u32(size);
     fields.put(payload);
     fields.sector()
@@ -26,25 +38,12 @@ pub fn payload(sector: &Sector, left: u32) -> &[u8]
     ensures payload { result.now ≡ take (min 480 left) (drop 32 sector.now) }
     ensures long { length result.now ≡ min 480 left }
 {
-    let (_, behind) = sector.split_at(32);
-    if left < 480 {
+    let (_, behind) = sector.split_at(PART_AT);
+    if left < PART_BYTES {
         let (payload, _) = behind.split_at(left as usize);
         payload
     } else {
         behind
-    }
-}
-
-/// At most 480 bytes, and those behind them.
-fn next_chunk(bytes: &[u8]) -> (&[u8], &[u8])
-    ensures chunk { result.0.now ≡ take 480 bytes.now }
-    ensures behind { result.1.now ≡ drop 480 bytes.now }
-    ensures short { length result.0.now ≤ 480 }
-{
-    if bytes.len() < 480 {
-        (bytes, &[])
-    } else {
-        bytes.split_at(480)
     }
 }
 
@@ -63,8 +62,8 @@ pub fn record_sectors(
     let size = bytes.len() as u32;
     let mut run = Vec::new(alloc);
     let mut rest = bytes;
-    for part in 0..size.div_ceil(480) {
-        let (chunk, behind) = next_chunk(rest);
+    for part in 0..size.div_ceil(PART_BYTES) {
+        let (chunk, behind) = next_chunk(rest, PART_BYTES as usize);
         run.push(log_sector(generation, number, part, size, chunk))?;
         rest = behind;
     }

@@ -30,7 +30,7 @@ abbrev deadline_in : Option UnitState → Option ℕ
 deadline_in None = None
 deadline_in (Some u) = u.deadline
 
-abbrev or_else : Option ℕ → Option ℕ → Option ℕ
+abbrev pub or_else : Option ℕ → Option ℕ → Option ℕ
 or_else None o = o
 or_else (Some x) o = Some x
 
@@ -44,7 +44,7 @@ absent n q (x ∷ es) e a =
     let other : eq_by_cmp (slice_cmp nat_cmp) q x.0 ≡ false = ap (λ m. is_eq (slice_cmp nat_cmp m x.0)) (sym e) ∙ ap is_eq a.0 in
     ap (λ b. cond b (Some x.1) (map.find (slice_cmp nat_cmp) q es)) other ∙ absent n q es e a.1
 
-get_with : (m : Timers) (n q : List ℕ) (o : Option ℕ) → map.get (with_deadline m n o) q ≡ cond (eq_by_cmp (slice_cmp nat_cmp) q n) (or_else o (map.get m q)) (map.get m q)
+pub get_with : (m : Timers) (n q : List ℕ) (o : Option ℕ) → map.get (with_deadline m n o) q ≡ cond (eq_by_cmp (slice_cmp nat_cmp) q n) (or_else o (map.get m q)) (map.get m q)
 get_with m n q None = elim (eq_by_cmp (slice_cmp nat_cmp) q n) as (λ b. map.get m q ≡ cond b (map.get m q) (map.get m q)) [
   | true ↦ refl
   | false ↦ refl

@@ -1,6 +1,6 @@
 -- What unit events and ticks leave as it was: trees, boot and clock.
 use Rattle.std.proofs.Common.{ℕ, ◌≡◌, ◌∙◌, List, refl, ap}
-use Rattle.um_model.specs.Machine.{State, Happens, begun, Settles, rests, begins_next, Fires, none_due, fires, passes}
+use Rattle.um_model.specs.Machine.{State, Carries, begun, Settles, rests, begins_next, Fires, none_due, fires, passes}
 use Rattle.um_model.specs.Service.{Action}
 use Rattle.um_model.specs.Timers.{Timers}
 use Rattle.um_model.specs.declared.transition.UnitEvent.{UnitEvent}
@@ -18,20 +18,20 @@ itself s = record { tree = refl; loaded = refl; boot = refl; clock = refl }
 then_keeps : (s u v : State) → Keeps s u → Keeps u v → Keeps s v
 then_keeps s u v k l = record { tree = l.tree ∙ k.tree; loaded = l.loaded ∙ k.loaded; boot = l.boot ∙ k.boot; clock = l.clock ∙ k.clock }
 
-pub happens_keeps : (t : ℕ) (unit : List ℕ) (event : UnitEvent) (s : State) (actions : List Action) (v : State) → Happens t unit event s actions v → Keeps s v
-happens_keeps t unit event s actions v h =
+pub carries_keeps : (t : ℕ) (unit : List ℕ) (event : UnitEvent) (s : State) (actions : List Action) (v : State) → Carries t unit event s actions v → Keeps s v
+carries_keeps t unit event s actions v h =
     record { tree = ap (λ x. x.tree) h.state; loaded = ap (λ x. x.loaded) h.state; boot = ap (λ x. x.boot) h.state; clock = ap (λ x. x.clock) h.state }
 
 pub settles_keeps : (t : ℕ) (s : State) (actions : List Action) (v : State) → Settles t s actions v → Keeps s v
 settles_keeps t s actions v (rests none) = itself s
 settles_keeps t s actions v (begins_next {u = u} {first = first} {more = more} j next happens later) =
-    let k = happens_keeps t j.unit _ (begun s j) first u happens in
+    let k = carries_keeps t j.unit _ (begun s j) first u happens in
     then_keeps s u v (record { tree = k.tree; loaded = k.loaded; boot = k.boot; clock = k.clock }) (settles_keeps t u more v later)
 
 pub fires_keeps : (t : ℕ) (timers : Timers) (s : State) (actions : List Action) (v : State) → Fires t timers s actions v → Keeps s v
 fires_keeps t timers s actions v (none_due none) = itself s
 fires_keeps t timers s actions w (fires {u = u} {v = v} {first = first} {next = next} {more = more} deadline unit due low stands happens settles later) =
-    then_keeps s u w (happens_keeps t unit _ s first u happens) (then_keeps u v w (settles_keeps t u next v settles) (fires_keeps t _ v more w later))
+    then_keeps s u w (carries_keeps t unit _ s first u happens) (then_keeps u v w (settles_keeps t u next v settles) (fires_keeps t _ v more w later))
 fires_keeps t timers s actions w (passes deadline unit due low gone later) = fires_keeps t _ s actions w later
 
 -- a state that keeps these, and has the same units, jobs and next number, is the same

@@ -5,10 +5,12 @@ use Rattle.um_model.specs.Service.{Action, active_state_of, dead_unit, state_of_
 use Rattle.um_model.specs.Settings.{ServiceSettings}
 use Rattle.um_model.specs.Ends.{is_stopping}
 use Rattle.um_model.specs.Transitions.{transition, HasItsProcess, has_its_process, HasNumber}
-use Rattle.um_model.specs.Jobs.{Job, job_of, jobs, no_jobs, jobs_of_unit, is_active, is_up, started_anew, started, stopped, jobs_after, IsPending, ComesBefore, IsReady, with_running, unless_running, start_left, jobs_left}
+use Rattle.um_model.specs.Jobs.{Job, stop_job, start_job, job_of, jobs, no_jobs, jobs_of_unit, is_active, is_up, started_anew, started, stopped, restarted, jobs_after, IsPending, GoesBefore, starts, stops, stops_then_starts, stops_then_starts_before, of_one_unit, ComesBefore, Unordered, IsReady, with_running, unless_running, start_left, jobs_left}
 use Rattle.um_model.specs.Timers.{Timers}
-use Rattle.um_model.specs.Machine.{State, empty_state, Event, Input, Reply, Happens, change_of, changed, startable_in, around, begins, begun, Settles, begins_next, planned, unit_asked, end_of, Fires, none_due, fires, passes, Takes, puts, links, removes, reloads, starts, stops, ends, ticks, moment_of, Step, refused, idle, taken, Run, goes}
+use Rattle.um_model.specs.Machine.{State, empty_state, Command, Happening, Event, Input, Reply, Carries, change_of, changed, acting_in, around, begins, begun, IsStill, Settles, begins_next, unit_asked, with_plan, jobs_planned, Changes, puts, links, removes, reloads, plans, installs, end_of, Fires, none_due, fires, passes, Follows, ends, ticks, Takes, obeys, meets, moment_of, Step, refused, idle, taken, Run, goes}
 use Rattle.um_model.specs.Live.{is_starting, WaitsFor, IsNotStuck}
+use Rattle.um_model.specs.declared.commands.UnitVerb.{UnitVerb}
+use Rattle.um_model.specs.declared.commands.UnitVerb.TheVariants as verbs
 use Rattle.um_model.specs.declared.jobs.JobKind.{JobKind}
 use Rattle.um_model.specs.declared.jobs.JobKind.TheVariants as job
 use Rattle.um_model.specs.declared.jobs.JobState.{JobState}
@@ -40,10 +42,6 @@ pub record Fits (u : UnitState) (j : UnitJobs) : Type 0 where
 -- every unit and its jobs fit
 abbrev pub AllFit : State → Type 0
 AllFit s = (unit : List ℕ) → Fits (state_of_unit s.units unit) (jobs_of_unit s.pending unit)
-
--- no job is ready to begin
-abbrev pub IsStill : State → Type 0
-IsStill s = (j : Job) → ¬ IsReady s.units s.pending j
 
 -- ---- one unit
 
@@ -114,9 +112,19 @@ stopped_keeps : (a : ActiveState) (o p : Option JobState) → KeepsRunning (jobs
 stopped_keeps a None p = record { starting = λ e. absurd (none_runs e); stopping = λ e. absurd (waits_if (is_up a) e) }
 stopped_keeps a (Some o) p = record { starting = λ e. absurd (none_runs e); stopping = λ e. e }
 
-command_keeps : (kind : JobKind) (a : ActiveState) (j : UnitJobs) → KeepsRunning j (jobs_after kind a j)
-command_keeps job.Start a j = started_keeps a j.stop j.start
-command_keeps job.Stop a j = stopped_keeps a j.stop j.start
+restarted_keeps : (o p : Option JobState) → KeepsRunning (jobs o p) (restarted o)
+restarted_keeps None p = record { starting = λ e. absurd (waits_runs e); stopping = λ e. absurd (waits_runs e) }
+restarted_keeps (Some o) p = record { starting = λ e. absurd (waits_runs e); stopping = λ e. e }
+
+if_keeps : (b : Bool) (j k l : UnitJobs) → KeepsRunning j k → KeepsRunning j l → KeepsRunning j (cond b k l)
+if_keeps true j k l h g = h
+if_keeps false j k l h g = g
+
+command_keeps : (verb : UnitVerb) (a : ActiveState) (j : UnitJobs) → KeepsRunning j (jobs_after verb a j)
+command_keeps verbs.Start a j = started_keeps a j.stop j.start
+command_keeps verbs.Stop a j = stopped_keeps a j.stop j.start
+command_keeps verbs.Restart a j = if_keeps (is_up a) j (restarted j.stop) (started a j.stop j.start) (restarted_keeps j.stop j.start) (started_keeps a j.stop j.start)
+command_keeps verbs.TryRestart a j = if_keeps (is_active a) j (restarted j.stop) j (restarted_keeps j.stop j.start) (record { starting = λ e. (e, refl); stopping = λ e. e })
 
 -- a unit fits its jobs after a command as before
 command_fits : (u : UnitState) (j k : UnitJobs) → KeepsRunning j k → Fits u j → Fits u k
@@ -140,21 +148,30 @@ fits_at s unit c others here other = elim (same_name other unit) as (λ _. Fits 
       (sym (jobs_apart s.pending unit (jobs_left c.start c.stop_ends (jobs_of_unit s.pending unit)) other apart)) (others other apart)
 ]
 
-planned_fits : (kind : JobKind) (s : State) (unit : List ℕ) → AllFit s → AllFit (planned kind s unit)
-planned_fits kind s unit fits other =
-    let k = jobs_after kind (active_state_of (state_of_unit s.units unit).sub) (jobs_of_unit s.pending unit) in
-    elim (same_name other unit) as (λ _. Fits (state_of_unit s.units other) (jobs_of_unit (planned kind s unit).pending other)) [
-      | inl same ↦ subst (λ q. Fits (state_of_unit s.units q) (jobs_of_unit (planned kind s unit).pending q)) (sym same)
+planned_fits : (s : State) (unit : List ℕ) (k : UnitJobs) → KeepsRunning (jobs_of_unit s.pending unit) k → AllFit s → AllFit (with_plan s unit k)
+planned_fits s unit k keeps fits other =
+    elim (same_name other unit) as (λ _. Fits (state_of_unit s.units other) (jobs_of_unit (with_plan s unit k).pending other)) [
+      | inl same ↦ subst (λ q. Fits (state_of_unit s.units q) (jobs_of_unit (with_plan s unit k).pending q)) (sym same)
           (subst (Fits (state_of_unit s.units unit)) (sym (jobs_here s.pending unit k))
-          (command_fits (state_of_unit s.units unit) (jobs_of_unit s.pending unit) k (command_keeps kind (active_state_of (state_of_unit s.units unit).sub) (jobs_of_unit s.pending unit)) (fits unit)))
+          (command_fits (state_of_unit s.units unit) (jobs_of_unit s.pending unit) k keeps (fits unit)))
       | inr apart ↦ subst (Fits (state_of_unit s.units other)) (sym (jobs_apart s.pending unit k other apart)) (fits other)
     ]
 
+-- what a command does leaves all fitting
+changed_fits : (s : State) (command : Command) (u : State) → Changes s command u → AllFit s → AllFit u
+changed_fits s command u (puts e) fits = fits
+changed_fits s command u (links e) fits = fits
+changed_fits s command u (removes e) fits = fits
+changed_fits s command u reloads fits = fits
+changed_fits s command u (installs h) fits = fits
+changed_fits s command u (plans {verb = verb} {asked = asked}) fits =
+    planned_fits s (unit_asked s asked) (jobs_planned s verb asked) (command_keeps verb _ (jobs_of_unit s.pending (unit_asked s asked))) fits
+
 -- no stop job is pending beside a start job that is ready
-alone : (s : State) (unit : List ℕ) → IsReady s.units s.pending (record { unit = unit; kind = job.Start }) → (jobs_of_unit s.pending unit).stop ≡ None
+alone : (s : State) (unit : List ℕ) → IsReady Unordered s.units s.pending (start_job unit) → (jobs_of_unit s.pending unit).stop ≡ None
 alone s unit ready = elim (jobs_of_unit s.pending unit).stop as (λ o. (jobs_of_unit s.pending unit).stop ≡ o → o ≡ None) [
   | None ↦ λ e. refl
-  | Some x ↦ λ e. absurd (ready.free (record { unit = unit; kind = job.Stop }) (λ f. some_none (jobs_of_unit s.pending unit).stop x f e) (ComesBefore.stop_first unit))
+  | Some x ↦ λ e. absurd (ready.free (stop_job unit) (record { pends = λ f. some_none (jobs_of_unit s.pending unit).stop x f e; waits = ready.waits; goes = of_one_unit }))
 ] refl
 
 not_down : (x : SubState) → active_state_of x ≢ active.Deactivating → is_stopping x ≡ false
@@ -172,10 +189,10 @@ not_down sub.Active up = refl
 -- the table keeps the process of a unit
 module _ (keeps : (s : ServiceSettings) (c : Around) (u : UnitState) (e : UnitEvent) → HasItsProcess u → HasItsProcess (transition s c u e).unit) where
   -- what happens to a unit leaves all fitting
-  happening_fits : (t : ℕ) (unit : List ℕ) (event : UnitEvent) (s : State) (actions : List Action) (v : State) → Happens t unit event s actions v → AllFit s → AllFit v
-  happening_fits t unit event s actions v h fits =
+  carried_fits : (t : ℕ) (unit : List ℕ) (event : UnitEvent) (s : State) (actions : List Action) (v : State) → Carries t unit event s actions v → AllFit s → AllFit v
+  carried_fits t unit event s actions v h fits =
       let u = state_of_unit s.units unit in
-      let settings = (startable_in s.loaded unit).settings in
+      let settings = (acting_in s.loaded unit).settings in
       subst AllFit (sym h.state) (fits_at s unit (change_of t s unit event) (λ other apart. fits other)
       (left_fits (change_of t s unit event) (jobs_of_unit s.pending unit) (keeps settings (around t s unit) u event (fits unit).held)
       (λ e. start_fits settings (around t s unit) u event ((fits unit).starting e))
@@ -186,7 +203,7 @@ module _ (keeps : (s : ServiceSettings) (c : Around) (u : UnitState) (e : UnitEv
   begun_here s j = jobs_here s.pending j.unit (with_running j.kind (jobs_of_unit s.pending j.unit))
 
   -- a job begins: what its unit, now with the job running, becomes
-  begun_fits : (kind : JobKind) (unit : List ℕ) (s : State) (c : Around) (settings : ServiceSettings) → IsReady s.units s.pending (record { unit = unit; kind = kind }) → AllFit s
+  begun_fits : (kind : JobKind) (unit : List ℕ) (s : State) (c : Around) (settings : ServiceSettings) → IsReady Unordered s.units s.pending (record { unit = unit; kind = kind }) → AllFit s
       → Fits (transition settings c (state_of_unit s.units unit) (begins kind)).unit (jobs_left (transition settings c (state_of_unit s.units unit) (begins kind)).start (transition settings c (state_of_unit s.units unit) (begins kind)).stop_ends (with_running kind (jobs_of_unit s.pending unit)))
   begun_fits job.Start unit s c settings ready fits =
       let u = state_of_unit s.units unit in
@@ -203,40 +220,38 @@ module _ (keeps : (s : ServiceSettings) (c : Around) (u : UnitState) (e : UnitEv
       (λ e. begun_stop_fits settings c u)
       (λ e. absurd (waits e))
 
-  beginning_fits : (t : ℕ) (j : Job) (s : State) (actions : List Action) (v : State) → IsReady s.units s.pending j → Happens t j.unit (begins j.kind) (begun s j) actions v → AllFit s → AllFit v
+  beginning_fits : (t : ℕ) (j : Job) (s : State) (actions : List Action) (v : State) → IsReady Unordered s.units s.pending j → Carries t j.unit (begins j.kind) (begun s j) actions v → AllFit s → AllFit v
   beginning_fits t j s actions v ready h fits =
       let c = change_of t (begun s j) j.unit (begins j.kind) in
       subst AllFit (sym h.state) (fits_at (begun s j) j.unit c
       (λ other apart. subst (Fits (state_of_unit s.units other)) (sym (jobs_apart s.pending j.unit (with_running j.kind (jobs_of_unit s.pending j.unit)) other apart)) (fits other))
       (subst (λ k. Fits c.unit (jobs_left c.start c.stop_ends k)) (sym (begun_here s j))
-      (begun_fits j.kind j.unit s (around t (begun s j) j.unit) (startable_in s.loaded j.unit).settings ready fits)))
+      (begun_fits j.kind j.unit s (around t (begun s j) j.unit) (acting_in s.loaded j.unit).settings ready fits)))
 
   -- where jobs have begun until none is ready
   settled_fits : (t : ℕ) (s : State) (actions : List Action) (v : State) → Settles t s actions v → AllFit s → AllFit v × IsStill v
   settled_fits t s actions v (Settles.rests none) fits = (fits, none)
-  settled_fits t s actions v (begins_next {u = u} {first = first} {more = more} j n h k) fits = settled_fits t u more v k (beginning_fits t j s first u n.ready h fits)
+  settled_fits t s actions v (begins_next {u = u} {first = first} {more = more} j n h k) fits = settled_fits t u more v k (beginning_fits t j s first u n.has h fits)
 
   fired_fits : (t : ℕ) (timers : Timers) (s : State) (actions : List Action) (v : State) → Fires t timers s actions v → AllFit s × IsStill s → AllFit v × IsStill v
   fired_fits t timers s actions v (none_due none) calm = calm
   fired_fits t timers s actions v (fires {u = u} {v = p} {first = x} {next = y} {more = z} d n first due is h k l) calm =
-      fired_fits t (map.remove timers n) p z v l (settled_fits t u y p k (happening_fits t n DeadlinePasses s x u h calm.0))
+      fired_fits t (map.remove timers n) p z v l (settled_fits t u y p k (carried_fits t n DeadlinePasses s x u h calm.0))
   fired_fits t timers s actions v (passes {more = z} d n first due isnt l) calm = fired_fits t (map.remove timers n) s z v l calm
 
+  followed_fits : (t : ℕ) (s : State) (happening : Happening) (actions : List Action) (v : State) → Follows t s happening actions v → AllFit s × IsStill s → AllFit v × IsStill v
+  followed_fits t s happening actions v (ends {number = number} {end = end} {first = first} {more = more} {u = u} unit is h k) calm =
+      settled_fits t u more v k (carried_fits t unit (end_of (state_of_unit s.units unit) number end) s first u h calm.0)
+  followed_fits t s happening actions v (ticks timers are h) calm = fired_fits t timers s actions v h calm
+
   taken_fits : (t : ℕ) (s : State) (event : Event) (actions : List Action) (v : State) → Takes t s event actions v → AllFit s × IsStill s → AllFit v × IsStill v
-  taken_fits t s event actions v (puts tree e h) calm = settled_fits t (record s { tree = tree }) actions v h calm.0
-  taken_fits t s event actions v (links tree e h) calm = settled_fits t (record s { tree = tree }) actions v h calm.0
-  taken_fits t s event actions v (removes tree e h) calm = settled_fits t (record s { tree = tree }) actions v h calm.0
-  taken_fits t s event actions v (reloads h) calm = settled_fits t (record s { loaded = s.tree }) actions v h calm.0
-  taken_fits t s event actions v (starts {asked = asked} h) calm = settled_fits t (planned job.Start s (unit_asked s asked)) actions v h (planned_fits job.Start s (unit_asked s asked) calm.0)
-  taken_fits t s event actions v (stops {asked = asked} h) calm = settled_fits t (planned job.Stop s (unit_asked s asked)) actions v h (planned_fits job.Stop s (unit_asked s asked) calm.0)
-  taken_fits t s event actions v (ends {number = number} {end = end} {first = first} {more = more} {u = u} unit is h k) calm =
-      settled_fits t u more v k (happening_fits t unit (end_of (state_of_unit s.units unit) number end) s first u h calm.0)
-  taken_fits t s event actions v (ticks timers are h) calm = fired_fits t timers s actions v h calm
+  taken_fits t s event actions v (obeys {command = command} {u = u} free h k) calm = settled_fits t u actions v k (changed_fits s command u h calm.0)
+  taken_fits t s event actions v (meets {happening = happening} effect h) calm = followed_fits t s happening actions v h calm
 
   step_fits : (size : ℕ) (s : State) (input : Input) (reply : Reply) (actions : List Action) (t : State) → Step size s input reply actions t → AllFit s × IsStill s → AllFit t × IsStill t
-  step_fits size s input reply actions t (refused r e) calm = calm
+  step_fits size s input reply actions t (refused e) calm = calm
   step_fits size s input reply actions t (idle e) calm = calm
-  step_fits size s input reply actions t (taken {t = v} e effect h) calm = taken_fits (moment_of s input) s input.event actions v h calm
+  step_fits size s input reply actions t (taken {moment = moment} {event = event} {u = v} h) calm = taken_fits (moment_of s moment) s event actions v h calm
 
   run_fits : (size : ℕ) (s t : State) (inputs : List Input) → Run size s inputs t → AllFit s × IsStill s → AllFit t × IsStill t
   run_fits size s t inputs Run.rests calm = calm
@@ -297,27 +312,32 @@ module _ (s : State) (fits : AllFit s) (still : IsStill s) (j : Job) (is_there :
       (n.0, record { pending = is_there; busy = ap (λ b. is_starting u.sub || b) down ∙ or_true (is_starting u.sub); live = n.1 })
 
   stop_is_ready : (jobs_of_unit s.pending j.unit).stop ≡ Some Waiting → ⊥
-  stop_is_ready e = still (record { unit = j.unit; kind = job.Stop }) (record { waits = e; free = λ other p b. nothing_first other b; still = λ f. absurd (stop_start f) })
+  stop_is_ready e = still (stop_job j.unit) (record { waits = e; free = λ other b. nothing_first other (stop_job j.unit) b.goes refl; still = λ f. absurd (stop_start f) })
     where
       stop_start : job.Stop ≡ job.Start → ⊥
       stop_start f = cc
 
-      kind_after : (x y : Job) → ComesBefore x y → y.kind ≡ job.Start
-      kind_after x y (ComesBefore.stop_first unit) = refl
-
-      nothing_first : (other : Job) → ComesBefore other (record { unit = j.unit; kind = job.Stop }) → ⊥
-      nothing_first other b = stop_start (kind_after other (record { unit = j.unit; kind = job.Stop }) b)
+      nothing_first : (x y : Job) → GoesBefore Unordered x y → y.kind ≡ job.Stop → ⊥
+      nothing_first x y of_one_unit f = stop_start (sym f)
+      nothing_first x y (starts b) f = absurd b
+      nothing_first x y (stops b) f = absurd b
+      nothing_first x y (stops_then_starts b) f = absurd b
+      nothing_first x y (stops_then_starts_before b) f = absurd b
 
   start_is_ready : (jobs_of_unit s.pending j.unit).stop ≡ None → (jobs_of_unit s.pending j.unit).start ≡ Some Waiting → is_stopping (state_of_unit s.units j.unit).sub ≡ false → ⊥
-  start_is_ready none e up = still (record { unit = j.unit; kind = job.Start }) (record { waits = e; free = free; still = λ f. deactivating (state_of_unit s.units j.unit).sub up })
+  start_is_ready none e up = still (start_job j.unit) (record { waits = e; free = free; still = λ f. deactivating (state_of_unit s.units j.unit).sub up })
     where
-      before : (x y : Job) → ComesBefore x y → (x.unit ≡ y.unit) × (x.kind ≡ job.Stop)
-      before x y (ComesBefore.stop_first unit) = (refl, refl)
+      before : (x y : Job) → GoesBefore Unordered x y → (x.unit ≡ y.unit) × (x.kind ≡ job.Stop)
+      before x y of_one_unit = (refl, refl)
+      before x y (starts b) = absurd b
+      before x y (stops b) = absurd b
+      before x y (stops_then_starts b) = absurd b
+      before x y (stops_then_starts_before b) = absurd b
 
-      free : (other : Job) → IsPending s.pending other → ¬ ComesBefore other (record { unit = j.unit; kind = job.Start })
-      free other p b =
-          let is = before other (record { unit = j.unit; kind = job.Start }) b in
-          p (ap (λ k. job_of k (jobs_of_unit s.pending other.unit)) is.1 ∙ (ap (λ q. (jobs_of_unit s.pending q).stop) is.0 ∙ none))
+      free : (other : Job) → ¬ ComesBefore Unordered s.pending other (start_job j.unit)
+      free other b =
+          let is = before other (start_job j.unit) b.goes in
+          b.pends (ap (λ k. job_of k (jobs_of_unit s.pending other.unit)) is.1 ∙ (ap (λ q. (jobs_of_unit s.pending q).stop) is.0 ∙ none))
 
       deactivating : (x : SubState) → is_stopping x ≡ false → active_state_of x ≢ active.Deactivating
       deactivating sub.Stop f e = true≢false f

@@ -6,9 +6,8 @@ use Rattle.um_model.specs.Service.{Action, SpawnProcess, SendSignal, state_of_un
 use Rattle.um_model.specs.Settings.{ServiceSettings}
 use Rattle.um_model.specs.Timers.{Timers}
 use Rattle.um_model.specs.Transitions.{AreActions, nothing, spawn, signals, spawned, live_numbers}
-use Rattle.um_model.specs.Machine.{State, Event, Input, Reply, Happens, change_of, startable_in, around, begins, begun, Settles, begins_next, planned, unit_asked, end_of, Fires, none_due, fires, passes, Takes, puts, links, removes, reloads, starts, stops, ends, ticks, moment_of, Step, refused, idle, taken, Run, goes}
+use Rattle.um_model.specs.Machine.{State, Command, Happening, Event, Input, Reply, Carries, change_of, acting_in, around, begins, begun, Settles, begins_next, Changes, puts, links, removes, reloads, plans, installs, end_of, Fires, none_due, fires, passes, Follows, ends, ticks, Takes, obeys, meets, moment_of, Step, refused, idle, taken, Run, goes}
 use Rattle.um_model.specs.Numbers.{started_numbers, actions_in, AreNew}
-use Rattle.um_model.specs.declared.jobs.JobKind.TheVariants as job
 use Rattle.um_model.specs.declared.service.Signal as sent
 use Rattle.um_model.specs.declared.service.UnitState.{UnitState}
 use Rattle.um_model.specs.declared.transition.Around.{Around}
@@ -74,38 +73,46 @@ asked_count s c u o actions (spawn which i words started) = one_more no_more
 asked_count s c u o actions (signals signal) =
     subst (λ ns. CountsUp c.next ns (c.next + 0)) (sym (signals_start_none signal (live_numbers u))) (none_counted c.next)
 
-happening_counts : (t : ℕ) (unit : List ℕ) (event : UnitEvent) (s : State) (actions : List Action) (v : State) → Happens t unit event s actions v → Counts s actions v
-happening_counts t unit event s actions v h =
+carried_counts : (t : ℕ) (unit : List ℕ) (event : UnitEvent) (s : State) (actions : List Action) (v : State) → Carries t unit event s actions v → Counts s actions v
+carried_counts t unit event s actions v h =
     subst (Counts s actions) (sym h.state)
-    (asked_count (startable_in s.loaded unit).settings (around t s unit) (change_of t s unit event).unit (change_of t s unit event).order actions h.asked)
+    (asked_count (acting_in s.loaded unit).settings (around t s unit) (change_of t s unit event).unit (change_of t s unit event).order actions h.asked)
 
 settled_counts : (t : ℕ) (s : State) (actions : List Action) (v : State) → Settles t s actions v → Counts s actions v
 settled_counts t s actions v (Settles.rests none) = no_more
 settled_counts t s actions v (begins_next {u = u} {first = first} {more = more} j n h k) =
-    both_count s u v first more (happening_counts t j.unit (begins j.kind) (begun s j) first u h) (settled_counts t u more v k)
+    both_count s u v first more (carried_counts t j.unit (begins j.kind) (begun s j) first u h) (settled_counts t u more v k)
 
 fired_counts : (t : ℕ) (timers : Timers) (s : State) (actions : List Action) (v : State) → Fires t timers s actions v → Counts s actions v
 fired_counts t timers s actions v (none_due none) = no_more
 fired_counts t timers s actions v (fires {u = u} {v = p} {first = x} {next = y} {more = z} d n first due is h k l) =
-    both_count s u v x (y ++ z) (happening_counts t n DeadlinePasses s x u h)
+    both_count s u v x (y ++ z) (carried_counts t n DeadlinePasses s x u h)
     (both_count u p v y z (settled_counts t u y p k) (fired_counts t (maps.remove timers n) p z v l))
 fired_counts t timers s actions v (passes {more = z} d n first due isnt l) = fired_counts t (maps.remove timers n) s z v l
 
+-- a command starts nothing by itself
+same_next : (s : State) (command : Command) (u : State) → Changes s command u → u.next ≡ s.next
+same_next s command u (puts e) = refl
+same_next s command u (links e) = refl
+same_next s command u (removes e) = refl
+same_next s command u reloads = refl
+same_next s command u plans = refl
+same_next s command u (installs h) = refl
+
+followed_counts : (t : ℕ) (s : State) (happening : Happening) (actions : List Action) (v : State) → Follows t s happening actions v → Counts s actions v
+followed_counts t s happening actions v (ends {number = number} {end = end} {first = first} {more = more} {u = u} unit is h k) =
+    both_count s u v first more (carried_counts t unit (end_of (state_of_unit s.units unit) number end) s first u h) (settled_counts t u more v k)
+followed_counts t s happening actions v (ticks timers are h) = fired_counts t timers s actions v h
+
 taken_counts : (t : ℕ) (s : State) (event : Event) (actions : List Action) (v : State) → Takes t s event actions v → Counts s actions v
-taken_counts t s event actions v (puts tree e h) = settled_counts t (record s { tree = tree }) actions v h
-taken_counts t s event actions v (links tree e h) = settled_counts t (record s { tree = tree }) actions v h
-taken_counts t s event actions v (removes tree e h) = settled_counts t (record s { tree = tree }) actions v h
-taken_counts t s event actions v (reloads h) = settled_counts t (record s { loaded = s.tree }) actions v h
-taken_counts t s event actions v (starts {asked = asked} h) = settled_counts t (planned job.Start s (unit_asked s asked)) actions v h
-taken_counts t s event actions v (stops {asked = asked} h) = settled_counts t (planned job.Stop s (unit_asked s asked)) actions v h
-taken_counts t s event actions v (ends {number = number} {end = end} {first = first} {more = more} {u = u} unit is h k) =
-    both_count s u v first more (happening_counts t unit (end_of (state_of_unit s.units unit) number end) s first u h) (settled_counts t u more v k)
-taken_counts t s event actions v (ticks timers are h) = fired_counts t timers s actions v h
+taken_counts t s event actions v (obeys {command = command} {u = u} free changes h) =
+    subst (λ n. CountsUp n (started_numbers actions) v.next) (same_next s command u changes) (settled_counts t u actions v h)
+taken_counts t s event actions v (meets {happening = happening} effect h) = followed_counts t s happening actions v h
 
 step_counts : (size : ℕ) (s : State) (input : Input) (reply : Reply) (actions : List Action) (t : State) → Step size s input reply actions t → Counts s actions t
-step_counts size s input reply actions t (refused r e) = no_more
+step_counts size s input reply actions t (refused e) = no_more
 step_counts size s input reply actions t (idle e) = no_more
-step_counts size s input reply actions t (taken {t = v} e effect h) = taken_counts (moment_of s input) s input.event actions v h
+step_counts size s input reply actions t (taken {moment = moment} {event = event} {u = v} h) = taken_counts (moment_of s moment) s event actions v h
 
 run_counts : (size : ℕ) (s t : State) (inputs : List Input) (run : Run size s inputs t) → Counts s (actions_in run) t
 run_counts size s t inputs Run.rests = no_more

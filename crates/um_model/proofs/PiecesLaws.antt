@@ -69,6 +69,23 @@ reading_more front b n bs gives bytes e =
 pub reading_none : (front : ℕ → List ℕ → Front) (b : ℕ) (bs bytes : List ℕ) → front b bs ≡ Unreadable → prefixed bytes (reading front 0 (b ∷ bs)) ≡ None
 reading_none front b bs bytes e = ap (λ f. prefixed bytes (read_by_front f (λ k. reading front k bs))) e
 
+-- a front that can be read
+abbrev pub IsRead : Front → Type 0
+IsRead front = (gives : List ℕ) × (n : ℕ) × (front ≡ Gives gives n)
+
+has_reading_sized : (front : ℕ → List ℕ → Front) → ((b : ℕ) (bs : List ℕ) → IsRead (front b bs)) → (size : ℕ) (text : List ℕ) → length text ≤ size
+    → (bytes : List ℕ) × StandsForText front text bytes
+has_reading_sized front reads size [] small = ([], done)
+has_reading_sized front reads zero (b ∷ bs) small = absurd (omega arith)
+has_reading_sized front reads (suc size) (b ∷ bs) small =
+    let here = reads b bs in
+    let later = has_reading_sized front reads size (drop (here.1 - 1) bs) (omega (arith, length-drop (here.1 - 1) bs)) in
+    (here.0 ++ later.0, piece b here.1 bs here.0 later.0 here.2 later.1)
+
+-- where each front can be read, each text can
+pub has_reading : (front : ℕ → List ℕ → Front) → ((b : ℕ) (bs : List ℕ) → IsRead (front b bs)) → (text : List ℕ) → (bytes : List ℕ) × StandsForText front text bytes
+has_reading front reads text = has_reading_sized front reads (length text) text (omega arith)
+
 -- a run of bytes that each stand for themselves, whatever follows
 pub reading-append : (front : ℕ → List ℕ → Front) (run text : List ℕ) → ((i : ℕ) → i < length run → (bs : List ℕ) → front (get_or run i 0) bs ≡ Gives (get_or run i 0 ∷ []) 1)
     → reading front 0 (run ++ text) ≡ prefixed run (reading front 0 text)

@@ -6,7 +6,7 @@ use Rattle.serde_json.proofs.OnLiterals.{serde_json_on_literals}
 use Rattle.serde_json.specs.Data.{string}
 use Rattle.serde_json.specs.View.{items_of}
 use Rattle.serde_json.specs.Written.{has_float, items_have_float, compact_text}
-use Rattle.um_model.specs.Machine.{Reply, Done, Shown, Activity, Files, Told, Refusal}
+use Rattle.um_model.specs.Machine.{Reply, Done, Shown, Activity, Files, Relinked, EnabledAs, Told, Refusal}
 use Rattle.um_model.specs.Resolution.{UnitFile}
 use Rattle.um_model.specs.Service.{Action, SpawnProcess, SendSignal}
 use Rattle.um_model.specs.Refusals.{Refused, too_large}
@@ -43,6 +43,8 @@ reply_plain Done = refl
 reply_plain (Shown u) = rw (warnings_plain u.warnings) refl
 reply_plain (Activity state) = refl
 reply_plain (Files files) = rw (files_plain files) refl
+reply_plain (Relinked made removed) = rw (texts_plain made, texts_plain removed) refl
+reply_plain (EnabledAs answer) = refl
 reply_plain (Told actions) = rw (actions_plain actions) refl
 reply_plain (Refusal r) = refused_plain r
 

@@ -1,14 +1,15 @@
--- The laws of substitution: at most one result, and each value has words.
+-- The laws of substitution: one result; and each value has words.
 use Rattle.std.proofs.Common.{◌≡◌, ◌≢◌, ◌≤◌, ℕ, zero, suc, ◌-◌, Bool, true, false, cond, eqb, List, [], ◌∷◌, ◌++◌, length, drop, Option, Some, None, refl, sym, ap, ◌∙◌, subst, inl, inr, append_assoc, append-nil, arith}
 use Rattle.std.proofs.lemmas.List.{length-drop}
 use Rattle.std.proofs.lemmas.Bool.{cases_Bool, cond-false, ne_eqb}
 use Rattle.std.proofs.lemmas.Option.{none-some, same_Some}
 use Rattle.um_model.specs.Ascii.{is_space}
-use Rattle.um_model.specs.Pieces.{Gives}
-use Rattle.um_model.specs.Words.{is_quote, Stop, Turn, Kept, bare, InWord, ends, stops, turns, stands, keeps, Word, AreSpelled, none, space, word_first, AreWords}
-use Rattle.um_model.specs.Substitution.{Variable, value_of, piece_front, Becomes, splits, fills, AllBecome, no_more, one_more, AreSubstituted, no_words, first_stays}
+use Rattle.um_model.specs.Pieces.{Front, Gives}
+use Rattle.um_model.specs.Words.{is_quote, Stop, Turn, Kept, bare, InWord, ends, stops, turns, stands, keeps, Word, AreSpelled, none, space, word_first, values_of, AreWords}
+use Rattle.um_model.specs.Substitution.{Variable, value_of, whole_name, braced_name, variable_front, dollar_front, piece_front, Becomes, splits, fills, AllBecome, no_more, one_more, AreSubstituted, no_words, first_stays}
 use Rattle.um_model.specs.declared.words.WordRules.TheVariants.{Plain}
-use Rattle.um_model.proofs.PiecesLaws.{one_reading}
+use Rattle.um_model.specs.Text.{first_passes}
+use Rattle.um_model.proofs.PiecesLaws.{one_reading, IsRead, has_reading}
 use Rattle.um_model.proofs.WordsLaws.{read, by_spelling, with_front, InWord-read, same_words}
 
 -- a byte that is no `$` stands for itself
@@ -128,3 +129,43 @@ have_words (suc size) (b ∷ bs) small = elim (cases_Bool (is_space b)) [
 -- each value reads as words
 pub has_words : (text : List ℕ) → (words : List Word) × AreSpelled Plain text words
 has_words text = have_words (length text) text (omega arith)
+
+-- Each word becomes some words.
+
+read_if : (b : Bool) (f g : Front) → IsRead f → IsRead g → IsRead (cond b f g)
+read_if true f g first second = first
+read_if false f g first second = second
+
+variable_reads : (environment : List Variable) (name : Option (List ℕ)) → IsRead (variable_front environment name)
+variable_reads environment None = (_, _, refl)
+variable_reads environment (Some name) = (_, _, refl)
+
+piece_reads : (environment : List Variable) (b : ℕ) (bs : List ℕ) → IsRead (piece_front environment b bs)
+piece_reads environment b bs =
+    read_if (eqb b 36) (dollar_front environment bs) (Gives (b ∷ []) 1)
+    (read_if (first_passes (λ x. eqb x 36) bs) (Gives (36 ∷ []) 2) (variable_front environment (braced_name bs)) (_, _, refl) (variable_reads environment (braced_name bs)))
+    (_, _, refl)
+
+become_some : (environment : List Variable) (word : List ℕ) → (words : List (List ℕ)) × Becomes environment word words
+become_some environment word = elim (whole_name word) as (λ o. whole_name word ≡ o → (words : List (List ℕ)) × Becomes environment word words) [
+  | Some name ↦ λ whole.
+      let found = has_words (value_of environment name) in
+      (values_of found.0, splits word name (values_of found.0) whole (found.0, found.1, refl))
+  | None ↦ λ none_whole.
+      let filled = has_reading (piece_front environment) (piece_reads environment) word in
+      (filled.0 ∷ [], fills word filled.0 none_whole filled.1)
+] refl
+
+all_become_some : (environment : List Variable) (words : List (List ℕ)) → (out : List (List ℕ)) × AllBecome environment words out
+all_become_some environment [] = ([], no_more)
+all_become_some environment (word ∷ words) =
+    let first = become_some environment word in
+    let others = all_become_some environment words in
+    (first.0 ++ others.0, one_more word words first.0 others.0 first.1 others.1)
+
+-- the words of a command become some
+pub have_substituted : (environment : List Variable) (words : List (List ℕ)) → (out : List (List ℕ)) × AreSubstituted environment words out
+have_substituted environment [] = ([], no_words)
+have_substituted environment (first ∷ words) =
+    let others = all_become_some environment words in
+    (first ∷ others.0, first_stays first words others.0 others.1)

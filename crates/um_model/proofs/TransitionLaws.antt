@@ -1,13 +1,15 @@
 -- Laws of the service table: a unit keeps its process, new numbers are the next ones, and an order's actions are one list.
-use Rattle.std.proofs.Common.{ℕ, ◌≡◌, ◌+◌, ◌<◌, ◌≤◌, ◌^◌, ◌⊎◌, inl, inr, ◌∙◌, Bool, true, false, not, cond, ◌||◌, ◌&&◌, List, [], ◌∷◌, length, map, slice_get, Option, Some, None, is_some, nat_lt, refl, sym, subst, ap, arith}
+use Rattle.std.proofs.Common.{ℕ, ◌≡◌, ◌+◌, ◌<◌, ◌≤◌, ◌⊎◌, inl, inr, ◌∙◌, Bool, true, false, not, cond, ◌||◌, ◌&&◌, List, [], ◌∷◌, map, slice_get, Option, Some, None, is_some, refl, sym, subst, ap, arith}
 use Rattle.std.proofs.lemmas.Bool.{ltb-true, false≢true}
+use Rattle.um_model.specs.Moments.{process_limit}
 use Rattle.um_model.specs.Words.{Command}
 use Rattle.um_model.specs.Substitution.{Variable, AreSubstituted}
-use Rattle.um_model.specs.Limit.{lets_through, window_after}
+use Rattle.um_model.specs.Limit.{counted}
 use Rattle.um_model.specs.Service.{Action, SpawnProcess, SendSignal}
-use Rattle.um_model.specs.Settings.{ServiceSettings, environment_texts, commands_in}
+use Rattle.um_model.specs.Settings.{ServiceSettings, environment_texts, commands_in, has_place}
 use Rattle.um_model.specs.Ends.{is_clean, is_restart_wanted}
-use Rattle.um_model.specs.Transitions.{moment_after, has_number, is_live, just, asking, start_ends, start_fails, stop_ends, resting, rests_for_good, awaits_restart, rests, terminates, stop_command, winds_down, next_stop, lacks_number, start_command, start_simple, start_of, start_at_rest, on_start, on_stop, run_ends, next_start, start_run_ends, rests_unless_live, noted, without_main, on_main_end, goes_on, stop_command_ends, on_control_end, timed_out, on_deadline, on_executed, transition, AreStarted, no_command, substituted, as_written, AreActions, nothing, spawn, signals, spawned, live_numbers, has_its_process, HasItsProcess, HasNumber}
+use Rattle.um_model.specs.Transitions.{deadline_after, has_number, is_live, just, asking, start_ends, start_fails, stop_ends, resting, rests_for_good, awaits_restart, rests, terminates, stop_command, winds_down, next_stop, lacks_number, start_command, start_simple, start_of, starts_if, starts, exits, next_start, start_goes_on, executed, rests_unless_live, noted, without_main, without_control, timed_out, asked, is_well, row, transition, AreStarted, no_command, substituted, as_written, AreActions, nothing, spawn, signals, spawned, live_numbers, has_its_process, HasItsProcess, HasNumber}
+use Rattle.um_model.specs.declared.limit.Counted.{Counted}
 use Rattle.um_model.specs.declared.service.End.{End}
 use Rattle.um_model.specs.declared.service.Signal as signal
 use Rattle.um_model.specs.declared.service.Signal.TheVariants.{Term}
@@ -27,7 +29,7 @@ use Rattle.um_model.specs.declared.transition.UnitEvent.{UnitEvent}
 use Rattle.um_model.specs.declared.transition.UnitEvent.TheVariants.{StartBegins, StopBegins, BoundStop, Executed, MainEnds, ControlEnds, DeadlinePasses}
 use Rattle.um_model.specs.declared.transition.UnitKind.{UnitKind}
 use Rattle.um_model.specs.declared.transition.UnitKind.TheVariants.{Simple, Exec, Oneshot, Target}
-use Rattle.um_model.proofs.SubstitutionLaws.{same_substituted}
+use Rattle.um_model.proofs.SubstitutionLaws.{same_substituted, have_substituted}
 
 by_cond : (P : Change → Type 0) (b : Bool) (x y : Change) → (b ≡ true → P x) → (b ≡ false → P y) → P (cond b x y)
 by_cond P true x y f g = f refl
@@ -76,7 +78,7 @@ module _ (s : ServiceSettings) (c : Around) (Known : ℕ → Type 0) (Held : Typ
   record Good (v : Change) : Type 0 where
     held : Held → HasItsProcess v.unit
     fresh : (n : ℕ) → HasNumber v.unit n → Known n ⊎ ((n ≡ c.next) × (spawned v.order ≡ 1))
-    below : (spawned v.order ≡ 0) ⊎ (c.next < 2 ^ 63)
+    below : (spawned v.order ≡ 0) ⊎ (c.next < process_limit)
 
   just_good : (w : UnitState) → Old w → (Held → HasItsProcess w) → Good (just w)
   just_good w old h = record { held = h; fresh = λ n k. inl (old n k); below = inl refl }
@@ -94,7 +96,7 @@ module _ (s : ServiceSettings) (c : Around) (Known : ℕ → Type 0) (Held : Typ
       (λ e. rests_for_good_good w)
 
   terminates_good : (w : UnitState) → Old w → Good (terminates s c w)
-  terminates_good w old = by_cond Good (is_live w) (asking (Signal Term) (just (record w { sub = StopSigterm; deadline = moment_after c.moment s.timeout_stop }))) (rests s c w)
+  terminates_good w old = by_cond Good (is_live w) (asking (Signal Term) (just (record w { sub = StopSigterm; deadline = deadline_after c.moment s.timeout_stop }))) (rests s c w)
       (λ e. record { held = λ q. e; fresh = λ n k. inl (old n k); below = inl refl })
       (λ e. rests_good w)
 
@@ -107,15 +109,15 @@ module _ (s : ServiceSettings) (c : Around) (Known : ℕ → Type 0) (Held : Typ
   known_next w old n (inr e) = inl (old n (inr e))
 
   stop_command_good : (w : UnitState) (i : ℕ) → Old w → Good (stop_command s c w i)
-  stop_command_good w i old = by_cond Good (has_number c) (asking (Spawn OfStop i) (just (record w { sub = Stop; control = Some c.next; index = i; deadline = moment_after c.moment s.timeout_stop }))) (terminates s c (record w { result = result.Resources; index = i }))
+  stop_command_good w i old = by_cond Good (has_number c) (asking (Spawn OfStop i) (just (record w { sub = Stop; control = Some c.next; index = i; deadline = deadline_after c.moment s.timeout_stop }))) (terminates s c (record w { result = result.Resources; index = i }))
       (λ e. record { held = λ q. refl; fresh = next_known w old; below = inr (ltb-true _ _ e) })
       (λ e. terminates_good (record w { result = result.Resources; index = i }) old)
 
   winds_down_good : (w : UnitState) → Old w → Good (winds_down s c w)
-  winds_down_good w old = by_cond Good (nat_lt 0 (length s.stop)) (stop_command s c w 0) (terminates s c w) (λ e. stop_command_good w 0 old) (λ e. terminates_good w old)
+  winds_down_good w old = by_cond Good (has_place s.stop 0) (stop_command s c w 0) (terminates s c w) (λ e. stop_command_good w 0 old) (λ e. terminates_good w old)
 
   next_stop_good : (w : UnitState) → Old w → Good (next_stop s c w)
-  next_stop_good w old = by_cond Good (nat_lt (w.index + 1) (length s.stop)) (stop_command s c w (w.index + 1)) (terminates s c w) (λ e. stop_command_good w (w.index + 1) old) (λ e. terminates_good w old)
+  next_stop_good w old = by_cond Good (has_place s.stop (w.index + 1)) (stop_command s c w (w.index + 1)) (terminates s c w) (λ e. stop_command_good w (w.index + 1) old) (λ e. terminates_good w old)
 
   -- what becomes of the Start job changes nothing of this
   started : (v : Change) → Good v → Good (start_ends v)
@@ -131,7 +133,7 @@ module _ (s : ServiceSettings) (c : Around) (Known : ℕ → Type 0) (Held : Typ
   spent w = failed (rests_for_good (record w { result = result.Resources })) (rests_for_good_good (record w { result = result.Resources }))
 
   start_command_good : (w : UnitState) (i : ℕ) → Old w → Good (start_command s c w i)
-  start_command_good w i old = by_cond Good (has_number c) (asking (Spawn OfStart i) (just (record w { sub = Start; main = Some c.next; deadline = moment_after c.moment s.timeout_start }))) (lacks_number w)
+  start_command_good w i old = by_cond Good (has_number c) (asking (Spawn OfStart i) (just (record w { sub = Start; main = Some c.next; deadline = deadline_after c.moment s.timeout_start }))) (lacks_number w)
       (λ e. record { held = λ q. refl; fresh = known_next w old; below = inr (ltb-true _ _ e) })
       (λ e. spent w)
 
@@ -144,149 +146,131 @@ module _ (s : ServiceSettings) (c : Around) (Known : ℕ → Type 0) (Held : Typ
   start_of_good Target w old = record { held = λ q. refl; fresh = λ n k. inl (old n k); below = inl refl }
   start_of_good Simple w old = start_simple_good w old
   start_of_good Exec w old = start_command_good w 0 old
-  start_of_good Oneshot w old = by_cond Good (nat_lt 0 (length s.start)) (start_command s c w 0) (start_ends (just (record w { sub = Exited; deadline = None }))) (λ e. start_command_good w 0 old)
+  start_of_good Oneshot w old = by_cond Good (has_place s.start 0) (start_command s c w 0) (start_ends (just (record w { sub = Exited; deadline = None }))) (λ e. start_command_good w 0 old)
       (λ e. record { held = λ q. refl; fresh = λ n k. inl (old n k); below = inl refl })
 
-  start_at_rest_good : (w : UnitState) → Old w → Good (start_at_rest s c w)
-  start_at_rest_good w old = by_cond Good (lets_through s.limit_interval s.limit_burst c.moment w.window) (start_of s.kind s c (record w { result = result.Success; asked = false; index = 0; last = None; window = window_after s.limit_interval s.limit_burst c.moment w.window })) (start_fails (just (record w { sub = Failed; result = result.StartLimitHit; deadline = None }))) (λ e. start_of_good s.kind (record w { result = result.Success; asked = false; index = 0; last = None; window = window_after s.limit_interval s.limit_burst c.moment w.window }) old)
-      (λ e. record { held = λ q. refl; fresh = λ n k. inl (old n k); below = inl refl })
+  starts_if_good : (through : Bool) (window : Option Counted) (w : UnitState) → Old w → Good (starts_if through window s c w)
+  starts_if_good true window w old = start_of_good s.kind (record w { result = result.Success; asked = false; index = 0; last = None; window = window }) old
+  starts_if_good false window w old = record { held = λ q. refl; fresh = λ n k. inl (old n k); below = inl refl }
 
-  on_start_good : (sub : SubState) (w : UnitState) → w.sub ≡ sub → Old w → (Held → HasItsProcess w) → Good (on_start s c w sub)
-  on_start_good Running w is old h = started (just w) (just_good w old h)
-  on_start_good Exited w is old h = started (just w) (just_good w old h)
-  on_start_good Active w is old h = started (just w) (just_good w old h)
-  on_start_good Dead w is old h = start_at_rest_good w old
-  on_start_good Failed w is old h = start_at_rest_good w old
-  on_start_good AutoRestart w is old h = start_at_rest_good w old
-  on_start_good Start w is old h = just_good w old h
-  on_start_good Stop w is old h = just_good w old h
-  on_start_good StopSigterm w is old h = just_good w old h
-  on_start_good StopSigkill w is old h = just_good w old h
+  starts_good : (w : UnitState) → Old w → Good (starts s c w)
+  starts_good w old = let answer = counted s.limit_interval s.limit_burst c.moment w.window in starts_if_good answer.0 answer.1 w old
 
-  run_ends_good : (w : UnitState) (clean : Bool) → Old w → Good (run_ends s c w clean)
-  run_ends_good w clean old = by_cond Good (clean && s.remains) (just (record w { sub = Exited; deadline = None })) (winds_down s c w)
+  exits_good : (w : UnitState) → Old w → Good (exits s c w)
+  exits_good w old = by_cond Good s.remains (just (record w { sub = Exited; deadline = None })) (winds_down s c w)
       (λ e. record { held = λ q. refl; fresh = λ n k. inl (old n k); below = inl refl })
       (λ e. winds_down_good w old)
 
   rests_unless_live_good : (w : UnitState) → Old w → (is_live w ≡ true → Held → HasItsProcess w) → Good (rests_unless_live s c w)
   rests_unless_live_good w old h = by_cond Good (is_live w) (just w) (rests s c w) (λ e. just_good w old (h e)) (λ e. rests_good w)
 
-  on_stop_good : (sub : SubState) (w : UnitState) → w.sub ≡ sub → Old w → (Held → HasItsProcess w) → Good (on_stop s c w sub)
-  on_stop_good Running w is old h = winds_down_good (record w { asked = true }) old
-  on_stop_good Exited w is old h = winds_down_good (record w { asked = true }) old
-  on_stop_good Start w is old h = failed (terminates s c (record w { asked = true })) (terminates_good (record w { asked = true }) old)
-  on_stop_good AutoRestart w is old h = record { held = λ q. refl; fresh = λ n k. inl (old n k); below = inl refl }
-  on_stop_good Active w is old h = record { held = λ q. refl; fresh = λ n k. inl (old n k); below = inl refl }
-  on_stop_good Stop w is old h = just_good (record w { asked = true }) old (λ q. same_held w.sub w (record w { asked = true }) refl refl (h q))
-  on_stop_good StopSigterm w is old h = just_good (record w { asked = true }) old (λ q. same_held w.sub w (record w { asked = true }) refl refl (h q))
-  on_stop_good StopSigkill w is old h = just_good (record w { asked = true }) old (λ q. same_held w.sub w (record w { asked = true }) refl refl (h q))
-  on_stop_good Dead w is old h = stopped (just w) (just_good w old h)
-  on_stop_good Failed w is old h = stopped (just w) (just_good w old h)
-
   next_start_good : (w : UnitState) → Old w → w.sub ≡ Start → Good (next_start s c w)
-  next_start_good w old is = by_cond Good (nat_lt (w.index + 1) (length s.start))
+  next_start_good w old is = by_cond Good (has_place s.start (w.index + 1))
       (cond (has_number c)
       (asking (Spawn OfStart (w.index + 1)) (just (record w { main = Some c.next; index = w.index + 1 })))
       (lacks_number (record w { index = w.index + 1 })))
-      (start_ends (run_ends s c w true))
+      (start_ends (exits s c w))
       (λ h. by_cond Good (has_number c)
       (asking (Spawn OfStart (w.index + 1)) (just (record w { main = Some c.next; index = w.index + 1 })))
       (lacks_number (record w { index = w.index + 1 }))
       (λ e. record { held = λ q. held_with_main w.sub is (record w { main = Some c.next; index = w.index + 1 }) refl; fresh = known_next w old; below = inr (ltb-true _ _ e) })
       (λ e. spent (record w { index = w.index + 1 })))
-      (λ h. started (run_ends s c w true) (run_ends_good w true old))
+      (λ h. started (exits s c w) (exits_good w old))
 
-  start_run_ends_good : (k : UnitKind) (w : UnitState) (clean : Bool) → Old w → w.sub ≡ Start → Good (start_run_ends k s c w clean)
-  start_run_ends_good Simple w false old is = failed (rests s c w) (rests_good w)
-  start_run_ends_good Exec w false old is = failed (rests s c w) (rests_good w)
-  start_run_ends_good Oneshot w false old is = failed (rests s c w) (rests_good w)
-  start_run_ends_good Target w false old is = failed (rests s c w) (rests_good w)
-  start_run_ends_good Simple w true old is = started (run_ends s c w true) (run_ends_good w true old)
-  start_run_ends_good Exec w true old is = started (run_ends s c w true) (run_ends_good w true old)
-  start_run_ends_good Oneshot w true old is = next_start_good w old is
-  start_run_ends_good Target w true old is = started (run_ends s c w true) (run_ends_good w true old)
+  start_goes_on_good : (k : UnitKind) (w : UnitState) → Old w → w.sub ≡ Start → Good (start_goes_on k s c w)
+  start_goes_on_good Simple w old is = started (exits s c w) (exits_good w old)
+  start_goes_on_good Exec w old is = started (exits s c w) (exits_good w old)
+  start_goes_on_good Oneshot w old is = next_start_good w old is
+  start_goes_on_good Target w old is = started (exits s c w) (exits_good w old)
 
-  -- v: u without its main process
-  main_end_good : (sub : SubState) (u v : UnitState) (clean : Bool) → u.sub ≡ sub → v.sub ≡ sub → v.control ≡ u.control → Old u → Old v → (Held → HasItsProcess u) → Good (on_main_end s c u v clean sub)
-  main_end_good Start u v clean is vs k old vold h = start_run_ends_good s.kind v clean vold vs
-  main_end_good Running u v clean is vs k old vold h = run_ends_good v clean vold
-  main_end_good Stop u v clean is vs k old vold h = just_good v vold (λ q. subst (λ x. has_its_process x v ≡ true) (sym vs) (subst (λ x. is_some x ≡ true) (sym k) (subst (λ x. has_its_process x u ≡ true) is (h q))))
-  main_end_good StopSigterm u v clean is vs k old vold h = rests_unless_live_good v vold (λ e q. subst (λ x. has_its_process x v ≡ true) (sym vs) e)
-  main_end_good StopSigkill u v clean is vs k old vold h = rests_unless_live_good v vold (λ e q. subst (λ x. has_its_process x v ≡ true) (sym vs) e)
-  main_end_good Dead u v clean is vs k old vold h = just_good u old h
-  main_end_good Exited u v clean is vs k old vold h = just_good u old h
-  main_end_good Failed u v clean is vs k old vold h = just_good u old h
-  main_end_good AutoRestart u v clean is vs k old vold h = just_good u old h
-  main_end_good Active u v clean is vs k old vold h = just_good u old h
+  executed_good : (k : UnitKind) (u : UnitState) → u.sub ≡ Start → Old u → (Held → HasItsProcess u) → Good (executed k u)
+  executed_good Simple u is old h = record { held = λ q. subst (λ x. has_its_process x u ≡ true) is (h q); fresh = λ n k. inl (old n k); below = inl refl }
+  executed_good Exec u is old h = record { held = λ q. subst (λ x. has_its_process x u ≡ true) is (h q); fresh = λ n k. inl (old n k); below = inl refl }
+  executed_good Oneshot u is old h = just_good u old h
+  executed_good Target u is old h = just_good u old h
 
   noted_old : (w : UnitState) (e : End) (clean : Bool) → Old w → Old (noted w e clean)
   noted_old w e true old = old
   noted_old w e false old = old
 
-  stop_ends_good : (u : UnitState) (e : End) (well : Bool) → Old u → Good (stop_command_ends s c u e well)
-  stop_ends_good u e true old = next_stop_good u old
-  stop_ends_good u e false old = terminates_good (noted u e false) old
+  without_main_old : (u : UnitState) (e : End) → Old u → Old (without_main s u e)
+  without_main_old u e old = noted_old (record u { main = None; last = Some e }) e (is_clean s u Main e) less
+    where
+      less : Old (record u { main = None; last = Some e })
+      less n (inl e) = absurd (let b : ⊥ = cc in b)
+      less n (inr e) = old n (inr e)
 
-  control_end_good : (sub : SubState) (u : UnitState) (e : End) → u.sub ≡ sub → Old u → Old (record u { control = None }) → (Held → HasItsProcess u) → Good (on_control_end s c u e sub)
-  control_end_good Stop u e is old less h = stop_ends_good (record u { control = None }) e (goes_on s u e) less
-  control_end_good StopSigterm u e is old less h = rests_unless_live_good (noted (record u { control = None }) e (is_clean s u Control e)) (noted_old (record u { control = None }) e (is_clean s u Control e) less) (λ l q. subst (λ x. has_its_process x (noted (record u { control = None }) e (is_clean s u Control e)) ≡ true) (sym (noted_sub (record u { control = None }) e (is_clean s u Control e) ∙ is)) l)
-  control_end_good StopSigkill u e is old less h = rests_unless_live_good (noted (record u { control = None }) e (is_clean s u Control e)) (noted_old (record u { control = None }) e (is_clean s u Control e) less) (λ l q. subst (λ x. has_its_process x (noted (record u { control = None }) e (is_clean s u Control e)) ≡ true) (sym (noted_sub (record u { control = None }) e (is_clean s u Control e) ∙ is)) l)
-  control_end_good Start u e is old less h = just_good u old h
-  control_end_good Running u e is old less h = just_good u old h
-  control_end_good Dead u e is old less h = just_good u old h
-  control_end_good Exited u e is old less h = just_good u old h
-  control_end_good Failed u e is old less h = just_good u old h
-  control_end_good AutoRestart u e is old less h = just_good u old h
-  control_end_good Active u e is old less h = just_good u old h
+  with_no_control_old : (u : UnitState) → Old u → Old (record u { control = None })
+  with_no_control_old u old n (inl e) = old n (inl e)
+  with_no_control_old u old n (inr e) = absurd (let b : ⊥ = cc in b)
 
-  deadline_good : (sub : SubState) (u : UnitState) → u.sub ≡ sub → Old u → (Held → HasItsProcess u) → Good (on_deadline s c u sub)
-  deadline_good Start u is old h = failed (terminates s c (record u { result = result.Timeout })) (terminates_good (record u { result = result.Timeout }) old)
-  deadline_good Stop u is old h = terminates_good (timed_out u) old
-  deadline_good StopSigterm u is old h = record { held = λ q. subst (λ x. has_its_process x u ≡ true) is (h q); fresh = λ n k. inl (old n k); below = inl refl }
-  deadline_good StopSigkill u is old h = rests_for_good_good (timed_out u)
-  deadline_good Running u is old h = just_good u old h
-  deadline_good Dead u is old h = just_good u old h
-  deadline_good Exited u is old h = just_good u old h
-  deadline_good Failed u is old h = just_good u old h
-  deadline_good AutoRestart u is old h = just_good u old h
-  deadline_good Active u is old h = just_good u old h
+  without_control_old : (u : UnitState) (e : End) → Old u → Old (without_control s u e)
+  without_control_old u e old = noted_old (record u { control = None }) e (is_clean s u Control e) (with_no_control_old u old)
 
-  executed_start : (k : UnitKind) (u : UnitState) → u.sub ≡ Start → Old u → (Held → HasItsProcess u) → Good (on_executed k u Start)
-  executed_start Simple u is old h = record { held = λ q. subst (λ x. has_its_process x u ≡ true) is (h q); fresh = λ n k. inl (old n k); below = inl refl }
-  executed_start Exec u is old h = record { held = λ q. subst (λ x. has_its_process x u ≡ true) is (h q); fresh = λ n k. inl (old n k); below = inl refl }
-  executed_start Oneshot u is old h = just_good u old h
-  executed_start Target u is old h = just_good u old h
+  main_sub : (u : UnitState) (e : End) → (without_main s u e).sub ≡ u.sub
+  main_sub u e = noted_sub (record u { main = None; last = Some e }) e (is_clean s u Main e)
 
-  executed_good : (k : UnitKind) (sub : SubState) (u : UnitState) → u.sub ≡ sub → Old u → (Held → HasItsProcess u) → Good (on_executed k u sub)
-  executed_good k Start u is old h = executed_start k u is old h
-  executed_good Simple _ u is old h = just_good u old h
-  executed_good Exec _ u is old h = just_good u old h
-  executed_good Oneshot _ u is old h = just_good u old h
-  executed_good Target _ u is old h = just_good u old h
+  control_sub : (u : UnitState) (e : End) → (without_control s u e).sub ≡ u.sub
+  control_sub u e = noted_sub (record u { control = None }) e (is_clean s u Control e)
 
-  without_main_old : (u : UnitState) → Old u → Old (record u { main = None })
-  without_main_old u old n (inl e) = absurd (let b : ⊥ = cc in b)
-  without_main_old u old n (inr e) = old n (inr e)
+  -- a unit that stays in a state with these processes has its process as before
+  held_in : (sub : SubState) (w : UnitState) → w.sub ≡ sub → has_its_process sub w ≡ true → HasItsProcess w
+  held_in sub w is h = subst (λ x. has_its_process x w ≡ true) (sym is) h
 
-  without_control_old : (u : UnitState) → Old u → Old (record u { control = None })
-  without_control_old u old n (inl e) = old n (inl e)
-  without_control_old u old n (inr e) = absurd (let b : ⊥ = cc in b)
+  control_stays : (u : UnitState) (e : End) → u.sub ≡ Stop → (Held → HasItsProcess u) → Held → HasItsProcess (without_main s u e)
+  control_stays u e is h q = held_in Stop (without_main s u e) (main_sub u e ∙ is)
+      (subst (λ x. is_some x ≡ true) (sym (noted_control (record u { main = None; last = Some e }) e (is_clean s u Main e)))
+      (subst (λ x. has_its_process x u ≡ true) is (h q)))
+
+  row_good : (sub : SubState) (event : UnitEvent) (well : Bool) (u : UnitState) → u.sub ≡ sub → Old u → (Held → HasItsProcess u) → Good (row s c u sub event well)
+  row_good sub StartBegins false u is old h = failed (just (record u { result = result.NotLoaded }))
+      (just_good (record u { result = result.NotLoaded }) old (λ q. same_held u.sub u (record u { result = result.NotLoaded }) refl refl (h q)))
+  row_good Running StartBegins true u is old h = started (just u) (just_good u old h)
+  row_good Exited StartBegins true u is old h = started (just u) (just_good u old h)
+  row_good Active StartBegins true u is old h = started (just u) (just_good u old h)
+  row_good Dead StartBegins true u is old h = starts_good u old
+  row_good Failed StartBegins true u is old h = starts_good u old
+  row_good AutoRestart StartBegins true u is old h = starts_good u old
+  row_good Start Executed well u is old h = executed_good s.kind u is old h
+  row_good Start (MainEnds e) true u is old h = start_goes_on_good s.kind (without_main s u e) (without_main_old u e old) (main_sub u e ∙ is)
+  row_good Start (MainEnds e) false u is old h = failed (rests s c (without_main s u e)) (rests_good (without_main s u e))
+  row_good Start DeadlinePasses well u is old h = failed (terminates s c (record u { result = result.Timeout })) (terminates_good (record u { result = result.Timeout }) old)
+  row_good Running (MainEnds e) true u is old h = exits_good (without_main s u e) (without_main_old u e old)
+  row_good Running (MainEnds e) false u is old h = winds_down_good (without_main s u e) (without_main_old u e old)
+  row_good Running StopBegins well u is old h = winds_down_good (asked u) old
+  row_good Exited StopBegins well u is old h = winds_down_good (asked u) old
+  row_good Start StopBegins well u is old h = failed (terminates s c (asked u)) (terminates_good (asked u) old)
+  row_good AutoRestart StopBegins well u is old h = record { held = λ q. refl; fresh = λ n k. inl (old n k); below = inl refl }
+  row_good Stop StopBegins well u is old h = just_good (asked u) old (λ q. same_held u.sub u (asked u) refl refl (h q))
+  row_good StopSigterm StopBegins well u is old h = just_good (asked u) old (λ q. same_held u.sub u (asked u) refl refl (h q))
+  row_good StopSigkill StopBegins well u is old h = just_good (asked u) old (λ q. same_held u.sub u (asked u) refl refl (h q))
+  row_good Active StopBegins well u is old h = record { held = λ q. refl; fresh = λ n k. inl (old n k); below = inl refl }
+  row_good Dead StopBegins well u is old h = stopped (just u) (just_good u old h)
+  row_good Failed StopBegins well u is old h = stopped (just u) (just_good u old h)
+  row_good Stop (ControlEnds e) true u is old h = next_stop_good (record u { control = None }) (with_no_control_old u old)
+  row_good Stop (ControlEnds e) false u is old h = terminates_good (without_control s u e) (without_control_old u e old)
+  row_good Stop (MainEnds e) well u is old h = just_good (without_main s u e) (without_main_old u e old) (control_stays u e is h)
+  row_good Stop DeadlinePasses well u is old h = terminates_good (timed_out u) old
+  row_good StopSigterm (MainEnds e) well u is old h =
+      rests_unless_live_good (without_main s u e) (without_main_old u e old) (λ l q. held_in StopSigterm (without_main s u e) (main_sub u e ∙ is) l)
+  row_good StopSigterm (ControlEnds e) well u is old h =
+      rests_unless_live_good (without_control s u e) (without_control_old u e old) (λ l q. held_in StopSigterm (without_control s u e) (control_sub u e ∙ is) l)
+  row_good StopSigkill (MainEnds e) well u is old h =
+      rests_unless_live_good (without_main s u e) (without_main_old u e old) (λ l q. held_in StopSigkill (without_main s u e) (main_sub u e ∙ is) l)
+  row_good StopSigkill (ControlEnds e) well u is old h =
+      rests_unless_live_good (without_control s u e) (without_control_old u e old) (λ l q. held_in StopSigkill (without_control s u e) (control_sub u e ∙ is) l)
+  row_good StopSigterm DeadlinePasses well u is old h = record { held = λ q. subst (λ x. has_its_process x u ≡ true) is (h q); fresh = λ n k. inl (old n k); below = inl refl }
+  row_good StopSigkill DeadlinePasses well u is old h = rests_for_good_good (timed_out u)
+  row_good sub event well u is old h = just_good u old h
 
   transition_good : (u : UnitState) (e : UnitEvent) → Old u → (Held → HasItsProcess u) → Good (transition s c u e)
-  transition_good u StartBegins old h = by_cond Good c.loadable (on_start s c u u.sub) (start_fails (just (record u { result = result.NotLoaded })))
-      (λ e. on_start_good u.sub u refl old h)
-      (λ e. failed (just (record u { result = result.NotLoaded })) (just_good (record u { result = result.NotLoaded }) old (λ q. same_held u.sub u (record u { result = result.NotLoaded }) refl refl (h q))))
-  transition_good u StopBegins old h = on_stop_good u.sub u refl old h
-  transition_good u BoundStop old h = on_stop_good u.sub u refl old h
-  transition_good u Executed old h = executed_good s.kind u.sub u refl old h
-  transition_good u (MainEnds e) old h = main_end_good u.sub u (without_main s u e) (is_clean s u Main e) refl
-      (noted_sub (record u { main = None; last = Some e }) e (is_clean s u Main e))
-      (noted_control (record u { main = None; last = Some e }) e (is_clean s u Main e))
-      old
-      (noted_old (record u { main = None; last = Some e }) e (is_clean s u Main e) (without_main_old u old))
-      h
-  transition_good u (ControlEnds e) old h = control_end_good u.sub u e refl old (without_control_old u old) h
-  transition_good u DeadlinePasses old h = deadline_good u.sub u refl old h
+  transition_good u BoundStop old h = row_good u.sub StopBegins true u refl old h
+  transition_good u StartBegins old h = row_good u.sub StartBegins (is_well s c u StartBegins) u refl old h
+  transition_good u StopBegins old h = row_good u.sub StopBegins true u refl old h
+  transition_good u Executed old h = row_good u.sub Executed true u refl old h
+  transition_good u (MainEnds e) old h = row_good u.sub (MainEnds e) (is_well s c u (MainEnds e)) u refl old h
+  transition_good u (ControlEnds e) old h = row_good u.sub (ControlEnds e) (is_well s c u (ControlEnds e)) u refl old h
+  transition_good u DeadlinePasses old h = row_good u.sub DeadlinePasses true u refl old h
 
 -- a unit that starts, runs or stops keeps a live process
 pub keeps_process : (s : ServiceSettings) (c : Around) (u : UnitState) (e : UnitEvent) → HasItsProcess u → HasItsProcess (transition s c u e).unit
@@ -297,7 +281,7 @@ pub numbers_are_next : (s : ServiceSettings) (c : Around) (u : UnitState) (e : U
     → HasNumber u n ⊎ ((n ≡ c.next) × (spawned (transition s c u e).order ≡ 1))
 numbers_are_next s c u e = (transition_good s c (HasNumber u) (HasItsProcess u) u e (λ n k. k) (λ q. q)).fresh
 
-at_most : (a n : ℕ) → n ≤ 2 ^ 63 → (a ≡ 0) ⊎ (n < 2 ^ 63) → a ≤ 1 → n + a ≤ 2 ^ 63
+at_most : (a n : ℕ) → n ≤ process_limit → (a ≡ 0) ⊎ (n < process_limit) → a ≤ 1 → n + a ≤ process_limit
 at_most a n h (inl e) k = omega arith
 at_most a n h (inr e) k = omega arith
 
@@ -307,16 +291,16 @@ spawned_few (Spawn which i) = omega arith
 spawned_few (Signal signal) = omega arith
 
 -- the next number stays within 2^63
-pub next_is_small : (s : ServiceSettings) (c : Around) (u : UnitState) (e : UnitEvent) → c.next ≤ 2 ^ 63 → c.next + spawned (transition s c u e).order ≤ 2 ^ 63
+pub next_is_small : (s : ServiceSettings) (c : Around) (u : UnitState) (e : UnitEvent) → c.next ≤ process_limit → c.next + spawned (transition s c u e).order ≤ process_limit
 next_is_small s c u e h = at_most _ c.next h (transition_good s c (HasNumber u) (HasItsProcess u) u e (λ n k. k) (λ q. q)).below (spawned_few (transition s c u e).order)
 
-fits : (a n : ℕ) → n < 2 ^ 64 → (a ≡ 0) ⊎ (n < 2 ^ 63) → a ≤ 1 → n + a < 2 ^ 64
-fits a n h (inl e) k = omega arith
-fits a n h (inr e) k = omega arith
+spawned_one : (a n : ℕ) → (a ≡ 0) ⊎ (n < process_limit) → a ≡ 1 → n < process_limit
+spawned_one a n (inl e) f = omega arith
+spawned_one a n (inr e) f = e
 
--- and within 64 bits, wherever it stood
-pub next_fits : (s : ServiceSettings) (c : Around) (u : UnitState) (e : UnitEvent) → c.next < 2 ^ 64 → c.next + spawned (transition s c u e).order < 2 ^ 64
-next_fits s c u e h = fits _ c.next h (transition_good s c (HasNumber u) (HasItsProcess u) u e (λ n k. k) (λ q. q)).below (spawned_few (transition s c u e).order)
+-- where a process is started there is a number for it
+pub has_room : (s : ServiceSettings) (c : Around) (u : UnitState) (e : UnitEvent) → spawned (transition s c u e).order ≡ 1 → c.next < process_limit
+has_room s c u e = spawned_one _ c.next (transition_good s c (HasNumber u) (HasItsProcess u) u e (λ n k. k) (λ q. q)).below
 
 -- An order's actions are one list.
 
@@ -363,3 +347,19 @@ same_actions s c u o a b (spawn which i words are) others =
     let t = spawns_one s c u which i b others in
     ap (λ w. SpawnProcess c.next w (environment_texts s) ∷ []) (same_started s.environment (slice_get (commands_in s which) i) words t.0 are t.1) ∙ t.2
 same_actions s c u o a b (signals sent) others = signals_all s c u sent b others
+
+-- a command is started with some words
+have_started : (environment : List Variable) (command : Option Command) → (words : List (List ℕ)) × AreStarted environment command words
+have_started environment None = ([], no_command)
+have_started environment (Some c) = elim c.substitutes as (λ b. c.substitutes ≡ b → (words : List (List ℕ)) × AreStarted environment (Some c) words) [
+  | true ↦ λ yes. let found = have_substituted environment c.words in (found.0, substituted c found.0 yes found.1)
+  | false ↦ λ no. (c.words, as_written c no)
+] refl
+
+-- each order has its actions
+pub have_actions : (s : ServiceSettings) (c : Around) (u : UnitState) (order : Order) → (actions : List Action) × AreActions s c u order actions
+have_actions s c u Nothing = ([], nothing)
+have_actions s c u (Spawn which i) =
+    let found = have_started s.environment (slice_get (commands_in s which) i) in
+    (_, spawn which i found.0 found.1)
+have_actions s c u (Signal signal) = (_, signals signal)

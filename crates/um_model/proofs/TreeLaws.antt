@@ -18,7 +18,7 @@ use Rattle.std.proofs.lemmas.Option.{same_Some}
 use Rattle.std.proofs.lemmas.Slice.Eq.{bytes_eq-Decides, starts_is}
 use Rattle.um_model.specs.Names.{is_prefix_byte, is_instance_byte, is_fit_instance, instance_text, suffix_text, is_unit_name, is_template}
 use Rattle.um_model.specs.Refusals.{Refused, cause, first_cause}
-use Rattle.um_model.specs.Tree.{layer_text, Place, Unit, DropIn, Wants, Requires, place_text, PathParts, is_drop_in_name, is_plain_name, is_fit_place, IsPathOf, is_slash, behind, before, around_slash, layer_among, layer_and_rest, place_among, place_in, unit_and_place, where_fit, parts_behind, path_parts, Entry, File, Link, Tree, IsTree, entry_limit, text_limit, is_served, is_fit_entry, is_fit_at, is_fit_target, is_link, is_other_than_link, is_full_for, put_cause, link_cause, is_volatile, without_run}
+use Rattle.um_model.specs.Tree.{layer_text, Place, Unit, DropIn, Wants, Requires, place_text, PathParts, is_drop_in_name, is_plain_name, is_fit_place, IsPathOf, is_slash, behind, before, around_slash, layer_among, layer_and_rest, place_among, place_in, unit_and_place, where_fit, parts_behind, path_parts, Entry, File, Link, Tree, IsTree, entry_limit, text_limit, is_served, is_fit_entry, is_fit_at, is_fit_target, is_link, is_other_than_link, is_full_for, put_cause, link_cause, is_volatile, without_run, path_text, are_fit}
 use Rattle.um_model.specs.declared.names.Suffix.{Suffix}
 use Rattle.um_model.specs.declared.names.Suffix.TheVariants.{Service, Socket, Device, Mount, Automount, Swap, Target, Path, Timer, Slice, Scope}
 use Rattle.um_model.specs.declared.tree.Layer.{Layer}
@@ -320,7 +320,7 @@ prefix_byte-no_slash b h = ap not (ne_eqb b 47 (λ e. false≢true (subst (λ x.
 instance_byte-no_slash : (b : ℕ) → is_instance_byte b ≡ true → no_slash b ≡ true
 instance_byte-no_slash b h = ap not (ne_eqb b 47 (λ e. false≢true (subst (λ x. is_instance_byte x ≡ true) e h)))
 
-all_wider : (p q : ℕ → Bool) → ((b : ℕ) → p b ≡ true → q b ≡ true) → (xs : List ℕ) → list_all p xs ≡ true → list_all q xs ≡ true
+pub all_wider : (p q : ℕ → Bool) → ((b : ℕ) → p b ≡ true → q b ≡ true) → (xs : List ℕ) → list_all p xs ≡ true → list_all q xs ≡ true
 all_wider p q wider [] all = refl
 all_wider p q wider (x ∷ xs) all =
     let both = and_parts (p x) (list_all p xs) all in
@@ -397,24 +397,22 @@ fit-name unit (DropIn name) fit = (and_parts (is_unit_name unit) (is_drop_in_nam
 fit-name unit (Wants other) fit = plain_name unit (and_parts (is_plain_name unit) (is_plain_name other) fit).0
 fit-name unit (Requires other) fit = plain_name unit (and_parts (is_plain_name unit) (is_plain_name other) fit).0
 
-unit-place : (unit : List ℕ) (place : Place) → is_fit_place unit place ≡ true → unit_and_place (unit ++ place_text place) (around_slash (unit ++ place_text place)) ≡ Some (unit, place)
-unit-place unit Unit fit =
-    ap (λ rest. unit_and_place rest (around_slash rest)) (append-nil unit) ∙ ap (unit_and_place unit) (around-none unit (name-no_slash unit fit))
-unit-place unit (DropIn name) fit =
-    in_directory unit (codes ".d") (name ++ codes ".conf") _ (fit-name unit (DropIn name) fit) refl (in_drop_ins unit name)
-unit-place unit (Wants other) fit =
-    in_directory unit (codes ".wants") other _ (fit-name unit (Wants other) fit) refl (in_wants unit other)
-unit-place unit (Requires other) fit =
-    in_directory unit (codes ".requires") other _ (fit-name unit (Requires other) fit) refl (in_requires unit other)
+unit-place : (unit : List ℕ) (place : Place) → is_unit_name unit ≡ true → unit_and_place (unit ++ place_text place) (around_slash (unit ++ place_text place)) ≡ Some (unit, place)
+unit-place unit Unit is = ap (λ rest. unit_and_place rest (around_slash rest)) (append-nil unit) ∙ ap (unit_and_place unit) (around-none unit (name-no_slash unit is))
+unit-place unit (DropIn name) is = in_directory unit (codes ".d") (name ++ codes ".conf") _ is refl (in_drop_ins unit name)
+unit-place unit (Wants other) is = in_directory unit (codes ".wants") other _ is refl (in_wants unit other)
+unit-place unit (Requires other) is = in_directory unit (codes ".requires") other _ is refl (in_requires unit other)
+
+-- the parts of a path of a unit name are told where they fit together
+pub parts_at : (p : PathParts) → is_unit_name p.unit ≡ true → path_parts (path_text p) ≡ cond (are_fit p) (Some p) None
+unfolding path_parts
+parts_at p is =
+    ap parts_behind (layer-text p.layer (p.unit ++ place_text p.place)) ∙ ap (where_fit p.layer) (unit-place p.unit p.place is)
 
 -- the parts of a path are told
 pub parts_of_path : (path : List ℕ) (p : PathParts) → IsPathOf path p → path_parts path ≡ Some p
-unfolding path_parts
 parts_of_path path p of =
-    ap (λ text. parts_behind (layer_and_rest text)) of.spelled
-    ∙ ap parts_behind (layer-text p.layer (p.unit ++ place_text p.place))
-    ∙ ap (where_fit p.layer) (unit-place p.unit p.place of.fit)
-    ∙ cond-true (is_fit_place p.unit p.place) (Some p) None of.fit
+    ap path_parts of.spelled ∙ parts_at p (fit-name p.unit p.place of.fit) ∙ cond-true (are_fit p) (Some p) None of.fit
 
 -- a path has one sequence of parts at most
 pub one_path_reading : (path : List ℕ) (p q : PathParts) → IsPathOf path p → IsPathOf path q → p ≡ q

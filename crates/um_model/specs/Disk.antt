@@ -1,7 +1,8 @@
 -- The disk model: what was asked of a disk since it was made, what a read gives, and which images a crash may leave.
 -- No manual page has it: it is the usual model of sectors whose writes reach the disk in any order until a sync answers.
 -- The trait `Disk` and its devices, the log, the slots and the keeper stand on this file.
-use Rattle.std.specs.Prelude.{◌≡◌, ◌⊎◌, ◌+◌, ◌-◌, ◌^◌, ◌<◌, ◌≤◌, min, ℕ, zero, suc, ◌==◌, if◌then◌else◌, List, [], ◌∷◌, ◌++◌, length, map, filter, nat_lt, count_by, Bool, true, false, slice_index_or, Result, Ok, Err}
+use Rattle.std.specs.Prelude.{◌≡◌, ◌⊎◌, ◌+◌, ◌-◌, ◌^◌, ◌<◌, ◌≤◌, min, ℕ, zero, suc, ◌==◌, if◌then◌else◌, List, [], ◌∷◌, ◌++◌, length, map}
+use Rattle.std.specs.Prelude.{filter, nat_lt, count_by, Bool, true, false, slice_index_or, Result, Ok, Err}
 use Rattle.std.specs.List.{Contains, range_with_len}
 
 -- the 512 bytes of a sector
@@ -59,7 +60,8 @@ moment past = length past.calls
 -- an image of some moment from t on, after these calls
 abbrev pub ImageSince : Image → List Call → ℕ → Image → Type 0
 ImageSince start [] t image = (t ≤ 0) × IsImage (record { start = start; calls = [] }) image
-ImageSince start (call ∷ calls) t image = ((t ≤ suc (length calls)) × IsImage (record { start = start; calls = call ∷ calls }) image) ⊎ ImageSince start calls t image
+ImageSince start (call ∷ calls) t image =
+    ((t ≤ suc (length calls)) × IsImage (record { start = start; calls = call ∷ calls }) image) ⊎ ImageSince start calls t image
 
 -- one call more
 abbrev pub after : Call → Past → Past

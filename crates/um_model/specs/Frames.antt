@@ -5,7 +5,7 @@ use Rattle.std.specs.Prelude.{◌≡◌, ℕ, ◌<◌, ◌≤◌, List, [], ◌�
 use Rattle.byteorder.specs.Endian.{big_number, big_bytes}
 use Rattle.um_model.specs.Refusals.{Refused, too_large}
 use Rattle.um_model.specs.Service.{Action}
-use Rattle.um_model.specs.Machine.{State, Input, Query, Event, Step, Reply, Told, Refusal, reply_to}
+use Rattle.um_model.specs.Machine.{State, Input, Query, Event, Step, Reply, Told, Refusal, IsReplyTo}
 use Rattle.um_model.specs.Requests.{OfEvent, OfQuery, OfActions, request_of}
 use Rattle.um_model.specs.Replies.{reply_text, is_told_whole}
 use Rattle.um_model.specs.declared.refusals.Limit.TheVariants.{Frame}
@@ -70,8 +70,8 @@ kept_after kept = if is_told_whole (Told kept) then [] else kept
 -- the reply to a frame over a store of so many bytes, and the state and the actions kept after it
 pub data Answers (size : ℕ) (s : State) (kept : List Action) (bytes : List ℕ) : Reply → State → List Action → Type 0 where
   unread : (r : Refused) → request_of Memory bytes ≡ Err r → Answers size s kept bytes (Refusal r) s kept
-  queried : (at : Option ℕ) (q : Query) → request_of Memory bytes ≡ Ok (record { at = at; asked = OfQuery q })
-      → Answers size s kept bytes (reply_to s q) s kept
+  queried : (at : Option ℕ) (q : Query) (reply : Reply) → request_of Memory bytes ≡ Ok (record { at = at; asked = OfQuery q })
+      → IsReplyTo s q reply → Answers size s kept bytes reply s kept
   told : (at : Option ℕ) → request_of Memory bytes ≡ Ok (record { at = at; asked = OfActions }) → Answers size s kept bytes (Told kept) s (kept_after kept)
   stepped : (at : Option ℕ) (e : Event) (reply : Reply) (actions : List Action) (t : State)
       → request_of Memory bytes ≡ Ok (record { at = at; asked = OfEvent e }) → Step size s (input_of s at e) reply actions t

@@ -3,10 +3,10 @@
 -- The machine stands on this file.
 use Rattle.std.specs.Prelude.{◌≡◌, ◌≢◌, ℕ, Bool, true, false, ◌||◌, if◌then◌else◌, List, Option, Some, None, is_some, unwrap_or}
 use Rattle.std.specs.FinMap as map
-use Rattle.std.specs.declared.cmp.Ordering.TheVariants.{Less}
-use Rattle.std.specs.Cmp.Lexicographic.{slice_cmp}
-use Rattle.std.specs.Ordering.{nat_cmp}
+use Rattle.um_model.specs.Least.{IsLeast, IsNamedBefore}
 use Rattle.um_model.specs.Service.{ByUnit, active_state_of, state_of_unit}
+use Rattle.um_model.specs.declared.commands.UnitVerb.{UnitVerb}
+use Rattle.um_model.specs.declared.commands.UnitVerb.TheVariants as verbs
 use Rattle.um_model.specs.declared.jobs.JobKind.{JobKind}
 use Rattle.um_model.specs.declared.jobs.JobKind.TheVariants.{Stop, Start}
 use Rattle.um_model.specs.declared.jobs.JobState.{JobState}
@@ -34,6 +34,10 @@ has_job j = is_some j.stop || is_some j.start
 -- with these jobs of a unit
 abbrev pub with_jobs : ByUnit UnitJobs → List ℕ → UnitJobs → ByUnit UnitJobs
 with_jobs pending unit j = if has_job j then map.insert pending unit j else map.remove pending unit
+
+-- no unit is held of which no job is pending
+abbrev pub AreTidyJobs : ByUnit UnitJobs → Type 0
+AreTidyJobs pending = (unit : List ℕ) → map.get pending unit ≢ Some no_jobs
 
 -- the job of this kind
 abbrev pub job_of : JobKind → UnitJobs → Option JobState
@@ -68,10 +72,21 @@ abbrev pub stopped : ActiveState → Option JobState → UnitJobs
 stopped a (Some stop) = jobs (Some stop) None
 stopped a None = jobs (if is_up a then Some Waiting else None) None
 
--- the pending jobs after a command for the unit in this state
-abbrev pub jobs_after : JobKind → ActiveState → UnitJobs → UnitJobs
-jobs_after Start a j = started a j.stop j.start
-jobs_after Stop a j = stopped a j.stop
+-- restart of a unit that is up: a start job that runs is dropped; a stop job is put where none is pending, a start job where none waits
+abbrev pub restarted : Option JobState → UnitJobs
+restarted stop = jobs (Some (unwrap_or stop Waiting)) (Some Waiting)
+
+-- the pending jobs of a unit in this state after a command for it. A restart of a unit that is down is a start; where the unit isn't
+-- active a try-restart does nothing
+abbrev pub jobs_after : UnitVerb → ActiveState → UnitJobs → UnitJobs
+jobs_after verbs.Start a j = started a j.stop j.start
+jobs_after verbs.Stop a j = stopped a j.stop
+jobs_after verbs.Restart a j = if is_up a then restarted j.stop else started a j.stop j.start
+jobs_after verbs.TryRestart a j = if is_active a then restarted j.stop else j
+
+-- of these jobs one is dropped, so that those are left: it is there no more, or no more as it was
+pub data DropsOne (before after : UnitJobs) : Type 0 where
+  drops : (kind : JobKind) (state : JobState) → job_of kind before ≡ Some state → job_of kind after ≢ Some state → DropsOne before after
 
 -- ---- which job begins
 
@@ -80,45 +95,55 @@ pub record Job : Type 0 where
   pub unit : List ℕ
   pub kind : JobKind
 
--- one job comes before another: that which stops a unit before that which starts it
-pub data ComesBefore : Job → Job → Type 0 where
-  stop_first : (unit : List ℕ) → ComesBefore (record { unit = unit; kind = Stop }) (record { unit = unit; kind = Start })
+abbrev pub stop_job : List ℕ → Job
+stop_job unit = record { unit = unit; kind = Stop }
+
+abbrev pub start_job : List ℕ → Job
+start_job unit = record { unit = unit; kind = Start }
+
+-- the order that puts no unit before another
+abbrev pub Unordered : List ℕ → List ℕ → Type 0
+Unordered unit other = ⊥
+
+-- by an order of units one job goes before another: units start in that order and stop against it, and whichever of two is stopped goes
+-- before the start of the other; of one unit the stop job goes first
+pub data GoesBefore (IsBefore : List ℕ → List ℕ → Type 0) : Job → Job → Type 0 where
+  starts : {x y : List ℕ} → IsBefore x y → GoesBefore IsBefore (start_job x) (start_job y)
+  stops : {x y : List ℕ} → IsBefore x y → GoesBefore IsBefore (stop_job y) (stop_job x)
+  stops_then_starts : {x y : List ℕ} → IsBefore x y → GoesBefore IsBefore (stop_job x) (start_job y)
+  stops_then_starts_before : {x y : List ℕ} → IsBefore x y → GoesBefore IsBefore (stop_job y) (start_job x)
+  of_one_unit : {x : List ℕ} → GoesBefore IsBefore (stop_job x) (start_job x)
+
+-- how far a job is, if it is pending
+abbrev pub state_of_job : ByUnit UnitJobs → Job → Option JobState
+state_of_job pending job = job_of job.kind (jobs_of_unit pending job.unit)
 
 abbrev pub IsPending : ByUnit UnitJobs → Job → Type 0
-IsPending pending job = job_of job.kind (jobs_of_unit pending job.unit) ≢ None
+IsPending pending job = state_of_job pending job ≢ None
 
--- a job is ready: it waits, no pending job comes before it, and one that starts its unit doesn't find it deactivating
-pub record IsReady (units : ByUnit UnitState) (pending : ByUnit UnitJobs) (job : Job) : Type 0 where
-  pub waits : job_of job.kind (jobs_of_unit pending job.unit) ≡ Some Waiting
-  pub free : (other : Job) → IsPending pending other → ¬ ComesBefore other job
+abbrev pub IsWaiting : ByUnit UnitJobs → Job → Type 0
+IsWaiting pending job = state_of_job pending job ≡ Some Waiting
+
+-- a pending job comes before one that waits: nothing comes before a job that runs
+pub record ComesBefore (IsBefore : List ℕ → List ℕ → Type 0) (pending : ByUnit UnitJobs) (job other : Job) : Type 0 where
+  pub pends : IsPending pending job
+  pub waits : IsWaiting pending other
+  pub goes : GoesBefore IsBefore job other
+
+-- a job is ready: it waits, none comes before it, and one that starts its unit doesn't find it deactivating
+pub record IsReady (IsBefore : List ℕ → List ℕ → Type 0) (units : ByUnit UnitState) (pending : ByUnit UnitJobs) (job : Job) : Type 0 where
+  pub waits : IsWaiting pending job
+  pub free : (other : Job) → ¬ ComesBefore IsBefore pending other job
   pub still : job.kind ≡ Start → active_state_of (state_of_unit units job.unit).sub ≢ Deactivating
-
--- The same as a function of one unit's active state and jobs; a law in proofs/JobsLaws says that both tell the same.
-
-abbrev pub start_where_still : ActiveState → Option JobKind
-start_where_still Deactivating = None
-start_where_still other = Some Start
-
-abbrev pub ready_of : ActiveState → Option JobState → Option JobState → Option JobKind
-ready_of a (Some Waiting) start = Some Stop
-ready_of a (Some Running) start = None
-ready_of a None (Some Waiting) = start_where_still a
-ready_of a None (Some Running) = None
-ready_of a None None = None
-
--- its stop job where that waits; its start job where it waits, no stop job is pending and the unit isn't deactivating
-abbrev pub ready_kind : ActiveState → UnitJobs → Option JobKind
-ready_kind a j = ready_of a j.stop j.start
 
 -- one job is told before another: by the names of their units, and of one unit the stop job first
 pub data IsToldBefore : Job → Job → Type 0 where
-  by_name : (job other : Job) → slice_cmp nat_cmp job.unit other.unit ≡ Less → IsToldBefore job other
-  stop_first : (unit : List ℕ) → IsToldBefore (record { unit = unit; kind = Stop }) (record { unit = unit; kind = Start })
+  by_name : {job other : Job} → IsNamedBefore job.unit other.unit → IsToldBefore job other
+  stop_first : {unit : List ℕ} → IsToldBefore (stop_job unit) (start_job unit)
 
--- the job that begins next
-pub record BeginsNext (units : ByUnit UnitState) (pending : ByUnit UnitJobs) (job : Job) : Type 0 where
-  pub ready : IsReady units pending job
-  pub first : (other : Job) → IsReady units pending other → other ≢ job → IsToldBefore job other
+-- the job that begins next: the least of those that are ready
+abbrev pub BeginsNext : (IsBefore : List ℕ → List ℕ → Type 0) → ByUnit UnitState → ByUnit UnitJobs → Job → Type 0
+BeginsNext IsBefore units pending = IsLeast IsToldBefore (IsReady IsBefore units pending)
 
 -- with a job of this kind running
 abbrev pub with_running : JobKind → UnitJobs → UnitJobs

@@ -7,7 +7,8 @@ use Rattle.std.specs.Str.{bytes_eq}
 use Rattle.um_model.specs.declared.names.Suffix.{Suffix}
 use Rattle.um_model.specs.declared.names.Suffix.TheVariants.{Service}
 use Rattle.um_model.specs.declared.units.ValueKind.{ValueKind}
-use Rattle.um_model.specs.declared.units.ValueKind.TheVariants.{Text, Unused, Units, Aliases, Instance, Truth, Span, Number, Commands, Environment, Exits, Policy, ServiceType, Refused}
+use Rattle.um_model.specs.declared.units.ValueKind.TheVariants.{Text, Unused, Units, Aliases, Instance, Truth, Span, Number, Commands}
+use Rattle.um_model.specs.declared.units.ValueKind.TheVariants.{Environment, Exits, Policy, ServiceType, Refused}
 
 -- a key with the kind of its values
 abbrev pub Keys : Type 0

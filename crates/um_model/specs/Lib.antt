@@ -1,4 +1,7 @@
 pub mod Refusals
+pub mod Moments
+pub mod Least
+pub mod Reached
 pub mod Ascii
 pub mod Text
 pub mod Pieces
@@ -12,13 +15,19 @@ pub mod Limit
 pub mod Values
 pub mod Settings
 pub mod Resolution
+pub mod Leads
 pub mod Keys
 pub mod Readings
 pub mod Units
+pub mod Install
+pub mod Enabled
+pub mod Dependencies
+pub mod Demands
 pub mod Service
 pub mod Ends
 pub mod Transitions
 pub mod Jobs
+pub mod Plan
 pub mod Machine
 pub mod Live
 pub mod Numbers
@@ -31,3 +40,4 @@ pub mod Disk
 pub mod Bytes
 pub mod Store
 pub mod Finds
+pub mod Sessions

@@ -1,21 +1,26 @@
 -- The machine: its state, what comes in, what is answered, one step, and a run.
 -- The rules of single inputs follow systemctl(1); the machine itself is this project's own.
 -- The engine, the keeper, the manager and the program stand on this file.
-use Rattle.std.specs.Prelude.{◌≡◌, ◌≢◌, ℕ, ◌+◌, ◌<◌, ◌≤◌, max, Bool, true, false, not, ◌&&◌, is_some, if◌then◌else◌, List, [], ◌∷◌, ◌++◌, Option, Some, None, Result, Ok, Err, codes}
+use Rattle.std.specs.Prelude.{◌≡◌, ◌≢◌, ℕ, ◌+◌, ◌<◌, ◌≤◌, max, Bool, true, false, if◌then◌else◌, List, [], ◌∷◌, ◌++◌, Option, Some, None, Result, Ok, Err, codes}
 use Rattle.std.specs.FinMap as map
-use Rattle.std.specs.declared.cmp.Ordering.TheVariants.{Less}
-use Rattle.std.specs.Cmp.Lexicographic.{slice_cmp}
-use Rattle.std.specs.Ordering.{nat_cmp}
-use Rattle.um_model.specs.Refusals.{Refused, not_found, masked, bad_setting, not_loaded, cause, first_cause}
+use Rattle.um_model.specs.Least.{IsLeast, IsNamedBefore}
+use Rattle.um_model.specs.Refusals.{Refused, not_found, masked, bad_setting, not_loaded, job_conflict, FirstCause}
 use Rattle.um_model.specs.Names.{is_template}
 use Rattle.um_model.specs.Tree.{Tree, put_file, put_link, remove_at}
 use Rattle.um_model.specs.Settings.{ServiceSettings, default_settings, acting_settings}
 use Rattle.um_model.specs.Resolution.{UnitFile, Resolution, AtFile, AtNoFile, AtMask, Nowhere, files_at, resolution_of}
 use Rattle.um_model.specs.Units.{LoadedUnit, Loading, Found, Masked, NotFound, BadSetting, load, name_in, Warning}
+use Rattle.um_model.specs.Install.{Installs, RefusesInstall, paths_beyond, IsEnabledAs}
 use Rattle.um_model.specs.Service.{ByUnit, state_of_unit, with_unit, active_state_of, is_number, Action}
 use Rattle.um_model.specs.Transitions.{transition, AreActions, HasNumber, spawned}
-use Rattle.um_model.specs.Jobs.{Job, jobs_of_unit, with_jobs, jobs_after, jobs_left, with_running, IsReady, BeginsNext}
+use Rattle.um_model.specs.Jobs.{Job, jobs_of_unit, with_jobs, is_active, jobs_after, DropsOne, jobs_left, with_running, Unordered, IsReady, BeginsNext}
 use Rattle.um_model.specs.Timers.{Timers, IsDueFirst}
+use Rattle.um_model.specs.declared.commands.JobMode.{JobMode}
+use Rattle.um_model.specs.declared.commands.JobMode.TheVariants as modes
+use Rattle.um_model.specs.declared.commands.UnitVerb.{UnitVerb}
+use Rattle.um_model.specs.declared.commands.UnitVerb.TheVariants as verbs
+use Rattle.um_model.specs.declared.install.Enabling.{Enabling}
+use Rattle.um_model.specs.declared.install.InstallVerb.{InstallVerb}
 use Rattle.um_model.specs.declared.jobs.JobKind.{JobKind}
 use Rattle.um_model.specs.declared.jobs.JobKind.TheVariants as job
 use Rattle.um_model.specs.declared.jobs.JobState.{JobState}
@@ -33,6 +38,10 @@ use Rattle.um_model.specs.declared.transition.UnitKind.TheVariants.{Simple}
 use Rattle.um_model.specs.declared.units.LoadState.{LoadState}
 use Rattle.um_model.specs.declared.units.LoadState.TheVariants as load_state
 
+-- a boot's id has at most so many bytes
+abbrev pub boot_limit : ℕ
+boot_limit = 64
+
 -- the state of the manager
 pub record State : Type 0 where
   pub tree : Tree  -- the tree in hand
@@ -47,23 +56,32 @@ pub record State : Type 0 where
 abbrev pub empty_state : State
 empty_state = record { tree = map.empty; loaded = map.empty; boot = []; clock = 0; next = 1; units = map.empty; pending = map.empty }
 
--- what happens to the manager
-pub data Event : Type 0 where
+-- what is asked of the manager, and may be refused
+pub data Command : Type 0 where
   -- put the text into the tree as the file at the path
-  PutFile : (path text : List ℕ) → Event
+  PutFile : (path text : List ℕ) → Command
   -- put a link to the target into the tree at the path
-  PutLink : (path target : List ℕ) → Event
+  PutLink : (path target : List ℕ) → Command
   -- remove what stands in the tree at the path
-  Remove : (path : List ℕ) → Event
+  Remove : (path : List ℕ) → Command
   -- load the tree in hand
-  DaemonReload : Event
-  -- start the unit, or stop it
-  StartUnit : (unit : List ℕ) → Event
-  StopUnit : (unit : List ℕ) → Event
+  DaemonReload : Command
+  -- start a unit, stop it or restart it; pending jobs in the way are dropped, or the command is refused
+  ForUnit : (verb : UnitVerb) (unit : List ℕ) (mode : JobMode) → Command
+  -- enable a unit, disable, mask or unmask it, and load the tree that comes of it
+  Install : (verb : InstallVerb) (unit : List ℕ) → Command
+
+-- what happens to the manager, and is never refused
+pub data Happening : Type 0 where
   -- the process of this number ended
-  ProcessEnded : (number : ℕ) (end : End) → Event
+  ProcessEnded : (number : ℕ) (end : End) → Happening
   -- time has passed
-  Tick : Event
+  Tick : Happening
+
+-- what comes in
+pub data Event : Type 0 where
+  Commanded : Command → Event
+  Happened : Happening → Event
 
 -- an event with its moment, in microseconds
 pub record Input : Type 0 where
@@ -78,6 +96,8 @@ pub data Query : Type 0 where
   IsActive : (unit : List ℕ) → Query
   -- its files in the tree in hand
   Cat : (unit : List ℕ) → Query
+  -- how it is enabled in the tree in hand
+  IsEnabled : (unit : List ℕ) → Query
 
 -- a unit as `show` tells it
 pub record UnitShown : Type 0 where
@@ -93,6 +113,9 @@ pub data Reply : Type 0 where
   Shown : UnitShown → Reply
   Activity : ActiveState → Reply
   Files : List UnitFile → Reply
+  -- the paths at which links were made, and those at which they were removed
+  Relinked : (made removed : List (List ℕ)) → Reply
+  EnabledAs : Enabling → Reply
   -- the actions since they were last asked for
   Told : List Action → Reply
   Refusal : Refused → Reply
@@ -124,27 +147,32 @@ files_told tree asked (AtNoFile unit) = Files (files_at tree (AtNoFile unit))
 files_told tree asked (AtMask unit) = Refusal (masked unit)
 files_told tree asked Nowhere = Refusal (not_found asked)
 
--- the reply to a query: a function of the state
-abbrev pub reply_to : State → Query → Reply
-reply_to s (Show asked) = Shown (shown_of asked (load s.loaded asked) (state_asked s asked))
-reply_to s (IsActive asked) = Activity (active_state_of (state_asked s asked).sub)
-reply_to s (Cat asked) = files_told s.tree asked (resolution_of s.tree asked)
+-- the reply to a query
+pub data IsReplyTo (s : State) : Query → Reply → Type 0 where
+  shows : {asked : List ℕ} → IsReplyTo s (Show asked) (Shown (shown_of asked (load s.loaded asked) (state_asked s asked)))
+  tells_activity : {asked : List ℕ} → IsReplyTo s (IsActive asked) (Activity (active_state_of (state_asked s asked).sub))
+  tells_files : {asked : List ℕ} → IsReplyTo s (Cat asked) (files_told s.tree asked (resolution_of s.tree asked))
+  tells_enabling : {asked : List ℕ} {answer : Enabling} → IsEnabledAs s.tree asked answer → IsReplyTo s (IsEnabled asked) (EnabledAs answer)
 
 -- ---- one unit and what happens to it
 
--- what the service table knows of a unit
-pub record Startable : Type 0 where
+-- what the service table knows of a unit: the settings that it acts by, and whether it can be started
+pub record Acting : Type 0 where
   pub settings : ServiceSettings
   pub loadable : Bool
 
--- a unit counts as loaded for a start where it is found and is no template
-abbrev pub startable_of : Loading → Startable
-startable_of (Found l) = record { settings = acting_settings l.settings.service; loadable = not (is_template l.name) }
-startable_of other = record { settings = default_settings Simple; loadable = false }
+-- a unit that isn't loadable, a template among them, acts as a simple service with default settings
+abbrev pub acting_unloadable : Acting
+acting_unloadable = record { settings = default_settings Simple; loadable = false }
 
--- by the loaded tree
-abbrev pub startable_in : Tree → List ℕ → Startable
-startable_in tree unit = startable_of (load tree unit)
+-- how a unit acts, by what was found of it
+abbrev pub acting_of : Loading → Acting
+acting_of (Found l) = if is_template l.name then acting_unloadable else record { settings = acting_settings l.settings.service; loadable = true }
+acting_of other = acting_unloadable
+
+-- how a unit acts by this tree
+abbrev pub acting_in : Tree → List ℕ → Acting
+acting_in tree unit = acting_of (load tree unit)
 
 abbrev pub is_waiting : Option JobState → Bool
 is_waiting (Some Waiting) = true
@@ -155,13 +183,13 @@ abbrev pub around : ℕ → State → List ℕ → Around
 around t s unit = record {
   moment = t;
   next = s.next;
-  loadable = (startable_in s.loaded unit).loadable;
+  loadable = (acting_in s.loaded unit).loadable;
   stop_waits = is_waiting (jobs_of_unit s.pending unit).stop;
 }
 
 -- what follows for the unit
 abbrev pub change_of : ℕ → State → List ℕ → UnitEvent → Change
-change_of t s unit event = transition (startable_in s.loaded unit).settings (around t s unit) (state_of_unit s.units unit) event
+change_of t s unit event = transition (acting_in s.loaded unit).settings (around t s unit) (state_of_unit s.units unit) event
 
 -- the state with what follows for the unit
 abbrev pub changed : State → List ℕ → Change → State
@@ -171,10 +199,10 @@ changed s unit c = record s {
   next = s.next + spawned c.order;
 }
 
--- something happens to a unit at the moment t
-pub record Happens (t : ℕ) (unit : List ℕ) (event : UnitEvent) (s : State) (actions : List Action) (s' : State) : Type 0 where
+-- what happens to a unit at the moment t is carried out
+pub record Carries (t : ℕ) (unit : List ℕ) (event : UnitEvent) (s : State) (actions : List Action) (s' : State) : Type 0 where
   pub state : s' ≡ changed s unit (change_of t s unit event)
-  pub asked : AreActions (startable_in s.loaded unit).settings (around t s unit) (change_of t s unit event).unit (change_of t s unit event).order actions
+  pub asked : AreActions (acting_in s.loaded unit).settings (around t s unit) (change_of t s unit event).unit (change_of t s unit event).order actions
 
 -- what a job that begins is for its unit
 abbrev pub begins : JobKind → UnitEvent
@@ -185,53 +213,117 @@ begins job.Stop = StopBegins
 abbrev pub begun : State → Job → State
 begun s j = record s { pending = with_jobs s.pending j.unit (with_running j.kind (jobs_of_unit s.pending j.unit)) }
 
+-- the order of units by the loaded tree: none is read yet
+abbrev pub IsBefore : Tree → List ℕ → List ℕ → Type 0
+IsBefore tree = Unordered
+
+-- no job is ready to begin
+abbrev pub IsStill : State → Type 0
+IsStill s = (j : Job) → ¬ IsReady (IsBefore s.loaded) s.units s.pending j
+
 -- jobs begin, one after another, until none is ready
 pub data Settles (t : ℕ) : State → List Action → State → Type 0 where
-  rests : {s : State} → ((j : Job) → ¬ IsReady s.units s.pending j) → Settles t s [] s
-  begins_next : {s u v : State} {first more : List Action} (j : Job) → BeginsNext s.units s.pending j
-      → Happens t j.unit (begins j.kind) (begun s j) first u → Settles t u more v → Settles t s (first ++ more) v
+  rests : {s : State} → IsStill s → Settles t s [] s
+  begins_next : {s u v : State} {first more : List Action} (j : Job) → BeginsNext (IsBefore s.loaded) s.units s.pending j
+      → Carries t j.unit (begins j.kind) (begun s j) first u → Settles t u more v → Settles t s (first ++ more) v
 
--- ---- what an event does
+-- ---- what a command does
 
 -- of the kinds of units simple services are served
 abbrev pub is_served_kind : UnitKind → Bool
 is_served_kind Simple = true
 is_served_kind other = false
 
-abbrev pub refusal_in : {A : Type 0} → Result A Refused → Option Refused
-refusal_in (Ok a) = None
-refusal_in (Err r) = Some r
-
--- a unit that can't be started is refused for the first cause
-abbrev pub start_refusal : List ℕ → Loading → Option Refused
-start_refusal asked NotFound = Some (not_found asked)
-start_refusal asked (Masked unit) = Some (masked unit)
-start_refusal asked (BadSetting unit reason) = Some (bad_setting unit reason)
-start_refusal asked (Found l) =
-    first_cause (cause (not (is_served_kind l.settings.service.kind)) (bad_setting l.name (codes "type")) ∷ cause (is_template l.name) (bad_setting l.name (codes "template")) ∷ [])
-
 abbrev pub is_found : Loading → Bool
 is_found NotFound = false
 is_found other = true
 
--- a command is refused before it has any effect
-abbrev pub refusal_of : State → Event → Option Refused
-refusal_of s (PutFile path text) = refusal_in (put_file s.tree path text)
-refusal_of s (PutLink path target) = refusal_in (put_link s.tree path target)
-refusal_of s (Remove path) = refusal_in (remove_at s.tree path)
-refusal_of s (StartUnit asked) = start_refusal asked (load s.loaded asked)
-refusal_of s (StopUnit asked) = cause (not (is_found (load s.loaded asked)) && not (is_some (map.get s.units asked))) (not_loaded asked)
-refusal_of s other = None
+-- why a unit can't be started, by what was found of it
+pub data CannotStart (asked : List ℕ) : Loading → Refused → Type 0 where
+  isnt_found : CannotStart asked NotFound (not_found asked)
+  is_masked : {unit : List ℕ} → CannotStart asked (Masked unit) (masked unit)
+  has_bad_setting : {unit reason : List ℕ} → CannotStart asked (BadSetting unit reason) (bad_setting unit reason)
+  is_of_another_kind : {l : LoadedUnit} → is_served_kind l.settings.service.kind ≡ false → CannotStart asked (Found l) (bad_setting l.name (codes "type"))
+  is_a_template : {l : LoadedUnit} → is_served_kind l.settings.service.kind ≡ true → is_template l.name ≡ true
+      → CannotStart asked (Found l) (bad_setting l.name (codes "template"))
 
--- the state with the plan of a command for one unit
-abbrev pub planned : JobKind → State → List ℕ → State
-planned kind s unit =
-    record s { pending = with_jobs s.pending unit (jobs_after kind (active_state_of (state_of_unit s.units unit).sub) (jobs_of_unit s.pending unit)) }
+abbrev pub active_asked : State → List ℕ → ActiveState
+active_asked s asked = active_state_of (state_asked s asked).sub
 
--- the number is that of a live process of the unit, and of no unit with a lesser name
-pub record IsProcessOf (units : ByUnit UnitState) (number : ℕ) (unit : List ℕ) : Type 0 where
-  pub live : HasNumber (state_of_unit units unit) number
-  pub first : (other : List ℕ) → HasNumber (state_of_unit units other) number → other ≢ unit → slice_cmp nat_cmp unit other ≡ Less
+-- the command starts its unit: a try-restart where that is active
+abbrev pub starts_it : UnitVerb → ActiveState → Bool
+starts_it verbs.Start a = true
+starts_it verbs.Stop a = false
+starts_it verbs.Restart a = true
+starts_it verbs.TryRestart a = is_active a
+
+-- the command is for a unit that is there already
+abbrev pub wants_it_there : UnitVerb → Bool
+wants_it_there verbs.Stop = true
+wants_it_there verbs.TryRestart = true
+wants_it_there other = false
+
+abbrev pub jobs_asked : State → List ℕ → UnitJobs
+jobs_asked s asked = jobs_of_unit s.pending (unit_asked s asked)
+
+-- the pending jobs of the unit after the command
+abbrev pub jobs_planned : State → UnitVerb → List ℕ → UnitJobs
+jobs_planned s verb asked = jobs_after verb (active_asked s asked) (jobs_asked s asked)
+
+-- Why a command for a unit is refused.
+
+-- the unit is neither found in the loaded tree nor held in the state
+pub record IsNotThere (s : State) (verb : UnitVerb) (asked : List ℕ) (r : Refused) : Type 0 where
+  pub wanted : wants_it_there verb ≡ true
+  pub isnt_found : is_found (load s.loaded asked) ≡ false
+  pub isnt_held : map.get s.units asked ≡ None
+  pub refusal : r ≡ not_loaded asked
+
+-- the command would start a unit that can't be started
+pub record StartsNone (s : State) (verb : UnitVerb) (asked : List ℕ) (r : Refused) : Type 0 where
+  pub starts : starts_it verb (active_asked s asked) ≡ true
+  pub cause : CannotStart asked (load s.loaded asked) r
+
+-- in mode fail one of the unit's pending jobs would be dropped
+pub record DropsAJob (mode : JobMode) (unit : List ℕ) (before after : UnitJobs) (r : Refused) : Type 0 where
+  pub fails : mode ≡ modes.Fail
+  pub drops : DropsOne before after
+  pub refusal : r ≡ job_conflict unit
+
+-- the causes in the order in which they are looked at
+abbrev pub CausesOf : State → UnitVerb → List ℕ → JobMode → Refused → Type 0
+CausesOf s verb asked mode =
+    FirstCause (IsNotThere s verb asked)
+    (FirstCause (StartsNone s verb asked) (DropsAJob mode (unit_asked s asked) (jobs_asked s asked) (jobs_planned s verb asked)))
+
+-- a command is refused for the first of its causes that holds
+pub data Refuses (s : State) : Command → Refused → Type 0 where
+  puts_none : {path text : List ℕ} {r : Refused} → put_file s.tree path text ≡ Err r → Refuses s (PutFile path text) r
+  links_none : {path target : List ℕ} {r : Refused} → put_link s.tree path target ≡ Err r → Refuses s (PutLink path target) r
+  removes_none : {path : List ℕ} {r : Refused} → remove_at s.tree path ≡ Err r → Refuses s (Remove path) r
+  plans_none : {verb : UnitVerb} {asked : List ℕ} {mode : JobMode} {r : Refused} → CausesOf s verb asked mode r → Refuses s (ForUnit verb asked mode) r
+  installs_none : {verb : InstallVerb} {unit : List ℕ} {r : Refused} → RefusesInstall s.tree verb unit r → Refuses s (Install verb unit) r
+
+-- the state with these pending jobs of the unit
+abbrev pub with_plan : State → List ℕ → UnitJobs → State
+with_plan s unit jobs = record s { pending = with_jobs s.pending unit jobs }
+
+-- what a command that isn't refused does to the state, before any job begins
+pub data Changes (s : State) : Command → State → Type 0 where
+  puts : {path text : List ℕ} {tree : Tree} → put_file s.tree path text ≡ Ok tree → Changes s (PutFile path text) (record s { tree = tree })
+  links : {path target : List ℕ} {tree : Tree} → put_link s.tree path target ≡ Ok tree → Changes s (PutLink path target) (record s { tree = tree })
+  removes : {path : List ℕ} {tree : Tree} → remove_at s.tree path ≡ Ok tree → Changes s (Remove path) (record s { tree = tree })
+  reloads : Changes s DaemonReload (record s { loaded = s.tree })
+  plans : {verb : UnitVerb} {asked : List ℕ} {mode : JobMode}
+      → Changes s (ForUnit verb asked mode) (with_plan s (unit_asked s asked) (jobs_planned s verb asked))
+  installs : {verb : InstallVerb} {unit : List ℕ} {tree : Tree} → Installs s.tree verb unit tree
+      → Changes s (Install verb unit) (record s { tree = tree; loaded = tree })
+
+-- ---- what follows from what happens
+
+-- the unit of the live process with the number: of several that with the least name
+abbrev pub IsProcessOf : ByUnit UnitState → ℕ → List ℕ → Type 0
+IsProcessOf units number = IsLeast IsNamedBefore (λ unit. HasNumber (state_of_unit units unit) number)
 
 -- no live process has the number
 abbrev pub IsOver : ByUnit UnitState → ℕ → Type 0
@@ -249,42 +341,52 @@ AreDeadlines units timers = (unit : List ℕ) → map.get timers unit ≡ (state
 pub data Fires (t : ℕ) : Timers → State → List Action → State → Type 0 where
   none_due : {timers : Timers} {s : State} → ((deadline : ℕ) (unit : List ℕ) → map.get timers unit ≡ Some deadline → t < deadline) → Fires t timers s [] s
   fires : {timers : Timers} {s u v w : State} {first next more : List Action} (deadline : ℕ) (unit : List ℕ) → IsDueFirst timers deadline unit → deadline ≤ t
-      → (state_of_unit s.units unit).deadline ≡ Some deadline → Happens t unit DeadlinePasses s first u → Settles t u next v
+      → (state_of_unit s.units unit).deadline ≡ Some deadline → Carries t unit DeadlinePasses s first u → Settles t u next v
       → Fires t (map.remove timers unit) v more w → Fires t timers s (first ++ (next ++ more)) w
   passes : {timers : Timers} {s w : State} {more : List Action} (deadline : ℕ) (unit : List ℕ) → IsDueFirst timers deadline unit → deadline ≤ t
       → (state_of_unit s.units unit).deadline ≢ Some deadline → Fires t (map.remove timers unit) s more w → Fires t timers s more w
 
--- an event has its effect at the moment t, and jobs begin where it made them ready
-pub data Takes (t : ℕ) (s : State) : Event → List Action → State → Type 0 where
-  puts : {path text : List ℕ} {actions : List Action} {v : State} (tree : Tree) → put_file s.tree path text ≡ Ok tree
-      → Settles t (record s { tree = tree }) actions v → Takes t s (PutFile path text) actions v
-  links : {path target : List ℕ} {actions : List Action} {v : State} (tree : Tree) → put_link s.tree path target ≡ Ok tree
-      → Settles t (record s { tree = tree }) actions v → Takes t s (PutLink path target) actions v
-  removes : {path : List ℕ} {actions : List Action} {v : State} (tree : Tree) → remove_at s.tree path ≡ Ok tree
-      → Settles t (record s { tree = tree }) actions v → Takes t s (Remove path) actions v
-  reloads : {actions : List Action} {v : State} → Settles t (record s { loaded = s.tree }) actions v → Takes t s DaemonReload actions v
-  starts : {asked : List ℕ} {actions : List Action} {v : State} → Settles t (planned job.Start s (unit_asked s asked)) actions v → Takes t s (StartUnit asked) actions v
-  stops : {asked : List ℕ} {actions : List Action} {v : State} → Settles t (planned job.Stop s (unit_asked s asked)) actions v → Takes t s (StopUnit asked) actions v
+-- what happens at the moment t has its effect, and jobs begin where it made them ready
+pub data Follows (t : ℕ) (s : State) : Happening → List Action → State → Type 0 where
   ends : {number : ℕ} {end : End} {first more : List Action} {u v : State} (unit : List ℕ) → IsProcessOf s.units number unit
-      → Happens t unit (end_of (state_of_unit s.units unit) number end) s first u → Settles t u more v → Takes t s (ProcessEnded number end) (first ++ more) v
-  ticks : {actions : List Action} {v : State} (timers : Timers) → AreDeadlines s.units timers → Fires t timers s actions v → Takes t s Tick actions v
+      → Carries t unit (end_of (state_of_unit s.units unit) number end) s first u → Settles t u more v → Follows t s (ProcessEnded number end) (first ++ more) v
+  ticks : {actions : List Action} {v : State} (timers : Timers) → AreDeadlines s.units timers → Fires t timers s actions v → Follows t s Tick actions v
 
 -- without effect: the end of a process that isn't live, and a tick that changes nothing
-pub data HasNoEffect (t : ℕ) (s : State) : Event → Type 0 where
+pub data HasNoEffect (t : ℕ) (s : State) : Happening → Type 0 where
   is_over : {number : ℕ} {end : End} → IsOver s.units number → HasNoEffect t s (ProcessEnded number end)
-  is_idle : Takes t s Tick [] s → HasNoEffect t s Tick
+  is_idle : Follows t s Tick [] s → HasNoEffect t s Tick
+
+-- an event without effect: a command that isn't refused has one always
+abbrev pub LacksEffect : ℕ → State → Event → Type 0
+LacksEffect t s (Commanded command) = ⊥
+LacksEffect t s (Happened happening) = HasNoEffect t s happening
 
 -- the moment of a step: the input's, or the clock's where that is later
-abbrev pub moment_of : State → Input → ℕ
-moment_of s input = max s.clock input.moment
+abbrev pub moment_of : State → ℕ → ℕ
+moment_of s moment = max s.clock moment
 
--- one step over a store of so many bytes. A refused command and an event without effect leave the state, clock included; an event
--- with effect sets the clock
-pub data Step (size : ℕ) (s : State) (input : Input) : Reply → List Action → State → Type 0 where
-  refused : (r : Refused) → refusal_of s input.event ≡ Some r → Step size s input (Refusal r) [] s
-  idle : HasNoEffect (moment_of s input) s input.event → Step size s input Done [] s
-  taken : {actions : List Action} {t : State} → refusal_of s input.event ≡ None → ¬ HasNoEffect (moment_of s input) s input.event
-      → Takes (moment_of s input) s input.event actions t → Step size s input Done actions (record t { clock = moment_of s input })
+-- an event has its effect at the moment t: a command that isn't refused changes the state and jobs begin; what happens has what follows
+pub data Takes (t : ℕ) (s : State) : Event → List Action → State → Type 0 where
+  obeys : {command : Command} {actions : List Action} {u v : State} → ((r : Refused) → ¬ Refuses s command r) → Changes s command u
+      → Settles t u actions v → Takes t s (Commanded command) actions v
+  meets : {happening : Happening} {actions : List Action} {v : State} → ¬ HasNoEffect t s happening → Follows t s happening actions v
+      → Takes t s (Happened happening) actions v
+
+-- the reply to an event that has its effect: enabling and its kin tell the paths that they made and removed
+abbrev pub reply_after : Event → (before after : Tree) → Reply
+reply_after (Commanded (Install verb unit)) before after = Relinked (paths_beyond before after) (paths_beyond after before)
+reply_after other before after = Done
+
+-- one step over a store of so many bytes. A refused command, and what happens without effect, leave the state, clock included; an event
+-- that has its effect sets the clock
+pub data Step (size : ℕ) (s : State) : Input → Reply → List Action → State → Type 0 where
+  refused : {moment : ℕ} {command : Command} {r : Refused} → Refuses s command r
+      → Step size s (record { moment = moment; event = Commanded command }) (Refusal r) [] s
+  idle : {moment : ℕ} {happening : Happening} → HasNoEffect (moment_of s moment) s happening
+      → Step size s (record { moment = moment; event = Happened happening }) Done [] s
+  taken : {moment : ℕ} {event : Event} {actions : List Action} {u : State} → Takes (moment_of s moment) s event actions u
+      → Step size s (record { moment = moment; event = event }) (reply_after event s.tree u.tree) actions (record u { clock = moment_of s moment })
 
 -- one step after another
 pub data Run (size : ℕ) : State → List Input → State → Type 0 where

@@ -1,7 +1,8 @@
 -- What a unit name is, by its parts; its instance and its template; how other text is escaped in a name.
 -- Follows systemd.unit(5), "Description" and "String Escaping for Inclusion in Unit Names".
 -- The tree, unit files, requests and all that names a unit stand on this file.
-use Rattle.std.specs.Prelude.{◌≡◌, ℕ, ◌+◌, ◌-◌, ◌*◌, ◌/◌, ◌%◌, ◌≤◌, ◌<◌, nat_le, nat_lt, nat_eq, Bool, true, false, not, ◌&&◌, ◌||◌, ◌==◌, List, [], ◌∷◌, ◌++◌, length, take, slice_index, Option, Some, None, is_some, if◌then◌else◌, codes, find}
+use Rattle.std.specs.Prelude.{◌≡◌, ℕ, ◌+◌, ◌-◌, ◌*◌, ◌/◌, ◌%◌, ◌≤◌, ◌<◌, nat_le, nat_lt, nat_eq, Bool, true, false, not, ◌&&◌, ◌||◌, ◌==◌}
+use Rattle.std.specs.Prelude.{List, [], ◌∷◌, ◌++◌, length, take, slice_index, Option, Some, None, is_some, if◌then◌else◌, codes, find}
 use Rattle.std.specs.List.{list_all, ends_with, flat_map}
 use Rattle.std.specs.Char.{digit_char, digit_value}
 use Rattle.um_model.specs.Ascii.{is_digit, is_letter}

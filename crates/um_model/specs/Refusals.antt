@@ -110,6 +110,11 @@ no_such_job unit = refused 21 (codes "NoSuchJob") (unit ∷ [])
 abbrev pub other_layout : Refused
 other_layout = refused 22 (codes "OtherLayout") []
 
+-- of two causes in their order the first that holds refuses
+pub data FirstCause (First Second : Refused → Type 0) (r : Refused) : Type 0 where
+  at_first : First r → FirstCause First Second r
+  at_second : ((other : Refused) → ¬ First other) → Second r → FirstCause First Second r
+
 -- a cause of refusal: that refusal, where the test holds
 abbrev pub cause : Bool → Refused → Option Refused
 cause true r = Some r

@@ -12,7 +12,8 @@ use Rattle.um_model.specs.declared.service.Signal.TheVariants.{Term, Kill}
 use Rattle.um_model.specs.Syntax.{warning_number}
 use Rattle.um_model.specs.Units.{Warning, load_state_text}
 use Rattle.um_model.specs.Resolution.{UnitFile}
-use Rattle.um_model.specs.Machine.{Reply, Done, Shown, Activity, Files, Told, Refusal, UnitShown}
+use Rattle.um_model.specs.Install.{enabling_text}
+use Rattle.um_model.specs.Machine.{Reply, Done, Shown, Activity, Files, Relinked, EnabledAs, Told, Refusal, UnitShown}
 use Rattle.um_model.specs.declared.refusals.Limit.TheVariants.{Reply as ReplyLimit}
 
 abbrev pub number_data : ℕ → Data
@@ -50,6 +51,10 @@ action_data (SendSignal n signal) = array (items_of (string (codes "signal") ∷
 abbrev pub file_data : UnitFile → Data
 file_data file = texts_data (file.path ∷ file.text ∷ [])
 
+-- the paths that were made and removed
+abbrev pub relinked_data : (made removed : List (List ℕ)) → Data
+relinked_data made removed = object (member (codes "made") (texts_data made) (member (codes "removed") (texts_data removed) no_members))
+
 -- a reply with a value
 abbrev pub valued : Data → Data
 valued value = object (member (codes "ok") (boolean true) (member (codes "value") value no_members))
@@ -63,6 +68,8 @@ reply_data Done = object (member (codes "ok") (boolean true) no_members)
 reply_data (Shown u) = valued (shown_data u)
 reply_data (Activity state) = valued (string (active_state_text state))
 reply_data (Files files) = valued (array (items_of (map file_data files)))
+reply_data (Relinked made removed) = valued (relinked_data made removed)
+reply_data (EnabledAs answer) = valued (string (enabling_text answer))
 reply_data (Told actions) = valued (array (items_of (map action_data actions)))
 reply_data (Refusal r) = refused_data r
 

@@ -1,16 +1,22 @@
--- Which request the bytes of a frame are: a JSON object with a verb and exactly its fields.
+-- Which request the bytes of a frame are: a table with a row a verb, and how a request is read by its row.
 -- No manual page has this: it is the project's own protocol (docs/FORMATS.md, "Requests"); the verbs are those of systemctl(1).
 -- Frames and the program stand on this file.
-use Rattle.std.specs.Prelude.{ℕ, ◌+◌, ◌-◌, ◌^◌, List, ◌++◌, Bool, true, false, not, ◌==◌, nat_le, Option, Some, None, is_some, option_and_then, if◌then◌else◌, codes, Result, Ok, Err}
-use Rattle.std.specs.List.{list_any}
+use Rattle.std.specs.Prelude.{ℕ, ◌-◌, ◌^◌, List, [], ◌∷◌, ◌++◌, Bool, true, false, ◌&&◌, ◌||◌, ◌==◌, nat_le, Option, Some, None, is_some, option_map, option_and_then, if◌then◌else◌, codes, find, Result, Ok, Err}
+use Rattle.std.specs.List.{list_any, list_all}
 use Rattle.std.specs.Str.{bytes_eq, is_utf8}
-use Rattle.serde_json.specs.Data.{Data, Members}
+use Rattle.serde_json.specs.Data.{Data, Members, no_members, member}
 use Rattle.serde_json.specs.Find.{get, as_str, as_bool, as_number, as_object, as_u64}
-use Rattle.serde_json.specs.Events.{members_len}
 use Rattle.serde_json.specs.Read.{read}
+use Rattle.um_model.specs.Bytes.{◌>>=◌}
 use Rattle.um_model.specs.Refusals.{Refused, bad_request, unknown_verb, bad_name}
+use Rattle.um_model.specs.Moments.{moment_limit}
 use Rattle.um_model.specs.Names.{suffix_of, is_unit_name}
-use Rattle.um_model.specs.Machine.{Event, PutFile, PutLink, Remove, DaemonReload, StartUnit, StopUnit, ProcessEnded, Tick, Query, Show, IsActive, Cat}
+use Rattle.um_model.specs.Machine.{Event, Commanded, Happened, Command, PutFile, PutLink, Remove, DaemonReload, ForUnit, Install, ProcessEnded, Tick, Query, Show, IsActive, IsEnabled, Cat}
+use Rattle.um_model.specs.declared.commands.JobMode.TheVariants.{Replace}
+use Rattle.um_model.specs.declared.commands.UnitVerb.{UnitVerb}
+use Rattle.um_model.specs.declared.commands.UnitVerb.TheVariants.{Start, Stop}
+use Rattle.um_model.specs.declared.install.InstallVerb.{InstallVerb}
+use Rattle.um_model.specs.declared.install.InstallVerb.TheVariants.{Enable, Disable, Mask, Unmask}
 use Rattle.um_model.specs.declared.service.End.{End}
 use Rattle.um_model.specs.declared.service.End.TheVariants.{Code, Signal, Lost}
 use Rattle.um_model.specs.declared.requests.Verb.{Verb}
@@ -30,102 +36,209 @@ pub record Request : Type 0 where
   pub at : Option ℕ
   pub asked : Asked
 
-infixl 10 ◌>>=◌
--- the first refusal of two steps, or what the second gives
-abbrev pub ◌>>=◌ : {A B : Type 0} → Result A Refused → (A → Result B Refused) → Result B Refused
-(Ok x) >>= f = f x
-(Err r) >>= f = Err r
+-- what the fields of a request ask for, before it is known whether a text names a unit
+pub data Asking : Type 0 where
+  Plainly : Asked → Asking
+  -- this of the unit that the text names
+  OfUnit : (ask : List ℕ → Asked) (text : List ℕ) → Asking
 
-abbrev pub bad : {A : Type 0} → Result A Refused
-bad = Err bad_request
+-- ---- the fields: what each tells, or nothing where it is missing or ill-typed
 
--- the verb of this name
-abbrev pub verb_named : List ℕ → Option Verb
-verb_named text =
-    if bytes_eq text (codes "put-file") then Some verb.PutFile
-    else (if bytes_eq text (codes "put-link") then Some verb.PutLink
-    else (if bytes_eq text (codes "remove") then Some verb.Remove
-    else (if bytes_eq text (codes "daemon-reload") then Some verb.DaemonReload
-    else (if bytes_eq text (codes "start") then Some verb.Start
-    else (if bytes_eq text (codes "stop") then Some verb.Stop
-    else (if bytes_eq text (codes "show") then Some verb.Show
-    else (if bytes_eq text (codes "is-active") then Some verb.IsActive
-    else (if bytes_eq text (codes "cat") then Some verb.Cat
-    else (if bytes_eq text (codes "tick") then Some verb.Tick
-    else (if bytes_eq text (codes "end") then Some verb.End
-    else (if bytes_eq text (codes "actions") then Some verb.Actions else None)))))))))))
-
--- these verbs are known over standard input alone
-abbrev pub is_for_memory : Verb → Bool
-is_for_memory verb.Tick = true
-is_for_memory verb.End = true
-is_for_memory verb.Actions = true
-is_for_memory other = false
-
-abbrev pub filtered : {A : Type 0} → (A → Bool) → Option A → Option A
-filtered test None = None
-filtered test (Some a) = if test a then Some a else None
-
--- the verb of this name that is known there
-abbrev pub verb_in : Mode → List ℕ → Option Verb
-verb_in Memory text = verb_named text
-verb_in Service text = filtered (λ v. not (is_for_memory v)) (verb_named text)
-
--- no text of a request holds U+0000
-abbrev pub text_without_nul : Option (List ℕ) → Result (List ℕ) Refused
-text_without_nul None = bad
-text_without_nul (Some text) = if list_any (λ b. b == 0) text then bad else Ok text
+-- a text without U+0000, which no text of a request holds
+abbrev pub without_nul : List ℕ → Option (List ℕ)
+without_nul text = if list_any (λ b. b == 0) text then None else Some text
 
 -- the text of a field
-unfoldable pub text_at : List ℕ → Data → Result (List ℕ) Refused
-text_at name d = text_without_nul (option_and_then as_str (get name d))
+unfoldable pub text_at : List ℕ → Data → Option (List ℕ)
+text_at name d = option_and_then without_nul (option_and_then as_str (get name d))
 
--- a moment is at most 2^62 microseconds
-abbrev pub moment_limit : ℕ
-moment_limit = 2 ^ 62
+-- a number of at most this size
+abbrev pub at_most : ℕ → ℕ → Option ℕ
+at_most limit n = if nat_le n limit then Some n else None
 
-abbrev pub moment_within : Option ℕ → Result (Option ℕ) Refused
-moment_within None = bad
-moment_within (Some moment) = if nat_le moment moment_limit then Ok (Some moment) else bad
+-- the whole number that a value is, of at most this size
+abbrev pub number_in : ℕ → Data → Option ℕ
+number_in limit d = option_and_then (at_most limit) (option_and_then as_u64 (as_number d))
 
-abbrev pub moment_told : Option Data → Result (Option ℕ) Refused
-moment_told None = Ok None
-moment_told (Some d) = moment_within (option_and_then as_u64 (as_number d))
+-- the whole number of a field
+unfoldable pub number_at : List ℕ → ℕ → Data → Option ℕ
+number_at name limit d = option_and_then (number_in limit) (get name d)
 
--- the moment that a request tells: none over a socket
-unfoldable pub moment_at : Mode → Data → Result (Option ℕ) Refused
+-- none is told where there is no such field
+abbrev pub moment_told : Option Data → Option (Option ℕ)
+moment_told None = Some None
+moment_told (Some d) = option_map Some (number_in moment_limit d)
+
+-- the moment that a request tells, if any: none over a socket
+unfoldable pub moment_at : Mode → Data → Option (Option ℕ)
 moment_at Memory d = moment_told (get (codes "at") d)
-moment_at Service d = Ok None
+moment_at Service d = Some None
 
-abbrev pub members_count : Option Members → ℕ
-members_count None = 0
-members_count (Some members) = members_len members
+-- that nobody can tell is told by true alone
+abbrev pub lost_if : Bool → Option End
+lost_if true = Some Lost
+lost_if false = None
 
--- how many fields there are; of a field that stands twice the last counts, as one
-abbrev pub field_count : Data → ℕ
-field_count d = members_count (as_object d)
+-- how a process ended, by exactly one of three fields: its exit code, the signal that ended it, or that nobody can tell
+abbrev pub end_told : (code signal lost : Option Data) → Option End
+end_told (Some code) None None = option_map Code (number_in 255 code)
+end_told None (Some signal) None = option_map Signal (number_in 64 signal)
+end_told None None (Some lost) = option_and_then lost_if (as_bool lost)
+end_told code signal lost = None
 
--- how many fields a verb has beside itself
-abbrev pub own_fields : Verb → ℕ
-own_fields verb.PutFile = 2
-own_fields verb.PutLink = 2
-own_fields verb.Remove = 1
-own_fields verb.DaemonReload = 0
-own_fields verb.Start = 1
-own_fields verb.Stop = 1
-own_fields verb.Show = 1
-own_fields verb.IsActive = 1
-own_fields verb.Cat = 1
-own_fields verb.Tick = 0
-own_fields verb.End = 2
-own_fields verb.Actions = 0
+-- the same by the object's fields
+unfoldable pub end_at : Data → Option End
+end_at d = end_told (get (codes "code") d) (get (codes "signal") d) (get (codes "lost") d)
 
-abbrev pub one_if : Bool → ℕ
-one_if b = if b then 1 else 0
+-- ---- what is asked for with them
 
--- exactly the fields of the verb: itself, its own, and the moment where one is told
-abbrev pub has_its_fields : Verb → Option ℕ → Data → Bool
-has_its_fields v at d = field_count d == own_fields v + 1 + one_if (is_some at)
+-- this, whatever the fields
+abbrev pub plainly : Asked → Data → Option Asking
+plainly asked d = Some (Plainly asked)
+
+-- a command is asked for
+abbrev pub command : Command → Asked
+command c = OfEvent (Commanded c)
+
+-- a file with its text
+unfoldable pub put_file : Data → Option Asking
+put_file d = do
+  path ← text_at (codes "path") d
+  text ← text_at (codes "text") d
+  plainly (command (PutFile path text)) d
+
+-- a link with its target
+unfoldable pub put_link : Data → Option Asking
+put_link d = do
+  path ← text_at (codes "path") d
+  target ← text_at (codes "target") d
+  plainly (command (PutLink path target)) d
+
+-- what stands at a path is removed
+unfoldable pub remove : Data → Option Asking
+remove d = do
+  path ← text_at (codes "path") d
+  plainly (command (Remove path)) d
+
+-- this of the unit that the text of its field names
+unfoldable pub of_unit : (List ℕ → Asked) → Data → Option Asking
+of_unit ask d = option_map (OfUnit ask) (text_at (codes "unit") d)
+
+-- a command for the unit; pending jobs in its way are dropped
+abbrev pub for_unit : UnitVerb → Data → Option Asking
+for_unit verb = of_unit (λ unit. command (ForUnit verb unit Replace))
+
+-- enabling the unit, or its kin
+abbrev pub install : InstallVerb → Data → Option Asking
+install verb = of_unit (λ unit. command (Install verb unit))
+
+-- a query about the unit
+abbrev pub about_unit : (List ℕ → Query) → Data → Option Asking
+about_unit query = of_unit (λ unit. OfQuery (query unit))
+
+-- a process of this number ended
+unfoldable pub process_ended : Data → Option Asking
+process_ended d = do
+  number ← number_at (codes "number") (2 ^ 64 - 1) d
+  end ← end_at d
+  plainly (OfEvent (Happened (ProcessEnded number end))) d
+
+-- ---- the table
+
+-- where a verb is known: everywhere, or over standard input alone
+abbrev pub everywhere : Mode → Bool
+everywhere mode = true
+
+abbrev pub in_memory : Mode → Bool
+in_memory Memory = true
+in_memory Service = false
+
+-- a row of the table
+pub record Row : Type 0 where
+  pub text : List ℕ  -- the verb, as it is written
+  pub is_known : Mode → Bool  -- where it is known
+  pub required : List (List ℕ)  -- the fields that it must have
+  pub optional : List (List ℕ)  -- those that it may have
+  pub asks : Data → Option Asking  -- what it asks for with them
+
+-- a row by its columns
+abbrev pub row : List ℕ → (Mode → Bool) → (required optional : List (List ℕ)) → (Data → Option Asking) → Row
+row text is_known required optional asks = record { text = text; is_known = is_known; required = required; optional = optional; asks = asks }
+
+-- the row of each verb
+abbrev pub row_of : Verb → Row
+row_of verb.PutFile = row (codes "put-file") everywhere (codes "path" ∷ codes "text" ∷ []) [] put_file
+row_of verb.PutLink = row (codes "put-link") everywhere (codes "path" ∷ codes "target" ∷ []) [] put_link
+row_of verb.Remove = row (codes "remove") everywhere (codes "path" ∷ []) [] remove
+row_of verb.DaemonReload = row (codes "daemon-reload") everywhere [] [] (plainly (command DaemonReload))
+row_of verb.Start = row (codes "start") everywhere (codes "unit" ∷ []) [] (for_unit Start)
+row_of verb.Stop = row (codes "stop") everywhere (codes "unit" ∷ []) [] (for_unit Stop)
+row_of verb.Enable = row (codes "enable") everywhere (codes "unit" ∷ []) [] (install Enable)
+row_of verb.Disable = row (codes "disable") everywhere (codes "unit" ∷ []) [] (install Disable)
+row_of verb.Mask = row (codes "mask") everywhere (codes "unit" ∷ []) [] (install Mask)
+row_of verb.Unmask = row (codes "unmask") everywhere (codes "unit" ∷ []) [] (install Unmask)
+row_of verb.Show = row (codes "show") everywhere (codes "unit" ∷ []) [] (about_unit Show)
+row_of verb.IsActive = row (codes "is-active") everywhere (codes "unit" ∷ []) [] (about_unit IsActive)
+row_of verb.IsEnabled = row (codes "is-enabled") everywhere (codes "unit" ∷ []) [] (about_unit IsEnabled)
+row_of verb.Cat = row (codes "cat") everywhere (codes "unit" ∷ []) [] (about_unit Cat)
+row_of verb.Tick = row (codes "tick") in_memory [] [] (plainly (OfEvent (Happened Tick)))
+row_of verb.End = row (codes "end") in_memory (codes "number" ∷ []) (codes "code" ∷ codes "signal" ∷ codes "lost" ∷ []) process_ended
+row_of verb.Actions = row (codes "actions") in_memory [] [] (plainly OfActions)
+
+-- all verbs
+abbrev pub verbs : List Verb
+verbs =
+    verb.PutFile ∷ verb.PutLink ∷ verb.Remove ∷ verb.DaemonReload ∷ verb.Start ∷ verb.Stop ∷ verb.Enable ∷ verb.Disable ∷ verb.Mask ∷ verb.Unmask
+    ∷ verb.Show ∷ verb.IsActive ∷ verb.IsEnabled ∷ verb.Cat ∷ verb.Tick ∷ verb.End ∷ verb.Actions ∷ []
+
+-- ---- a request by its row
+
+-- the verb is written so, and is known there
+abbrev pub is_named : Mode → List ℕ → Verb → Bool
+is_named mode text v = (row_of v).is_known mode && bytes_eq text (row_of v).text
+
+-- the verb of this text that is known there
+unfoldable pub verb_in : Mode → List ℕ → Option Verb
+verb_in mode text = find (is_named mode text) verbs
+
+-- the keys of members, in their order
+abbrev pub keys_of : Members → List (List ℕ)
+keys_of no_members = []
+keys_of (member key value members) = key ∷ keys_of members
+
+-- what isn't an object has none
+abbrev pub keys_told : Option Members → List (List ℕ)
+keys_told None = []
+keys_told (Some members) = keys_of members
+
+-- the keys of an object; one that stands twice in the text counts once, with its last value
+abbrev pub keys_at : Data → List (List ℕ)
+keys_at d = keys_told (as_object d)
+
+-- one of the texts is this one
+abbrev pub is_among : List ℕ → List (List ℕ) → Bool
+is_among text texts = list_any (bytes_eq text) texts
+
+-- a moment is told under this key, and not over a socket
+abbrev pub is_moment_key : Mode → List ℕ → Bool
+is_moment_key Memory key = bytes_eq key (codes "at")
+is_moment_key Service key = false
+
+-- a request of this row may have this key
+abbrev pub may_have : Mode → Row → List ℕ → Bool
+may_have mode r key = bytes_eq key (codes "verb") || is_moment_key mode key || is_among key r.required || is_among key r.optional
+
+-- it has each required field, and no other than these, the optional ones, the verb and the moment
+unfoldable pub has_its_fields : Mode → Row → Data → Bool
+has_its_fields mode r d = list_all (may_have mode r) (keys_at d) && list_all (λ name. is_some (get name d)) r.required
+
+-- what is asked for by a row with its fields
+abbrev pub asking_by : Mode → Row → Data → Option Asking
+asking_by mode r d = if has_its_fields mode r d then r.asks d else None
+
+-- a request by its parts
+abbrev pub request : Option ℕ → Asked → Request
+request at asked = record { at = at; asked = asked }
 
 -- a name without a suffix is that of a service
 abbrev pub completed : List ℕ → List ℕ
@@ -135,102 +248,41 @@ completed text = if is_some (suffix_of text) then text else text ++ codes ".serv
 abbrev pub unit_named : List ℕ → Result (List ℕ) Refused
 unit_named text = if is_unit_name (completed text) then Ok (completed text) else Err (bad_name text)
 
-unfoldable pub unit_at : Data → Result (List ℕ) Refused
-unit_at d = do
-  text ← text_at (codes "unit") d
-  unit_named text
+-- what follows from a value, or the same refusal
+abbrev pub followed : {A B : Type 0} → (A → B) → Result A Refused → Result B Refused
+followed f (Ok a) = Ok (f a)
+followed f (Err r) = Err r
 
-unfoldable pub put_file_at : Data → Result Asked Refused
-put_file_at d = do
-  path ← text_at (codes "path") d
-  text ← text_at (codes "text") d
-  Ok (OfEvent (PutFile path text))
+-- what is asked for, of a unit by its name
+abbrev pub named : Asking → Result Asked Refused
+named (Plainly asked) = Ok asked
+named (OfUnit ask text) = followed ask (unit_named text)
 
-unfoldable pub put_link_at : Data → Result Asked Refused
-put_link_at d = do
-  path ← text_at (codes "path") d
-  target ← text_at (codes "target") d
-  Ok (OfEvent (PutLink path target))
+-- what isn't as it should be
+abbrev pub bad : Result Request Refused
+bad = Err bad_request
 
-unfoldable pub remove_at : Data → Result Asked Refused
-remove_at d = do
-  path ← text_at (codes "path") d
-  Ok (OfEvent (Remove path))
+-- a moment and fields that are as they should be come before the unit's name
+abbrev pub request_told : Option (Option ℕ) → Option Asking → Result Request Refused
+request_told None asking = bad
+request_told (Some at) None = bad
+request_told (Some at) (Some asking) = followed (request at) (named asking)
 
--- what is asked for a unit
-unfoldable pub for_unit : (List ℕ → Asked) → Data → Result Asked Refused
-for_unit ask d = do
-  unit ← unit_at d
-  Ok (ask unit)
+-- an unknown verb is refused whatever its fields
+abbrev pub request_by : Mode → List ℕ → Option Verb → Data → Result Request Refused
+request_by mode text None d = Err (unknown_verb text)
+request_by mode text (Some v) d = request_told (moment_at mode d) (asking_by mode (row_of v) d)
 
--- a whole number of at most this size, or a refusal
-abbrev pub within : ℕ → Option ℕ → Result ℕ Refused
-within limit None = bad
-within limit (Some n) = if nat_le n limit then Ok n else bad
+-- a request without the text of a verb is bad
+abbrev pub request_with : Mode → Option (List ℕ) → Data → Result Request Refused
+request_with mode None d = bad
+request_with mode (Some text) d = request_by mode text (verb_in mode text) d
 
--- the whole number of a field
-unfoldable pub number_at : List ℕ → ℕ → Data → Result ℕ Refused
-number_at name limit d = within limit (option_and_then as_u64 (option_and_then as_number (get name d)))
-
-abbrev pub code_at : Data → Result End Refused
-code_at d = number_at (codes "code") 255 d >>= (λ code. Ok (Code code))
-
-abbrev pub signal_at : Data → Result End Refused
-signal_at d = number_at (codes "signal") 64 d >>= (λ number. Ok (Signal number))
-
-abbrev pub lost_told : Option Bool → Result End Refused
-lost_told (Some true) = Ok Lost
-lost_told other = bad
-
-abbrev pub lost_at : Data → Result End Refused
-lost_at d = lost_told (option_and_then as_bool (get (codes "lost") d))
-
--- how a process ended: its exit code, or the signal that ended it, or that nobody can tell
-unfoldable pub end_at : Data → Result End Refused
-end_at d =
-    if is_some (get (codes "code") d) then code_at d
-    else (if is_some (get (codes "signal") d) then signal_at d else lost_at d)
-
-unfoldable pub process_ended_at : Data → Result Asked Refused
-process_ended_at d = do
-  number ← number_at (codes "number") (2 ^ 64 - 1) d
-  end ← end_at d
-  Ok (OfEvent (ProcessEnded number end))
-
--- what a verb asks for with its fields
-abbrev pub asked_at : Verb → Data → Result Asked Refused
-asked_at verb.PutFile d = put_file_at d
-asked_at verb.PutLink d = put_link_at d
-asked_at verb.Remove d = remove_at d
-asked_at verb.DaemonReload d = Ok (OfEvent DaemonReload)
-asked_at verb.Start d = for_unit (λ unit. OfEvent (StartUnit unit)) d
-asked_at verb.Stop d = for_unit (λ unit. OfEvent (StopUnit unit)) d
-asked_at verb.Show d = for_unit (λ unit. OfQuery (Show unit)) d
-asked_at verb.IsActive d = for_unit (λ unit. OfQuery (IsActive unit)) d
-asked_at verb.Cat d = for_unit (λ unit. OfQuery (Cat unit)) d
-asked_at verb.Tick d = Ok (OfEvent Tick)
-asked_at verb.End d = process_ended_at d
-asked_at verb.Actions d = Ok OfActions
-
-abbrev pub known_verb : List ℕ → Option Verb → Result Verb Refused
-known_verb text None = Err (unknown_verb text)
-known_verb text (Some v) = Ok v
-
-unfoldable pub verb_at : Mode → Data → Result Verb Refused
-verb_at mode d = do
-  text ← text_at (codes "verb") d
-  known_verb text (verb_in mode text)
-
-unfoldable pub request_of_verb : Verb → Option ℕ → Data → Result Request Refused
-request_of_verb v at d = if has_its_fields v at d then asked_at v d >>= (λ asked. Ok (record { at = at; asked = asked })) else bad
-
--- the request that an object is: its verb first, then its moment, then its fields
+-- the request that an object is: its verb first, then its moment and its fields, and last the name of its unit
 unfoldable pub request_of_data : Mode → Data → Result Request Refused
-request_of_data mode d = do
-  v ← verb_at mode d
-  at ← moment_at mode d
-  request_of_verb v at d
+request_of_data mode d = request_with mode (text_at (codes "verb") d) d
 
+-- bytes that are no JSON are no request
 abbrev pub request_read : Mode → Option Data → Result Request Refused
 request_read mode None = bad
 request_read mode (Some d) = request_of_data mode d

@@ -1,7 +1,8 @@
 -- Where a unit's name leads in a tree: by the layers, templates, masks and other names to its file, and to its drop-ins.
 -- Follows systemd.unit(5), "Unit File Load Path" and "Description" (aliases, templates, masks, drop-ins).
 -- Settings, `cat` and enabling stand on this file.
-use Rattle.std.specs.Prelude.{ℕ, zero, suc, Bool, true, false, if◌then◌else◌, List, [], ◌∷◌, ◌++◌, map as each, Option, Some, None, option_map, option_and_then, codes}
+use Rattle.std.specs.Prelude.{ℕ, zero, suc, Bool, true, false, if◌then◌else◌, List, [], ◌∷◌, ◌++◌, map as each, Option, Some, None}
+use Rattle.std.specs.Prelude.{option_map, option_and_then, codes}
 use Rattle.std.specs.List.{flat_map, after_last}
 use Rattle.std.specs.Str.{bytes_eq}
 use Rattle.std.specs.FinMap as map

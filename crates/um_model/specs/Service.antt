@@ -1,7 +1,7 @@
 -- What the state holds of a unit: its sub state, result, process numbers and deadline.
 -- Follows systemctl(1) and systemd.service(5) in the names of states and results.
 -- The machine, replies and canonical bytes stand on this file.
-use Rattle.std.specs.Prelude.{ℕ, Bool, true, false, ◌&&◌, ◌==◌, not, if◌then◌else◌, List, Option, Some, None, is_some, unwrap_or, codes}
+use Rattle.std.specs.Prelude.{◌≢◌, ℕ, Bool, true, false, ◌&&◌, ◌==◌, not, if◌then◌else◌, List, Option, Some, None, is_some, unwrap_or, codes}
 use Rattle.std.specs.FinMap as map
 use Rattle.std.specs.Cmp.Lexicographic.{slice_cmp}
 use Rattle.std.specs.Ordering.{nat_cmp}
@@ -101,6 +101,10 @@ state_of_unit units unit = unwrap_or (map.get units unit) dead_unit
 -- with this state of a unit; a dead one isn't held
 abbrev pub with_unit : ByUnit UnitState → List ℕ → UnitState → ByUnit UnitState
 with_unit units unit u = if holds_nothing u then map.remove units unit else map.insert units unit u
+
+-- no unit is held of which nothing is known
+abbrev pub AreTidyUnits : ByUnit UnitState → Type 0
+AreTidyUnits units = (unit : List ℕ) → map.get units unit ≢ Some dead_unit
 
 -- what is asked of the children: to start a process under this number, with its words and environment; or to signal one
 pub data Action : Type 0 where

@@ -1,7 +1,7 @@
 -- What the settings of a unit say of its processes, its restarts and its limit.
 -- Follows systemd.service(5) and, for the start limit, systemd.unit(5).
 -- Units, clean ends, the service table and the machine stand on this file.
-use Rattle.std.specs.Prelude.{ℕ, Bool, false, List, [], ◌∷◌, ◌++◌, map, Option, Some, None, slice_get}
+use Rattle.std.specs.Prelude.{ℕ, ◌^◌, ◌&&◌, Bool, false, List, [], ◌∷◌, ◌++◌, length, map, nat_lt, Option, Some, None, slice_get}
 use Rattle.um_model.specs.Words.{Command}
 use Rattle.um_model.specs.Substitution.{Variable}
 use Rattle.um_model.specs.declared.service.End.{End}
@@ -55,6 +55,14 @@ default_settings kind = record {
 abbrev pub commands_in : ServiceSettings → CommandList → List Command
 commands_in s OfStart = s.start
 commands_in s OfStop = s.stop
+
+-- a place in a list of commands is a number of 32 bits
+abbrev pub place_limit : ℕ
+place_limit = 2 ^ 32
+
+-- the list has a command at this place; its commands past the place 2^32 - 1 count as not there
+abbrev pub has_place : List Command → ℕ → Bool
+has_place commands i = nat_lt i (length commands) && nat_lt i place_limit
 
 abbrev pub ignores_failure : Option Command → Bool
 ignores_failure None = false

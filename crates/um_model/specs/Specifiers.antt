@@ -17,7 +17,8 @@ abbrev pub IsUnescaped : List ℕ → Option (List ℕ) → Type 0
 IsUnescaped escaped (Some text) = StandsForBytes escaped text × IsUtf8 text
 IsUnescaped escaped None = (bytes : List ℕ) → StandsForBytes escaped bytes → ¬ (IsUtf8 bytes)
 
--- what a letter stands for: `n` the full name, `N` without the suffix, `p` the prefix, `i` the instance as written, `I` unescaped, `j` what follows the last `-` of the prefix
+-- what a letter stands for: `n` the full name, `N` without the suffix, `p` the prefix, `i` the instance as written, `I` unescaped,
+-- `j` what follows the last `-` of the prefix
 abbrev pub specified : List ℕ → Option (List ℕ) → ℕ → Option (List ℕ)
 specified name unescaped letter =
     if letter == 110 then Some name

@@ -10,13 +10,24 @@ use Rattle.um_model.specs.declared.layout.Slot.TheVariants.{A, B}
 
 -- ---- the layout
 
+-- a sector has so many bytes
+abbrev pub sector_bytes : ℕ
+sector_bytes = 512
+
 -- a sector that begins with these bytes, zeros behind them
 unfoldable pub filled : List ℕ → Sector
-filled front = front ++ replicate (512 - length front) 0
+filled front = front ++ replicate (sector_bytes - length front) 0
 
--- sector 0 of a store
+-- the first bytes of sector 0 of any store, and those of a store in this format
+abbrev pub store_name : List ℕ
+store_name = codes "UMDISK"
+
+abbrev pub store_format : List ℕ
+store_format = codes "UMDISK01"
+
+-- sector 0 of a store: its format, and the numbers of sectors of a slot and of the log, in four bytes each
 unfoldable pub superblock : Layout → Sector
-superblock layout = filled (codes "UMDISK01" ++ (big_bytes 4 layout.slot_sectors ++ big_bytes 4 layout.log_sectors))
+superblock layout = filled (store_format ++ (big_bytes 4 layout.slot_sectors ++ big_bytes 4 layout.log_sectors))
 
 -- the first sector of a slot, which holds its header
 abbrev pub slot_start : Layout → Slot → ℕ
@@ -40,11 +51,15 @@ other B = A
 
 -- the longest body of a slot, in bytes
 abbrev pub body_limit : Layout → ℕ
-body_limit layout = (layout.slot_sectors - 1) * 512
+body_limit layout = (layout.slot_sectors - 1) * sector_bytes
 
--- a header as it is written: a generation, and the body's length in bytes
+-- the first bytes of a header
+abbrev pub header_format : List ℕ
+header_format = codes "UMSLOT01"
+
+-- a header as it is written: a generation, and the body's length in bytes, in eight bytes each
 unfoldable pub header_sector : ℕ → ℕ → Sector
-header_sector generation size = filled (codes "UMSLOT01" ++ (big_bytes 8 generation ++ big_bytes 8 size))
+header_sector generation size = filled (header_format ++ (big_bytes 8 generation ++ big_bytes 8 size))
 
 -- a sector is a well-formed header: it is just as one is written
 pub record IsHeader (layout : Layout) (sector : Sector) (generation size : ℕ) : Type 0 where
@@ -55,7 +70,7 @@ pub record IsHeader (layout : Layout) (sector : Sector) (generation size : ℕ) 
 
 -- the least number of sectors that hold so many bytes
 abbrev pub sector_count : ℕ → ℕ
-sector_count size = (size + 511) / 512
+sector_count size = (size + (sector_bytes - 1)) / sector_bytes
 
 -- so many sectors from a place on, joined
 abbrev pub joined : ℕ → Image → ℕ → List ℕ
@@ -84,7 +99,7 @@ HasNoHeader layout image = (slot : Slot) (generation size : ℕ) → IsHeader la
 
 -- a body's sectors as they are written, each by its place
 abbrev pub body_sector : List ℕ → ℕ → Sector
-body_sector body i = filled (take 512 (drop (512 * i) body))
+body_sector body i = filled (take sector_bytes (drop (sector_bytes * i) body))
 
 -- a body and its header stand in a slot, as they are written
 pub record IsSnapshot (layout : Layout) (image : Image) (slot : Slot) (generation : ℕ) (body : List ℕ) : Type 0 where
@@ -108,18 +123,29 @@ pub data IsSlotRead (layout : Layout) (image : Image) : ℕ → Type 0 where
 abbrev pub record_limit : ℕ
 record_limit = 131072
 
--- the least number of parts, of 480 bytes each, that hold a record of so many bytes
+-- the first bytes of a sector of the log
+abbrev pub record_format : List ℕ
+record_format = codes "UMLG"
+
+-- a part of a record has at most so many bytes: the rest of its sector
+abbrev pub part_bytes : ℕ
+part_bytes = 480
+
+-- the least number of parts that hold a record of so many bytes
 abbrev pub part_count : ℕ → ℕ
-part_count size = (size + 479) / 480
+part_count size = (size + (part_bytes - 1)) / part_bytes
 
 -- the bytes of a record that one of its parts holds
 abbrev pub part_of : List ℕ → ℕ → List ℕ
-part_of bytes part = take 480 (drop (480 * part) bytes)
+part_of bytes part = take part_bytes (drop (part_bytes * part) bytes)
 
--- a sector of the log as it is written: the record's generation, number, part and length, and that part's bytes
+-- a sector of the log as it is written: the record's generation and number in eight bytes each; the part, how many there are, and the
+-- record's length in bytes, in four each; and that part's bytes
 unfoldable pub log_sector : ℕ → ℕ → ℕ → ℕ → List ℕ → Sector
 log_sector generation number part size payload =
-    filled (codes "UMLG" ++ (big_bytes 8 generation ++ (big_bytes 8 number ++ (big_bytes 4 part ++ (big_bytes 4 (part_count size) ++ (big_bytes 4 size ++ payload))))))
+    filled
+    (record_format ++ (big_bytes 8 generation ++ (big_bytes 8 number
+    ++ (big_bytes 4 part ++ (big_bytes 4 (part_count size) ++ (big_bytes 4 size ++ payload))))))
 
 -- a whole record stands there: all its sectors are just as they are written
 pub record IsRecord (layout : Layout) (generation : ℕ) (image : Image) (number at : ℕ) (bytes : List ℕ) : Type 0 where
@@ -132,7 +158,8 @@ pub record IsRecord (layout : Layout) (generation : ℕ) (image : Image) (number
 pub data AreRecords (layout : Layout) (generation : ℕ) (image : Image) : ℕ → ℕ → List (List ℕ) → Type 0 where
   stops : {number at : ℕ} → ((bytes : List ℕ) → IsRecord layout generation image number at bytes → ⊥) → AreRecords layout generation image number at []
   goes_on : {number at : ℕ} {bytes : List ℕ} {records : List (List ℕ)} → IsRecord layout generation image number at bytes
-      → AreRecords layout generation image (suc number) (at + part_count (length bytes)) records → AreRecords layout generation image number at (bytes ∷ records)
+      → AreRecords layout generation image (suc number) (at + part_count (length bytes)) records
+      → AreRecords layout generation image number at (bytes ∷ records)
 
 -- the records of a generation
 abbrev pub HasRecords : Layout → ℕ → Image → List (List ℕ) → Type 0
@@ -145,7 +172,7 @@ sectors_of (bytes ∷ records) = part_count (length bytes) + sectors_of records
 
 -- a sector that says of itself that it is of the log is of that generation, whole or not
 pub record IsOf (generation : ℕ) (sector : Sector) : Type 0 where
-  pub name : take 4 sector ≡ codes "UMLG"
+  pub name : take 4 sector ≡ record_format
   pub generation_is : big_number 8 (drop 4 sector) ≡ generation
 
 -- from a sector on, none of the log is of this generation or a later one
@@ -162,7 +189,7 @@ pub record IsLogEnd (layout : Layout) (generation : ℕ) (image : Image) (record
 -- a sector that is that part of a record of so many bytes
 pub record IsPart (generation number part size : ℕ) (sector : Sector) : Type 0 where
   pub payload : List ℕ
-  pub long : length payload ≡ min 480 (size - 480 * part)
+  pub long : length payload ≡ min part_bytes (size - part_bytes * part)
   pub is : sector ≡ log_sector generation number part size payload
 
 -- A sector that the reading of the records from a place on looks at: up to and with the first that isn't the next part in its place.

@@ -1,7 +1,8 @@
 -- Variables in the words of a command, as the command starts.
 -- Follows systemd.service(5), "Command lines".
 -- The start of a service's process stands on this file.
-use Rattle.std.specs.Prelude.{◌≡◌, ℕ, ◌+◌, Bool, false, ◌&&◌, ◌||◌, ◌==◌, if◌then◌else◌, List, [], ◌∷◌, ◌++◌, length, drop, reverse, find, take_while, Option, Some, None, bytes_eq}
+use Rattle.std.specs.Prelude.{◌≡◌, ℕ, ◌+◌, Bool, false, ◌&&◌, ◌||◌, ◌==◌, if◌then◌else◌, List, [], ◌∷◌, ◌++◌, length, drop, reverse, find}
+use Rattle.std.specs.Prelude.{take_while, Option, Some, None, bytes_eq}
 use Rattle.std.specs.List.{list_all}
 use Rattle.um_model.specs.Ascii.{is_letter, is_digit}
 use Rattle.um_model.specs.Text.{first_passes}

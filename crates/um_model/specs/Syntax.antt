@@ -1,12 +1,14 @@
 -- What a unit file says: its lines, joined where they go on, and of these the heads, assignments and warnings.
 -- Follows systemd.syntax(7).
 -- The reader of unit files, and what units are by their assignments, stand on this file.
-use Rattle.std.specs.Prelude.{◌≡◌, ℕ, ◌+◌, ◌-◌, ◌%◌, Bool, true, false, not, ◌||◌, List, [], ◌∷◌, ◌++◌, length, drop, reverse, take_while, Option, Some, None, slice_index, nat_lt, ◌==◌, if◌then◌else◌}
+use Rattle.std.specs.Prelude.{◌≡◌, ℕ, ◌+◌, ◌-◌, ◌%◌, Bool, true, false, not, ◌||◌, List, [], ◌∷◌, ◌++◌, length, drop, reverse, take_while}
+use Rattle.std.specs.Prelude.{Option, Some, None, slice_index, nat_lt, ◌==◌, if◌then◌else◌}
 use Rattle.std.specs.List.{list_all, before_first, after_first, position_or_len}
 use Rattle.std.specs.Str.Lines.{lines}
 use Rattle.um_model.specs.Text.{trim_start, trim, is_blank, first_passes, without_last}
 use Rattle.um_model.specs.declared.warnings.WarningKind.{WarningKind}
-use Rattle.um_model.specs.declared.warnings.WarningKind.TheVariants.{BeforeAnySection, NoEqualsSign, UnknownSection, UnknownKey, UnreadableValue, UnreadableSpecifier}
+use Rattle.um_model.specs.declared.warnings.WarningKind.TheVariants.{BeforeAnySection, NoEqualsSign, UnknownSection, UnknownKey}
+use Rattle.um_model.specs.declared.warnings.WarningKind.TheVariants.{UnreadableValue, UnreadableSpecifier}
 
 -- the numbers of the warnings
 abbrev pub warning_number : WarningKind → ℕ

@@ -1,13 +1,15 @@
 -- The service table: what follows for a unit from what happens to it, by its sub state, a clause a row; the first row that fits.
 -- Follows systemd.service(5), "Type=", "ExecStart=", "ExecStop=", "TimeoutStartSec=", "TimeoutStopSec=", "RestartSec=".
 -- The machine stands on this file.
-use Rattle.std.specs.Prelude.{◌≡◌, ℕ, ◌+◌, ◌-◌, ◌^◌, ◌&&◌, ◌||◌, ◌⊎◌, Bool, true, false, not, if◌then◌else◌, List, [], ◌∷◌, ◌++◌, length, map, slice_get, nat_lt, Option, Some, None, is_some, min}
+use Rattle.std.specs.Prelude.{◌≡◌, ℕ, ◌+◌, ◌&&◌, ◌||◌, ◌⊎◌, Bool, true, false, not, if◌then◌else◌, List, [], ◌∷◌, ◌++◌, map, slice_get, nat_lt, Option, Some, None, is_some}
+use Rattle.um_model.specs.Moments.{process_limit}
 use Rattle.um_model.specs.Words.{Command}
 use Rattle.um_model.specs.Substitution.{Variable, AreSubstituted}
-use Rattle.um_model.specs.Limit.{lets_through, window_after}
+use Rattle.um_model.specs.Limit.{counted}
 use Rattle.um_model.specs.Service.{Action, SpawnProcess, SendSignal}
-use Rattle.um_model.specs.Settings.{ServiceSettings, commands_in, has_dash, environment_texts}
+use Rattle.um_model.specs.Settings.{ServiceSettings, commands_in, has_place, has_dash, environment_texts}
 use Rattle.um_model.specs.Ends.{is_clean, is_told, unclean_result, or_later, is_restart_wanted}
+use Rattle.um_model.specs.declared.limit.Counted.{Counted}
 use Rattle.um_model.specs.declared.service.End.{End}
 use Rattle.um_model.specs.declared.service.Signal as sent
 use Rattle.um_model.specs.declared.service.Signal.TheVariants.{Term, Kill}
@@ -29,14 +31,14 @@ use Rattle.um_model.specs.declared.transition.UnitEvent.TheVariants.{StartBegins
 use Rattle.um_model.specs.declared.transition.UnitKind.{UnitKind}
 use Rattle.um_model.specs.declared.transition.UnitKind.TheVariants.{Simple, Exec, Oneshot, Target}
 
--- the moment a span later; none where the span never ends. A moment is a number of 64 bits
-abbrev pub moment_after : ℕ → Option ℕ → Option ℕ
-moment_after t None = None
-moment_after t (Some span) = Some (min (t + span) (2 ^ 64 - 1))
+-- the deadline a span after the moment; none where the span never ends
+abbrev pub deadline_after : ℕ → Option ℕ → Option ℕ
+deadline_after t None = None
+deadline_after t (Some span) = Some (t + span)
 
 -- there is a process number left
 abbrev pub has_number : Around → Bool
-has_number c = nat_lt c.next (2 ^ 63)
+has_number c = nat_lt c.next process_limit
 
 -- a process of the unit is live
 abbrev pub is_live : UnitState → Bool
@@ -74,7 +76,7 @@ rests_for_good u = stop_ends (just (record u { sub = resting u.result; main = No
 -- the unit waits for its restart
 abbrev pub awaits_restart : ServiceSettings → Around → UnitState → Change
 awaits_restart s c u =
-    stop_ends (just (record u { sub = AutoRestart; main = None; control = None; deadline = moment_after c.moment s.restart_delay }))
+    stop_ends (just (record u { sub = AutoRestart; main = None; control = None; deadline = deadline_after c.moment s.restart_delay }))
 
 -- the unit comes to rest; one that nobody asked to stop may wait for a restart instead
 abbrev pub rests : ServiceSettings → Around → UnitState → Change
@@ -84,7 +86,7 @@ rests s c u = if not u.asked && not c.stop_waits && is_restart_wanted s u then a
 abbrev pub terminates : ServiceSettings → Around → UnitState → Change
 terminates s c u =
     if is_live u
-    then asking (Signal Term) (just (record u { sub = StopSigterm; deadline = moment_after c.moment s.timeout_stop }))
+    then asking (Signal Term) (just (record u { sub = StopSigterm; deadline = deadline_after c.moment s.timeout_stop }))
     else rests s c u
 
 -- the ExecStop= command at this place is started; without a number for it the unit's processes are told to end
@@ -92,16 +94,16 @@ abbrev pub stop_command : ServiceSettings → Around → UnitState → ℕ → C
 stop_command s c u i =
     if has_number c
     then asking (Spawn OfStop i)
-    (just (record u { sub = Stop; control = Some c.next; index = i; deadline = moment_after c.moment s.timeout_stop }))
+    (just (record u { sub = Stop; control = Some c.next; index = i; deadline = deadline_after c.moment s.timeout_stop }))
     else terminates s c (record u { result = result.Resources; index = i })
 
 -- the unit goes down: by its ExecStop= commands where it has any
 abbrev pub winds_down : ServiceSettings → Around → UnitState → Change
-winds_down s c u = if nat_lt 0 (length s.stop) then stop_command s c u 0 else terminates s c u
+winds_down s c u = if has_place s.stop 0 then stop_command s c u 0 else terminates s c u
 
 -- the next ExecStop= command; after the last its processes are told to end
 abbrev pub next_stop : ServiceSettings → Around → UnitState → Change
-next_stop s c u = if nat_lt (u.index + 1) (length s.stop) then stop_command s c u (u.index + 1) else terminates s c u
+next_stop s c u = if has_place s.stop (u.index + 1) then stop_command s c u (u.index + 1) else terminates s c u
 
 -- a start for which there is no process number
 abbrev pub lacks_number : UnitState → Change
@@ -111,7 +113,7 @@ lacks_number u = start_fails (rests_for_good (record u { result = result.Resourc
 abbrev pub start_command : ServiceSettings → Around → UnitState → ℕ → Change
 start_command s c u i =
     if has_number c
-    then asking (Spawn OfStart i) (just (record u { sub = Start; main = Some c.next; deadline = moment_after c.moment s.timeout_start }))
+    then asking (Spawn OfStart i) (just (record u { sub = Start; main = Some c.next; deadline = deadline_after c.moment s.timeout_start }))
     else lacks_number u
 
 -- simple: the main process is started, and the start is done
@@ -124,7 +126,7 @@ start_simple c u =
 -- oneshot: its first command is started; without one it has exited
 abbrev pub start_oneshot : ServiceSettings → Around → UnitState → Change
 start_oneshot s c u =
-    if nat_lt 0 (length s.start) then start_command s c u 0 else start_ends (just (record u { sub = Exited; deadline = None }))
+    if has_place s.start 0 then start_command s c u 0 else start_ends (just (record u { sub = Exited; deadline = None }))
 
 -- a start by the kind of the unit
 abbrev pub start_of : UnitKind → ServiceSettings → Around → UnitState → Change
@@ -133,39 +135,18 @@ start_of Simple s c u = start_simple c u
 start_of Exec s c u = start_command s c u 0
 start_of Oneshot s c u = start_oneshot s c u
 
--- a start of a unit at rest: counted by its limit, or refused by it
-abbrev pub start_at_rest : ServiceSettings → Around → UnitState → Change
-start_at_rest s c u =
-    if lets_through s.limit_interval s.limit_burst c.moment u.window
-    then start_of s.kind s c (record u { result = result.Success; asked = false; index = 0; last = None; window = window_after s.limit_interval s.limit_burst c.moment u.window })
-    else start_fails (just (record u { sub = Failed; result = result.StartLimitHit; deadline = None }))
+-- the limit refuses a start, or lets it through and has this window after it
+abbrev pub starts_if : Bool → Option Counted → ServiceSettings → Around → UnitState → Change
+starts_if false window s c u = start_fails (just (record u { sub = Failed; result = result.StartLimitHit; deadline = None }))
+starts_if true window s c u = start_of s.kind s c (record u { result = result.Success; asked = false; index = 0; last = None; window = window })
 
--- a start job begins
-abbrev pub on_start : ServiceSettings → Around → UnitState → SubState → Change
-on_start s c u Running = start_ends (just u)
-on_start s c u Exited = start_ends (just u)
-on_start s c u Active = start_ends (just u)
-on_start s c u Dead = start_at_rest s c u
-on_start s c u Failed = start_at_rest s c u
-on_start s c u AutoRestart = start_at_rest s c u
-on_start s c u other = just u
+-- a start of a unit at rest
+abbrev pub starts : ServiceSettings → Around → UnitState → Change
+starts s c u = let answer = counted s.limit_interval s.limit_burst c.moment u.window in starts_if answer.0 answer.1 s c u
 
--- a stop job begins, or a unit that this one is bound to is down
-abbrev pub on_stop : ServiceSettings → Around → UnitState → SubState → Change
-on_stop s c u Running = winds_down s c (record u { asked = true })
-on_stop s c u Exited = winds_down s c (record u { asked = true })
-on_stop s c u Start = start_fails (terminates s c (record u { asked = true }))
-on_stop s c u AutoRestart = stop_ends (just (record u { sub = Dead; deadline = None }))
-on_stop s c u Active = stop_ends (just (record u { sub = Dead; deadline = None }))
-on_stop s c u Stop = just (record u { asked = true })
-on_stop s c u StopSigterm = just (record u { asked = true })
-on_stop s c u StopSigkill = just (record u { asked = true })
-on_stop s c u Dead = stop_ends (just u)
-on_stop s c u Failed = stop_ends (just u)
-
--- the main process of a unit that is up ended: cleanly, or not
-abbrev pub run_ends : ServiceSettings → Around → UnitState → Bool → Change
-run_ends s c u clean = if clean && s.remains then just (record u { sub = Exited; deadline = None }) else winds_down s c u
+-- the main process ended well: the unit has exited, or goes down
+abbrev pub exits : ServiceSettings → Around → UnitState → Change
+exits s c u = if s.remains then just (record u { sub = Exited; deadline = None }) else winds_down s c u
 
 -- the oneshot's next command is started as its main process
 abbrev pub next_command : Around → UnitState → ℕ → Change
@@ -177,15 +158,20 @@ next_command c u i =
 -- a command of a oneshot ended well: the next one, or the start is done
 abbrev pub next_start : ServiceSettings → Around → UnitState → Change
 next_start s c u =
-    if nat_lt (u.index + 1) (length s.start) then next_command c u (u.index + 1) else start_ends (run_ends s c u true)
+    if has_place s.start (u.index + 1) then next_command c u (u.index + 1) else start_ends (exits s c u)
 
--- the main process ended during the start: cleanly, or not
-abbrev pub start_run_ends : UnitKind → ServiceSettings → Around → UnitState → Bool → Change
-start_run_ends kind s c u false = start_fails (rests s c u)
-start_run_ends Oneshot s c u true = next_start s c u
-start_run_ends other s c u true = start_ends (run_ends s c u true)
+-- the main process ended well during the start: a oneshot goes on with its next command
+abbrev pub start_goes_on : UnitKind → ServiceSettings → Around → UnitState → Change
+start_goes_on Oneshot s c u = next_start s c u
+start_goes_on other s c u = start_ends (exits s c u)
 
--- the unit stays as it is while a process is live
+-- the program of the main process runs: a start that waits for it is done
+abbrev pub executed : UnitKind → UnitState → Change
+executed Simple u = start_ends (just (record u { sub = Running; deadline = None }))
+executed Exec u = start_ends (just (record u { sub = Running; deadline = None }))
+executed other u = just u
+
+-- the unit comes to rest, once no process of it is live
 abbrev pub rests_unless_live : ServiceSettings → Around → UnitState → Change
 rests_unless_live s c u = if is_live u then just u else rests s c u
 
@@ -198,59 +184,76 @@ noted u e false = record u { result = or_later u.result (unclean_result e) }
 abbrev pub without_main : ServiceSettings → UnitState → End → UnitState
 without_main s u e = noted (record u { main = None; last = Some e }) e (is_clean s u Main e)
 
--- the main process ended: v is the unit u without it
-abbrev pub on_main_end : ServiceSettings → Around → UnitState → UnitState → Bool → SubState → Change
-on_main_end s c u v clean Start = start_run_ends s.kind s c v clean
-on_main_end s c u v clean Running = run_ends s c v clean
-on_main_end s c u v clean Stop = just v
-on_main_end s c u v clean StopSigterm = rests_unless_live s c v
-on_main_end s c u v clean StopSigkill = rests_unless_live s c v
-on_main_end s c u v clean other = just u
+-- the unit without its control process, which ended so
+abbrev pub without_control : ServiceSettings → UnitState → End → UnitState
+without_control s u e = noted (record u { control = None }) e (is_clean s u Control e)
 
--- an ExecStop= command ended so that the next one is started
-abbrev pub goes_on : ServiceSettings → UnitState → End → Bool
-goes_on s u e = is_clean s u Control e || is_told e && has_dash s OfStop u.index
-
--- an ExecStop= command ended: well, or not
-abbrev pub stop_command_ends : ServiceSettings → Around → UnitState → End → Bool → Change
-stop_command_ends s c u e true = next_stop s c u
-stop_command_ends s c u e false = terminates s c (noted u e false)
-
--- the control process ended
-abbrev pub on_control_end : ServiceSettings → Around → UnitState → End → SubState → Change
-on_control_end s c u e Stop = stop_command_ends s c (record u { control = None }) e (goes_on s u e)
-on_control_end s c u e StopSigterm = rests_unless_live s c (noted (record u { control = None }) e (is_clean s u Control e))
-on_control_end s c u e StopSigkill = rests_unless_live s c (noted (record u { control = None }) e (is_clean s u Control e))
-on_control_end s c u e other = just u
-
--- the result where there was none before
+-- nobody waits any longer: the result tells so, where it was success
 abbrev pub timed_out : UnitState → UnitState
 timed_out u = record u { result = or_later u.result result.Timeout }
 
--- the unit's deadline passes
-abbrev pub on_deadline : ServiceSettings → Around → UnitState → SubState → Change
-on_deadline s c u Start = start_fails (terminates s c (record u { result = result.Timeout }))
-on_deadline s c u Stop = terminates s c (timed_out u)
-on_deadline s c u StopSigterm =
-    asking (Signal Kill) (just (record (timed_out u) { sub = StopSigkill; deadline = moment_after c.moment s.timeout_stop }))
-on_deadline s c u StopSigkill = rests_for_good (timed_out u)
-on_deadline s c u other = just u
+-- its live processes are killed
+abbrev pub kills : ServiceSettings → Around → UnitState → Change
+kills s c u = asking (Signal Kill) (just (record u { sub = StopSigkill; deadline = deadline_after c.moment s.timeout_stop }))
 
--- the program of the main process runs: the start of an exec service waits for it
-abbrev pub on_executed : UnitKind → UnitState → SubState → Change
-on_executed Simple u Start = start_ends (just (record u { sub = Running; deadline = None }))
-on_executed Exec u Start = start_ends (just (record u { sub = Running; deadline = None }))
-on_executed kind u sub = just u
+-- a stop was asked for
+abbrev pub asked : UnitState → UnitState
+asked u = record u { asked = true }
 
--- the table
+-- it is dead at once
+abbrev pub dies : UnitState → Change
+dies u = stop_ends (just (record u { sub = Dead; deadline = None }))
+
+-- ---- the table
+
+-- the event as it should be: the unit to be started is loadable; the process ended cleanly, or an ExecStop= command as its `-` allows
+abbrev pub is_well : ServiceSettings → Around → UnitState → UnitEvent → Bool
+is_well s c u StartBegins = c.loadable
+is_well s c u (MainEnds e) = is_clean s u Main e
+is_well s c u (ControlEnds e) = is_clean s u Control e || is_told e && has_dash s OfStop u.index
+is_well s c u other = true
+
+-- the rows: what follows in this sub state from this event, which is well or not; by the last one the unit stays as it is
+abbrev pub row : ServiceSettings → Around → UnitState → SubState → UnitEvent → Bool → Change
+row s c u sub StartBegins false = start_fails (just (record u { result = result.NotLoaded }))
+row s c u Running StartBegins well = start_ends (just u)
+row s c u Exited StartBegins well = start_ends (just u)
+row s c u Active StartBegins well = start_ends (just u)
+row s c u Dead StartBegins well = starts s c u
+row s c u Failed StartBegins well = starts s c u
+row s c u AutoRestart StartBegins well = starts s c u
+row s c u Start Executed well = executed s.kind u
+row s c u Start (MainEnds e) true = start_goes_on s.kind s c (without_main s u e)
+row s c u Start (MainEnds e) false = start_fails (rests s c (without_main s u e))
+row s c u Start DeadlinePasses well = start_fails (terminates s c (record u { result = result.Timeout }))
+row s c u Running (MainEnds e) true = exits s c (without_main s u e)
+row s c u Running (MainEnds e) false = winds_down s c (without_main s u e)
+row s c u Running StopBegins well = winds_down s c (asked u)
+row s c u Exited StopBegins well = winds_down s c (asked u)
+row s c u Start StopBegins well = start_fails (terminates s c (asked u))
+row s c u AutoRestart StopBegins well = dies u
+row s c u Stop StopBegins well = just (asked u)
+row s c u StopSigterm StopBegins well = just (asked u)
+row s c u StopSigkill StopBegins well = just (asked u)
+row s c u Active StopBegins well = dies u
+row s c u Dead StopBegins well = stop_ends (just u)
+row s c u Failed StopBegins well = stop_ends (just u)
+row s c u Stop (ControlEnds e) true = next_stop s c (record u { control = None })
+row s c u Stop (ControlEnds e) false = terminates s c (without_control s u e)
+row s c u Stop (MainEnds e) well = just (without_main s u e)
+row s c u Stop DeadlinePasses well = terminates s c (timed_out u)
+row s c u StopSigterm (MainEnds e) well = rests_unless_live s c (without_main s u e)
+row s c u StopSigterm (ControlEnds e) well = rests_unless_live s c (without_control s u e)
+row s c u StopSigkill (MainEnds e) well = rests_unless_live s c (without_main s u e)
+row s c u StopSigkill (ControlEnds e) well = rests_unless_live s c (without_control s u e)
+row s c u StopSigterm DeadlinePasses well = kills s c (timed_out u)
+row s c u StopSigkill DeadlinePasses well = rests_for_good (timed_out u)
+row s c u sub event well = just u
+
+-- the table: a bound stop is as a stop job that begins
 abbrev pub transition : ServiceSettings → Around → UnitState → UnitEvent → Change
-transition s c u StartBegins = if c.loadable then on_start s c u u.sub else start_fails (just (record u { result = result.NotLoaded }))
-transition s c u StopBegins = on_stop s c u u.sub
-transition s c u BoundStop = on_stop s c u u.sub
-transition s c u Executed = on_executed s.kind u u.sub
-transition s c u (MainEnds e) = on_main_end s c u (without_main s u e) (is_clean s u Main e) u.sub
-transition s c u (ControlEnds e) = on_control_end s c u e u.sub
-transition s c u DeadlinePasses = on_deadline s c u u.sub
+transition s c u BoundStop = row s c u u.sub StopBegins true
+transition s c u event = row s c u u.sub event (is_well s c u event)
 
 -- ---- what is asked, as actions
 

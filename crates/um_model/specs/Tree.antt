@@ -1,7 +1,8 @@
 -- The manager's own tree: a finite map from served paths to files and links.
 -- Follows systemd.unit(5), "Unit File Load Path".
 -- Resolution, drop-ins, dependencies by links, enabling and the state stand on this file.
-use Rattle.std.specs.Prelude.{◌≡◌, ℕ, ◌-◌, ◌≤◌, nat_le, nat_lt, nat_eq, Bool, true, false, not, ◌&&◌, ◌||◌, ◌==◌, List, [], ◌∷◌, ◌++◌, length, take, drop, Option, Some, None, is_none, is_some, option_map, Result, ◌⊎◌, if◌then◌else◌, codes, refl}
+use Rattle.std.specs.Prelude.{◌≡◌, ℕ, ◌-◌, ◌≤◌, nat_le, nat_lt, nat_eq, Bool, true, false, not, ◌&&◌, ◌||◌, ◌==◌, List, [], ◌∷◌, ◌++◌}
+use Rattle.std.specs.Prelude.{length, take, drop, Option, Some, None, is_none, is_some, option_map, Result, ◌⊎◌, if◌then◌else◌, codes, refl}
 use Rattle.std.specs.List.{list_all, starts_with, ends_with, position_or_len, before_first, after_first, after_last}
 use Rattle.std.specs.Str.{bytes_eq}
 use Rattle.std.specs.Ordering.{nat_cmp}
@@ -196,7 +197,8 @@ is_served path = is_some (path_parts path)
 abbrev pub is_other_name : List ℕ → List ℕ → Bool
 is_other_name unit text = is_unit_name text && not (bytes_eq text unit)
 
--- a unit is masked by a link to `/dev/null`, or is another name of the unit that its link's last part names; a link that wants or requires may lead anywhere, and a drop-in is no link
+-- a unit is masked by a link to `/dev/null`, or is another name of the unit that its link's last part names; a link that wants or
+-- requires may lead anywhere, and a drop-in is no link
 abbrev pub may_lead_to : List ℕ → Place → List ℕ → Bool
 may_lead_to unit Unit target = bytes_eq target (codes "/dev/null") || is_other_name unit (after_last is_slash target)
 may_lead_to unit (DropIn name) target = false
@@ -266,9 +268,13 @@ link_cause tree path target =
 unfoldable pub put_link : Tree → List ℕ → List ℕ → Result Tree Refused
 put_link tree path target = unless_refused (link_cause tree path target) (map.insert tree path (Link target))
 
+-- the cause why nothing may be removed at the path: nothing stands there
+abbrev pub remove_cause : Tree → List ℕ → Option Refused
+remove_cause tree path = cause (is_none (map.get tree path)) (bad_path path)
+
 -- the tree without what stands at the path
 unfoldable pub remove_at : Tree → List ℕ → Result Tree Refused
-remove_at tree path = unless_refused (cause (is_none (map.get tree path)) (bad_path path)) (map.remove tree path)
+remove_at tree path = unless_refused (remove_cause tree path) (map.remove tree path)
 
 -- an entry under `run/`, which doesn't outlive a boot
 abbrev pub is_volatile : List ℕ → Bool

@@ -1,7 +1,8 @@
 -- What a unit's files set and warn of, by one list of assignments, and whether the unit can be loaded.
 -- Follows systemd.unit(5) and systemd.service(5).
 -- The machine stands on this file: what `show` tells, and what a start does.
-use Rattle.std.specs.Prelude.{ℕ, Bool, true, false, not, ◌&&◌, ◌||◌, ◌==◌, List, [], ◌∷◌, ◌++◌, length, find, filter_map, map as each, Option, Some, None, Ok, Err, option_map, if◌then◌else◌, codes}
+use Rattle.std.specs.Prelude.{ℕ, Bool, true, false, not, ◌&&◌, ◌||◌, ◌==◌, List, [], ◌∷◌, ◌++◌, length, find, filter_map, map as each}
+use Rattle.std.specs.Prelude.{Option, Some, None, Ok, Err, option_map, if◌then◌else◌, codes}
 use Rattle.std.specs.List.{flat_map, list_any, after_last}
 use Rattle.std.specs.Str.{bytes_eq}
 use Rattle.um_model.specs.Names.{suffix_of, is_unit_name}
@@ -10,7 +11,8 @@ use Rattle.um_model.specs.Syntax.{Item, Section, Assignment, Warning as Warned, 
 use Rattle.um_model.specs.Tree.{Tree}
 use Rattle.um_model.specs.Resolution.{or_else, is_of_same_type, UnitFile, Resolution, AtFile, AtNoFile, AtMask, Nowhere, files_at, resolution_of}
 use Rattle.um_model.specs.Keys.{is_foreign, is_known_section, is_refused_key, kind_of_key}
-use Rattle.um_model.specs.Readings.{Reading, read_in, warning_in, text_reading, commands_reading, environment_reading, names_reading, first_warning, names_said, value_reading, instance_in}
+use Rattle.um_model.specs.Readings.{Reading, read_in, warning_in, text_reading, commands_reading, environment_reading, names_reading}
+use Rattle.um_model.specs.Readings.{first_warning, names_said, value_reading, instance_in}
 use Rattle.um_model.specs.Settings.{ServiceSettings}
 use Rattle.um_model.specs.Values.{boolean_of, number_of, span_of, exits_of, policy_named}
 use Rattle.um_model.specs.Words.{Command}
@@ -239,9 +241,11 @@ service_settings_with start kind unit assigned = record {
   remains = last_read boolean_of false (values_of (in_service (codes "RemainAfterExit") ∷ []) assigned);
   restart = last_read policy_named No (values_of (in_service (codes "Restart") ∷ []) assigned);
   restart_delay = last_read span_said (Some 100000) (values_of (in_service (codes "RestartSec") ∷ []) assigned);
-  timeout_start = last_read timeout_said (default_timeout_start kind) (values_of (in_service (codes "TimeoutStartSec") ∷ in_service (codes "TimeoutSec") ∷ []) assigned);
+  timeout_start =
+      last_read timeout_said (default_timeout_start kind) (values_of (in_service (codes "TimeoutStartSec") ∷ in_service (codes "TimeoutSec") ∷ []) assigned);
   timeout_stop = last_read timeout_said (Some 90000000) (values_of (in_service (codes "TimeoutStopSec") ∷ in_service (codes "TimeoutSec") ∷ []) assigned);
-  limit_interval = last_read span_said (Some 10000000) (values_of (in_unit (codes "StartLimitIntervalSec") ∷ in_service (codes "StartLimitInterval") ∷ []) assigned);
+  limit_interval =
+      last_read span_said (Some 10000000) (values_of (in_unit (codes "StartLimitIntervalSec") ∷ in_service (codes "StartLimitInterval") ∷ []) assigned);
   limit_burst = last_read number_of 5 (values_of (in_unit (codes "StartLimitBurst") ∷ in_service (codes "StartLimitBurst") ∷ []) assigned);
   success = exits_in (codes "SuccessExitStatus") assigned;
   prevents_restart = exits_in (codes "RestartPreventExitStatus") assigned;
@@ -397,7 +401,12 @@ pub data Loading : Type 0 where
 
 -- a unit by its files
 abbrev pub unit_by : List ℕ → Option (List ℕ) → List Source → LoadedUnit
-unit_by unit path sources = record { name = unit; path = path; settings = settings_of unit (assignments_in (suffix_of unit) sources); warnings = warnings_of unit sources }
+unit_by unit path sources = record {
+  name = unit;
+  path = path;
+  settings = settings_of unit (assignments_in (suffix_of unit) sources);
+  warnings = warnings_of unit sources;
+}
 
 abbrev pub found_unless : Option (List ℕ) → LoadedUnit → Loading
 found_unless None u = Found u
@@ -431,3 +440,7 @@ name_in asked (Found u) = u.name
 name_in asked (Masked unit) = unit
 name_in asked NotFound = asked
 name_in asked (BadSetting unit reason) = unit
+
+-- the same by the tree
+abbrev pub unit_named : Tree → List ℕ → List ℕ
+unit_named tree asked = name_in asked (load tree asked)

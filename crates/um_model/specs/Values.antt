@@ -1,10 +1,12 @@
 -- What the values of settings mean: truth values, numbers, time spans, sets of exits, and when a service is started again.
 -- Follows systemd.syntax(7) in truth values, systemd.time(7), "Parsing Time Spans", and systemd.service(5) in `Restart=` and `SuccessExitStatus=`.
 -- Settings and the service table stand on this file.
-use Rattle.std.specs.Prelude.{◌≡◌, ℕ, zero, suc, ◌+◌, ◌-◌, ◌*◌, ◌^◌, ◌<◌, ◌≤◌, Bool, true, false, not, ◌&&◌, ◌||◌, ◌==◌, nat_le, nat_lt, List, [], ◌∷◌, length, drop, map, filter, take_while, codes, Option, Some, None, option_map, find, is_some, if◌then◌else◌}
+use Rattle.std.specs.Prelude.{◌≡◌, ℕ, zero, suc, ◌+◌, ◌-◌, ◌*◌, ◌<◌, ◌≤◌, Bool, true, false, not, ◌&&◌, ◌==◌, nat_le, nat_lt}
+use Rattle.std.specs.Prelude.{List, [], ◌∷◌, length, drop, map, filter, take_while, codes, Option, Some, None, option_map, find, is_some, if◌then◌else◌}
 use Rattle.std.specs.List.{list_any, list_all, slice_split}
 use Rattle.std.specs.Char.{to_ascii_lowercase}
 use Rattle.std.specs.Str.{bytes_eq}
+use Rattle.um_model.specs.Moments.{span_limit}
 use Rattle.um_model.specs.Ascii.{is_space, is_digit, is_letter}
 use Rattle.um_model.specs.Text.{trim_start, is_empty}
 use Rattle.um_model.specs.declared.service.End.{End}
@@ -54,17 +56,24 @@ pub record IsNumber (text : List ℕ) (n : ℕ) : Type 0 where
 
 -- ---- time spans
 
--- microseconds in a unit of time; a part without a unit is in seconds
+-- the units of time by their names, with their microseconds; a part without a unit is in seconds
+abbrev pub time_units : List (List ℕ × ℕ)
+time_units =
+    ([], 1000000) ∷ (codes "s", 1000000) ∷ (codes "sec", 1000000) ∷ (codes "second", 1000000) ∷ (codes "seconds", 1000000)
+    ∷ (codes "us", 1) ∷ (codes "usec", 1)
+    ∷ (codes "ms", 1000) ∷ (codes "msec", 1000)
+    ∷ (codes "m", 60000000) ∷ (codes "min", 60000000) ∷ (codes "minute", 60000000) ∷ (codes "minutes", 60000000)
+    ∷ (codes "h", 3600000000) ∷ (codes "hr", 3600000000) ∷ (codes "hour", 3600000000) ∷ (codes "hours", 3600000000)
+    ∷ (codes "d", 86400000000) ∷ (codes "day", 86400000000) ∷ (codes "days", 86400000000)
+    ∷ (codes "w", 604800000000) ∷ (codes "week", 604800000000) ∷ (codes "weeks", 604800000000) ∷ []
+
+-- what stands beside the name in a table
+abbrev pub number_among : {N : Type 0} → List (List ℕ × N) → List ℕ → Option N
+number_among table name = option_map (λ row. row.1) (find (λ row. bytes_eq name row.0) table)
+
+-- microseconds in a unit of time
 abbrev pub unit_size : List ℕ → Option ℕ
-unit_size unit =
-    if bytes_eq unit [] || bytes_eq unit (codes "s") || bytes_eq unit (codes "sec") || bytes_eq unit (codes "second") || bytes_eq unit (codes "seconds") then Some 1000000
-    else (if bytes_eq unit (codes "us") || bytes_eq unit (codes "usec") then Some 1
-    else (if bytes_eq unit (codes "ms") || bytes_eq unit (codes "msec") then Some 1000
-    else (if bytes_eq unit (codes "m") || bytes_eq unit (codes "min") || bytes_eq unit (codes "minute") || bytes_eq unit (codes "minutes") then Some 60000000
-    else (if bytes_eq unit (codes "h") || bytes_eq unit (codes "hr") || bytes_eq unit (codes "hour") || bytes_eq unit (codes "hours") then Some 3600000000
-    else (if bytes_eq unit (codes "d") || bytes_eq unit (codes "day") || bytes_eq unit (codes "days") then Some 86400000000
-    else (if bytes_eq unit (codes "w") || bytes_eq unit (codes "week") || bytes_eq unit (codes "weeks") then Some 604800000000
-    else None))))))
+unit_size unit = number_among time_units unit
 
 -- the digits at the front of a text, as far as they go
 abbrev pub digits_of : List ℕ → List ℕ
@@ -95,10 +104,6 @@ pub data AddUpTo : List ℕ → ℕ → Type 0 where
   space : (b : ℕ) (bs : List ℕ) (n : ℕ) → is_space b ≡ true → AddUpTo bs n → AddUpTo (b ∷ bs) n
   part : (text : List ℕ) (first n : ℕ) → IsTime (digits_of text) (unit_of text) first → AddUpTo (past_part text) n → AddUpTo text (first + n)
 
--- no time span is longer, but the one that never ends
-abbrev pub span_limit : ℕ
-span_limit = 2 ^ 62
-
 -- the text is `infinity`, or it has one part at least and its parts add up to this
 abbrev pub IsSpan : List ℕ → TimeSpan → Type 0
 IsSpan text Infinite = text ≡ codes "infinity"
@@ -106,25 +111,16 @@ IsSpan text (Micros n) = (is_empty (trim_start text) ≡ false) × AddUpTo text 
 
 -- ---- sets of exits
 
+-- the signals by their names, with their numbers
+abbrev pub signals : List (List ℕ × ℕ)
+signals =
+    (codes "SIGHUP", 1) ∷ (codes "SIGINT", 2) ∷ (codes "SIGQUIT", 3) ∷ (codes "SIGILL", 4) ∷ (codes "SIGTRAP", 5)
+    ∷ (codes "SIGABRT", 6) ∷ (codes "SIGBUS", 7) ∷ (codes "SIGFPE", 8) ∷ (codes "SIGKILL", 9) ∷ (codes "SIGUSR1", 10)
+    ∷ (codes "SIGSEGV", 11) ∷ (codes "SIGUSR2", 12) ∷ (codes "SIGPIPE", 13) ∷ (codes "SIGALRM", 14) ∷ (codes "SIGTERM", 15) ∷ []
+
 -- the number of the signal of that name
 abbrev pub signal_number : List ℕ → Option ℕ
-signal_number word =
-    if bytes_eq word (codes "SIGHUP") then Some 1
-    else (if bytes_eq word (codes "SIGINT") then Some 2
-    else (if bytes_eq word (codes "SIGQUIT") then Some 3
-    else (if bytes_eq word (codes "SIGILL") then Some 4
-    else (if bytes_eq word (codes "SIGTRAP") then Some 5
-    else (if bytes_eq word (codes "SIGABRT") then Some 6
-    else (if bytes_eq word (codes "SIGBUS") then Some 7
-    else (if bytes_eq word (codes "SIGFPE") then Some 8
-    else (if bytes_eq word (codes "SIGKILL") then Some 9
-    else (if bytes_eq word (codes "SIGUSR1") then Some 10
-    else (if bytes_eq word (codes "SIGSEGV") then Some 11
-    else (if bytes_eq word (codes "SIGUSR2") then Some 12
-    else (if bytes_eq word (codes "SIGPIPE") then Some 13
-    else (if bytes_eq word (codes "SIGALRM") then Some 14
-    else (if bytes_eq word (codes "SIGTERM") then Some 15
-    else None))))))))))))))
+signal_number word = number_among signals word
 
 -- the end that a word tells: an exit code from 0 to 255, or a signal by its name
 abbrev pub exit_of : List ℕ → Option End

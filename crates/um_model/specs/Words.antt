@@ -1,7 +1,8 @@
 -- A text as words, with quotes and escapes, and words as commands.
 -- Follows systemd.syntax(7), "Quoting", and systemd.service(5), "Command lines".
 -- Substitution and the settings of units stand on this file.
-use Rattle.std.specs.Prelude.{◌≡◌, ℕ, zero, suc, ◌+◌, ◌*◌, ◌-◌, Bool, true, false, not, ◌&&◌, ◌||◌, ◌==◌, nat_lt, nat_le, if◌then◌else◌, List, [], ◌∷◌, ◌++◌, length, map, take, drop, take_while, slice_index, Option, Some, None, option_map, is_none, bytes_eq}
+use Rattle.std.specs.Prelude.{◌≡◌, ℕ, zero, suc, ◌+◌, ◌*◌, ◌-◌, Bool, true, false, not, ◌&&◌, ◌||◌, ◌==◌, nat_lt, nat_le, if◌then◌else◌}
+use Rattle.std.specs.Prelude.{List, [], ◌∷◌, ◌++◌, length, map, take, drop, take_while, slice_index, Option, Some, None, option_map, is_none, bytes_eq}
 use Rattle.std.specs.Char.{digit_value}
 use Rattle.std.specs.List.{list_all, list_any, flat_map, slice_split}
 use Rattle.um_model.specs.Ascii.{is_space}

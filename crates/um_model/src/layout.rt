@@ -1,5 +1,17 @@
 ghost use Rattle.std.specs.Prelude.{◌≡◌, ◌≤◌, ◌<◌, ◌+◌, ◌*◌, ◌-◌, ◌⊎◌, None, IfSome};
 
+/// A sector has so many bytes.
+pub const SECTOR_BYTES: usize = 512;
+
+/// A slot has at least so many sectors.
+const SLOT_LEAST: u32 = 64;
+
+/// The log has at least so many sectors.
+const LOG_LEAST: u32 = 512;
+
+/// A slot and the log have at most so many sectors each.
+const SECTORS_MOST: u32 = 1 << 20;
+
 /// One of the two places of a snapshot.
 #[derive(Clone, Copy, Debug, PartialEq, Eq)]
 pub enum Slot {
@@ -42,8 +54,8 @@ impl Layout {
         ensures sizes { IfSome result (λ layout. (layout.slot_sectors ≡ slot_sectors) × (layout.log_sectors ≡ log_sectors)) }
         ensures none { result ≡ None → (slot_sectors < 64) ⊎ (1048576 < slot_sectors) ⊎ (log_sectors < 512) ⊎ (1048576 < log_sectors) }
     {
-        let has_slot = slot_sectors >= 64 && slot_sectors <= 1_048_576;
-        let has_log = log_sectors >= 512 && log_sectors <= 1_048_576;
+        let has_slot = slot_sectors >= SLOT_LEAST && slot_sectors <= SECTORS_MOST;
+        let has_log = log_sectors >= LOG_LEAST && log_sectors <= SECTORS_MOST;
         if has_slot && has_log {
             Some(Layout {
                 slot_sectors,
@@ -68,7 +80,7 @@ impl Layout {
     pub fn body_limit(self) -> usize
         ensures { result ≡ body_limit self }
     {
-        (self.slot_sectors as usize - 1) * 512
+        (self.slot_sectors as usize - 1) * SECTOR_BYTES
     }
 
     /// The first sector of the log.

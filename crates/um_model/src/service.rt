@@ -2,6 +2,8 @@ ghost use Rattle.std.specs.Prelude.{◌≡◌, ◌||◌};
 ghost use Rattle.um_model.specs.Service.{has_no_process, has_no_moment, has_no_past, holds_nothing, sub_state_text, active_state_of, active_state_text, result_text, is_number};
 
 use crate::limit::Counted;
+use crate::processes::ProcessNumber;
+use crate::time::Deadline;
 
 /// How far a unit has come (systemd.service(5); `systemctl show -p SubState`).
 #[derive(Clone, Copy, Debug, PartialEq, Eq)]
@@ -60,19 +62,29 @@ pub enum Signal {
     Kill,
 }
 
+/// Whether a process is there and has the number.
+fn is_number(number: u64, process: Option<ProcessNumber>) -> bool
+    ensures { result ≡ is_number number process }
+{
+    match process {
+        Some(process) => process.get() == number,
+        None => false,
+    }
+}
+
 /// What the state holds of one unit.
 #[derive(Clone, Copy, Debug, PartialEq, Eq)]
 pub struct UnitState {
     pub sub: SubState,
     pub result: UnitResult,
     /// The process number of the main process while it is live.
-    pub main: Option<u64>,
+    pub main: Option<ProcessNumber>,
     /// The process number of the control process while it is live.
-    pub control: Option<u64>,
+    pub control: Option<ProcessNumber>,
     /// The place of the command under way in its list.
-    pub index: usize,
-    /// The moment, in microseconds, at which the unit's time-out or restart is due.
-    pub deadline: Option<u64>,
+    pub index: u32,
+    /// The moment at which the unit's time-out or restart is due.
+    pub deadline: Option<Deadline>,
     pub window: Option<Counted>,
     /// A stop was asked for.
     pub asked: bool,
@@ -98,7 +110,7 @@ impl UnitState {
     pub fn has_number(&self, number: u64) -> bool
         ensures { result ≡ (is_number number self.now.main || is_number number self.now.control) }
     {
-        self.main == Some(number) || self.control == Some(number)
+        is_number(number, self.main) || is_number(number, self.control)
     }
 
     fn has_no_process(&self) -> bool

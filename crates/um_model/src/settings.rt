@@ -1,11 +1,13 @@
 ghost use Rattle.std.specs.Prelude.{◌≡◌};
 ghost use Rattle.um_model.specs.Values.{restart_text};
 
+use crate::time::Span;
+
 /// A length of time, as a setting gives it (systemd.time(7)).
 #[derive(Clone, Copy, Debug, PartialEq, Eq)]
 pub enum TimeSpan {
     /// So many microseconds.
-    Micros(u64),
+    Micros(Span),
     /// It never ends.
     Infinite,
 }

@@ -1,4 +1,6 @@
+use crate::processes::NextNumber;
 use crate::service::{End, Signal, UnitState};
+use crate::time::Moment;
 
 /// What a unit is for the service table: a target, or a service of one of the types (systemd.service(5), `Type=`).
 #[derive(Clone, Copy, Debug, PartialEq, Eq)]
@@ -45,10 +47,10 @@ pub enum UnitEvent {
 /// What stands around a unit as something happens to it.
 #[derive(Clone, Copy, Debug, PartialEq, Eq)]
 pub struct Around {
-    /// The moment of the event, in microseconds.
-    pub moment: u64,
-    /// The next process number; from 2^63 on there is none left.
-    pub next: u64,
+    /// The moment of the event.
+    pub moment: Moment,
+    /// The next process number.
+    pub next: NextNumber,
     /// Whether the unit can be started: it is found, has no refused setting and is no template.
     pub loadable: bool,
     /// Whether a job that stops the unit waits.
@@ -60,7 +62,7 @@ pub struct Around {
 pub enum Order {
     Nothing,
     /// The command of this list at this place, from 0, is started under the next number.
-    Spawn(CommandList, usize),
+    Spawn(CommandList, u32),
     Signal(Signal),
 }
 

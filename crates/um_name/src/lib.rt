@@ -8,8 +8,6 @@ mod laws;
 mod maps;
 mod order;
 mod suffixes;
-#[cfg(test)]
-mod tests;
 mod text;
 mod unit_name;
 
@@ -23,4 +21,4 @@ pub use maps::copy_by_name;
 pub use suffixes::suffix_of;
 pub use text::{is_template, with_instance};
 pub use um_model::Suffix;
-pub use unit_name::{UnitName, is_unit_name};
+pub use unit_name::{UnitName, are_instance_bytes, is_unit_name};

@@ -37,7 +37,8 @@ fn is_instance_byte(b: u8) -> bool
     b.is_ascii_alphanumeric() || matches!(b, b':' | b'-' | b'_' | b'.' | b'\\' | b'@')
 }
 
-fn are_instance_bytes(text: &[u8]) -> bool
+/// Whether each byte of the text may stand in an instance: ASCII letters, digits and `: - _ . \ @`.
+pub fn are_instance_bytes(text: &[u8]) -> bool
     ensures { result ≡ list_all names.is_instance_byte text.now }
 {
     text.iter().all(|b| is_instance_byte(*b))

@@ -2,11 +2,10 @@
 //! that holds, and `write_reply` exactly the compact text of a reply.
 #![tactic(auto)]
 
+mod draft;
 mod fields;
 mod read;
 mod request;
-#[cfg(test)]
-mod tests;
 mod verb;
 mod write;
 

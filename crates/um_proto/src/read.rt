@@ -1,118 +1,140 @@
-ghost use Rattle.std.specs.Prelude.{◌≡◌};
+ghost use Rattle.std.specs.Prelude.{◌≡◌, string_bytes, IfOk};
 ghost use Rattle.serde_json.specs.View.{view};
 ghost use Rattle.um_model.specs.Requests as model;
-ghost use Rattle.um_proto.specs.View.{asked_of, request_of};
+ghost use Rattle.um_model.specs.Machine.{Happened};
+ghost use Rattle.um_state.specs.View.{command_of, happening_of};
+ghost use Rattle.um_proto.specs.View.{asked_of, asking_of, refused_for, request_drafted, request_of};
 ghost use Rattle.um_wire.specs.Gives.{Gives};
+ghost use Rattle.um_wire.specs.Refusal.{refused_of};
 
-use crate::fields::{end_at, field_count, moment_at, process_number_at, text_at, unit_at, verb_at};
+use crate::draft::{Asking, Cause, Draft, draft_of};
 use crate::request::{Asked, Request};
-use crate::verb::own_fields;
 use serde_json::Value;
-use std::alloc::Global;
-use um_model::{Mode, Verb};
-use um_state::{Event, Query};
+use std::alloc::{AllocError, Global};
+use um_model::Mode;
+use um_name::{UnitName, is_unit_name, suffix_of};
+use um_state::{Command, Event, Happening, Query};
 use um_wire::Refusal;
 
-#[tactic(auto, unfolding(um_model::specs::Requests::put_file_at))]
-fn put_file_at(alloc: Global, value: &Value) -> Result<Asked, Refusal>
-    ensures { Gives asked_of result (model.put_file_at (view value.now)) }
+/// The name with a suffix: that of a service where it has none.
+fn completed(alloc: Global, text: &str) -> Result<String, AllocError>
+    ensures { IfOk result (λ s. string_bytes s ≡ model.completed text.now) }
 {
-    let path = text_at(value, "path")?;
-    let text = text_at(value, "text")?;
-    let path = String::from_str(alloc, path)?;
-    let text = String::from_str(alloc, text)?;
-    Ok(Asked::Event(Event::PutFile { path, text }))
+    let mut name = String::from_str(alloc, text)?;
+    if suffix_of(text).is_none() {
+        name.push_str(".service")?;
+    }
+    Ok(name)
 }
 
-#[tactic(auto, unfolding(um_model::specs::Requests::put_link_at))]
-fn put_link_at(alloc: Global, value: &Value) -> Result<Asked, Refusal>
-    ensures { Gives asked_of result (model.put_link_at (view value.now)) }
+/// The unit that a text asks for; what isn't a name is refused as it was asked.
+fn unit_named(alloc: Global, text: &str) -> Result<UnitName, Refusal>
+    ensures { Gives (λ n. n) result (model.unit_named text.now) }
 {
-    let path = text_at(value, "path")?;
-    let target = text_at(value, "target")?;
-    let path = String::from_str(alloc, path)?;
-    let target = String::from_str(alloc, target)?;
-    Ok(Asked::Event(Event::PutLink { path, target }))
+    let name = completed(alloc, text)?;
+    if !is_unit_name(name.as_str()) {
+        let text = String::from_str(alloc, text)?;
+        return Err(Refusal::BadName { text });
+    }
+    UnitName::parse(alloc, name.as_str())
 }
 
-#[tactic(auto, unfolding(um_model::specs::Requests::remove_at))]
-fn remove_at(alloc: Global, value: &Value) -> Result<Asked, Refusal>
-    ensures { Gives asked_of result (model.remove_at (view value.now)) }
+fn commanded(command: Command) -> Asked
+    ensures { asked_of result ≡ model.command (command_of command) }
 {
-    let path = text_at(value, "path")?;
-    let path = String::from_str(alloc, path)?;
-    Ok(Asked::Event(Event::Remove { path }))
+    Asked::Event(Event::Commanded(command))
 }
 
-#[tactic(auto, unfolding(um_model::specs::Requests::process_ended_at))]
-fn process_ended_at(value: &Value) -> Result<Asked, Refusal>
-    ensures { Gives asked_of result (model.process_ended_at (view value.now)) }
+fn happened(happening: Happening) -> Asked
+    ensures { asked_of result ≡ model.OfEvent (Happened (happening_of happening)) }
 {
-    let number = process_number_at(value)?;
-    let end = end_at(value)?;
-    Ok(Asked::Event(Event::ProcessEnded { number, end }))
+    Asked::Event(Event::Happened(happening))
 }
 
-/// What a verb asks for with its fields.
-#[tactic(auto, unfolding(um_model::specs::Requests::for_unit))]
-fn asked_at(alloc: Global, verb: Verb, value: &Value) -> Result<Asked, Refusal>
-    ensures { Gives asked_of result (model.asked_at verb (view value.now)) }
+/// What is asked for, with its texts copied and its unit named.
+fn asked_by(alloc: Global, asking: Asking) -> Result<Asked, Refusal>
+    ensures { Gives asked_of result (model.named (asking_of asking.entry)) }
 {
-    match verb {
-        Verb::PutFile => put_file_at(alloc, value),
-        Verb::PutLink => put_link_at(alloc, value),
-        Verb::Remove => remove_at(alloc, value),
-        Verb::DaemonReload => Ok(Asked::Event(Event::DaemonReload)),
-        Verb::Start => {
-            let unit = unit_at(alloc, value)?;
-            Ok(Asked::Event(Event::StartUnit { unit }))
+    match asking {
+        Asking::PutFile { path, text } => {
+            let path = String::from_str(alloc, path)?;
+            let text = String::from_str(alloc, text)?;
+            Ok(commanded(Command::PutFile { path, text }))
         }
-        Verb::Stop => {
-            let unit = unit_at(alloc, value)?;
-            Ok(Asked::Event(Event::StopUnit { unit }))
+        Asking::PutLink { path, target } => {
+            let path = String::from_str(alloc, path)?;
+            let target = String::from_str(alloc, target)?;
+            Ok(commanded(Command::PutLink { path, target }))
         }
-        Verb::Show => {
-            let unit = unit_at(alloc, value)?;
+        Asking::Remove { path } => {
+            let path = String::from_str(alloc, path)?;
+            Ok(commanded(Command::Remove { path }))
+        }
+        Asking::DaemonReload => Ok(commanded(Command::DaemonReload)),
+        Asking::ForUnit { verb, unit, mode } => {
+            let unit = unit_named(alloc, unit)?;
+            Ok(commanded(Command::ForUnit { verb, unit, mode }))
+        }
+        Asking::Install { verb, unit } => {
+            let unit = unit_named(alloc, unit)?;
+            Ok(commanded(Command::Install { verb, unit }))
+        }
+        Asking::Show { unit } => {
+            let unit = unit_named(alloc, unit)?;
             Ok(Asked::Query(Query::Show { unit }))
         }
-        Verb::IsActive => {
-            let unit = unit_at(alloc, value)?;
+        Asking::IsActive { unit } => {
+            let unit = unit_named(alloc, unit)?;
             Ok(Asked::Query(Query::IsActive { unit }))
         }
-        Verb::Cat => {
-            let unit = unit_at(alloc, value)?;
+        Asking::Cat { unit } => {
+            let unit = unit_named(alloc, unit)?;
             Ok(Asked::Query(Query::Cat { unit }))
         }
-        Verb::Tick => Ok(Asked::Event(Event::Tick)),
-        Verb::End => process_ended_at(value),
-        Verb::Actions => Ok(Asked::Actions),
+        Asking::IsEnabled { unit } => {
+            let unit = unit_named(alloc, unit)?;
+            Ok(Asked::Query(Query::IsEnabled { unit }))
+        }
+        Asking::Tick => Ok(happened(Happening::Tick)),
+        Asking::ProcessEnded { number, end } => {
+            Ok(happened(Happening::ProcessEnded { number, end }))
+        }
+        Asking::Actions => Ok(Asked::Actions),
     }
 }
 
-#[tactic(auto, unfolding(um_model::specs::Requests::request_of_verb))]
-fn request_of_verb(
-    alloc: Global,
-    verb: Verb,
-    at: Option<u64>,
-    value: &Value,
-) -> Result<Request, Refusal>
-    ensures { Gives request_of result (model.request_of_verb verb at (view value.now)) }
+/// The request, with its texts copied and its unit named.
+fn request_by(alloc: Global, draft: Draft) -> Result<Request, Refusal>
+    ensures { Gives request_of result (request_drafted draft.entry) }
 {
-    let expected = own_fields(verb) + if at.is_some() { 2 } else { 1 };
-    if field_count(value) != expected {
-        return Err(Refusal::BadRequest);
-    }
-    let asked = asked_at(alloc, verb, value)?;
-    Ok(Request { at, asked })
+    let asked = asked_by(alloc, draft.asking)?;
+    Ok(Request {
+        at: draft.at,
+        asked,
+    })
 }
 
-#[tactic(auto, unfolding(um_model::specs::Requests::request_of_data))]
+/// The refusal of a request for this cause.
+fn refusal_for(alloc: Global, cause: Cause) -> Result<Refusal, AllocError>
+    ensures { IfOk result (λ refusal. refused_of refusal ≡ refused_for cause.entry) }
+{
+    match cause {
+        Cause::BadRequest => Ok(Refusal::BadRequest),
+        Cause::UnknownVerb(text) => {
+            let verb = String::from_str(alloc, text)?;
+            Ok(Refusal::UnknownVerb { verb })
+        }
+    }
+}
+
+/// The request that an object is.
 fn request_of_value(alloc: Global, mode: Mode, value: &Value) -> Result<Request, Refusal>
     ensures { Gives request_of result (model.request_of_data mode (view value.now)) }
 {
-    let verb = verb_at(alloc, value, mode)?;
-    let at = moment_at(value, mode)?;
-    request_of_verb(alloc, verb, at, value)
+    match draft_of(mode, value) {
+        Ok(draft) => request_by(alloc, draft),
+        Err(cause) => Err(refusal_for(alloc, cause)?),
+    }
 }
 
 /// The request that the bytes of a frame are.

@@ -1,3 +1,4 @@
+use um_model::Moment;
 use um_state::{Event, Query};
 
 /// What a request asks for.
@@ -14,7 +15,7 @@ pub enum Asked {
 /// A request.
 #[derive(Drop)]
 pub struct Request {
-    /// The moment that it tells, in microseconds; none where it tells none.
-    pub at: Option<u64>,
+    /// The moment that it tells; none where it tells none.
+    pub at: Option<Moment>,
     pub asked: Asked,
 }

@@ -1,4 +1,4 @@
-ghost use Rattle.std.specs.Prelude.{◌≡◌, [], map, string_bytes, IfOk, length, ◌≤◌};
+ghost use Rattle.std.specs.Prelude.{◌≡◌, [], map, string_bytes, IfOk, length, unwrap_or, ◌≤◌};
 ghost use Rattle.serde_json.specs.Data.{array};
 ghost use Rattle.serde_json.specs.View.{view, items_of};
 ghost use Rattle.um_model.specs.Replies as model;
@@ -9,7 +9,7 @@ ghost use Rattle.um_wire.specs.Refusal.{refused_of};
 
 use serde_json::{Value, json};
 use std::alloc::{AllocError, Global};
-use um_model::Signal;
+use um_model::{ProcessNumber, Signal};
 use um_resolve::UnitFile;
 use um_state::{Action, Reply, UnitShown};
 use um_unit::Warning;
@@ -91,6 +91,16 @@ fn warnings_value(alloc: Global, warnings: &[Warning]) -> Result<Value, AllocErr
     Ok(Value::Array(list))
 }
 
+/// The number of a process; 0 where there is none.
+fn main_number(process: Option<ProcessNumber>) -> u64
+    ensures { result ≡ unwrap_or process 0 }
+{
+    match process {
+        Some(process) => process.get(),
+        None => 0,
+    }
+}
+
 fn shown_value(alloc: Global, shown: &UnitShown) -> Result<Value, AllocError>
     ensures { IfOk result (λ v. view v ≡ model.shown_data (shown_of shown.now)) }
 {
@@ -100,7 +110,7 @@ fn shown_value(alloc: Global, shown: &UnitShown) -> Result<Value, AllocError>
         "Description": &shown.description,
         "Id": &shown.id,
         "LoadState": shown.load.text(),
-        "MainNumber": shown.state.main.unwrap_or(0),
+        "MainNumber": main_number(shown.state.main),
         "Result": shown.state.result.text(),
         "SubState": shown.state.sub.text(),
         "Warnings": warnings,
@@ -122,10 +132,10 @@ fn action_value(alloc: Global, action: &Action) -> Result<Value, AllocError>
     match action {
         Action::Spawn { number, words, .. } => {
             let words = texts_value(alloc, words.as_slice())?;
-            json!(in alloc; ["spawn", *number, words])
+            json!(in alloc; ["spawn", number.get(), words])
         }
         Action::Signal { number, signal } => {
-            json!(in alloc; ["signal", *number, signal_text(*signal)])
+            json!(in alloc; ["signal", number.get(), signal_text(*signal)])
         }
     }
 }
@@ -157,6 +167,15 @@ fn files_value(alloc: Global, files: &[UnitFile]) -> Result<Value, AllocError>
     Ok(Value::Array(list))
 }
 
+/// The paths that were made and removed.
+fn relinked_value(alloc: Global, made: &[String], removed: &[String]) -> Result<Value, AllocError>
+    ensures { IfOk result (λ v. view v ≡ model.relinked_data (map string_bytes made.now) (map string_bytes removed.now)) }
+{
+    let made = texts_value(alloc, made)?;
+    let removed = texts_value(alloc, removed)?;
+    json!(in alloc; {"made": made, "removed": removed})
+}
+
 fn reply_value(alloc: Global, reply: &Reply) -> Result<Value, AllocError>
     ensures { IfOk result (λ v. view v ≡ model.reply_data (reply_of reply.now)) }
 {
@@ -171,6 +190,11 @@ fn reply_value(alloc: Global, reply: &Reply) -> Result<Value, AllocError>
             let value = files_value(alloc, files.as_slice())?;
             json!(in alloc; {"ok": true, "value": value})
         }
+        Reply::Relinked { made, removed } => {
+            let value = relinked_value(alloc, made.as_slice(), removed.as_slice())?;
+            json!(in alloc; {"ok": true, "value": value})
+        }
+        Reply::EnabledAs(answer) => json!(in alloc; {"ok": true, "value": answer.text()}),
         Reply::Told(actions) => {
             let value = actions_value(alloc, actions.as_slice())?;
             json!(in alloc; {"ok": true, "value": value})

@@ -1,3 +1,2 @@
 pub mod ResolutionLemmas
 pub mod ByFileLemmas
-pub mod LeadsLaws

@@ -1,7 +1,8 @@
-ghost use Rattle.std.specs.Prelude.{◌≡◌, IfOk, OnOk, map as each, option_copied, string_bytes};
+ghost use Rattle.std.specs.Prelude.{◌≡◌, IfOk, OnOk, map as each, option_copied, option_map, string_bytes};
 ghost use Rattle.std.specs.FinMap as map;
 ghost use Rattle.std.specs.List.{flat_map};
 ghost use Rattle.um_model.specs.Resolution as model;
+ghost use Rattle.um_model.specs.Tree.{behind};
 ghost use Rattle.um_tree.specs.View.{entry_of};
 ghost use Rattle.um_resolve.specs.View.{added, by_file_of, drop_in_of, drop_ins_seen, first_kept};
 
@@ -9,7 +10,7 @@ use std::alloc::{AllocError, Global};
 use std::collections::BTreeMap;
 use um_model::Layer;
 use um_name::UnitName;
-use um_tree::{Entry, Tree, behind};
+use um_tree::{Entry, Tree};
 
 /// A drop-in: its name in its folder, its path and its text.
 #[derive(Clone, Copy)]
@@ -32,11 +33,18 @@ fn drop_in_folder(alloc: Global, unit: &str, layer: Layer) -> Result<String, All
     Ok(folder)
 }
 
+/// The name of the file in the folder, of a path there.
+fn file_in<'t>(folder: &str, path: &'t str) -> Option<&'t str>
+    ensures { option_map (λ file. file.now) result ≡ behind folder.now path.now }
+{
+    path.strip_prefix(folder)
+}
+
 /// The drop-in that an entry of the tree is, where it is a file in the folder.
 fn drop_in_at<'t>(folder: &str, path: &'t str, entry: Entry<'t>) -> Option<DropIn<'t>>
     ensures { drop_ins_seen result ≡ model.drop_in_at folder.now (path.now, entry_of entry.entry) }
 {
-    let file = behind(folder, path)?;
+    let file = file_in(folder, path)?;
     match entry {
         Entry::File(text) => Some(DropIn { file, path, text }),
         Entry::Link(_) => None,

@@ -6,8 +6,6 @@ mod drop_ins;
 mod files;
 mod laws;
 mod resolution;
-#[cfg(test)]
-mod tests;
 
 pub use files::{Files, SourceFile, UnitFile, files_of, source_files};
 pub use laws::a_unit_is_found_by_hops;

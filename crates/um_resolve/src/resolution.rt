@@ -7,7 +7,7 @@ ghost use Rattle.um_resolve.specs.View.{after_step, located_of, resolution_of};
 use std::alloc::{AllocError, Global};
 use um_model::{Layer, Suffix};
 use um_name::{UnitName, is_template, with_instance};
-use um_tree::{Entry, Tree, last_part};
+use um_tree::{Entry, Tree, unit_in_target};
 
 /// A name leads on to another one so many times at most.
 const HOP_LIMIT: u32 = 8;
@@ -85,7 +85,7 @@ fn leads_to_template(template: &UnitName, entry: Entry<'_>) -> bool
 {
     match entry {
         Entry::File(_) => false,
-        Entry::Link(target) => last_part(target) == template.as_str(),
+        Entry::Link(target) => unit_in_target(target) == template.as_str(),
     }
 }
 
@@ -141,7 +141,7 @@ fn is_of_same_type(unit: &UnitName, other: &UnitName) -> bool
 fn next_name(alloc: Global, unit: &UnitName, target: &str) -> Result<Option<UnitName>, AllocError>
     ensures { IfOk result (λ name. name ≡ model.next_name unit.now target.now) }
 {
-    let text = with_instance_of(alloc, unit.instance(), last_part(target))?;
+    let text = with_instance_of(alloc, unit.instance(), unit_in_target(target))?;
     match UnitName::named(alloc, text.as_str())? {
         Some(other) if is_of_same_type(unit, &other) => Ok(Some(other)),
         _ => Ok(None),

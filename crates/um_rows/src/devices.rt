@@ -61,12 +61,14 @@ fn a_writer_that_fails_has_taken_a_beginning_of_the_replies(rt: HostRuntime) -> 
         let mut rest = input.as_slice();
         let result = memory(alloc, &mut rest, &mut output);
         let Short { left: _, taken } = output;
-        assert!(rt;
-            matches!(result, Err(Fault::Write(_))) == (left < 30),
-            "at {left}"
+        assert_eq!(rt;
+            matches!(result, Err(Fault::Write(_))),
+            left < 30,
+            "at {left}: {result:?}"
         );
-        assert!(rt;
-            taken.as_slice() == front(wanted.as_slice(), left),
+        assert_eq!(rt;
+            taken.as_slice(),
+            front(wanted.as_slice(), left),
             "at {left}"
         );
     }

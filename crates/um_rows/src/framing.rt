@@ -1,6 +1,8 @@
 //! Where the frames of a stream begin and end.
 use crate::devices::Slow;
-use crate::script::{BAD_REQUEST, DONE, RELOAD, frames, front, has_replies, rest, served};
+use crate::script::{
+    BAD_REQUEST, DONE, RELOAD, frames, front, play, replies_in, rest, served, texts,
+};
 use std::alloc::{AllocError, Global};
 use std::test::Fail;
 use um_bin::{Ending, memory};
@@ -8,12 +10,12 @@ use um_bin::{Ending, memory};
 /// The longest frame, in bytes.
 const FRAME_LIMIT: usize = 524_288;
 
-const SHOW: &str = "{\"verb\":\"show\",\"unit\":\"nix.service\"}";
+const SHOW: &str = r#"{"verb":"show","unit":"nix.service"}"#;
 
 const NOT_FOUND: &str =
-    "{\"ok\":true,\"value\":{\"ActiveState\":\"inactive\",\"Description\":\"\",\"Id\":\"nix.service\",\"LoadState\":\"not-found\",\"MainNumber\":0,\"Result\":\"success\",\"SubState\":\"dead\",\"Warnings\":[]}}";
+    r#"{"ok":true,"value":{"ActiveState":"inactive","Description":"","Id":"nix.service","LoadState":"not-found","MainNumber":0,"Result":"success","SubState":"dead","Warnings":[]}}"#;
 
-const TOO_LONG: &str = "{\"detail\":[\"frame\"],\"error\":13,\"ok\":false}";
+const TOO_LONG: &str = r#"{"detail":["frame"],"error":13,"ok":false}"#;
 
 /// A request with spaces behind it, of so many bytes.
 fn padded(alloc: Global, text: &str, size: usize) -> Result<String, AllocError> {
@@ -24,18 +26,16 @@ fn padded(alloc: Global, text: &str, size: usize) -> Result<String, AllocError> 
     Ok(padded)
 }
 
-/// An empty frame, one of the longest, one longer than that by a byte, and one that isn't read.
-fn at_the_limits(alloc: Global) -> Result<Vec<u8>, AllocError> {
-    let long = padded(alloc, SHOW, FRAME_LIMIT)?;
+/// An empty frame, one of so many bytes, one longer than the longest by a byte, and one that isn't read.
+fn at_the_limits(alloc: Global, size: usize) -> Result<Vec<u8>, AllocError> {
+    let long = padded(alloc, SHOW, size)?;
     let longer = padded(alloc, SHOW, FRAME_LIMIT + 1)?;
     frames(alloc, &["", RELOAD, long.as_str(), longer.as_str(), RELOAD])
 }
 
 #[test]
 fn an_empty_frame_is_no_request_and_the_next_is_read(rt: HostRuntime) -> Result<(), Fail> {
-    let right = has_replies(rt.alloc(), &["", RELOAD], &[BAD_REQUEST, DONE])?;
-    assert!(rt; right);
-    Ok(())
+    play(&rt, &[("", BAD_REQUEST), (RELOAD, DONE)])
 }
 
 #[test]
@@ -43,27 +43,34 @@ fn the_longest_frame_is_served_and_a_longer_one_ends_the_session(
     rt: HostRuntime,
 ) -> Result<(), Fail> {
     let alloc = rt.alloc();
-    let input = at_the_limits(alloc)?;
-    assert!(rt; rest(input.as_slice(), 32).starts_with(b"\x00\x08\x00\x00{"));
+    let input = at_the_limits(alloc, FRAME_LIMIT)?;
+    assert_eq!(rt;
+        front(rest(input.as_slice(), 32), 5),
+        b"\x00\x08\x00\x00{".as_slice()
+    );
     let (output, ending) = served(alloc, input.as_slice())?;
-    let wanted = frames(alloc, &[BAD_REQUEST, DONE, NOT_FOUND, TOO_LONG])?;
-    assert!(rt; ending == Ending::TooLong);
-    assert!(rt; output == wanted);
+    assert_eq!(rt; ending, Ending::TooLong);
+    assert_eq!(rt;
+        replies_in(alloc, output.as_slice())?,
+        texts(alloc, &[BAD_REQUEST, DONE, NOT_FOUND, TOO_LONG])?
+    );
     Ok(())
 }
 
 #[test]
-fn the_same_bytes_one_at_a_time_have_the_same_replies(rt: HostRuntime) -> Result<(), Fail> {
+fn bytes_that_come_one_at_a_time_have_the_same_replies(rt: HostRuntime) -> Result<(), Fail> {
     let alloc = rt.alloc();
     let mut input = Slow {
-        bytes: at_the_limits(alloc)?,
+        bytes: at_the_limits(alloc, 9000)?,
         given: 0,
     };
     let mut output = Vec::new(alloc);
     let ending = memory(alloc, &mut input, &mut output)?;
-    let wanted = frames(alloc, &[BAD_REQUEST, DONE, NOT_FOUND, TOO_LONG])?;
-    assert!(rt; ending == Ending::TooLong);
-    assert!(rt; output == wanted);
+    assert_eq!(rt; ending, Ending::TooLong);
+    assert_eq!(rt;
+        replies_in(alloc, output.as_slice())?,
+        texts(alloc, &[BAD_REQUEST, DONE, NOT_FOUND, TOO_LONG])?
+    );
     Ok(())
 }
 
@@ -82,9 +89,10 @@ fn a_frame_that_is_cut_has_no_reply(rt: HostRuntime) -> Result<(), Fail> {
         (55, 15, Ending::Inside),
     ] {
         let (output, ending) = served(alloc, front(input.as_slice(), cut))?;
-        assert!(rt; ending == wanted, "at {cut}");
-        assert!(rt;
-            output.as_slice() == front(one.as_slice(), replies),
+        assert_eq!(rt; ending, wanted, "at {cut}");
+        assert_eq!(rt;
+            output.as_slice(),
+            front(one.as_slice(), replies),
             "at {cut}"
         );
     }

@@ -1,10 +1,16 @@
-//! Worked rows of the protocol: what is written for what is read, from bytes to bytes, as the program serves them.
+//! Worked rows of the protocol, from bytes to bytes as the program serves them, and of the machine's layers by their public calls.
 #![tactic(auto)]
 
+#[cfg(test)]
+mod answers;
 #[cfg(test)]
 mod continuations;
 #[cfg(test)]
 mod devices;
+#[cfg(test)]
+mod enabling;
+#[cfg(test)]
+mod engine;
 #[cfg(test)]
 mod first_path;
 #[cfg(test)]
@@ -14,8 +20,16 @@ mod lines;
 #[cfg(test)]
 mod one_service;
 #[cfg(test)]
+mod proto;
+#[cfg(test)]
 mod refusals;
 #[cfg(test)]
 mod script;
+#[cfg(test)]
+mod service;
+#[cfg(test)]
+mod session;
+#[cfg(test)]
+mod state;
 #[cfg(test)]
 mod unit_files;

@@ -15,7 +15,7 @@ fn line_of(alloc: Global, text: &str) -> Result<Line, AllocError> {
 #[test]
 fn memory_is_asked_for_by_its_flag_alone(rt: HostRuntime) -> Result<(), Fail> {
     let line = line_of(rt.alloc(), "umd --memory")?;
-    assert!(rt; matches!(line, Line::Memory));
+    assert!(rt; matches!(line, Line::Memory), "{line:?}");
     Ok(())
 }
 
@@ -28,7 +28,7 @@ fn help_and_version_are_told(rt: HostRuntime) -> Result<(), Fail> {
     ] {
         match line_of(rt.alloc(), text)? {
             Line::Told(told) => assert!(rt; told.contains(part), "at {text}: {told}"),
-            other => assert!(rt; false, "at {text}: {other:?}"),
+            other => panic!(rt; "at {text}: {other:?}"),
         }
     }
     Ok(())
@@ -45,7 +45,7 @@ fn other_words_are_wrong(rt: HostRuntime) -> Result<(), Fail> {
         "umd --memory=1",
     ] {
         let line = line_of(rt.alloc(), text)?;
-        assert!(rt; matches!(line, Line::Wrong(_)), "at {text}");
+        assert!(rt; matches!(line, Line::Wrong(_)), "at {text}: {line:?}");
     }
     Ok(())
 }

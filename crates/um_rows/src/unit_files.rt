@@ -1,200 +1,251 @@
 //! Unit files in full: specifiers, words, links, drop-ins and warnings, as replies show them.
-use crate::script::{DONE, RELOAD, has_replies};
+use crate::script::{DONE, RELOAD, play};
 use std::test::Fail;
 
 #[test]
 fn specifiers_tell_the_name_of_an_instance(rt: HostRuntime) -> Result<(), Fail> {
-    let right = has_replies(
-        rt.alloc(),
+    play(
+        &rt,
         &[
-            "{\"verb\":\"put-file\",\"path\":\"lib/app@.service\",\"text\":\"[Unit]\\nDescription=%p %i %I %j %%\\n[Service]\\nExecStart=/bin/true\\n\"}",
-            RELOAD,
-            "{\"verb\":\"show\",\"unit\":\"app@x-y.service\"}",
+            (
+                r#"{"verb":"put-file","path":"lib/app@.service","text":"[Unit]\nDescription=%p %i %I %j %%\n[Service]\nExecStart=/bin/true\n"}"#,
+                DONE,
+            ),
+            (RELOAD, DONE),
+            (
+                r#"{"verb":"show","unit":"app@x-y.service"}"#,
+                r#"{"ok":true,"value":{"ActiveState":"inactive","Description":"app x-y x/y app %","Id":"app@x-y.service","LoadState":"loaded","MainNumber":0,"Result":"success","SubState":"dead","Warnings":[]}}"#,
+            ),
         ],
-        &[
-            DONE,
-            DONE,
-            "{\"ok\":true,\"value\":{\"ActiveState\":\"inactive\",\"Description\":\"app x-y x/y app %\",\"Id\":\"app@x-y.service\",\"LoadState\":\"loaded\",\"MainNumber\":0,\"Result\":\"success\",\"SubState\":\"dead\",\"Warnings\":[]}}",
-        ],
-    )?;
-    assert!(rt; right);
-    Ok(())
+    )
 }
 
 #[test]
 fn words_and_variables_of_a_command(rt: HostRuntime) -> Result<(), Fail> {
-    let right = has_replies(
-        rt.alloc(),
+    play(
+        &rt,
         &[
-            "{\"verb\":\"put-file\",\"path\":\"lib/a.service\",\"text\":\"[Service]\\nEnvironment=\\\"X=p  q\\\"\\nExecStart=/bin/echo \\\"a b\\\" $X ${X}c $$ \\\\x41\\n\"}",
-            "{\"verb\":\"put-file\",\"path\":\"lib/b.service\",\"text\":\"[Service]\\nEnvironment=\\\"Y='two two' too\\\"\\nExecStart=/bin/echo $Y\\n\"}",
-            RELOAD,
-            "{\"verb\":\"start\",\"unit\":\"a\"}",
-            "{\"verb\":\"start\",\"unit\":\"b\"}",
-            "{\"verb\":\"actions\"}",
+            (
+                r#"{"verb":"put-file","path":"lib/a.service","text":"[Service]\nEnvironment=\"X=p  q\"\nExecStart=/bin/echo \"a b\" $X ${X}c $$ \\x41\n"}"#,
+                DONE,
+            ),
+            (
+                r#"{"verb":"put-file","path":"lib/b.service","text":"[Service]\nEnvironment=\"Y='two two' too\"\nExecStart=/bin/echo $Y\n"}"#,
+                DONE,
+            ),
+            (RELOAD, DONE),
+            (r#"{"verb":"start","unit":"a"}"#, DONE),
+            (r#"{"verb":"start","unit":"b"}"#, DONE),
+            (
+                r#"{"verb":"actions"}"#,
+                r#"{"ok":true,"value":[["spawn",1,["/bin/echo","a b","p","q","p  qc","$","A"]],["spawn",2,["/bin/echo","two two","too"]]]}"#,
+            ),
         ],
-        &[
-            DONE,
-            DONE,
-            DONE,
-            DONE,
-            DONE,
-            "{\"ok\":true,\"value\":[[\"spawn\",1,[\"/bin/echo\",\"a b\",\"p\",\"q\",\"p  qc\",\"$\",\"A\"]],[\"spawn\",2,[\"/bin/echo\",\"two two\",\"too\"]]]}",
-        ],
-    )?;
-    assert!(rt; right);
-    Ok(())
+    )
 }
 
 #[test]
 fn each_kind_of_warning_by_its_line(rt: HostRuntime) -> Result<(), Fail> {
-    let right = has_replies(
-        rt.alloc(),
+    play(
+        &rt,
         &[
-            "{\"verb\":\"put-file\",\"path\":\"lib/w.target\",\"text\":\"Description=x\\n[Unit]\\nfoo\\nFrob=1\\nDefaultDependencies=maybe\\nDescription=%z\\n[Zed]\\na=b\\n\"}",
-            "{\"verb\":\"put-file\",\"path\":\"lib/r.service\",\"text\":\"[Service]\\nExecStart=/bin/true\\nRestartSec=1.5s\\n\"}",
-            RELOAD,
-            "{\"verb\":\"show\",\"unit\":\"w.target\"}",
-            "{\"verb\":\"show\",\"unit\":\"r\"}",
+            (
+                r#"{"verb":"put-file","path":"lib/w.target","text":"Description=x\n[Unit]\nfoo\nFrob=1\nDefaultDependencies=maybe\nDescription=%z\n[Zed]\na=b\n"}"#,
+                DONE,
+            ),
+            (
+                r#"{"verb":"put-file","path":"lib/r.service","text":"[Service]\nExecStart=/bin/true\nRestartSec=1.5s\n"}"#,
+                DONE,
+            ),
+            (RELOAD, DONE),
+            (
+                r#"{"verb":"show","unit":"w.target"}"#,
+                r#"{"ok":true,"value":{"ActiveState":"inactive","Description":"","Id":"w.target","LoadState":"loaded","MainNumber":0,"Result":"success","SubState":"dead","Warnings":[[1,"lib/w.target",1],[2,"lib/w.target",3],[4,"lib/w.target",4],[5,"lib/w.target",5],[6,"lib/w.target",6],[3,"lib/w.target",7]]}}"#,
+            ),
+            (
+                r#"{"verb":"show","unit":"r"}"#,
+                r#"{"ok":true,"value":{"ActiveState":"inactive","Description":"","Id":"r.service","LoadState":"loaded","MainNumber":0,"Result":"success","SubState":"dead","Warnings":[[5,"lib/r.service",3]]}}"#,
+            ),
         ],
-        &[
-            DONE,
-            DONE,
-            DONE,
-            "{\"ok\":true,\"value\":{\"ActiveState\":\"inactive\",\"Description\":\"\",\"Id\":\"w.target\",\"LoadState\":\"loaded\",\"MainNumber\":0,\"Result\":\"success\",\"SubState\":\"dead\",\"Warnings\":[[1,\"lib/w.target\",1],[2,\"lib/w.target\",3],[4,\"lib/w.target\",4],[5,\"lib/w.target\",5],[6,\"lib/w.target\",6],[3,\"lib/w.target\",7]]}}",
-            "{\"ok\":true,\"value\":{\"ActiveState\":\"inactive\",\"Description\":\"\",\"Id\":\"r.service\",\"LoadState\":\"loaded\",\"MainNumber\":0,\"Result\":\"success\",\"SubState\":\"dead\",\"Warnings\":[[5,\"lib/r.service\",3]]}}",
-        ],
-    )?;
-    assert!(rt; right);
-    Ok(())
+    )
 }
 
 #[test]
 fn eight_links_lead_to_a_unit(rt: HostRuntime) -> Result<(), Fail> {
-    let right = has_replies(
-        rt.alloc(),
+    play(
+        &rt,
         &[
-            "{\"verb\":\"put-link\",\"path\":\"etc/a0.service\",\"target\":\"a1.service\"}",
-            "{\"verb\":\"put-link\",\"path\":\"etc/a1.service\",\"target\":\"a2.service\"}",
-            "{\"verb\":\"put-link\",\"path\":\"etc/a2.service\",\"target\":\"a3.service\"}",
-            "{\"verb\":\"put-link\",\"path\":\"etc/a3.service\",\"target\":\"a4.service\"}",
-            "{\"verb\":\"put-link\",\"path\":\"etc/a4.service\",\"target\":\"a5.service\"}",
-            "{\"verb\":\"put-link\",\"path\":\"etc/a5.service\",\"target\":\"a6.service\"}",
-            "{\"verb\":\"put-link\",\"path\":\"etc/a6.service\",\"target\":\"a7.service\"}",
-            "{\"verb\":\"put-link\",\"path\":\"etc/a7.service\",\"target\":\"a8.service\"}",
-            "{\"verb\":\"put-file\",\"path\":\"lib/a8.service\",\"text\":\"[Service]\\nExecStart=/bin/true\\n\"}",
-            RELOAD,
-            "{\"verb\":\"show\",\"unit\":\"a0\"}",
+            (
+                r#"{"verb":"put-link","path":"etc/a0.service","target":"a1.service"}"#,
+                DONE,
+            ),
+            (
+                r#"{"verb":"put-link","path":"etc/a1.service","target":"a2.service"}"#,
+                DONE,
+            ),
+            (
+                r#"{"verb":"put-link","path":"etc/a2.service","target":"a3.service"}"#,
+                DONE,
+            ),
+            (
+                r#"{"verb":"put-link","path":"etc/a3.service","target":"a4.service"}"#,
+                DONE,
+            ),
+            (
+                r#"{"verb":"put-link","path":"etc/a4.service","target":"a5.service"}"#,
+                DONE,
+            ),
+            (
+                r#"{"verb":"put-link","path":"etc/a5.service","target":"a6.service"}"#,
+                DONE,
+            ),
+            (
+                r#"{"verb":"put-link","path":"etc/a6.service","target":"a7.service"}"#,
+                DONE,
+            ),
+            (
+                r#"{"verb":"put-link","path":"etc/a7.service","target":"a8.service"}"#,
+                DONE,
+            ),
+            (
+                r#"{"verb":"put-file","path":"lib/a8.service","text":"[Service]\nExecStart=/bin/true\n"}"#,
+                DONE,
+            ),
+            (RELOAD, DONE),
+            (
+                r#"{"verb":"show","unit":"a0"}"#,
+                r#"{"ok":true,"value":{"ActiveState":"inactive","Description":"","Id":"a8.service","LoadState":"loaded","MainNumber":0,"Result":"success","SubState":"dead","Warnings":[]}}"#,
+            ),
         ],
-        &[
-            DONE,
-            DONE,
-            DONE,
-            DONE,
-            DONE,
-            DONE,
-            DONE,
-            DONE,
-            DONE,
-            DONE,
-            "{\"ok\":true,\"value\":{\"ActiveState\":\"inactive\",\"Description\":\"\",\"Id\":\"a8.service\",\"LoadState\":\"loaded\",\"MainNumber\":0,\"Result\":\"success\",\"SubState\":\"dead\",\"Warnings\":[]}}",
-        ],
-    )?;
-    assert!(rt; right);
-    Ok(())
+    )
 }
 
 #[test]
 fn nine_links_lead_nowhere(rt: HostRuntime) -> Result<(), Fail> {
-    let right = has_replies(
-        rt.alloc(),
+    play(
+        &rt,
         &[
-            "{\"verb\":\"put-link\",\"path\":\"etc/b.service\",\"target\":\"a0.service\"}",
-            "{\"verb\":\"put-link\",\"path\":\"etc/a0.service\",\"target\":\"a1.service\"}",
-            "{\"verb\":\"put-link\",\"path\":\"etc/a1.service\",\"target\":\"a2.service\"}",
-            "{\"verb\":\"put-link\",\"path\":\"etc/a2.service\",\"target\":\"a3.service\"}",
-            "{\"verb\":\"put-link\",\"path\":\"etc/a3.service\",\"target\":\"a4.service\"}",
-            "{\"verb\":\"put-link\",\"path\":\"etc/a4.service\",\"target\":\"a5.service\"}",
-            "{\"verb\":\"put-link\",\"path\":\"etc/a5.service\",\"target\":\"a6.service\"}",
-            "{\"verb\":\"put-link\",\"path\":\"etc/a6.service\",\"target\":\"a7.service\"}",
-            "{\"verb\":\"put-link\",\"path\":\"etc/a7.service\",\"target\":\"a8.service\"}",
-            "{\"verb\":\"put-file\",\"path\":\"lib/a8.service\",\"text\":\"[Service]\\nExecStart=/bin/true\\n\"}",
-            RELOAD,
-            "{\"verb\":\"show\",\"unit\":\"b\"}",
+            (
+                r#"{"verb":"put-link","path":"etc/b.service","target":"a0.service"}"#,
+                DONE,
+            ),
+            (
+                r#"{"verb":"put-link","path":"etc/a0.service","target":"a1.service"}"#,
+                DONE,
+            ),
+            (
+                r#"{"verb":"put-link","path":"etc/a1.service","target":"a2.service"}"#,
+                DONE,
+            ),
+            (
+                r#"{"verb":"put-link","path":"etc/a2.service","target":"a3.service"}"#,
+                DONE,
+            ),
+            (
+                r#"{"verb":"put-link","path":"etc/a3.service","target":"a4.service"}"#,
+                DONE,
+            ),
+            (
+                r#"{"verb":"put-link","path":"etc/a4.service","target":"a5.service"}"#,
+                DONE,
+            ),
+            (
+                r#"{"verb":"put-link","path":"etc/a5.service","target":"a6.service"}"#,
+                DONE,
+            ),
+            (
+                r#"{"verb":"put-link","path":"etc/a6.service","target":"a7.service"}"#,
+                DONE,
+            ),
+            (
+                r#"{"verb":"put-link","path":"etc/a7.service","target":"a8.service"}"#,
+                DONE,
+            ),
+            (
+                r#"{"verb":"put-file","path":"lib/a8.service","text":"[Service]\nExecStart=/bin/true\n"}"#,
+                DONE,
+            ),
+            (RELOAD, DONE),
+            (
+                r#"{"verb":"show","unit":"b"}"#,
+                r#"{"ok":true,"value":{"ActiveState":"inactive","Description":"","Id":"b.service","LoadState":"not-found","MainNumber":0,"Result":"success","SubState":"dead","Warnings":[]}}"#,
+            ),
         ],
-        &[
-            DONE,
-            DONE,
-            DONE,
-            DONE,
-            DONE,
-            DONE,
-            DONE,
-            DONE,
-            DONE,
-            DONE,
-            DONE,
-            "{\"ok\":true,\"value\":{\"ActiveState\":\"inactive\",\"Description\":\"\",\"Id\":\"b.service\",\"LoadState\":\"not-found\",\"MainNumber\":0,\"Result\":\"success\",\"SubState\":\"dead\",\"Warnings\":[]}}",
-        ],
-    )?;
-    assert!(rt; right);
-    Ok(())
+    )
 }
 
 #[test]
 fn files_and_links_stand_in_each_others_way(rt: HostRuntime) -> Result<(), Fail> {
-    let right = has_replies(
-        rt.alloc(),
+    play(
+        &rt,
         &[
-            "{\"verb\":\"put-link\",\"path\":\"etc/a.service\",\"target\":\"b.service\"}",
-            "{\"verb\":\"put-link\",\"path\":\"etc/b.service\",\"target\":\"a.service\"}",
-            "{\"verb\":\"put-file\",\"path\":\"etc/a.service\",\"text\":\"[Service]\\n\"}",
-            "{\"verb\":\"remove\",\"path\":\"lib/a.service\"}",
-            RELOAD,
-            "{\"verb\":\"show\",\"unit\":\"a\"}",
-            "{\"verb\":\"remove\",\"path\":\"etc/a.service\"}",
-            "{\"verb\":\"cat\",\"unit\":\"a\"}",
+            (
+                r#"{"verb":"put-link","path":"etc/a.service","target":"b.service"}"#,
+                DONE,
+            ),
+            (
+                r#"{"verb":"put-link","path":"etc/b.service","target":"a.service"}"#,
+                DONE,
+            ),
+            (
+                r#"{"verb":"put-file","path":"etc/a.service","text":"[Service]\n"}"#,
+                r#"{"detail":["etc/a.service"],"error":11,"ok":false}"#,
+            ),
+            (
+                r#"{"verb":"remove","path":"lib/a.service"}"#,
+                r#"{"detail":["lib/a.service"],"error":12,"ok":false}"#,
+            ),
+            (RELOAD, DONE),
+            (
+                r#"{"verb":"show","unit":"a"}"#,
+                r#"{"ok":true,"value":{"ActiveState":"inactive","Description":"","Id":"a.service","LoadState":"not-found","MainNumber":0,"Result":"success","SubState":"dead","Warnings":[]}}"#,
+            ),
+            (r#"{"verb":"remove","path":"etc/a.service"}"#, DONE),
+            (
+                r#"{"verb":"cat","unit":"a"}"#,
+                r#"{"detail":["a.service"],"error":4,"ok":false}"#,
+            ),
         ],
-        &[
-            DONE,
-            DONE,
-            "{\"detail\":[\"etc/a.service\"],\"error\":11,\"ok\":false}",
-            "{\"detail\":[\"lib/a.service\"],\"error\":12,\"ok\":false}",
-            DONE,
-            "{\"ok\":true,\"value\":{\"ActiveState\":\"inactive\",\"Description\":\"\",\"Id\":\"a.service\",\"LoadState\":\"not-found\",\"MainNumber\":0,\"Result\":\"success\",\"SubState\":\"dead\",\"Warnings\":[]}}",
-            DONE,
-            "{\"detail\":[\"a.service\"],\"error\":4,\"ok\":false}",
-        ],
-    )?;
-    assert!(rt; right);
-    Ok(())
+    )
 }
 
 #[test]
 fn drop_ins_are_told_by_the_names_of_their_files(rt: HostRuntime) -> Result<(), Fail> {
-    let right = has_replies(
-        rt.alloc(),
+    play(
+        &rt,
         &[
-            "{\"verb\":\"put-file\",\"path\":\"lib/a@.service\",\"text\":\"t\"}",
-            "{\"verb\":\"put-file\",\"path\":\"etc/a@.service.d/20.conf\",\"text\":\"template\"}",
-            "{\"verb\":\"put-file\",\"path\":\"lib/a@1.service.d/20.conf\",\"text\":\"own\"}",
-            "{\"verb\":\"put-file\",\"path\":\"lib/a@1.service.d/10.conf\",\"text\":\"lib\"}",
-            "{\"verb\":\"put-file\",\"path\":\"run/a@1.service.d/10.conf\",\"text\":\"run\"}",
-            "{\"verb\":\"put-link\",\"path\":\"etc/m@.service\",\"target\":\"/dev/null\"}",
-            "{\"verb\":\"cat\",\"unit\":\"a@1\"}",
-            "{\"verb\":\"cat\",\"unit\":\"m@1\"}",
+            (
+                r#"{"verb":"put-file","path":"lib/a@.service","text":"t"}"#,
+                DONE,
+            ),
+            (
+                r#"{"verb":"put-file","path":"etc/a@.service.d/20.conf","text":"template"}"#,
+                DONE,
+            ),
+            (
+                r#"{"verb":"put-file","path":"lib/a@1.service.d/20.conf","text":"own"}"#,
+                DONE,
+            ),
+            (
+                r#"{"verb":"put-file","path":"lib/a@1.service.d/10.conf","text":"lib"}"#,
+                DONE,
+            ),
+            (
+                r#"{"verb":"put-file","path":"run/a@1.service.d/10.conf","text":"run"}"#,
+                DONE,
+            ),
+            (
+                r#"{"verb":"put-link","path":"etc/m@.service","target":"/dev/null"}"#,
+                DONE,
+            ),
+            (
+                r#"{"verb":"cat","unit":"a@1"}"#,
+                r#"{"ok":true,"value":[["lib/a@.service","t"],["run/a@1.service.d/10.conf","run"],["lib/a@1.service.d/20.conf","own"]]}"#,
+            ),
+            (
+                r#"{"verb":"cat","unit":"m@1"}"#,
+                r#"{"detail":["m@1.service"],"error":5,"ok":false}"#,
+            ),
         ],
-        &[
-            DONE,
-            DONE,
-            DONE,
-            DONE,
-            DONE,
-            DONE,
-            "{\"ok\":true,\"value\":[[\"lib/a@.service\",\"t\"],[\"run/a@1.service.d/10.conf\",\"run\"],[\"lib/a@1.service.d/20.conf\",\"own\"]]}",
-            "{\"detail\":[\"m@1.service\"],\"error\":5,\"ok\":false}",
-        ],
-    )?;
-    assert!(rt; right);
-    Ok(())
+    )
 }

@@ -33,11 +33,21 @@ seen_candidate : (start : Image) (calls : List Noted) (k : ℕ) → Contains (ca
 seen_candidate start [] k = Contains-push [] (start k)
 seen_candidate start (Sync ∷ calls) k = Contains-push [] (seen_after start (map call_of calls) k)
 seen_candidate start (Write j value ∷ calls) k = ⊎_elim
-    (λ same. subst (λ n. Contains (candidates_after start (wrote n value value ∷ map call_of calls) k) (seen_after start (wrote n value value ∷ map call_of calls) k)) same
-    (subst (λ v. Contains (candidates_after start (wrote k value value ∷ map call_of calls) k) v) (sym (with_same (seen_after start (map call_of calls)) k value))
-    (subst (λ l. Contains l value) (sym (candidates-wrote_same start (map call_of calls) k value value)) (Contains-push (candidates_after start (map call_of calls) k) value))))
-    (λ ne. subst (λ v. Contains (candidates_after start (wrote j value value ∷ map call_of calls) k) v) (sym (with_other (seen_after start (map call_of calls)) j k value ne))
-    (subst (λ l. Contains l (seen_after start (map call_of calls) k)) (sym (candidates-wrote_other start (map call_of calls) j k value value ne)) (seen_candidate start calls k)))
+    (λ same.
+    subst
+    (λ n.
+    Contains (candidates_after start (wrote n value value ∷ map call_of calls) k)
+    (seen_after start (wrote n value value ∷ map call_of calls) k))
+    same
+    (subst (λ v. Contains (candidates_after start (wrote k value value ∷ map call_of calls) k) v)
+    (sym (with_same (seen_after start (map call_of calls)) k value))
+    (subst (λ l. Contains l value) (sym (candidates-wrote_same start (map call_of calls) k value value))
+    (Contains-push (candidates_after start (map call_of calls) k) value))))
+    (λ ne.
+    subst (λ v. Contains (candidates_after start (wrote j value value ∷ map call_of calls) k) v)
+    (sym (with_other (seen_after start (map call_of calls)) j k value ne))
+    (subst (λ l. Contains l (seen_after start (map call_of calls) k))
+    (sym (candidates-wrote_other start (map call_of calls) j k value value ne)) (seen_candidate start calls k)))
     (cases_eq k j)
 
 -- what a read gives is among what a crash may leave

@@ -2,9 +2,10 @@ ghost use Rattle.std.specs.Prelude.{◌≡◌, ◌<◌, ℕ, Bool, IsTrue, OnOk}
 ghost use Rattle.um_model.specs.Disk.{Past, IsImage, seen, Wrote, Synced, one_more, CountsFailure};
 
 use crate::fault::Fault;
+use um_model::SECTOR_BYTES;
 
-/// The 512 bytes of a sector.
-pub type Sector = [u8; 512];
+/// The bytes of a sector.
+pub type Sector = [u8; SECTOR_BYTES];
 
 /// A disk of sectors. What it does is told by its history: each call is one moment, and a crash at a moment leaves any of the
 /// images of that moment. A call that answers Err, and a read, may share the moment before.

@@ -5,6 +5,7 @@ ghost use Rattle.um_model.specs.Store.{filled};
 use crate::disk::Sector;
 use byteorder::{BigEndian, ByteOrder};
 use std::marker::Model;
+use um_model::SECTOR_BYTES;
 
 /// The bytes of a sector as they are put, one field behind the other from its front. What is behind them is zero.
 #[derive(Drop)]
@@ -35,7 +36,7 @@ impl Fields {
         ensures { result ≡ [] }
     {
         Fields {
-            sector: [0; 512],
+            sector: [0; SECTOR_BYTES],
             length: 0,
         }
     }

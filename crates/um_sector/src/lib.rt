@@ -1,6 +1,7 @@
 //! A disk of sectors, told by what was asked of it: what a read gives, and each image that a crash may leave at each moment.
 #![tactic(auto)]
 
+mod chunks;
 mod disk;
 mod fault;
 mod fields;
@@ -9,9 +10,8 @@ mod laws;
 mod memory;
 mod noted;
 mod run;
-#[cfg(test)]
-mod tests;
 
+pub use chunks::next_chunk;
 pub use disk::{Disk, Sector};
 pub use fault::Fault;
 pub use fields::{Fields, u32_at, u64_at};
@@ -23,3 +23,4 @@ pub use laws::{
 };
 pub use memory::MemDisk;
 pub use run::{write_blank, write_run, write_run_synced};
+pub use um_model::SECTOR_BYTES;

@@ -8,6 +8,7 @@ use crate::disk::{Disk, Sector};
 use crate::fault::Fault;
 use crate::noted::Noted;
 use std::alloc::{AllocError, Global};
+use um_model::SECTOR_BYTES;
 
 /// A disk in memory that keeps each of its calls, so that each image that a crash may leave can be taken from it. It is
 /// honest. A call that finds no memory for its note fails and is not made, so that nothing is ever missing from the notes.
@@ -29,7 +30,7 @@ pub struct MemDisk {
 fn blank_sectors(alloc: Global, count: usize) -> Result<Vec<Sector>, AllocError>
     ensures { IfOk result (λ v. v.items ≡ replicate count blank) }
 {
-    let blank: Sector = [0; 512];
+    let blank: Sector = [0; SECTOR_BYTES];
     let mut sectors = Vec::new(alloc);
     for _ in 0..count {
         sectors.push(blank)?;

@@ -4,6 +4,7 @@ ghost use Rattle.um_model.specs.Disk.{seen, more, CountsFailure, During, IsSettl
 
 use crate::disk::{Disk, Sector};
 use crate::fault::Fault;
+use um_model::SECTOR_BYTES;
 
 /// Writes the sectors of a run one behind the other, from sector `at` on.
 ///
@@ -55,7 +56,7 @@ pub fn write_blank<D: Disk>(disk: &mut D, at: usize, count: usize) -> Result<(),
     ensures size { D.size disk.new ≡ D.size disk.old }
     ensures honest { D.honest disk.new ≡ D.honest disk.old }
 {
-    let blank: Sector = [0; 512];
+    let blank: Sector = [0; SECTOR_BYTES];
     for i in 0..count {
         disk.write(at + i, &blank)?;
     }

@@ -1,8 +1,16 @@
 -- What the code asks of processes as the definitions have it.
-use Rattle.std.specs.Prelude.{map, string_bytes}
+use Rattle.std.specs.Prelude.{◌≡◌, ◌<◌, map, string_bytes}
+use Rattle.um_model.specs.Moments.{process_limit}
 use Rattle.um_model.specs.Service as service
+use Rattle.um_model.specs.Transitions.{spawned}
+use Rattle.um_model.specs.declared.transition.Around.{Around}
+use Rattle.um_model.specs.declared.transition.Order.{Order}
 use Rattle.um_service.specs.declared.actions.Action.{Action}
 use Rattle.um_service.specs.declared.actions.Action.TheVariants as action
+
+-- where the order starts a process there is a number left
+abbrev pub HasRoom : Around → Order → Type 0
+HasRoom c o = spawned o ≡ 1 → c.next < process_limit
 
 abbrev pub action_of : Action → service.Action
 action_of (action.Spawn number words environment) = service.SpawnProcess number (map string_bytes words.items) (map string_bytes environment.items)

@@ -1,19 +1,20 @@
 //! What is asked of a unit's processes, as actions.
 
-ghost use Rattle.std.specs.Prelude.{◌≡◌, ◌∷◌, ℕ, [], Some, IfOk, map, slice_get, string_bytes};
+ghost use Rattle.std.specs.Prelude.{◌≡◌, ◌<◌, ◌∷◌, ℕ, [], Some, IfOk, map, slice_get, string_bytes};
+ghost use Rattle.um_model.specs.Moments.{process_limit};
 ghost use Rattle.um_model.specs.Service.{SendSignal};
 ghost use Rattle.um_model.specs.Settings.{variable_text, commands_in};
 ghost use Rattle.um_model.specs.Transitions.{AreStarted, AreActions, live_numbers};
 ghost use Rattle.um_model.specs.declared.service.UnitState.{UnitState};
 ghost use Rattle.um_model.specs.declared.transition.Order.TheVariants.{Spawn};
-ghost use Rattle.um_service.specs.View.{action_of};
+ghost use Rattle.um_service.specs.View.{HasRoom, action_of};
 ghost use Rattle.um_unit.specs.ServiceView.{service_settings_of};
 ghost use Rattle.um_words.specs.Commands.{command_seen};
 ghost use Rattle.um_words.specs.Environment.{variable_of, variables_of};
 
 use crate::settings::commands_in;
 use std::alloc::{AllocError, Global};
-use um_model::{Around, CommandList, Order, Signal, UnitState};
+use um_model::{Around, CommandList, NextNumber, Order, ProcessNumber, Signal, UnitState};
 use um_unit::ServiceSettings;
 use um_words::{Command, Variable, substitute};
 
@@ -22,14 +23,14 @@ use um_words::{Command, Variable, substitute};
 pub enum Action {
     /// To start a process under this number.
     Spawn {
-        number: u64,
+        number: ProcessNumber,
         words: Vec<String>,
         /// `NAME=value` each.
         environment: Vec<String>,
     },
     /// To signal the process of this number.
     Signal {
-        number: u64,
+        number: ProcessNumber,
         signal: Signal,
     },
 }
@@ -65,11 +66,11 @@ fn started_words(
     alloc: Global,
     settings: &ServiceSettings,
     which: CommandList,
-    index: usize,
+    index: u32,
 ) -> Result<Vec<String>, AllocError>
     ensures { IfOk result (λ words. AreStarted (variables_of settings.now.environment.items) (slice_get (commands_in (service_settings_of settings.now) which) index) (map string_bytes words.items)) }
 {
-    match commands_in(settings, which).get(index) {
+    match commands_in(settings, which).get(index as usize) {
         Some(command) => words_of(alloc, command, settings.environment.as_slice()),
         None => Ok(Vec::new(alloc)),
     }
@@ -106,8 +107,8 @@ fn only(alloc: Global, action: Action) -> Result<Vec<Action>, AllocError>
 }
 
 /// A signal to each live process, the main one first.
-fn signals(alloc: Global, unit: UnitState, signal: Signal) -> Result<Vec<Action>, AllocError>
-    ensures { IfOk result (λ actions. map action_of actions.items ≡ map (λ number. SendSignal number signal) (live_numbers unit)) }
+fn signals(alloc: Global, unit: &UnitState, signal: Signal) -> Result<Vec<Action>, AllocError>
+    ensures { IfOk result (λ actions. map action_of actions.items ≡ map (λ number. SendSignal number signal) (live_numbers unit.now)) }
 {
     match (unit.main, unit.control) {
         (None, None) => Ok(Vec::new(alloc)),
@@ -131,19 +132,31 @@ fn signals(alloc: Global, unit: UnitState, signal: Signal) -> Result<Vec<Action>
     }
 }
 
+/// The number of the process that is started.
+pub fn number_of(next: NextNumber) -> ProcessNumber
+    requires { next < process_limit }
+    ensures { result ≡ next }
+{
+    match next.process() {
+        Some(number) => number,
+        None => unreachable!(),
+    }
+}
+
 /// The start of the command at this place of the list, under the next number.
 fn spawn(
     alloc: Global,
     settings: &ServiceSettings,
-    around: Around,
+    around: &Around,
     which: CommandList,
-    index: usize,
+    index: u32,
 ) -> Result<Vec<Action>, AllocError>
-    ensures { (unit : UnitState) → IfOk result (λ actions. AreActions (service_settings_of settings.now) around unit (Spawn which index) (map action_of actions.items)) }
+    requires { around.now.next < process_limit }
+    ensures { (unit : UnitState) → IfOk result (λ actions. AreActions (service_settings_of settings.now) around.now unit (Spawn which index) (map action_of actions.items)) }
 {
     let words = started_words(alloc, settings, which, index)?;
     let environment = environment_texts(alloc, settings.environment.as_slice())?;
-    let number = around.next;
+    let number = number_of(around.next);
     only(
         alloc,
         Action::Spawn {
@@ -158,11 +171,12 @@ fn spawn(
 pub fn actions_of(
     alloc: Global,
     settings: &ServiceSettings,
-    around: Around,
-    unit: UnitState,
+    around: &Around,
+    unit: &UnitState,
     order: Order,
 ) -> Result<Vec<Action>, AllocError>
-    ensures { IfOk result (λ actions. AreActions (service_settings_of settings.now) around unit order (map action_of actions.items)) }
+    requires { HasRoom around.now order }
+    ensures { IfOk result (λ actions. AreActions (service_settings_of settings.now) around.now unit.now order (map action_of actions.items)) }
 {
     match order {
         Order::Nothing => Ok(Vec::new(alloc)),

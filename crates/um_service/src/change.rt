@@ -1,30 +1,23 @@
 //! Parts of what follows for a unit.
 
 ghost use Rattle.std.specs.Prelude.{◌≡◌, ℕ};
-ghost use Rattle.um_model.specs.Transitions.{moment_after, has_number, is_live, just, asking, start_ends, start_fails, stop_ends};
+ghost use Rattle.um_model.specs.Transitions.{deadline_after, is_live, just, asking, start_ends, start_fails, stop_ends};
 
-use um_model::{Around, Change, Order, StartJob, UnitState};
+use um_model::{Change, Deadline, Moment, Order, Span, StartJob, UnitState};
 
-/// The moment a span later; none where the span never ends.
-pub fn moment_after(moment: u64, span: Option<u64>) -> Option<u64>
-    ensures { result ≡ moment_after moment span }
+/// The deadline a span after the moment; none where the span never ends.
+pub fn deadline_after(moment: Moment, span: Option<Span>) -> Option<Deadline>
+    ensures { result ≡ deadline_after moment span }
 {
     match span {
-        Some(span) => Some(moment.saturating_add(span)),
+        Some(span) => Some(moment.after(span)),
         None => None,
     }
 }
 
-/// Whether there is a process number left.
-pub fn has_number(around: Around) -> bool
-    ensures { result ≡ has_number around }
-{
-    around.next < 1 << 63
-}
-
 /// Whether a process of the unit is live.
-pub fn is_live(unit: UnitState) -> bool
-    ensures { result ≡ is_live unit }
+pub fn is_live(unit: &UnitState) -> bool
+    ensures { result ≡ is_live unit.now }
 {
     unit.main.is_some() || unit.control.is_some()
 }

@@ -71,8 +71,8 @@ fn is_at_index(sub: SubState) -> bool
 }
 
 /// Whether the command of the main process is written with `-`.
-fn main_has_dash(settings: &ServiceSettings, unit: UnitState) -> bool
-    ensures { result ≡ main_has_dash settings.now.kind (service_settings_of settings.now) unit }
+fn main_has_dash(settings: &ServiceSettings, unit: &UnitState) -> bool
+    ensures { result ≡ main_has_dash settings.now.kind (service_settings_of settings.now) unit.now }
 {
     match settings.kind {
         UnitKind::Simple | UnitKind::Exec => has_dash(settings, CommandList::OfStart, 0),
@@ -83,8 +83,8 @@ fn main_has_dash(settings: &ServiceSettings, unit: UnitState) -> bool
 }
 
 /// Whether the end of the process is clean (systemd.service(5), `SuccessExitStatus=`).
-pub fn is_clean(settings: &ServiceSettings, unit: UnitState, process: Process, end: End) -> bool
-    ensures { result ≡ is_clean (service_settings_of settings.now) unit process end }
+pub fn is_clean(settings: &ServiceSettings, unit: &UnitState, process: Process, end: End) -> bool
+    ensures { result ≡ is_clean (service_settings_of settings.now) unit.now process end }
 {
     if is_clean_alone(settings.kind, unit.sub, end) || settings.success.holds(end) {
         return true;
@@ -149,8 +149,8 @@ fn ended_in(set: &ExitSet, last: Option<End>) -> bool
 }
 
 /// Whether a restart is wanted: by the last end of the main process, else by the result.
-pub fn is_restart_wanted(settings: &ServiceSettings, unit: UnitState) -> bool
-    ensures { result ≡ is_restart_wanted (service_settings_of settings.now) unit }
+pub fn is_restart_wanted(settings: &ServiceSettings, unit: &UnitState) -> bool
+    ensures { result ≡ is_restart_wanted (service_settings_of settings.now) unit.now }
 {
     !ended_in(&settings.prevents_restart, unit.last)
         && (ended_in(&settings.forces_restart, unit.last)

@@ -12,8 +12,6 @@ mod settings;
 mod start;
 mod stop;
 mod table;
-#[cfg(test)]
-mod tests;
 
 pub use actions::Action;
 pub use laws::{
@@ -21,5 +19,7 @@ pub use laws::{
     the_next_number_stays_small,
 };
 pub use service::{Actions, Service};
-pub use um_model::{Around, CommandList, Order, StartJob, UnitEvent, UnitKind, UnitState};
+pub use um_model::{
+    Around, CommandList, NextNumber, Order, ProcessNumber, StartJob, UnitEvent, UnitKind, UnitState,
+};
 pub use um_unit::ServiceSettings;

@@ -4,7 +4,7 @@ ghost use Rattle.std.specs.Prelude.{◌≡◌, ℕ};
 ghost use Rattle.um_model.specs.Transitions.{resting, rests_for_good, awaits_restart, rests, rests_unless_live, terminates};
 ghost use Rattle.um_unit.specs.ServiceView.{service_settings_of};
 
-use crate::change::{asking, is_live, just, moment_after, stop_ends};
+use crate::change::{asking, deadline_after, is_live, just, stop_ends};
 use crate::ends::is_restart_wanted;
 use um_model::{Around, Change, Order, Signal, SubState, UnitResult, UnitState};
 use um_unit::ServiceSettings;
@@ -40,7 +40,7 @@ fn awaits_restart(settings: &ServiceSettings, around: Around, unit: UnitState) -
         sub: SubState::AutoRestart,
         main: None,
         control: None,
-        deadline: moment_after(around.moment, settings.restart_delay),
+        deadline: deadline_after(around.moment, settings.restart_delay),
         ..unit
     }))
 }
@@ -49,7 +49,7 @@ fn awaits_restart(settings: &ServiceSettings, around: Around, unit: UnitState) -
 pub fn rests(settings: &ServiceSettings, around: Around, unit: UnitState) -> Change
     ensures { result ≡ rests (service_settings_of settings.now) around unit }
 {
-    if !unit.asked && !around.stop_waits && is_restart_wanted(settings, unit) {
+    if !unit.asked && !around.stop_waits && is_restart_wanted(settings, &unit) {
         awaits_restart(settings, around, unit)
     } else {
         rests_for_good(unit)
@@ -60,7 +60,7 @@ pub fn rests(settings: &ServiceSettings, around: Around, unit: UnitState) -> Cha
 pub fn rests_unless_live(settings: &ServiceSettings, around: Around, unit: UnitState) -> Change
     ensures { result ≡ rests_unless_live (service_settings_of settings.now) around unit }
 {
-    if is_live(unit) {
+    if is_live(&unit) {
         just(unit)
     } else {
         rests(settings, around, unit)
@@ -71,14 +71,14 @@ pub fn rests_unless_live(settings: &ServiceSettings, around: Around, unit: UnitS
 pub fn terminates(settings: &ServiceSettings, around: Around, unit: UnitState) -> Change
     ensures { result ≡ terminates (service_settings_of settings.now) around unit }
 {
-    if !is_live(unit) {
+    if !is_live(&unit) {
         return rests(settings, around, unit);
     }
     asking(
         Order::Signal(Signal::Term),
         UnitState {
             sub: SubState::StopSigterm,
-            deadline: moment_after(around.moment, settings.timeout_stop),
+            deadline: deadline_after(around.moment, settings.timeout_stop),
             ..unit
         },
     )

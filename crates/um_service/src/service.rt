@@ -3,14 +3,14 @@
 ghost use Rattle.std.specs.Prelude.{◌≡◌, ◌+◌, ◌^◌, ◌≤◌, ℕ, map, IfOk, OnOk, OnErr};
 ghost use Rattle.um_model.specs.Transitions.{transition, spawned, AreActions, HasItsProcess};
 ghost use Rattle.um_model.specs.declared.service.UnitState.{UnitState};
-ghost use Rattle.um_service.specs.View.{action_of};
+ghost use Rattle.um_service.specs.View.{HasRoom, action_of};
 ghost use Rattle.um_unit.specs.ServiceView.{service_settings_of};
 
-use crate::actions::{Action, actions_of};
+use crate::actions::{Action, actions_of, number_of};
 use crate::table::transition;
 use std::alloc::{AllocError, Global};
 use std::marker::Model;
-use um_model::{Around, Order, StartJob, UnitEvent, UnitState};
+use um_model::{Around, NextNumber, Order, StartJob, UnitEvent, UnitState};
 use um_unit::ServiceSettings;
 
 /// What an event of a unit asks of its processes, and what becomes of its jobs.
@@ -23,7 +23,7 @@ pub struct Actions {
     /// Whether the running stop job ends, where there is one.
     pub stop_ends: bool,
     /// The next process number from now on.
-    pub next: u64,
+    pub next: NextNumber,
 }
 
 /// A unit as its processes and jobs have left it.
@@ -38,14 +38,14 @@ impl Model for Service {
     ghost view = { λ s. s.unit };
 }
 
-/// How many process numbers the order takes.
-fn spawned(order: Order) -> u64
-    ensures value { result ≡ spawned order }
-    ensures few { result ≤ 1 }
+/// The next process number behind the order.
+fn next_after(around: &Around, order: Order) -> NextNumber
+    requires { HasRoom around.now order }
+    ensures { result ≡ around.now.next + spawned order }
 {
     match order {
-        Order::Spawn(_, _) => 1,
-        Order::Nothing | Order::Signal(_) => 0,
+        Order::Spawn(_, _) => NextNumber::behind(number_of(around.next)),
+        Order::Nothing | Order::Signal(_) => around.next,
     }
 }
 
@@ -93,13 +93,13 @@ impl Service {
         ensures err { OnErr result (self.new ≡ self.old) }
     {
         let change = transition(settings, around, self.unit, event);
-        let actions = actions_of(alloc, settings, around, change.unit, change.order)?;
+        let actions = actions_of(alloc, settings, &around, &change.unit, change.order)?;
         self.unit = change.unit;
         Ok(Actions {
             actions,
             start: change.start,
             stop_ends: change.stop_ends,
-            next: around.next + spawned(change.order),
+            next: next_after(&around, change.order),
         })
     }
 }

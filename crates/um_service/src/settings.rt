@@ -1,7 +1,7 @@
 //! The commands of a unit's settings.
 
-ghost use Rattle.std.specs.Prelude.{◌≡◌, length};
-ghost use Rattle.um_model.specs.Settings.{commands_in, has_dash};
+ghost use Rattle.std.specs.Prelude.{◌≡◌, ◌+◌, if◌then◌else◌, Some, None};
+ghost use Rattle.um_model.specs.Settings.{commands_in, has_place, has_dash};
 ghost use Rattle.um_unit.specs.ServiceView.{service_settings_of};
 ghost use Rattle.um_words.specs.Commands.{commands_seen};
 
@@ -19,18 +19,28 @@ pub fn commands_in(settings: &ServiceSettings, which: CommandList) -> &[Command]
     }
 }
 
-/// How many commands the list has.
-pub fn count(settings: &ServiceSettings, which: CommandList) -> usize
-    ensures { result ≡ length (commands_in (service_settings_of settings.now) which) }
+/// Whether the list has a command at this place.
+pub fn has_place(settings: &ServiceSettings, which: CommandList, index: u32) -> bool
+    ensures { result ≡ has_place (commands_in (service_settings_of settings.now) which) index }
 {
-    commands_in(settings, which).len()
+    (index as usize) < commands_in(settings, which).len()
+}
+
+/// The place behind this one, where the list has a command there.
+pub fn next_place(settings: &ServiceSettings, which: CommandList, index: u32) -> Option<u32>
+    ensures { result ≡ (if has_place (commands_in (service_settings_of settings.now) which) (index + 1) then Some (index + 1) else None) }
+{
+    match index.checked_add(1) {
+        Some(next) if has_place(settings, which, next) => Some(next),
+        _ => None,
+    }
 }
 
 /// Whether the command at this place of the list is written with `-`.
-pub fn has_dash(settings: &ServiceSettings, which: CommandList, index: usize) -> bool
+pub fn has_dash(settings: &ServiceSettings, which: CommandList, index: u32) -> bool
     ensures { result ≡ has_dash (service_settings_of settings.now) which index }
 {
-    match commands_in(settings, which).get(index) {
+    match commands_in(settings, which).get(index as usize) {
         Some(command) => command.ignores_failure,
         None => false,
     }

@@ -1,13 +1,13 @@
 //! How a unit starts.
 
 ghost use Rattle.std.specs.Prelude.{◌≡◌, ℕ};
-ghost use Rattle.um_model.specs.Transitions.{lacks_number, start_command, start_simple, start_oneshot, start_of, start_at_rest, on_start, next_command, next_start, start_run_ends, on_executed};
+ghost use Rattle.um_model.specs.Transitions.{lacks_number, start_command, start_simple, start_oneshot, start_of, starts, next_command, next_start, start_goes_on, executed};
 ghost use Rattle.um_unit.specs.ServiceView.{service_settings_of};
 
-use crate::change::{asking, has_number, just, moment_after, start_ends, start_fails};
+use crate::change::{asking, deadline_after, just, start_ends, start_fails};
 use crate::rest::{rests, rests_for_good};
-use crate::settings::count;
-use crate::stop::run_ends;
+use crate::settings::{has_place, next_place};
+use crate::stop::exits;
 use um_limit::Window;
 use um_model::{Around, Change, CommandList, Order, SubState, UnitKind, UnitResult, UnitState};
 use um_unit::ServiceSettings;
@@ -23,23 +23,18 @@ fn lacks_number(unit: UnitState) -> Change
 }
 
 /// The `ExecStart=` command at this place is started as the main process, and the start goes on.
-fn start_command(
-    settings: &ServiceSettings,
-    around: Around,
-    unit: UnitState,
-    index: usize,
-) -> Change
+fn start_command(settings: &ServiceSettings, around: Around, unit: UnitState, index: u32) -> Change
     ensures { result ≡ start_command (service_settings_of settings.now) around unit index }
 {
-    if !has_number(around) {
+    let Some(number) = around.next.process() else {
         return lacks_number(unit);
-    }
+    };
     asking(
         Order::Spawn(CommandList::OfStart, index),
         UnitState {
             sub: SubState::Start,
-            main: Some(around.next),
-            deadline: moment_after(around.moment, settings.timeout_start),
+            main: Some(number),
+            deadline: deadline_after(around.moment, settings.timeout_start),
             ..unit
         },
     )
@@ -49,14 +44,14 @@ fn start_command(
 fn start_simple(around: Around, unit: UnitState) -> Change
     ensures { result ≡ start_simple around unit }
 {
-    if !has_number(around) {
+    let Some(number) = around.next.process() else {
         return lacks_number(unit);
-    }
+    };
     start_ends(asking(
         Order::Spawn(CommandList::OfStart, 0),
         UnitState {
             sub: SubState::Running,
-            main: Some(around.next),
+            main: Some(number),
             deadline: None,
             ..unit
         },
@@ -67,7 +62,7 @@ fn start_simple(around: Around, unit: UnitState) -> Change
 fn start_oneshot(settings: &ServiceSettings, around: Around, unit: UnitState) -> Change
     ensures { result ≡ start_oneshot (service_settings_of settings.now) around unit }
 {
-    if count(settings, CommandList::OfStart) > 0 {
+    if has_place(settings, CommandList::OfStart, 0) {
         return start_command(settings, around, unit, 0);
     }
     start_ends(just(UnitState {
@@ -93,9 +88,9 @@ fn start_of(settings: &ServiceSettings, around: Around, unit: UnitState) -> Chan
     }
 }
 
-/// A start of a unit at rest: counted by its limit, or refused by it (systemd.unit(5), `StartLimitIntervalSec=`).
-fn start_at_rest(settings: &ServiceSettings, around: Around, unit: UnitState) -> Change
-    ensures { result ≡ start_at_rest (service_settings_of settings.now) around unit }
+/// A start of a unit at rest: refused by its limit, or counted by it (systemd.unit(5), `StartLimitIntervalSec=`).
+pub fn starts(settings: &ServiceSettings, around: Around, unit: UnitState) -> Change
+    ensures { result ≡ starts (service_settings_of settings.now) around unit }
 {
     let mut window = Window::from_counted(unit.window);
     if !window.count(around.moment, settings.limit_interval, settings.limit_burst) {
@@ -117,32 +112,17 @@ fn start_at_rest(settings: &ServiceSettings, around: Around, unit: UnitState) ->
     start_of(settings, around, fresh)
 }
 
-/// A start job of a unit that can be started begins.
-pub fn on_start(settings: &ServiceSettings, around: Around, unit: UnitState) -> Change
-    ensures { result ≡ on_start (service_settings_of settings.now) around unit unit.sub }
-{
-    match unit.sub {
-        SubState::Running | SubState::Exited | SubState::Active => start_ends(just(unit)),
-        SubState::Dead | SubState::Failed | SubState::AutoRestart => {
-            start_at_rest(settings, around, unit)
-        }
-        SubState::Start | SubState::Stop | SubState::StopSigterm | SubState::StopSigkill => {
-            just(unit)
-        }
-    }
-}
-
 /// The next command of a oneshot is started as its main process.
-fn next_command(around: Around, unit: UnitState, index: usize) -> Change
+fn next_command(around: Around, unit: UnitState, index: u32) -> Change
     ensures { result ≡ next_command around unit index }
 {
-    if !has_number(around) {
+    let Some(number) = around.next.process() else {
         return lacks_number(UnitState { index, ..unit });
-    }
+    };
     asking(
         Order::Spawn(CommandList::OfStart, index),
         UnitState {
-            main: Some(around.next),
+            main: Some(number),
             index,
             ..unit
         },
@@ -153,44 +133,34 @@ fn next_command(around: Around, unit: UnitState, index: usize) -> Change
 fn next_start(settings: &ServiceSettings, around: Around, unit: UnitState) -> Change
     ensures { result ≡ next_start (service_settings_of settings.now) around unit }
 {
-    let count = count(settings, CommandList::OfStart);
-    if unit.index < count && unit.index + 1 < count {
-        next_command(around, unit, unit.index + 1)
-    } else {
-        start_ends(run_ends(settings, around, unit, true))
+    match next_place(settings, CommandList::OfStart, unit.index) {
+        Some(next) => next_command(around, unit, next),
+        None => start_ends(exits(settings, around, unit)),
     }
 }
 
-/// The main process ended during the start: cleanly, or not.
-pub fn start_run_ends(
-    settings: &ServiceSettings,
-    around: Around,
-    unit: UnitState,
-    clean: bool,
-) -> Change
-    ensures { result ≡ start_run_ends settings.now.kind (service_settings_of settings.now) around unit clean }
+/// The main process ended well during the start: a oneshot goes on with its next command.
+pub fn start_goes_on(settings: &ServiceSettings, around: Around, unit: UnitState) -> Change
+    ensures { result ≡ start_goes_on settings.now.kind (service_settings_of settings.now) around unit }
 {
-    if !clean {
-        return start_fails(rests(settings, around, unit));
-    }
     match settings.kind {
         UnitKind::Oneshot => next_start(settings, around, unit),
         UnitKind::Simple | UnitKind::Exec | UnitKind::Target => {
-            start_ends(run_ends(settings, around, unit, true))
+            start_ends(exits(settings, around, unit))
         }
     }
 }
 
-/// The program of the main process runs: the start of an exec service waits for it.
-pub fn on_executed(kind: UnitKind, unit: UnitState) -> Change
-    ensures { result ≡ on_executed kind unit unit.sub }
+/// The program of the main process runs: a start that waits for it is done.
+pub fn executed(kind: UnitKind, unit: UnitState) -> Change
+    ensures { result ≡ executed kind unit }
 {
-    match (kind, unit.sub) {
-        (UnitKind::Simple | UnitKind::Exec, SubState::Start) => start_ends(just(UnitState {
+    match kind {
+        UnitKind::Simple | UnitKind::Exec => start_ends(just(UnitState {
             sub: SubState::Running,
             deadline: None,
             ..unit
         })),
-        _ => just(unit),
+        UnitKind::Oneshot | UnitKind::Target => just(unit),
     }
 }

@@ -1,44 +1,44 @@
 //! How a unit stops.
 
 ghost use Rattle.std.specs.Prelude.{◌≡◌, ℕ};
-ghost use Rattle.um_model.specs.Transitions.{stop_command, winds_down, next_stop, on_stop, run_ends};
+ghost use Rattle.um_model.specs.Transitions.{stop_command, winds_down, next_stop, exits, asked, dies, kills};
 ghost use Rattle.um_unit.specs.ServiceView.{service_settings_of};
 
-use crate::change::{asking, has_number, just, moment_after, start_fails, stop_ends};
+use crate::change::{asking, deadline_after, just, stop_ends};
 use crate::rest::terminates;
-use crate::settings::count;
-use um_model::{Around, Change, CommandList, Order, SubState, UnitResult, UnitState};
+use crate::settings::{has_place, next_place};
+use um_model::{Around, Change, CommandList, Order, Signal, SubState, UnitResult, UnitState};
 use um_unit::ServiceSettings;
 
 /// The `ExecStop=` command at this place is started; without a number for it the unit's processes are told to end.
-fn stop_command(settings: &ServiceSettings, around: Around, unit: UnitState, index: usize) -> Change
+fn stop_command(settings: &ServiceSettings, around: Around, unit: UnitState, index: u32) -> Change
     ensures { result ≡ stop_command (service_settings_of settings.now) around unit index }
 {
-    if !has_number(around) {
+    let Some(number) = around.next.process() else {
         let spent = UnitState {
             result: UnitResult::Resources,
             index,
             ..unit
         };
         return terminates(settings, around, spent);
-    }
+    };
     asking(
         Order::Spawn(CommandList::OfStop, index),
         UnitState {
             sub: SubState::Stop,
-            control: Some(around.next),
+            control: Some(number),
             index,
-            deadline: moment_after(around.moment, settings.timeout_stop),
+            deadline: deadline_after(around.moment, settings.timeout_stop),
             ..unit
         },
     )
 }
 
 /// The unit goes down, by its `ExecStop=` commands where it has any.
-fn winds_down(settings: &ServiceSettings, around: Around, unit: UnitState) -> Change
+pub fn winds_down(settings: &ServiceSettings, around: Around, unit: UnitState) -> Change
     ensures { result ≡ winds_down (service_settings_of settings.now) around unit }
 {
-    if count(settings, CommandList::OfStop) > 0 {
+    if has_place(settings, CommandList::OfStop, 0) {
         stop_command(settings, around, unit, 0)
     } else {
         terminates(settings, around, unit)
@@ -49,46 +49,57 @@ fn winds_down(settings: &ServiceSettings, around: Around, unit: UnitState) -> Ch
 pub fn next_stop(settings: &ServiceSettings, around: Around, unit: UnitState) -> Change
     ensures { result ≡ next_stop (service_settings_of settings.now) around unit }
 {
-    let count = count(settings, CommandList::OfStop);
-    if unit.index < count && unit.index + 1 < count {
-        stop_command(settings, around, unit, unit.index + 1)
-    } else {
-        terminates(settings, around, unit)
+    match next_place(settings, CommandList::OfStop, unit.index) {
+        Some(next) => stop_command(settings, around, unit, next),
+        None => terminates(settings, around, unit),
     }
 }
 
-/// The main process of a unit that is up ended: cleanly, or not.
-pub fn run_ends(settings: &ServiceSettings, around: Around, unit: UnitState, clean: bool) -> Change
-    ensures { result ≡ run_ends (service_settings_of settings.now) around unit clean }
+/// The main process ended well: the unit has exited (systemd.service(5), `RemainAfterExit=`), or goes down.
+pub fn exits(settings: &ServiceSettings, around: Around, unit: UnitState) -> Change
+    ensures { result ≡ exits (service_settings_of settings.now) around unit }
 {
-    if clean && settings.remains {
-        just(UnitState {
-            sub: SubState::Exited,
-            deadline: None,
-            ..unit
-        })
-    } else {
-        winds_down(settings, around, unit)
+    if !settings.remains {
+        return winds_down(settings, around, unit);
     }
+    just(UnitState {
+        sub: SubState::Exited,
+        deadline: None,
+        ..unit
+    })
 }
 
-/// A stop job begins, or a unit that this one is bound to is down.
-pub fn on_stop(settings: &ServiceSettings, around: Around, unit: UnitState) -> Change
-    ensures { result ≡ on_stop (service_settings_of settings.now) around unit unit.sub }
+/// A stop was asked for.
+pub fn asked(unit: UnitState) -> UnitState
+    ensures { result ≡ asked unit }
 {
-    let asked = UnitState {
+    UnitState {
         asked: true,
         ..unit
-    };
-    match unit.sub {
-        SubState::Running | SubState::Exited => winds_down(settings, around, asked),
-        SubState::Start => start_fails(terminates(settings, around, asked)),
-        SubState::AutoRestart | SubState::Active => stop_ends(just(UnitState {
-            sub: SubState::Dead,
-            deadline: None,
-            ..unit
-        })),
-        SubState::Stop | SubState::StopSigterm | SubState::StopSigkill => just(asked),
-        SubState::Dead | SubState::Failed => stop_ends(just(unit)),
     }
+}
+
+/// The unit is dead at once.
+pub fn dies(unit: UnitState) -> Change
+    ensures { result ≡ dies unit }
+{
+    stop_ends(just(UnitState {
+        sub: SubState::Dead,
+        deadline: None,
+        ..unit
+    }))
+}
+
+/// The unit's live processes are killed.
+pub fn kills(settings: &ServiceSettings, around: Around, unit: UnitState) -> Change
+    ensures { result ≡ kills (service_settings_of settings.now) around unit }
+{
+    asking(
+        Order::Signal(Signal::Kill),
+        UnitState {
+            sub: SubState::StopSigkill,
+            deadline: deadline_after(around.moment, settings.timeout_stop),
+            ..unit
+        },
+    )
 }

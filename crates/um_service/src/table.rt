@@ -1,19 +1,17 @@
 //! The service table.
 
-ghost use Rattle.std.specs.Prelude.{◌≡◌, ℕ};
-ghost use Rattle.um_model.specs.Transitions.{noted, goes_on, on_control_end, timed_out, on_deadline, transition};
-ghost use Rattle.um_model.specs.declared.transition.UnitEvent.TheVariants.{MainEnds};
+ghost use Rattle.std.specs.Prelude.{◌≡◌};
+ghost use Rattle.um_model.specs.Transitions.{noted, without_main, without_control, timed_out, is_well, row, transition};
 ghost use Rattle.um_unit.specs.ServiceView.{service_settings_of};
 
-use crate::change::{asking, just, moment_after, start_fails};
+use crate::change::{just, start_ends, start_fails, stop_ends};
 use crate::ends::{is_clean, is_told, or_later, unclean_result};
-use crate::rest::{rests_for_good, rests_unless_live, terminates};
+use crate::rest::{rests, rests_for_good, rests_unless_live, terminates};
 use crate::settings::has_dash;
-use crate::start::{on_executed, on_start, start_run_ends};
-use crate::stop::{next_stop, on_stop, run_ends};
+use crate::start::{executed, start_goes_on, starts};
+use crate::stop::{asked, dies, exits, kills, next_stop, winds_down};
 use um_model::{
-    Around, Change, CommandList, End, Order, Process, Signal, SubState, UnitEvent, UnitResult,
-    UnitState,
+    Around, Change, CommandList, End, Process, SubState, UnitEvent, UnitResult, UnitState,
 };
 use um_unit::ServiceSettings;
 
@@ -30,56 +28,29 @@ fn noted(unit: UnitState, end: End, clean: bool) -> UnitState
     }
 }
 
-/// The main process ended.
-fn on_main_end(settings: &ServiceSettings, around: Around, unit: UnitState, end: End) -> Change
-    ensures { result ≡ transition (service_settings_of settings.now) around unit (MainEnds end) }
+/// The unit without its main process, which ended so.
+fn without_main(settings: &ServiceSettings, unit: UnitState, end: End) -> UnitState
+    ensures { result ≡ without_main (service_settings_of settings.now) unit end }
 {
-    let clean = is_clean(settings, unit, Process::Main, end);
-    let ended = UnitState {
+    let clean = is_clean(settings, &unit, Process::Main, end);
+    let left = UnitState {
         main: None,
         last: Some(end),
         ..unit
     };
-    let left = noted(ended, end, clean);
-    match unit.sub {
-        SubState::Start => start_run_ends(settings, around, left, clean),
-        SubState::Running => run_ends(settings, around, left, clean),
-        SubState::Stop => just(left),
-        SubState::StopSigterm | SubState::StopSigkill => rests_unless_live(settings, around, left),
-        _ => just(unit),
-    }
+    noted(left, end, clean)
 }
 
-/// Whether an `ExecStop=` command ended so that the next one is started.
-fn goes_on(settings: &ServiceSettings, unit: UnitState, end: End) -> bool
-    ensures { result ≡ goes_on (service_settings_of settings.now) unit end }
+/// The unit without its control process, which ended so.
+fn without_control(settings: &ServiceSettings, unit: UnitState, end: End) -> UnitState
+    ensures { result ≡ without_control (service_settings_of settings.now) unit end }
 {
-    is_clean(settings, unit, Process::Control, end)
-        || is_told(end) && has_dash(settings, CommandList::OfStop, unit.index)
-}
-
-/// The control process ended.
-fn on_control_end(settings: &ServiceSettings, around: Around, unit: UnitState, end: End) -> Change
-    ensures { result ≡ on_control_end (service_settings_of settings.now) around unit end unit.sub }
-{
+    let clean = is_clean(settings, &unit, Process::Control, end);
     let left = UnitState {
         control: None,
         ..unit
     };
-    match unit.sub {
-        SubState::Stop => {
-            if goes_on(settings, unit, end) {
-                next_stop(settings, around, left)
-            } else {
-                terminates(settings, around, noted(left, end, false))
-            }
-        }
-        SubState::StopSigterm | SubState::StopSigkill => {
-            let clean = is_clean(settings, unit, Process::Control, end);
-            rests_unless_live(settings, around, noted(left, end, clean))
-        }
-        _ => just(unit),
-    }
+    noted(left, end, clean)
 }
 
 /// The unit whose time is over: the result says so where there was none.
@@ -92,33 +63,110 @@ fn timed_out(unit: UnitState) -> UnitState
     }
 }
 
-/// The unit's deadline passes.
-fn on_deadline(settings: &ServiceSettings, around: Around, unit: UnitState) -> Change
-    ensures { result ≡ on_deadline (service_settings_of settings.now) around unit unit.sub }
+/// Whether the event is as it should be: the unit to be started is loadable; the process ended cleanly, or an `ExecStop=`
+/// command as its `-` allows.
+fn is_well(settings: &ServiceSettings, around: &Around, unit: &UnitState, event: UnitEvent) -> bool
+    ensures { result ≡ is_well (service_settings_of settings.now) around.now unit.now event }
 {
-    match unit.sub {
-        SubState::Start => {
-            let late = UnitState {
+    let index = unit.index;
+    match event {
+        UnitEvent::StartBegins => around.loadable,
+        UnitEvent::MainEnds(end) => is_clean(settings, unit, Process::Main, end),
+        UnitEvent::ControlEnds(end) => {
+            is_clean(settings, unit, Process::Control, end)
+                || is_told(end) && has_dash(settings, CommandList::OfStop, index)
+        }
+        UnitEvent::StopBegins
+        | UnitEvent::BoundStop
+        | UnitEvent::Executed
+        | UnitEvent::DeadlinePasses => true,
+    }
+}
+
+/// The rows: what follows from the event, which is well or not. The first that fits counts.
+fn row(
+    settings: &ServiceSettings,
+    around: Around,
+    unit: UnitState,
+    event: UnitEvent,
+    well: bool,
+) -> Change
+    ensures { result ≡ row (service_settings_of settings.now) around unit unit.sub event well }
+{
+    use SubState::{
+        Active, AutoRestart, Dead, Exited, Failed, Running, Start, Stop, StopSigkill, StopSigterm,
+    };
+    use UnitEvent::{ControlEnds, DeadlinePasses, Executed, MainEnds, StartBegins, StopBegins};
+    match (unit.sub, event, well) {
+        (_, StartBegins, false) => start_fails(just(UnitState {
+            result: UnitResult::NotLoaded,
+            ..unit
+        })),
+        (Running | Exited | Active, StartBegins, _) => start_ends(just(unit)),
+        (Dead | Failed | AutoRestart, StartBegins, _) => starts(settings, around, unit),
+        (Start, Executed, _) => executed(settings.kind, unit),
+        (Start, MainEnds(end), true) => {
+            start_goes_on(settings, around, without_main(settings, unit, end))
+        }
+        (Start, MainEnds(end), false) => start_fails(rests(
+            settings,
+            around,
+            without_main(settings, unit, end),
+        )),
+        (Start, DeadlinePasses, _) => start_fails(terminates(
+            settings,
+            around,
+            UnitState {
                 result: UnitResult::Timeout,
                 ..unit
-            };
-            start_fails(terminates(settings, around, late))
+            },
+        )),
+        (Running, MainEnds(end), true) => exits(
+            settings,
+            around,
+            without_main(settings, unit, end),
+        ),
+        (Running, MainEnds(end), false) => {
+            winds_down(settings, around, without_main(settings, unit, end))
         }
-        SubState::Stop => terminates(settings, around, timed_out(unit)),
-        SubState::StopSigterm => asking(
-            Order::Signal(Signal::Kill),
+        (Running | Exited, StopBegins, _) => winds_down(settings, around, asked(unit)),
+        (Start, StopBegins, _) => start_fails(terminates(settings, around, asked(unit))),
+        (AutoRestart, StopBegins, _) => dies(unit),
+        (Stop | StopSigterm | StopSigkill, StopBegins, _) => just(asked(unit)),
+        (Active, StopBegins, _) => dies(unit),
+        (Dead | Failed, StopBegins, _) => stop_ends(just(unit)),
+        (Stop, ControlEnds(_), true) => next_stop(
+            settings,
+            around,
             UnitState {
-                sub: SubState::StopSigkill,
-                deadline: moment_after(around.moment, settings.timeout_stop),
-                ..timed_out(unit)
+                control: None,
+                ..unit
             },
         ),
-        SubState::StopSigkill => rests_for_good(timed_out(unit)),
+        (Stop, ControlEnds(end), false) => {
+            terminates(settings, around, without_control(settings, unit, end))
+        }
+        (Stop, MainEnds(end), _) => just(without_main(settings, unit, end)),
+        (Stop, DeadlinePasses, _) => terminates(settings, around, timed_out(unit)),
+        (StopSigterm, MainEnds(end), _) => {
+            rests_unless_live(settings, around, without_main(settings, unit, end))
+        }
+        (StopSigterm, ControlEnds(end), _) => {
+            rests_unless_live(settings, around, without_control(settings, unit, end))
+        }
+        (StopSigkill, MainEnds(end), _) => {
+            rests_unless_live(settings, around, without_main(settings, unit, end))
+        }
+        (StopSigkill, ControlEnds(end), _) => {
+            rests_unless_live(settings, around, without_control(settings, unit, end))
+        }
+        (StopSigterm, DeadlinePasses, _) => kills(settings, around, timed_out(unit)),
+        (StopSigkill, DeadlinePasses, _) => rests_for_good(timed_out(unit)),
         _ => just(unit),
     }
 }
 
-/// What follows from the event, by the first row that fits.
+/// What follows from the event. A bound stop is as a stop job that begins.
 pub fn transition(
     settings: &ServiceSettings,
     around: Around,
@@ -128,15 +176,10 @@ pub fn transition(
     ensures { result ≡ transition (service_settings_of settings.now) around unit event }
 {
     match event {
-        UnitEvent::StartBegins if !around.loadable => start_fails(just(UnitState {
-            result: UnitResult::NotLoaded,
-            ..unit
-        })),
-        UnitEvent::StartBegins => on_start(settings, around, unit),
-        UnitEvent::StopBegins | UnitEvent::BoundStop => on_stop(settings, around, unit),
-        UnitEvent::Executed => on_executed(settings.kind, unit),
-        UnitEvent::MainEnds(end) => on_main_end(settings, around, unit, end),
-        UnitEvent::ControlEnds(end) => on_control_end(settings, around, unit, end),
-        UnitEvent::DeadlinePasses => on_deadline(settings, around, unit),
+        UnitEvent::BoundStop => row(settings, around, unit, UnitEvent::StopBegins, true),
+        _ => {
+            let well = is_well(settings, &around, &unit, event);
+            row(settings, around, unit, event, well)
+        }
     }
 }

@@ -20,12 +20,21 @@ pub struct Header {
     pub size: u64,
 }
 
+/// The first bytes of a header.
+const FORMAT: &[u8] = b"UMSLOT01";
+
+/// The byte of a header at which its generation begins, in eight bytes.
+const GENERATION_AT: usize = 8;
+
+/// The byte of a header at which the length of its body begins, in eight bytes.
+const SIZE_AT: usize = 16;
+
 /// The sector of a header.
 pub fn header_sector(generation: u64, size: u64) -> Sector
     ensures { result ≡ store.header_sector generation size }
 {
     let mut fields = Fields::new();
-    fields.put(b"UMSLOT01");
+    fields.put(FORMAT);
     fields.put_u64(generation);
     fields.put_u64(size);
     fields.sector()
@@ -35,8 +44,8 @@ pub fn header_sector(generation: u64, size: u64) -> Sector
 pub fn read_header(layout: Layout, sector: &Sector) -> Option<Header>
     ensures { ReadsHeader layout sector.now result }
 {
-    let generation = u64_at(sector, 8);
-    let size = u64_at(sector, 16);
+    let generation = u64_at(sector, GENERATION_AT);
+    let size = u64_at(sector, SIZE_AT);
     if generation == 0 || size > layout.body_limit() as u64 {
         return None;
     }

@@ -7,8 +7,6 @@ mod header;
 mod laws;
 mod read;
 mod sectors;
-#[cfg(test)]
-mod tests;
 mod write;
 
 pub use first::{read_superblock, superblock};

@@ -7,7 +7,7 @@ ghost use Rattle.um_slot.specs.Reading.{newer_of, Finds};
 use crate::header::{Header, Home, read_header};
 use std::alloc::Global;
 use um_model::{Layout, Slot};
-use um_sector::{Disk, Sector};
+use um_sector::{Disk, SECTOR_BYTES, Sector};
 use um_wire::Refusal;
 
 /// The newest snapshot.
@@ -44,8 +44,8 @@ fn newest_header<D: Disk>(disk: &mut D, layout: Layout) -> Result<Option<(Slot, 
     ensures size { D.size disk.new ≡ D.size disk.old }
     ensures honest { D.honest disk.new ≡ D.honest disk.old }
 {
-    let mut a: Sector = [0; 512];
-    let mut b: Sector = [0; 512];
+    let mut a: Sector = [0; SECTOR_BYTES];
+    let mut b: Sector = [0; SECTOR_BYTES];
     disk.read(layout.slot_start(Slot::A), &mut a)?;
     disk.read(layout.slot_start(Slot::B), &mut b)?;
     Ok(newer(read_header(layout, &a), read_header(layout, &b)))
@@ -55,7 +55,7 @@ fn newest_header<D: Disk>(disk: &mut D, layout: Layout) -> Result<Option<(Slot, 
 fn front(sector: &Sector, count: usize) -> &[u8]
     ensures { result.now ≡ take count sector.now }
 {
-    if count < 512 {
+    if count < SECTOR_BYTES {
         let (front, _) = sector.split_at(count);
         front
     } else {
@@ -79,10 +79,10 @@ fn read_body<D: Disk>(
     ensures honest { D.honest disk.new ≡ D.honest disk.old }
 {
     let mut body = Vec::new(alloc);
-    let mut sector: Sector = [0; 512];
-    for i in 0..size.div_ceil(512) {
+    let mut sector: Sector = [0; SECTOR_BYTES];
+    for i in 0..size.div_ceil(SECTOR_BYTES) {
         disk.read(at + i, &mut sector)?;
-        body.extend_from_slice(front(&sector, size - 512 * i))?;
+        body.extend_from_slice(front(&sector, size - SECTOR_BYTES * i))?;
     }
     Ok(body)
 }

@@ -1,21 +1,8 @@
-ghost use Rattle.std.specs.Prelude.{◌≡◌, ◌≤◌, ◌<◌, ◌*◌, ℕ, [], length, take, drop, IfOk, slice_index_or};
+ghost use Rattle.std.specs.Prelude.{◌≡◌, ◌≤◌, ◌<◌, ℕ, [], length, IfOk, slice_index_or};
 ghost use Rattle.um_model.specs.Store.{filled, body_sector, sector_count};
 
 use std::alloc::{AllocError, Global};
-use um_sector::{Fields, Sector};
-
-/// At most 512 bytes, and those behind them.
-fn next_chunk(bytes: &[u8]) -> (&[u8], &[u8])
-    ensures chunk { result.0.now ≡ take 512 bytes.now }
-    ensures behind { result.1.now ≡ drop 512 bytes.now }
-    ensures short { length result.0.now ≤ 512 }
-{
-    if bytes.len() < 512 {
-        (bytes, &[])
-    } else {
-        bytes.split_at(512)
-    }
-}
+use um_sector::{Fields, SECTOR_BYTES, Sector, next_chunk};
 
 /// A sector of these bytes.
 fn sector_of(bytes: &[u8]) -> Sector
@@ -34,8 +21,8 @@ pub fn body_sectors(alloc: Global, body: &[u8]) -> Result<Vec<Sector>, AllocErro
 {
     let mut run = Vec::new(alloc);
     let mut rest = body;
-    for _ in 0..body.len().div_ceil(512) {
-        let (chunk, behind) = next_chunk(rest);
+    for _ in 0..body.len().div_ceil(SECTOR_BYTES) {
+        let (chunk, behind) = next_chunk(rest, SECTOR_BYTES);
         run.push(sector_of(chunk))?;
         rest = behind;
     }

@@ -3,8 +3,6 @@
 
 mod expansion;
 mod laws;
-#[cfg(test)]
-mod tests;
 
 pub use expansion::expand;
 pub use laws::{a_text_has_one_expansion, each_expansion_is_found};

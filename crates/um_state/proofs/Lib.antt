@@ -1,1 +1,2 @@
-pub mod SameUnits
+pub mod ReadyLaws
+pub mod NextJob

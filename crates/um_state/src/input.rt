@@ -1,33 +1,87 @@
-use um_model::End;
+ghost use Rattle.std.specs.Prelude.{◌≡◌};
+ghost use Rattle.um_model.specs.Machine as model;
+
+use um_model::{End, InstallVerb, JobMode, Moment, UnitVerb};
 use um_name::UnitName;
 
-/// What happens to the manager.
+/// What is asked of the manager, and may be refused.
 #[derive(Debug, Drop)]
-pub enum Event {
+pub enum Command {
     /// Put the text into the tree as the file at the path.
-    PutFile { path: String, text: String },
+    PutFile {
+        path: String,
+        text: String,
+    },
     /// Put a link to the target into the tree at the path.
-    PutLink { path: String, target: String },
+    PutLink {
+        path: String,
+        target: String,
+    },
     /// Remove what stands in the tree at the path.
-    Remove { path: String },
+    Remove {
+        path: String,
+    },
     /// Load the tree in hand (systemctl(1), `daemon-reload`).
     DaemonReload,
-    /// Start the unit (systemctl(1), `start`).
-    StartUnit { unit: UnitName },
-    /// Stop the unit (systemctl(1), `stop`).
-    StopUnit { unit: UnitName },
-    /// The process of this number ended.
+    /// Start the unit, stop it or restart it (systemctl(1), `start`, `stop`, `restart`, `try-restart`).
+    ForUnit {
+        verb: UnitVerb,
+        unit: UnitName,
+        mode: JobMode,
+    },
+    /// Enable the unit, disable, mask or unmask it (systemctl(1)), and load the tree that comes of it.
+    Install {
+        verb: InstallVerb,
+        unit: UnitName,
+    },
+}
+
+/// What happens to the manager, and is never refused.
+#[derive(Debug, Drop)]
+pub enum Happening {
+    /// The process of this number ended. A number that no live process has is no fault: it has no effect.
     ProcessEnded { number: u64, end: End },
     /// Time has passed.
     Tick,
 }
 
+/// What comes in.
+#[derive(Debug, Drop)]
+pub enum Event {
+    Commanded(Command),
+    Happened(Happening),
+}
+
 /// An event with its moment.
 #[derive(Debug, Drop)]
 pub struct Input {
-    /// In microseconds; one before the clock counts as the clock.
-    pub moment: u64,
-    pub event: Event,
+    moment: Moment,
+    event: Event,
+}
+
+impl Input {
+    ghost use Rattle.um_state.specs.View.{input_of, event_of};
+
+    /// The event at this moment; one before the clock counts as the clock.
+    pub fn new(moment: Moment, event: Event) -> Input
+        ensures { input_of result ≡ record { moment = moment; event = event_of event } }
+    {
+        Input { moment, event }
+    }
+
+    /// Its moment.
+    pub fn moment(&self) -> Moment
+        ensures { result ≡ (input_of self.now).moment }
+    {
+        self.moment
+    }
+
+    /// What comes in.
+    pub fn event(&self) -> &Event
+        ensures { event_of result.now ≡ (input_of self.now).event }
+    {
+        &self.event
+    }
 }
 
 /// What is asked of the manager and changes nothing.
@@ -39,4 +93,6 @@ pub enum Query {
     IsActive { unit: UnitName },
     /// Its files in the tree in hand (systemctl(1), `cat`).
     Cat { unit: UnitName },
+    /// How it is enabled in the tree in hand (systemctl(1), `is-enabled`).
+    IsEnabled { unit: UnitName },
 }

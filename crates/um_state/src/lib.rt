@@ -1,14 +1,16 @@
 //! What comes into the manager, what it answers and asks for, and its state, each seen as the value of the definitions.
 #![tactic(auto)]
 
+mod boot;
 mod input;
+mod laws;
 mod reply;
 mod state;
-#[cfg(test)]
-mod tests;
 mod units;
 
-pub use input::{Event, Input, Query};
+pub use boot::BootId;
+pub use input::{Command, Event, Happening, Input, Query};
+pub use laws::{pending_jobs_are_told_apart_by_look_ups, units_are_told_apart_by_look_ups};
 pub use reply::{Reply, UnitShown};
 pub use state::State;
 pub use um_service::Action;

@@ -1,4 +1,4 @@
-use um_model::{ActiveState, LoadState, UnitState};
+use um_model::{ActiveState, Enabling, LoadState, UnitState};
 use um_resolve::UnitFile;
 use um_service::Action;
 use um_unit::Warning;
@@ -26,6 +26,13 @@ pub enum Reply {
     Activity(ActiveState),
     /// The files of a unit, its own and then its drop-ins.
     Files(Vec<UnitFile>),
+    /// The paths at which links were made, and those at which they were removed, each ascending.
+    Relinked {
+        made: Vec<String>,
+        removed: Vec<String>,
+    },
+    /// How a unit is enabled.
+    EnabledAs(Enabling),
     /// The actions since they were last asked for.
     Told(Vec<Action>),
     Refused(Refusal),

@@ -1,25 +1,29 @@
-ghost use Rattle.std.specs.Prelude.{◌≡◌, IfOk};
+ghost use Rattle.std.specs.Prelude.{◌≡◌, string_bytes, IfOk, OnOk, OnErr, IfErr, Ok, Err};
 ghost use Rattle.um_model.specs.Machine.{empty_state};
+ghost use Rattle.um_model.specs.Service.{with_unit};
+ghost use Rattle.um_model.specs.Jobs.{with_jobs};
+ghost use Rattle.um_model.specs.Tree.{put_file, put_link, remove_at};
+ghost use Rattle.um_wire.specs.Refusal.{refused_of};
+ghost use Rattle.um_wire.specs.declared.refusal.Refusal.TheVariants.{NoMemory};
 
+use crate::boot::BootId;
 use crate::units::{Pending, Units};
 use std::alloc::{AllocError, Global};
+use um_model::{Moment, NextNumber, UnitJobs, UnitState};
+use um_name::UnitName;
 use um_tree::Tree;
+use um_wire::Refusal;
 
 /// The state of the manager.
 #[derive(Drop)]
 pub struct State {
-    /// The tree in hand, which the next reload loads.
-    pub tree: Tree,
-    /// The tree as it was last loaded.
-    pub loaded: Tree,
-    /// The boot's id, at most 64 bytes.
-    pub boot: String,
-    /// The moment of the last step, in microseconds, at most 2^62.
-    pub clock: u64,
-    /// The next process number, 1 to 2^63.
-    pub next: u64,
-    pub units: Units,
-    pub pending: Pending,
+    tree: Tree,
+    loaded: Tree,
+    boot: BootId,
+    clock: Moment,
+    next: NextNumber,
+    units: Units,
+    pending: Pending,
 }
 
 impl State {
@@ -32,12 +36,140 @@ impl State {
         State {
             tree: Tree::new(alloc),
             loaded: Tree::new(alloc),
-            boot: String::new(alloc),
-            clock: 0,
-            next: 1,
+            boot: BootId::none(alloc),
+            clock: Moment::FIRST,
+            next: NextNumber::FIRST,
             units: Units::new(alloc),
             pending: Pending::new(alloc),
         }
+    }
+
+    /// The tree in hand, which the next reload loads.
+    pub fn tree(&self) -> &Tree
+        ensures { result.now ≡ (state_of self.now).tree }
+    {
+        &self.tree
+    }
+
+    /// The tree as it was last loaded.
+    pub fn loaded(&self) -> &Tree
+        ensures { result.now ≡ (state_of self.now).loaded }
+    {
+        &self.loaded
+    }
+
+    /// The boot's id.
+    pub fn boot(&self) -> &BootId
+        ensures { result.now ≡ (state_of self.now).boot }
+    {
+        &self.boot
+    }
+
+    /// The moment of the last step.
+    pub fn clock(&self) -> Moment
+        ensures { result ≡ (state_of self.now).clock }
+    {
+        self.clock
+    }
+
+    /// The next process number.
+    pub fn next(&self) -> NextNumber
+        ensures { result ≡ (state_of self.now).next }
+    {
+        self.next
+    }
+
+    /// How the units stand.
+    pub fn units(&self) -> &Units
+        ensures { result.now ≡ (state_of self.now).units }
+    {
+        &self.units
+    }
+
+    /// The pending jobs.
+    pub fn pending(&self) -> &Pending
+        ensures { result.now ≡ (state_of self.now).pending }
+    {
+        &self.pending
+    }
+
+    /// Puts a file into the tree in hand, with the refusals of `Tree::put`; all is as before then.
+    pub fn put_file(&mut self, path: &str, text: &str) -> Result<(), Refusal>
+        ensures ok { OnOk result (put_file (state_of self.old).tree path.now text.now ≡ Ok (state_of self.new).tree) }
+        ensures rest { OnOk result (state_of self.new ≡ record (state_of self.old) { tree = (state_of self.new).tree }) }
+        ensures err { OnErr result (state_of self.new ≡ state_of self.old) }
+        ensures refused { IfErr result (λ e. ¬ (e ≡ NoMemory) → put_file (state_of self.old).tree path.now text.now ≡ Err (refused_of e)) }
+    {
+        self.tree.put(path, text)
+    }
+
+    /// Puts a link into the tree in hand, with the refusals of `Tree::link`; all is as before then.
+    pub fn put_link(&mut self, path: &str, target: &str) -> Result<(), Refusal>
+        ensures ok { OnOk result (put_link (state_of self.old).tree path.now target.now ≡ Ok (state_of self.new).tree) }
+        ensures rest { OnOk result (state_of self.new ≡ record (state_of self.old) { tree = (state_of self.new).tree }) }
+        ensures err { OnErr result (state_of self.new ≡ state_of self.old) }
+        ensures refused { IfErr result (λ e. ¬ (e ≡ NoMemory) → put_link (state_of self.old).tree path.now target.now ≡ Err (refused_of e)) }
+    {
+        self.tree.link(path, target)
+    }
+
+    /// Removes what stands in the tree in hand at the path, with the refusals of `Tree::remove`; all is as before then.
+    pub fn remove(&mut self, path: &str) -> Result<(), Refusal>
+        ensures ok { OnOk result (remove_at (state_of self.old).tree path.now ≡ Ok (state_of self.new).tree) }
+        ensures rest { OnOk result (state_of self.new ≡ record (state_of self.old) { tree = (state_of self.new).tree }) }
+        ensures err { OnErr result (state_of self.new ≡ state_of self.old) }
+        ensures refused { IfErr result (λ e. ¬ (e ≡ NoMemory) → remove_at (state_of self.old).tree path.now ≡ Err (refused_of e)) }
+    {
+        self.tree.remove(path)
+    }
+
+    /// Loads the tree in hand. Where memory is refused, all is as before.
+    pub fn reload(&mut self) -> Result<(), AllocError>
+        ensures ok { OnOk result (state_of self.new ≡ record (state_of self.old) { loaded = (state_of self.old).tree }) }
+        ensures err { OnErr result (state_of self.new ≡ state_of self.old) }
+    {
+        self.loaded = self.tree.copy()?;
+        Ok(())
+    }
+
+    /// Takes the tree in hand and loads it. Where memory is refused, all is as before.
+    pub fn load_tree(&mut self, tree: Tree) -> Result<(), AllocError>
+        ensures ok { OnOk result (state_of self.new ≡ record (state_of self.old) { tree = tree; loaded = tree }) }
+        ensures err { OnErr result (state_of self.new ≡ state_of self.old) }
+    {
+        self.loaded = tree.copy()?;
+        self.tree = tree;
+        Ok(())
+    }
+
+    /// Sets how a unit stands. Where memory is refused, all is as before.
+    pub fn set_unit(&mut self, unit: &UnitName, state: UnitState) -> Result<(), AllocError>
+        ensures ok { OnOk result (state_of self.new ≡ record (state_of self.old) { units = with_unit (state_of self.old).units unit.now state }) }
+        ensures err { OnErr result (state_of self.new ≡ state_of self.old) }
+    {
+        self.units.set(unit, state)
+    }
+
+    /// Sets the pending jobs of a unit. Where memory is refused, all is as before.
+    pub fn set_jobs(&mut self, unit: &UnitName, jobs: UnitJobs) -> Result<(), AllocError>
+        ensures ok { OnOk result (state_of self.new ≡ record (state_of self.old) { pending = with_jobs (state_of self.old).pending unit.now jobs }) }
+        ensures err { OnErr result (state_of self.new ≡ state_of self.old) }
+    {
+        self.pending.set(unit, jobs)
+    }
+
+    /// Sets the next process number.
+    pub fn set_next(&mut self, next: NextNumber)
+        ensures { state_of self.new ≡ record (state_of self.old) { next = next } }
+    {
+        self.next = next;
+    }
+
+    /// Sets the moment of the last step.
+    pub fn set_clock(&mut self, clock: Moment)
+        ensures { state_of self.new ≡ record (state_of self.old) { clock = clock } }
+    {
+        self.clock = clock;
     }
 
     /// The same state again.
@@ -47,7 +179,7 @@ impl State {
         Ok(State {
             tree: self.tree.copy()?,
             loaded: self.loaded.copy()?,
-            boot: self.boot.clone()?,
+            boot: self.boot.copy()?,
             clock: self.clock,
             next: self.next,
             units: self.units.copy()?,

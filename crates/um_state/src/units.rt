@@ -1,11 +1,12 @@
 ghost use Rattle.std.specs.Prelude.{◌≡◌, ◌↔◌, is_some, IsTrue, MatchOption, IfOk, OnOk, OnErr};
 ghost use Rattle.std.specs.Coded.{codes};
 ghost use Rattle.std.specs.FinMap as map;
-ghost use Rattle.um_model.specs.Jobs.{Job, IsReady, BeginsNext, jobs_of_unit, ready_kind, with_jobs};
+ghost use Rattle.um_model.specs.Jobs.{Job, Unordered, IsReady, BeginsNext, AreTidyJobs, jobs_of_unit, with_jobs};
 ghost use Rattle.um_model.specs.Machine.{IsOver, IsProcessOf, AreDeadlines};
-ghost use Rattle.um_model.specs.Service.{ByUnit, state_of_unit, with_unit};
+ghost use Rattle.um_model.specs.Service.{ByUnit, AreTidyUnits, state_of_unit, with_unit};
 ghost use Rattle.um_model.specs.declared.jobs.UnitJobs as jobs;
 ghost use Rattle.um_model.specs.declared.service.UnitState as unit;
+ghost use Rattle.um_state.specs.Ready.{ready_kind};
 
 use std::alloc::{AllocError, Global};
 use std::collections::BTreeMap;
@@ -27,6 +28,8 @@ impl Model for Units {
     ghost coded = { Prim.hlevel (codes, map.code) };
 
     ghost view = { λ u. map.from_entries u.entries.entries };
+
+    ghost invariant = { λ u. AreTidyUnits (map.from_entries u.entries.entries) };
 }
 
 impl Units {
@@ -42,7 +45,8 @@ impl Units {
 
     /// How the unit stands. It takes no memory.
     pub fn get(&self, unit: &UnitName) -> UnitState
-        ensures { result ≡ state_of_unit self.now unit.now }
+        ensures state { result ≡ state_of_unit self.now unit.now }
+        ensures tidy { AreTidyUnits self.now }
     {
         match self.entries.get(unit) {
             Some(state) => *state,
@@ -141,6 +145,8 @@ impl Model for Pending {
     ghost coded = { Prim.hlevel (codes, map.code) };
 
     ghost view = { λ p. map.from_entries p.entries.entries };
+
+    ghost invariant = { λ p. AreTidyJobs (map.from_entries p.entries.entries) };
 }
 
 impl Pending {
@@ -156,7 +162,8 @@ impl Pending {
 
     /// The pending jobs of the unit. It takes no memory.
     pub fn get(&self, unit: &UnitName) -> UnitJobs
-        ensures { result ≡ jobs_of_unit self.now unit.now }
+        ensures jobs { result ≡ jobs_of_unit self.now unit.now }
+        ensures tidy { AreTidyJobs self.now }
     {
         match self.entries.get(unit) {
             Some(jobs) => *jobs,
@@ -177,12 +184,12 @@ impl Pending {
         Ok(())
     }
 
-    /// The job that begins next, by its unit and its kind: of those that are ready the one with the least name of its unit, and
+    /// The job that begins next where no order of units is read, by its unit and its kind: of those that are ready the one with the least name of its unit, and
     /// of one unit the stop job first. None only where no job is ready. It takes no memory.
     pub fn next_job(&self, units: &Units) -> Option<(&UnitName, JobKind)>
         ensures { MatchOption result
-            ((job : Job) → ¬ IsReady units.now self.now job)
-            (λ next. BeginsNext units.now self.now (record { unit = next.0.now; kind = next.1 })) }
+            ((job : Job) → ¬ IsReady Unordered units.now self.now job)
+            (λ next. BeginsNext Unordered units.now self.now (record { unit = next.0.now; kind = next.1 })) }
     {
         for (unit, jobs) in self.entries.iter() {
             if let Some(kind) = ready_kind(units.get(unit).sub.active_state(), *jobs) {

@@ -7,8 +7,6 @@ mod joiner;
 mod laws;
 mod lines;
 mod statements;
-#[cfg(test)]
-mod tests;
 
 pub use items::{Item, Span, parse};
 pub use laws::{

@@ -4,8 +4,6 @@
 
 mod classes;
 mod laws;
-#[cfg(test)]
-mod tests;
 mod trimming;
 
 pub use classes::{Class, split_run};

@@ -12,6 +12,7 @@ use Rattle.std.proofs.lemmas.Option.{same_Some, none-some}
 use Rattle.std.proofs.lemmas.Map.Views.{btree_map_get_iff}
 use Rattle.std.proofs.lemmas.Map.Lookups.{exact_bytes}
 use Rattle.um_model.specs.Timers.{IsDueBefore, earlier, by_name, IsDueFirst}
+use Rattle.um_model.proofs.TimersLaws.{due_before_others}
 use Rattle.um_timer.specs.Due.{sooner, soonest, seen_due}
 use Rattle.um_model.proofs.NameMaps.{seen, get_seen, seen_nothing, After, Rising, rising}
 
@@ -21,7 +22,7 @@ AfterDue (Some due) es = After due.1 es
 
 -- this timer is that one, or due before it
 abbrev IsDue : ℕ → List ℕ → List ℕ × ℕ → Type 0
-IsDue d n e = (e.0 ≡ n) ⊎ IsDueBefore d n e.1 e.0
+IsDue d n e = (e.0 ≡ n) ⊎ IsDueBefore (d, n) (e.1, e.0)
 
 abbrev AllDue : ℕ → List ℕ → List (List ℕ × ℕ) → Type 0
 AllDue d n [] = Unit {0}
@@ -107,7 +108,7 @@ due_at d n [] a k e h g = absurd (omega arith)
 due_at d n (x ∷ es) a zero e h g = subst (IsDue d n) g a.0
 due_at d n (x ∷ es) a (suc k) e h g = due_at d n es a.1 k e (omega arith) g
 
-apart : (d : ℕ) (n : List ℕ) (e : List ℕ × ℕ) → e.0 ≢ n → IsDue d n e → IsDueBefore d n e.1 e.0
+apart : (d : ℕ) (n : List ℕ) (e : List ℕ × ℕ) → e.0 ≢ n → IsDue d n e → IsDueBefore (d, n) (e.1, e.0)
 apart d n e ne (inl same) = absurd (ne same)
 apart d n e ne (inr due) = due
 
@@ -115,12 +116,10 @@ apart d n e ne (inr due) = due
 pub due_first : (m : BTreeMap (List ℕ) ℕ) → tree.IsOrdered (slice_cmp nat_cmp) m → (d : ℕ) (n : List ℕ) → soonest None m.entries ≡ Some (d, n) → IsDueFirst (seen m) d n
 due_first m o d n e =
     let f = found None m.entries tt (rising m.entries o) d n e in
-    record {
-      is_set = get_seen m n ∙ (btree_map_get_iff nat_list_cmp_total exact_bytes m o n d).1 (held f.from);
-      first = λ later other is ne.
-          let c = (btree_map_get_iff nat_list_cmp_total exact_bytes m o other later).0 (sym (get_seen m other) ∙ is) in
-          apart d n (other, later) ne (due_at d n m.entries f.all c.0 (other, later) c.1 c.2);
-    }
+    due_before_others (seen m) d n (get_seen m n ∙ (btree_map_get_iff nat_list_cmp_total exact_bytes m o n d).1 (held f.from))
+    (λ later other is ne.
+    let c = (btree_map_get_iff nat_list_cmp_total exact_bytes m o other later).0 (sym (get_seen m other) ∙ is) in
+    apart d n (other, later) ne (due_at d n m.entries f.all c.0 (other, later) c.1 c.2))
   where
     held : (◌≡◌ {A = Option (ℕ × List ℕ)} None (Some (d, n))) ⊎ Contains m.entries (n, d) → Contains m.entries (n, d)
     held (inl q) = absurd (none-some (d, n) q)

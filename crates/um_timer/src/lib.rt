@@ -1,8 +1,6 @@
 //! Timers of units: a finite map from unit names to deadlines, and which of them is due first.
 #![tactic(auto)]
 
-#[cfg(test)]
-mod tests;
 mod timers;
 
 pub use timers::{Timers, one_timer_is_due_first};

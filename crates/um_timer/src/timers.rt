@@ -7,13 +7,14 @@ ghost use Rattle.um_model.specs.Timers.{IsDueFirst};
 use std::alloc::{AllocError, Global};
 use std::collections::BTreeMap;
 use std::marker::Model;
+use um_model::Deadline;
 use um_name::{UnitName, copy_by_name};
 
-/// For each unit with a timer its deadline, in microseconds.
+/// For each unit with a timer its deadline.
 #[derive(Drop)]
 pub struct Timers {
     alloc: Global,
-    deadlines: BTreeMap<UnitName, u64>,
+    deadlines: BTreeMap<UnitName, Deadline>,
 }
 
 impl Model for Timers {
@@ -36,14 +37,14 @@ impl Timers {
     }
 
     /// The deadline of the unit, if it has a timer. It takes no memory.
-    pub fn get(&self, unit: &UnitName) -> Option<u64>
+    pub fn get(&self, unit: &UnitName) -> Option<Deadline>
         ensures { result ≡ map.get self.now unit.now }
     {
         self.deadlines.get(unit).copied()
     }
 
     /// Sets the unit's timer to this deadline, in place of an earlier or a later one. Where memory is refused, all is as before.
-    pub fn set(&mut self, unit: UnitName, deadline: u64) -> Result<(), AllocError>
+    pub fn set(&mut self, unit: UnitName, deadline: Deadline) -> Result<(), AllocError>
         ensures ok { OnOk result (self.new ≡ map.insert self.old unit deadline) }
         ensures err { OnErr result (self.new ≡ self.old) }
     {
@@ -60,13 +61,13 @@ impl Timers {
 
     /// The timer that is due first: the one of the least deadline, and of several such the one whose unit's name is least by
     /// bytes. None only where no timer is set. It takes no memory.
-    pub fn next_due(&self) -> Option<(u64, &UnitName)>
+    pub fn next_due(&self) -> Option<(Deadline, &UnitName)>
         ensures { MatchOption result (self.now ≡ map.empty) (λ due. IsDueFirst self.now due.0 due.1.now) }
     {
-        let mut next: Option<(u64, &UnitName)> = None;
+        let mut next: Option<(Deadline, &UnitName)> = None;
         for (unit, deadline) in self.deadlines.iter() {
             next = match next {
-                Some(due) if due.0 <= *deadline => Some(due),
+                Some(due) if due.0.micros() <= deadline.micros() => Some(due),
                 _ => Some((*deadline, unit)),
             };
         }

@@ -1,3 +1,2 @@
 pub mod TextMaps
-pub mod TextParts
 pub mod Trees

@@ -2,9 +2,13 @@
 use Rattle.std.specs.Prelude.{ℕ, List, String, string_bytes, map as each}
 use Rattle.std.specs.declared.alloc.Global.{Global}
 use Rattle.std.specs.FinMap as map
+use Rattle.std.specs.Rc.{rc_str_bytes}
 use denote.Ref.{Bor}
 use Rattle.um_model.specs.declared.tree.Layer.{Layer}
 use Rattle.um_model.specs.Tree as model
+use Rattle.um_model.specs.Refusals.{Refused, bad_path, exists_at, too_large}
+use Rattle.um_tree.specs.declared.cause.Cause.{Cause}
+use Rattle.um_tree.specs.declared.cause.Cause.TheVariants as cause
 use Rattle.um_tree.specs.declared.entry.Entry.{Entry}
 use Rattle.um_tree.specs.declared.entry.Entry.TheVariants as seen
 use Rattle.um_tree.specs.declared.path.Place.{Place}
@@ -19,8 +23,8 @@ entry_of (seen.Link target) = model.Link target.now
 
 -- an entry as it is held
 abbrev pub stored_entry : Stored → model.Entry
-stored_entry (stored.File text) = model.File (string_bytes text)
-stored_entry (stored.Link target) = model.Link (string_bytes target)
+stored_entry (stored.File text) = model.File (rc_str_bytes text)
+stored_entry (stored.Link target) = model.Link (rc_str_bytes target)
 
 abbrev pub path_and_entry : String Global × Stored → List ℕ × model.Entry
 path_and_entry e = (string_bytes e.0, stored_entry e.1)
@@ -45,3 +49,9 @@ layer_and_text p = (p.0, p.1.now)
 
 abbrev pub text_and_place : Bor (List ℕ) × Place → List ℕ × model.Place
 text_and_place p = (p.0.now, place_of p.1)
+
+-- what the refusal for a cause tells
+abbrev pub refused_by : Cause → Refused
+refused_by (cause.BadPath path) = bad_path path.now
+refused_by (cause.Exists path) = exists_at path.now
+refused_by (cause.TooLarge limit) = too_large limit

@@ -1,4 +1,5 @@
 use std::alloc::AllocError;
+use std::rc::RcStr;
 
 /// What stands at a path of the tree.
 #[derive(Clone, Copy, Debug, PartialEq, Eq)]
@@ -9,11 +10,11 @@ pub enum Entry<'a> {
     Link(&'a str),
 }
 
-/// What stands at a path, as the tree holds it.
+/// What stands at a path, as the tree holds it: copies of a tree share its texts.
 #[derive(Drop)]
 pub(crate) enum Stored {
-    File(String),
-    Link(String),
+    File(RcStr),
+    Link(RcStr),
 }
 
 impl Stored {

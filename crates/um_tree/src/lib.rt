@@ -2,19 +2,19 @@
 //! definition says, and which stays as it was where a call is refused.
 #![tactic(auto)]
 
+mod cause;
 mod entries;
 mod entry;
 mod laws;
 mod path;
-#[cfg(test)]
-mod tests;
 mod text;
 mod tree;
 
+pub use cause::Cause;
 pub use entries::Entries;
 pub use entry::Entry;
 pub use laws::{a_path_has_one_reading, a_served_path_has_its_parts};
 pub use path::{Place, ServedPath};
-pub use text::{behind, last_part};
+pub use text::unit_in_target;
 pub use tree::Tree;
 pub use um_model::Layer;

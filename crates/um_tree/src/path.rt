@@ -5,7 +5,7 @@ ghost use Rattle.um_model.specs.Tree as model;
 ghost use Rattle.um_tree.specs.Place.{place_of};
 ghost use Rattle.um_tree.specs.View.{layer_and_text, text_and_place};
 
-use crate::text::{around_slash, before, behind, last_part};
+use crate::text::{around_slash, before, behind, unit_in_target};
 use std::marker::Model;
 use um_model::Layer;
 use um_name::{is_template, is_unit_name};
@@ -177,7 +177,7 @@ fn may_lead_to(path: &ServedPath<'_>, target: &str) -> bool
     ensures { result ≡ model.may_lead_to path.now.unit path.now.place target.now }
 {
     match path.place {
-        Place::Unit => target == "/dev/null" || is_other_name(path.unit, last_part(target)),
+        Place::Unit => target == "/dev/null" || is_other_name(path.unit, unit_in_target(target)),
         Place::DropIn(_) => false,
         Place::Wants(_) => true,
         Place::Requires(_) => true,

@@ -4,7 +4,7 @@ ghost use Rattle.um_model.specs.Tree.{is_slash, behind, before, around_slash};
 ghost use Rattle.um_tree.specs.View.{text_of, two_texts};
 
 /// What follows the front, of a text that begins so.
-pub fn behind<'a>(front: &str, text: &'a str) -> Option<&'a str>
+pub(crate) fn behind<'a>(front: &str, text: &'a str) -> Option<&'a str>
     ensures { option_map text_of result ≡ behind front.now text.now }
 {
     text.strip_prefix(front)
@@ -24,12 +24,12 @@ pub(crate) fn around_slash(text: &str) -> Option<(&str, &str)>
     text.split_once('/')
 }
 
-/// The part behind the last `/`, or the whole text without one.
-pub fn last_part(text: &str) -> &str
-    ensures { result.now ≡ after_last is_slash text.now }
+/// The unit that a link to the target leads to: the part behind the last `/`, or the whole of it without one.
+pub fn unit_in_target(target: &str) -> &str
+    ensures { result.now ≡ after_last is_slash target.now }
 {
-    match text.rsplit_once('/') {
-        Some((_, last)) => last,
-        None => text,
+    match target.rsplit_once('/') {
+        Some((_, unit)) => unit,
+        None => target,
     }
 }

@@ -1,13 +1,14 @@
-ghost use Rattle.std.specs.Prelude.{◌≡◌, None, Some, Ok, Err, IfErr, IfOk, OnErr, OnOk, is_some, option_map};
-ghost use Rattle.std.specs.Bool.{OnFalse};
+ghost use Rattle.std.specs.Prelude.{◌≡◌, Some, Ok, Err, IfErr, IfOk, IsOk, IsTrue, OnErr, OnOk, option_map};
 ghost use Rattle.std.specs.FinMap as map;
 ghost use Rattle.std.specs.Map.Iter.{ShowsInOrder};
 ghost use Rattle.um_model.specs.Tree as model;
 ghost use Rattle.um_model.specs.Refusals as told;
-ghost use Rattle.um_tree.specs.View.{entry_of, path_with_entry, stored_entry, tree_of};
+ghost use Rattle.um_model.specs.declared.refusals.Limit as limits;
+ghost use Rattle.um_tree.specs.View.{entry_of, path_with_entry, refused_by, stored_entry, tree_of};
 ghost use Rattle.um_wire.specs.Refusal.{refused_of};
-ghost use Rattle.um_wire.specs.declared.refusal.Refusal.TheVariants.{NoMemory};
+ghost use Rattle.um_wire.specs.declared.refusal.Refusal.TheVariants.{NoMemory, TooLarge};
 
+use crate::cause::Cause;
 use crate::entries::Entries;
 use crate::entry::{Entry, Stored};
 use crate::path::{ServedPath, is_fit_target};
@@ -15,6 +16,7 @@ use crate::text::behind;
 use std::alloc::{AllocError, Global};
 use std::collections::BTreeMap;
 use std::marker::Model;
+use std::rc::RcStr;
 use um_model::Layer;
 use um_wire::{Limit, Refusal};
 
@@ -81,7 +83,7 @@ impl Tree {
         self.entries.len()
     }
 
-    /// The same tree again.
+    /// The same tree again. It takes memory for the paths alone: the two share their texts.
     pub fn copy(&self) -> Result<Tree, AllocError>
         ensures { IfOk result (λ t. t ≡ self.now) }
     {
@@ -109,26 +111,25 @@ impl Tree {
         self.get(path).is_none() && self.len() >= ENTRY_LIMIT
     }
 
-    /// Refuses a file with the text at the path, if there is a cause.
-    fn check_put(&self, path: &str, text: &str) -> Result<(), Refusal>
-        ensures ok { OnOk result (model.put_cause self.now path.now text.now ≡ None) }
-        ensures refused { IfErr result (λ e. ¬ (e ≡ NoMemory) → model.put_cause self.now path.now text.now ≡ Some (refused_of e)) }
+    /// Why `put` would refuse a file with the text at the path, if it would. It takes no memory.
+    pub fn put_cause<'a>(&self, path: &'a str, text: &str) -> Option<Cause<'a>>
+        ensures { option_map refused_by result ≡ model.put_cause self.now path.now text.now }
     {
         if ServedPath::parse(path).is_none() {
-            return Err(bad_path(self.alloc, path));
+            return Some(Cause::BadPath { path });
         }
         if self.is_link_at(path) {
-            return Err(exists(self.alloc, path));
+            return Some(Cause::Exists { path });
         }
         if text.len() > TEXT_LIMIT {
-            return Err(Refusal::TooLarge { limit: Limit::Text });
+            return Some(Cause::TooLarge { limit: Limit::Text });
         }
         if self.is_full_for(path) {
-            return Err(Refusal::TooLarge {
+            return Some(Cause::TooLarge {
                 limit: Limit::Entries,
             });
         }
-        Ok(())
+        None
     }
 
     fn insert(&mut self, path: &str, entry: Stored) -> Result<(), AllocError>
@@ -143,15 +144,18 @@ impl Tree {
 
     /// Puts a file with the text at the path, in place of a file that stands there. Refused, with the tree as it was, are a
     /// path that isn't served (E12), one at which a link stands (E11), a text of more than 65,536 bytes (E13 `text`), and a
-    /// new path where there are 4,096 entries (E13 `entries`), in this order.
+    /// new path where there are 4,096 entries (E13 `entries`), in this order. A passed limit is told without memory.
     #[tactic(auto, unfolding(um_model::specs::Tree::put_file))]
     pub fn put(&mut self, path: &str, text: &str) -> Result<(), Refusal>
         ensures ok { OnOk result (model.put_file self.old path.now text.now ≡ Ok self.new) }
         ensures err { OnErr result (self.new ≡ self.old) }
         ensures refused { IfErr result (λ e. ¬ (e ≡ NoMemory) → model.put_file self.old path.now text.now ≡ Err (refused_of e)) }
+        ensures large { (limit : limits.Limit) → model.put_file self.old path.now text.now ≡ Err (told.too_large limit) → result ≡ Err (TooLarge limit) }
     {
-        self.check_put(path, text)?;
-        let text = String::from_str(self.alloc, text)?;
+        if let Some(cause) = self.put_cause(path, text) {
+            return Err(cause.refusal(self.alloc));
+        }
+        let text = RcStr::from_str(self.alloc, text)?;
         self.insert(path, Stored::File(text))?;
         Ok(())
     }
@@ -166,28 +170,28 @@ impl Tree {
         }
     }
 
-    /// Refuses a link to the target at the path, if there is a cause.
-    fn check_link(&self, path: &str, target: &str) -> Result<(), Refusal>
-        ensures ok { OnOk result (model.link_cause self.now path.now target.now ≡ None) }
-        ensures refused { IfErr result (λ e. ¬ (e ≡ NoMemory) → model.link_cause self.now path.now target.now ≡ Some (refused_of e)) }
+    /// Why `link` would refuse a link to the target at the path, if it would. It takes no memory.
+    pub fn link_cause<'a>(&self, path: &'a str, target: &str) -> Option<Cause<'a>>
+        ensures { option_map refused_by result ≡ model.link_cause self.now path.now target.now }
     {
         if !is_fit_target(ServedPath::parse(path), target) {
-            return Err(bad_path(self.alloc, path));
+            return Some(Cause::BadPath { path });
         }
         if self.is_other_than_link_at(path, target) {
-            return Err(exists(self.alloc, path));
+            return Some(Cause::Exists { path });
         }
         if self.is_full_for(path) {
-            return Err(Refusal::TooLarge {
+            return Some(Cause::TooLarge {
                 limit: Limit::Entries,
             });
         }
-        Ok(())
+        None
     }
 
-    /// Puts a link to the target at the path; where the same link stands there nothing changes. Refused, with the tree as it
-    /// was, are a path that isn't served or that of a drop-in, and an unfit target (E12); a path at which something else
-    /// stands (E11); and a new path where there are 4,096 entries (E13 `entries`), in this order.
+    /// Puts a link to the target at the path; where the same link stands there nothing changes, and no memory is taken.
+    /// Refused, with the tree as it was, are a path that isn't served or that of a drop-in, and an unfit target (E12); a path
+    /// at which something else stands (E11); and a new path where there are 4,096 entries (E13 `entries`), in this order. A
+    /// passed limit is told without memory.
     ///
     /// A target has 1 to 512 bytes. At `LAYER/NAME` it is `/dev/null`, or its part after the last `/` is another unit name
     /// than NAME; at a path in `.wants` or `.requires` it may be any text.
@@ -196,12 +200,16 @@ impl Tree {
         ensures ok { OnOk result (model.put_link self.old path.now target.now ≡ Ok self.new) }
         ensures err { OnErr result (self.new ≡ self.old) }
         ensures refused { IfErr result (λ e. ¬ (e ≡ NoMemory) → model.put_link self.old path.now target.now ≡ Err (refused_of e)) }
+        ensures large { (limit : limits.Limit) → model.put_link self.old path.now target.now ≡ Err (told.too_large limit) → result ≡ Err (TooLarge limit) }
+        ensures there { map.get self.old path.now ≡ Some (model.Link target.now) → IsOk result }
     {
-        self.check_link(path, target)?;
+        if let Some(cause) = self.link_cause(path, target) {
+            return Err(cause.refusal(self.alloc));
+        }
         if self.get(path).is_some() {
             return Ok(());
         }
-        let target = String::from_str(self.alloc, target)?;
+        let target = RcStr::from_str(self.alloc, target)?;
         self.insert(path, Stored::Link(target))?;
         Ok(())
     }
@@ -213,27 +221,37 @@ impl Tree {
         self.entries.retain(|path, _| !is_volatile(path.as_str()));
     }
 
-    /// Takes out what stands at the path, and whether something stood there.
-    fn take_out(&mut self, path: &str) -> bool
-        ensures stood { result ≡ is_some (map.get self.old path.now) }
-        ensures removed { self.new ≡ map.remove self.old path.now }
-        ensures same { OnFalse result (self.new ≡ self.old) }
+    /// Why `remove` would refuse the path, if it would. It takes no memory.
+    pub fn remove_cause<'a>(&self, path: &'a str) -> Option<Cause<'a>>
+        ensures { option_map refused_by result ≡ model.remove_cause self.now path.now }
     {
-        self.entries.remove(path).is_some()
+        match self.get(path) {
+            Some(_) => None,
+            None => Some(Cause::BadPath { path }),
+        }
     }
 
-    /// Takes out what stands at the path. Where nothing stands there it is refused (E12), and the tree is as it was.
+    /// The tree without the path.
+    fn take_out(&mut self, path: &str)
+        ensures { self.new ≡ map.remove self.old path.now }
+    {
+        self.entries.remove(path);
+    }
+
+    /// Takes out what stands at the path, without memory. Where nothing stands there it is refused (E12), and the tree is as it
+    /// was.
     #[tactic(auto, unfolding(um_model::specs::Tree::remove_at))]
     pub fn remove(&mut self, path: &str) -> Result<(), Refusal>
         ensures ok { OnOk result (model.remove_at self.old path.now ≡ Ok self.new) }
         ensures err { OnErr result (self.new ≡ self.old) }
         ensures refused { IfErr result (λ e. ¬ (e ≡ NoMemory) → model.remove_at self.old path.now ≡ Err (refused_of e)) }
+        ensures there { IsTrue (map.contains_key self.old path.now) → IsOk result }
     {
-        if self.take_out(path) {
-            Ok(())
-        } else {
-            Err(bad_path(self.alloc, path))
+        if let Some(cause) = self.remove_cause(path) {
+            return Err(cause.refusal(self.alloc));
         }
+        self.take_out(path);
+        Ok(())
     }
 }
 
@@ -241,22 +259,4 @@ fn is_volatile(path: &str) -> bool
     ensures { result ≡ model.is_volatile path.now }
 {
     behind(Layer::Run.text(), path).is_some()
-}
-
-fn bad_path(alloc: Global, path: &str) -> Refusal
-    ensures { ¬ (result ≡ NoMemory) → refused_of result ≡ told.bad_path path.now }
-{
-    match String::from_str(alloc, path) {
-        Ok(path) => Refusal::BadPath { path },
-        Err(_) => Refusal::NoMemory,
-    }
-}
-
-fn exists(alloc: Global, path: &str) -> Refusal
-    ensures { ¬ (result ≡ NoMemory) → refused_of result ≡ told.exists_at path.now }
-{
-    match String::from_str(alloc, path) {
-        Ok(path) => Refusal::Exists { path },
-        Err(_) => Refusal::NoMemory,
-    }
 }

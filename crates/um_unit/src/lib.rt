@@ -12,8 +12,6 @@ mod reasons;
 mod service_settings;
 mod settings;
 mod singles;
-#[cfg(test)]
-mod tests;
 mod warnings;
 
 pub use loaded::{LoadedUnit, Loading};

@@ -1,8 +1,7 @@
 //! What the value of a setting means under a unit's name: its words with their specifiers expanded, or why it can't be read.
 
 ghost use Rattle.std.specs.Prelude.{◌≡◌, ◌∷◌, IfOk, map, option_copied, option_map, string_bytes};
-ghost use Rattle.std.specs.List.{list_all};
-ghost use Rattle.um_model.specs.Names.{is_instance_byte, suffix_of, suffix_text_of};
+ghost use Rattle.um_model.specs.Names.{suffix_of, suffix_text_of};
 ghost use Rattle.um_model.specs.Readings as said;
 ghost use Rattle.um_model.specs.Units as model;
 ghost use Rattle.um_unit.specs.Readings.{fits_use, read_as};
@@ -11,7 +10,7 @@ ghost use Rattle.um_words.specs.Environment.{variable_of, variables_of};
 
 use std::alloc::{AllocError, Global};
 use um_model::WarningKind;
-use um_name::{UnitName, is_unit_name, suffix_of};
+use um_name::{UnitName, are_instance_bytes, is_unit_name, suffix_of};
 use um_spec::expand;
 use um_words::{Command, Variable, commands, is_executable_word, is_variable_name, names, words};
 
@@ -264,21 +263,9 @@ pub fn first_warning(readings: &[Reading<String>]) -> Option<WarningKind>
     None
 }
 
-fn is_instance_byte(b: u8) -> bool
-    ensures { result ≡ is_instance_byte b }
-{
-    b.is_ascii_alphanumeric() || matches!(b, b':' | b'-' | b'_' | b'.' | b'\\' | b'@')
-}
-
-fn are_instance_bytes(text: &str) -> bool
-    ensures { result ≡ list_all is_instance_byte text.now }
-{
-    text.as_bytes().iter().all(|b| is_instance_byte(*b))
-}
-
 /// The instance that the value is, which may be empty.
 pub fn instance_in(value: &str) -> Option<&str>
     ensures { option_copied result ≡ said.instance_in value.now }
 {
-    are_instance_bytes(value).then_some(value)
+    are_instance_bytes(value.as_bytes()).then_some(value)
 }

@@ -3,12 +3,12 @@ ghost use Rattle.um_model.specs.Settings.{acting_settings, default_settings};
 ghost use Rattle.um_unit.specs.ServiceView.{service_settings_of};
 
 use std::alloc::Global;
-use um_model::{RestartPolicy, UnitKind};
+use um_model::{RestartPolicy, Span, UnitKind};
 use um_value::ExitSet;
 use um_words::{Command, Variable};
 
 /// What a unit's file sets of its processes, its restarts and its start limit (systemd.service(5); for the limit
-/// systemd.unit(5)). Spans are in microseconds; one of none never ends.
+/// systemd.unit(5)). A span of none never ends.
 #[derive(Debug, Drop)]
 pub struct ServiceSettings {
     pub kind: UnitKind,
@@ -23,13 +23,13 @@ pub struct ServiceSettings {
     /// `Restart=`.
     pub restart: RestartPolicy,
     /// `RestartSec=`.
-    pub restart_delay: Option<u64>,
+    pub restart_delay: Option<Span>,
     /// `TimeoutStartSec=`.
-    pub timeout_start: Option<u64>,
+    pub timeout_start: Option<Span>,
     /// `TimeoutStopSec=`.
-    pub timeout_stop: Option<u64>,
+    pub timeout_stop: Option<Span>,
     /// `StartLimitIntervalSec=`.
-    pub limit_interval: Option<u64>,
+    pub limit_interval: Option<Span>,
     /// `StartLimitBurst=`.
     pub limit_burst: u32,
     /// `SuccessExitStatus=`.
@@ -53,10 +53,10 @@ impl ServiceSettings {
             environment: Vec::new(alloc),
             remains: false,
             restart: RestartPolicy::No,
-            restart_delay: Some(100_000),
-            timeout_start: Some(90_000_000),
-            timeout_stop: Some(90_000_000),
-            limit_interval: Some(0),
+            restart_delay: Some(Span::from_micros(100_000)),
+            timeout_start: Some(Span::from_micros(90_000_000)),
+            timeout_stop: Some(Span::from_micros(90_000_000)),
+            limit_interval: Some(Span::from_micros(0)),
             limit_burst: 5,
             success: ExitSet::empty(),
             prevents_restart: ExitSet::empty(),

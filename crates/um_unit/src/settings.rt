@@ -12,9 +12,11 @@ use crate::assignments::Assigned;
 use crate::lists::{commands_of, environment_of, exits_in, install_names, units_named};
 use crate::readings::NameUse;
 use crate::service_settings::ServiceSettings;
-use crate::singles::{TypeSaid, count, delay, instance, policy, text, timeout, truth, type_of};
+use crate::singles::{
+    Count, Delay, Instance, Policy, Text, Timeout, Truth, TypeSaid, last_read, type_of,
+};
 use std::alloc::{AllocError, Global};
-use um_model::{Suffix, UnitKind};
+use um_model::{RestartPolicy, Span, Suffix, UnitKind};
 use um_name::UnitName;
 use um_words::Command;
 
@@ -98,7 +100,13 @@ fn dependencies_of(
         binds_to: units_named(alloc, unit, assigned, ("Unit", "BindsTo"))?,
         part_of: units_named(alloc, unit, assigned, ("Unit", "PartOf"))?,
         conflicts: units_named(alloc, unit, assigned, ("Unit", "Conflicts"))?,
-        default_dependencies: truth(alloc, assigned, &[("Unit", "DefaultDependencies")], true)?,
+        default_dependencies: last_read(
+            alloc,
+            &Truth,
+            assigned,
+            &[("Unit", "DefaultDependencies")],
+            true,
+        )?,
     })
 }
 
@@ -115,7 +123,13 @@ fn install_settings_of(
         wanted_by: install_names(alloc, NameUse::Units, unit, assigned, "WantedBy")?,
         required_by: install_names(alloc, NameUse::Units, unit, assigned, "RequiredBy")?,
         also: units_named(alloc, unit, assigned, ("Install", "Also"))?,
-        default_instance: instance(alloc, assigned, &[("Install", "DefaultInstance")])?,
+        default_instance: last_read(
+            alloc,
+            &Instance { alloc },
+            assigned,
+            &[("Install", "DefaultInstance")],
+            None,
+        )?,
     })
 }
 
@@ -132,12 +146,12 @@ fn kind_by(said: TypeSaid, start: &[Command]) -> UnitKind
 }
 
 /// A oneshot service may start as long as it likes, any other 90 seconds.
-fn default_timeout_start(kind: UnitKind) -> Option<u64>
+fn default_timeout_start(kind: UnitKind) -> Option<Span>
     ensures { result ≡ model.default_timeout_start kind }
 {
     match kind {
         UnitKind::Oneshot => None,
-        _ => Some(90_000_000),
+        _ => Some(Span::from_micros(90_000_000)),
     }
 }
 
@@ -156,32 +170,54 @@ fn service_settings_with(
         start,
         stop: commands_of(alloc, unit, assigned, "ExecStop")?,
         environment: environment_of(alloc, unit, assigned)?,
-        remains: truth(alloc, assigned, &[("Service", "RemainAfterExit")], false)?,
-        restart: policy(alloc, assigned, &[("Service", "Restart")])?,
-        restart_delay: delay(alloc, assigned, &[("Service", "RestartSec")], 100_000)?,
-        timeout_start: timeout(
+        remains: last_read(
             alloc,
+            &Truth,
+            assigned,
+            &[("Service", "RemainAfterExit")],
+            false,
+        )?,
+        restart: last_read(
+            alloc,
+            &Policy,
+            assigned,
+            &[("Service", "Restart")],
+            RestartPolicy::No,
+        )?,
+        restart_delay: last_read(
+            alloc,
+            &Delay,
+            assigned,
+            &[("Service", "RestartSec")],
+            Some(Span::from_micros(100_000)),
+        )?,
+        timeout_start: last_read(
+            alloc,
+            &Timeout,
             assigned,
             &[("Service", "TimeoutStartSec"), ("Service", "TimeoutSec")],
             default_timeout_start(kind),
         )?,
-        timeout_stop: timeout(
+        timeout_stop: last_read(
             alloc,
+            &Timeout,
             assigned,
             &[("Service", "TimeoutStopSec"), ("Service", "TimeoutSec")],
-            Some(90_000_000),
+            Some(Span::from_micros(90_000_000)),
         )?,
-        limit_interval: delay(
+        limit_interval: last_read(
             alloc,
+            &Delay,
             assigned,
             &[
                 ("Unit", "StartLimitIntervalSec"),
                 ("Service", "StartLimitInterval"),
             ],
-            10_000_000,
+            Some(Span::from_micros(10_000_000)),
         )?,
-        limit_burst: count(
+        limit_burst: last_read(
             alloc,
+            &Count,
             assigned,
             &[("Unit", "StartLimitBurst"), ("Service", "StartLimitBurst")],
             5,
@@ -218,7 +254,13 @@ pub fn settings_of(
     ensures { IfOk result (λ s. settings_of s ≡ model.settings_of unit.now (map assigned_of assigned.now)) }
 {
     Ok(Settings {
-        description: text(alloc, unit, assigned, &[("Unit", "Description")])?,
+        description: last_read(
+            alloc,
+            &Text { alloc, unit },
+            assigned,
+            &[("Unit", "Description")],
+            String::new(alloc),
+        )?,
         dependencies: dependencies_of(alloc, unit, assigned)?,
         service: service_settings_of(alloc, unit, assigned)?,
         install: install_settings_of(alloc, unit, assigned)?,

@@ -1,93 +1,136 @@
 //! Settings of one value: the last that can be read counts, or else the default.
 
-ghost use Rattle.std.specs.Prelude.{◌≡◌, IfOk, Some, None, [], map, option_copied, option_map, string_bytes};
+ghost use Rattle.std.specs.Prelude.{◌≡◌, IfOk, List, Option, ℕ, map, option_copied, option_map, string_bytes};
 ghost use Rattle.um_model.specs.Units as model;
 ghost use Rattle.um_model.specs.Values as values;
+ghost use Rattle.um_model.specs.declared.settings.RestartPolicy as policies;
 ghost use Rattle.um_unit.specs.Sources.{assigned_of};
 ghost use Rattle.um_unit.specs.View.{said_of};
-ghost use Rattle.um_model.specs.declared.settings.RestartPolicy.TheVariants.{No};
 
 use crate::assignments::{Assigned, Key, values_of};
 use crate::readings::{instance_in, text_reading};
 use std::alloc::{AllocError, Global};
-use um_model::{RestartPolicy, TimeSpan, UnitKind};
+use um_model::{RestartPolicy, Span, TimeSpan, UnitKind};
 use um_name::UnitName;
 use um_value::{boolean, number, restart, span};
 
-/// A text with its specifiers expanded, or none.
-pub fn text(
-    alloc: Global,
-    unit: &UnitName,
-    assigned: &[Assigned<'_>],
-    keys: &[Key<'_>],
-) -> Result<String, AllocError>
-    ensures { IfOk result (λ t. string_bytes t
-        ≡ model.last_read (model.description_in unit.now) [] (model.values_of (map (λ k. (k.0.now, k.1.now)) keys.now) (map assigned_of assigned.now))) }
-{
-    let mut last = String::new(alloc);
-    for value in &values_of(alloc, assigned, keys)? {
-        if let Ok(text) = text_reading(alloc, unit, value)? {
-            last = text;
-        }
-    }
-    Ok(last)
+/// How the values of one kind of setting are read.
+pub trait Reader {
+    /// What a value says.
+    type Said: Drop;
+
+    /// The same without where it lies in memory.
+    ghost Seen: { Type 0 };
+
+    ghost seen: { Self.Said → Seen };
+
+    /// What a value says, where it can be read.
+    ghost meaning: { Self → List ℕ → Option Seen };
+
+    /// Reads a value; None where it can't be read.
+    fn read(&self, value: &str) -> Result<Option<Self::Said>, AllocError>
+        ensures { IfOk result (λ said. option_map seen said ≡ meaning self.now value.now) };
 }
 
-pub fn truth(
+/// What the last value of the keys says that can be read, or else the default.
+pub fn last_read<R: Reader>(
     alloc: Global,
+    reader: &R,
     assigned: &[Assigned<'_>],
     keys: &[Key<'_>],
-    default: bool,
-) -> Result<bool, AllocError>
-    ensures { IfOk result (λ b. b
-        ≡ model.last_read values.boolean_of default (model.values_of (map (λ k. (k.0.now, k.1.now)) keys.now) (map assigned_of assigned.now))) }
-{
-    let mut last = default;
-    for value in &values_of(alloc, assigned, keys)? {
-        if let Some(read) = boolean(value) {
-            last = read;
-        }
-    }
-    Ok(last)
-}
-
-pub fn count(
-    alloc: Global,
-    assigned: &[Assigned<'_>],
-    keys: &[Key<'_>],
-    default: u32,
-) -> Result<u32, AllocError>
-    ensures { IfOk result (λ n. n
-        ≡ model.last_read values.number_of default (model.values_of (map (λ k. (k.0.now, k.1.now)) keys.now) (map assigned_of assigned.now))) }
+    default: R::Said,
+) -> Result<R::Said, AllocError>
+    ensures { IfOk result (λ last. R.seen last
+        ≡ model.last_read (R.meaning reader.now) (R.seen default) (model.values_of (map (λ k. (k.0.now, k.1.now)) keys.now) (map assigned_of assigned.now))) }
 {
     let mut last = default;
     for value in &values_of(alloc, assigned, keys)? {
-        if let Some(read) = number(value) {
-            last = read;
+        if let Some(said) = reader.read(value)? {
+            last = said;
         }
     }
     Ok(last)
 }
 
-pub fn policy(
-    alloc: Global,
-    assigned: &[Assigned<'_>],
-    keys: &[Key<'_>],
-) -> Result<RestartPolicy, AllocError>
-    ensures { IfOk result (λ p. p
-        ≡ model.last_read values.policy_named No (model.values_of (map (λ k. (k.0.now, k.1.now)) keys.now) (map assigned_of assigned.now))) }
-{
-    let mut last = RestartPolicy::No;
-    for value in &values_of(alloc, assigned, keys)? {
-        if let Some(read) = restart(value) {
-            last = read;
-        }
-    }
-    Ok(last)
+/// A text with its specifiers expanded under a unit's name.
+#[derive(Clone, Copy)]
+pub struct Text<'u> {
+    pub alloc: Global,
+    pub unit: &'u UnitName,
 }
 
-/// Microseconds, or none where the span never ends.
-fn micros_in(span: TimeSpan) -> Option<u64>
+impl Reader for Text<'_> {
+    type Said = String;
+
+    ghost Seen = { List ℕ };
+
+    ghost seen = { string_bytes };
+
+    ghost meaning = { λ r. model.description_in r.unit.now };
+
+    fn read(&self, value: &str) -> Result<Option<String>, AllocError> {
+        Ok(text_reading(self.alloc, self.unit, value)?.ok())
+    }
+}
+
+/// A truth value.
+#[derive(Clone, Copy)]
+pub struct Truth;
+
+impl Reader for Truth {
+    ghost use Rattle.std.specs.Prelude.{Bool};
+
+    type Said = bool;
+
+    ghost Seen = { Bool };
+
+    ghost seen = { λ truth. truth };
+
+    ghost meaning = { λ _. values.boolean_of };
+
+    fn read(&self, value: &str) -> Result<Option<bool>, AllocError> {
+        Ok(boolean(value))
+    }
+}
+
+/// A number.
+#[derive(Clone, Copy)]
+pub struct Count;
+
+impl Reader for Count {
+    type Said = u32;
+
+    ghost Seen = { ℕ };
+
+    ghost seen = { λ count. count };
+
+    ghost meaning = { λ _. values.number_of };
+
+    fn read(&self, value: &str) -> Result<Option<u32>, AllocError> {
+        Ok(number(value))
+    }
+}
+
+/// When a service is started again.
+#[derive(Clone, Copy)]
+pub struct Policy;
+
+impl Reader for Policy {
+    type Said = RestartPolicy;
+
+    ghost Seen = { policies.RestartPolicy };
+
+    ghost seen = { λ policy. policy };
+
+    ghost meaning = { λ _. values.policy_named };
+
+    fn read(&self, value: &str) -> Result<Option<RestartPolicy>, AllocError> {
+        Ok(restart(value))
+    }
+}
+
+/// The span, or none where it never ends.
+fn micros_in(span: TimeSpan) -> Option<Span>
     ensures { result ≡ model.micros_in span }
 {
     match span {
@@ -97,51 +140,49 @@ fn micros_in(span: TimeSpan) -> Option<u64>
 }
 
 /// The same of a time-out: one of 0 never passes.
-fn timeout_in(span: TimeSpan) -> Option<u64>
+fn timeout_in(span: TimeSpan) -> Option<Span>
     ensures { result ≡ model.timeout_in span }
 {
     match span {
-        TimeSpan::Infinite | TimeSpan::Micros(0) => None,
-        TimeSpan::Micros(micros) => Some(micros),
+        TimeSpan::Infinite => None,
+        TimeSpan::Micros(span) => { if span.micros() == 0 { None } else { Some(span) } }
     }
 }
 
-/// A time span in microseconds, or none where it never ends.
-pub fn delay(
-    alloc: Global,
-    assigned: &[Assigned<'_>],
-    keys: &[Key<'_>],
-    default: u64,
-) -> Result<Option<u64>, AllocError>
-    ensures { IfOk result (λ n. n
-        ≡ model.last_read model.span_said (Some default) (model.values_of (map (λ k. (k.0.now, k.1.now)) keys.now) (map assigned_of assigned.now))) }
-{
-    let mut last = Some(default);
-    for value in &values_of(alloc, assigned, keys)? {
-        if let Some(read) = span(value) {
-            last = micros_in(read);
-        }
+/// A time span, or none where it never ends.
+#[derive(Clone, Copy)]
+pub struct Delay;
+
+impl Reader for Delay {
+    type Said = Option<Span>;
+
+    ghost Seen = { Option ℕ };
+
+    ghost seen = { λ span. span };
+
+    ghost meaning = { λ _. model.span_said };
+
+    fn read(&self, value: &str) -> Result<Option<Option<Span>>, AllocError> {
+        Ok(span(value).map(micros_in))
     }
-    Ok(last)
 }
 
-/// A time-out in microseconds, or none where it never passes.
-pub fn timeout(
-    alloc: Global,
-    assigned: &[Assigned<'_>],
-    keys: &[Key<'_>],
-    default: Option<u64>,
-) -> Result<Option<u64>, AllocError>
-    ensures { IfOk result (λ n. n
-        ≡ model.last_read model.timeout_said default (model.values_of (map (λ k. (k.0.now, k.1.now)) keys.now) (map assigned_of assigned.now))) }
-{
-    let mut last = default;
-    for value in &values_of(alloc, assigned, keys)? {
-        if let Some(read) = span(value) {
-            last = timeout_in(read);
-        }
+/// A time-out, or none where it never passes.
+#[derive(Clone, Copy)]
+pub struct Timeout;
+
+impl Reader for Timeout {
+    type Said = Option<Span>;
+
+    ghost Seen = { Option ℕ };
+
+    ghost seen = { λ span. span };
+
+    ghost meaning = { λ _. model.timeout_said };
+
+    fn read(&self, value: &str) -> Result<Option<Option<Span>>, AllocError> {
+        Ok(span(value).map(timeout_in))
     }
-    Ok(last)
 }
 
 /// What a value of `DefaultInstance=` says: an empty one gives the default back.
@@ -156,23 +197,26 @@ fn default_instance_in(value: &str) -> Option<Option<&str>>
 }
 
 /// The instance that stands for none in a template's links.
-pub fn instance(
-    alloc: Global,
-    assigned: &[Assigned<'_>],
-    keys: &[Key<'_>],
-) -> Result<Option<String>, AllocError>
-    ensures { IfOk result (λ i. option_map string_bytes i
-        ≡ model.last_read model.default_instance_in None (model.values_of (map (λ k. (k.0.now, k.1.now)) keys.now) (map assigned_of assigned.now))) }
-{
-    let mut last = None;
-    for value in &values_of(alloc, assigned, keys)? {
-        if let Some(read) = default_instance_in(value) {
-            last = read;
+#[derive(Clone, Copy)]
+pub struct Instance {
+    pub alloc: Global,
+}
+
+impl Reader for Instance {
+    type Said = Option<String>;
+
+    ghost Seen = { Option (List ℕ) };
+
+    ghost seen = { λ instance. option_map string_bytes instance };
+
+    ghost meaning = { λ _. model.default_instance_in };
+
+    fn read(&self, value: &str) -> Result<Option<Option<String>>, AllocError> {
+        match default_instance_in(value) {
+            Some(Some(instance)) => Ok(Some(Some(String::from_str(self.alloc, instance)?))),
+            Some(None) => Ok(Some(None)),
+            None => Ok(None),
         }
-    }
-    match last {
-        Some(instance) => Ok(Some(String::from_str(alloc, instance)?)),
-        None => Ok(None),
     }
 }
 
@@ -213,15 +257,33 @@ pub fn type_said(value: &str) -> Option<TypeSaid>
     }
 }
 
+/// The type of a service.
+#[derive(Clone, Copy)]
+pub struct Type;
+
+impl Reader for Type {
+    type Said = TypeSaid;
+
+    ghost Seen = { model.TypeSaid };
+
+    ghost seen = { said_of };
+
+    ghost meaning = { λ _. model.type_said };
+
+    fn read(&self, value: &str) -> Result<Option<TypeSaid>, AllocError> {
+        Ok(type_said(value))
+    }
+}
+
 /// `Type=` of the unit.
 pub fn type_of(alloc: Global, assigned: &[Assigned<'_>]) -> Result<TypeSaid, AllocError>
     ensures { IfOk result (λ said. said_of said ≡ model.type_of (map assigned_of assigned.now)) }
 {
-    let mut last = TypeSaid::Unsaid;
-    for value in &values_of(alloc, assigned, &[("Service", "Type")])? {
-        if let Some(read) = type_said(value) {
-            last = read;
-        }
-    }
-    Ok(last)
+    last_read(
+        alloc,
+        &Type,
+        assigned,
+        &[("Service", "Type")],
+        TypeSaid::Unsaid,
+    )
 }

@@ -1,3 +1,4 @@
 pub mod DecimalLemmas
 pub mod SpanLemmas
 pub mod ExitLemmas
+pub mod TableLemmas

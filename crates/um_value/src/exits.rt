@@ -1,12 +1,12 @@
 //! Sets of exits.
 
 ghost use Rattle.std.specs.Prelude.{◌≡◌, ◌||◌, ◌<◌, true, false, Some, Bool, IfSome, IfNone, option_map, ℕ, length, slice_index_or};
-ghost use Rattle.std.specs.Str.{bytes_eq};
 ghost use Rattle.um_model.specs.Values.{signal_number, exit_of, is_end, IsExitSet, exits_of};
 ghost use Rattle.um_model.specs.declared.service.End as ends;
 ghost use Rattle.um_value.specs.ExitSet.{holds, fits};
 
 use crate::numbers::{decimal, is_decimal};
+use crate::tables::number_among;
 use um_model::End;
 use um_text::Class;
 
@@ -77,63 +77,31 @@ impl ExitSet {
     }
 }
 
-fn is(word: &[u8], name: &str) -> bool
-    ensures { result ≡ bytes_eq word.now name.now }
-{
-    word == name.as_bytes()
-}
+/// The signals by their names, with their numbers.
+const SIGNALS: [(&str, u8); 15] = [
+    ("SIGHUP", 1),
+    ("SIGINT", 2),
+    ("SIGQUIT", 3),
+    ("SIGILL", 4),
+    ("SIGTRAP", 5),
+    ("SIGABRT", 6),
+    ("SIGBUS", 7),
+    ("SIGFPE", 8),
+    ("SIGKILL", 9),
+    ("SIGUSR1", 10),
+    ("SIGSEGV", 11),
+    ("SIGUSR2", 12),
+    ("SIGPIPE", 13),
+    ("SIGALRM", 14),
+    ("SIGTERM", 15),
+];
 
 /// The number of the signal of that name.
 fn signal_number(word: &[u8]) -> Option<u8>
     ensures value { result ≡ signal_number word.now }
     ensures small { IfSome result (λ number. number < 16) }
 {
-    if is(word, "SIGHUP") {
-        return Some(1);
-    }
-    if is(word, "SIGINT") {
-        return Some(2);
-    }
-    if is(word, "SIGQUIT") {
-        return Some(3);
-    }
-    if is(word, "SIGILL") {
-        return Some(4);
-    }
-    if is(word, "SIGTRAP") {
-        return Some(5);
-    }
-    if is(word, "SIGABRT") {
-        return Some(6);
-    }
-    if is(word, "SIGBUS") {
-        return Some(7);
-    }
-    if is(word, "SIGFPE") {
-        return Some(8);
-    }
-    if is(word, "SIGKILL") {
-        return Some(9);
-    }
-    if is(word, "SIGUSR1") {
-        return Some(10);
-    }
-    if is(word, "SIGSEGV") {
-        return Some(11);
-    }
-    if is(word, "SIGUSR2") {
-        return Some(12);
-    }
-    if is(word, "SIGPIPE") {
-        return Some(13);
-    }
-    if is(word, "SIGALRM") {
-        return Some(14);
-    }
-    if is(word, "SIGTERM") {
-        return Some(15);
-    }
-    None
+    number_among(&SIGNALS, word)
 }
 
 /// The end that the word tells: a code from 0 to 255, or a signal by its name.

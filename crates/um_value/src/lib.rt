@@ -8,8 +8,7 @@ mod laws;
 mod numbers;
 mod policies;
 mod spans;
-#[cfg(test)]
-mod tests;
+mod tables;
 
 pub use booleans::boolean;
 pub use exits::{ExitSet, exit_set};

@@ -1,56 +1,48 @@
 //! Time spans.
 
 ghost use Rattle.std.specs.Prelude.{◌≡◌, ◌+◌, ◌<◌, ◌≤◌, ◌^◌, ℕ, length, IfSome, IfNone};
-ghost use Rattle.std.specs.Str.{bytes_eq};
 ghost use Rattle.um_model.specs.Values.{IsTime, IsSpan, span_of, unit_size, digits_of, unit_of, past_part};
 ghost use Rattle.um_model.specs.declared.settings.TimeSpan as spans;
 ghost use Rattle.um_model.specs.declared.settings.TimeSpan.TheVariants.{Micros};
 
 use crate::numbers::decimal;
-use um_model::TimeSpan;
+use crate::tables::number_among;
+use um_model::{Span, TimeSpan};
 use um_text::{Class, split_run, trim_start};
 
-/// No span is longer, in microseconds, but the infinite one.
-const LIMIT: u64 = 1 << 62;
-
-fn is(unit: &str, name: &str) -> bool
-    ensures { result ≡ bytes_eq unit.now name.now }
-{
-    unit == name
-}
+/// The units of time by their names, with their microseconds; a part without a unit is in seconds.
+const TIME_UNITS: [(&str, u64); 23] = [
+    ("", 1_000_000),
+    ("s", 1_000_000),
+    ("sec", 1_000_000),
+    ("second", 1_000_000),
+    ("seconds", 1_000_000),
+    ("us", 1),
+    ("usec", 1),
+    ("ms", 1_000),
+    ("msec", 1_000),
+    ("m", 60_000_000),
+    ("min", 60_000_000),
+    ("minute", 60_000_000),
+    ("minutes", 60_000_000),
+    ("h", 3_600_000_000),
+    ("hr", 3_600_000_000),
+    ("hour", 3_600_000_000),
+    ("hours", 3_600_000_000),
+    ("d", 86_400_000_000),
+    ("day", 86_400_000_000),
+    ("days", 86_400_000_000),
+    ("w", 604_800_000_000),
+    ("week", 604_800_000_000),
+    ("weeks", 604_800_000_000),
+];
 
 /// Microseconds in the unit; in a second where none is named.
 fn unit_size(unit: &str) -> Option<u64>
     ensures value { result ≡ unit_size unit.now }
     ensures positive { IfSome result (λ size. 0 < size) }
 {
-    if is(unit, "")
-        || is(unit, "s")
-        || is(unit, "sec")
-        || is(unit, "second")
-        || is(unit, "seconds")
-    {
-        return Some(1_000_000);
-    }
-    if is(unit, "us") || is(unit, "usec") {
-        return Some(1);
-    }
-    if is(unit, "ms") || is(unit, "msec") {
-        return Some(1_000);
-    }
-    if is(unit, "m") || is(unit, "min") || is(unit, "minute") || is(unit, "minutes") {
-        return Some(60_000_000);
-    }
-    if is(unit, "h") || is(unit, "hr") || is(unit, "hour") || is(unit, "hours") {
-        return Some(3_600_000_000);
-    }
-    if is(unit, "d") || is(unit, "day") || is(unit, "days") {
-        return Some(86_400_000_000);
-    }
-    if is(unit, "w") || is(unit, "week") || is(unit, "weeks") {
-        return Some(604_800_000_000);
-    }
-    None
+    number_among(&TIME_UNITS, unit.as_bytes())
 }
 
 /// A number and its unit as a text spells them, and what follows them.
@@ -73,9 +65,9 @@ fn split_part(text: &str) -> Part<'_>
     Part { digits, unit, rest }
 }
 
-/// The time that a number and its unit say, in microseconds. None where there is no number or no such unit, and where it is
+/// The time that a number and its unit say. None where there is no number or no such unit, and where it is
 /// longer than a span can be.
-fn time(digits: &str, unit: &str) -> Option<u64>
+fn time(digits: &str, unit: &str) -> Option<Span>
     ensures found { IfSome result (λ n. IsTime digits.now unit.now n × (n ≤ 2 ^ 62)) }
     ensures none { IfNone result ((n : ℕ) → n ≤ 2 ^ 62 → ¬ (IsTime digits.now unit.now n)) }
 {
@@ -83,13 +75,12 @@ fn time(digits: &str, unit: &str) -> Option<u64>
         return None;
     }
     let size = unit_size(unit)?;
-    let micros = decimal(digits.as_bytes())?.checked_mul(size)?;
-    if micros > LIMIT { None } else { Some(micros) }
+    Span::new(decimal(digits.as_bytes())?.checked_mul(size)?)
 }
 
-/// The sum of the parts, in microseconds. None where the text has no part, or isn't parts alone, or where they are longer
+/// The sum of the parts. None where the text has no part, or isn't parts alone, or where they are longer
 /// than a span can be.
-fn sum_of_parts(text: &str) -> Option<u64>
+fn sum_of_parts(text: &str) -> Option<Span>
     ensures found { IfSome result (λ n. IsSpan text.now (Micros n)) }
     ensures none { IfNone result ((n : ℕ) → ¬ (IsSpan text.now (Micros n))) }
 {
@@ -97,13 +88,10 @@ fn sum_of_parts(text: &str) -> Option<u64>
     if rest.is_empty() {
         return None;
     }
-    let mut total = 0;
+    let mut total = Span::from_micros(0);
     while !rest.is_empty() {
         let part = split_part(rest);
-        total += time(part.digits, part.unit)?;
-        if total > LIMIT {
-            return None;
-        }
+        total = Span::new(total.micros() + time(part.digits, part.unit)?.micros())?;
         rest = trim_start(part.rest);
     }
     Some(total)

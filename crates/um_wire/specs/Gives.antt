@@ -1,5 +1,5 @@
 -- What a call that can be refused gives, beside what the definitions give.
-use Rattle.std.specs.Prelude.{◌≡◌, Result, Ok, Err}
+use Rattle.std.specs.Prelude.{◌≡◌, ◌≢◌, Result, Ok, Err}
 use Rattle.um_model.specs.Refusals.{Refused}
 use Rattle.um_wire.specs.Refusal.{refused_of}
 use Rattle.um_wire.specs.declared.refusal.Refusal.{Refusal}
@@ -9,3 +9,8 @@ use Rattle.um_wire.specs.declared.refusal.Refusal.TheVariants.{NoMemory}
 abbrev pub Gives : {X Y : Type 0} → (X → Y) → Result X Refusal → Result Y Refused → Type 0
 Gives view (Ok x) defined = defined ≡ Ok (view x)
 Gives view (Err e) defined = ¬ (e ≡ NoMemory) → defined ≡ Err (refused_of e)
+
+-- a call passes where no refusal has a cause, or is refused for one; or it lacks memory
+abbrev pub RefusesBy : {X : Type 0} → (Refused → Type 0) → Result X Refusal → Type 0
+RefusesBy Cause (Ok done) = (r : Refused) → ¬ Cause r
+RefusesBy Cause (Err e) = (e ≢ NoMemory) → Cause (refused_of e)

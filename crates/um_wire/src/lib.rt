@@ -2,8 +2,6 @@
 //! canonical bytes: one spelling a value, of which none begins another, and what is spelled is read again whatever follows.
 #![tactic(auto)]
 
-#[cfg(test)]
-mod byte_tests;
 mod canon;
 mod choices;
 mod laws;
@@ -12,8 +10,6 @@ mod made;
 mod maps;
 mod numbers;
 mod refusal;
-#[cfg(test)]
-mod tests;
 mod texts;
 mod whole;
 

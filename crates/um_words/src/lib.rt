@@ -7,8 +7,6 @@ mod laws;
 mod spelling;
 mod splitting;
 mod substitution;
-#[cfg(test)]
-mod tests;
 mod variables;
 mod word;
 

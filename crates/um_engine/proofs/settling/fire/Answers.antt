@@ -1,23 +1,24 @@
 use Rattle.std.proofs.Common.{map}
-use Rattle.um_engine.proofs.Steps.{none_fires, fires_more, fewer_timers}
+use Rattle.um_engine.proofs.Steps.{none_fires, fires_more}
+use Rattle.um_model.proofs.TimersLaws.{fewer_timers}
 use Rattle.um_state.specs.View.{state_of, action_of}
 use Rattle.um_engine.proofs.settling.fire.Goals as goal
 
 pub timers-smaller : goal.timers-smaller
 timers-smaller c =
-    let due = rw c.in-Some.is at c.in_ok-deadline.ensures in
-    fewer_timers c.timers.timers c.clear.new.self c.in-Some.deadline c.in-Some.unit c.clear.ensures due.0.is_set
+    let due = rw c.in-Some.is at c.in_ok-due.ensures in
+    fewer_timers c.timers.timers c.clear.new.self c.in-Some.due.deadline c.in-Some.due.unit c.clear.ensures due.0.has
 
 pub timers-preserved : goal.timers-preserved
 timers-preserved c = λ v after later.
-    let due = rw c.in-Some.is at c.in_ok-deadline.ensures in
+    let due = rw c.in-Some.is at c.in_ok-due.ensures in
     c.timers.invariant v after
-    (fires_more c.args.moment c.timers.timers c.in-Some.deadline c.in-Some.unit (state_of c.timers.state) (state_of c.fire_one.new.state) v
+    (fires_more c.args.moment c.timers.timers c.in-Some.due.deadline c.in-Some.due.unit (state_of c.timers.state) (state_of c.fire_one.new.state) v
     (map action_of c.timers.actions.items) (map action_of c.fire_one.new.actions.items) after due c.in_ok-fire_one.ensures (rw c.clear.ensures at later))
 
 pub returns : goal.returns
 returns c = (
   c.in_ok-timers.timers,
-  c.in_ok-timers.ensures,
-  c.timers.invariant _ _ (none_fires c.args.moment c.timers.timers (state_of c.timers.state) (map action_of c.timers.actions.items) (rw c.in_default.is at c.in_ok-deadline.ensures)),
+  (rw c.units.ensures at c.in_ok-timers.ensures),
+  c.timers.invariant _ _ (none_fires c.args.moment c.timers.timers (state_of c.timers.state) (map action_of c.timers.actions.items) (rw c.in_default.is at c.in_ok-due.ensures)),
 )

@@ -7,6 +7,6 @@ returns-then-ne c = passed (search rules)
 
 pub returns : goal.returns
 returns c =
-    let (first, happens, is) = c.in_ok-happen.ensures in
+    let (first, happens, is) = c.in_ok-carry_out.ensures in
     let (next, settles, all) = c.in_ok-settle.ensures in
     fired first next (search rules) happens settles (all ∙ (ap (λ l. l ++ next) is ∙ append_assoc _ first next))

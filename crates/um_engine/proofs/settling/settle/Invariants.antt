@@ -1,7 +1,7 @@
 use Rattle.std.proofs.Common.{List, map}
 use Rattle.std.specs.FinMap as finite
 use Rattle.um_engine.specs.Engine.{SettlesTo}
-use Rattle.um_engine.proofs.Waiting.{NoMoreWait, waiting}
+use Rattle.um_model.proofs.WaitingLaws.{NoMoreWait, waiting}
 use Rattle.um_model.specs.Machine.{State}
 use Rattle.um_model.specs.Service.{Action}
 use Rattle.um_state.specs.View.{state_of, action_of}

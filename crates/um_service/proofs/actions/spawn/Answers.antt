@@ -16,7 +16,7 @@ returns c unit =
     let texts : map string_bytes c.in_ok-environment.environment.items ≡ environment_texts settings =
     c.in_ok-environment.ensures ∙ ap (λ xs. map variable_text (variables_of xs)) c.as_slice.ensures.value in
     IfOk-weaker c.only.result _ _
-    (λ actions one. subst (AreActions settings c.args.around unit (Spawn c.args.which c.args.index))
-    (sym (ap (map action_of) one ∙ ap (λ t. SpawnProcess c.args.around.next words t ∷ []) texts))
+    (λ actions one. subst (AreActions settings c.args.around.now unit (Spawn c.args.which c.args.index))
+    (sym (ap (map action_of) one ∙ ap (λ n. SpawnProcess n words (map string_bytes c.in_ok-environment.environment.items) ∷ []) c.number_of-number.ensures ∙ ap (λ t. SpawnProcess c.args.around.now.next words t ∷ []) texts))
     (spawn c.args.which c.args.index words c.in_ok-words.ensures))
     c.only.ensures

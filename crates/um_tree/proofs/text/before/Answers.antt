@@ -1,4 +1,4 @@
-use Rattle.um_tree.proofs.TextParts.{before_from_strip}
+use Rattle.um_model.proofs.CutLaws.{before_from_strip}
 use Rattle.um_tree.proofs.text.before.Goals as goal
 
 pub returns : goal.returns

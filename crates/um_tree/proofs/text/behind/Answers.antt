@@ -1,4 +1,4 @@
-use Rattle.um_tree.proofs.TextParts.{behind_from_strip}
+use Rattle.um_model.proofs.CutLaws.{behind_from_strip}
 use Rattle.um_tree.proofs.text.behind.Goals as goal
 
 pub returns : goal.returns

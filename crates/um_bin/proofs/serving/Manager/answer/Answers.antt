@@ -23,7 +23,7 @@ told_answers size s t kept left bytes at request same is =
 pub returns-in_ok-reply-in-Query-clause-reply : goal.returns-in_ok-reply-in-Query-clause-reply
 returns-in_ok-reply-in-Query-clause-reply c =
     let request = rw c.in-Query.is at c.in-Ok.ensures in
-    IfOk-weaker c.text_of.result _ _ (λ t is. (reply_of c.in_ok-reply-in-Query.reply, is, rw c.in_ok-reply-in-Query.ensures (queried _ _ request))) c.text_of.ensures.text
+    IfOk-weaker c.text_of.result _ _ (λ t is. (reply_of c.in_ok-reply-in-Query.reply, is, queried _ _ _ request c.in_ok-reply-in-Query.ensures)) c.text_of.ensures.text
 
 pub returns-in_ok-reply-in-Event-clause-reply : goal.returns-in_ok-reply-in-Event-clause-reply
 returns-in_ok-reply-in-Event-clause-reply c =

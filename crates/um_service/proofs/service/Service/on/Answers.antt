@@ -1,14 +1,15 @@
-use Rattle.std.proofs.Common.{◌+◌, ◌<◌, ◌^◌, map, ap, subst, arith, ◌∙◌}
+use Rattle.std.proofs.Common.{◌+◌, map, ap, subst, ◌∙◌}
 use Rattle.um_model.specs.Transitions.{transition, spawned, AreActions}
-use Rattle.um_model.proofs.TransitionLaws.{keeps_process, next_is_small, next_fits}
+use Rattle.um_model.proofs.TransitionLaws.{keeps_process, has_room, next_is_small}
 use Rattle.um_service.specs.View.{action_of}
 use Rattle.um_unit.specs.ServiceView.{service_settings_of}
 use Rattle.um_service.proofs.service.Service.on.Goals as goal
 
-pub overflow_add-result : goal.overflow_add-result
-overflow_add-result c =
-    let lt : c.args.around.next < 2 ^ 64 = omega arith in
-    rw (c.spawned.ensures.value, c.transition-change.ensures) (omega (arith, next_fits (service_settings_of c.args.settings.now) c.args.around c.self.inside.unit c.args.event lt))
+pub actions_of-requires : goal.actions_of-requires
+actions_of-requires c = rw c.transition-change.ensures (has_room (service_settings_of c.args.settings.now) c.args.around c.self.inside.unit c.args.event)
+
+pub next_after-requires : goal.next_after-requires
+next_after-requires c = rw c.transition-change.ensures (has_room (service_settings_of c.args.settings.now) c.args.around c.self.inside.unit c.args.event)
 
 pub returns-clause-unit : goal.returns-clause-unit
 returns-clause-unit c =
@@ -31,12 +32,12 @@ returns-clause-stop c =
 
 pub returns-clause-next : goal.returns-clause-next
 returns-clause-next c =
-    ap (λ k. c.args.around.next + k) (c.spawned.ensures.value
-    ∙ ap (λ v. spawned v.order) c.transition-change.ensures
+    c.next_after.ensures
+    ∙ ap (λ k. c.args.around.next + k) (ap (λ v. spawned v.order) c.transition-change.ensures
     ∙ ap (λ u. spawned (transition (service_settings_of c.args.settings.now) c.args.around u c.args.event).order) c.self.view_is)
 
 pub returns-clause-small : goal.returns-clause-small
-returns-clause-small c = rw (c.spawned.ensures.value, c.transition-change.ensures) (next_is_small (service_settings_of c.args.settings.now) c.args.around c.self.inside.unit c.args.event)
+returns-clause-small c = rw (c.next_after.ensures, c.transition-change.ensures) (next_is_small (service_settings_of c.args.settings.now) c.args.around c.self.inside.unit c.args.event)
 
 pub returns-clause-held : goal.returns-clause-held
 returns-clause-held c = rw (c.transition-change.ensures, c.self.view_is) (keeps_process (service_settings_of c.args.settings.now) c.args.around c.args.self.now c.args.event)

@@ -1,5 +1,5 @@
 use Rattle.std.proofs.Common.{◌≡◌, find}
-use Rattle.um_model.proofs.ScanLaws.{is_ready_here}
+use Rattle.um_state.proofs.NextJob.{is_ready_here}
 use Rattle.um_state.proofs.units.Pending.next_job.Given as goal
 
 -- what the rest finds the whole finds

@@ -5,7 +5,7 @@ use Rattle.std.proofs.lemmas.Bool.Decides.{nat_tests}
 use Rattle.std.proofs.lemmas.Map.Lookups.{btree_map_eq-Decides}
 use Rattle.std.proofs.lemmas.Slice.Eq.{bytes_eq-Decides}
 use Rattle.um_model.proofs.NameMaps.{same_entries}
-use Rattle.um_state.proofs.SameUnits.{unit_decides}
+use Rattle.um_model.proofs.SameUnits.{unit_decides}
 use Rattle.um_state.proofs.units.Units.is_same.Goals as goal
 
 pub returns-then-len : goal.returns-then-len

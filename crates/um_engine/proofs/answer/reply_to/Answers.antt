@@ -1,0 +1,22 @@
+use Rattle.std.proofs.lemmas.Result.{IfOk-weaker}
+use Rattle.um_state.specs.View.{state_of, reply_of}
+use Rattle.um_engine.proofs.Answered.{shows_so, tells_activity_so, tells_files_so, tells_enabling_so}
+use Rattle.um_engine.proofs.answer.reply_to.Goals as goal
+
+pub returns-in-Show : goal.returns-in-Show
+returns-in-Show c =
+    rw c.in-Show.is (IfOk-weaker c.show.result _ _ (λ r is. shows_so (state_of c.args.state.now) c.in-Show.unit (reply_of r) is) c.show.ensures)
+
+pub returns-in-IsActive : goal.returns-in-IsActive
+returns-in-IsActive c =
+    rw c.in-IsActive.is (IfOk-weaker c.is_active.result _ _ (λ r is. tells_activity_so (state_of c.args.state.now) c.in-IsActive.unit (reply_of r) is) c.is_active.ensures)
+
+pub returns-in-Cat : goal.returns-in-Cat
+returns-in-Cat c =
+    let files = rw c.tree.ensures at c.cat.ensures in
+    rw c.in-Cat.is (IfOk-weaker c.cat.result _ _ (λ r is. tells_files_so (state_of c.args.state.now) c.in-Cat.unit (reply_of r) is) files)
+
+pub returns-in-IsEnabled : goal.returns-in-IsEnabled
+returns-in-IsEnabled c =
+    let enabled = rw c.tree-in-IsEnabled.ensures at c.enabled_as.ensures in
+    rw c.in-IsEnabled.is (IfOk-weaker c.enabled_as.result _ _ (λ r is. tells_enabling_so (state_of c.args.state.now) c.in-IsEnabled.unit (reply_of r) is) enabled)

@@ -1,0 +1,24 @@
+use Rattle.std.proofs.Common.{rules, ◌≢◌}
+use Rattle.um_model.specs.Machine as model
+use Rattle.um_wire.specs.Refusal.{refused_of}
+use Rattle.um_wire.specs.declared.refusal.Refusal.TheVariants.{NoMemory}
+use Rattle.um_engine.proofs.Causes.{puts_to, puts_none_to}
+use Rattle.um_state.specs.View.{state_of}
+use Rattle.um_engine.proofs.commands.with_file.Goals as goal
+
+pub returns-in_err-put_file-clause-refused : goal.returns-in_err-put_file-clause-refused
+returns-in_err-put_file-clause-refused c =
+    let step =
+    puts_none_to (state_of c.args.state.now) (state_of c.in_ok-changed.changed) c.args.path.now c.args.text.now c.in_err-put_file.field-0.0 c.in_ok-changed.ensures c.in_err-put_file.ensures.refused in
+    search (rules, step)
+
+pub returns-clause-changed : goal.returns-clause-changed
+returns-clause-changed c =
+    puts_to (state_of c.args.state.now) (state_of c.in_ok-changed.changed) (state_of c.put_file.new.self) c.args.path.now c.args.text.now
+    c.in_ok-changed.ensures c.in_ok-put_file.ensures.ok c.in_ok-put_file.ensures.rest
+
+pub returns-in_err-check_put-clause-refused : goal.returns-in_err-check_put-clause-refused
+returns-in_err-check_put-clause-refused c =
+    let step : c.in_err-check_put.field-0.0 ≢ NoMemory → model.Refuses (state_of c.args.state.now) (model.PutFile c.args.path.now c.args.text.now) (refused_of c.in_err-check_put.field-0.0) =
+    λ differs. model.puts_none (c.in_err-check_put.ensures differs) in
+    search (rules, step)

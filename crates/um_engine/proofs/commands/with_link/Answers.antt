@@ -1,0 +1,24 @@
+use Rattle.std.proofs.Common.{rules, ◌≢◌}
+use Rattle.um_model.specs.Machine as model
+use Rattle.um_wire.specs.Refusal.{refused_of}
+use Rattle.um_wire.specs.declared.refusal.Refusal.TheVariants.{NoMemory}
+use Rattle.um_engine.proofs.Causes.{links_to, links_none_to}
+use Rattle.um_state.specs.View.{state_of}
+use Rattle.um_engine.proofs.commands.with_link.Goals as goal
+
+pub returns-in_err-put_link-clause-refused : goal.returns-in_err-put_link-clause-refused
+returns-in_err-put_link-clause-refused c =
+    let step =
+    links_none_to (state_of c.args.state.now) (state_of c.in_ok-changed.changed) c.args.path.now c.args.target.now c.in_err-put_link.field-0.0 c.in_ok-changed.ensures c.in_err-put_link.ensures.refused in
+    search (rules, step)
+
+pub returns-clause-changed : goal.returns-clause-changed
+returns-clause-changed c =
+    links_to (state_of c.args.state.now) (state_of c.in_ok-changed.changed) (state_of c.put_link.new.self) c.args.path.now c.args.target.now
+    c.in_ok-changed.ensures c.in_ok-put_link.ensures.ok c.in_ok-put_link.ensures.rest
+
+pub returns-in_err-check_link-clause-refused : goal.returns-in_err-check_link-clause-refused
+returns-in_err-check_link-clause-refused c =
+    let step : c.in_err-check_link.field-0.0 ≢ NoMemory → model.Refuses (state_of c.args.state.now) (model.PutLink c.args.path.now c.args.target.now) (refused_of c.in_err-check_link.field-0.0) =
+    λ differs. model.links_none (c.in_err-check_link.ensures differs) in
+    search (rules, step)

@@ -1,0 +1,24 @@
+use Rattle.std.proofs.Common.{rules, ◌≢◌}
+use Rattle.um_model.specs.Machine as model
+use Rattle.um_wire.specs.Refusal.{refused_of}
+use Rattle.um_wire.specs.declared.refusal.Refusal.TheVariants.{NoMemory}
+use Rattle.um_engine.proofs.Causes.{removes_to, removes_none_to}
+use Rattle.um_state.specs.View.{state_of}
+use Rattle.um_engine.proofs.commands.without_path.Goals as goal
+
+pub returns-in_err-remove-clause-refused : goal.returns-in_err-remove-clause-refused
+returns-in_err-remove-clause-refused c =
+    let step =
+    removes_none_to (state_of c.args.state.now) (state_of c.in_ok-changed.changed) c.args.path.now c.in_err-remove.field-0.0 c.in_ok-changed.ensures c.in_err-remove.ensures.refused in
+    search (rules, step)
+
+pub returns-clause-changed : goal.returns-clause-changed
+returns-clause-changed c =
+    removes_to (state_of c.args.state.now) (state_of c.in_ok-changed.changed) (state_of c.remove.new.self) c.args.path.now
+    c.in_ok-changed.ensures c.in_ok-remove.ensures.ok c.in_ok-remove.ensures.rest
+
+pub returns-in_err-check_remove-clause-refused : goal.returns-in_err-check_remove-clause-refused
+returns-in_err-check_remove-clause-refused c =
+    let step : c.in_err-check_remove.field-0.0 ≢ NoMemory → model.Refuses (state_of c.args.state.now) (model.Remove c.args.path.now) (refused_of c.in_err-check_remove.field-0.0) =
+    λ differs. model.removes_none (c.in_err-check_remove.ensures differs) in
+    search (rules, step)

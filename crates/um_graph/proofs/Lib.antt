@@ -1,0 +1,11 @@
+pub mod BondLaws
+pub mod CountLaws
+pub mod GraphLaws
+pub mod KnownLaws
+pub mod ListLaws
+pub mod MapLaws
+pub mod NumberLaws
+pub mod ResolveLaws
+pub mod RowLaws
+pub mod SettingLaws
+pub mod TellLaws

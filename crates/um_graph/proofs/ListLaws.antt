@@ -1,0 +1,58 @@
+-- What is in lists that are made by lists, one behind another.
+use Rattle.std.proofs.Common.{◌≡◌, ◌⊎◌, zero, suc, List, [], ◌∷◌, ◌++◌, Contains, map, refl, sym, ap, subst, inl, inr, arith}
+use Rattle.std.specs.List.{flat_map}
+use Rattle.std.proofs.lemmas.List.Elements.{Contains-append_left, Contains-append_right, Contains-append_cases}
+
+pub contains_flat : {A B : Type 0} (f : A → List B) (xs : List A) (x : A) (y : B) → Contains xs x → Contains (f x) y → Contains (flat_map f xs) y
+contains_flat f [] x y (k, h, e) c = absurd (omega arith)
+contains_flat f (z ∷ xs) x y (zero, h, e) c = Contains-append_left (f z) (flat_map f xs) y (subst (λ w. Contains (f w) y) (sym e) c)
+contains_flat f (z ∷ xs) x y (suc k, h, e) c = Contains-append_right (f z) (flat_map f xs) y (contains_flat f xs x y (k, omega arith, e) c)
+
+pub flat_contains : {A B : Type 0} (f : A → List B) (xs : List A) (y : B) → Contains (flat_map f xs) y → (x : A) × Contains xs x × Contains (f x) y
+flat_contains f [] y (k, h, e) = absurd (omega arith)
+flat_contains f (z ∷ xs) y c = elim (Contains-append_cases (f z) (flat_map f xs) y c) [
+  | inl a ↦ (z, (0, omega arith, refl), a)
+  | inr b ↦ let r = flat_contains f xs y b in (r.0, (suc r.1.0, omega (arith, r.1.1), r.1.2), r.2)
+]
+
+pub in_none : {A : Type 0} (x : A) → Contains [] x → ⊥
+in_none x (k, h, e) = omega arith
+
+pub in_one : {A : Type 0} (a : A) → Contains (a ∷ []) a
+in_one a = (0, omega arith, refl)
+
+pub is_one : {A : Type 0} (a x : A) → Contains (a ∷ []) x → a ≡ x
+is_one a x (zero, h, e) = e
+is_one a x (suc k, h, e) = absurd (omega arith)
+
+pub in_first : {A : Type 0} (a b : A) → Contains (a ∷ b ∷ []) a
+in_first a b = (0, omega arith, refl)
+
+pub in_second : {A : Type 0} (a b : A) → Contains (a ∷ b ∷ []) b
+in_second a b = (1, omega arith, refl)
+
+pub one_of_two : {A : Type 0} (a b x : A) → Contains (a ∷ b ∷ []) x → (a ≡ x) ⊎ (b ≡ x)
+one_of_two a b x (zero, h, e) = inl e
+one_of_two a b x (suc zero, h, e) = inr e
+one_of_two a b x (suc (suc k), h, e) = absurd (omega arith)
+
+pub in_cons : {A : Type 0} (a : A) (ys : List A) (x : A) → Contains (a ∷ ys) x → (a ≡ x) ⊎ Contains ys x
+in_cons a ys x (zero, h, e) = inl e
+in_cons a ys x (suc k, h, e) = inr (k, omega arith, e)
+
+pub cons_in : {A : Type 0} (a : A) (ys : List A) (x : A) → Contains ys x → Contains (a ∷ ys) x
+cons_in a ys x (k, h, e) = (suc k, omega arith, e)
+
+pub map_pushed : {A B : Type 0} (f : A → B) (xs : List A) (x : A) (ys : List B) → map f (xs ++ x ∷ []) ++ ys ≡ map f xs ++ f x ∷ ys
+map_pushed f [] x ys = refl
+map_pushed f (z ∷ xs) x ys = ap (λ us. f z ∷ us) (map_pushed f xs x ys)
+
+pub contains_map : {A B : Type 0} (f : A → B) (xs : List A) (x : A) → Contains xs x → Contains (map f xs) (f x)
+contains_map f [] x (k, h, e) = absurd (omega arith)
+contains_map f (z ∷ xs) x (zero, h, e) = (0, omega arith, ap f e)
+contains_map f (z ∷ xs) x (suc k, h, e) = cons_in (f z) (map f xs) (f x) (contains_map f xs x (k, omega arith, e))
+
+pub map_contains : {A B : Type 0} (f : A → B) (xs : List A) (y : B) → Contains (map f xs) y → (x : A) × Contains xs x × (f x ≡ y)
+map_contains f [] y (k, h, e) = absurd (omega arith)
+map_contains f (z ∷ xs) y (zero, h, e) = (z, (0, omega arith, refl), e)
+map_contains f (z ∷ xs) y (suc k, h, e) = let r = map_contains f xs y (k, omega arith, e) in (r.0, cons_in z xs r.0 r.1, r.2)

@@ -1,0 +1,139 @@
+//! The edges of a graph: what was told, by numbers, and what follows from it.
+
+ghost use Rattle.std.specs.Prelude.{◌≡◌, ◌<◌, [], All, AllPairs, IfOk, IfSome, vec_len};
+ghost use Rattle.std.specs.List.{flat_map};
+ghost use Rattle.std.specs.Option.{option_to_list};
+ghost use Rattle.um_model.specs.Dependencies as model;
+ghost use Rattle.um_model.specs.Least.{IsNamedBefore};
+ghost use Rattle.um_graph.specs.Edges.{AreJoined, comes_after, declines, edge_seen, names_of, order_seen, pulled};
+ghost use Rattle.um_graph.specs.Rows.{AreRows};
+
+use crate::told::{Link, Told, loadable};
+use crate::units::{Edge, Pair, Unit, Units};
+use std::alloc::{AllocError, Global};
+use um_model::{DependencyKind, Suffix};
+
+/// What was told by numbers; none where it is told of one unit.
+fn edge_of(units: &Units, told: &Told) -> Option<Edge>
+    requires { AllPairs IsNamedBefore (names_of units.now.units.items) }
+    ensures edge { option_to_list result ≡ edge_seen (names_of units.now.units.items) told.now }
+    ensures within { IfSome result (λ e. (e.from < vec_len units.now.units) × (e.to < vec_len units.now.units)) }
+{
+    let from = units.number(&told.from)?;
+    let to = units.number(&told.to)?;
+    if from == to {
+        return None;
+    }
+    Some(Edge {
+        link: told.link,
+        from,
+        to,
+    })
+}
+
+/// All that was told, by numbers.
+fn edges_of(alloc: Global, units: &Units, told: &[Told]) -> Result<Vec<Edge>, AllocError>
+    requires { AllPairs IsNamedBefore (names_of units.now.units.items) }
+    ensures edges { IfOk result (λ es. es.items ≡ flat_map (edge_seen (names_of units.now.units.items)) told.now) }
+    ensures within { IfOk result (λ es. All (λ e. (e.from < vec_len units.now.units) × (e.to < vec_len units.now.units)) es.items) }
+{
+    let mut edges = Vec::new(alloc);
+    for each in told {
+        if let Some(edge) = edge_of(units, each) {
+            edges.push(edge)?;
+        }
+    }
+    Ok(edges)
+}
+
+fn is_target(unit: &Unit) -> bool
+    ensures { result ≡ model.is_target unit.now.name }
+{
+    unit.name.suffix() == Suffix::Target
+}
+
+/// Whether the unit can be loaded and says `DefaultDependencies=no`.
+fn declines(unit: &Unit) -> bool
+    ensures { result ≡ declines unit.now }
+{
+    match loadable(&unit.loading) {
+        Some(unit) => !unit.settings.dependencies.default_dependencies,
+        None => false,
+    }
+}
+
+/// Whether x, which wants or requires y, comes after it: it is a target that isn't declared before y, and neither declines.
+fn comes_after(units: &Units, x: usize, y: usize) -> bool
+    ensures { result ≡ comes_after units.now.units.items x y }
+{
+    let Some(unit) = units.units.get(x) else {
+        return false;
+    };
+    let Some(other) = units.units.get(y) else {
+        return false;
+    };
+    is_target(unit)
+        && !declines(unit)
+        && !declines(other)
+        && !unit.row.neighbour(y).kinds.is_before()
+}
+
+/// A target comes after what it wants or requires.
+fn order_by_pull(units: &Units, edge: Edge) -> Option<Pair>
+    ensures { option_to_list result ≡ pulled units.now.units.items edge.from edge.to }
+{
+    if comes_after(units, edge.from, edge.to) {
+        Some(Pair {
+            first: edge.to,
+            second: edge.from,
+        })
+    } else {
+        None
+    }
+}
+
+/// The order that an edge brings along.
+fn order_of(units: &Units, edge: Edge) -> Option<Pair>
+    ensures pair { option_to_list result ≡ order_seen units.now.units.items edge }
+    ensures within { (edge.from < vec_len units.now.units) → (edge.to < vec_len units.now.units)
+        → IfSome result (λ p. (p.first < vec_len units.now.units) × (p.second < vec_len units.now.units)) }
+{
+    match edge.link {
+        Link::Ending => Some(Pair {
+            first: edge.from,
+            second: edge.to,
+        }),
+        Link::Depends(DependencyKind::Wants) => order_by_pull(units, edge),
+        Link::Depends(DependencyKind::Requires) => order_by_pull(units, edge),
+        _ => None,
+    }
+}
+
+/// The order that the edges bring along.
+fn orders_of(alloc: Global, units: &Units, edges: &[Edge]) -> Result<Vec<Pair>, AllocError>
+    requires within { All (λ e. (e.from < vec_len units.now.units) × (e.to < vec_len units.now.units)) edges.now }
+    ensures pairs { IfOk result (λ ps. ps.items ≡ flat_map (order_seen units.now.units.items) edges.now) }
+    ensures within { IfOk result (λ ps. All (λ p. (p.first < vec_len units.now.units) × (p.second < vec_len units.now.units)) ps.items) }
+{
+    let mut orders = Vec::new(alloc);
+    for edge in edges {
+        if let Some(pair) = order_of(units, *edge) {
+            orders.push(pair)?;
+        }
+    }
+    Ok(orders)
+}
+
+/// The units joined by what was told of them: first by dependencies and what is declared, then by the order that follows.
+pub(crate) fn joined(alloc: Global, units: Units, told: &[Told]) -> Result<Units, AllocError>
+    requires sorted { AllPairs IsNamedBefore (names_of units.units.items) }
+    requires rows { AreRows [] units.units.items }
+    ensures { IfOk result (λ new. AreJoined told.now units.units.items new.units.items) }
+{
+    let mut units = units;
+    let edges = edges_of(alloc, &units, told)?;
+    units.add_edges(edges.as_slice())?;
+    let orders = orders_of(alloc, &units, edges.as_slice())?;
+    units.add_pairs(orders.as_slice())?;
+    Ok(units)
+}

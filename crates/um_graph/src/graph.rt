@@ -1,0 +1,119 @@
+ghost use Rattle.std.specs.Prelude.{◌≡◌, ◌⊎◌, Option, Some, Contains, IfOk, IfErr, MatchOption, OnOk, length, option_copied, slice_get};
+ghost use Rattle.um_model.specs.Dependencies.{KnowsTooMany};
+ghost use Rattle.um_model.specs.Tree.{without_run};
+ghost use Rattle.um_graph.specs.Edges.{AreUnits};
+ghost use Rattle.um_graph.specs.Graph.{GraphView, IsGraph, IsGraphOf, row_of};
+ghost use Rattle.um_graph.specs.View.{graph_of};
+ghost use Rattle.um_wire.specs.declared.refusal.Refusal.TheVariants as refusals;
+ghost use Rattle.um_model.specs.declared.refusals.Limit.TheVariants as limits;
+
+use crate::edges::joined;
+use crate::known::Known;
+use crate::row::Neighbour;
+use crate::units::Units;
+use std::alloc::{AllocError, Global};
+use std::marker::Model;
+use um_name::UnitName;
+use um_tree::Tree;
+use um_unit::Loading;
+use um_wire::Refusal;
+
+/// All known units of a tree, numbered from 0 in ascending order of their names, with what their files say and their
+/// neighbours: each other unit that a unit depends on, that depends on it, or that it is ordered with.
+#[derive(Drop)]
+pub struct Graph {
+    units: Units,
+}
+
+impl Model for Graph {
+    ghost Value = { GraphView };
+
+    ghost view = { λ g. graph_of g.units.units.items };
+
+    ghost invariant = { λ g. IsGraph (graph_of g.units.units.items) };
+}
+
+impl Graph {
+    /// The graph of the tree, and of the units that are named beside it: those of which the state holds something, or that a
+    /// command names. Refused is a tree by which more than 1,024 units are known, now or without its entries under `run/`
+    /// (E13 `units`), and want of memory (E15).
+    pub fn of(alloc: Global, tree: &Tree, extra: &[UnitName]) -> Result<Graph, Refusal>
+        ensures graph { IfOk result (λ g. IsGraphOf tree.now (λ x. Contains extra.now x) g) }
+        ensures few { IfOk result (λ _. ¬ (KnowsTooMany tree.now (λ x. Contains extra.now x)
+            ⊎ KnowsTooMany (without_run tree.now) (λ x. Contains extra.now x))) }
+        ensures refused { IfErr result (λ e. ¬ (e ≡ refusals.NoMemory) → (e ≡ refusals.TooLarge limits.Units)
+            × (KnowsTooMany tree.now (λ x. Contains extra.now x) ⊎ KnowsTooMany (without_run tree.now) (λ x. Contains extra.now x))) }
+    {
+        check_lasting(alloc, tree, extra)?;
+        let known = Known::of(alloc, tree, extra)?;
+        Ok(Graph {
+            units: joined_units(alloc, known)?,
+        })
+    }
+
+    /// How many units there are.
+    pub fn len(&self) -> usize
+        ensures len { result ≡ length self.now.names }
+        ensures graph { IsGraph self.now }
+    {
+        self.units.units.len()
+    }
+
+    /// The number of the unit, if it is known.
+    pub fn number(&self, name: &UnitName) -> Option<usize>
+        ensures { MatchOption result (¬ Contains self.now.names name.now) (λ i. slice_get self.now.names i ≡ Some name.now) }
+    {
+        self.units.number(name)
+    }
+
+    /// The name of the unit with this number.
+    pub fn name(&self, unit: usize) -> Option<&UnitName>
+        ensures { option_copied result ≡ slice_get self.now.names unit }
+    {
+        match self.units.units.get(unit) {
+            Some(unit) => Some(&unit.name),
+            None => None,
+        }
+    }
+
+    /// What became of the look for the unit with this number, which was read once.
+    pub fn loading(&self, unit: usize) -> Option<&Loading>
+        ensures { option_copied result ≡ slice_get self.now.loadings unit }
+    {
+        match self.units.units.get(unit) {
+            Some(unit) => Some(&unit.loading),
+            None => None,
+        }
+    }
+
+    /// The neighbours of the unit with this number; none past the last unit.
+    pub fn neighbours(&self, unit: usize) -> &[Neighbour]
+        ensures { result.now ≡ row_of self.now.rows unit }
+    {
+        match self.units.units.get(unit) {
+            Some(unit) => unit.row.neighbours(),
+            None => &[],
+        }
+    }
+}
+
+/// Refuses too many units that are known by the tree without its entries under `run/`.
+fn check_lasting(alloc: Global, tree: &Tree, extra: &[UnitName]) -> Result<(), Refusal>
+    ensures few { OnOk result (¬ KnowsTooMany (without_run tree.now) (Contains extra.now)) }
+    ensures refused { IfErr result (λ e. ¬ (e ≡ refusals.NoMemory)
+        → (e ≡ refusals.TooLarge limits.Units) × KnowsTooMany (without_run tree.now) (Contains extra.now)) }
+{
+    let mut lasting = tree.copy()?;
+    lasting.clear_run();
+    Known::of(alloc, &lasting, extra)?;
+    Ok(())
+}
+
+/// The known units, joined by what they tell.
+fn joined_units(alloc: Global, known: Known) -> Result<Units, AllocError>
+    ensures { IfOk result (λ u. AreUnits known.loaded known.told.items u.units.items) }
+{
+    let Known { loaded, told, .. } = known;
+    let units = Units::of(alloc, loaded)?;
+    joined(alloc, units, told.as_slice())
+}

@@ -1,0 +1,154 @@
+//! The known units of a tree: those that its entries name, and all that these lead to.
+
+ghost use Rattle.std.specs.Prelude.{◌≡◌, ◌++◌, ◌+◌, ◌∷◌, [], ℕ, List, None, Contains, IfErr, IfNone, IfOk, IfSome, OnOk};
+ghost use Rattle.std.specs.BTreeMap.{IsOrdered, btree_map_len};
+ghost use Rattle.std.specs.Cmp.Lexicographic.{slice_cmp};
+ghost use Rattle.std.specs.List.{flat_map};
+ghost use Rattle.std.specs.Ordering.{nat_cmp};
+ghost use Rattle.um_model.specs.Dependencies.{KnowsTooMany, loadable_of};
+ghost use Rattle.um_model.specs.declared.refusals.Limit.TheVariants as limits;
+ghost use Rattle.um_wire.specs.declared.refusal.Refusal.TheVariants as refusals;
+ghost use Rattle.um_unit.specs.View.{loading_of};
+ghost use Rattle.um_graph.specs.Tells.{told_where};
+ghost use Rattle.um_graph.specs.Known.{IsUnderWay, LeavesOut, ends_left, loading_at, unless_followed};
+
+use crate::entries::Found;
+use crate::told::{Told, loadable, told_by};
+use std::alloc::{AllocError, Global};
+use std::collections::BTreeMap;
+use um_name::UnitName;
+use um_tree::Tree;
+use um_unit::{Loading, load};
+use um_wire::{Limit, Refusal};
+
+/// At most so many units are known.
+const UNIT_LIMIT: u32 = 1_024;
+
+/// Units on the way to be known, and what was told of them.
+#[derive(Drop)]
+pub(crate) struct Known {
+    /// What became of the look for each name that was followed.
+    pub(crate) loaded: BTreeMap<UnitName, Loading>,
+    /// Names that may still have to be followed.
+    pub(crate) left: Vec<UnitName>,
+    pub(crate) told: Vec<Told>,
+}
+
+impl Known {
+    /// The name is to be followed, unless it was.
+    fn meet(&mut self, name: &UnitName) -> Result<(), AllocError>
+        ensures left { OnOk result (self.new.left.items ≡ self.old.left.items ++ unless_followed self.old.loaded name.now) }
+        ensures loaded { OnOk result (self.new.loaded ≡ self.old.loaded) }
+        ensures told { OnOk result (self.new.told ≡ self.old.told) }
+    {
+        if !self.loaded.contains_key(name) {
+            self.left.push(name.copy()?)?;
+        }
+        Ok(())
+    }
+
+    /// Both names of each are to be followed.
+    fn meet_all(&mut self, told: &[Told]) -> Result<(), AllocError>
+        ensures left { OnOk result (self.new.left.items ≡ self.old.left.items ++ flat_map (ends_left self.old.loaded) told.now) }
+        ensures loaded { OnOk result (self.new.loaded ≡ self.old.loaded) }
+        ensures told { OnOk result (self.new.told ≡ self.old.told) }
+    {
+        for each in told {
+            self.meet(&each.from)?;
+            self.meet(&each.to)?;
+        }
+        Ok(())
+    }
+
+    /// What is told is kept, and both its names are to be followed.
+    fn take(&mut self, told: Vec<Told>) -> Result<(), AllocError>
+        ensures left { OnOk result (self.new.left.items ≡ self.old.left.items ++ flat_map (ends_left self.old.loaded) told.items) }
+        ensures loaded { OnOk result (self.new.loaded ≡ self.old.loaded) }
+        ensures told { OnOk result (self.new.told.items ≡ self.old.told.items ++ told.items) }
+    {
+        let mut told = told;
+        self.meet_all(told.as_slice())?;
+        self.told.append(&mut told)?;
+        Ok(())
+    }
+
+    /// What is known with nothing followed yet.
+    fn begin(alloc: Global, tree: &Tree, extra: &[UnitName]) -> Result<Known, AllocError>
+        ensures whole { IfOk result (λ k. IsUnderWay tree.now extra.now k.loaded k.left.items k.told.items) }
+        ensures count { IfOk result (λ k. btree_map_len k.loaded ≡ 0) }
+        ensures ordered { IfOk result (λ k. IsOrdered (slice_cmp nat_cmp) k.loaded) }
+    {
+        let mut found = Found::of_names(alloc, extra)?;
+        found.add_tree(alloc, tree)?;
+        let Found { names, told } = found;
+        let mut known = Known {
+            loaded: BTreeMap::new(alloc),
+            left: names,
+            told: Vec::new(alloc),
+        };
+        known.take(told)?;
+        Ok(known)
+    }
+
+    /// A name that is to be followed.
+    fn next(&mut self) -> Option<UnitName>
+        ensures found { IfSome result (λ name. LeavesOut self.old.loaded self.old.left.items (self.new.left.items ++ name ∷ [])) }
+        ensures new { IfSome result (λ name. loading_at self.old.loaded name ≡ None) }
+        ensures none { IfNone result (LeavesOut self.old.loaded self.old.left.items []) }
+        ensures loaded { self.new.loaded ≡ self.old.loaded }
+        ensures told { self.new.told ≡ self.old.told }
+    {
+        while let Some(name) = self.left.pop() {
+            if !self.loaded.contains_key(&name) {
+                return Some(name);
+            }
+        }
+        None
+    }
+
+    /// What the settings of the unit tell is kept, if it can be loaded.
+    fn take_unit(&mut self, alloc: Global, tree: &Tree, loading: &Loading) -> Result<(), AllocError>
+        ensures left { OnOk result (self.new.left.items
+            ≡ self.old.left.items ++ flat_map (ends_left self.old.loaded) (told_where tree.now (loadable_of (loading_of loading.now)))) }
+        ensures loaded { OnOk result (self.new.loaded ≡ self.old.loaded) }
+        ensures told { OnOk result (self.new.told.items ≡ self.old.told.items ++ told_where tree.now (loadable_of (loading_of loading.now))) }
+    {
+        if let Some(unit) = loadable(loading) {
+            self.take(told_by(alloc, tree, unit)?)?;
+        }
+        Ok(())
+    }
+
+    /// Follows a name: its unit is loaded, once.
+    fn follow(&mut self, alloc: Global, tree: &Tree, name: UnitName) -> Result<(), AllocError>
+        ensures whole { OnOk result ((extra : List (List ℕ)) → IsUnderWay tree.now extra self.old.loaded (self.old.left.items ++ name ∷ []) self.old.told.items
+            → IsUnderWay tree.now extra self.new.loaded self.new.left.items self.new.told.items) }
+        ensures count { OnOk result (loading_at self.old.loaded name ≡ None
+            → btree_map_len self.new.loaded ≡ btree_map_len self.old.loaded + 1) }
+        ensures ordered { OnOk result (IsOrdered (slice_cmp nat_cmp) self.new.loaded) }
+    {
+        let loading = load(alloc, tree, &name)?;
+        self.take_unit(alloc, tree, &loading)?;
+        self.loaded.insert(name, loading)?;
+        Ok(())
+    }
+
+    /// All known units, and what they tell. Refused is a tree by which more than 1,024 units are known (E13 `units`).
+    pub(crate) fn of(alloc: Global, tree: &Tree, extra: &[UnitName]) -> Result<Known, Refusal>
+        ensures whole { IfOk result (λ k. IsUnderWay tree.now extra.now k.loaded [] k.told.items) }
+        ensures few { IfOk result (λ _. ¬ KnowsTooMany tree.now (Contains extra.now)) }
+        ensures refused { IfErr result (λ e. ¬ (e ≡ refusals.NoMemory)
+            → (e ≡ refusals.TooLarge limits.Units) × KnowsTooMany tree.now (Contains extra.now)) }
+    {
+        let mut known = Known::begin(alloc, tree, extra)?;
+        for _ in 0..UNIT_LIMIT + 1 {
+            let Some(name) = known.next() else {
+                return Ok(known);
+            };
+            known.follow(alloc, tree, name)?;
+        }
+        Err(Refusal::TooLarge {
+            limit: Limit::Units,
+        })
+    }
+}

@@ -1,0 +1,233 @@
+//! What the settings of a unit tell of it and of other units.
+
+ghost use Rattle.std.specs.Prelude.{◌≡◌, ◌++◌, IfOk, OnOk, option_map, string_bytes, map};
+ghost use Rattle.std.specs.List.{flat_map};
+ghost use Rattle.um_model.specs.Dependencies as model;
+ghost use Rattle.um_model.specs.Names.{named};
+ghost use Rattle.um_model.specs.Units.{unit_named};
+ghost use Rattle.um_unit.specs.View.{loading_of, unit_of as loaded_of};
+ghost use Rattle.um_graph.specs.Tells.{defaults_told, follows_by, names_given, needs_told, shutdown_told, told_of};
+
+use std::alloc::{AllocError, Global};
+use um_model::DependencyKind;
+use um_name::UnitName;
+use um_resolve::{Resolution, resolve};
+use um_tree::Tree;
+use um_unit::{LoadedUnit, Loading};
+
+/// In which way one unit is told to stand to another.
+#[derive(Clone, Copy, Debug, PartialEq, Eq)]
+pub(crate) enum Link {
+    /// It depends on the other.
+    Depends(DependencyKind),
+    /// It is declared before the other, by `Before=` or `After=`.
+    Declared,
+    /// It has default dependencies, and the other is `shutdown.target`, which it comes before.
+    Ending,
+}
+
+/// That one unit stands to another in a way.
+#[derive(Drop)]
+pub(crate) struct Told {
+    pub(crate) link: Link,
+    pub(crate) from: UnitName,
+    pub(crate) to: UnitName,
+}
+
+/// The unit to which a name leads, or where it leads nowhere the name itself. No file is read.
+#[tactic(auto, using(crate::proofs::ResolveLaws::unit_resolved))]
+pub(crate) fn unit_of(alloc: Global, tree: &Tree, name: &UnitName) -> Result<UnitName, AllocError>
+    ensures { IfOk result (λ unit. unit ≡ unit_named tree.now name.now) }
+{
+    match resolve(alloc, tree, name)? {
+        Resolution::File { unit, .. } => Ok(unit),
+        Resolution::NoFile { unit } => Ok(unit),
+        Resolution::Mask { unit } => Ok(unit),
+        Resolution::Nowhere => name.copy(),
+    }
+}
+
+/// The unit, if it can be loaded: it is found and is no template.
+pub(crate) fn loadable(loading: &Loading) -> Option<&LoadedUnit>
+    ensures { option_map (λ unit. loaded_of unit.now) result ≡ model.loadable_of (loading_of loading.now) }
+{
+    match loading {
+        Loading::Found(unit) if !unit.name.is_template() => Some(unit),
+        _ => None,
+    }
+}
+
+/// Adds that the unit stands so to each of these.
+fn tell_all(
+    alloc: Global,
+    tree: &Tree,
+    told: &mut Vec<Told>,
+    link: Link,
+    unit: &UnitName,
+    names: &[String],
+) -> Result<(), AllocError>
+    ensures { OnOk result (told.new.items ≡ told.old.items ++ flat_map (names_given tree.now link unit.now) (map string_bytes names.now)) }
+{
+    for name in names {
+        if let Some(name) = UnitName::named(alloc, name.as_str())? {
+            told.push(Told {
+                link,
+                from: unit.copy()?,
+                to: unit_of(alloc, tree, &name)?,
+            })?;
+        }
+    }
+    Ok(())
+}
+
+/// Adds that each of these is declared before the unit.
+fn tell_earlier(
+    alloc: Global,
+    tree: &Tree,
+    told: &mut Vec<Told>,
+    unit: &UnitName,
+    names: &[String],
+) -> Result<(), AllocError>
+    ensures { OnOk result (told.new.items ≡ told.old.items ++ flat_map (follows_by tree.now unit.now) (map string_bytes names.now)) }
+{
+    for name in names {
+        if let Some(name) = UnitName::named(alloc, name.as_str())? {
+            told.push(Told {
+                link: Link::Declared,
+                from: unit_of(alloc, tree, &name)?,
+                to: unit.copy()?,
+            })?;
+        }
+    }
+    Ok(())
+}
+
+/// Whether the unit conflicts with `shutdown.target` and comes before it: each but that one does, unless it says
+/// `DefaultDependencies=no`.
+fn has_defaults(unit: &LoadedUnit) -> bool
+    ensures { result ≡ model.has_defaults (loaded_of unit.now) }
+{
+    unit.settings.dependencies.default_dependencies && unit.name.as_str() != "shutdown.target"
+}
+
+fn shutdown_target(alloc: Global) -> Result<Option<UnitName>, AllocError>
+    ensures { IfOk result (λ name. name ≡ named model.shutdown_target) }
+{
+    UnitName::named(alloc, "shutdown.target")
+}
+
+/// Adds that the unit conflicts with `shutdown.target` and comes before it.
+fn tell_shutdown(
+    alloc: Global,
+    tree: &Tree,
+    told: &mut Vec<Told>,
+    unit: &UnitName,
+) -> Result<(), AllocError>
+    ensures { OnOk result (told.new.items ≡ told.old.items ++ shutdown_told tree.now unit.now (named model.shutdown_target)) }
+{
+    let Some(name) = shutdown_target(alloc)? else {
+        return Ok(());
+    };
+    let shutdown = unit_of(alloc, tree, &name)?;
+    told.push(Told {
+        link: Link::Depends(DependencyKind::Conflicts),
+        from: unit.copy()?,
+        to: shutdown.copy()?,
+    })?;
+    told.push(Told {
+        link: Link::Ending,
+        from: unit.copy()?,
+        to: shutdown,
+    })?;
+    Ok(())
+}
+
+/// Adds what follows from default dependencies.
+fn tell_defaults(
+    alloc: Global,
+    tree: &Tree,
+    told: &mut Vec<Told>,
+    unit: &LoadedUnit,
+) -> Result<(), AllocError>
+    ensures { OnOk result (told.new.items ≡ told.old.items ++ defaults_told tree.now (loaded_of unit.now)) }
+{
+    if has_defaults(unit) {
+        tell_shutdown(alloc, tree, told, &unit.name)?;
+    }
+    Ok(())
+}
+
+/// Adds that the unit depends on those that its settings name.
+fn tell_needs(
+    alloc: Global,
+    tree: &Tree,
+    told: &mut Vec<Told>,
+    unit: &LoadedUnit,
+) -> Result<(), AllocError>
+    ensures { OnOk result (told.new.items ≡ told.old.items ++ needs_told tree.now (loaded_of unit.now)) }
+{
+    let names = &unit.settings.dependencies;
+    let wants = Link::Depends(DependencyKind::Wants);
+    let required = Link::Depends(DependencyKind::Requires);
+    let binds_to = Link::Depends(DependencyKind::BindsTo);
+    let part_of = Link::Depends(DependencyKind::PartOf);
+    let conflicts = Link::Depends(DependencyKind::Conflicts);
+    tell_all(alloc, tree, told, wants, &unit.name, names.wants.as_slice())?;
+    tell_all(
+        alloc,
+        tree,
+        told,
+        required,
+        &unit.name,
+        names.required.as_slice(),
+    )?;
+    tell_all(
+        alloc,
+        tree,
+        told,
+        binds_to,
+        &unit.name,
+        names.binds_to.as_slice(),
+    )?;
+    tell_all(
+        alloc,
+        tree,
+        told,
+        part_of,
+        &unit.name,
+        names.part_of.as_slice(),
+    )?;
+    tell_all(
+        alloc,
+        tree,
+        told,
+        conflicts,
+        &unit.name,
+        names.conflicts.as_slice(),
+    )?;
+    Ok(())
+}
+
+/// All that the settings of the unit tell.
+pub(crate) fn told_by(
+    alloc: Global,
+    tree: &Tree,
+    unit: &LoadedUnit,
+) -> Result<Vec<Told>, AllocError>
+    ensures { IfOk result (λ told. told.items ≡ told_of tree.now (loaded_of unit.now)) }
+{
+    let mut told = Vec::new(alloc);
+    let names = &unit.settings.dependencies;
+    tell_needs(alloc, tree, &mut told, unit)?;
+    tell_all(
+        alloc,
+        tree,
+        &mut told,
+        Link::Declared,
+        &unit.name,
+        names.before.as_slice(),
+    )?;
+    tell_earlier(alloc, tree, &mut told, &unit.name, names.after.as_slice())?;
+    tell_defaults(alloc, tree, &mut told, unit)?;
+    Ok(told)
+}

@@ -1,0 +1,4 @@
+pub mod View
+pub mod Walk
+pub mod Checks
+pub mod Changes

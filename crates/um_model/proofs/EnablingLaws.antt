@@ -1,0 +1,524 @@
+-- Disabling a unit takes away the links that enabling it made; while they are there it is told to be enabled; and enabling it again changes nothing.
+use Rattle.std.proofs.Common.{ℕ, ◌≡◌, ◌⊎◌, ◌∙◌, Bool, true, false, true≢false, cond, not, ◌||◌, List, [], ◌∷◌, ◌++◌, map as each, Contains, Option, Some, None, refl, sym, ap, subst, inl, inr, ◌≢◌, append-nil, ◌<◌, zero, suc, length, get_or, arith, is_some, is_none, filter}
+use Rattle.std.specs.FinMap as map
+use Rattle.std.specs.List.{after_last, list_any}
+use Rattle.std.specs.Cmp.Lexicographic.{slice_cmp}
+use Rattle.std.specs.Ordering.{nat_cmp, eq_by_cmp}
+use Rattle.std.specs.Str.{bytes_eq}
+use Rattle.std.proofs.lemmas.List.Sums.{AllPass-from_list_all}
+use Rattle.std.proofs.lemmas.Bool.{cond-false, cond-true}
+use Rattle.std.proofs.lemmas.Option.{none-some, same_Some}
+use Rattle.std.proofs.lemmas.Slice.Eq.{bytes_eq-Decides}
+use Rattle.um_model.specs.Enabled.{Obeys, IsFoundByName, IsUndone, HasNoAlias}
+use Rattle.um_model.specs.Install.{LinkAt, link_at, install_of, linked_name, path_in_etc, links_to, links_of, IsAlso, IsTaken, IsAskedFor, IsEnabled, IsUnfit, IsMeant, is_link_for, is_link_of, IsUnlinked, IsDisabled, enabling_of, IsEnabledAs, CausesOfEnable, Installs, enables, disables, RefusesInstall, enables_none, IsOccupied, stands, differs, IsTooMany, CannotEnable, IsBarred, enabling_by, paths_beyond}
+use Rattle.um_model.specs.Names.{is_unit_name, is_template}
+use Rattle.um_model.specs.Reached.{first, next}
+use Rattle.um_model.specs.Refusals.{Refused, at_first, at_second}
+use Rattle.um_model.specs.Resolution.{unit_in_target, unit_path}
+use Rattle.um_model.specs.Tree.{Tree, Link, PathParts, Place, Unit, Wants, Requires, path_text, path_parts, are_fit, is_fit_target, layer_text, entry_limit, is_other_than_link, is_slash}
+use Rattle.um_model.specs.Units.{LoadedUnit, Loading, Found, load, name_in, InstallSettings, Masked, NotFound, BadSetting}
+use Rattle.um_model.specs.declared.install.Enabling.{Enabling}
+use Rattle.um_model.specs.declared.install.Enabling.TheVariants as enabling
+use Rattle.um_model.specs.declared.install.InstallVerb.{InstallVerb}
+use Rattle.um_model.specs.declared.install.InstallVerb.TheVariants as verbs
+use Rattle.um_model.specs.declared.tree.Layer.{Layer}
+use Rattle.um_model.specs.declared.tree.Layer.TheVariants.{Etc, Run, Lib}
+use Rattle.um_model.proofs.AmongLaws.{among_contained, contains_among, among_map, among_left, among_right, among_either, AnyOf, from_map}
+use Rattle.um_model.proofs.InstallLaws.{also_any, any_also, enabled_drop_ins, free_of_causes, fit_of_causes, few_of_causes, open_of_causes, one_enabled, one_install, unlinked_or_not, disabled_drop_ins, same_tree}
+use Rattle.um_model.proofs.LeastLaws.{Among}
+use Rattle.um_model.proofs.LoadsLaws.{loads_as}
+use Rattle.um_model.proofs.NamedLaws.{AreNames, names_installed, named_by_name, also_names}
+use Rattle.um_model.proofs.SpecifiersLaws.{after_last-found}
+use Rattle.um_model.proofs.TreeLaws.{parts_at, name-no_slash}
+use Rattle.um_model.proofs.UnitLaws.{alike}
+
+-- ---- the links of a unit that was enabled
+
+-- a unit that was taken, with a file, by the name under which it is linked
+pub record IsLinked (tree : Tree) (asked name file : List ℕ) (l : LoadedUnit) : Type 0 where
+  pub unit : List ℕ
+  pub taken : IsTaken tree asked unit
+  pub found : load tree unit ≡ Found l
+  pub linked : linked_name l ≡ Some name
+  pub at : l.path ≡ Some file
+
+module _ (tree : Tree) (asked name file : List ℕ) (l : LoadedUnit) (is : IsLinked tree asked name file l) where
+  abbrev links : List LinkAt
+  links = links_to l.settings.install (Some name) (Some file)
+
+  same_links : links_of (load tree is.unit) ≡ links
+  same_links = ap links_of is.found ∙ (ap (λ n. links_to l.settings.install n l.path) is.linked ∙ ap (links_to l.settings.install (Some name)) is.at)
+
+  asks_for : (link : LinkAt) → Among links link → IsAskedFor tree asked link
+  asks_for link among = record {
+    unit = is.unit;
+    taken = is.taken;
+    among = contains_among (links_of (load tree is.unit)) link (subst (λ ls. Among ls link) (sym same_links) among);
+  }
+
+  abbrev wants_link : List ℕ → LinkAt
+  wants_link other = link_at (path_in_etc other (Wants name)) file
+
+  abbrev requires_link : List ℕ → LinkAt
+  requires_link other = link_at (path_in_etc other (Requires name)) file
+
+  abbrev alias_link : List ℕ → LinkAt
+  alias_link alias = link_at (path_in_etc alias Unit) file
+
+  abbrev wants_links : List LinkAt
+  wants_links = each wants_link l.settings.install.wanted_by
+
+  abbrev requires_links : List LinkAt
+  requires_links = each requires_link l.settings.install.required_by
+
+  abbrev alias_links : List LinkAt
+  alias_links = each alias_link l.settings.install.alias
+
+  asks_wanted : (other : List ℕ) → Among l.settings.install.wanted_by other → IsAskedFor tree asked (wants_link other)
+  asks_wanted other among =
+      asks_for (wants_link other)
+      (among_left (wants_links ++ requires_links) alias_links (wants_link other)
+      (among_left wants_links requires_links (wants_link other) (among_map wants_link l.settings.install.wanted_by other among)))
+
+  asks_required : (other : List ℕ) → Among l.settings.install.required_by other → IsAskedFor tree asked (requires_link other)
+  asks_required other among =
+      asks_for (requires_link other)
+      (among_left (wants_links ++ requires_links) alias_links (requires_link other)
+      (among_right wants_links requires_links (requires_link other) (among_map requires_link l.settings.install.required_by other among)))
+
+  asks_aliased : (alias : List ℕ) → Among l.settings.install.alias alias → IsAskedFor tree asked (alias_link alias)
+  asks_aliased alias among =
+      asks_for (alias_link alias)
+      (among_right (wants_links ++ requires_links) alias_links (alias_link alias) (among_map alias_link l.settings.install.alias alias among))
+
+  install_names : AreNames l.settings.install
+  install_names = subst (λ found. AreNames (install_of found)) is.found (names_installed tree is.unit)
+
+  module _ (fit : (path : List ℕ) → ¬ (IsUnfit tree asked path)) (u : Tree) (made : IsEnabled tree asked u) where
+    -- the path of a link that is fit has its parts
+    parts_of_link : (p : PathParts) → is_unit_name p.unit ≡ true → IsAskedFor tree asked (link_at (path_text p) file) → path_parts (path_text p) ≡ Some p
+    parts_of_link p unit w = by_fit (are_fit p) refl
+      where
+        by_fit : (b : Bool) → are_fit p ≡ b → path_parts (path_text p) ≡ Some p
+        by_fit true e = parts_at p unit ∙ ap (λ b. cond b (Some p) None) e
+        by_fit false e =
+            absurd (fit (path_text p) (record {
+              target = file;
+              wanted = w;
+              unfit = ap (λ o. is_fit_target o file) (parts_at p unit ∙ ap (λ b. cond b (Some p) None) e);
+            }))
+
+    -- disabling by a name for which the link is removes it
+    unlinks : (by : List ℕ) (p : PathParts) (meant : List ℕ) → IsMeant u by meant → is_unit_name p.unit ≡ true → IsAskedFor tree asked (link_at (path_text p) file)
+        → is_link_for meant p file ≡ true → IsUnlinked u by (path_text p)
+    unlinks by p meant h unit w leads = record {
+      name = meant;
+      meant = h;
+      leads =
+          ap (is_link_of meant (path_parts (path_text p))) (made.linked (path_text p) file w)
+          ∙ (ap (λ parts. is_link_of meant parts (Some (Link file))) (parts_of_link p unit w) ∙ leads);
+    }
+
+    same_text : (text : List ℕ) → bytes_eq text text ≡ true
+    same_text text = (bytes_eq-Decides text text).1 refl
+
+    unlinks_wanted : (by : List ℕ) → IsMeant u by name → (other : List ℕ) → Among l.settings.install.wanted_by other → IsUnlinked u by (path_in_etc other (Wants name))
+    unlinks_wanted by h other among =
+        unlinks by (record { layer = Etc; unit = other; place = Wants name }) name h (install_names.wanted_by other among) (asks_wanted other among)
+        (ap (λ b. b || bytes_eq (unit_in_target file) name) (same_text name))
+
+    unlinks_required : (by : List ℕ) → IsMeant u by name → (other : List ℕ) → Among l.settings.install.required_by other → IsUnlinked u by (path_in_etc other (Requires name))
+    unlinks_required by h other among =
+        unlinks by (record { layer = Etc; unit = other; place = Requires name }) name h (install_names.required_by other among) (asks_required other among)
+        (ap (λ b. b || bytes_eq (unit_in_target file) name) (same_text name))
+
+    unlinks_alias : (by : List ℕ) → IsMeant u by (unit_in_target file) → (alias : List ℕ) → Among l.settings.install.alias alias → IsUnlinked u by (path_in_etc alias Unit)
+    unlinks_alias by h alias among =
+        unlinks by (record { layer = Etc; unit = alias; place = Unit }) (unit_in_target file) h (install_names.alias alias among) (asks_aliased alias among)
+        (same_text (unit_in_target file))
+
+-- ---- enabling that isn't refused
+
+-- an enabling that is obeyed has no cause against it
+no_cause : (tree : Tree) (asked : List ℕ) (u : Tree) → Obeys tree verbs.Enable asked u → (r : Refused) → ¬ (CausesOfEnable tree asked r)
+no_cause tree asked u obeys r h = obeys.free r (enables_none h)
+
+enabled_by : (tree : Tree) (asked : List ℕ) (u : Tree) → Installs tree verbs.Enable asked u → IsEnabled tree asked u
+enabled_by tree asked u (enables made) = made
+
+disabled_by : (tree : Tree) (asked : List ℕ) (u : Tree) → Installs tree verbs.Disable asked u → IsDisabled tree asked u
+disabled_by tree asked u (disables made) = made
+
+all_fit : (tree : Tree) (asked : List ℕ) (u : Tree) → Obeys tree verbs.Enable asked u → (path : List ℕ) → ¬ (IsUnfit tree asked path)
+all_fit tree asked u obeys = fit_of_causes tree asked (no_cause tree asked u obeys)
+
+-- ---- disabling undoes enabling
+
+no_slash_behind : (name : List ℕ) → is_unit_name name ≡ true → (i : ℕ) → i < length name → get_or name i 0 ≢ 47
+no_slash_behind name is i below e =
+    true≢false (sym (AllPass-from_list_all (λ b. not (is_slash b)) name (name-no_slash name is) i 0 below) ∙ ap (λ b. not (is_slash b)) e)
+
+-- the file of a unit has its name, unless it is that of its template
+pub own_file : (layer : Layer) (name : List ℕ) → is_unit_name name ≡ true → unit_in_target (unit_path layer name) ≡ name
+own_file layer name is = by_layer layer
+  where
+    behind : (a b c : ℕ) (i : ℕ) → 3 < i → i < length (a ∷ b ∷ c ∷ 47 ∷ name) → get_or (a ∷ b ∷ c ∷ 47 ∷ name) i 0 ≢ 47
+    behind a b c zero low below = absurd (omega arith)
+    behind a b c (suc zero) low below = absurd (omega arith)
+    behind a b c (suc (suc zero)) low below = absurd (omega arith)
+    behind a b c (suc (suc (suc zero))) low below = absurd (omega arith)
+    behind a b c (suc (suc (suc (suc i)))) low below = no_slash_behind name is i (omega arith)
+
+    at : (a b c : ℕ) → after_last is_slash (a ∷ b ∷ c ∷ 47 ∷ name) ≡ name
+    at a b c = after_last-found 47 (a ∷ b ∷ c ∷ 47 ∷ name) 3 (omega arith) refl (behind a b c)
+
+    by_layer : (layer : Layer) → unit_in_target (unit_path layer name) ≡ name
+    by_layer Etc = at 101 116 99
+    by_layer Run = at 114 117 110
+    by_layer Lib = at 108 105 98
+
+-- disabling by a name by which the linked name is meant undoes the enabling of each unit that was taken
+pub links_undone : (tree : Tree) (asked name file : List ℕ) (l : LoadedUnit) → IsLinked tree asked name file l → (u v : Tree) → Obeys tree verbs.Enable asked u
+    → (by : List ℕ) → IsMeant u by name → Installs u verbs.Disable by v → IsUndone l name file v
+links_undone tree asked name file l is u v obeys by h undoes =
+    let fit = all_fit tree asked u obeys in
+    let made = enabled_by tree asked u obeys.makes in
+    let gone = (disabled_by u by v undoes).gone in
+    record {
+      wanted = λ other among. gone _ (unlinks_wanted tree asked name file l is fit u made by h other (among_contained l.settings.install.wanted_by other among));
+      required = λ other among. gone _ (unlinks_required tree asked name file l is fit u made by h other (among_contained l.settings.install.required_by other among));
+      aliased = λ same alias among.
+          gone _ (unlinks_alias tree asked name file l is fit u made by (subst (IsMeant u by) (sym same) h) alias (among_contained l.settings.install.alias alias among));
+    }
+
+-- enabling it links it by that name
+linked_by_name : (tree : Tree) (asked file : List ℕ) (l : LoadedUnit) → IsFoundByName tree asked file l → IsLinked tree asked asked file l
+linked_by_name tree asked file l is = record {
+  unit = asked;
+  taken = first (sym (ap (name_in asked) is.found ∙ is.named));
+  found = is.found;
+  linked = cond-false (is_template l.name) _ (Some l.name) (ap is_template is.named ∙ is.single) ∙ ap Some is.named;
+  at = is.at;
+}
+
+-- what enabling a unit by its name linked, disabling it by its name unlinks
+pub disabling_undoes : (tree : Tree) (asked file : List ℕ) (l : LoadedUnit) → IsFoundByName tree asked file l
+    → (u v : Tree) → Obeys tree verbs.Enable asked u → Installs u verbs.Disable asked v → IsUndone l asked file v
+disabling_undoes tree asked file l is u v obeys undoes =
+    links_undone tree asked asked file l (linked_by_name tree asked file l is) u v obeys asked (first refl) undoes
+
+-- ---- what was enabled is told to be
+
+-- where any other unit wants or requires it, and it still is found by its name
+pub enabled_is_told : (tree : Tree) (asked file : List ℕ) (l : LoadedUnit) → IsFoundByName tree asked file l → (u : Tree) → Obeys tree verbs.Enable asked u
+    → (other : List ℕ) → Contains (l.settings.install.wanted_by ++ l.settings.install.required_by) other
+    → (m : LoadedUnit) → load u asked ≡ Found m → m.name ≡ asked → (e : Enabling) → IsEnabledAs u asked e → e ≡ enabling.Enabled
+enabled_is_told tree asked file l is u obeys other among m found named e told =
+    told.fits ∙ (ap (λ loading. enabling_of asked loading told.linked) found
+    ∙ (ap (enabling_of asked (Found m)) (told.decides.1 (by_list (among_either l.settings.install.wanted_by l.settings.install.required_by other (among_contained _ other among))))
+    ∙ ap (λ b. cond (not b) enabling.Alias enabling.Enabled) ((bytes_eq-Decides m.name asked).1 named)))
+  where
+    own : IsLinked tree asked asked file l
+    own = linked_by_name tree asked file l is
+
+    fit : (path : List ℕ) → ¬ (IsUnfit tree asked path)
+    fit = all_fit tree asked u obeys
+
+    made : IsEnabled tree asked u
+    made = enabled_by tree asked u obeys.makes
+
+    by_list : Among l.settings.install.wanted_by other ⊎ Among l.settings.install.required_by other → (path : List ℕ) × IsUnlinked u asked path
+    by_list (inl wanted) = (_, unlinks_wanted tree asked asked file l own fit u made asked (first refl) other wanted)
+    by_list (inr required) = (_, unlinks_required tree asked asked file l own fit u made asked (first refl) other required)
+
+-- ---- units that have no other name load as before
+
+abbrev is_pull : Place → Bool
+is_pull (Wants other) = true
+is_pull (Requires other) = true
+is_pull other = false
+
+-- a path at which a link wants or requires
+record IsPulling (path : List ℕ) : Type 0 where
+  parts : PathParts
+  spelled : path ≡ path_text parts
+  unit : is_unit_name parts.unit ≡ true
+  pulls : is_pull parts.place ≡ true
+
+-- it is no path of a unit itself
+no_unit_path : (path : List ℕ) → IsPulling path → (layer : Layer) (unit : List ℕ) → is_unit_name unit ≡ true → unit_path layer unit ≢ path
+no_unit_path path pulling layer unit is e = by_fit (are_fit pulling.parts) same
+  where
+    own : PathParts
+    own = record { layer = layer; unit = unit; place = Unit }
+
+    same : Some own ≡ cond (are_fit pulling.parts) (Some pulling.parts) None
+    same =
+        sym (parts_at own is ∙ cond-true (is_unit_name unit) (Some own) None is)
+        ∙ (ap path_parts (ap (λ text. layer_text layer ++ text) (append-nil unit) ∙ (e ∙ pulling.spelled)) ∙ parts_at pulling.parts pulling.unit)
+
+    by_fit : (b : Bool) → Some own ≡ cond b (Some pulling.parts) None → ⊥
+    by_fit true f = true≢false (sym pulling.pulls ∙ sym (ap (λ (p : PathParts). is_pull p.place) (same_Some own pulling.parts f)))
+    by_fit false f = none-some own (sym f)
+
+links_pull : (install : InstallSettings) → AreNames install → install.alias ≡ [] → (name file : Option (List ℕ)) (link : LinkAt) → Among (links_to install name file) link → IsPulling link.path
+links_pull install names no_alias None file link none = absurd none
+links_pull install names no_alias (Some name) None link none = absurd none
+links_pull install names no_alias (Some name) (Some file) link is =
+    let wants = each (λ unit. link_at (path_in_etc unit (Wants name)) file) install.wanted_by in
+    let requires = each (λ unit. link_at (path_in_etc unit (Requires name)) file) install.required_by in
+    by_list (among_either (wants ++ requires) (each (λ alias. link_at (path_in_etc alias Unit) file) install.alias) link is)
+  where
+    wanted : AnyOf (λ unit. link ≡ link_at (path_in_etc unit (Wants name)) file) install.wanted_by → IsPulling link.path
+    wanted any = record {
+      parts = record { layer = Etc; unit = any.0; place = Wants name };
+      spelled = ap (λ (x : LinkAt). x.path) any.2;
+      unit = names.wanted_by any.0 any.1;
+      pulls = refl;
+    }
+
+    required : AnyOf (λ unit. link ≡ link_at (path_in_etc unit (Requires name)) file) install.required_by → IsPulling link.path
+    required any = record {
+      parts = record { layer = Etc; unit = any.0; place = Requires name };
+      spelled = ap (λ (x : LinkAt). x.path) any.2;
+      unit = names.required_by any.0 any.1;
+      pulls = refl;
+    }
+
+    pulls : Among (each (λ unit. link_at (path_in_etc unit (Wants name)) file) install.wanted_by) link ⊎ Among (each (λ unit. link_at (path_in_etc unit (Requires name)) file) install.required_by) link
+        → IsPulling link.path
+    pulls (inl there) = wanted (from_map (λ unit. link_at (path_in_etc unit (Wants name)) file) install.wanted_by link there)
+    pulls (inr there) = required (from_map (λ unit. link_at (path_in_etc unit (Requires name)) file) install.required_by link there)
+
+    by_list : Among (each (λ unit. link_at (path_in_etc unit (Wants name)) file) install.wanted_by ++ each (λ unit. link_at (path_in_etc unit (Requires name)) file) install.required_by) link
+        ⊎ Among (each (λ alias. link_at (path_in_etc alias Unit) file) install.alias) link → IsPulling link.path
+    by_list (inl there) =
+        pulls (among_either (each (λ unit. link_at (path_in_etc unit (Wants name)) file) install.wanted_by) (each (λ unit. link_at (path_in_etc unit (Requires name)) file) install.required_by) link there)
+    by_list (inr there) = absurd (subst (λ names. Among (each (λ alias. link_at (path_in_etc alias Unit) file) names) link) no_alias there)
+
+asked_pulls : (tree : Tree) (asked : List ℕ) → HasNoAlias tree asked → (link : LinkAt) → IsAskedFor tree asked link → IsPulling link.path
+asked_pulls tree asked no_alias link w = by_loading (load tree w.unit) refl (among_contained (links_of (load tree w.unit)) link w.among)
+  where
+    by_loading : (found : Loading) → load tree w.unit ≡ found → Among (links_of found) link → IsPulling link.path
+    by_loading (Found l) e is =
+        links_pull l.settings.install (subst (λ x. AreNames (install_of x)) e (names_installed tree w.unit)) (no_alias w.unit l w.taken e) (linked_name l) l.path link is
+    by_loading (Masked unit) e none = absurd none
+    by_loading NotFound e none = absurd none
+    by_loading (BadSetting unit reason) e none = absurd none
+
+-- after such an enabling each unit loads as before
+pub enabled_loads_as : (tree : Tree) (asked : List ℕ) (u : Tree) → HasNoAlias tree asked → Obeys tree verbs.Enable asked u
+    → (unit : List ℕ) → is_unit_name unit ≡ true → load u unit ≡ load tree unit
+enabled_loads_as tree asked u no_alias obeys = loads_as u tree (record {
+  holds = λ layer unit is.
+      made.kept (unit_path layer unit)
+      (λ w. no_unit_path (unit_path layer unit) (asked_pulls tree asked no_alias (link_at (unit_path layer unit) w.0) w.1) layer unit is refl);
+  drop_ins = enabled_drop_ins tree asked (free_of_causes tree asked (no_cause tree asked u obeys)) u made;
+})
+  where
+    made : IsEnabled tree asked u
+    made = enabled_by tree asked u obeys.makes
+
+-- so the unit is told to be enabled
+pub enabled_is_told_by_name : (tree : Tree) (asked file : List ℕ) (l : LoadedUnit) → IsFoundByName tree asked file l → is_unit_name asked ≡ true → HasNoAlias tree asked
+    → (u : Tree) → Obeys tree verbs.Enable asked u → (other : List ℕ) → Contains (l.settings.install.wanted_by ++ l.settings.install.required_by) other
+    → (e : Enabling) → IsEnabledAs u asked e → e ≡ enabling.Enabled
+enabled_is_told_by_name tree asked file l is name no_alias u obeys other among =
+    enabled_is_told tree asked file l is u obeys other among l (enabled_loads_as tree asked u no_alias obeys asked name ∙ is.found) is.named
+
+-- ---- enabling twice
+
+-- each unit loads as it did
+abbrev LoadsAs : Tree → Tree → Type 0
+LoadsAs u tree = (unit : List ℕ) → is_unit_name unit ≡ true → load u unit ≡ load tree unit
+
+-- of a unit name each unit that is taken has one
+taken_name : (tree : Tree) (asked unit : List ℕ) → is_unit_name asked ≡ true → IsTaken tree asked unit → is_unit_name unit ≡ true
+taken_name tree asked unit is (first e) = subst (λ name. is_unit_name name ≡ true) (sym e) (named_by_name tree asked is)
+taken_name tree asked unit is (next {a = taker} reached step) =
+    let any = also_any tree taker unit step in
+    subst (λ name. is_unit_name name ≡ true) (sym any.2) (named_by_name tree any.0 (also_names tree taker any.0 any.1))
+
+also_as : (u tree : Tree) → LoadsAs u tree → (unit other : List ℕ) → is_unit_name unit ≡ true → IsAlso u unit other → IsAlso tree unit other
+also_as u tree same unit other is step =
+    let any = also_any u unit other step in
+    any_also tree unit other
+    (any.0, subst (λ found. Among (install_of found).also any.0) (same unit is) any.1, any.2 ∙ ap (name_in any.0) (same any.0 (also_names u unit any.0 any.1)))
+
+taken_as : (u tree : Tree) → LoadsAs u tree → (asked unit : List ℕ) → is_unit_name asked ≡ true → IsTaken u asked unit → IsTaken tree asked unit
+taken_as u tree same asked unit is (first e) = first (e ∙ ap (name_in asked) (same asked is))
+taken_as u tree same asked unit is (next {a = taker} reached step) =
+    next (taken_as u tree same asked taker is reached) (also_as u tree same taker unit (taken_name u asked taker is reached) step)
+
+asked_as : (u tree : Tree) → LoadsAs u tree → (asked : List ℕ) → is_unit_name asked ≡ true → (link : LinkAt) → IsAskedFor u asked link → IsAskedFor tree asked link
+asked_as u tree same asked is link w = record {
+  unit = w.unit;
+  taken = taken_as u tree same asked w.unit is w.taken;
+  among = subst (λ found. Contains (links_of found) link) (same w.unit (taken_name u asked w.unit is w.taken)) w.among;
+}
+
+-- at no path something stands in a tree and nothing in the same tree
+none_beyond : (tree : Tree) → paths_beyond tree tree ≡ []
+none_beyond tree = no_filter (map.keys tree) (λ path among. is_there (map.get tree path) (map.contains_key-keys tree path ∙ among_any path (map.keys tree) among))
+  where
+    no_filter : (paths : List (List ℕ)) → ((path : List ℕ) → Among paths path → is_none (map.get tree path) ≡ false) → filter (λ path. is_none (map.get tree path)) paths ≡ []
+    no_filter [] there = refl
+    no_filter (path ∷ paths) there =
+        cond-false (is_none (map.get tree path)) _ _ (there path (inl refl)) ∙ no_filter paths (λ other among. there other (inr among))
+
+    is_there : {A : Type 0} (o : Option A) → is_some o ≡ true → is_none o ≡ false
+    is_there (Some a) e = refl
+    is_there None e = sym e
+
+    or_later : (b other : Bool) → other ≡ true → (b || other) ≡ true
+    or_later true other e = refl
+    or_later false other e = e
+
+    among_any : (path : List ℕ) (paths : List (List ℕ)) → Among paths path → list_any (eq_by_cmp (slice_cmp nat_cmp) path) paths ≡ true
+    among_any path [] none = absurd none
+    among_any path (other ∷ paths) (inl is) =
+        ap (λ b. b || list_any (eq_by_cmp (slice_cmp nat_cmp) path) paths) (ap (eq_by_cmp (slice_cmp nat_cmp) path) (sym is) ∙ alike path)
+    among_any path (other ∷ paths) (inr later) = or_later (eq_by_cmp (slice_cmp nat_cmp) path other) _ (among_any path paths later)
+
+-- a second enabling is obeyed and changes nothing, where no unit has another name by the first
+module _ (tree : Tree) (asked : List ℕ) (u : Tree) (is : is_unit_name asked ≡ true) (no_alias : HasNoAlias tree asked) (obeys : Obeys tree verbs.Enable asked u) where
+  made : IsEnabled tree asked u
+  made = enabled_by tree asked u obeys.makes
+
+  -- what is asked for then was asked for before
+  before : (link : LinkAt) → IsAskedFor u asked link → IsAskedFor tree asked link
+  before = asked_as u tree (enabled_loads_as tree asked u no_alias obeys) asked is
+
+  already : IsEnabled u asked u
+  already = record { linked = λ path target w. made.linked path target (before (link_at path target) w); kept = λ path isnt. refl }
+
+  fit_again : (path : List ℕ) → ¬ (IsUnfit u asked path)
+  fit_again path h = all_fit tree asked u obeys path (record { target = h.target; wanted = before (link_at path h.target) h.wanted; unfit = h.unfit })
+
+  free_again : (path : List ℕ) → ¬ (IsOccupied u asked path)
+  free_again path (stands {target = target} w other) =
+      true≢false
+      (sym other
+      ∙ (ap (λ o. is_other_than_link o target) (made.linked path target (before (link_at path target) w))
+      ∙ ap not ((bytes_eq-Decides target target).1 refl)))
+  free_again path (differs {target = target} {other = other} w v apart) =
+      free_of_causes tree asked (no_cause tree asked u obeys) path (differs (before (link_at path target) w) (before (link_at path other) v) apart)
+
+  few_again : ¬ (IsTooMany u asked)
+  few_again h =
+      few_of_causes tree asked (no_cause tree asked u obeys)
+      (record { enabled = u; all = made; many = subst (λ t. entry_limit < map.len t) (one_enabled u asked h.enabled u h.all already) h.many })
+
+  open_again : (unit : List ℕ) → ¬ (IsBarred u asked unit)
+  open_again unit h =
+      open_of_causes tree asked (no_cause tree asked u obeys) unit
+      (record {
+        taken = taken_as u tree (enabled_loads_as tree asked u no_alias obeys) asked unit is h.taken;
+        refusal = h.refusal;
+        cause = subst (λ found. CannotEnable unit found h.refusal) (enabled_loads_as tree asked u no_alias obeys unit (taken_name u asked unit is h.taken)) h.cause;
+      })
+
+  obeyed_again : (r : Refused) → ¬ (RefusesInstall u verbs.Enable asked r)
+  obeyed_again r (enables_none (at_first unfit)) = fit_again unfit.path unfit.least.has
+  obeyed_again r (enables_none (at_second fit (at_first occupied))) = free_again occupied.path occupied.least.has
+  obeyed_again r (enables_none (at_second fit (at_second free (at_first many)))) = few_again many.many
+  obeyed_again r (enables_none (at_second fit (at_second free (at_second few barred)))) = open_again barred.unit barred.least.has
+
+  pub enable_twice : Obeys u verbs.Enable asked u
+  enable_twice = record { free = obeyed_again; makes = enables already }
+
+  pub enable_twice_alone : (w : Tree) → Installs u verbs.Enable asked w → w ≡ u
+  enable_twice_alone w more = one_install u verbs.Enable asked w u more (enables already)
+
+  -- so it tells of no link
+  pub enable_twice_tells_none : (w : Tree) → Installs u verbs.Enable asked w → paths_beyond u w ≡ []
+  enable_twice_tells_none w more = ap (paths_beyond u) (enable_twice_alone w more) ∙ none_beyond u
+
+-- ---- disabling twice
+
+-- none of the links that are removed is another name of a unit
+abbrev pub RemovesNoName : Tree → List ℕ → Type 0
+RemovesNoName tree asked = (path : List ℕ) (p : PathParts) → IsUnlinked tree asked path → path_parts path ≡ Some p → p.place ≢ Unit
+
+-- after such a disabling each unit loads as before
+pub disabled_loads_as : (tree : Tree) (asked : List ℕ) (v : Tree) → RemovesNoName tree asked → Installs tree verbs.Disable asked v
+    → (unit : List ℕ) → is_unit_name unit ≡ true → load v unit ≡ load tree unit
+disabled_loads_as tree asked v no_name disabled = loads_as v tree (record {
+  holds = λ layer unit is. left.kept (unit_path layer unit) (λ h. no_name (unit_path layer unit) (own layer unit) h (parts_of_own layer unit is) refl);
+  drop_ins = disabled_drop_ins tree asked v left;
+})
+  where
+    left : IsDisabled tree asked v
+    left = disabled_by tree asked v disabled
+
+    own : Layer → List ℕ → PathParts
+    own layer unit = record { layer = layer; unit = unit; place = Unit }
+
+    parts_of_own : (layer : Layer) (unit : List ℕ) → is_unit_name unit ≡ true → path_parts (unit_path layer unit) ≡ Some (own layer unit)
+    parts_of_own layer unit is =
+        ap path_parts (sym (ap (λ text. layer_text layer ++ text) (append-nil unit)))
+        ∙ (parts_at (own layer unit) is ∙ cond-true (is_unit_name unit) (Some (own layer unit)) None is)
+
+meant_name : (tree : Tree) (asked name : List ℕ) → is_unit_name asked ≡ true → IsMeant tree asked name → is_unit_name name ≡ true
+meant_name tree asked name is (first e) = subst (λ n. is_unit_name n ≡ true) (sym e) is
+meant_name tree asked name is (next {a = unit} reached step) = also_names tree unit name (among_contained (install_of (load tree unit)).also name step)
+
+meant_as : (v tree : Tree) → LoadsAs v tree → (asked name : List ℕ) → is_unit_name asked ≡ true → IsMeant v asked name → IsMeant tree asked name
+meant_as v tree same asked name is (first e) = first e
+meant_as v tree same asked name is (next {a = unit} reached step) =
+    next (meant_as v tree same asked unit is reached) (subst (λ found. Contains (install_of found).also name) (same unit (meant_name v asked unit is reached)) step)
+
+-- then nothing is left that disabling would remove
+none_left : (tree : Tree) (asked : List ℕ) (v : Tree) → is_unit_name asked ≡ true → RemovesNoName tree asked → Installs tree verbs.Disable asked v
+    → (path : List ℕ) → ¬ (IsUnlinked v asked path)
+none_left tree asked v is no_name disabled path h = elim (unlinked_or_not tree asked path) as (λ _. ⊥) [
+  | inl was ↦ nothing_there (path_parts path) (ap (is_link_of h.name (path_parts path)) (sym (left.gone path was)) ∙ h.leads)
+  | inr wasnt ↦ wasnt (record {
+    name = h.name;
+    meant = meant_as v tree (disabled_loads_as tree asked v no_name disabled) asked h.name is h.meant;
+    leads = ap (is_link_of h.name (path_parts path)) (sym (left.kept path wasnt)) ∙ h.leads;
+  })
+]
+  where
+    left : IsDisabled tree asked v
+    left = disabled_by tree asked v disabled
+
+    nothing_there : (parts : Option PathParts) → is_link_of h.name parts None ≡ true → ⊥
+    nothing_there None e = true≢false (sym e)
+    nothing_there (Some p) e = true≢false (sym e)
+
+-- a second disabling changes nothing
+pub disable_twice : (tree : Tree) (asked : List ℕ) (v w : Tree) → is_unit_name asked ≡ true → RemovesNoName tree asked → Installs tree verbs.Disable asked v
+    → Installs v verbs.Disable asked w → w ≡ v
+disable_twice tree asked v w is no_name disabled more =
+    same_tree w v (λ path. (disabled_by v asked w more).kept path (none_left tree asked v is no_name disabled path))
+
+-- and the unit isn't told to be enabled
+pub disabled_is_told : (tree : Tree) (asked : List ℕ) (v : Tree) → is_unit_name asked ≡ true → RemovesNoName tree asked → Installs tree verbs.Disable asked v
+    → (e : Enabling) → IsEnabledAs v asked e → e ≢ enabling.Enabled
+disabled_is_told tree asked v is no_name disabled e told same =
+    true≢false (ap is_enabled (sym same ∙ told.fits) ∙ by_test told.linked refl)
+  where
+    is_enabled : Enabling → Bool
+    is_enabled enabling.Enabled = true
+    is_enabled other = false
+
+    by_section : (asked_links names : List (List ℕ)) → is_enabled (enabling_by asked_links names) ≡ false
+    by_section (link ∷ more) names = refl
+    by_section [] (name ∷ names) = refl
+    by_section [] [] = refl
+
+    at_name : (other : Bool) (asked_links names : List (List ℕ)) → is_enabled (cond other enabling.Alias (enabling_by asked_links names)) ≡ false
+    at_name true asked_links names = refl
+    at_name false asked_links names = by_section asked_links names
+
+    of_loading : (found : Loading) → is_enabled (enabling_of asked found false) ≡ false
+    of_loading NotFound = refl
+    of_loading (Masked unit) = refl
+    of_loading (BadSetting unit reason) = at_name (not (bytes_eq unit asked)) [] []
+    of_loading (Found l) =
+        let install = l.settings.install in at_name (not (bytes_eq l.name asked)) (install.alias ++ install.wanted_by ++ install.required_by) install.also
+
+    by_test : (linked : Bool) → told.linked ≡ linked → is_enabled (enabling_of asked (load v asked) told.linked) ≡ false
+    by_test true f = absurd (let found = told.decides.0 f in none_left tree asked v is no_name disabled found.0 found.1)
+    by_test false f = ap (λ b. is_enabled (enabling_of asked (load v asked) b)) f ∙ of_loading (load v asked)

@@ -1,0 +1,611 @@
+-- Enabling, disabling, masking and unmasking have one outcome each, and one is always there; so has what is told of a unit's enabling.
+use Rattle.std.proofs.Common.{ℕ, ◌≤◌, ◌≡◌, ◌≢◌, ◌⊎◌, ◌∙◌, true, false, true≢false, cond, List, [], ◌∷◌, map as each, flat_map, Option, Some, None, is_some, Result, Ok, Err, codes, refl, sym, ap, subst, inl, inr, arith}
+use Rattle.std.specs.Bool.{one_answer}
+use Rattle.std.specs.FinMap as map
+use Rattle.std.specs.FinMap.{slice_cmp-IsAntisymmetric, nat_cmp-IsAntisymmetric}
+use Rattle.std.specs.Cmp.Lexicographic.{slice_cmp, nat_list_cmp_total}
+use Rattle.std.specs.Ordering.{nat_cmp, eq_by_cmp}
+use Rattle.std.proofs.lemmas.Bool.{cases_lt}
+use Rattle.std.proofs.lemmas.Option.{none-some}
+use Rattle.um_model.specs.Install.{LinkAt, link_at, install_of, linked_name, links_of, IsAlso, also, IsTaken, IsAskedFor, IsPathAsked, IsEnabled, IsUnfit, IsOccupied, stands, differs, IsTooMany, CannotEnable, isnt_found, is_masked, has_bad_setting, lacks_instance, IsBarred, NamesUnfit, NamesOccupied, HasTooMany, NamesBarred, CausesOfEnable, IsWrittenIn, IsMeant, is_link_of, IsUnlinked, IsDisabled, path_of_mask, unmasked, Installs, enables, disables, masks, unmasks, RefusesInstall, enables_none, masks_none, enabling_of, IsEnabledAs}
+use Rattle.um_model.specs.Least.{IsLeast, IsNamedBefore}
+use Rattle.um_model.specs.Names.{is_unit_name}
+use Rattle.um_model.specs.Reached.{first, next}
+use Rattle.um_model.specs.Refusals.{Refused, at_first, at_second, bad_path, exists_at, too_large}
+use Rattle.um_model.specs.Resolution.{drop_ins_in}
+use Rattle.um_model.specs.Tree.{Tree, Entry, File, Link, PathParts, path_parts, entry_limit, is_fit_target, is_other_than_link, put_link}
+use Rattle.um_model.specs.Units.{Loading, Found, Masked, NotFound, BadSetting, load, unit_named}
+use Rattle.um_model.specs.declared.install.Enabling.{Enabling}
+use Rattle.um_model.specs.declared.install.InstallVerb.{InstallVerb}
+use Rattle.um_model.specs.declared.install.InstallVerb.TheVariants as verbs
+use Rattle.um_model.specs.declared.refusals.Limit.TheVariants.{Entries}
+use Rattle.um_model.proofs.AmongLaws.{both_decided, either_decided, not_decided, passes_or_not, decided_as, test_of, AnyOf, any_decided, among_or_not, IsListOf, list_of, among_contained, contains_among, among_map, among_flat_map, from_flat_map}
+use Rattle.um_model.proofs.CausesLaws.{OneOrNone, first_or_then, one_first, same_ok, same_err}
+use Rattle.um_model.proofs.CoverLaws.{names_cover}
+use Rattle.um_model.proofs.LeastLaws.{IsDecided, Among, one_least, a_least}
+use Rattle.um_model.proofs.LoadsLaws.{HasNoFile, link_inserted}
+use Rattle.um_model.proofs.NamedLaws.{named_by_name, also_names}
+use Rattle.um_model.proofs.ReachedLaws.{reached_list}
+use Rattle.um_model.proofs.TimersLaws.{same_name, names_one_way, named_trans, one_named_first, among_keys}
+use Rattle.um_model.proofs.UnitLaws.{alike, unlike}
+
+-- ---- trees
+
+-- trees that hold the same everywhere are one
+pub same_tree : (a b : Tree) → ((path : List ℕ) → map.get a path ≡ map.get b path) → a ≡ b
+same_tree a b = map.same_map nat_list_cmp_total (slice_cmp-IsAntisymmetric nat_cmp-IsAntisymmetric) a b
+
+inserted_here : (tree : Tree) (path : List ℕ) (entry : Entry) (at : List ℕ) → at ≡ path → map.get (map.insert tree path entry) at ≡ Some entry
+inserted_here tree path entry at is =
+    map.get-insert nat_list_cmp_total tree path entry at
+    ∙ ap (λ b. cond b (Some entry) (map.get tree at)) (ap (λ p. eq_by_cmp (slice_cmp nat_cmp) p path) is ∙ alike path)
+
+inserted_apart : (tree : Tree) (path : List ℕ) (entry : Entry) (at : List ℕ) → at ≢ path → map.get (map.insert tree path entry) at ≡ map.get tree at
+inserted_apart tree path entry at apart =
+    map.get-insert nat_list_cmp_total tree path entry at ∙ ap (λ b. cond b (Some entry) (map.get tree at)) (unlike at path apart)
+
+removed_here : (tree : Tree) (path at : List ℕ) → at ≡ path → map.get (map.remove tree path) at ≡ None
+removed_here tree path at is =
+    map.get-remove nat_list_cmp_total tree path at
+    ∙ ap (λ b. cond b None (map.get tree at)) (ap (λ p. eq_by_cmp (slice_cmp nat_cmp) p path) is ∙ alike path)
+
+removed_apart : (tree : Tree) (path at : List ℕ) → at ≢ path → map.get (map.remove tree path) at ≡ map.get tree at
+removed_apart tree path at apart =
+    map.get-remove nat_list_cmp_total tree path at ∙ ap (λ b. cond b None (map.get tree at)) (unlike at path apart)
+
+-- ---- what is taken, and what is meant
+
+pub also_any : (tree : Tree) (unit other : List ℕ) → IsAlso tree unit other → AnyOf (λ name. other ≡ unit_named tree name) (install_of (load tree unit)).also
+also_any tree unit other (also {name = name} among) = (name, among_contained (install_of (load tree unit)).also name among, refl)
+
+pub any_also : (tree : Tree) (unit other : List ℕ) → AnyOf (λ name. other ≡ unit_named tree name) (install_of (load tree unit)).also → IsAlso tree unit other
+any_also tree unit other any = subst (IsAlso tree unit) (sym any.2) (also (contains_among (install_of (load tree unit)).also any.0 any.1))
+
+also_or_not : (tree : Tree) (unit other : List ℕ) → IsDecided (IsAlso tree unit other)
+also_or_not tree unit other =
+    decided_as (any_also tree unit other) (also_any tree unit other)
+    (any_decided (λ name. other ≡ unit_named tree name) (λ name. same_name other (unit_named tree name)) (install_of (load tree unit)).also)
+
+-- what is taken is the unit that was asked for, or has a unit name
+taken_covered : (tree : Tree) (asked unit : List ℕ) → IsTaken tree asked unit → Among (unit_named tree asked ∷ names_cover.0) unit
+taken_covered tree asked unit (first is) = inl is
+taken_covered tree asked unit (next {a = taker} reached step) =
+    let any = also_any tree taker unit step in
+    inr (names_cover.1 unit (subst (λ n. is_unit_name n ≡ true) (sym any.2) (named_by_name tree any.0 (also_names tree taker any.0 any.1))))
+
+-- a list has just what is taken
+pub taken_list : (tree : Tree) (asked : List ℕ) → (units : List (List ℕ)) × IsListOf (IsTaken tree asked) units
+taken_list tree asked =
+    reached_list (λ unit. unit ≡ unit_named tree asked) (IsAlso tree) (unit_named tree asked ∷ names_cover.0) (taken_covered tree asked)
+    (λ unit. same_name unit (unit_named tree asked)) (also_or_not tree)
+
+written_or_not : (tree : Tree) (unit name : List ℕ) → IsDecided (IsWrittenIn tree unit name)
+written_or_not tree unit name =
+    let names = (install_of (load tree unit)).also in
+    decided_as (contains_among names name) (among_contained names name) (among_or_not same_name names name)
+
+meant_covered : (tree : Tree) (asked name : List ℕ) → IsMeant tree asked name → Among (asked ∷ names_cover.0) name
+meant_covered tree asked name (first is) = inl is
+meant_covered tree asked name (next {a = unit} reached step) =
+    inr (names_cover.1 name (also_names tree unit name (among_contained (install_of (load tree unit)).also name step)))
+
+-- a list has just what is meant
+pub meant_list : (tree : Tree) (asked : List ℕ) → (names : List (List ℕ)) × IsListOf (IsMeant tree asked) names
+meant_list tree asked =
+    reached_list (λ name. name ≡ asked) (IsWrittenIn tree) (asked ∷ names_cover.0) (meant_covered tree asked) (λ name. same_name name asked) (written_or_not tree)
+
+-- ---- the links that are asked for
+
+module _ (tree : Tree) (asked : List ℕ) where
+  links_from : List (List ℕ) → List LinkAt
+  links_from = flat_map (λ unit. links_of (load tree unit))
+
+  asked_from : (units : List (List ℕ)) → IsListOf (IsTaken tree asked) units → (link : LinkAt) → Among (links_from units) link → IsAskedFor tree asked link
+  unfolding links_from
+  asked_from units list link is =
+      let any = from_flat_map (λ unit. links_of (load tree unit)) units link is in
+      record { unit = any.0; taken = list.has any.0 any.1; among = contains_among (links_of (load tree any.0)) link any.2 }
+
+  from_asked : (units : List (List ℕ)) → IsListOf (IsTaken tree asked) units → (link : LinkAt) → IsAskedFor tree asked link → Among (links_from units) link
+  unfolding links_from
+  from_asked units list link w =
+      among_flat_map (λ unit. links_of (load tree unit)) units w.unit link (list.all w.unit w.taken) (among_contained (links_of (load tree w.unit)) link w.among)
+
+  -- a list has just the links that are asked for
+  pub asked_list : (links : List LinkAt) × IsListOf (IsAskedFor tree asked) links
+  asked_list =
+      let units = taken_list tree asked in
+      (links_from units.0, record { has = asked_from units.0 units.1; all = from_asked units.0 units.1 })
+
+  any_path_asked : (links : List LinkAt) → IsListOf (IsAskedFor tree asked) links → (path : List ℕ) → AnyOf (λ link. path ≡ link.path) links → IsPathAsked tree asked path
+  any_path_asked links list path any =
+      (any.0.target, subst (λ p. IsAskedFor tree asked (link_at p any.0.target)) (sym any.2) (list.has any.0 any.1))
+
+  path_asked_any : (links : List LinkAt) → IsListOf (IsAskedFor tree asked) links → (path : List ℕ) → IsPathAsked tree asked path → AnyOf (λ link. path ≡ link.path) links
+  path_asked_any links list path w = (link_at path w.0, list.all (link_at path w.0) w.1, refl)
+
+  pub path_asked_or_not : (path : List ℕ) → IsDecided (IsPathAsked tree asked path)
+  path_asked_or_not path =
+      let links = asked_list in
+      decided_as (any_path_asked links.0 links.1 path) (path_asked_any links.0 links.1 path)
+      (any_decided (λ link. path ≡ link.path) (λ link. same_name path link.path) links.0)
+
+  -- ---- the enabled tree
+
+  -- enabling makes one tree
+  pub one_enabled : (u v : Tree) → IsEnabled tree asked u → IsEnabled tree asked v → u ≡ v
+  one_enabled u v h k = same_tree u v at
+    where
+      at : (path : List ℕ) → map.get u path ≡ map.get v path
+      at path = elim (path_asked_or_not path) as (λ _. map.get u path ≡ map.get v path) [
+        | inl is ↦ h.linked path is.0 is.1 ∙ sym (k.linked path is.0 is.1)
+        | inr isnt ↦ h.kept path isnt ∙ sym (k.kept path isnt)
+      ]
+
+  with_links : List LinkAt → Tree
+  with_links [] = tree
+  with_links (link ∷ links) = map.insert (with_links links) link.path (Link link.target)
+
+  links_kept : (links : List LinkAt) (path : List ℕ) → ¬ (AnyOf (λ link. path ≡ link.path) links) → map.get (with_links links) path ≡ map.get tree path
+  unfolding with_links
+  links_kept [] path none = refl
+  links_kept (link ∷ links) path none =
+      inserted_apart (with_links links) link.path (Link link.target) path (λ e. none (link, inl refl, e))
+      ∙ links_kept links path (λ any. none (any.0, inr any.1, any.2))
+
+  -- where all links of one path have one target
+  links_stand : (links : List LinkAt) (path target : List ℕ) → ((link : LinkAt) → Among links link → path ≡ link.path → link.target ≡ target)
+      → AnyOf (λ link. path ≡ link.path) links → map.get (with_links links) path ≡ Some (Link target)
+  unfolding with_links
+  links_stand [] path target agree any = absurd any.1
+  links_stand (link ∷ links) path target agree any = elim (same_name path link.path) as (λ _. map.get (map.insert (with_links links) link.path (Link link.target)) path ≡ Some (Link target)) [
+    | inl is ↦ inserted_here (with_links links) link.path (Link link.target) path is ∙ ap (λ t. Some (Link t)) (agree link (inl refl) is)
+    | inr apart ↦
+        inserted_apart (with_links links) link.path (Link link.target) path apart
+        ∙ links_stand links path target (λ other among. agree other (inr among)) (behind link links path apart any)
+  ]
+    where
+      behind : (link : LinkAt) (links : List LinkAt) (path : List ℕ) → path ≢ link.path → AnyOf (λ x. path ≡ x.path) (link ∷ links) → AnyOf (λ x. path ≡ x.path) links
+      behind link links path apart (other, inl is, at) = absurd (apart (at ∙ ap (λ (x : LinkAt). x.path) is))
+      behind link links path apart (other, inr later, at) = (other, later, at)
+
+  -- no path is occupied
+  abbrev pub IsFree : Type 0
+  IsFree = (path : List ℕ) → ¬ (IsOccupied tree asked path)
+
+  one_target : IsFree → (path target other : List ℕ) → IsAskedFor tree asked (link_at path target) → IsAskedFor tree asked (link_at path other) → target ≡ other
+  one_target free path target other w v = elim (same_name target other) as (λ _. target ≡ other) [
+    | inl is ↦ is
+    | inr apart ↦ absurd (free path (differs w v apart))
+  ]
+
+  an_enabled : IsFree → (enabled : Tree) × IsEnabled tree asked enabled
+  an_enabled free = (with_links asked_list.0, record { linked = stand; kept = λ path isnt. links_kept asked_list.0 path (λ any. isnt (any_path_asked asked_list.0 asked_list.1 path any)) })
+    where
+      stand : (path target : List ℕ) → IsAskedFor tree asked (link_at path target) → map.get (with_links asked_list.0) path ≡ Some (Link target)
+      stand path target w =
+          links_stand asked_list.0 path target
+          (λ link among is. one_target free path link.target target (subst (λ p. IsAskedFor tree asked (link_at p link.target)) (sym is) (asked_list.1.has link among)) w)
+          (path_asked_any asked_list.0 asked_list.1 path (target, w))
+
+  -- ---- the drop-ins in the enabled tree
+
+  no_file_linked : (links : List LinkAt) (path : List ℕ) → HasNoFile (map.get tree path) → HasNoFile (map.get (with_links links) path)
+  unfolding with_links
+  no_file_linked [] path none text = none text
+  no_file_linked (link ∷ links) path none text = elim (same_name path link.path) as (λ _. map.get (map.insert (with_links links) link.path (Link link.target)) path ≢ Some (File text)) [
+    | inl is ↦ λ e. link_or_file link.target (sym (inserted_here (with_links links) link.path (Link link.target) path is) ∙ e)
+    | inr apart ↦ λ e. no_file_linked links path none text (sym (inserted_apart (with_links links) link.path (Link link.target) path apart) ∙ e)
+  ]
+    where
+      link_or_file : (target : List ℕ) → Some (Link target) ≢ Some (File text)
+      link_or_file target e = cc
+
+  same_drop_ins : (links : List LinkAt) → ((link : LinkAt) → Among links link → HasNoFile (map.get tree link.path)) → (folder : List ℕ)
+      → drop_ins_in (with_links links) folder ≡ drop_ins_in tree folder
+  unfolding with_links
+  same_drop_ins [] none folder = refl
+  same_drop_ins (link ∷ links) none folder =
+      link_inserted folder link.path link.target (with_links links) (no_file_linked links link.path (none link (inl refl)))
+      ∙ same_drop_ins links (λ other among. none other (inr among)) folder
+
+  -- they are those of the tree
+  pub enabled_drop_ins : IsFree → (u : Tree) → IsEnabled tree asked u → (folder : List ℕ) → drop_ins_in u folder ≡ drop_ins_in tree folder
+  unfolding an_enabled
+  enabled_drop_ins free u made folder =
+      ap (λ t. drop_ins_in t folder) (one_enabled u (an_enabled free).0 made (an_enabled free).1) ∙ same_links
+    where
+      none : (link : LinkAt) → Among asked_list.0 link → HasNoFile (map.get tree link.path)
+      none link among text e = free link.path (stands (asked_list.1.has link among) (ap (λ o. is_other_than_link o link.target) e))
+
+      same_links : drop_ins_in (an_enabled free).0 folder ≡ drop_ins_in tree folder
+      same_links = same_drop_ins asked_list.0 none folder
+
+  -- ---- why a unit isn't enabled
+
+  abbrev paths_asked : List (List ℕ)
+  paths_asked = each (λ link. link.path) asked_list.0
+
+  among_paths : (path target : List ℕ) → IsAskedFor tree asked (link_at path target) → Among paths_asked path
+  among_paths path target w = among_map (λ (link : LinkAt). link.path) asked_list.0 (link_at path target) (asked_list.1.all (link_at path target) w)
+
+  -- no thing has the property, or one is the least that has it
+  abbrev NoneOrLeast : (List ℕ → Type 0) → Type 0
+  NoneOrLeast Has = ((name : List ℕ) → ¬ (Has name)) ⊎ ((name : List ℕ) × IsLeast IsNamedBefore Has name)
+
+  -- the link makes its path unfit
+  abbrev MakesUnfit : List ℕ → LinkAt → Type 0
+  MakesUnfit path link = (path ≡ link.path) × (is_fit_target (path_parts path) link.target ≡ false)
+
+  unfit_or_not : (path : List ℕ) → IsDecided (IsUnfit tree asked path)
+  unfit_or_not path = decided_as there back (any_decided (MakesUnfit path) (λ link. both_decided (same_name path link.path) (passes_or_not (is_fit_target (path_parts path) link.target) false)) asked_list.0)
+    where
+      there : AnyOf (MakesUnfit path) asked_list.0 → IsUnfit tree asked path
+      there (link, among, makes) = record {
+        target = link.target;
+        wanted = subst (λ p. IsAskedFor tree asked (link_at p link.target)) (sym makes.0) (asked_list.1.has link among);
+        unfit = makes.1;
+      }
+
+      back : IsUnfit tree asked path → AnyOf (MakesUnfit path) asked_list.0
+      back h = (link_at path h.target, asked_list.1.all (link_at path h.target) h.wanted, (refl, h.unfit))
+
+  least_unfit : NoneOrLeast (IsUnfit tree asked)
+  least_unfit =
+      a_least IsNamedBefore (IsUnfit tree asked) same_name named_trans one_named_first unfit_or_not paths_asked (λ path h. among_paths path h.target h.wanted)
+
+  -- something stands where the link would, or another link would
+  abbrev Occupies : List ℕ → LinkAt → Type 0
+  Occupies path link =
+      (path ≡ link.path) × ((is_other_than_link (map.get tree path) link.target ≡ true) ⊎ AnyOf (λ other. (path ≡ other.path) × (link.target ≢ other.target)) asked_list.0)
+
+  occupies_or_not : (path : List ℕ) (link : LinkAt) → IsDecided (Occupies path link)
+  occupies_or_not path link =
+      both_decided (same_name path link.path)
+      (either_decided (passes_or_not (is_other_than_link (map.get tree path) link.target) true)
+      (any_decided (λ other. (path ≡ other.path) × (link.target ≢ other.target))
+      (λ other. both_decided (same_name path other.path) (not_decided (same_name link.target other.target))) asked_list.0))
+
+  occupied_or_not : (path : List ℕ) → IsDecided (IsOccupied tree asked path)
+  occupied_or_not path = decided_as there back (any_decided (Occupies path) (occupies_or_not path) asked_list.0)
+    where
+      at_path : (link : LinkAt) → Among asked_list.0 link → path ≡ link.path → IsAskedFor tree asked (link_at path link.target)
+      at_path link among is = subst (λ p. IsAskedFor tree asked (link_at p link.target)) (sym is) (asked_list.1.has link among)
+
+      there : AnyOf (Occupies path) asked_list.0 → IsOccupied tree asked path
+      there (link, among, (is, inl other)) = stands (at_path link among is) other
+      there (link, among, (is, inr any)) = differs (at_path link among is) (at_path any.0 any.1 any.2.0) any.2.1
+
+      back : IsOccupied tree asked path → AnyOf (Occupies path) asked_list.0
+      back (stands {target = target} w is) = (link_at path target, asked_list.1.all (link_at path target) w, (refl, inl is))
+      back (differs {target = target} {other = other} w v apart) =
+          (link_at path target, asked_list.1.all (link_at path target) w, (refl, inr (link_at path other, asked_list.1.all (link_at path other) v, (refl, apart))))
+
+  occupied_asked : (path : List ℕ) → IsOccupied tree asked path → Among paths_asked path
+  occupied_asked path (stands {target = target} w is) = among_paths path target w
+  occupied_asked path (differs {target = target} w v apart) = among_paths path target w
+
+  least_occupied : NoneOrLeast (IsOccupied tree asked)
+  least_occupied = a_least IsNamedBefore (IsOccupied tree asked) same_name named_trans one_named_first occupied_or_not paths_asked occupied_asked
+
+  -- the unit can't be enabled, or can
+  cannot_or_can : (unit : List ℕ) (found : Loading) → OneOrNone (CannotEnable unit found)
+  cannot_or_can unit NotFound = inl (_, isnt_found)
+  cannot_or_can unit (Masked other) = inl (_, is_masked)
+  cannot_or_can unit (BadSetting other reason) = inl (_, has_bad_setting)
+  cannot_or_can unit (Found l) = by_name (linked_name l) refl
+    where
+      can : (name : List ℕ) → linked_name l ≡ Some name → (r : Refused) → ¬ (CannotEnable unit (Found l) r)
+      can name e r (lacks_instance none) = none-some name (sym none ∙ e)
+
+      by_name : (o : Option (List ℕ)) → linked_name l ≡ o → OneOrNone (CannotEnable unit (Found l))
+      by_name None e = inl (_, lacks_instance e)
+      by_name (Some name) e = inr (can name e)
+
+  taken_or_not : (unit : List ℕ) → IsDecided (IsTaken tree asked unit)
+  taken_or_not unit =
+      let list = taken_list tree asked in
+      decided_as (list.1.has unit) (list.1.all unit) (among_or_not same_name list.0 unit)
+
+  barred_or_not : (unit : List ℕ) → IsDecided (IsBarred tree asked unit)
+  barred_or_not unit = decided_as there back (both_decided (taken_or_not unit) (one_or_not (cannot_or_can unit (load tree unit))))
+    where
+      one_or_not : OneOrNone (CannotEnable unit (load tree unit)) → IsDecided ((r : Refused) × CannotEnable unit (load tree unit) r)
+      one_or_not (inl found) = inl found
+      one_or_not (inr none) = inr (λ found. none found.0 found.1)
+
+      there : IsTaken tree asked unit × ((r : Refused) × CannotEnable unit (load tree unit) r) → IsBarred tree asked unit
+      there both = record { taken = both.0; refusal = both.1.0; cause = both.1.1 }
+
+      back : IsBarred tree asked unit → IsTaken tree asked unit × ((r : Refused) × CannotEnable unit (load tree unit) r)
+      back h = (h.taken, (h.refusal, h.cause))
+
+  least_barred : NoneOrLeast (IsBarred tree asked)
+  least_barred =
+      a_least IsNamedBefore (IsBarred tree asked) same_name named_trans one_named_first barred_or_not (taken_list tree asked).0
+      (λ unit h. (taken_list tree asked).1.all unit h.taken)
+
+  names_unfit : NoneOrLeast (IsUnfit tree asked) → OneOrNone (NamesUnfit tree asked)
+  names_unfit (inl none) = inr (λ r h. none h.path h.least.has)
+  names_unfit (inr found) = inl (bad_path found.0, record { path = found.0; least = found.1; refusal = refl })
+
+  names_occupied : NoneOrLeast (IsOccupied tree asked) → OneOrNone (NamesOccupied tree asked)
+  names_occupied (inl none) = inr (λ r h. none h.path h.least.has)
+  names_occupied (inr found) = inl (exists_at found.0, record { path = found.0; least = found.1; refusal = refl })
+
+  names_barred : NoneOrLeast (IsBarred tree asked) → OneOrNone (NamesBarred tree asked)
+  names_barred (inl none) = inr (λ r h. none h.unit h.least.has)
+  names_barred (inr found) = inl (found.1.has.refusal, record { unit = found.0; least = found.1; cause = found.1.has.cause })
+
+  -- where no cause names an occupied path, none is occupied
+  none_occupied : ((r : Refused) → ¬ (NamesOccupied tree asked r)) → IsFree
+  none_occupied none = by_least least_occupied
+    where
+      by_least : NoneOrLeast (IsOccupied tree asked) → IsFree
+      by_least (inl free) = free
+      by_least (inr found) = absurd (none (exists_at found.0) (record { path = found.0; least = found.1; refusal = refl }))
+
+  too_many_or_not : IsFree → OneOrNone (HasTooMany tree asked)
+  too_many_or_not free = by_count (an_enabled free) refl
+    where
+      few : (u : Tree) → IsEnabled tree asked u → map.len u ≤ entry_limit → ¬ (IsTooMany tree asked)
+      few u enabled most h = let same = ap map.len (one_enabled h.enabled u h.all enabled) in let many = h.many in omega arith
+
+      by_count : (found : (u : Tree) × IsEnabled tree asked u) → an_enabled free ≡ found → OneOrNone (HasTooMany tree asked)
+      by_count (u, enabled) e = elim (cases_lt entry_limit (map.len u)) as (λ _. OneOrNone (HasTooMany tree asked)) [
+        | inl many ↦ inl (too_large Entries, record { many = record { enabled = u; all = enabled; many = many }; refusal = refl })
+        | inr most ↦ inr (λ r h. few u enabled most h.many)
+      ]
+
+  -- one cause refuses the enabling, or none
+  enabling_cause : OneOrNone (CausesOfEnable tree asked)
+  enabling_cause =
+      first_or_then _ _ (names_unfit least_unfit) (λ fit.
+      first_or_then _ _ (names_occupied least_occupied) (λ free.
+      first_or_then _ _ (too_many_or_not (none_occupied free)) (λ few.
+      names_barred least_barred)))
+
+  -- where none does, no path is occupied
+  pub free_of_causes : ((r : Refused) → ¬ (CausesOfEnable tree asked r)) → IsFree
+  free_of_causes none = none_occupied (λ r h. none r (at_second (λ other unfit. none other (at_first unfit)) (at_first h)))
+
+  -- and no link is unfit
+  pub fit_of_causes : ((r : Refused) → ¬ (CausesOfEnable tree asked r)) → (path : List ℕ) → ¬ (IsUnfit tree asked path)
+  fit_of_causes none = by_least least_unfit
+    where
+      by_least : NoneOrLeast (IsUnfit tree asked) → (path : List ℕ) → ¬ (IsUnfit tree asked path)
+      by_least (inl fit) = fit
+      by_least (inr found) = absurd (none (bad_path found.0) (at_first (record { path = found.0; least = found.1; refusal = refl })))
+
+  -- nor are the entries too many
+  pub few_of_causes : ((r : Refused) → ¬ (CausesOfEnable tree asked r)) → ¬ (IsTooMany tree asked)
+  few_of_causes none many =
+      none (too_large Entries)
+      (at_second (λ r unfit. none r (at_first unfit))
+      (at_second (λ r occupied. none r (at_second (λ q unfit. none q (at_first unfit)) (at_first occupied)))
+      (at_first (record { many = many; refusal = refl }))))
+
+  -- nor can any unit that is taken not be enabled
+  pub open_of_causes : ((r : Refused) → ¬ (CausesOfEnable tree asked r)) → (unit : List ℕ) → ¬ (IsBarred tree asked unit)
+  open_of_causes none = by_least least_barred
+    where
+      last : (r : Refused) → NamesBarred tree asked r → CausesOfEnable tree asked r
+      last r h =
+          at_second (λ q unfit. none q (at_first unfit))
+          (at_second (λ q occupied. none q (at_second (λ x unfit. none x (at_first unfit)) (at_first occupied)))
+          (at_second (λ q many. few_of_causes none many.many) h))
+
+      by_least : NoneOrLeast (IsBarred tree asked) → (unit : List ℕ) → ¬ (IsBarred tree asked unit)
+      by_least (inl free) = free
+      by_least (inr found) = absurd (none found.1.has.refusal (last found.1.has.refusal (record { unit = found.0; least = found.1; cause = found.1.has.cause })))
+
+  -- ---- each cause has one refusal
+
+  one_cannot : (unit : List ℕ) (found : Loading) (r q : Refused) → CannotEnable unit found r → CannotEnable unit found q → r ≡ q
+  one_cannot unit found r q isnt_found isnt_found = refl
+  one_cannot unit found r q is_masked is_masked = refl
+  one_cannot unit found r q has_bad_setting has_bad_setting = refl
+  one_cannot unit found r q (lacks_instance e) (lacks_instance f) = refl
+
+  one_barred : (r q : Refused) → NamesBarred tree asked r → NamesBarred tree asked q → r ≡ q
+  one_barred r q h k =
+      let same = one_least IsNamedBefore (IsBarred tree asked) names_one_way same_name k.unit h.unit k.least h.least in
+      one_cannot h.unit (load tree h.unit) r q h.cause (subst (λ unit. CannotEnable unit (load tree unit) q) same k.cause)
+
+  one_unfit : (r q : Refused) → NamesUnfit tree asked r → NamesUnfit tree asked q → r ≡ q
+  one_unfit r q h k = h.refusal ∙ (ap bad_path (one_least IsNamedBefore (IsUnfit tree asked) names_one_way same_name h.path k.path h.least k.least) ∙ sym k.refusal)
+
+  one_occupied : (r q : Refused) → NamesOccupied tree asked r → NamesOccupied tree asked q → r ≡ q
+  one_occupied r q h k =
+      h.refusal ∙ (ap exists_at (one_least IsNamedBefore (IsOccupied tree asked) names_one_way same_name h.path k.path h.least k.least) ∙ sym k.refusal)
+
+  one_enable_refusal : (r q : Refused) → CausesOfEnable tree asked r → CausesOfEnable tree asked q → r ≡ q
+  one_enable_refusal =
+      one_first _ _ one_unfit (one_first _ _ one_occupied (one_first _ _ (λ r q h k. h.refusal ∙ sym k.refusal) one_barred))
+
+  -- ---- what disabling removes
+
+  -- a link stands at the path, and one of the names is meant by it
+  pub unlinked_or_not : (path : List ℕ) → IsDecided (IsUnlinked tree asked path)
+  unlinked_or_not path =
+      decided_as there back
+      (any_decided (λ name. is_link_of name (path_parts path) (map.get tree path) ≡ true) (λ name. passes_or_not (is_link_of name (path_parts path) (map.get tree path)) true)
+      (meant_list tree asked).0)
+    where
+      there : AnyOf (λ name. is_link_of name (path_parts path) (map.get tree path) ≡ true) (meant_list tree asked).0 → IsUnlinked tree asked path
+      there any = record { name = any.0; meant = (meant_list tree asked).1.has any.0 any.1; leads = any.2 }
+
+      back : IsUnlinked tree asked path → AnyOf (λ name. is_link_of name (path_parts path) (map.get tree path) ≡ true) (meant_list tree asked).0
+      back h = (h.name, (meant_list tree asked).1.all h.name h.meant, h.leads)
+
+  unlinked_held : (path : List ℕ) → IsUnlinked tree asked path → Among (map.keys tree) path
+  unlinked_held path h = among_keys tree path (by_entry (path_parts path) (map.get tree path) h.leads)
+    where
+      by_entry : (parts : Option PathParts) (entry : Option Entry) → is_link_of h.name parts entry ≡ true → is_some entry ≡ true
+      by_entry parts (Some entry) is = refl
+      by_entry None None is = absurd (true≢false (sym is))
+      by_entry (Some p) None is = absurd (true≢false (sym is))
+
+  -- a list has just the paths at which something is removed
+  unlinked_list : (paths : List (List ℕ)) × IsListOf (IsUnlinked tree asked) paths
+  unlinked_list = list_of (IsUnlinked tree asked) unlinked_or_not (map.keys tree) unlinked_held
+
+  one_disabled : (u v : Tree) → IsDisabled tree asked u → IsDisabled tree asked v → u ≡ v
+  one_disabled u v h k = same_tree u v at
+    where
+      at : (path : List ℕ) → map.get u path ≡ map.get v path
+      at path = elim (unlinked_or_not path) as (λ _. map.get u path ≡ map.get v path) [
+        | inl is ↦ h.gone path is ∙ sym (k.gone path is)
+        | inr isnt ↦ h.kept path isnt ∙ sym (k.kept path isnt)
+      ]
+
+  without_paths : List (List ℕ) → Tree
+  without_paths [] = tree
+  without_paths (path ∷ paths) = map.remove (without_paths paths) path
+
+  paths_gone : (paths : List (List ℕ)) (path : List ℕ) → Among paths path → map.get (without_paths paths) path ≡ None
+  unfolding without_paths
+  paths_gone [] path none = absurd none
+  paths_gone (other ∷ paths) path (inl is) = removed_here (without_paths paths) other path is
+  paths_gone (other ∷ paths) path (inr later) = elim (same_name path other) as (λ _. map.get (map.remove (without_paths paths) other) path ≡ None) [
+    | inl is ↦ removed_here (without_paths paths) other path is
+    | inr apart ↦ removed_apart (without_paths paths) other path apart ∙ paths_gone paths path later
+  ]
+
+  paths_kept : (paths : List (List ℕ)) (path : List ℕ) → ¬ (Among paths path) → map.get (without_paths paths) path ≡ map.get tree path
+  unfolding without_paths
+  paths_kept [] path none = refl
+  paths_kept (other ∷ paths) path none =
+      removed_apart (without_paths paths) other path (λ is. none (inl is)) ∙ paths_kept paths path (λ later. none (inr later))
+
+  a_disabled : (disabled : Tree) × IsDisabled tree asked disabled
+  a_disabled =
+      let paths = unlinked_list in (
+        without_paths paths.0,
+        record {
+          gone = λ path is. paths_gone paths.0 path (paths.1.all path is);
+          kept = λ path isnt. paths_kept paths.0 path (λ among. isnt (paths.1.has path among));
+        },
+      )
+
+  -- a link without which a tree has the same drop-ins
+  link_removed : (t : Tree) (path : List ℕ) (held : Option Entry) → map.get t path ≡ held → HasNoFile held → (folder : List ℕ) → drop_ins_in (map.remove t path) folder ≡ drop_ins_in t folder
+  link_removed t path None e none folder = ap (λ x. drop_ins_in x folder) (same_tree (map.remove t path) t at)
+    where
+      at : (q : List ℕ) → map.get (map.remove t path) q ≡ map.get t q
+      at q = elim (same_name q path) as (λ _. map.get (map.remove t path) q ≡ map.get t q) [
+        | inl is ↦ removed_here t path q is ∙ sym (ap (map.get t) is ∙ e)
+        | inr apart ↦ removed_apart t path q apart
+      ]
+  link_removed t path (Some (File text)) e none folder = absurd (none text refl)
+  link_removed t path (Some (Link target)) e none folder =
+      sym (ap (λ x. drop_ins_in x folder) (same_tree t (map.insert (map.remove t path) path (Link target)) at)
+      ∙ link_inserted folder path target (map.remove t path) (λ text f. none-some (File text) (sym (removed_here t path path refl) ∙ f)))
+    where
+      at : (q : List ℕ) → map.get t q ≡ map.get (map.insert (map.remove t path) path (Link target)) q
+      at q = elim (same_name q path) as (λ _. map.get t q ≡ map.get (map.insert (map.remove t path) path (Link target)) q) [
+        | inl is ↦ ap (map.get t) is ∙ (e ∙ sym (inserted_here (map.remove t path) path (Link target) q is))
+        | inr apart ↦ sym (inserted_apart (map.remove t path) path (Link target) q apart ∙ removed_apart t path q apart)
+      ]
+
+  no_file_left : (paths : List (List ℕ)) (path : List ℕ) → HasNoFile (map.get tree path) → HasNoFile (map.get (without_paths paths) path)
+  unfolding without_paths
+  no_file_left [] path none text = none text
+  no_file_left (other ∷ paths) path none text = elim (same_name path other) as (λ _. map.get (map.remove (without_paths paths) other) path ≢ Some (File text)) [
+    | inl is ↦ λ e. none-some (File text) (sym (removed_here (without_paths paths) other path is) ∙ e)
+    | inr apart ↦ λ e. no_file_left paths path none text (sym (removed_apart (without_paths paths) other path apart) ∙ e)
+  ]
+
+  drop_ins_left : (paths : List (List ℕ)) → ((path : List ℕ) → Among paths path → HasNoFile (map.get tree path)) → (folder : List ℕ)
+      → drop_ins_in (without_paths paths) folder ≡ drop_ins_in tree folder
+  unfolding without_paths
+  drop_ins_left [] none folder = refl
+  drop_ins_left (path ∷ paths) none folder =
+      link_removed (without_paths paths) path (map.get (without_paths paths) path) refl (no_file_left paths path (none path (inl refl))) folder
+      ∙ drop_ins_left paths (λ other among. none other (inr among)) folder
+
+  -- what is removed is a link
+  no_file_unlinked : (path : List ℕ) → IsUnlinked tree asked path → HasNoFile (map.get tree path)
+  no_file_unlinked path h text e = by_parts (path_parts path) (ap (is_link_of h.name (path_parts path)) (sym e) ∙ h.leads)
+    where
+      by_parts : (parts : Option PathParts) → is_link_of h.name parts (Some (File text)) ≡ true → ⊥
+      by_parts None is = true≢false (sym is)
+      by_parts (Some p) is = true≢false (sym is)
+
+  -- so the drop-ins are those of the tree
+  pub disabled_drop_ins : (v : Tree) → IsDisabled tree asked v → (folder : List ℕ) → drop_ins_in v folder ≡ drop_ins_in tree folder
+  unfolding a_disabled
+  disabled_drop_ins v left folder = ap (λ t. drop_ins_in t folder) (one_disabled v a_disabled.0 left a_disabled.1) ∙ same_left
+    where
+      same_left : drop_ins_in a_disabled.0 folder ≡ drop_ins_in tree folder
+      same_left = drop_ins_left unlinked_list.0 (λ path among. no_file_unlinked path (unlinked_list.1.has path among)) folder
+
+  -- whether disabling removes anything
+  linked_or_not : IsDecided ((path : List ℕ) × IsUnlinked tree asked path)
+  linked_or_not =
+      decided_as (λ any. (any.0, any.2)) (λ found. (found.0, unlinked_held found.0 found.1, found.1)) (any_decided (IsUnlinked tree asked) unlinked_or_not (map.keys tree))
+
+-- ---- all four
+
+-- a verb makes one tree
+pub one_install : (tree : Tree) (verb : InstallVerb) (unit : List ℕ) (u v : Tree) → Installs tree verb unit u → Installs tree verb unit v → u ≡ v
+one_install tree verb unit u v (enables {unit = x} {enabled = a} h) (enables {enabled = b} k) = one_enabled tree x a b h k
+one_install tree verb unit u v (disables {unit = x} {disabled = a} h) (disables {disabled = b} k) = one_disabled tree x a b h k
+one_install tree verb unit u v (masks {unit = x} {changed = a} e) (masks {changed = b} f) = same_ok (put_link tree (path_of_mask x) (codes "/dev/null")) a b e f
+one_install tree verb unit u v unmasks unmasks = refl
+
+-- and has one refusal
+pub one_install_refusal : (tree : Tree) (verb : InstallVerb) (unit : List ℕ) (r q : Refused) → RefusesInstall tree verb unit r → RefusesInstall tree verb unit q → r ≡ q
+one_install_refusal tree verb unit r q (enables_none {unit = x} {r = a} h) (enables_none {r = b} k) = one_enable_refusal tree x a b h k
+one_install_refusal tree verb unit r q (masks_none {unit = x} {r = a} e) (masks_none {r = b} f) = same_err (put_link tree (path_of_mask x) (codes "/dev/null")) a b e f
+
+-- it is refused, or makes a tree
+abbrev Becomes : Tree → InstallVerb → List ℕ → Type 0
+Becomes tree verb unit =
+    ((r : Refused) × RefusesInstall tree verb unit r) ⊎ (((r : Refused) → ¬ (RefusesInstall tree verb unit r)) × ((u : Tree) × Installs tree verb unit u))
+
+enable_becomes : (tree : Tree) (unit : List ℕ) → OneOrNone (CausesOfEnable tree unit) → Becomes tree verbs.Enable unit
+enable_becomes tree unit (inl found) = inl (found.0, enables_none found.1)
+enable_becomes tree unit (inr none) =
+    let made = an_enabled tree unit (free_of_causes tree unit none) in
+    inr (obeyed, (made.0, enables made.1))
+  where
+    obeyed : (r : Refused) → ¬ (RefusesInstall tree verbs.Enable unit r)
+    obeyed r (enables_none h) = none r h
+
+disable_obeys : (tree : Tree) (unit : List ℕ) (r : Refused) → ¬ (RefusesInstall tree verbs.Disable unit r)
+disable_obeys tree unit r h = elim h [ ]
+
+unmask_obeys : (tree : Tree) (unit : List ℕ) (r : Refused) → ¬ (RefusesInstall tree verbs.Unmask unit r)
+unmask_obeys tree unit r h = elim h [ ]
+
+mask_becomes : (tree : Tree) (unit : List ℕ) (result : Result Tree Refused) → put_link tree (path_of_mask unit) (codes "/dev/null") ≡ result → Becomes tree verbs.Mask unit
+mask_becomes tree unit (Err r) e = inl (r, masks_none e)
+mask_becomes tree unit (Ok changed) e = inr (obeyed, (changed, masks e))
+  where
+    isnt_refused : (result : Result Tree Refused) (r : Refused) → result ≡ Ok changed → ¬ (result ≡ Err r)
+    isnt_refused result r e f = cc
+
+    obeyed : (r : Refused) → ¬ (RefusesInstall tree verbs.Mask unit r)
+    obeyed r (masks_none f) = isnt_refused (put_link tree (path_of_mask unit) (codes "/dev/null")) r e f
+
+-- each verb is refused, or makes a tree
+pub an_install : (tree : Tree) (verb : InstallVerb) (unit : List ℕ) → ((r : Refused) × RefusesInstall tree verb unit r) ⊎ (((r : Refused) → ¬ RefusesInstall tree verb unit r) × ((u : Tree) × Installs tree verb unit u))
+an_install tree verbs.Enable unit = enable_becomes tree unit (enabling_cause tree unit)
+an_install tree verbs.Disable unit =
+    let made = a_disabled tree unit in
+    inr (disable_obeys tree unit, (made.0, disables made.1))
+an_install tree verbs.Mask unit = mask_becomes tree unit (put_link tree (path_of_mask unit) (codes "/dev/null")) refl
+an_install tree verbs.Unmask unit = inr (unmask_obeys tree unit, (unmasked tree unit, unmasks))
+
+-- ---- how a unit is enabled
+
+-- there is one answer
+pub one_enabling : (tree : Tree) (asked : List ℕ) (a b : Enabling) → IsEnabledAs tree asked a → IsEnabledAs tree asked b → a ≡ b
+one_enabling tree asked a b h k =
+    h.fits ∙ (ap (enabling_of asked (load tree asked)) (one_answer h.linked k.linked h.decides k.decides) ∙ sym k.fits)
+
+pub an_enabling : (tree : Tree) (asked : List ℕ) → (e : Enabling) × IsEnabledAs tree asked e
+an_enabling tree asked =
+    let told = test_of (linked_or_not tree asked) in
+    (enabling_of asked (load tree asked) told.0, record { linked = told.0; decides = told.1; fits = refl })

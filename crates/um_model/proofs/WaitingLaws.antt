@@ -1,0 +1,141 @@
+-- How many jobs wait: each job that begins is one fewer, so that jobs stop beginning.
+use Rattle.std.proofs.Common.{◌≡◌, ◌≢◌, ℕ, ◌+◌, ◌<◌, ◌≤◌, List, [], ◌∷◌, Option, Some, None, Bool, true, false, ◌||◌, is_some, unwrap_or, refl, sym, ap, ◌∙◌, subst, true≢false, inl, inr, arith}
+use Rattle.std.specs.FinMap as map
+use Rattle.std.specs.List.{list_any}
+use Rattle.std.specs.Ordering.{nat_cmp, eq_by_cmp}
+use Rattle.std.specs.Cmp.Lexicographic.{slice_cmp}
+use Rattle.std.proofs.lemmas.Map.Lookups.{exact_bytes}
+use Rattle.std.proofs.lemmas.Map.Views.{tells_apart}
+use Rattle.um_model.proofs.UnitLaws.{jobs_here, jobs_apart}
+use Rattle.um_model.specs.Jobs.{Job, job_of, jobs_of_unit, no_jobs, with_jobs, with_running, unless_running, start_left, jobs_left, BeginsNext}
+use Rattle.um_model.specs.Machine.{State, Carries, begins, begun, change_of, IsBefore}
+use Rattle.um_model.specs.Service.{ByUnit, Action}
+use Rattle.um_model.specs.declared.jobs.JobKind.{JobKind}
+use Rattle.um_model.specs.declared.jobs.JobKind.TheVariants.{Stop, Start}
+use Rattle.um_model.specs.declared.jobs.JobState.{JobState}
+use Rattle.um_model.specs.declared.jobs.JobState.TheVariants.{Waiting, Running}
+use Rattle.um_model.specs.declared.jobs.UnitJobs.{UnitJobs}
+use Rattle.um_model.specs.declared.transition.StartJob.{StartJob}
+use Rattle.um_model.specs.declared.transition.StartJob.TheVariants.{Stays, Ends, Fails}
+use Rattle.um_model.proofs.TimersLaws.{same_name}
+
+abbrev pub waits : Option JobState → ℕ
+waits (Some Waiting) = 1
+waits other = 0
+
+-- how many jobs of a unit wait
+abbrev pub waits_in : UnitJobs → ℕ
+waits_in j = waits j.stop + waits j.start
+
+-- how many jobs of these units wait
+abbrev pub waiting : List (List ℕ) → ByUnit UnitJobs → ℕ
+waiting [] pending = 0
+waiting (unit ∷ units) pending = waits_in (jobs_of_unit pending unit) + waiting units pending
+
+-- of no unit more jobs wait
+abbrev pub NoMoreWait : ByUnit UnitJobs → ByUnit UnitJobs → Type 0
+NoMoreWait later earlier = (unit : List ℕ) → waits_in (jobs_of_unit later unit) ≤ waits_in (jobs_of_unit earlier unit)
+
+no_more : (units : List (List ℕ)) (later earlier : ByUnit UnitJobs) → NoMoreWait later earlier → waiting units later ≤ waiting units earlier
+no_more [] later earlier none = omega arith
+no_more (unit ∷ units) later earlier none =
+    let here = none unit in
+    let others = no_more units later earlier none in
+    omega arith
+
+-- and of one of them fewer: fewer in all
+fewer : (units : List (List ℕ)) (later earlier : ByUnit UnitJobs) (unit : List ℕ) → list_any (eq_by_cmp (slice_cmp nat_cmp) unit) units ≡ true
+    → NoMoreWait later earlier → waits_in (jobs_of_unit later unit) < waits_in (jobs_of_unit earlier unit) → waiting units later < waiting units earlier
+fewer [] later earlier unit is none less = absurd (true≢false (sym is))
+fewer (first ∷ others) later earlier unit is none less =
+    elim (eq_by_cmp (slice_cmp nat_cmp) unit first) as (λ b. eq_by_cmp (slice_cmp nat_cmp) unit first ≡ b → (b || list_any (eq_by_cmp (slice_cmp nat_cmp) unit) others) ≡ true → waiting (first ∷ others) later < waiting (first ∷ others) earlier) [
+      | true ↦ λ same _.
+          let here = subst (λ u. waits_in (jobs_of_unit later u) < waits_in (jobs_of_unit earlier u)) (tells_apart exact_bytes unit first same) less in
+          let rest = no_more others later earlier none in
+          omega arith
+      | false ↦ λ _ among.
+          let here = none first in
+          let rest = fewer others later earlier unit among none less in
+          omega arith
+    ] refl is
+
+held : (o : Option UnitJobs) → 0 < waits_in (unwrap_or o no_jobs) → is_some o ≡ true
+held (Some j) some = refl
+held None some = absurd (omega arith)
+
+-- a unit of which a job waits is among those of which one is pending
+among : (pending : ByUnit UnitJobs) (unit : List ℕ) → 0 < waits_in (jobs_of_unit pending unit) → list_any (eq_by_cmp (slice_cmp nat_cmp) unit) (map.keys pending) ≡ true
+among pending unit some = sym (map.contains_key-keys pending unit) ∙ held (map.get pending unit) some
+
+unless_waits : (o : Option JobState) → waits (unless_running o) ≤ waits o
+unless_waits None = omega arith
+unless_waits (Some Waiting) = omega arith
+unless_waits (Some Running) = omega arith
+
+start_waits : (start : StartJob) (o : Option JobState) → waits (start_left start o) ≤ waits o
+start_waits Stays o = omega arith
+start_waits Ends o = unless_waits o
+start_waits Fails o = unless_waits o
+
+left_waits : (start : StartJob) (stop_ends : Bool) (j : UnitJobs) → waits_in (jobs_left start stop_ends j) ≤ waits_in j
+left_waits start true j =
+    let stop = unless_waits j.stop in
+    let more = start_waits start j.start in
+    omega arith
+left_waits start false j =
+    let more = start_waits start j.start in
+    omega arith
+
+running_waits : (kind : JobKind) (j : UnitJobs) → job_of kind j ≡ Some Waiting → waits_in (with_running kind j) < waits_in j
+running_waits Stop j is =
+    let one = ap waits is in
+    omega arith
+running_waits Start j is =
+    let one = ap waits is in
+    omega arith
+
+-- a job begins: one fewer waits
+module _ (t : ℕ) (s u : State) (new : List Action) (j : Job) (next : BeginsNext (IsBefore s.loaded) s.units s.pending j) (happens : Carries t j.unit (begins j.kind) (begun s j) new u) where
+  now_left : UnitJobs
+  now_left = jobs_left (change_of t (begun s j) j.unit (begins j.kind)).start (change_of t (begun s j) j.unit (begins j.kind)).stop_ends (jobs_of_unit (begun s j).pending j.unit)
+
+  after_it : u.pending ≡ with_jobs (begun s j).pending j.unit now_left
+  unfolding now_left
+  after_it = ap (λ x. x.pending) happens.state
+
+  here : jobs_of_unit u.pending j.unit ≡ now_left
+  here = ap (λ p. jobs_of_unit p j.unit) after_it ∙ jobs_here (begun s j).pending j.unit now_left
+
+  elsewhere : (other : List ℕ) → other ≢ j.unit → jobs_of_unit u.pending other ≡ jobs_of_unit s.pending other
+  elsewhere other apart =
+      ap (λ p. jobs_of_unit p other) after_it
+      ∙ (jobs_apart (begun s j).pending j.unit now_left other apart
+      ∙ jobs_apart s.pending j.unit (with_running j.kind (jobs_of_unit s.pending j.unit)) other apart)
+
+  running : jobs_of_unit (begun s j).pending j.unit ≡ with_running j.kind (jobs_of_unit s.pending j.unit)
+  running = jobs_here s.pending j.unit (with_running j.kind (jobs_of_unit s.pending j.unit))
+
+  fewer_here : waits_in (jobs_of_unit u.pending j.unit) < waits_in (jobs_of_unit s.pending j.unit)
+  unfolding now_left
+  fewer_here =
+      let left = left_waits (change_of t (begun s j) j.unit (begins j.kind)).start (change_of t (begun s j) j.unit (begins j.kind)).stop_ends (jobs_of_unit (begun s j).pending j.unit) in
+      let now = ap waits_in here in
+      let begun_here = ap waits_in running in
+      let less = running_waits j.kind (jobs_of_unit s.pending j.unit) next.has.waits in
+      omega arith
+
+  pub begun_no_more : NoMoreWait u.pending s.pending
+  begun_no_more other = elim (same_name other j.unit) as (λ _. waits_in (jobs_of_unit u.pending other) ≤ waits_in (jobs_of_unit s.pending other)) [
+    | inl same ↦
+        let less = subst (λ x. waits_in (jobs_of_unit u.pending x) < waits_in (jobs_of_unit s.pending x)) (sym same) fewer_here in
+        omega arith
+    | inr apart ↦
+        let e = ap waits_in (elsewhere other apart) in
+        omega arith
+  ]
+
+  pub begun_fewer : (first : ByUnit UnitJobs) → NoMoreWait s.pending first → waiting (map.keys first) u.pending < waiting (map.keys first) s.pending
+  begun_fewer first none =
+      let less = fewer_here in
+      let before = none j.unit in
+      fewer (map.keys first) u.pending s.pending j.unit (among first j.unit (omega arith)) begun_no_more less

@@ -1,0 +1,169 @@
+-- How units depend on one another by a tree, which of them are known, and which come before which.
+-- Follows systemd.unit(5), "Wants=" to "Conflicts=", "Before=", "After=" and "Default Dependencies".
+-- Transactions, the job order and the limit of known units stand on this file.
+use Rattle.std.specs.Prelude.{◌≡◌, ◌≢◌, ◌⊎◌, ℕ, ◌<◌, Bool, true, false, not, ◌&&◌, if◌then◌else◌, List, length, AllPairs, All, Contains, Option, Some, None, codes}
+use Rattle.std.specs.Str.{bytes_eq}
+use Rattle.std.specs.FinMap as map
+use Rattle.um_model.specs.Reached.{Reached}
+use Rattle.um_model.specs.Names.{is_template, suffix_of}
+use Rattle.um_model.specs.Tree.{Tree, Entry, Link, PathParts, Place, Unit, DropIn, Wants, Requires, path_parts, without_run}
+use Rattle.um_model.specs.Units as units
+use Rattle.um_model.specs.Units.{LoadedUnit, Loading, Found, load, unit_named}
+use Rattle.um_model.specs.declared.dependencies.DependencyKind.{DependencyKind}
+use Rattle.um_model.specs.declared.dependencies.DependencyKind.TheVariants as kinds
+use Rattle.um_model.specs.declared.names.Suffix.{Suffix}
+use Rattle.um_model.specs.declared.names.Suffix.TheVariants.{Target}
+
+-- ---- what a tree says of names
+
+-- a unit can be loaded where it is found and is no template
+abbrev pub loadable_of : Loading → Option LoadedUnit
+loadable_of (Found l) = if is_template l.name then None else Some l
+loadable_of other = None
+
+-- the unit that the name leads to, where it can be loaded
+abbrev pub loadable_in : Tree → List ℕ → Option LoadedUnit
+loadable_in tree name = loadable_of (load tree name)
+
+abbrev pub shutdown_target : List ℕ
+shutdown_target = codes "shutdown.target"
+
+abbrev pub is_target : List ℕ → Bool
+is_target unit = is_target_type (suffix_of unit)
+  where
+    is_target_type : Option Suffix → Bool
+    is_target_type (Some Target) = true
+    is_target_type other = false
+
+-- what the settings name in the list of this kind
+abbrev pub names_in : DependencyKind → units.Dependencies → List (List ℕ)
+names_in kinds.Wants d = d.wants
+names_in kinds.Requires d = d.required
+names_in kinds.BindsTo d = d.binds_to
+names_in kinds.PartOf d = d.part_of
+names_in kinds.Conflicts d = d.conflicts
+
+-- what a path says by itself: a link in the directory of the unit x for what it wants or requires is named y
+pub data Says : PathParts → DependencyKind → List ℕ → List ℕ → Type 0 where
+  wants : (p : PathParts) (other : List ℕ) → p.place ≡ Wants other → Says p kinds.Wants p.unit other
+  requires : (p : PathParts) (other : List ℕ) → p.place ≡ Requires other → Says p kinds.Requires p.unit other
+
+-- the tree has such a link
+pub record Links (tree : Tree) (kind : DependencyKind) (x y : List ℕ) : Type 0 where
+  pub path : List ℕ
+  pub target : List ℕ
+  pub parts : PathParts
+  pub link : map.get tree path ≡ Some (Link target)
+  pub served : path_parts path ≡ Some parts
+  pub says : Says parts kind x y
+
+-- the tree has an entry of this name, which is no template
+pub record HasEntry (tree : Tree) (x : List ℕ) : Type 0 where
+  pub path : List ℕ
+  pub entry : Entry
+  pub parts : PathParts
+  pub held : map.get tree path ≡ Some entry
+  pub served : path_parts path ≡ Some parts
+  pub own : parts.place ≡ Unit
+  pub named : parts.unit ≡ x
+  pub single : is_template x ≡ false
+
+-- each loadable unit but shutdown.target, unless it says DefaultDependencies=no
+abbrev pub has_defaults : LoadedUnit → Bool
+has_defaults l = l.settings.dependencies.default_dependencies && not (bytes_eq l.name shutdown_target)
+
+-- ---- what a known name gives
+
+-- by the name a, x depends on y
+pub data Gives (tree : Tree) : List ℕ → DependencyKind → List ℕ → List ℕ → Type 0 where
+  -- a unit that can be loaded says so in its settings
+  said : {a y : List ℕ} {kind : DependencyKind} {l : LoadedUnit} → loadable_in tree a ≡ Some l → Contains (names_in kind l.settings.dependencies) y
+      → Gives tree a kind l.name (unit_named tree y)
+  -- a link in a directory of the name, whether its unit can be loaded or not
+  linked : {a y : List ℕ} {kind : DependencyKind} → Links tree kind a y → Gives tree a kind (unit_named tree a) (unit_named tree y)
+  -- each service and target conflicts with shutdown.target
+  ends : {a : List ℕ} {l : LoadedUnit} → loadable_in tree a ≡ Some l → has_defaults l ≡ true
+      → Gives tree a kinds.Conflicts l.name (unit_named tree shutdown_target)
+
+-- by the name a, x is declared before y: Before= and After= of a unit that can be loaded
+pub data Declares (tree : Tree) : List ℕ → List ℕ → List ℕ → Type 0 where
+  precedes : {a y : List ℕ} {l : LoadedUnit} → loadable_in tree a ≡ Some l → Contains l.settings.dependencies.before y
+      → Declares tree a l.name (unit_named tree y)
+  follows : {a y : List ℕ} {l : LoadedUnit} → loadable_in tree a ≡ Some l → Contains l.settings.dependencies.after y
+      → Declares tree a (unit_named tree y) l.name
+
+-- what is known along with the name a: all names in its dependencies
+pub data Mentions (tree : Tree) : List ℕ → List ℕ → Type 0 where
+  owner : {a x y : List ℕ} {kind : DependencyKind} → Gives tree a kind x y → Mentions tree a x
+  other : {a x y : List ℕ} {kind : DependencyKind} → Gives tree a kind x y → Mentions tree a y
+  earlier : {a x y : List ℕ} → Declares tree a x y → Mentions tree a x
+  later : {a x y : List ℕ} → Declares tree a x y → Mentions tree a y
+
+-- ---- known units
+
+-- the names of entries, both names of each link that pulls in, and the units of which the state holds something or that a command names
+pub data IsNamed (tree : Tree) (Extra : List ℕ → Type 0) : List ℕ → Type 0 where
+  has : {x : List ℕ} → HasEntry tree x → IsNamed tree Extra x
+  holder : {kind : DependencyKind} {x y : List ℕ} → Links tree kind x y → IsNamed tree Extra x
+  link : {kind : DependencyKind} {x y : List ℕ} → Links tree kind x y → IsNamed tree Extra y
+  extra : {x : List ℕ} → Extra x → IsNamed tree Extra x
+
+-- the least set that holds these, and all names in the dependencies of its members
+abbrev pub IsKnown : Tree → (List ℕ → Type 0) → List ℕ → Type 0
+IsKnown tree Extra = Reached (IsNamed tree Extra) (Mentions tree)
+
+-- a manager knows at most so many units
+abbrev pub unit_limit : ℕ
+unit_limit = 1024
+
+-- more units are known than may be
+pub record KnowsTooMany (tree : Tree) (Extra : List ℕ → Type 0) : Type 0 where
+  pub names : List (List ℕ)
+  pub known : All (IsKnown tree Extra) names
+  pub apart : AllPairs (λ x y. x ≢ y) names
+  pub many : unit_limit < length names
+
+-- ---- dependencies and the order
+
+-- x depends on y: a known name gives it, and they are two units
+pub record Depends (tree : Tree) (Extra : List ℕ → Type 0) (kind : DependencyKind) (x y : List ℕ) : Type 0 where
+  pub name : List ℕ
+  pub known : IsKnown tree Extra name
+  pub gives : Gives tree name kind x y
+  pub apart : x ≢ y
+
+-- x is declared before y by a known name
+pub record IsDeclared (tree : Tree) (Extra : List ℕ → Type 0) (x y : List ℕ) : Type 0 where
+  pub name : List ℕ
+  pub known : IsKnown tree Extra name
+  pub declares : Declares tree name x y
+
+-- a unit that can be loaded and says DefaultDependencies=no
+pub record Declines (tree : Tree) (x : List ℕ) : Type 0 where
+  pub unit : LoadedUnit
+  pub loadable : loadable_in tree x ≡ Some unit
+  pub says : unit.settings.dependencies.default_dependencies ≡ false
+
+-- the target x wants or requires y, and neither declines what follows from that
+pub record PullsIn (tree : Tree) (Extra : List ℕ → Type 0) (x y : List ℕ) : Type 0 where
+  pub holds : is_target x ≡ true
+  pub kind : DependencyKind
+  pub wants : (kind ≡ kinds.Wants) ⊎ (kind ≡ kinds.Requires)
+  pub depends : Depends tree Extra kind x y
+  pub accepts : ¬ Declines tree x
+  pub too : ¬ Declines tree y
+
+-- by a rule, x goes before y
+pub data Orders (tree : Tree) (Extra : List ℕ → Type 0) : List ℕ → List ℕ → Type 0 where
+  -- Before= of x or After= of y
+  declared : {x y : List ℕ} → IsDeclared tree Extra x y → Orders tree Extra x y
+  -- a target comes after what it wants or requires, unless it is declared before that
+  pulled_in : {x y : List ℕ} → PullsIn tree Extra x y → ¬ IsDeclared tree Extra x y → Orders tree Extra y x
+  -- each service and target comes before shutdown.target
+  ending : {a : List ℕ} {l : LoadedUnit} → IsKnown tree Extra a → loadable_in tree a ≡ Some l → has_defaults l ≡ true
+      → Orders tree Extra l.name (unit_named tree shutdown_target)
+
+-- x is before y, two units
+pub record Precedes (tree : Tree) (Extra : List ℕ → Type 0) (x y : List ℕ) : Type 0 where
+  pub orders : Orders tree Extra x y
+  pub apart : x ≢ y

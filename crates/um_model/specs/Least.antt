@@ -1,0 +1,16 @@
+-- The least of several things in an order of theirs.
+-- Follows no manual page: where several would serve, the rules of this project take the least.
+-- Timers, jobs and the machine stand on this file.
+use Rattle.std.specs.Prelude.{◌≡◌, ◌≢◌, ℕ, List}
+use Rattle.std.specs.declared.cmp.Ordering.TheVariants.{Less}
+use Rattle.std.specs.Cmp.Lexicographic.{slice_cmp}
+use Rattle.std.specs.Ordering.{nat_cmp}
+
+-- it has the property, and comes before everything else that has it
+pub record IsLeast {A : Type 0} (Before : A → A → Type 0) (Has : A → Type 0) (a : A) : Type 0 where
+  pub has : Has a
+  pub first : (other : A) → Has other → other ≢ a → Before a other
+
+-- names are told by their bytes
+abbrev pub IsNamedBefore : List ℕ → List ℕ → Type 0
+IsNamedBefore name other = slice_cmp nat_cmp name other ≡ Less

@@ -1,0 +1,20 @@
+-- The bounds of moments, spans, deadlines and process numbers.
+-- Follows systemd.time(7) in counting microseconds; the bounds are this project's own.
+-- Service transitions, the machine, requests and canonical bytes stand on this file.
+use Rattle.std.specs.Prelude.{ℕ, ◌^◌}
+
+-- a moment is at most 2^62 microseconds
+abbrev pub moment_limit : ℕ
+moment_limit = 2 ^ 62
+
+-- a span of time is at most 2^62 microseconds
+abbrev pub span_limit : ℕ
+span_limit = 2 ^ 62
+
+-- a deadline is a span behind a moment: at most 2^63 microseconds
+abbrev pub deadline_limit : ℕ
+deadline_limit = 2 ^ 63
+
+-- processes have the numbers below 2^63
+abbrev pub process_limit : ℕ
+process_limit = 2 ^ 63

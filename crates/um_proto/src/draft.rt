@@ -1,0 +1,195 @@
+//! A request as it lies in its frame: what it asks for or why it asks for nothing is found without memory.
+
+ghost use Rattle.std.specs.Prelude.{◌≡◌, option_map};
+ghost use Rattle.serde_json.specs.View.{view};
+ghost use Rattle.um_model.specs.Requests as model;
+ghost use Rattle.um_proto.specs.View.{asking_of, leads_to};
+
+use crate::fields::{end_at, has_its_fields, moment_at, number_at, text_at};
+use crate::verb::verb_in;
+use serde_json::Value;
+use um_model::{End, InstallVerb, JobMode, Mode, Moment, UnitVerb, Verb};
+
+/// What the fields of a request ask for. Whether `unit` names a unit isn't known yet.
+#[derive(Clone, Copy)]
+pub enum Asking<'v> {
+    PutFile {
+        path: &'v str,
+        text: &'v str,
+    },
+    PutLink {
+        path: &'v str,
+        target: &'v str,
+    },
+    Remove {
+        path: &'v str,
+    },
+    DaemonReload,
+    ForUnit {
+        verb: UnitVerb,
+        unit: &'v str,
+        mode: JobMode,
+    },
+    Install {
+        verb: InstallVerb,
+        unit: &'v str,
+    },
+    Show {
+        unit: &'v str,
+    },
+    IsActive {
+        unit: &'v str,
+    },
+    Cat {
+        unit: &'v str,
+    },
+    IsEnabled {
+        unit: &'v str,
+    },
+    Tick,
+    ProcessEnded {
+        number: u64,
+        end: End,
+    },
+    Actions,
+}
+
+/// A request with the right fields.
+#[derive(Clone, Copy)]
+pub struct Draft<'v> {
+    /// The moment that it tells.
+    pub at: Option<Moment>,
+    pub asking: Asking<'v>,
+}
+
+/// Why an object is no request.
+#[derive(Clone, Copy)]
+pub enum Cause<'v> {
+    BadRequest,
+    UnknownVerb(&'v str),
+}
+
+#[tactic(auto, unfolding(um_model::specs::Requests::put_file))]
+fn put_file<'v>(value: &'v Value) -> Option<Asking<'v>>
+    ensures { option_map asking_of result ≡ model.put_file (view value.now) }
+{
+    let path = text_at(value, "path")?;
+    let text = text_at(value, "text")?;
+    Some(Asking::PutFile { path, text })
+}
+
+#[tactic(auto, unfolding(um_model::specs::Requests::put_link))]
+fn put_link<'v>(value: &'v Value) -> Option<Asking<'v>>
+    ensures { option_map asking_of result ≡ model.put_link (view value.now) }
+{
+    let path = text_at(value, "path")?;
+    let target = text_at(value, "target")?;
+    Some(Asking::PutLink { path, target })
+}
+
+#[tactic(auto, unfolding(um_model::specs::Requests::remove))]
+fn remove<'v>(value: &'v Value) -> Option<Asking<'v>>
+    ensures { option_map asking_of result ≡ model.remove (view value.now) }
+{
+    let path = text_at(value, "path")?;
+    Some(Asking::Remove { path })
+}
+
+/// A command for a unit; pending jobs in its way are dropped.
+#[tactic(auto, unfolding(um_model::specs::Requests::of_unit))]
+fn for_unit<'v>(verb: UnitVerb, value: &'v Value) -> Option<Asking<'v>>
+    ensures { option_map asking_of result ≡ model.for_unit verb (view value.now) }
+{
+    let unit = text_at(value, "unit")?;
+    Some(Asking::ForUnit {
+        verb,
+        unit,
+        mode: JobMode::Replace,
+    })
+}
+
+/// Enabling a unit, or its kin.
+#[tactic(auto, unfolding(um_model::specs::Requests::of_unit))]
+fn install<'v>(verb: InstallVerb, value: &'v Value) -> Option<Asking<'v>>
+    ensures { option_map asking_of result ≡ model.install verb (view value.now) }
+{
+    let unit = text_at(value, "unit")?;
+    Some(Asking::Install { verb, unit })
+}
+
+#[tactic(auto, unfolding(um_model::specs::Requests::process_ended))]
+fn process_ended<'v>(value: &'v Value) -> Option<Asking<'v>>
+    ensures { option_map asking_of result ≡ model.process_ended (view value.now) }
+{
+    let number = number_at(value, "number", u64::MAX)?;
+    let end = end_at(value)?;
+    Some(Asking::ProcessEnded { number, end })
+}
+
+/// What a verb asks for with its fields.
+#[tactic(auto, unfolding(um_model::specs::Requests::of_unit))]
+fn asking_with<'v>(verb: Verb, value: &'v Value) -> Option<Asking<'v>>
+    ensures { option_map asking_of result ≡ (model.row_of verb).asks (view value.now) }
+{
+    match verb {
+        Verb::PutFile => put_file(value),
+        Verb::PutLink => put_link(value),
+        Verb::Remove => remove(value),
+        Verb::DaemonReload => Some(Asking::DaemonReload),
+        Verb::Start => for_unit(UnitVerb::Start, value),
+        Verb::Stop => for_unit(UnitVerb::Stop, value),
+        Verb::Enable => install(InstallVerb::Enable, value),
+        Verb::Disable => install(InstallVerb::Disable, value),
+        Verb::Mask => install(InstallVerb::Mask, value),
+        Verb::Unmask => install(InstallVerb::Unmask, value),
+        Verb::Show => {
+            let unit = text_at(value, "unit")?;
+            Some(Asking::Show { unit })
+        }
+        Verb::IsActive => {
+            let unit = text_at(value, "unit")?;
+            Some(Asking::IsActive { unit })
+        }
+        Verb::IsEnabled => {
+            let unit = text_at(value, "unit")?;
+            Some(Asking::IsEnabled { unit })
+        }
+        Verb::Cat => {
+            let unit = text_at(value, "unit")?;
+            Some(Asking::Cat { unit })
+        }
+        Verb::Tick => Some(Asking::Tick),
+        Verb::End => process_ended(value),
+        Verb::Actions => Some(Asking::Actions),
+    }
+}
+
+/// What a verb asks for with exactly its fields.
+fn asking_by<'v>(mode: Mode, verb: Verb, value: &'v Value) -> Option<Asking<'v>>
+    ensures { option_map asking_of result ≡ model.asking_by mode (model.row_of verb) (view value.now) }
+{
+    if !has_its_fields(mode, verb, value) {
+        return None;
+    }
+    asking_with(verb, value)
+}
+
+/// The request that an object is, or the first cause why it is none; a unit's name is looked at last, and not here.
+#[tactic(auto, unfolding(um_model::specs::Requests::request_of_data))]
+pub fn draft_of<'v>(mode: Mode, value: &'v Value) -> Result<Draft<'v>, Cause<'v>>
+    ensures { leads_to result ≡ model.request_of_data mode (view value.now) }
+{
+    let Some(text) = text_at(value, "verb") else {
+        return Err(Cause::BadRequest);
+    };
+    let Some(verb) = verb_in(mode, text) else {
+        return Err(Cause::UnknownVerb(text));
+    };
+    let Some(at) = moment_at(value, mode) else {
+        return Err(Cause::BadRequest);
+    };
+    let Some(asking) = asking_by(mode, verb, value) else {
+        return Err(Cause::BadRequest);
+    };
+    Ok(Draft { at, asking })
+}

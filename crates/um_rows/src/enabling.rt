@@ -1,0 +1,261 @@
+//! Enabling and its kin, as replies show them.
+use crate::script::{DONE, RELOAD, play};
+use std::test::Fail;
+
+/// A reply to a verb that changes no link.
+const NO_LINKS: &str = r#"{"ok":true,"value":{"made":[],"removed":[]}}"#;
+
+#[test]
+fn enabling_makes_links_and_disabling_removes_those_made_by_hand_too(
+    rt: HostRuntime,
+) -> Result<(), Fail> {
+    play(
+        &rt,
+        &[
+            (
+                r#"{"verb":"put-file","path":"lib/s.service","text":"[Service]\nExecStart=/bin/sleep 9\n[Install]\nWantedBy=m.target\nAlias=z.service\n"}"#,
+                DONE,
+            ),
+            (
+                r#"{"verb":"is-enabled","unit":"s"}"#,
+                r#"{"ok":true,"value":"disabled"}"#,
+            ),
+            (
+                r#"{"verb":"enable","unit":"s"}"#,
+                r#"{"ok":true,"value":{"made":["etc/m.target.wants/s.service","etc/z.service"],"removed":[]}}"#,
+            ),
+            (
+                r#"{"verb":"is-enabled","unit":"s"}"#,
+                r#"{"ok":true,"value":"enabled"}"#,
+            ),
+            (
+                r#"{"verb":"is-enabled","unit":"z"}"#,
+                r#"{"ok":true,"value":"alias"}"#,
+            ),
+            (
+                r#"{"verb":"show","unit":"z"}"#,
+                r#"{"ok":true,"value":{"ActiveState":"inactive","Description":"","Id":"s.service","LoadState":"loaded","MainNumber":0,"Result":"success","SubState":"dead","Warnings":[]}}"#,
+            ),
+            (
+                r#"{"verb":"put-link","path":"etc/n.target.wants/s.service","target":"lib/s.service"}"#,
+                DONE,
+            ),
+            (
+                r#"{"verb":"disable","unit":"s"}"#,
+                r#"{"ok":true,"value":{"made":[],"removed":["etc/m.target.wants/s.service","etc/n.target.wants/s.service","etc/z.service"]}}"#,
+            ),
+            (r#"{"verb":"disable","unit":"s"}"#, NO_LINKS),
+            (
+                r#"{"verb":"put-file","path":"etc/s.service","text":"[Service]\nExecStart=/bin/sleep 8\n"}"#,
+                DONE,
+            ),
+            (
+                r#"{"verb":"mask","unit":"s"}"#,
+                r#"{"detail":["etc/s.service"],"error":11,"ok":false}"#,
+            ),
+        ],
+    )
+}
+
+#[test]
+fn a_template_is_enabled_as_its_default_instance(rt: HostRuntime) -> Result<(), Fail> {
+    play(
+        &rt,
+        &[
+            (
+                r#"{"verb":"put-file","path":"lib/t@.service","text":"[Service]\nExecStart=/bin/sleep 9\n[Install]\nWantedBy=m.target\nDefaultInstance=1\n"}"#,
+                DONE,
+            ),
+            (
+                r#"{"verb":"enable","unit":"t@"}"#,
+                r#"{"ok":true,"value":{"made":["etc/m.target.wants/t@1.service"],"removed":[]}}"#,
+            ),
+            (
+                r#"{"verb":"put-link","path":"etc/m.target.wants/t@1.service","target":"lib/t@.service"}"#,
+                DONE,
+            ),
+            (
+                r#"{"verb":"is-enabled","unit":"t@"}"#,
+                r#"{"ok":true,"value":"enabled"}"#,
+            ),
+            (
+                r#"{"verb":"disable","unit":"t@"}"#,
+                r#"{"ok":true,"value":{"made":[],"removed":["etc/m.target.wants/t@1.service"]}}"#,
+            ),
+            (
+                r#"{"verb":"put-file","path":"lib/t@.service","text":"[Service]\nExecStart=/bin/sleep 9\n[Install]\nWantedBy=m.target\n"}"#,
+                DONE,
+            ),
+            (
+                r#"{"verb":"enable","unit":"t@"}"#,
+                r#"{"detail":["t@.service","default-instance"],"error":6,"ok":false}"#,
+            ),
+        ],
+    )
+}
+
+#[test]
+fn units_of_also_are_enabled_along(rt: HostRuntime) -> Result<(), Fail> {
+    play(
+        &rt,
+        &[
+            (
+                r#"{"verb":"put-file","path":"lib/a.service","text":"[Service]\nExecStart=/bin/sleep 9\n[Install]\nAlso=b.service\n"}"#,
+                DONE,
+            ),
+            (
+                r#"{"verb":"put-file","path":"lib/b.service","text":"[Service]\nExecStart=/bin/sleep 9\n[Install]\nAlso=a.service\nWantedBy=m.target\n"}"#,
+                DONE,
+            ),
+            (
+                r#"{"verb":"is-enabled","unit":"a"}"#,
+                r#"{"ok":true,"value":"indirect"}"#,
+            ),
+            (
+                r#"{"verb":"is-enabled","unit":"b"}"#,
+                r#"{"ok":true,"value":"disabled"}"#,
+            ),
+            (
+                r#"{"verb":"enable","unit":"a"}"#,
+                r#"{"ok":true,"value":{"made":["etc/m.target.wants/b.service"],"removed":[]}}"#,
+            ),
+            (
+                r#"{"verb":"is-enabled","unit":"a"}"#,
+                r#"{"ok":true,"value":"enabled"}"#,
+            ),
+            (
+                r#"{"verb":"disable","unit":"a"}"#,
+                r#"{"ok":true,"value":{"made":[],"removed":["etc/m.target.wants/b.service"]}}"#,
+            ),
+        ],
+    )
+}
+
+#[test]
+fn a_second_enabling_makes_nothing(rt: HostRuntime) -> Result<(), Fail> {
+    play(
+        &rt,
+        &[
+            (
+                r#"{"verb":"put-file","path":"lib/s.service","text":"[Service]\nExecStart=/bin/sleep 9\n[Install]\nWantedBy=m.target\nRequiredBy=o.target\n"}"#,
+                DONE,
+            ),
+            (
+                r#"{"verb":"enable","unit":"s"}"#,
+                r#"{"ok":true,"value":{"made":["etc/m.target.wants/s.service","etc/o.target.requires/s.service"],"removed":[]}}"#,
+            ),
+            (r#"{"verb":"enable","unit":"s"}"#, NO_LINKS),
+            (
+                r#"{"verb":"remove","path":"etc/m.target.wants/s.service"}"#,
+                DONE,
+            ),
+            (
+                r#"{"verb":"put-link","path":"etc/m.target.wants/s.service","target":"elsewhere"}"#,
+                DONE,
+            ),
+            (
+                r#"{"verb":"enable","unit":"s"}"#,
+                r#"{"detail":["etc/m.target.wants/s.service"],"error":11,"ok":false}"#,
+            ),
+        ],
+    )
+}
+
+#[test]
+fn a_refused_enabling_makes_nothing(rt: HostRuntime) -> Result<(), Fail> {
+    play(
+        &rt,
+        &[
+            (
+                r#"{"verb":"put-file","path":"lib/s.service","text":"[Service]\nExecStart=/bin/sleep 9\n[Install]\nWantedBy=m.target\nAlias=s.service\n"}"#,
+                DONE,
+            ),
+            (
+                r#"{"verb":"enable","unit":"s"}"#,
+                r#"{"detail":["etc/s.service"],"error":12,"ok":false}"#,
+            ),
+            (
+                r#"{"verb":"put-file","path":"lib/s.service","text":"[Service]\nExecStart=/bin/sleep 9\n[Install]\nWantedBy=m.target m@.target\n"}"#,
+                DONE,
+            ),
+            (
+                r#"{"verb":"enable","unit":"s"}"#,
+                r#"{"detail":["etc/m@.target.wants/s.service"],"error":12,"ok":false}"#,
+            ),
+            (
+                r#"{"verb":"remove","path":"etc/m.target.wants/s.service"}"#,
+                r#"{"detail":["etc/m.target.wants/s.service"],"error":12,"ok":false}"#,
+            ),
+            (
+                r#"{"verb":"enable","unit":"gone"}"#,
+                r#"{"detail":["gone.service"],"error":4,"ok":false}"#,
+            ),
+        ],
+    )
+}
+
+#[test]
+fn a_masked_unit_is_unmasked_again(rt: HostRuntime) -> Result<(), Fail> {
+    play(
+        &rt,
+        &[
+            (
+                r#"{"verb":"put-file","path":"lib/s.service","text":"[Service]\nExecStart=/bin/sleep 9\n[Install]\nWantedBy=m.target\n"}"#,
+                DONE,
+            ),
+            (RELOAD, DONE),
+            (
+                r#"{"verb":"mask","unit":"s"}"#,
+                r#"{"ok":true,"value":{"made":["etc/s.service"],"removed":[]}}"#,
+            ),
+            (r#"{"verb":"mask","unit":"s"}"#, NO_LINKS),
+            (
+                r#"{"verb":"is-enabled","unit":"s"}"#,
+                r#"{"ok":true,"value":"masked"}"#,
+            ),
+            (
+                r#"{"verb":"enable","unit":"s"}"#,
+                r#"{"detail":["s.service"],"error":5,"ok":false}"#,
+            ),
+            (
+                r#"{"verb":"start","unit":"s"}"#,
+                r#"{"detail":["s.service"],"error":5,"ok":false}"#,
+            ),
+            (
+                r#"{"verb":"unmask","unit":"s"}"#,
+                r#"{"ok":true,"value":{"made":[],"removed":["etc/s.service"]}}"#,
+            ),
+            (r#"{"verb":"unmask","unit":"s"}"#, NO_LINKS),
+            (r#"{"verb":"start","unit":"s"}"#, DONE),
+            (
+                r#"{"verb":"is-enabled","unit":"gone"}"#,
+                r#"{"ok":true,"value":"not-found"}"#,
+            ),
+        ],
+    )
+}
+
+#[test]
+fn of_several_units_that_cannot_be_enabled_the_least_is_named(rt: HostRuntime) -> Result<(), Fail> {
+    play(
+        &rt,
+        &[
+            (
+                r#"{"verb":"put-file","path":"lib/s.service","text":"[Service]\nExecStart=/bin/sleep 9\n[Install]\nWantedBy=m.target\nAlso=z.service y.service\n"}"#,
+                DONE,
+            ),
+            (
+                r#"{"verb":"put-link","path":"etc/z.service","target":"/dev/null"}"#,
+                DONE,
+            ),
+            (
+                r#"{"verb":"enable","unit":"s"}"#,
+                r#"{"detail":["y.service"],"error":4,"ok":false}"#,
+            ),
+            (
+                r#"{"verb":"is-enabled","unit":"s"}"#,
+                r#"{"ok":true,"value":"disabled"}"#,
+            ),
+        ],
+    )
+}

@@ -1,0 +1,39 @@
+//! What stands at the front of a stream.
+
+ghost use Rattle.um_session.specs.Fronts.{IsFront};
+
+use byteorder::{BigEndian, ByteOrder};
+
+/// The length of a frame stands in so many bytes in front of it.
+pub const HEADER: usize = 4;
+
+/// The longest frame of a request, in bytes.
+const FRAME_LIMIT: usize = 524_288;
+
+/// What stands at the front of a stream.
+#[derive(Clone, Copy, Debug, PartialEq, Eq)]
+pub enum Front {
+    /// Less than a whole frame.
+    Partial,
+    /// A length past the limit.
+    TooLong,
+    /// A frame of so many bytes.
+    Frame(usize),
+}
+
+/// What stands at the front of these bytes.
+pub fn front_of(bytes: &[u8]) -> Front
+    ensures { IsFront bytes.now result }
+{
+    if bytes.len() < HEADER {
+        return Front::Partial;
+    }
+    let size = BigEndian::read_u32(bytes) as usize;
+    if size > FRAME_LIMIT {
+        return Front::TooLong;
+    }
+    if bytes.len() - HEADER < size {
+        return Front::Partial;
+    }
+    Front::Frame(size)
+}

@@ -1,9 +1,0 @@
-use Rattle.std.proofs.Common.{sym, arith}
-use Rattle.std.proofs.lemmas.List.{take_all, drop_all}
-use Rattle.um_slot.proofs.sectors.next_chunk.Goals as goal
-
-pub returns-then-bytes-lt512-clause-chunk : goal.returns-then-bytes-lt512-clause-chunk
-returns-then-bytes-lt512-clause-chunk c = sym (take_all 512 c.args.bytes.now (omega (arith, c.if-bytes-lt512.true)))
-
-pub returns-then-bytes-lt512-clause-behind : goal.returns-then-bytes-lt512-clause-behind
-returns-then-bytes-lt512-clause-behind c = sym (drop_all 512 c.args.bytes.now (omega (arith, c.if-bytes-lt512.true)))

@@ -1,0 +1,23 @@
+//! Worked rows of texts and units: what the layers from trimming to a loaded unit read and answer, by their public calls alone.
+#![tactic(auto)]
+
+#[cfg(test)]
+mod answers;
+#[cfg(test)]
+mod name;
+#[cfg(test)]
+mod resolve;
+#[cfg(test)]
+mod spec;
+#[cfg(test)]
+mod syntax;
+#[cfg(test)]
+mod text;
+#[cfg(test)]
+mod tree;
+#[cfg(test)]
+mod unit;
+#[cfg(test)]
+mod value;
+#[cfg(test)]
+mod words;

@@ -1,0 +1,13 @@
+pub mod WalkLaws
+pub mod NameLaws
+pub mod RowLaws
+pub mod AlongLaws
+pub mod TurnLaws
+pub mod CheckLaws
+pub mod PairLaws
+pub mod MirrorLaws
+pub mod SceneLaws
+pub mod DropLaws
+pub mod MarkedLaws
+pub mod OutcomeLaws
+pub mod TreeLaws

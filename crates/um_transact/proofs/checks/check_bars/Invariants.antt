@@ -1,0 +1,7 @@
+use Rattle.std.proofs.Common.{ℕ, ◌<◌}
+use Rattle.um_model.specs.Refusals.{Refused}
+use Rattle.um_transact.specs.Checks.{BarsBy}
+use Rattle.um_transact.proofs.checks.check_bars.Given as goal
+
+abbrev pub invariant-loop-unit : goal.invariant-loop-unit
+invariant-loop-unit l = (u : ℕ) → u < l.unit → (r : Refused) → ¬ BarsBy l.graph l.marks u r

@@ -1,0 +1,11 @@
+use Rattle.std.proofs.Common.{◌+◌, sum_by, length}
+use Rattle.um_transact.specs.Situation.{LeadsBy}
+use Rattle.um_transact.specs.Walk.{unmarked}
+use Rattle.um_transact.proofs.WalkLaws.{IsUnderWay}
+use Rattle.um_transact.proofs.demands.required.Given as goal
+
+abbrev pub invariant-loop-demand : goal.invariant-loop-demand
+invariant-loop-demand l = IsUnderWay (LeadsBy l.graph l.activity) l.fn.root (length l.graph.names) l.walk.marks.items l.walk.list.items
+
+abbrev pub decreases-loop-demand : goal.decreases-loop-demand
+decreases-loop-demand l = sum_by unmarked l.walk.marks.items + length l.walk.list.items

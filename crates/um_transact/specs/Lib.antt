@@ -1,0 +1,5 @@
+pub mod Walk
+pub mod Situation
+pub mod Order
+pub mod Checks
+pub mod Scene

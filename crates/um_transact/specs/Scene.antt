@@ -1,0 +1,91 @@
+-- What a transaction over a graph is: its scene by the names of units, the pending jobs that a plan stands for, and what the answer promises.
+-- Follows the definitions of plans: it puts a graph in their place.
+-- The one public call stands on this file.
+use Rattle.std.specs.Prelude.{◌≡◌, ℕ, if◌then◌else◌, List, [], ◌∷◌, Some, slice_get}
+use Rattle.std.specs.FinMap as map
+use Rattle.std.specs.Str.{bytes_eq}
+use Rattle.um_model.specs.Dependencies.{loadable_of}
+use Rattle.um_model.specs.Jobs.{Job, ComesBefore, with_jobs}
+use Rattle.um_model.specs.Machine as machine
+use Rattle.um_model.specs.Order.{IsCycle}
+use Rattle.um_model.specs.Plan.{Scene, IsPlan, CausesOfPlan}
+use Rattle.um_model.specs.Refusals.{Refused}
+use Rattle.um_model.specs.Service.{ByUnit}
+use Rattle.um_model.specs.Units.{LoadedUnit}
+use Rattle.um_model.specs.declared.commands.JobMode.{JobMode}
+use Rattle.um_model.specs.declared.dependencies.Demand.{Demand}
+use Rattle.um_model.specs.declared.dependencies.DependencyKind.{DependencyKind}
+use Rattle.um_model.specs.declared.jobs.UnitJobs.{UnitJobs}
+use Rattle.um_model.specs.declared.service.ActiveState.{ActiveState}
+use Rattle.um_model.specs.declared.service.ActiveState.TheVariants.{Inactive}
+use Rattle.um_unit.specs.View.{loading_of}
+use Rattle.um_unit.specs.declared.loaded.Loading.{Loading}
+use Rattle.um_graph.specs.Graph.{GraphView, IsNumberOf, Stands}
+use Rattle.um_graph.specs.Kinds.{bit_of, inverse_bit_of, before_bit}
+
+-- each dependency stands in the rows of both units
+pub record IsMirrored (g : GraphView) : Type 0 where
+  pub here : (kind : DependencyKind) (i j : ℕ) → Stands g.rows (inverse_bit_of kind) i j → Stands g.rows (bit_of kind) j i
+  pub there : (kind : DependencyKind) (i j : ℕ) → Stands g.rows (bit_of kind) j i → Stands g.rows (inverse_bit_of kind) i j
+
+-- x and y are units of the graph, and y stands in the row of x in this way
+pub record Joins (g : GraphView) (bit : ℕ) (x y : List ℕ) : Type 0 where
+  pub from : ℕ
+  pub to : ℕ
+  pub first : IsNumberOf g from x
+  pub second : IsNumberOf g to y
+  pub stands : Stands g.rows bit from to
+
+-- this became of the look for the unit
+pub record IsFound (g : GraphView) (x : List ℕ) (loading : Loading) : Type 0 where
+  pub number : ℕ
+  pub known : IsNumberOf g number x
+  pub held : slice_get g.loadings number ≡ Some loading
+
+-- the unit can be loaded
+pub record IsLoadable (g : GraphView) (x : List ℕ) : Type 0 where
+  pub loading : Loading
+  pub found : IsFound g x loading
+  pub unit : LoadedUnit
+  pub loads : loadable_of (loading_of loading) ≡ Some unit
+
+-- why the unit can't be started
+pub record CannotStart (g : GraphView) (x : List ℕ) (r : Refused) : Type 0 where
+  pub loading : Loading
+  pub found : IsFound g x loading
+  pub cause : machine.CannotStart x (loading_of loading) r
+
+-- of the items in the order of the names the one for this name
+abbrev pub item_for : {X : Type 0} → X → List (List ℕ) → List X → List ℕ → X
+item_for none [] xs name = none
+item_for none (n ∷ ns) [] name = none
+item_for none (n ∷ ns) (x ∷ xs) name = if bytes_eq n name then x else item_for none ns xs name
+
+-- the pending jobs, from those of each unit in the order of the names
+abbrev pub jobs_by : List (List ℕ) → List UnitJobs → ByUnit UnitJobs
+jobs_by [] jobs = map.empty
+jobs_by (n ∷ ns) [] = map.empty
+jobs_by (n ∷ ns) (j ∷ jobs) = with_jobs (jobs_by ns jobs) n j
+
+-- what a transaction over this graph is made from, with how active each unit is and its pending jobs, by number
+abbrev pub scene_of : GraphView → List ActiveState → List UnitJobs → Scene
+scene_of g activity pending = record {
+  Depends = λ kind x y. Joins g (bit_of kind) x y;
+  IsBefore = λ x y. Joins g before_bit x y;
+  IsLoadable = λ x. IsLoadable g x;
+  CannotStart = λ x r. CannotStart g x r;
+  activity = λ x. item_for Inactive g.names activity x;
+  pending = jobs_by g.names pending;
+}
+
+-- the pending jobs are the plan, which nothing refuses and whose jobs have no cycle at all
+pub record IsAccepted (scene : Scene) (root : Demand × List ℕ) (mode : JobMode) (after : ByUnit UnitJobs) : Type 0 where
+  pub plan : IsPlan scene root after
+  pub unrefused : (r : Refused) → ¬ CausesOfPlan scene root mode after r
+  pub free : (cycle : List Job) → ¬ IsCycle (ComesBefore scene.IsBefore after) cycle
+
+-- there is the plan, and it is refused for the first cause that holds
+pub record IsRefused (scene : Scene) (root : Demand × List ℕ) (mode : JobMode) (r : Refused) : Type 0 where
+  pub after : ByUnit UnitJobs
+  pub plan : IsPlan scene root after
+  pub cause : CausesOfPlan scene root mode after r

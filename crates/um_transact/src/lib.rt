@@ -1,0 +1,14 @@
+//! What a transaction makes of the pending jobs, or the first cause for which it is refused: exactly what the definitions of
+//! demands and plans say of the units of a graph.
+#![tactic(auto)]
+
+mod checks;
+mod demands;
+mod order;
+mod plan;
+mod refusals;
+mod table;
+mod walk;
+
+pub use plan::{Plan, build};
+pub use refusals::check_start;

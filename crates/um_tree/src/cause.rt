@@ -1,0 +1,40 @@
+ghost use Rattle.std.specs.Prelude.{◌≡◌};
+ghost use Rattle.um_model.specs.declared.refusals.Limit as limits;
+ghost use Rattle.um_tree.specs.View.{refused_by};
+ghost use Rattle.um_wire.specs.Refusal.{refused_of};
+ghost use Rattle.um_wire.specs.declared.refusal.Refusal.TheVariants as refusals;
+ghost use Rattle.um_tree.specs.declared.cause.Cause.TheVariants as causes;
+
+use std::alloc::Global;
+use um_wire::{Limit, Refusal};
+
+/// Why a change of a tree is refused: it borrows what the refusal tells, and so takes no memory.
+#[derive(Clone, Copy, Debug, PartialEq, Eq)]
+pub enum Cause<'a> {
+    /// The path isn't served, the target of the link is unfit, or there is nothing to remove (E12).
+    BadPath { path: &'a str },
+    /// Something else stands at the path (E11).
+    Exists { path: &'a str },
+    /// The limit is passed (E13).
+    TooLarge { limit: Limit },
+}
+
+impl Cause<'_> {
+    /// The refusal for it; want of memory (E15) where the path can't be copied into it. A passed limit needs no memory.
+    pub fn refusal(self, alloc: Global) -> Refusal
+        ensures told { ¬ (result ≡ refusals.NoMemory) → refused_of result ≡ refused_by self.entry }
+        ensures limit { (limit : limits.Limit) → self.entry ≡ causes.TooLarge limit → result ≡ refusals.TooLarge limit }
+    {
+        match self {
+            Cause::BadPath { path } => match String::from_str(alloc, path) {
+                Ok(path) => Refusal::BadPath { path },
+                Err(refused) => refused.into(),
+            },
+            Cause::Exists { path } => match String::from_str(alloc, path) {
+                Ok(path) => Refusal::Exists { path },
+                Err(refused) => refused.into(),
+            },
+            Cause::TooLarge { limit } => Refusal::TooLarge { limit },
+        }
+    }
+}

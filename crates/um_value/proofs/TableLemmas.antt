@@ -1,0 +1,30 @@
+-- What stands in a table passes what all of the table does.
+use Rattle.std.proofs.Common.{◌≡◌, ◌<◌, ℕ, Bool, true, false, cond, List, [], ◌∷◌, Option, Some, None, option_map, find, IfSome, refl, sym, ap, ◌∙◌}
+use Rattle.std.specs.Prelude.{nat_lt}
+use Rattle.std.specs.List.{list_all}
+use Rattle.std.specs.Str.{bytes_eq}
+use Rattle.std.proofs.lemmas.Bool.{and_parts, ltb-true}
+use Rattle.std.proofs.lemmas.Option.{same_Some, none-some}
+use Rattle.um_model.specs.Values.{number_among, signals, signal_number, time_units, unit_size}
+
+found_here : {N : Type 0} (p : N → Bool) (b : Bool) (row : List ℕ × N) (rest : Option (List ℕ × N)) (n : N) → p row.1 ≡ true
+    → ((m : N) → option_map (λ r. r.1) rest ≡ Some m → p m ≡ true) → option_map (λ r. r.1) (cond b (Some row) rest) ≡ Some n → p n ≡ true
+found_here p true row rest n here later e = ap p (sym (same_Some row.1 n e)) ∙ here
+found_here p false row rest n here later e = later n e
+
+found_passes : {N : Type 0} (p : N → Bool) (table : List (List ℕ × N)) (name : List ℕ) → list_all (λ row. p row.1) table ≡ true
+    → (n : N) → number_among table name ≡ Some n → p n ≡ true
+found_passes p [] name all n e = absurd (none-some n e)
+found_passes p (row ∷ rows) name all n e =
+    let both = and_parts (p row.1) (list_all (λ r. p r.1) rows) all in
+    found_here p (bytes_eq name row.0) row (find (λ r. bytes_eq name r.0) rows) n both.0 (found_passes p rows name both.1) e
+
+-- no signal has a number past 15
+pub small_signal : (o : Option ℕ) (word : List ℕ) → o ≡ signal_number word → IfSome o (λ number. number < 16)
+small_signal None word e = tt
+small_signal (Some n) word e = ltb-true n 16 (found_passes (λ m. nat_lt m 16) signals word refl n (sym e))
+
+-- each unit of time is longer than nothing
+pub positive_unit : (o : Option ℕ) (unit : List ℕ) → o ≡ unit_size unit → IfSome o (λ size. 0 < size)
+positive_unit None unit e = tt
+positive_unit (Some n) unit e = ltb-true 0 n (found_passes (λ m. nat_lt 0 m) time_units unit refl n (sym e))
