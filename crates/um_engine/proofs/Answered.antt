@@ -2,7 +2,8 @@
 use Rattle.std.proofs.Common.{◌≡◌, ◌∙◌, ℕ, List, sym, ap, subst}
 use Rattle.um_model.proofs.KeepsLaws.{settles_keeps}
 use Rattle.um_model.specs.Install.{IsEnabledAs}
-use Rattle.um_model.specs.Machine.{State, Event, Reply, Shown, Activity, EnabledAs, Query, Show, IsActive, Cat, IsEnabled, shown_of, state_asked, files_told, IsReplyTo, shows, tells_activity, tells_files, tells_enabling, reply_after, Settles}
+use Rattle.um_model.specs.Jobs.{jobs_shown}
+use Rattle.um_model.specs.Machine.{State, Event, Reply, Shown, Activity, EnabledAs, Jobs, Query, Show, IsActive, Cat, IsEnabled, ListJobs, shown_of, state_asked, files_told, IsReplyTo, shows, tells_activity, tells_files, tells_enabling, lists_jobs, reply_after, Settles}
 use Rattle.um_model.specs.Resolution.{resolution_of}
 use Rattle.um_model.specs.Service.{Action, active_state_of}
 use Rattle.um_model.specs.Units.{load}
@@ -20,6 +21,9 @@ tells_files_so s asked reply is = subst (IsReplyTo s (Cat asked)) (sym is) tells
 pub tells_enabling_so : (s : State) (asked : List ℕ) (reply : Reply) → ((answer : Enabling) × IsEnabledAs s.tree asked answer × (reply ≡ EnabledAs answer))
     → IsReplyTo s (IsEnabled asked) reply
 tells_enabling_so s asked reply (answer, enabled, is) = subst (IsReplyTo s (IsEnabled asked)) (sym is) (tells_enabling enabled)
+
+pub lists_jobs_so : (s : State) (reply : Reply) → reply ≡ Jobs (jobs_shown s.pending) → IsReplyTo s ListJobs reply
+lists_jobs_so s reply is = subst (IsReplyTo s ListJobs) (sym is) lists_jobs
 
 -- jobs that begin leave the tree in hand, and with it what is answered
 pub same_answer : (t : ℕ) (event : Event) (s u v : State) (actions : List Action) (reply : Reply) → reply ≡ reply_after event s.tree u.tree

@@ -1,7 +1,8 @@
 -- What commands are refused for, and what they change, from what the calls below tell.
 use Rattle.std.proofs.Common.{◌≡◌, ◌≢◌, ◌∙◌, ℕ, List, Some, true, false, Result, Ok, Err, codes, sym, ap, subst}
+use Rattle.um_model.specs.Jobs.{cancelled}
 use Rattle.um_model.specs.Machine as model
-use Rattle.um_model.specs.Machine.{State, CannotStart, IsNotThere, StartsNone, DropsAJob, CausesOf, Refuses, puts_none, links_none, removes_none, plans_none, installs_none, Changes, puts, links, removes, reloads, plans, installs}
+use Rattle.um_model.specs.Machine.{State, CannotStart, IsNotThere, IsMissing, HasNoneWaiting, StartsNone, DropsAJob, CausesOf, Refuses, puts_none, links_none, removes_none, plans_none, cancels_none, installs_none, Changes, puts, links, removes, reloads, plans, cancels, installs}
 use Rattle.um_model.specs.Names.{is_template}
 use Rattle.um_model.specs.Refusals.{Refused, not_found, masked, bad_setting, unless_refused, FirstCause, at_first, at_second}
 use Rattle.std.specs.FinMap as map
@@ -141,3 +142,22 @@ module _ (s : State) (verb : UnitVerb) (asked : List ℕ) (mode : JobMode) where
   plans_to u v unit jobs same e f is =
       subst (Changes s (model.ForUnit verb asked mode))
       (sym (is ∙ (ap (λ (x : State). model.with_plan x unit jobs) same ∙ (ap (λ x. model.with_plan s x jobs) e ∙ ap (λ x. model.with_plan s (model.unit_asked s asked) x) f)))) plans
+
+-- ---- the waiting jobs of a unit
+
+module _ (s : State) (asked : List ℕ) where
+  pub by_missing : (r : Refused) → IsMissing s asked r → Refuses s (model.Cancel asked) r
+  by_missing r h = cancels_none (at_first h)
+
+  pub by_none_waiting : (r : Refused) → ((q : Refused) → ¬ IsMissing s asked q) → HasNoneWaiting s asked r → Refuses s (model.Cancel asked) r
+  by_none_waiting r there h = cancels_none (at_second there h)
+
+  pub free_to_cancel : ((q : Refused) → ¬ IsMissing s asked q) → ((q : Refused) → ¬ HasNoneWaiting s asked q) → (r : Refused) → Refuses s (model.Cancel asked) r → ⊥
+  free_to_cancel there waits r (cancels_none (at_first h)) = there r h
+  free_to_cancel there waits r (cancels_none (at_second n h)) = waits r h
+
+  pub cancels_to : (u v : State) (unit : List ℕ) (jobs : UnitJobs) → u ≡ s → unit ≡ model.unit_asked s asked → jobs ≡ cancelled (model.jobs_asked s asked)
+      → v ≡ model.with_plan u unit jobs → Changes s (model.Cancel asked) v
+  cancels_to u v unit jobs same e f is =
+      subst (Changes s (model.Cancel asked))
+      (sym (is ∙ (ap (λ (x : State). model.with_plan x unit jobs) same ∙ (ap (λ x. model.with_plan s x jobs) e ∙ ap (λ x. model.with_plan s (model.unit_asked s asked) x) f)))) cancels

@@ -1,5 +1,6 @@
 ghost use Rattle.std.specs.Prelude.{◌≡◌, IfOk};
 ghost use Rattle.um_model.specs.Install.{IsEnabledAs};
+ghost use Rattle.um_model.specs.Jobs.{jobs_shown};
 ghost use Rattle.um_model.specs.Machine as model;
 ghost use Rattle.um_model.specs.Resolution.{resolution_of};
 ghost use Rattle.um_model.specs.Service.{active_state_of};
@@ -116,6 +117,13 @@ fn enabled_as(alloc: Global, tree: &Tree, asked: &UnitName) -> Result<Reply, All
     Ok(Reply::EnabledAs(is_enabled(alloc, tree, asked)?))
 }
 
+/// The pending jobs.
+fn list_jobs(state: &State) -> Result<Reply, AllocError>
+    ensures { IfOk result (λ reply. reply_of reply ≡ model.Jobs (jobs_shown (state_of state.now).pending)) }
+{
+    Ok(Reply::Jobs(state.pending().shown()?))
+}
+
 /// The reply to a query.
 pub fn reply_to(alloc: Global, state: &State, query: &Query) -> Result<Reply, AllocError>
     ensures { IfOk result (λ reply. model.IsReplyTo (state_of state.now) (query_of query.now) (reply_of reply)) }
@@ -125,5 +133,6 @@ pub fn reply_to(alloc: Global, state: &State, query: &Query) -> Result<Reply, Al
         Query::IsActive { unit } => is_active(alloc, state, unit),
         Query::Cat { unit } => cat(alloc, state.tree(), unit),
         Query::IsEnabled { unit } => enabled_as(alloc, state.tree(), unit),
+        Query::ListJobs => list_jobs(state),
     }
 }

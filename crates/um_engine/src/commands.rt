@@ -14,7 +14,7 @@ ghost use Rattle.um_wire.specs.Gives.{RefusesBy};
 ghost use Rattle.um_wire.specs.Refusal.{refused_of};
 ghost use Rattle.um_wire.specs.declared.refusal.Refusal.TheVariants.{NoMemory};
 
-use crate::jobs::{drops_one, jobs_after, starts_it};
+use crate::jobs::{cancelled, drops_one, has_waiting, jobs_after, starts_it};
 use crate::names::{name_in, text_of};
 use std::alloc::{AllocError, Global};
 use um_install::{Installed, install};
@@ -60,6 +60,16 @@ fn not_loaded(alloc: Global, unit: &UnitName) -> Refusal
 {
     match text_of(alloc, unit) {
         Ok(unit) => Refusal::NotLoaded { unit },
+        Err(_) => Refusal::NoMemory,
+    }
+}
+
+/// E21 with the unit, or want of memory for its text.
+fn no_such_job(alloc: Global, unit: &UnitName) -> Refusal
+    ensures { ¬ (result ≡ NoMemory) → refused_of result ≡ told.no_such_job unit.now }
+{
+    match text_of(alloc, unit) {
+        Ok(unit) => Refusal::NoSuchJob { unit },
         Err(_) => Refusal::NoMemory,
     }
 }
@@ -119,7 +129,23 @@ fn is_found(loading: &Loading) -> bool
     !matches!(loading, Loading::NotFound)
 }
 
-/// Refuses a command for a unit that must be there and is neither found in the loaded tree nor held in the state (E7).
+/// Refuses a unit that is neither found in the loaded tree nor held in the state (E7).
+fn check_missing(
+    alloc: Global,
+    state: &State,
+    asked: &UnitName,
+    loading: &Loading,
+) -> Result<(), Refusal>
+    requires { loading_of loading.now ≡ units.load (state_of state.now).loaded asked.now }
+    ensures { RefusesBy (model.IsMissing (state_of state.now) asked.now) result }
+{
+    if is_found(loading) || state.units().holds(asked) {
+        return Ok(());
+    }
+    Err(not_loaded(alloc, asked))
+}
+
+/// Refuses a command for a unit that is there already where it is missing (E7).
 fn check_there(
     alloc: Global,
     state: &State,
@@ -130,10 +156,10 @@ fn check_there(
     requires { loading_of loading.now ≡ units.load (state_of state.now).loaded asked.now }
     ensures { RefusesBy (model.IsNotThere (state_of state.now) verb asked.now) result }
 {
-    if !wants_it_there(verb) || is_found(loading) || state.units().holds(asked) {
+    if !wants_it_there(verb) {
         return Ok(());
     }
-    Err(not_loaded(alloc, asked))
+    check_missing(alloc, state, asked, loading)
 }
 
 fn is_fail(mode: JobMode) -> bool
@@ -213,6 +239,52 @@ fn planned(
     let mut planned = state.copy()?;
     planned.set_jobs(unit, jobs)?;
     Ok(planned)
+}
+
+/// Refuses to drop the waiting jobs of a unit where none waits (E21).
+fn check_waiting(
+    alloc: Global,
+    state: &State,
+    asked: &UnitName,
+    loading: &Loading,
+) -> Result<(), Refusal>
+    requires { loading_of loading.now ≡ units.load (state_of state.now).loaded asked.now }
+    ensures { RefusesBy (model.HasNoneWaiting (state_of state.now) asked.now) result }
+{
+    let unit = name_in(asked, loading);
+    if has_waiting(state.pending().get(unit)) {
+        return Ok(());
+    }
+    Err(no_such_job(alloc, unit))
+}
+
+/// Refuses to drop the waiting jobs of a unit for the first of E7 and E21 that holds.
+fn check_cancel(
+    alloc: Global,
+    state: &State,
+    asked: &UnitName,
+    loading: &Loading,
+) -> Result<(), Refusal>
+    requires { loading_of loading.now ≡ units.load (state_of state.now).loaded asked.now }
+    ensures { RefusesBy (model.Refuses (state_of state.now) (model.Cancel asked.now)) result }
+{
+    check_missing(alloc, state, asked, loading)?;
+    check_waiting(alloc, state, asked, loading)?;
+    Ok(())
+}
+
+/// The state without the waiting jobs of a unit.
+fn without_waiting(alloc: Global, state: &State, asked: &UnitName) -> Result<State, Refusal>
+    ensures changed { IfOk result (λ u. model.Changes (state_of state.now) (model.Cancel asked.now) (state_of u)) }
+    ensures refused { RefusesBy (model.Refuses (state_of state.now) (model.Cancel asked.now)) result }
+{
+    let loading = load(alloc, state.loaded(), asked)?;
+    check_cancel(alloc, state, asked, &loading)?;
+    let unit = name_in(asked, &loading);
+    let jobs = cancelled(state.pending().get(unit));
+    let mut changed = state.copy()?;
+    changed.set_jobs(unit, jobs)?;
+    Ok(changed)
 }
 
 /// Refuses a file with the text at the path for the first cause there is, before anything is copied.
@@ -350,6 +422,7 @@ pub fn changed(alloc: Global, state: &State, command: &Command) -> Result<Outcom
         Command::ForUnit { verb, unit, mode } => {
             Ok(done(planned(alloc, state, *verb, unit, *mode)?))
         }
+        Command::Cancel { unit } => Ok(done(without_waiting(alloc, state, unit)?)),
         Command::Install { verb, unit } => installed(alloc, state, *verb, unit),
     }
 }

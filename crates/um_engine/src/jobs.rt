@@ -1,6 +1,6 @@
 ghost use Rattle.std.specs.Prelude.{◌≡◌, ◌||◌};
 ghost use Rattle.um_model.specs.Jobs as model;
-ghost use Rattle.um_model.specs.Machine.{is_waiting, begins, starts_it};
+ghost use Rattle.um_model.specs.Machine.{is_waiting, has_waiting, begins, starts_it};
 ghost use Rattle.um_engine.specs.Drops.{is_dropped, drops_one};
 
 use um_model::{ActiveState, JobKind, JobState, StartJob, UnitEvent, UnitJobs, UnitVerb};
@@ -22,6 +22,32 @@ pub fn is_waiting(job: Option<JobState>) -> bool
     ensures { result ≡ is_waiting job }
 {
     matches!(job, Some(JobState::Waiting))
+}
+
+/// Whether one of the unit's jobs waits.
+pub fn has_waiting(jobs: UnitJobs) -> bool
+    ensures { result ≡ has_waiting jobs }
+{
+    is_waiting(jobs.stop) || is_waiting(jobs.start)
+}
+
+fn unless_waiting(job: Option<JobState>) -> Option<JobState>
+    ensures { result ≡ model.unless_waiting job }
+{
+    match job {
+        Some(JobState::Waiting) => None,
+        other => other,
+    }
+}
+
+/// The jobs of a unit after a cancel (systemctl(1), `cancel`): those that wait are dropped.
+pub fn cancelled(jobs: UnitJobs) -> UnitJobs
+    ensures { result ≡ model.cancelled jobs }
+{
+    UnitJobs {
+        stop: unless_waiting(jobs.stop),
+        start: unless_waiting(jobs.start),
+    }
 }
 
 /// The jobs of a unit after a start (systemctl(1), `start`): a start job that is pending stays. Else a stop job that waits is

@@ -5,9 +5,9 @@ use Rattle.um_model.specs.Service.{Action, active_state_of, dead_unit, state_of_
 use Rattle.um_model.specs.Settings.{ServiceSettings}
 use Rattle.um_model.specs.Ends.{is_stopping}
 use Rattle.um_model.specs.Transitions.{transition, HasItsProcess, has_its_process, HasNumber}
-use Rattle.um_model.specs.Jobs.{Job, stop_job, start_job, job_of, jobs, no_jobs, jobs_of_unit, is_active, is_up, started_anew, started, stopped, restarted, jobs_after, IsPending, GoesBefore, starts, stops, stops_then_starts, stops_then_starts_before, of_one_unit, ComesBefore, Unordered, IsReady, with_running, unless_running, start_left, jobs_left}
+use Rattle.um_model.specs.Jobs.{Job, stop_job, start_job, job_of, jobs, no_jobs, jobs_of_unit, is_active, is_up, started_anew, started, stopped, restarted, jobs_after, unless_waiting, cancelled, IsPending, GoesBefore, starts, stops, stops_then_starts, stops_then_starts_before, of_one_unit, ComesBefore, Unordered, IsReady, with_running, unless_running, start_left, jobs_left}
 use Rattle.um_model.specs.Timers.{Timers}
-use Rattle.um_model.specs.Machine.{State, empty_state, Command, Happening, Event, Input, Reply, Carries, change_of, changed, acting_in, around, begins, begun, IsStill, Settles, begins_next, unit_asked, with_plan, jobs_planned, Changes, puts, links, removes, reloads, plans, installs, end_of, Fires, none_due, fires, passes, Follows, ends, ticks, Takes, obeys, meets, moment_of, Step, refused, idle, taken, Run, goes}
+use Rattle.um_model.specs.Machine.{State, empty_state, Command, Happening, Event, Input, Reply, Carries, change_of, changed, acting_in, around, begins, begun, IsStill, Settles, begins_next, unit_asked, with_plan, jobs_asked, jobs_planned, Changes, puts, links, removes, reloads, plans, cancels, installs, end_of, Fires, none_due, fires, passes, Follows, ends, ticks, Takes, obeys, meets, moment_of, Step, refused, idle, taken, Run, goes}
 use Rattle.um_model.specs.Live.{is_starting, WaitsFor, IsNotStuck}
 use Rattle.um_model.specs.declared.commands.UnitVerb.{UnitVerb}
 use Rattle.um_model.specs.declared.commands.UnitVerb.TheVariants as verbs
@@ -88,7 +88,7 @@ left_fits c j held starting stopping apart = record {
 
 -- a command leaves no job running that didn't run, and no stop job beside a start job that runs
 record KeepsRunning (j k : UnitJobs) : Type 0 where
-  starting : k.start ≡ Some Running → (j.start ≡ Some Running) × (k.stop ≡ j.stop)
+  starting : k.start ≡ Some Running → (j.start ≡ Some Running) × (j.stop ≡ None → k.stop ≡ None)
   stopping : k.stop ≡ Some Running → j.stop ≡ Some Running
 
 waits_unless : (b : Bool) → cond b None (Some Waiting) ≡ Some Running → ⊥
@@ -106,7 +106,7 @@ anew_keeps a (Some Waiting) = record { starting = λ e. absurd (waits_unless (is
 
 started_keeps : (a : ActiveState) (o p : Option JobState) → KeepsRunning (jobs o p) (started a o p)
 started_keeps a o None = anew_keeps a o
-started_keeps a o (Some p) = record { starting = λ e. (e, refl); stopping = λ e. e }
+started_keeps a o (Some p) = record { starting = λ e. (e, λ n. n); stopping = λ e. e }
 
 stopped_keeps : (a : ActiveState) (o p : Option JobState) → KeepsRunning (jobs o p) (stopped a o)
 stopped_keeps a None p = record { starting = λ e. absurd (none_runs e); stopping = λ e. absurd (waits_if (is_up a) e) }
@@ -124,7 +124,16 @@ command_keeps : (verb : UnitVerb) (a : ActiveState) (j : UnitJobs) → KeepsRunn
 command_keeps verbs.Start a j = started_keeps a j.stop j.start
 command_keeps verbs.Stop a j = stopped_keeps a j.stop j.start
 command_keeps verbs.Restart a j = if_keeps (is_up a) j (restarted j.stop) (started a j.stop j.start) (restarted_keeps j.stop j.start) (started_keeps a j.stop j.start)
-command_keeps verbs.TryRestart a j = if_keeps (is_active a) j (restarted j.stop) j (restarted_keeps j.stop j.start) (record { starting = λ e. (e, refl); stopping = λ e. e })
+command_keeps verbs.TryRestart a j = if_keeps (is_active a) j (restarted j.stop) j (restarted_keeps j.stop j.start) (record { starting = λ e. (e, λ n. n); stopping = λ e. e })
+
+unless_waiting_runs : (o : Option JobState) → unless_waiting o ≡ Some Running → o ≡ Some Running
+unless_waiting_runs None e = absurd (none_runs e)
+unless_waiting_runs (Some Running) e = refl
+unless_waiting_runs (Some Waiting) e = absurd (none_runs e)
+
+-- a cancel leaves the jobs that run
+cancel_keeps : (o p : Option JobState) → KeepsRunning (jobs o p) (cancelled (jobs o p))
+cancel_keeps o p = record { starting = λ e. (unless_waiting_runs p e, λ n. ap unless_waiting n); stopping = λ e. unless_waiting_runs o e }
 
 -- a unit fits its jobs after a command as before
 command_fits : (u : UnitState) (j k : UnitJobs) → KeepsRunning j k → Fits u j → Fits u k
@@ -132,7 +141,7 @@ command_fits u j k keeps fits = record {
   held = fits.held;
   starting = λ e. fits.starting (keeps.starting e).0;
   stopping = λ e. fits.stopping (keeps.stopping e);
-  apart = λ e. let was = keeps.starting e in was.1 ∙ fits.apart was.0;
+  apart = λ e. let was = keeps.starting e in was.1 (fits.apart was.0);
 }
 
 -- ---- the state
@@ -164,6 +173,8 @@ changed_fits s command u (links e) fits = fits
 changed_fits s command u (removes e) fits = fits
 changed_fits s command u reloads fits = fits
 changed_fits s command u (installs h) fits = fits
+changed_fits s command u (cancels {asked = asked}) fits =
+    planned_fits s (unit_asked s asked) (cancelled (jobs_asked s asked)) (cancel_keeps _ _) fits
 changed_fits s command u (plans {verb = verb} {asked = asked}) fits =
     planned_fits s (unit_asked s asked) (jobs_planned s verb asked) (command_keeps verb _ (jobs_of_unit s.pending (unit_asked s asked))) fits
 

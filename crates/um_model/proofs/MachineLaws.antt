@@ -11,7 +11,7 @@ use Rattle.um_model.specs.Jobs.{Job, IsReady, IsToldBefore, by_name, stop_first,
 use Rattle.um_model.specs.Timers.{Timers}
 use Rattle.um_model.specs.Transitions.{HasNumber}
 use Rattle.um_model.specs.Units.{Loading}
-use Rattle.um_model.specs.Machine.{State, Command, Happening, ProcessEnded, Tick, Event, Input, Reply, EnabledAs, Refusal, Query, IsReplyTo, shows, tells_activity, tells_files, tells_enabling, Carries, change_of, acting_in, around, begins, begun, IsBefore, Settles, begins_next, IsProcessOf, AreDeadlines, end_of, Fires, none_due, fires, passes, CannotStart, isnt_found, is_masked, has_bad_setting, is_of_another_kind, is_a_template, IsNotThere, StartsNone, DropsAJob, CausesOf, unit_asked, jobs_asked, jobs_planned, Refuses, puts_none, links_none, removes_none, plans_none, installs_none, Changes, puts, links, removes, reloads, plans, installs, Follows, ends, ticks, HasNoEffect, is_over, is_idle, Takes, obeys, meets, moment_of, Step, refused, idle, taken, reply_after, Run, goes}
+use Rattle.um_model.specs.Machine.{State, Command, Happening, ProcessEnded, Tick, Event, Input, Reply, EnabledAs, Refusal, Query, IsReplyTo, shows, tells_activity, tells_files, tells_enabling, lists_jobs, Carries, change_of, acting_in, around, begins, begun, IsBefore, Settles, begins_next, IsProcessOf, AreDeadlines, end_of, Fires, none_due, fires, passes, CannotStart, isnt_found, is_masked, has_bad_setting, is_of_another_kind, is_a_template, IsNotThere, IsMissing, HasNoneWaiting, CausesOfCancel, StartsNone, DropsAJob, CausesOf, unit_asked, jobs_asked, jobs_planned, Refuses, puts_none, links_none, removes_none, plans_none, cancels_none, installs_none, Changes, puts, links, removes, reloads, plans, cancels, installs, Follows, ends, ticks, HasNoEffect, is_over, is_idle, Takes, obeys, meets, moment_of, Step, refused, idle, taken, reply_after, Run, goes}
 use Rattle.um_model.specs.declared.commands.JobMode.{JobMode}
 use Rattle.um_model.specs.declared.commands.UnitVerb.{UnitVerb}
 use Rattle.um_model.specs.declared.jobs.JobKind.{JobKind}
@@ -123,14 +123,19 @@ one_cause asked found r q (is_a_template f g) (is_a_template h k) = refl
 one_planned : (s : State) (verb : UnitVerb) (asked : List ℕ) (mode : JobMode) (r q : Refused) → CausesOf s verb asked mode r → CausesOf s verb asked mode q → r ≡ q
 one_planned s verb asked mode =
     let drops = DropsAJob mode (unit_asked s asked) (jobs_asked s asked) (jobs_planned s verb asked) in
-    one_first (IsNotThere s verb asked) (FirstCause (StartsNone s verb asked) drops) (λ r q h k. h.refusal ∙ sym k.refusal)
+    one_first (IsNotThere s verb asked) (FirstCause (StartsNone s verb asked) drops) (λ r q h k. h.missing.refusal ∙ sym k.missing.refusal)
     (one_first (StartsNone s verb asked) drops (λ r q h k. one_cause asked _ r q h.cause k.cause) (λ r q h k. h.refusal ∙ sym k.refusal))
+
+one_cancelled : (s : State) (asked : List ℕ) (r q : Refused) → CausesOfCancel s asked r → CausesOfCancel s asked q → r ≡ q
+one_cancelled s asked =
+    one_first (IsMissing s asked) (HasNoneWaiting s asked) (λ r q h k. h.refusal ∙ sym k.refusal) (λ r q h k. h.refusal ∙ sym k.refusal)
 
 pub one_refusal : (s : State) (command : Command) (r q : Refused) → Refuses s command r → Refuses s command q → r ≡ q
 one_refusal s command r q (puts_none {path = path} {text = text} e) (puts_none f) = same_err (put_file s.tree path text) r q e f
 one_refusal s command r q (links_none {path = path} {target = target} e) (links_none f) = same_err (put_link s.tree path target) r q e f
 one_refusal s command r q (removes_none {path = path} e) (removes_none f) = same_err (remove_at s.tree path) r q e f
 one_refusal s command r q (plans_none {verb = verb} {asked = asked} {mode = mode} h) (plans_none k) = one_planned s verb asked mode r q h k
+one_refusal s command r q (cancels_none {asked = asked} h) (cancels_none k) = one_cancelled s asked r q h k
 one_refusal s command r q (installs_none {verb = verb} {unit = unit} h) (installs_none k) = one_install_refusal s.tree verb unit r q h k
 
 pub one_change : (s : State) (command : Command) (u v : State) → Changes s command u → Changes s command v → u ≡ v
@@ -142,6 +147,7 @@ one_change s command u v (removes {path = path} {tree = tree} e) (removes {tree 
     ap (λ (x : Tree). record s { tree = x }) (same_ok (remove_at s.tree path) tree other e f)
 one_change s command u v reloads reloads = refl
 one_change s command u v plans plans = refl
+one_change s command u v cancels cancels = refl
 one_change s command u v (installs {verb = verb} {unit = unit} {tree = tree} h) (installs {tree = other} k) =
     ap (λ (x : Tree). record s { tree = x; loaded = x }) (one_install s.tree verb unit tree other h k)
 
@@ -151,6 +157,7 @@ one_reply_to s query r q shows shows = refl
 one_reply_to s query r q tells_activity tells_activity = refl
 one_reply_to s query r q tells_files tells_files = refl
 one_reply_to s query r q (tells_enabling {asked = asked} {answer = a} h) (tells_enabling {answer = b} k) = ap EnabledAs (one_enabling s.tree asked a b h k)
+one_reply_to s query r q lists_jobs lists_jobs = refl
 
 -- ---- what happens has one outcome
 

@@ -6,7 +6,7 @@ use Rattle.um_model.specs.Service.{Action, SpawnProcess, SendSignal, state_of_un
 use Rattle.um_model.specs.Settings.{ServiceSettings}
 use Rattle.um_model.specs.Timers.{Timers}
 use Rattle.um_model.specs.Transitions.{AreActions, nothing, spawn, signals, spawned, live_numbers}
-use Rattle.um_model.specs.Machine.{State, Command, Happening, Event, Input, Reply, Carries, change_of, acting_in, around, begins, begun, Settles, begins_next, Changes, puts, links, removes, reloads, plans, installs, end_of, Fires, none_due, fires, passes, Follows, ends, ticks, Takes, obeys, meets, moment_of, Step, refused, idle, taken, Run, goes}
+use Rattle.um_model.specs.Machine.{State, Command, Happening, Event, Input, Reply, Carries, change_of, acting_in, around, begins, begun, Settles, begins_next, Changes, puts, links, removes, reloads, plans, cancels, installs, end_of, Fires, none_due, fires, passes, Follows, ends, ticks, Takes, obeys, meets, moment_of, Step, refused, idle, taken, Run, goes}
 use Rattle.um_model.specs.Numbers.{started_numbers, actions_in, AreNew}
 use Rattle.um_model.specs.declared.service.Signal as sent
 use Rattle.um_model.specs.declared.service.UnitState.{UnitState}
@@ -97,6 +97,7 @@ same_next s command u (links e) = refl
 same_next s command u (removes e) = refl
 same_next s command u reloads = refl
 same_next s command u plans = refl
+same_next s command u cancels = refl
 same_next s command u (installs h) = refl
 
 followed_counts : (t : ℕ) (s : State) (happening : Happening) (actions : List Action) (v : State) → Follows t s happening actions v → Counts s actions v

@@ -3,14 +3,14 @@ use Rattle.std.proofs.Common.{ℕ, ◌≡◌, ◌≢◌, ◌⊎◌, ◌∙◌, B
 use Rattle.std.specs.FinMap as map
 use Rattle.um_model.specs.Least.{IsNamedBefore}
 use Rattle.um_model.specs.Names.{is_template}
-use Rattle.um_model.specs.Refusals.{Refused, job_conflict, not_loaded}
+use Rattle.um_model.specs.Refusals.{Refused, job_conflict, no_such_job, not_loaded}
 use Rattle.um_model.specs.Tree.{Tree, put_file, put_link, remove_at}
 use Rattle.um_model.specs.Install.{RefusesInstall}
 use Rattle.um_model.specs.Units.{LoadedUnit, Loading, Found, Masked, NotFound, BadSetting, load}
 use Rattle.um_model.specs.Service.{Action, ByUnit, state_of_unit}
 use Rattle.um_model.specs.Jobs.{DropsOne, drops, job_of}
 use Rattle.um_model.specs.Transitions.{HasNumber}
-use Rattle.um_model.specs.Machine.{State, Command, PutFile, PutLink, Remove, DaemonReload, ForUnit, Install, Happening, ProcessEnded, Tick, Event, Commanded, Happened, Input, Reply, Done, Refusal, IsProcessOf, IsOver, end_of, Follows, ends, ticks, HasNoEffect, is_over, is_idle, is_served_kind, is_found, CannotStart, isnt_found, is_masked, has_bad_setting, is_of_another_kind, is_a_template, active_asked, starts_it, wants_it_there, jobs_asked, jobs_planned, unit_asked, IsNotThere, StartsNone, DropsAJob, CausesOf, Refuses, puts_none, links_none, removes_none, plans_none, installs_none, Changes, puts, links, removes, reloads, plans, installs, obeys, meets, moment_of, Step, refused, idle, taken}
+use Rattle.um_model.specs.Machine.{State, Command, PutFile, PutLink, Remove, DaemonReload, ForUnit, Cancel, Install, Happening, ProcessEnded, Tick, Event, Commanded, Happened, Input, Reply, Done, Refusal, IsProcessOf, IsOver, end_of, Follows, ends, ticks, HasNoEffect, is_over, is_idle, is_served_kind, is_found, CannotStart, isnt_found, is_masked, has_bad_setting, is_of_another_kind, is_a_template, active_asked, starts_it, wants_it_there, jobs_asked, jobs_planned, unit_asked, IsNotThere, IsMissing, has_waiting, HasNoneWaiting, CausesOfCancel, StartsNone, DropsAJob, CausesOf, Refuses, puts_none, links_none, removes_none, plans_none, cancels_none, installs_none, Changes, puts, links, removes, reloads, plans, cancels, installs, obeys, meets, moment_of, Step, refused, idle, taken}
 use Rattle.um_model.specs.declared.commands.JobMode.{JobMode}
 use Rattle.um_model.specs.declared.commands.JobMode.TheVariants as modes
 use Rattle.um_model.specs.declared.commands.UnitVerb.{UnitVerb}
@@ -33,15 +33,21 @@ use Rattle.um_model.proofs.TimersLaws.{same_name, same_number, same_option, one_
 
 -- ---- why a command for a unit is refused, if it is
 
-there_or_not : (s : State) (verb : UnitVerb) (asked : List ℕ) → OneOrNone (IsNotThere s verb asked)
-there_or_not s verb asked = by_tests (wants_it_there verb) (is_found (load s.loaded asked)) (map.get s.units asked) refl refl refl
+missing_or_not : (s : State) (asked : List ℕ) → OneOrNone (IsMissing s asked)
+missing_or_not s asked = by_tests (is_found (load s.loaded asked)) (map.get s.units asked) refl refl
   where
-    by_tests : (wanted found : Bool) (held : Option UnitState) → wants_it_there verb ≡ wanted → is_found (load s.loaded asked) ≡ found → map.get s.units asked ≡ held
-        → OneOrNone (IsNotThere s verb asked)
-    by_tests false found held e f g = inr (λ r h. true≢false (sym h.wanted ∙ e))
-    by_tests true true held e f g = inr (λ r h. true≢false (sym f ∙ h.isnt_found))
-    by_tests true false (Some u) e f g = inr (λ r h. let is = h.isnt_held in cc)
-    by_tests true false None e f g = inl (not_loaded asked, record { wanted = e; isnt_found = f; isnt_held = g; refusal = refl })
+    by_tests : (found : Bool) (held : Option UnitState) → is_found (load s.loaded asked) ≡ found → map.get s.units asked ≡ held → OneOrNone (IsMissing s asked)
+    by_tests true held f g = inr (λ r h. true≢false (sym f ∙ h.isnt_found))
+    by_tests false (Some u) f g = inr (λ r h. let is = h.isnt_held in cc)
+    by_tests false None f g = inl (not_loaded asked, record { isnt_found = f; isnt_held = g; refusal = refl })
+
+there_or_not : (s : State) (verb : UnitVerb) (asked : List ℕ) → OneOrNone (IsNotThere s verb asked)
+there_or_not s verb asked = by_tests (wants_it_there verb) (missing_or_not s asked) refl
+  where
+    by_tests : (wanted : Bool) → OneOrNone (IsMissing s asked) → wants_it_there verb ≡ wanted → OneOrNone (IsNotThere s verb asked)
+    by_tests false missing e = inr (λ r h. true≢false (sym h.wanted ∙ e))
+    by_tests true (inl missing) e = inl (missing.0, record { wanted = e; missing = missing.1 })
+    by_tests true (inr none) e = inr (λ r h. none r h.missing)
 
 found_starts : (asked : List ℕ) (l : LoadedUnit) → OneOrNone (CannotStart asked (Found l))
 found_starts asked l = by_tests (is_served_kind l.settings.service.kind) (is_template l.name) refl refl
@@ -147,6 +153,20 @@ plan_becomes s verb asked mode (inr none) = inr (free, (_, plans))
     free : (r : Refused) → ¬ (Refuses s (ForUnit verb asked mode) r)
     free r (plans_none h) = none r h
 
+waits_or_not : (s : State) (asked : List ℕ) → OneOrNone (HasNoneWaiting s asked)
+waits_or_not s asked = by_test (has_waiting (jobs_asked s asked)) refl
+  where
+    by_test : (waits : Bool) → has_waiting (jobs_asked s asked) ≡ waits → OneOrNone (HasNoneWaiting s asked)
+    by_test true e = inr (λ r h. true≢false (sym e ∙ h.none))
+    by_test false e = inl (no_such_job (unit_asked s asked), record { none = e; refusal = refl })
+
+cancel_becomes : (s : State) (asked : List ℕ) → OneOrNone (CausesOfCancel s asked) → Becomes s (Cancel asked)
+cancel_becomes s asked (inl found) = inl (found.0, cancels_none found.1)
+cancel_becomes s asked (inr none) = inr (free, (_, cancels))
+  where
+    free : (r : Refused) → ¬ (Refuses s (Cancel asked) r)
+    free r (cancels_none h) = none r h
+
 install_becomes : (s : State) (verb : InstallVerb) (unit : List ℕ) → Becomes s (Install verb unit)
 install_becomes s verb unit = elim (an_install s.tree verb unit) as (λ _. Becomes s (Install verb unit)) [
   | inl found ↦ inl (found.0, installs_none found.1)
@@ -162,6 +182,7 @@ command_becomes s (PutLink path target) = link_becomes s path target (put_link s
 command_becomes s (Remove path) = removal_becomes s path (remove_at s.tree path) refl
 command_becomes s DaemonReload = inr (reload_is_free s, (_, reloads))
 command_becomes s (ForUnit verb asked mode) = plan_becomes s verb asked mode (planned_or_not s verb asked mode)
+command_becomes s (Cancel asked) = cancel_becomes s asked (first_or_none _ _ (missing_or_not s asked) (waits_or_not s asked))
 command_becomes s (Install verb unit) = install_becomes s verb unit
 
 -- ---- what happens has an effect or none

@@ -1,7 +1,7 @@
 -- Pending jobs: what a command makes of those of its unit, and which job is ready to begin.
 -- Follows systemctl(1), "start" and "stop", and systemd.unit(5), "Before=".
 -- The machine stands on this file.
-use Rattle.std.specs.Prelude.{◌≡◌, ◌≢◌, ℕ, Bool, true, false, ◌||◌, if◌then◌else◌, List, Option, Some, None, is_some, unwrap_or}
+use Rattle.std.specs.Prelude.{◌≡◌, ◌≢◌, ℕ, Bool, true, false, ◌||◌, if◌then◌else◌, List, [], ◌∷◌, ◌++◌, flat_map, Option, Some, None, is_some, unwrap_or, codes}
 use Rattle.std.specs.FinMap as map
 use Rattle.um_model.specs.Least.{IsLeast, IsNamedBefore}
 use Rattle.um_model.specs.Service.{ByUnit, active_state_of, state_of_unit}
@@ -84,6 +84,16 @@ jobs_after verbs.Stop a j = stopped a j.stop
 jobs_after verbs.Restart a j = if is_up a then restarted j.stop else started a j.stop j.start
 jobs_after verbs.TryRestart a j = if is_active a then restarted j.stop else j
 
+-- ---- what a cancel leaves of them
+
+abbrev pub unless_waiting : Option JobState → Option JobState
+unless_waiting (Some Waiting) = None
+unless_waiting other = other
+
+-- the jobs of a unit without those that wait
+abbrev pub cancelled : UnitJobs → UnitJobs
+cancelled j = jobs (unless_waiting j.stop) (unless_waiting j.start)
+
 -- of these jobs one is dropped, so that those are left: it is there no more, or no more as it was
 pub data DropsOne (before after : UnitJobs) : Type 0 where
   drops : (kind : JobKind) (state : JobState) → job_of kind before ≡ Some state → job_of kind after ≢ Some state → DropsOne before after
@@ -144,6 +154,32 @@ pub data IsToldBefore : Job → Job → Type 0 where
 -- the job that begins next: the least of those that are ready
 abbrev pub BeginsNext : (IsBefore : List ℕ → List ℕ → Type 0) → ByUnit UnitState → ByUnit UnitJobs → Job → Type 0
 BeginsNext IsBefore units pending = IsLeast IsToldBefore (IsReady IsBefore units pending)
+
+abbrev pub job_kind_text : JobKind → List ℕ
+job_kind_text Stop = codes "stop"
+job_kind_text Start = codes "start"
+
+abbrev pub job_state_text : JobState → List ℕ
+job_state_text Waiting = codes "waiting"
+job_state_text Running = codes "running"
+
+-- a pending job as it is told: its unit, what it does, and how far it is
+pub record JobShown : Type 0 where
+  pub unit : List ℕ
+  pub kind : JobKind
+  pub state : JobState
+
+abbrev pub job_shown : List ℕ → JobKind → Option JobState → List JobShown
+job_shown unit kind None = []
+job_shown unit kind (Some state) = record { unit = unit; kind = kind; state = state } ∷ []
+
+-- those of a unit, its stop job first
+abbrev pub jobs_shown_of : List ℕ → UnitJobs → List JobShown
+jobs_shown_of unit j = job_shown unit Stop j.stop ++ job_shown unit Start j.start
+
+-- the pending jobs in the order of the names of their units
+abbrev pub jobs_shown : ByUnit UnitJobs → List JobShown
+jobs_shown pending = flat_map (λ e. jobs_shown_of e.0 e.1) (map.entries pending)
 
 -- with a job of this kind running
 abbrev pub with_running : JobKind → UnitJobs → UnitJobs

@@ -1,10 +1,10 @@
 -- The machine: its state, what comes in, what is answered, one step, and a run.
 -- The rules of single inputs follow systemctl(1); the machine itself is this project's own.
 -- The engine, the keeper, the manager and the program stand on this file.
-use Rattle.std.specs.Prelude.{◌≡◌, ◌≢◌, ℕ, ◌+◌, ◌<◌, ◌≤◌, max, Bool, true, false, if◌then◌else◌, List, [], ◌∷◌, ◌++◌, Option, Some, None, Result, Ok, Err, codes}
+use Rattle.std.specs.Prelude.{◌≡◌, ◌≢◌, ℕ, ◌+◌, ◌<◌, ◌≤◌, max, Bool, true, false, ◌||◌, if◌then◌else◌, List, [], ◌∷◌, ◌++◌, Option, Some, None, Result, Ok, Err, codes}
 use Rattle.std.specs.FinMap as map
 use Rattle.um_model.specs.Least.{IsLeast, IsNamedBefore}
-use Rattle.um_model.specs.Refusals.{Refused, not_found, masked, bad_setting, not_loaded, job_conflict, FirstCause}
+use Rattle.um_model.specs.Refusals.{Refused, not_found, masked, bad_setting, not_loaded, job_conflict, no_such_job, FirstCause}
 use Rattle.um_model.specs.Names.{is_template}
 use Rattle.um_model.specs.Tree.{Tree, put_file, put_link, remove_at}
 use Rattle.um_model.specs.Settings.{ServiceSettings, default_settings, acting_settings}
@@ -13,7 +13,7 @@ use Rattle.um_model.specs.Units.{LoadedUnit, Loading, Found, Masked, NotFound, B
 use Rattle.um_model.specs.Install.{Installs, RefusesInstall, paths_beyond, IsEnabledAs}
 use Rattle.um_model.specs.Service.{ByUnit, state_of_unit, with_unit, active_state_of, is_number, Action}
 use Rattle.um_model.specs.Transitions.{transition, AreActions, HasNumber, spawned}
-use Rattle.um_model.specs.Jobs.{Job, jobs_of_unit, with_jobs, is_active, jobs_after, DropsOne, jobs_left, with_running, Unordered, IsReady, BeginsNext}
+use Rattle.um_model.specs.Jobs.{Job, jobs_of_unit, with_jobs, is_active, jobs_after, cancelled, JobShown, jobs_shown, DropsOne, jobs_left, with_running, Unordered, IsReady, BeginsNext}
 use Rattle.um_model.specs.Timers.{Timers, IsDueFirst}
 use Rattle.um_model.specs.declared.commands.JobMode.{JobMode}
 use Rattle.um_model.specs.declared.commands.JobMode.TheVariants as modes
@@ -68,6 +68,8 @@ pub data Command : Type 0 where
   DaemonReload : Command
   -- start a unit, stop it or restart it; pending jobs in the way are dropped, or the command is refused
   ForUnit : (verb : UnitVerb) (unit : List ℕ) (mode : JobMode) → Command
+  -- drop the waiting jobs of a unit
+  Cancel : (unit : List ℕ) → Command
   -- enable a unit, disable, mask or unmask it, and load the tree that comes of it
   Install : (verb : InstallVerb) (unit : List ℕ) → Command
 
@@ -98,6 +100,8 @@ pub data Query : Type 0 where
   Cat : (unit : List ℕ) → Query
   -- how it is enabled in the tree in hand
   IsEnabled : (unit : List ℕ) → Query
+  -- the pending jobs
+  ListJobs : Query
 
 -- a unit as `show` tells it
 pub record UnitShown : Type 0 where
@@ -116,6 +120,7 @@ pub data Reply : Type 0 where
   -- the paths at which links were made, and those at which they were removed
   Relinked : (made removed : List (List ℕ)) → Reply
   EnabledAs : Enabling → Reply
+  Jobs : List JobShown → Reply
   -- the actions since they were last asked for
   Told : List Action → Reply
   Refusal : Refused → Reply
@@ -153,6 +158,7 @@ pub data IsReplyTo (s : State) : Query → Reply → Type 0 where
   tells_activity : {asked : List ℕ} → IsReplyTo s (IsActive asked) (Activity (active_state_of (state_asked s asked).sub))
   tells_files : {asked : List ℕ} → IsReplyTo s (Cat asked) (files_told s.tree asked (resolution_of s.tree asked))
   tells_enabling : {asked : List ℕ} {answer : Enabling} → IsEnabledAs s.tree asked answer → IsReplyTo s (IsEnabled asked) (EnabledAs answer)
+  lists_jobs : IsReplyTo s ListJobs (Jobs (jobs_shown s.pending))
 
 -- ---- one unit and what happens to it
 
@@ -273,11 +279,15 @@ jobs_planned s verb asked = jobs_after verb (active_asked s asked) (jobs_asked s
 -- Why a command for a unit is refused.
 
 -- the unit is neither found in the loaded tree nor held in the state
-pub record IsNotThere (s : State) (verb : UnitVerb) (asked : List ℕ) (r : Refused) : Type 0 where
-  pub wanted : wants_it_there verb ≡ true
+pub record IsMissing (s : State) (asked : List ℕ) (r : Refused) : Type 0 where
   pub isnt_found : is_found (load s.loaded asked) ≡ false
   pub isnt_held : map.get s.units asked ≡ None
   pub refusal : r ≡ not_loaded asked
+
+-- the command is for a unit that is there already, and it is missing
+pub record IsNotThere (s : State) (verb : UnitVerb) (asked : List ℕ) (r : Refused) : Type 0 where
+  pub wanted : wants_it_there verb ≡ true
+  pub missing : IsMissing s asked r
 
 -- the command would start a unit that can't be started
 pub record StartsNone (s : State) (verb : UnitVerb) (asked : List ℕ) (r : Refused) : Type 0 where
@@ -296,12 +306,27 @@ CausesOf s verb asked mode =
     FirstCause (IsNotThere s verb asked)
     (FirstCause (StartsNone s verb asked) (DropsAJob mode (unit_asked s asked) (jobs_asked s asked) (jobs_planned s verb asked)))
 
+-- Why the waiting jobs of a unit aren't dropped.
+
+abbrev pub has_waiting : UnitJobs → Bool
+has_waiting j = is_waiting j.stop || is_waiting j.start
+
+-- no job of the unit waits
+pub record HasNoneWaiting (s : State) (asked : List ℕ) (r : Refused) : Type 0 where
+  pub none : has_waiting (jobs_asked s asked) ≡ false
+  pub refusal : r ≡ no_such_job (unit_asked s asked)
+
+-- the causes in their order
+abbrev pub CausesOfCancel : State → List ℕ → Refused → Type 0
+CausesOfCancel s asked = FirstCause (IsMissing s asked) (HasNoneWaiting s asked)
+
 -- a command is refused for the first of its causes that holds
 pub data Refuses (s : State) : Command → Refused → Type 0 where
   puts_none : {path text : List ℕ} {r : Refused} → put_file s.tree path text ≡ Err r → Refuses s (PutFile path text) r
   links_none : {path target : List ℕ} {r : Refused} → put_link s.tree path target ≡ Err r → Refuses s (PutLink path target) r
   removes_none : {path : List ℕ} {r : Refused} → remove_at s.tree path ≡ Err r → Refuses s (Remove path) r
   plans_none : {verb : UnitVerb} {asked : List ℕ} {mode : JobMode} {r : Refused} → CausesOf s verb asked mode r → Refuses s (ForUnit verb asked mode) r
+  cancels_none : {asked : List ℕ} {r : Refused} → CausesOfCancel s asked r → Refuses s (Cancel asked) r
   installs_none : {verb : InstallVerb} {unit : List ℕ} {r : Refused} → RefusesInstall s.tree verb unit r → Refuses s (Install verb unit) r
 
 -- the state with these pending jobs of the unit
@@ -316,6 +341,7 @@ pub data Changes (s : State) : Command → State → Type 0 where
   reloads : Changes s DaemonReload (record s { loaded = s.tree })
   plans : {verb : UnitVerb} {asked : List ℕ} {mode : JobMode}
       → Changes s (ForUnit verb asked mode) (with_plan s (unit_asked s asked) (jobs_planned s verb asked))
+  cancels : {asked : List ℕ} → Changes s (Cancel asked) (with_plan s (unit_asked s asked) (cancelled (jobs_asked s asked)))
   installs : {verb : InstallVerb} {unit : List ℕ} {tree : Tree} → Installs s.tree verb unit tree
       → Changes s (Install verb unit) (record s { tree = tree; loaded = tree })
 

@@ -11,10 +11,11 @@ use Rattle.um_model.specs.Bytes.{◌>>=◌}
 use Rattle.um_model.specs.Refusals.{Refused, bad_request, unknown_verb, bad_name}
 use Rattle.um_model.specs.Moments.{moment_limit}
 use Rattle.um_model.specs.Names.{suffix_of, is_unit_name}
-use Rattle.um_model.specs.Machine.{Event, Commanded, Happened, Command, PutFile, PutLink, Remove, DaemonReload, ForUnit, Install, ProcessEnded, Tick, Query, Show, IsActive, IsEnabled, Cat}
-use Rattle.um_model.specs.declared.commands.JobMode.TheVariants.{Replace}
+use Rattle.um_model.specs.Machine.{Event, Commanded, Happened, Command, PutFile, PutLink, Remove, DaemonReload, ForUnit, Cancel, Install, ProcessEnded, Tick, Query, Show, IsActive, IsEnabled, Cat, ListJobs}
+use Rattle.um_model.specs.declared.commands.JobMode.{JobMode}
+use Rattle.um_model.specs.declared.commands.JobMode.TheVariants.{Replace, Fail}
 use Rattle.um_model.specs.declared.commands.UnitVerb.{UnitVerb}
-use Rattle.um_model.specs.declared.commands.UnitVerb.TheVariants.{Start, Stop}
+use Rattle.um_model.specs.declared.commands.UnitVerb.TheVariants.{Start, Stop, Restart, TryRestart}
 use Rattle.um_model.specs.declared.install.InstallVerb.{InstallVerb}
 use Rattle.um_model.specs.declared.install.InstallVerb.TheVariants.{Enable, Disable, Mask, Unmask}
 use Rattle.um_model.specs.declared.service.End.{End}
@@ -90,6 +91,19 @@ end_told code signal lost = None
 unfoldable pub end_at : Data → Option End
 end_at d = end_told (get (codes "code") d) (get (codes "signal") d) (get (codes "lost") d)
 
+-- what becomes of pending jobs in a command's way, by its word
+abbrev pub job_mode_of : List ℕ → Option JobMode
+job_mode_of text = if bytes_eq text (codes "replace") then Some Replace else if bytes_eq text (codes "fail") then Some Fail else None
+
+-- they are dropped where nothing is told
+abbrev pub job_mode_told : Option Data → Option JobMode
+job_mode_told None = Some Replace
+job_mode_told (Some d) = option_and_then job_mode_of (as_str d)
+
+-- the same by the object's field
+unfoldable pub job_mode_at : Data → Option JobMode
+job_mode_at d = job_mode_told (get (codes "mode") d)
+
 -- ---- what is asked for with them
 
 -- this, whatever the fields
@@ -124,9 +138,11 @@ remove d = do
 unfoldable pub of_unit : (List ℕ → Asked) → Data → Option Asking
 of_unit ask d = option_map (OfUnit ask) (text_at (codes "unit") d)
 
--- a command for the unit; pending jobs in its way are dropped
-abbrev pub for_unit : UnitVerb → Data → Option Asking
-for_unit verb = of_unit (λ unit. command (ForUnit verb unit Replace))
+-- a command for the unit
+unfoldable pub for_unit : UnitVerb → Data → Option Asking
+for_unit verb d = do
+  mode ← job_mode_at d
+  of_unit (λ unit. command (ForUnit verb unit mode)) d
 
 -- enabling the unit, or its kin
 abbrev pub install : InstallVerb → Data → Option Asking
@@ -171,8 +187,11 @@ row_of verb.PutFile = row (codes "put-file") everywhere (codes "path" ∷ codes 
 row_of verb.PutLink = row (codes "put-link") everywhere (codes "path" ∷ codes "target" ∷ []) [] put_link
 row_of verb.Remove = row (codes "remove") everywhere (codes "path" ∷ []) [] remove
 row_of verb.DaemonReload = row (codes "daemon-reload") everywhere [] [] (plainly (command DaemonReload))
-row_of verb.Start = row (codes "start") everywhere (codes "unit" ∷ []) [] (for_unit Start)
-row_of verb.Stop = row (codes "stop") everywhere (codes "unit" ∷ []) [] (for_unit Stop)
+row_of verb.Start = row (codes "start") everywhere (codes "unit" ∷ []) (codes "mode" ∷ []) (for_unit Start)
+row_of verb.Stop = row (codes "stop") everywhere (codes "unit" ∷ []) (codes "mode" ∷ []) (for_unit Stop)
+row_of verb.Restart = row (codes "restart") everywhere (codes "unit" ∷ []) (codes "mode" ∷ []) (for_unit Restart)
+row_of verb.TryRestart = row (codes "try-restart") everywhere (codes "unit" ∷ []) (codes "mode" ∷ []) (for_unit TryRestart)
+row_of verb.Cancel = row (codes "cancel") everywhere (codes "unit" ∷ []) [] (of_unit (λ unit. command (Cancel unit)))
 row_of verb.Enable = row (codes "enable") everywhere (codes "unit" ∷ []) [] (install Enable)
 row_of verb.Disable = row (codes "disable") everywhere (codes "unit" ∷ []) [] (install Disable)
 row_of verb.Mask = row (codes "mask") everywhere (codes "unit" ∷ []) [] (install Mask)
@@ -181,6 +200,7 @@ row_of verb.Show = row (codes "show") everywhere (codes "unit" ∷ []) [] (about
 row_of verb.IsActive = row (codes "is-active") everywhere (codes "unit" ∷ []) [] (about_unit IsActive)
 row_of verb.IsEnabled = row (codes "is-enabled") everywhere (codes "unit" ∷ []) [] (about_unit IsEnabled)
 row_of verb.Cat = row (codes "cat") everywhere (codes "unit" ∷ []) [] (about_unit Cat)
+row_of verb.ListJobs = row (codes "list-jobs") everywhere [] [] (plainly (OfQuery ListJobs))
 row_of verb.Tick = row (codes "tick") in_memory [] [] (plainly (OfEvent (Happened Tick)))
 row_of verb.End = row (codes "end") in_memory (codes "number" ∷ []) (codes "code" ∷ codes "signal" ∷ codes "lost" ∷ []) process_ended
 row_of verb.Actions = row (codes "actions") in_memory [] [] (plainly OfActions)
@@ -188,8 +208,9 @@ row_of verb.Actions = row (codes "actions") in_memory [] [] (plainly OfActions)
 -- all verbs
 abbrev pub verbs : List Verb
 verbs =
-    verb.PutFile ∷ verb.PutLink ∷ verb.Remove ∷ verb.DaemonReload ∷ verb.Start ∷ verb.Stop ∷ verb.Enable ∷ verb.Disable ∷ verb.Mask ∷ verb.Unmask
-    ∷ verb.Show ∷ verb.IsActive ∷ verb.IsEnabled ∷ verb.Cat ∷ verb.Tick ∷ verb.End ∷ verb.Actions ∷ []
+    verb.PutFile ∷ verb.PutLink ∷ verb.Remove ∷ verb.DaemonReload ∷ verb.Start ∷ verb.Stop ∷ verb.Restart ∷ verb.TryRestart ∷ verb.Cancel
+    ∷ verb.Enable ∷ verb.Disable ∷ verb.Mask ∷ verb.Unmask ∷ verb.Show ∷ verb.IsActive ∷ verb.IsEnabled ∷ verb.Cat ∷ verb.ListJobs
+    ∷ verb.Tick ∷ verb.End ∷ verb.Actions ∷ []
 
 -- ---- a request by its row
 

@@ -1,5 +1,5 @@
 ghost use Rattle.std.specs.Prelude.{◌≡◌};
-ghost use Rattle.um_model.specs.Jobs.{has_job};
+ghost use Rattle.um_model.specs.Jobs.{has_job, job_kind_text, job_state_text};
 
 /// What a job does to its unit (systemctl(1), "list-jobs").
 #[derive(Clone, Copy, Debug, PartialEq, Eq)]
@@ -13,6 +13,30 @@ pub enum JobKind {
 pub enum JobState {
     Waiting,
     Running,
+}
+
+impl JobKind {
+    /// The word for what the job does.
+    pub fn text(self) -> &'static str
+        ensures { result.now ≡ job_kind_text self }
+    {
+        match self {
+            JobKind::Stop => "stop",
+            JobKind::Start => "start",
+        }
+    }
+}
+
+impl JobState {
+    /// The word for how far the job is.
+    pub fn text(self) -> &'static str
+        ensures { result.now ≡ job_state_text self }
+    {
+        match self {
+            JobState::Waiting => "waiting",
+            JobState::Running => "running",
+        }
+    }
 }
 
 /// The pending jobs of one unit: its Stop and its Start, where there is one.

@@ -1,6 +1,6 @@
 -- Requests of the code as the requests of the definitions.
 use Rattle.std.specs.Prelude.{Bool, Result, Ok, Err}
-use Rattle.um_model.specs.Machine.{Happened, PutFile, PutLink, Remove, DaemonReload, ForUnit, Install, ProcessEnded, Tick, Show, IsActive, IsEnabled, Cat}
+use Rattle.um_model.specs.Machine.{Happened, PutFile, PutLink, Remove, DaemonReload, ForUnit, Cancel, Install, ProcessEnded, Tick, Show, IsActive, IsEnabled, Cat, ListJobs}
 use Rattle.um_model.specs.Refusals.{Refused, bad_request, unknown_verb}
 use Rattle.um_model.specs.Requests as model
 use Rattle.um_model.specs.declared.requests.Mode.{Mode}
@@ -36,11 +36,13 @@ asking_of (asking.PutLink path target) = model.Plainly (model.command (PutLink p
 asking_of (asking.Remove path) = model.Plainly (model.command (Remove path.now))
 asking_of asking.DaemonReload = model.Plainly (model.command DaemonReload)
 asking_of (asking.ForUnit verb unit mode) = model.OfUnit (λ u. model.command (ForUnit verb u mode)) unit.now
+asking_of (asking.Cancel unit) = model.OfUnit (λ u. model.command (Cancel u)) unit.now
 asking_of (asking.Install verb unit) = model.OfUnit (λ u. model.command (Install verb u)) unit.now
 asking_of (asking.Show unit) = model.OfUnit (λ u. model.OfQuery (Show u)) unit.now
 asking_of (asking.IsActive unit) = model.OfUnit (λ u. model.OfQuery (IsActive u)) unit.now
 asking_of (asking.Cat unit) = model.OfUnit (λ u. model.OfQuery (Cat u)) unit.now
 asking_of (asking.IsEnabled unit) = model.OfUnit (λ u. model.OfQuery (IsEnabled u)) unit.now
+asking_of asking.ListJobs = model.Plainly (model.OfQuery ListJobs)
 asking_of asking.Tick = model.Plainly (model.OfEvent (Happened Tick))
 asking_of (asking.ProcessEnded number end) = model.Plainly (model.OfEvent (Happened (ProcessEnded number end)))
 asking_of asking.Actions = model.Plainly model.OfActions

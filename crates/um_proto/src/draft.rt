@@ -5,7 +5,7 @@ ghost use Rattle.serde_json.specs.View.{view};
 ghost use Rattle.um_model.specs.Requests as model;
 ghost use Rattle.um_proto.specs.View.{asking_of, leads_to};
 
-use crate::fields::{end_at, has_its_fields, moment_at, number_at, text_at};
+use crate::fields::{end_at, has_its_fields, job_mode_at, moment_at, number_at, text_at};
 use crate::verb::verb_in;
 use serde_json::Value;
 use um_model::{End, InstallVerb, JobMode, Mode, Moment, UnitVerb, Verb};
@@ -30,6 +30,9 @@ pub enum Asking<'v> {
         unit: &'v str,
         mode: JobMode,
     },
+    Cancel {
+        unit: &'v str,
+    },
     Install {
         verb: InstallVerb,
         unit: &'v str,
@@ -46,6 +49,7 @@ pub enum Asking<'v> {
     IsEnabled {
         unit: &'v str,
     },
+    ListJobs,
     Tick,
     ProcessEnded {
         number: u64,
@@ -95,17 +99,14 @@ fn remove<'v>(value: &'v Value) -> Option<Asking<'v>>
     Some(Asking::Remove { path })
 }
 
-/// A command for a unit; pending jobs in its way are dropped.
-#[tactic(auto, unfolding(um_model::specs::Requests::of_unit))]
+/// A command for a unit.
+#[tactic(auto, unfolding(um_model::specs::Requests::for_unit, um_model::specs::Requests::of_unit))]
 fn for_unit<'v>(verb: UnitVerb, value: &'v Value) -> Option<Asking<'v>>
     ensures { option_map asking_of result ≡ model.for_unit verb (view value.now) }
 {
+    let mode = job_mode_at(value)?;
     let unit = text_at(value, "unit")?;
-    Some(Asking::ForUnit {
-        verb,
-        unit,
-        mode: JobMode::Replace,
-    })
+    Some(Asking::ForUnit { verb, unit, mode })
 }
 
 /// Enabling a unit, or its kin.
@@ -138,6 +139,12 @@ fn asking_with<'v>(verb: Verb, value: &'v Value) -> Option<Asking<'v>>
         Verb::DaemonReload => Some(Asking::DaemonReload),
         Verb::Start => for_unit(UnitVerb::Start, value),
         Verb::Stop => for_unit(UnitVerb::Stop, value),
+        Verb::Restart => for_unit(UnitVerb::Restart, value),
+        Verb::TryRestart => for_unit(UnitVerb::TryRestart, value),
+        Verb::Cancel => {
+            let unit = text_at(value, "unit")?;
+            Some(Asking::Cancel { unit })
+        }
         Verb::Enable => install(InstallVerb::Enable, value),
         Verb::Disable => install(InstallVerb::Disable, value),
         Verb::Mask => install(InstallVerb::Mask, value),
@@ -158,6 +165,7 @@ fn asking_with<'v>(verb: Verb, value: &'v Value) -> Option<Asking<'v>>
             let unit = text_at(value, "unit")?;
             Some(Asking::Cat { unit })
         }
+        Verb::ListJobs => Some(Asking::ListJobs),
         Verb::Tick => Some(Asking::Tick),
         Verb::End => process_ended(value),
         Verb::Actions => Some(Asking::Actions),

@@ -6,7 +6,7 @@ ghost use Rattle.um_model.specs.Requests as model;
 
 use crate::verb::{may_have, row_of};
 use serde_json::Value;
-use um_model::{End, Mode, Moment, Verb};
+use um_model::{End, JobMode, Mode, Moment, Verb};
 
 /// The text of a field: none where it is missing, no text, or has U+0000.
 #[tactic(auto, unfolding(um_model::specs::Requests::text_at))]
@@ -77,6 +77,22 @@ pub fn end_at(value: &Value) -> Option<End>
                 None
             }
         }
+        _ => None,
+    }
+}
+
+/// What becomes of pending jobs in a command's way; they are dropped where nothing is told. None where what is told is no such
+/// word.
+#[tactic(auto, unfolding(um_model::specs::Requests::job_mode_at))]
+pub fn job_mode_at(value: &Value) -> Option<JobMode>
+    ensures { result ≡ model.job_mode_at (view value.now) }
+{
+    let Some(field) = value.get("mode") else {
+        return Some(JobMode::Replace);
+    };
+    match field.as_str()? {
+        "replace" => Some(JobMode::Replace),
+        "fail" => Some(JobMode::Fail),
         _ => None,
     }
 }

@@ -75,6 +75,10 @@ fn asked_by(alloc: Global, asking: Asking) -> Result<Asked, Refusal>
             let unit = unit_named(alloc, unit)?;
             Ok(commanded(Command::ForUnit { verb, unit, mode }))
         }
+        Asking::Cancel { unit } => {
+            let unit = unit_named(alloc, unit)?;
+            Ok(commanded(Command::Cancel { unit }))
+        }
         Asking::Install { verb, unit } => {
             let unit = unit_named(alloc, unit)?;
             Ok(commanded(Command::Install { verb, unit }))
@@ -95,6 +99,7 @@ fn asked_by(alloc: Global, asking: Asking) -> Result<Asked, Refusal>
             let unit = unit_named(alloc, unit)?;
             Ok(Asked::Query(Query::IsEnabled { unit }))
         }
+        Asking::ListJobs => Ok(Asked::Query(Query::ListJobs)),
         Asking::Tick => Ok(happened(Happening::Tick)),
         Asking::ProcessEnded { number, end } => {
             Ok(happened(Happening::ProcessEnded { number, end }))

@@ -5,13 +5,16 @@ ghost use Rattle.um_proto.specs.View.{known_where};
 use um_model::{Mode, Verb};
 
 /// All verbs.
-const VERBS: [Verb; 17] = [
+const VERBS: [Verb; 21] = [
     Verb::PutFile,
     Verb::PutLink,
     Verb::Remove,
     Verb::DaemonReload,
     Verb::Start,
     Verb::Stop,
+    Verb::Restart,
+    Verb::TryRestart,
+    Verb::Cancel,
     Verb::Enable,
     Verb::Disable,
     Verb::Mask,
@@ -20,6 +23,7 @@ const VERBS: [Verb; 17] = [
     Verb::IsActive,
     Verb::IsEnabled,
     Verb::Cat,
+    Verb::ListJobs,
     Verb::Tick,
     Verb::End,
     Verb::Actions,
@@ -78,8 +82,11 @@ pub fn row_of(verb: Verb) -> Row
         Verb::PutLink => Row::of("put-link", Known::Everywhere, &["path", "target"], &[]),
         Verb::Remove => Row::of("remove", Known::Everywhere, &["path"], &[]),
         Verb::DaemonReload => Row::of("daemon-reload", Known::Everywhere, &[], &[]),
-        Verb::Start => Row::of("start", Known::Everywhere, &["unit"], &[]),
-        Verb::Stop => Row::of("stop", Known::Everywhere, &["unit"], &[]),
+        Verb::Start => Row::of("start", Known::Everywhere, &["unit"], &["mode"]),
+        Verb::Stop => Row::of("stop", Known::Everywhere, &["unit"], &["mode"]),
+        Verb::Restart => Row::of("restart", Known::Everywhere, &["unit"], &["mode"]),
+        Verb::TryRestart => Row::of("try-restart", Known::Everywhere, &["unit"], &["mode"]),
+        Verb::Cancel => Row::of("cancel", Known::Everywhere, &["unit"], &[]),
         Verb::Enable => Row::of("enable", Known::Everywhere, &["unit"], &[]),
         Verb::Disable => Row::of("disable", Known::Everywhere, &["unit"], &[]),
         Verb::Mask => Row::of("mask", Known::Everywhere, &["unit"], &[]),
@@ -88,6 +95,7 @@ pub fn row_of(verb: Verb) -> Row
         Verb::IsActive => Row::of("is-active", Known::Everywhere, &["unit"], &[]),
         Verb::IsEnabled => Row::of("is-enabled", Known::Everywhere, &["unit"], &[]),
         Verb::Cat => Row::of("cat", Known::Everywhere, &["unit"], &[]),
+        Verb::ListJobs => Row::of("list-jobs", Known::Everywhere, &[], &[]),
         Verb::Tick => Row::of("tick", Known::InMemory, &[], &[]),
         Verb::End => Row::of(
             "end",

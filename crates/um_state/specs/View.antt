@@ -14,6 +14,7 @@ use Rattle.um_state.specs.declared.input.Input.{Input}
 use Rattle.um_state.specs.declared.input.Query.{Query}
 use Rattle.um_state.specs.declared.input.Query.TheVariants as query
 pub use Rattle.um_service.specs.View.{action_of}
+pub use Rattle.um_state.specs.Shown.{job_of}
 use Rattle.um_state.specs.declared.reply.UnitShown.{UnitShown}
 use Rattle.um_state.specs.declared.reply.Reply.{Reply}
 use Rattle.um_state.specs.declared.reply.Reply.TheVariants as reply
@@ -25,6 +26,7 @@ command_of (command.PutLink path target) = model.PutLink (string_bytes path) (st
 command_of (command.Remove path) = model.Remove (string_bytes path)
 command_of command.DaemonReload = model.DaemonReload
 command_of (command.ForUnit verb unit mode) = model.ForUnit verb unit mode
+command_of (command.Cancel unit) = model.Cancel unit
 command_of (command.Install verb unit) = model.Install verb unit
 
 abbrev pub happening_of : Happening → model.Happening
@@ -43,6 +45,7 @@ query_of (query.Show unit) = model.Show unit
 query_of (query.IsActive unit) = model.IsActive unit
 query_of (query.Cat unit) = model.Cat unit
 query_of (query.IsEnabled unit) = model.IsEnabled unit
+query_of query.ListJobs = model.ListJobs
 
 abbrev pub shown_of : UnitShown → model.UnitShown
 shown_of u = record {
@@ -60,6 +63,7 @@ reply_of (reply.Activity state) = model.Activity state
 reply_of (reply.Files files) = model.Files (map file_of files.items)
 reply_of (reply.Relinked made removed) = model.Relinked (map string_bytes made.items) (map string_bytes removed.items)
 reply_of (reply.EnabledAs answer) = model.EnabledAs answer
+reply_of (reply.Jobs jobs) = model.Jobs (map job_of jobs.items)
 reply_of (reply.Told actions) = model.Told (map action_of actions.items)
 reply_of (reply.Refused r) = model.Refusal (refused_of r)
 

@@ -29,6 +29,10 @@ pub enum Command {
         unit: UnitName,
         mode: JobMode,
     },
+    /// Drop the waiting jobs of the unit (systemctl(1), `cancel`).
+    Cancel {
+        unit: UnitName,
+    },
     /// Enable the unit, disable, mask or unmask it (systemctl(1)), and load the tree that comes of it.
     Install {
         verb: InstallVerb,
@@ -95,4 +99,6 @@ pub enum Query {
     Cat { unit: UnitName },
     /// How it is enabled in the tree in hand (systemctl(1), `is-enabled`).
     IsEnabled { unit: UnitName },
+    /// The pending jobs (systemctl(1), `list-jobs`).
+    ListJobs,
 }

@@ -1,4 +1,5 @@
-use um_model::{ActiveState, Enabling, LoadState, UnitState};
+use um_model::{ActiveState, Enabling, JobKind, JobState, LoadState, UnitState};
+use um_name::UnitName;
 use um_resolve::UnitFile;
 use um_service::Action;
 use um_unit::Warning;
@@ -17,6 +18,14 @@ pub struct UnitShown {
     pub state: UnitState,
 }
 
+/// A pending job as `list-jobs` tells it.
+#[derive(Debug, Drop)]
+pub struct JobShown {
+    pub unit: UnitName,
+    pub kind: JobKind,
+    pub state: JobState,
+}
+
 /// What is answered.
 #[derive(Debug, Drop)]
 pub enum Reply {
@@ -33,6 +42,8 @@ pub enum Reply {
     },
     /// How a unit is enabled.
     EnabledAs(Enabling),
+    /// The pending jobs in the order of the names of their units, of one unit the stop job first.
+    Jobs(Vec<JobShown>),
     /// The actions since they were last asked for.
     Told(Vec<Action>),
     Refused(Refusal),

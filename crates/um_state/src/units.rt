@@ -1,13 +1,15 @@
-ghost use Rattle.std.specs.Prelude.{◌≡◌, ◌↔◌, is_some, IsTrue, MatchOption, IfOk, OnOk, OnErr};
+ghost use Rattle.std.specs.Prelude.{◌≡◌, ◌↔◌, ◌++◌, map, is_some, IsTrue, MatchOption, IfOk, OnOk, OnErr};
 ghost use Rattle.std.specs.Coded.{codes};
-ghost use Rattle.std.specs.FinMap as map;
-ghost use Rattle.um_model.specs.Jobs.{Job, Unordered, IsReady, BeginsNext, AreTidyJobs, jobs_of_unit, with_jobs};
+ghost use Rattle.std.specs.FinMap as maps;
+ghost use Rattle.um_model.specs.Jobs.{Job, Unordered, IsReady, BeginsNext, AreTidyJobs, job_shown, jobs_shown_of, jobs_shown, jobs_of_unit, with_jobs};
 ghost use Rattle.um_model.specs.Machine.{IsOver, IsProcessOf, AreDeadlines};
 ghost use Rattle.um_model.specs.Service.{ByUnit, AreTidyUnits, state_of_unit, with_unit};
 ghost use Rattle.um_model.specs.declared.jobs.UnitJobs as jobs;
 ghost use Rattle.um_model.specs.declared.service.UnitState as unit;
 ghost use Rattle.um_state.specs.Ready.{ready_kind};
+ghost use Rattle.um_state.specs.Shown.{job_of};
 
+use crate::reply::JobShown;
 use std::alloc::{AllocError, Global};
 use std::collections::BTreeMap;
 use std::marker::Model;
@@ -25,17 +27,17 @@ pub struct Units {
 impl Model for Units {
     ghost Value = { ByUnit unit.UnitState };
 
-    ghost coded = { Prim.hlevel (codes, map.code) };
+    ghost coded = { Prim.hlevel (codes, maps.code) };
 
-    ghost view = { λ u. map.from_entries u.entries.entries };
+    ghost view = { λ u. maps.from_entries u.entries.entries };
 
-    ghost invariant = { λ u. AreTidyUnits (map.from_entries u.entries.entries) };
+    ghost invariant = { λ u. AreTidyUnits (maps.from_entries u.entries.entries) };
 }
 
 impl Units {
     /// Nothing of any unit. It takes no memory.
     pub fn new(alloc: Global) -> Units
-        ensures { result ≡ map.empty }
+        ensures { result ≡ maps.empty }
     {
         Units {
             alloc,
@@ -56,7 +58,7 @@ impl Units {
 
     /// Whether the state holds anything of the unit. It takes no memory.
     pub fn holds(&self, unit: &UnitName) -> bool
-        ensures { result ≡ is_some (map.get self.now unit.now) }
+        ensures { result ≡ is_some (maps.get self.now unit.now) }
     {
         self.entries.contains_key(unit)
     }
@@ -132,6 +134,31 @@ fn ready_kind(active: ActiveState, jobs: UnitJobs) -> Option<JobKind>
     }
 }
 
+/// Tells a job of this kind, if it is pending, behind the others.
+fn push_job(
+    shown: &mut Vec<JobShown>,
+    unit: &UnitName,
+    kind: JobKind,
+    job: Option<JobState>,
+) -> Result<(), AllocError>
+    ensures { OnOk result (map job_of shown.new.items ≡ map job_of shown.old.items ++ job_shown unit.now kind job) }
+{
+    let Some(state) = job else {
+        return Ok(());
+    };
+    let unit = unit.copy()?;
+    shown.push(JobShown { unit, kind, state })?;
+    Ok(())
+}
+
+/// Tells the pending jobs of a unit behind the others, its stop job first.
+fn push_jobs(shown: &mut Vec<JobShown>, unit: &UnitName, jobs: UnitJobs) -> Result<(), AllocError>
+    ensures { OnOk result (map job_of shown.new.items ≡ map job_of shown.old.items ++ jobs_shown_of unit.now jobs) }
+{
+    push_job(shown, unit, JobKind::Stop, jobs.stop)?;
+    push_job(shown, unit, JobKind::Start, jobs.start)
+}
+
 /// The pending jobs of units, by name: those of which a job is pending.
 #[derive(Drop)]
 pub struct Pending {
@@ -142,17 +169,17 @@ pub struct Pending {
 impl Model for Pending {
     ghost Value = { ByUnit jobs.UnitJobs };
 
-    ghost coded = { Prim.hlevel (codes, map.code) };
+    ghost coded = { Prim.hlevel (codes, maps.code) };
 
-    ghost view = { λ p. map.from_entries p.entries.entries };
+    ghost view = { λ p. maps.from_entries p.entries.entries };
 
-    ghost invariant = { λ p. AreTidyJobs (map.from_entries p.entries.entries) };
+    ghost invariant = { λ p. AreTidyJobs (maps.from_entries p.entries.entries) };
 }
 
 impl Pending {
     /// No job. It takes no memory.
     pub fn new(alloc: Global) -> Pending
-        ensures { result ≡ map.empty }
+        ensures { result ≡ maps.empty }
     {
         Pending {
             alloc,
@@ -197,6 +224,17 @@ impl Pending {
             }
         }
         None
+    }
+
+    /// The pending jobs as they are told: in the order of the names of their units, of one unit the stop job first.
+    pub fn shown(&self) -> Result<Vec<JobShown>, AllocError>
+        ensures { IfOk result (λ shown. map job_of shown.items ≡ jobs_shown self.now) }
+    {
+        let mut shown = Vec::new(self.alloc);
+        for (unit, jobs) in self.entries.iter() {
+            push_jobs(&mut shown, unit, *jobs)?;
+        }
+        Ok(shown)
     }
 
     /// Whether the other holds the same jobs. It takes no memory.

@@ -1,6 +1,6 @@
 use Rattle.std.proofs.lemmas.Result.{IfOk-weaker}
 use Rattle.um_state.specs.View.{state_of, reply_of}
-use Rattle.um_engine.proofs.Answered.{shows_so, tells_activity_so, tells_files_so, tells_enabling_so}
+use Rattle.um_engine.proofs.Answered.{shows_so, tells_activity_so, tells_files_so, tells_enabling_so, lists_jobs_so}
 use Rattle.um_engine.proofs.answer.reply_to.Goals as goal
 
 pub returns-in-Show : goal.returns-in-Show
@@ -20,3 +20,7 @@ pub returns-in-IsEnabled : goal.returns-in-IsEnabled
 returns-in-IsEnabled c =
     let enabled = rw c.tree-in-IsEnabled.ensures at c.enabled_as.ensures in
     rw c.in-IsEnabled.is (IfOk-weaker c.enabled_as.result _ _ (λ r is. tells_enabling_so (state_of c.args.state.now) c.in-IsEnabled.unit (reply_of r) is) enabled)
+
+pub returns-in-ListJobs : goal.returns-in-ListJobs
+returns-in-ListJobs c =
+    rw c.in-ListJobs.is (IfOk-weaker c.list_jobs.result _ _ (λ r is. lists_jobs_so (state_of c.args.state.now) (reply_of r) is) c.list_jobs.ensures)
