@@ -49,3 +49,4 @@ pub mod EnablingLaws
 pub mod DemandsLaws
 pub mod PlanLaws
 pub mod DemandedLaws
+pub mod CycleLaws
