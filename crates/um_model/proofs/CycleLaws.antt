@@ -65,6 +65,41 @@ least_unit_first P cycle c =
     let d = least_turned AtMost (λ x y. either_at_most x.unit y.unit) (λ x y z f g. at_most_trans x.unit y.unit z.unit f g) P cycle c in
     (d.0, d.1, least_units d.0 d.2)
 
+-- ---- the pending jobs are finitely many
+
+-- the jobs of these units
+abbrev jobs_of : List (List ℕ) → List Job
+jobs_of [] = []
+jobs_of (unit ∷ units) = stop_job unit ∷ start_job unit ∷ jobs_of units
+
+here : (unit : List ℕ) (units : List (List ℕ)) (kind : JobKind) → Among (jobs_of (unit ∷ units)) (record { unit = unit; kind = kind })
+here unit units Stop = inl refl
+here unit units Start = inr (inl refl)
+
+among_jobs : (units : List (List ℕ)) (unit : List ℕ) (kind : JobKind) → Among units unit → Among (jobs_of units) (record { unit = unit; kind = kind })
+among_jobs [] unit kind none = none
+among_jobs (first ∷ units) unit kind (inl is) =
+    subst (λ u. Among (jobs_of (first ∷ units)) (record { unit = u; kind = kind })) (sym is) (here first units kind)
+among_jobs (first ∷ units) unit kind (inr later) = inr (inr (among_jobs units unit kind later))
+
+job_of_none : (kind : JobKind) → job_of kind no_jobs ≡ None
+job_of_none Stop = refl
+job_of_none Start = refl
+
+-- a unit with a pending job is held
+pub held : (pending : ByUnit UnitJobs) (job : Job) → IsPending pending job → is_some (map.get pending job.unit) ≡ true
+held pending job pends = by_entry (map.get pending job.unit) refl
+  where
+    by_entry : (o : Option UnitJobs) → map.get pending job.unit ≡ o → is_some o ≡ true
+    by_entry (Some j) e = refl
+    by_entry None e = absurd (pends (ap (λ o. job_of job.kind (unwrap_or o no_jobs)) e ∙ job_of_none job.kind))
+
+among_pending : (pending : ByUnit UnitJobs) (job : Job) → IsPending pending job → Among (jobs_of (map.keys pending)) job
+among_pending pending job pends = among_jobs (map.keys pending) job.unit job.kind (among_keys pending job.unit (held pending job pends))
+
+waits_pending : (pending : ByUnit UnitJobs) (job : Job) → IsWaiting pending job → IsPending pending job
+waits_pending pending job waits none = none-some Waiting (sym none ∙ waits)
+
 -- ---- which job comes before which is decided
 
 module _ (IsBefore : List ℕ → List ℕ → Type 0) where
@@ -111,42 +146,9 @@ module _ (IsBefore : List ℕ → List ℕ → Type 0) where
           there : IsPending pending job × (IsWaiting pending other × GoesBefore IsBefore job other) → ComesBefore IsBefore pending job other
           there both = record { pends = both.0; waits = both.1.0; goes = both.1.1 }
 
-      -- the jobs of these units
-      abbrev jobs_of : List (List ℕ) → List Job
-      jobs_of [] = []
-      jobs_of (unit ∷ units) = stop_job unit ∷ start_job unit ∷ jobs_of units
-
-      here : (unit : List ℕ) (units : List (List ℕ)) (kind : JobKind) → Among (jobs_of (unit ∷ units)) (record { unit = unit; kind = kind })
-      here unit units Stop = inl refl
-      here unit units Start = inr (inl refl)
-
-      among_jobs : (units : List (List ℕ)) (unit : List ℕ) (kind : JobKind) → Among units unit → Among (jobs_of units) (record { unit = unit; kind = kind })
-      among_jobs [] unit kind none = none
-      among_jobs (first ∷ units) unit kind (inl is) =
-          subst (λ u. Among (jobs_of (first ∷ units)) (record { unit = u; kind = kind })) (sym is) (here first units kind)
-      among_jobs (first ∷ units) unit kind (inr later) = inr (inr (among_jobs units unit kind later))
-
-      job_of_none : (kind : JobKind) → job_of kind no_jobs ≡ None
-      job_of_none Stop = refl
-      job_of_none Start = refl
-
-      -- a unit with a pending job is held
-      held : (job : Job) → IsPending pending job → is_some (map.get pending job.unit) ≡ true
-      held job pends = by_entry (map.get pending job.unit) refl
-        where
-          by_entry : (o : Option UnitJobs) → map.get pending job.unit ≡ o → is_some o ≡ true
-          by_entry (Some j) e = refl
-          by_entry None e = absurd (pends (ap (λ o. job_of job.kind (unwrap_or o no_jobs)) e ∙ job_of_none job.kind))
-
-      among_pending : (job : Job) → IsPending pending job → Among (jobs_of (map.keys pending)) job
-      among_pending job pends = among_jobs (map.keys pending) job.unit job.kind (among_keys pending job.unit (held job pends))
-
-      waits_pending : (job : Job) → IsWaiting pending job → IsPending pending job
-      waits_pending job waits none = none-some Waiting (sym none ∙ waits)
-
       covers : (job other : Job) → ComesBefore IsBefore pending job other
           → Among (jobs_of (map.keys pending)) job × Among (jobs_of (map.keys pending)) other
-      covers job other c = (among_pending job c.pends, among_pending other (waits_pending other c.waits))
+      covers job other c = (among_pending pending job c.pends, among_pending pending other (waits_pending pending other c.waits))
 
       -- the pending jobs have a cycle or none
       pub jobs_cycle_or_none : ((cycle : List Job) × IsCycle (ComesBefore IsBefore pending) cycle) ⊎ ((cycle : List Job) → ¬ (IsCycle (ComesBefore IsBefore pending) cycle))
@@ -156,9 +158,9 @@ module _ (IsBefore : List ℕ → List ℕ → Type 0) where
       pub a_first_job : ((cycle : List Job) → ¬ (IsCycle (ComesBefore IsBefore pending) cycle)) → (job : Job) → IsWaiting pending job
           → (found : Job) × IsPending pending found × IsFirstOf (ComesBefore IsBefore pending) job found
       a_first_job none job waits =
-          let b = first_of_all (ComesBefore IsBefore pending) (jobs_of (map.keys pending)) covers comes_or_not none job (among_pending job (waits_pending job waits)) in
+          let b = first_of_all (ComesBefore IsBefore pending) (jobs_of (map.keys pending)) covers comes_or_not none job (among_pending pending job (waits_pending pending job waits)) in
           (b.0, pends b.0 b.2.leads, b.2)
         where
           pends : (found : Job) → (found ≡ job) ⊎ LeadsOn (ComesBefore IsBefore pending) found job → IsPending pending found
-          pends found (inl is) = subst (IsPending pending) (sym is) (waits_pending job waits)
+          pends found (inl is) = subst (IsPending pending) (sym is) (waits_pending pending job waits)
           pends found (inr r) = (sets_out (ComesBefore IsBefore pending) found job r).1.pends
