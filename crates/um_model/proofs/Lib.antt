@@ -50,3 +50,4 @@ pub mod DemandsLaws
 pub mod PlanLaws
 pub mod DemandedLaws
 pub mod CycleLaws
+pub mod PlannedLaws
