@@ -48,3 +48,6 @@ pub mod LoadsLaws
 pub mod EnablingLaws
 pub mod DemandsLaws
 pub mod PlanLaws
+pub mod DemandedLaws
+pub mod CycleLaws
+pub mod PlannedLaws

@@ -1,0 +1,340 @@
+-- A transaction has one plan, and is refused for one cause or none: where finitely many units depend on one another and what a scene says
+-- is decided.
+use Rattle.std.proofs.Common.{◌≡◌, ◌≢◌, ◌⊎◌, ◌∙◌, ℕ, List, [], ◌∷◌, ◌++◌, Option, Some, None, is_some, unwrap_or, refl, sym, ap, subst, inl, inr}
+use Rattle.std.proofs.lemmas.Option.{none-some}
+use Rattle.std.specs.FinMap as map
+use Rattle.std.specs.Cmp.Lexicographic.{slice_cmp}
+use Rattle.std.specs.Ordering.{nat_cmp}
+use Rattle.um_model.specs.Demands.{IsStarting, starts, restarts}
+use Rattle.um_model.specs.Jobs.{Job, AreTidyJobs, ComesBefore, DropsOne, drops, job_of, jobs_of_unit, no_jobs, with_jobs}
+use Rattle.um_model.specs.Least.{IsLeast, IsNamedBefore}
+use Rattle.um_model.specs.Order.{IsCycle}
+use Rattle.um_model.specs.Plan.{BeginsWithLeast, CausesOfPlan, Clashes, Counts, Demands, IsActive, IsBarred, IsPlan, IsStarted, NamesBarred, NamesClash, NamesCycle, NamesDrop, Scene}
+use Rattle.um_model.specs.Plan.{jobs_for, restarted, started, stopped, left, units_of}
+use Rattle.um_model.specs.Refusals.{Refused, FirstCause, at_first, at_second, clash, job_conflict, ordering_cycle}
+use Rattle.um_model.specs.Service.{ByUnit}
+use Rattle.um_model.specs.declared.commands.JobMode.{JobMode}
+use Rattle.um_model.specs.declared.commands.JobMode.TheVariants.{Fail, Replace}
+use Rattle.um_model.specs.declared.dependencies.Demand.{Demand}
+use Rattle.um_model.specs.declared.dependencies.Demand.TheVariants.{Start, Stop, Restart}
+use Rattle.um_model.specs.declared.dependencies.DependencyKind.{DependencyKind}
+use Rattle.um_model.specs.declared.jobs.JobKind.{JobKind}
+use Rattle.um_model.specs.declared.jobs.JobKind.TheVariants as job
+use Rattle.um_model.specs.declared.jobs.JobState.{JobState}
+use Rattle.um_model.specs.declared.jobs.UnitJobs.{UnitJobs}
+use Rattle.um_model.specs.declared.service.ActiveState.{ActiveState}
+use Rattle.um_model.specs.declared.service.ActiveState.TheVariants.{Inactive, Activating, Active, Deactivating, Failed}
+use Rattle.um_model.proofs.AmongLaws.{among_left, among_or_not, among_right, both_decided, decided_as, either_decided}
+use Rattle.um_model.proofs.CausesLaws.{OneOrNone, first_or_none}
+use Rattle.um_model.proofs.CycleLaws.{held, jobs_cycle_or_none, least_unit_first}
+use Rattle.um_model.proofs.DemandedLaws.{demanded_or_not, demanded_within}
+use Rattle.um_model.proofs.LeastLaws.{IsDecided, Among, a_least, one_least}
+use Rattle.um_model.proofs.SameUnits.{same_job_state}
+use Rattle.um_model.proofs.TimersLaws.{among_keys, named_trans, names_one_way, one_named_first, same_name, same_option}
+use Rattle.um_model.proofs.UnitLaws.{jobs_apart, jobs_here, same_tidy, tidy_empty, tidy_jobs}
+
+-- finitely many units depend on one another, what the scene says of them is decided, and a unit can't be started for one reason or none
+pub record IsFinite (scene : Scene) (units : List (List ℕ)) : Type 0 where
+  pub within : (kind : DependencyKind) (x y : List ℕ) → scene.Depends kind x y → Among units x × Among units y
+  pub depends : (kind : DependencyKind) (x y : List ℕ) → IsDecided (scene.Depends kind x y)
+  pub before : (x y : List ℕ) → IsDecided (scene.IsBefore x y)
+  pub loadable : (x : List ℕ) → IsDecided (scene.IsLoadable x)
+  pub cannot : (x : List ℕ) → OneOrNone (scene.CannotStart x)
+  pub one_cannot : (x : List ℕ) (r q : Refused) → scene.CannotStart x r → scene.CannotStart x q → r ≡ q
+
+active_or_not : (a : ActiveState) → IsDecided (a ≡ Active)
+active_or_not Inactive = inr (λ is. cc)
+active_or_not Activating = inr (λ is. cc)
+active_or_not Active = inl refl
+active_or_not Deactivating = inr (λ is. cc)
+active_or_not Failed = inr (λ is. cc)
+
+-- ---- one demand counts for each unit
+
+-- at most one demand counts for a unit
+pub counts_one : (scene : Scene) (root : Demand × List ℕ) (unit : List ℕ) (a b : Option Demand) → Counts scene root unit a → Counts scene root unit b → a ≡ b
+counts_one scene root unit a b (restarted r) (restarted s) = refl
+counts_one scene root unit a b (restarted r) (started nr s) = absurd (nr r)
+counts_one scene root unit a b (restarted r) (stopped nr ns s) = absurd (nr r)
+counts_one scene root unit a b (restarted r) (left nr ns np) = absurd (nr r)
+counts_one scene root unit a b (started nr s) (restarted r) = absurd (nr r)
+counts_one scene root unit a b (started nr s) (started nr' t) = refl
+counts_one scene root unit a b (started nr s) (stopped nr' ns t) = absurd (ns s)
+counts_one scene root unit a b (started nr s) (left nr' ns np) = absurd (ns s)
+counts_one scene root unit a b (stopped nr ns p) (restarted r) = absurd (nr r)
+counts_one scene root unit a b (stopped nr ns p) (started nr' s) = absurd (ns s)
+counts_one scene root unit a b (stopped nr ns p) (stopped nr' ns' q) = refl
+counts_one scene root unit a b (stopped nr ns p) (left nr' ns' np) = absurd (np p)
+counts_one scene root unit a b (left nr ns np) (restarted r) = absurd (nr r)
+counts_one scene root unit a b (left nr ns np) (started nr' s) = absurd (ns s)
+counts_one scene root unit a b (left nr ns np) (stopped nr' ns' p) = absurd (np p)
+counts_one scene root unit a b (left nr ns np) (left nr' ns' np') = refl
+
+-- nothing counts for a unit of which nothing is demanded
+none_counts : (scene : Scene) (root : Demand × List ℕ) (unit : List ℕ) (counted : Option Demand) → ((d : Demand) → ¬ (Demands scene root (d, unit)))
+    → Counts scene root unit counted → counted ≡ None
+none_counts scene root unit counted none (restarted r) = absurd (none Restart r)
+none_counts scene root unit counted none (started nr s) = absurd (none Start s)
+none_counts scene root unit counted none (stopped nr ns p) = absurd (none Stop p)
+none_counts scene root unit counted none (left nr ns np) = refl
+
+-- a unit that isn't held has no jobs
+not_held : (pending : ByUnit UnitJobs) (unit : List ℕ) → ¬ (Among (map.keys pending) unit) → jobs_of_unit pending unit ≡ no_jobs
+not_held pending unit none = by_entry (map.get pending unit) refl
+  where
+    by_entry : (o : Option UnitJobs) → map.get pending unit ≡ o → unwrap_or (map.get pending unit) no_jobs ≡ no_jobs
+    by_entry None e = ap (λ o. unwrap_or o no_jobs) e
+    by_entry (Some j) e = absurd (none (among_keys pending unit (ap is_some e)))
+
+-- ---- why a plan is refused
+
+-- none has it, or one is the least
+abbrev NoneOrLeast : (List ℕ → Type 0) → Type 0
+NoneOrLeast Has = ((unit : List ℕ) → ¬ (Has unit)) ⊎ ((unit : List ℕ) × IsLeast IsNamedBefore Has unit)
+
+least_or_none : (Has : List ℕ → Type 0) → ((unit : List ℕ) → IsDecided (Has unit)) → (cover : List (List ℕ)) → ((unit : List ℕ) → Has unit → Among cover unit) → NoneOrLeast Has
+least_or_none Has decided cover covers = a_least IsNamedBefore Has same_name named_trans one_named_first decided cover covers
+
+-- the job of this kind is dropped
+abbrev Drops : UnitJobs → UnitJobs → JobKind → Type 0
+Drops before after kind = (state : JobState) × (job_of kind before ≡ Some state) × (job_of kind after ≢ Some state)
+
+drops_or_not : (before after : UnitJobs) (kind : JobKind) → IsDecided (Drops before after kind)
+drops_or_not before after kind = by_job (job_of kind before) refl
+  where
+    by_job : (o : Option JobState) → job_of kind before ≡ o → IsDecided (Drops before after kind)
+    by_job None e = inr (λ dropped. none-some dropped.0 (sym e ∙ dropped.1))
+    by_job (Some state) e = elim (same_option same_job_state (job_of kind after) (Some state)) as (λ _. IsDecided (Drops before after kind)) [
+      | inr apart ↦ inl (state, e, apart)
+      | inl stays ↦ inr (λ dropped. dropped.2 (stays ∙ (sym e ∙ dropped.1)))
+    ]
+
+-- one of the jobs of a unit is dropped or none is
+pub one_dropped : (before after : UnitJobs) → IsDecided (DropsOne before after)
+one_dropped before after = decided_as there (back before after) (either_decided (drops_or_not before after job.Stop) (drops_or_not before after job.Start))
+  where
+    there : Drops before after job.Stop ⊎ Drops before after job.Start → DropsOne before after
+    there (inl d) = drops job.Stop d.0 d.1 d.2
+    there (inr d) = drops job.Start d.0 d.1 d.2
+
+    back : (b a : UnitJobs) → DropsOne b a → Drops b a job.Stop ⊎ Drops b a job.Start
+    back b a (drops job.Stop state was isnt) = inl (state, was, isnt)
+    back b a (drops job.Start state was isnt) = inr (state, was, isnt)
+
+-- a unit of which a job is dropped is held
+dropped_held : (before : ByUnit UnitJobs) (unit : List ℕ) (after : UnitJobs) → DropsOne (jobs_of_unit before unit) after → Among (map.keys before) unit
+dropped_held before unit after (drops kind state was isnt) =
+    among_keys before unit (held before (record { unit = unit; kind = kind }) (λ none. none-some state (sym none ∙ was)))
+
+-- a job of the unit is dropped
+abbrev DropsAt : ByUnit UnitJobs → ByUnit UnitJobs → List ℕ → Type 0
+DropsAt before after unit = DropsOne (jobs_of_unit before unit) (jobs_of_unit after unit)
+
+drop_or_none : (mode : JobMode) (before after : ByUnit UnitJobs) → OneOrNone (NamesDrop mode before after)
+drop_or_none Replace before after = inr (λ r h. let is = h.fails in cc)
+drop_or_none Fail before after =
+    by_least (least_or_none (DropsAt before after) (λ unit. one_dropped (jobs_of_unit before unit) (jobs_of_unit after unit)) (map.keys before)
+    (λ unit d. dropped_held before unit (jobs_of_unit after unit) d))
+  where
+    by_least : NoneOrLeast (DropsAt before after) → OneOrNone (NamesDrop Fail before after)
+    by_least (inl none) = inr (λ r h. none h.unit h.least.has)
+    by_least (inr found) = inl (job_conflict found.0, record { fails = refl; unit = found.0; least = found.1; refusal = refl })
+
+one_drop : (mode : JobMode) (before after : ByUnit UnitJobs) (r q : Refused) → NamesDrop mode before after r → NamesDrop mode before after q → r ≡ q
+one_drop mode before after r q h k =
+    h.refusal ∙ (ap job_conflict (one_least IsNamedBefore (DropsAt before after) names_one_way same_name h.unit k.unit h.least k.least) ∙ sym k.refusal)
+
+one_clash : (scene : Scene) (root : Demand × List ℕ) (r q : Refused) → NamesClash scene root r → NamesClash scene root q → r ≡ q
+one_clash scene root r q h k =
+    h.refusal ∙ (ap clash (one_least IsNamedBefore (Clashes scene root) names_one_way same_name h.unit k.unit h.least k.least) ∙ sym k.refusal)
+
+-- two refusals for the first cause that holds are the same, unless both are for the last
+one_unless : (A B C : Refused → Type 0) → ((r q : Refused) → A r → A q → r ≡ q) → ((r q : Refused) → B r → B q → (r ≡ q) ⊎ (C r × C q))
+    → (r q : Refused) → FirstCause A B r → FirstCause A B q → (r ≡ q) ⊎ (C r × C q)
+one_unless A B C one other r q (at_first h) (at_first k) = inl (one r q h k)
+one_unless A B C one other r q (at_first h) (at_second none k) = absurd (none r h)
+one_unless A B C one other r q (at_second none h) (at_first k) = absurd (none q k)
+one_unless A B C one other r q (at_second none h) (at_second neither k) = other r q h k
+
+-- where no cause refuses the plan, its jobs have no cycle
+pub free_of_causes : (scene : Scene) (root : Demand × List ℕ) (mode : JobMode) (after : ByUnit UnitJobs) → ((r : Refused) → ¬ (CausesOfPlan scene root mode after r))
+    → (cycle : List Job) → ¬ (IsCycle (ComesBefore scene.IsBefore after) cycle)
+free_of_causes scene root mode after none cycle c = none (ordering_cycle (units_of turned.0)) (last (record { cycle = turned.0; closed = turned.1; least = turned.2; refusal = refl }))
+  where
+    turned : (d : List Job) × IsCycle (ComesBefore scene.IsBefore after) d × BeginsWithLeast (units_of d)
+    turned = least_unit_first (ComesBefore scene.IsBefore after) cycle c
+
+    last : NamesCycle scene.IsBefore after (ordering_cycle (units_of turned.0)) → CausesOfPlan scene root mode after (ordering_cycle (units_of turned.0))
+    last h =
+        at_second (λ r barred. none r (at_first barred))
+        (at_second (λ r clashes. none r (at_second (λ q barred. none q (at_first barred)) (at_first clashes)))
+        (at_second (λ r dropped. none r (at_second (λ q barred. none q (at_first barred))
+        (at_second (λ q clashes. none q (at_second (λ x barred. none x (at_first barred)) (at_first clashes))) (at_first dropped)))) h))
+
+-- ---- of finitely many units
+
+module _ (scene : Scene) (units : List (List ℕ)) (finite : IsFinite scene units) (root : Demand × List ℕ) where
+  demands_or_not : (p : Demand × List ℕ) → IsDecided (Demands scene root p)
+  demands_or_not =
+      demanded_or_not scene.Depends (IsActive scene) scene.IsLoadable units finite.within same_name finite.depends (λ x. active_or_not (scene.activity x)) finite.loadable root
+
+  demands_within : (p : Demand × List ℕ) → Demands scene root p → Among (root.1 ∷ units) p.1
+  demands_within =
+      demanded_within scene.Depends (IsActive scene) scene.IsLoadable units finite.within same_name finite.depends (λ x. active_or_not (scene.activity x)) finite.loadable root
+
+  -- for each unit a demand counts, or none
+  pub counts_some : (unit : List ℕ) → (counted : Option Demand) × Counts scene root unit counted
+  counts_some unit = by_demands (demands_or_not (Restart, unit)) (demands_or_not (Start, unit)) (demands_or_not (Stop, unit))
+    where
+      by_demands : IsDecided (Demands scene root (Restart, unit)) → IsDecided (Demands scene root (Start, unit)) → IsDecided (Demands scene root (Stop, unit))
+          → (counted : Option Demand) × Counts scene root unit counted
+      by_demands (inl r) start stop = (Some Restart, restarted r)
+      by_demands (inr nr) (inl s) stop = (Some Start, started nr s)
+      by_demands (inr nr) (inr ns) (inl p) = (Some Stop, stopped nr ns p)
+      by_demands (inr nr) (inr ns) (inr np) = (None, left nr ns np)
+
+  -- ---- one plan
+
+  -- two plans are the same
+  pub one_plan : (u v : ByUnit UnitJobs) → IsPlan scene root u → IsPlan scene root v → u ≡ v
+  one_plan u v p q = same_tidy no_jobs u v p.tidy q.tidy same_jobs
+    where
+      same_jobs : (unit : List ℕ) → jobs_of_unit u unit ≡ jobs_of_unit v unit
+      same_jobs unit = let c = counts_some unit in p.jobs unit c.0 c.1 ∙ sym (q.jobs unit c.0 c.1)
+
+  -- what the demand that counts for the unit makes of its jobs
+  planned_jobs : List ℕ → UnitJobs
+  planned_jobs unit = jobs_for (counts_some unit).0 (scene.activity unit) (jobs_of_unit scene.pending unit)
+
+  -- the plan of these units
+  plan_over : List (List ℕ) → ByUnit UnitJobs
+  plan_over [] = map.empty
+  plan_over (unit ∷ others) = with_jobs (plan_over others) unit (planned_jobs unit)
+
+  plan_tidy : (over : List (List ℕ)) → AreTidyJobs (plan_over over)
+  unfolding plan_over
+  plan_tidy [] = tidy_empty no_jobs
+  plan_tidy (unit ∷ others) = tidy_jobs (plan_over others) unit (planned_jobs unit) (plan_tidy others)
+
+  plan_there : (over : List (List ℕ)) (unit : List ℕ) → Among over unit → jobs_of_unit (plan_over over) unit ≡ planned_jobs unit
+  unfolding plan_over
+  plan_there [] unit none = absurd none
+  plan_there (other ∷ others) unit (inl is) =
+      ap (jobs_of_unit (with_jobs (plan_over others) other (planned_jobs other))) is ∙ (jobs_here (plan_over others) other (planned_jobs other) ∙ ap planned_jobs (sym is))
+  plan_there (other ∷ others) unit (inr later) =
+      elim (same_name unit other) as (λ _. jobs_of_unit (with_jobs (plan_over others) other (planned_jobs other)) unit ≡ planned_jobs unit) [
+        | inl is ↦ ap (jobs_of_unit (with_jobs (plan_over others) other (planned_jobs other))) is
+            ∙ (jobs_here (plan_over others) other (planned_jobs other) ∙ ap planned_jobs (sym is))
+        | inr apart ↦ jobs_apart (plan_over others) other (planned_jobs other) unit apart ∙ plan_there others unit later
+      ]
+
+  plan_elsewhere : (over : List (List ℕ)) (unit : List ℕ) → ¬ (Among over unit) → jobs_of_unit (plan_over over) unit ≡ no_jobs
+  unfolding plan_over
+  plan_elsewhere [] unit none = ap (λ o. unwrap_or o no_jobs) (map.get-empty (slice_cmp nat_cmp) unit)
+  plan_elsewhere (other ∷ others) unit none =
+      jobs_apart (plan_over others) other (planned_jobs other) unit (λ is. none (inl is)) ∙ plan_elsewhere others unit (λ later. none (inr later))
+
+  -- the units of which a job can be pending before or after
+  abbrev concerned : List (List ℕ)
+  concerned = (root.1 ∷ units) ++ map.keys scene.pending
+
+  -- there is a plan
+  pub a_plan : (after : ByUnit UnitJobs) × IsPlan scene root after
+  unfolding planned_jobs
+  a_plan = (plan_over concerned, record { tidy = plan_tidy concerned; jobs = λ unit counted c. jobs_there unit counted c (among_or_not same_name concerned unit) })
+    where
+      kept : (unit : List ℕ) (counted : Option Demand) → counted ≡ None → jobs_of_unit scene.pending unit ≡ no_jobs
+          → no_jobs ≡ jobs_for counted (scene.activity unit) (jobs_of_unit scene.pending unit)
+      kept unit counted none jobless = sym (ap (λ o. jobs_for o (scene.activity unit) (jobs_of_unit scene.pending unit)) none ∙ jobless)
+
+      jobs_there : (unit : List ℕ) (counted : Option Demand) → Counts scene root unit counted → IsDecided (Among concerned unit)
+          → jobs_of_unit (plan_over concerned) unit ≡ jobs_for counted (scene.activity unit) (jobs_of_unit scene.pending unit)
+      jobs_there unit counted c (inl is) =
+          plan_there concerned unit is
+          ∙ ap (λ o. jobs_for o (scene.activity unit) (jobs_of_unit scene.pending unit)) (counts_one scene root unit (counts_some unit).0 counted (counts_some unit).1 c)
+      jobs_there unit counted c (inr isnt) =
+          plan_elsewhere concerned unit isnt
+          ∙ kept unit counted
+          (none_counts scene root unit counted (λ d h. isnt (among_left (root.1 ∷ units) (map.keys scene.pending) unit (demands_within (d, unit) h))) c)
+          (not_held scene.pending unit (λ key. isnt (among_right (root.1 ∷ units) (map.keys scene.pending) unit key)))
+
+  -- ---- one cause or none
+
+  started_or_not : (unit : List ℕ) → IsDecided (IsStarted scene root unit)
+  started_or_not unit = decided_as there back (either_decided (demands_or_not (Start, unit)) (demands_or_not (Restart, unit)))
+    where
+      there : Demands scene root (Start, unit) ⊎ Demands scene root (Restart, unit) → IsStarted scene root unit
+      there (inl d) = record { by = Start; starting = starts; demanded = d }
+      there (inr d) = record { by = Restart; starting = restarts; demanded = d }
+
+      by_demand : (d : Demand) → IsStarting d → Demands scene root (d, unit) → Demands scene root (Start, unit) ⊎ Demands scene root (Restart, unit)
+      by_demand d starts h = inl h
+      by_demand d restarts h = inr h
+
+      back : IsStarted scene root unit → Demands scene root (Start, unit) ⊎ Demands scene root (Restart, unit)
+      back h = by_demand h.by h.starting h.demanded
+
+  started_within : (unit : List ℕ) → IsStarted scene root unit → Among (root.1 ∷ units) unit
+  started_within unit h = demands_within (h.by, unit) h.demanded
+
+  barred_or_not : (unit : List ℕ) → IsDecided (IsBarred scene root unit)
+  barred_or_not unit = decided_as there back (both_decided (started_or_not unit) (one_or_not (finite.cannot unit)))
+    where
+      one_or_not : OneOrNone (scene.CannotStart unit) → IsDecided ((r : Refused) × scene.CannotStart unit r)
+      one_or_not (inl found) = inl found
+      one_or_not (inr none) = inr (λ found. none found.0 found.1)
+
+      there : IsStarted scene root unit × ((r : Refused) × scene.CannotStart unit r) → IsBarred scene root unit
+      there both = record { started = both.0; refusal = both.1.0; cause = both.1.1 }
+
+      back : IsBarred scene root unit → IsStarted scene root unit × ((r : Refused) × scene.CannotStart unit r)
+      back h = (h.started, (h.refusal, h.cause))
+
+  clashes_or_not : (unit : List ℕ) → IsDecided (Clashes scene root unit)
+  clashes_or_not unit =
+      decided_as (λ both. record { started = both.0; stopped = both.1 }) (λ h. (h.started, h.stopped)) (both_decided (started_or_not unit) (demands_or_not (Stop, unit)))
+
+  barred_or_none : OneOrNone (NamesBarred scene root)
+  barred_or_none = by_least (least_or_none (IsBarred scene root) barred_or_not (root.1 ∷ units) (λ unit h. started_within unit h.started))
+    where
+      by_least : NoneOrLeast (IsBarred scene root) → OneOrNone (NamesBarred scene root)
+      by_least (inl none) = inr (λ r h. none h.unit h.least.has)
+      by_least (inr found) = inl (found.1.has.refusal, record { unit = found.0; least = found.1; cause = found.1.has.cause })
+
+  clash_or_none : OneOrNone (NamesClash scene root)
+  clash_or_none = by_least (least_or_none (Clashes scene root) clashes_or_not (root.1 ∷ units) (λ unit h. started_within unit h.started))
+    where
+      by_least : NoneOrLeast (Clashes scene root) → OneOrNone (NamesClash scene root)
+      by_least (inl none) = inr (λ r h. none h.unit h.least.has)
+      by_least (inr found) = inl (clash found.0, record { unit = found.0; least = found.1; refusal = refl })
+
+  named_or_none : (after : ByUnit UnitJobs) → OneOrNone (NamesCycle scene.IsBefore after)
+  named_or_none after = by_cycle (jobs_cycle_or_none scene.IsBefore finite.before after)
+    where
+      named : (cycle : List Job) → IsCycle (ComesBefore scene.IsBefore after) cycle → OneOrNone (NamesCycle scene.IsBefore after)
+      named cycle c =
+          let d = least_unit_first (ComesBefore scene.IsBefore after) cycle c in
+          inl (ordering_cycle (units_of d.0), record { cycle = d.0; closed = d.1; least = d.2; refusal = refl })
+
+      by_cycle : ((cycle : List Job) × IsCycle (ComesBefore scene.IsBefore after) cycle) ⊎ ((cycle : List Job) → ¬ (IsCycle (ComesBefore scene.IsBefore after) cycle))
+          → OneOrNone (NamesCycle scene.IsBefore after)
+      by_cycle (inl found) = named found.0 found.1
+      by_cycle (inr none) = inr (λ r h. none h.cycle h.closed)
+
+  -- one cause refuses a plan, or none does
+  pub cause_or_none : (mode : JobMode) (after : ByUnit UnitJobs) → OneOrNone (CausesOfPlan scene root mode after)
+  cause_or_none mode after =
+      first_or_none _ _ barred_or_none (first_or_none _ _ clash_or_none (first_or_none _ _ (drop_or_none mode scene.pending after) (named_or_none after)))
+
+  one_barred : (r q : Refused) → NamesBarred scene root r → NamesBarred scene root q → r ≡ q
+  one_barred r q h k =
+      let same = one_least IsNamedBefore (IsBarred scene root) names_one_way same_name k.unit h.unit k.least h.least in
+      finite.one_cannot h.unit r q h.cause (subst (λ unit. scene.CannotStart unit q) same k.cause)
+
+  -- two refusals of a plan are the same, unless each names a cycle
+  pub one_cause : (mode : JobMode) (after : ByUnit UnitJobs) (r q : Refused) → CausesOfPlan scene root mode after r → CausesOfPlan scene root mode after q
+      → (r ≡ q) ⊎ (NamesCycle scene.IsBefore after r × NamesCycle scene.IsBefore after q)
+  one_cause mode after =
+      one_unless _ _ (NamesCycle scene.IsBefore after) one_barred
+      (one_unless _ _ (NamesCycle scene.IsBefore after) (one_clash scene root)
+      (one_unless _ _ (NamesCycle scene.IsBefore after) (one_drop mode scene.pending after) (λ r q h k. inr (h, k))))
