@@ -48,3 +48,4 @@ pub mod LoadsLaws
 pub mod EnablingLaws
 pub mod DemandsLaws
 pub mod PlanLaws
+pub mod KnownLaws
