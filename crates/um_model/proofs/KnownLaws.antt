@@ -1,18 +1,10 @@
--- More named makes more known; and what a unit says is said by its own name, so dependencies and the order don't ask what else is known.
-use Rattle.std.proofs.Common.{◌≡◌, ◌⊎◌, ◌∙◌, ℕ, zero, suc, Bool, true, false, cond, List, [], ◌∷◌, Option, Some, None, refl, sym, ap, subst, inl, inr}
-use Rattle.std.proofs.lemmas.Option.{none-some, same_Some}
-use Rattle.std.proofs.lemmas.Slice.Eq.{bytes_eq-Decides}
-use Rattle.um_model.specs.Dependencies.{loadable_of, loadable_in, has_defaults, shutdown_target, Gives, Declares, Mentions, IsNamed, IsKnown, KnowsTooMany, Depends, IsDeclared, PullsIn, Orders, Precedes}
+-- Known units: where more is named, more is known.
+use Rattle.std.proofs.Common.{ℕ, List}
+use Rattle.um_model.specs.Dependencies.{IsNamed, IsKnown, KnowsTooMany}
 use Rattle.um_model.specs.Dependencies as model
-use Rattle.um_model.specs.Names.{is_template, suffix_of, suffix_text_of, named}
 use Rattle.um_model.specs.Reached.{first, next}
-use Rattle.um_model.specs.Resolution.{Resolution, AtFile, AtNoFile, AtMask, Nowhere, held, is_mask, is_of_same_type, is_served_type, needs_no_file, of_same_type, next_name, followed, resolution_at, resolved, hop_limit, resolution_of}
-use Rattle.um_model.specs.Tree.{Tree, Entry, File, Link}
-use Rattle.um_model.specs.Units.{Source, LoadedUnit, Loading, Found, Masked, NotFound, BadSetting, assignments_in, reason_of, unit_by, found_unless, without_install, loading_at, sources_at, load, unit_named}
-use Rattle.um_model.specs.declared.dependencies.DependencyKind.{DependencyKind}
-use Rattle.um_model.specs.declared.names.Suffix.{Suffix}
+use Rattle.um_model.specs.Tree.{Tree}
 use Rattle.um_model.proofs.DemandsLaws.{reached_in}
-use Rattle.um_model.proofs.NamesLaws.{suffix_of-append}
 
 -- ---- more is known where more is named
 

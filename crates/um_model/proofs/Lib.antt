@@ -48,4 +48,5 @@ pub mod LoadsLaws
 pub mod EnablingLaws
 pub mod DemandsLaws
 pub mod PlanLaws
+pub mod OwnNameLaws
 pub mod KnownLaws

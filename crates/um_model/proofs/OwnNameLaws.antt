@@ -1,0 +1,201 @@
+-- What a unit says is said by its own name, so dependencies and the order of known units don't ask what else is known.
+use Rattle.std.proofs.Common.{◌≡◌, ◌∙◌, ℕ, zero, suc, Bool, true, false, cond, List, [], ◌∷◌, Option, Some, None, refl, sym, ap, subst}
+use Rattle.std.specs.Str.{bytes_eq}
+use Rattle.std.proofs.lemmas.Option.{none-some, same_Some}
+use Rattle.std.proofs.lemmas.Slice.Eq.{bytes_eq-Decides}
+use Rattle.um_model.specs.Dependencies.{loadable_of, loadable_in, has_defaults, shutdown_target, Gives, Declares, IsKnown, Depends, IsDeclared, PullsIn, Orders, Precedes}
+use Rattle.um_model.specs.Dependencies as model
+use Rattle.um_model.specs.Names.{is_template, instance_of, suffix_of, suffix_text_of, named}
+use Rattle.um_model.specs.Reached.{first, next}
+use Rattle.um_model.specs.Resolution.{Resolution, AtFile, AtNoFile, AtMask, Nowhere, held, is_mask, is_of_same_type, is_served_type, needs_no_file, of_same_type, next_name, followed, resolution_at, resolved, hop_limit, resolution_of, unit_in_target, with_instance_of}
+use Rattle.um_model.specs.Tree.{Tree, Entry, File, Link}
+use Rattle.um_model.specs.Units.{LoadedUnit, Loading, Found, Masked, NotFound, BadSetting, assignments_in, reason_of, unit_by, found_unless, loading_at, sources_at, load, name_in, unit_named}
+use Rattle.um_model.specs.declared.dependencies.DependencyKind.{DependencyKind}
+use Rattle.um_model.specs.declared.names.Suffix.{Suffix}
+use Rattle.um_model.proofs.NamesLaws.{suffix_of-append}
+
+-- ---- a unit's own name leads where the names do that lead to it
+
+bytes_same : (a b : List ℕ) → bytes_eq a b ≡ true → a ≡ b
+bytes_same a b = (bytes_eq-Decides a b).0
+
+suffix_of_text : (type : Option Suffix) → suffix_of (suffix_text_of type) ≡ type
+unfolding suffix_of
+suffix_of_text None = refl
+suffix_of_text (Some suffix) = suffix_of-append [] suffix
+
+same_type : (unit other : List ℕ) → is_of_same_type unit other ≡ true → suffix_of unit ≡ suffix_of other
+same_type unit other same =
+    sym (suffix_of_text (suffix_of unit))
+    ∙ (ap suffix_of (bytes_same (suffix_text_of (suffix_of unit)) (suffix_text_of (suffix_of other)) same) ∙ suffix_of_text (suffix_of other))
+
+-- the unit is of this type, and its own name leads there by however many hops
+abbrev Stays : Tree → Option Suffix → List ℕ → Resolution → Type 0
+Stays tree type unit r = (suffix_of unit ≡ type) × ((hops : ℕ) → resolved hops tree unit ≡ r)
+
+-- the same of the unit to which a name leads, where it does
+abbrev Returns : Tree → Option Suffix → Resolution → Type 0
+Returns tree type (AtFile unit path text) = Stays tree type unit (AtFile unit path text)
+Returns tree type (AtNoFile unit) = Stays tree type unit (AtNoFile unit)
+Returns tree type (AtMask unit) = Stays tree type unit (AtMask unit)
+Returns tree type Nowhere = Unit {0}
+
+module _ (tree : Tree) (unit : List ℕ) where
+  -- what holds the unit leads there, wherever its hops go on
+  stays_by : (o : Option (List ℕ × Entry)) (r : Resolution) → held tree unit ≡ o → ((follow : List ℕ → Resolution) → resolution_at unit o follow ≡ r)
+      → (hops : ℕ) → resolved hops tree unit ≡ r
+  stays_by o r at leads zero = ap (λ x. resolution_at unit x (λ other. Nowhere)) at ∙ leads (λ other. Nowhere)
+  stays_by o r at leads (suc hops) = ap (λ x. resolution_at unit x (resolved hops tree)) at ∙ leads (resolved hops tree)
+
+  module _ (follow : List ℕ → Resolution) (later : (other : List ℕ) → suffix_of unit ≡ suffix_of other → Returns tree (suffix_of unit) (follow other)) where
+    at_nothing : (b : Bool) → held tree unit ≡ None → needs_no_file unit ≡ b → Returns tree (suffix_of unit) (cond b (AtNoFile unit) Nowhere)
+    at_nothing true at needs = (refl, stays_by None (AtNoFile unit) at (λ further. ap (λ b. cond b (AtNoFile unit) Nowhere) needs))
+    at_nothing false at needs = tt
+
+    at_other : (other : List ℕ) (b : Bool) → is_of_same_type unit other ≡ b → Returns tree (suffix_of unit) (followed (cond b (Some other) None) follow)
+    at_other other true same = later other (same_type unit other same)
+    at_other other false same = tt
+
+    at_next : (o : Option (List ℕ)) → Returns tree (suffix_of unit) (followed (of_same_type unit o) follow)
+    at_next None = tt
+    at_next (Some other) = at_other other (is_of_same_type unit other) refl
+
+    at_link : (path target : List ℕ) (b : Bool) → held tree unit ≡ Some (path, Link target) → is_mask target ≡ b
+        → Returns tree (suffix_of unit) (cond b (AtMask unit) (followed (next_name unit target) follow))
+    at_link path target true at mask =
+        (refl, stays_by (Some (path, Link target)) (AtMask unit) at (λ further. ap (λ b. cond b (AtMask unit) (followed (next_name unit target) further)) mask))
+    at_link path target false at mask = at_next (named (with_instance_of (instance_of unit) (unit_in_target target)))
+
+    returns_at : (o : Option (List ℕ × Entry)) → held tree unit ≡ o → Returns tree (suffix_of unit) (resolution_at unit o follow)
+    returns_at None at = at_nothing (needs_no_file unit) at refl
+    returns_at (Some (path, File [])) at = (refl, stays_by (Some (path, File [])) (AtMask unit) at (λ further. refl))
+    returns_at (Some (path, File (b ∷ bs))) at = (refl, stays_by (Some (path, File (b ∷ bs))) (AtFile unit path (b ∷ bs)) at (λ further. refl))
+    returns_at (Some (path, Link target)) at = at_link path target (is_mask target) at refl
+
+returns : (hops : ℕ) (tree : Tree) (unit : List ℕ) → Returns tree (suffix_of unit) (resolved hops tree unit)
+returns zero tree unit = returns_at tree unit (λ other. Nowhere) (λ other same. tt) (held tree unit) refl
+returns (suc hops) tree unit =
+    returns_at tree unit (resolved hops tree) (λ other same. subst (λ type. Returns tree type (resolved hops tree other)) (sym same) (returns hops tree other)) (held tree unit) refl
+
+-- the unit to which a name leads is led to the same by its own
+abbrev IsOwn : Tree → Resolution → Type 0
+IsOwn tree (AtFile unit path text) = resolution_of tree unit ≡ AtFile unit path text
+IsOwn tree (AtNoFile unit) = resolution_of tree unit ≡ AtNoFile unit
+IsOwn tree (AtMask unit) = resolution_of tree unit ≡ AtMask unit
+IsOwn tree Nowhere = Unit {0}
+
+own_served : (tree : Tree) (type : Option Suffix) (unit : List ℕ) (r : Resolution) → is_served_type type ≡ true → Stays tree type unit r → resolution_of tree unit ≡ r
+unfolding resolution_of
+own_served tree type unit r served stays = ap (λ b. cond b (resolved hop_limit tree unit) Nowhere) (ap is_served_type stays.0 ∙ served) ∙ stays.1 hop_limit
+
+own_resolved : (tree : Tree) (type : Option Suffix) (r : Resolution) → is_served_type type ≡ true → Returns tree type r → IsOwn tree r
+own_resolved tree type (AtFile unit path text) served stays = own_served tree type unit (AtFile unit path text) served stays
+own_resolved tree type (AtNoFile unit) served stays = own_served tree type unit (AtNoFile unit) served stays
+own_resolved tree type (AtMask unit) served stays = own_served tree type unit (AtMask unit) served stays
+own_resolved tree type Nowhere served stays = tt
+
+own_resolution : (tree : Tree) (asked : List ℕ) → IsOwn tree (resolution_of tree asked)
+unfolding resolution_of
+own_resolution tree asked = by_type (is_served_type (suffix_of asked)) refl
+  where
+    by_type : (b : Bool) → is_served_type (suffix_of asked) ≡ b → IsOwn tree (cond b (resolved hop_limit tree asked) Nowhere)
+    by_type true served = own_resolved tree (suffix_of asked) (resolved hop_limit tree asked) served (returns hop_limit tree asked)
+    by_type false unserved = tt
+
+-- a unit that is found is found by its own name
+pub found_by_own : (tree : Tree) (asked : List ℕ) (l : LoadedUnit) → load tree asked ≡ Found l → load tree l.name ≡ Found l
+unfolding load
+found_by_own tree asked l found = by_resolution (resolution_of tree asked) (own_resolution tree asked) found
+  where
+    same_name : (unit : List ℕ) (o : Loading) → o ≡ Found l → name_in unit o ≡ unit → l.name ≡ unit
+    same_name unit o is named = sym (ap (name_in unit) is) ∙ named
+
+    name_by_reason : (unit : List ℕ) (u : LoadedUnit) (reason : Option (List ℕ)) → name_in unit (found_unless reason u) ≡ u.name
+    name_by_reason unit u None = refl
+    name_by_reason unit u (Some reason) = refl
+
+    by_own : (unit : List ℕ) (r : Resolution) → l.name ≡ unit → resolution_of tree unit ≡ r → loading_at tree r ≡ Found l → loading_at tree (resolution_of tree l.name) ≡ Found l
+    by_own unit r named own is = ap (loading_at tree) (ap (resolution_of tree) named ∙ own) ∙ is
+
+    by_resolution : (r : Resolution) → IsOwn tree r → loading_at tree r ≡ Found l → loading_at tree (resolution_of tree l.name) ≡ Found l
+    by_resolution (AtFile unit path text) own is =
+        let sources = sources_at tree (AtFile unit path text) in
+        let named = name_by_reason unit (unit_by unit (Some path) sources) (reason_of unit (assignments_in (suffix_of unit) sources)) in
+        by_own unit (AtFile unit path text) (same_name unit (loading_at tree (AtFile unit path text)) is named) own is
+    by_resolution (AtNoFile unit) own is = by_own unit (AtNoFile unit) (same_name unit (loading_at tree (AtNoFile unit)) is refl) own is
+    by_resolution (AtMask unit) own is = cc
+    by_resolution Nowhere own is = cc
+
+loadable_found : (o : Loading) (l : LoadedUnit) → loadable_of o ≡ Some l → o ≡ Found l
+loadable_found (Found u) l loadable = by_template (is_template u.name) loadable
+  where
+    by_template : (b : Bool) → cond b None (Some u) ≡ Some l → Found u ≡ Found l
+    by_template true none = absurd (none-some l none)
+    by_template false is = ap Found (same_Some u l is)
+loadable_found (Masked unit) l loadable = absurd (none-some l loadable)
+loadable_found NotFound l loadable = absurd (none-some l loadable)
+loadable_found (BadSetting unit reason) l loadable = absurd (none-some l loadable)
+
+-- and where it can be loaded, it can by its own name
+pub loadable_by_own : (tree : Tree) (asked : List ℕ) (l : LoadedUnit) → loadable_in tree asked ≡ Some l → loadable_in tree l.name ≡ Some l
+loadable_by_own tree asked l loadable =
+    let found = loadable_found (load tree asked) l loadable in
+    ap loadable_of (found_by_own tree asked l found ∙ sym found) ∙ loadable
+
+-- which counts for each name that leads to it
+pub name_of_loadable : (tree : Tree) (asked : List ℕ) (l : LoadedUnit) → loadable_in tree asked ≡ Some l → unit_named tree asked ≡ l.name
+name_of_loadable tree asked l loadable = ap (name_in asked) (loadable_found (load tree asked) l loadable)
+
+-- ---- what a known unit says, whatever else is known
+
+module _ (tree : Tree) (Other Extra : List ℕ → Type 0) where
+  gives_anyhow : (name : List ℕ) (kind : DependencyKind) (x y : List ℕ) → IsKnown tree Extra x → Gives tree name kind x y
+      → (own : List ℕ) × IsKnown tree Extra own × Gives tree own kind x y
+  gives_anyhow name _ _ _ known (model.said {l = l} loadable names) = (l.name, known, model.said (loadable_by_own tree name l loadable) names)
+  gives_anyhow name _ _ _ known (model.linked links) = (name, first (model.holder links), model.linked links)
+  gives_anyhow name _ _ _ known (model.ends {l = l} loadable defaults) = (l.name, known, model.ends (loadable_by_own tree name l loadable) defaults)
+
+  -- a known unit depends on each unit on which it does where other names are known
+  pub depends_by_known : (kind : DependencyKind) (x y : List ℕ) → IsKnown tree Extra x → Depends tree Other kind x y → Depends tree Extra kind x y
+  depends_by_known kind x y known d =
+      let own = gives_anyhow d.name kind x y known d.gives in
+      record { name = own.0; known = own.1; gives = own.2; apart = d.apart }
+
+  -- the same of two known units
+  pub depends_anyhow : (kind : DependencyKind) (x y : List ℕ) → IsKnown tree Extra x → IsKnown tree Extra y → Depends tree Other kind x y → Depends tree Extra kind x y
+  depends_anyhow kind x y known too d = depends_by_known kind x y known d
+
+  declares_anyhow : (name x y : List ℕ) → IsKnown tree Extra x → IsKnown tree Extra y → Declares tree name x y → (own : List ℕ) × IsKnown tree Extra own × Declares tree own x y
+  declares_anyhow name _ _ known too (model.precedes {l = l} loadable names) = (l.name, known, model.precedes (loadable_by_own tree name l loadable) names)
+  declares_anyhow name _ _ known too (model.follows {l = l} loadable names) = (l.name, too, model.follows (loadable_by_own tree name l loadable) names)
+
+  -- of two known units the one is declared before the other where it is by other known names
+  pub declared_anyhow : (x y : List ℕ) → IsKnown tree Extra x → IsKnown tree Extra y → IsDeclared tree Other x y → IsDeclared tree Extra x y
+  declared_anyhow x y known too d =
+      let own = declares_anyhow d.name x y known too d.declares in
+      record { name = own.0; known = own.1; declares = own.2 }
+
+  ending_anyhow : (a : List ℕ) (l : LoadedUnit) → IsKnown tree Extra l.name → loadable_in tree a ≡ Some l → has_defaults l ≡ true → Orders tree Extra l.name (unit_named tree shutdown_target)
+  ending_anyhow a l known loadable defaults = model.ending known (loadable_by_own tree a l loadable) defaults
+
+module _ (tree : Tree) (Other Extra : List ℕ → Type 0) where
+  pulled_anyhow : (x y : List ℕ) → IsKnown tree Extra x → PullsIn tree Other x y → PullsIn tree Extra x y
+  pulled_anyhow x y known p = record {
+    holds = p.holds;
+    kind = p.kind;
+    wants = p.wants;
+    depends = depends_by_known tree Other Extra p.kind x y known p.depends;
+    accepts = p.accepts;
+    too = p.too;
+  }
+
+  orders_anyhow : (x y : List ℕ) → IsKnown tree Extra x → IsKnown tree Extra y → Orders tree Other x y → Orders tree Extra x y
+  orders_anyhow x y known too (model.declared d) = model.declared (declared_anyhow tree Other Extra x y known too d)
+  orders_anyhow y x known too (model.pulled_in p isnt) =
+      model.pulled_in (pulled_anyhow x y too p)
+      (λ d. isnt (declared_anyhow tree Extra Other x y (next p.depends.known (model.owner p.depends.gives)) (next p.depends.known (model.other p.depends.gives)) d))
+  orders_anyhow _ _ known too (model.ending {a = a} {l = l} other loadable defaults) = ending_anyhow tree Other Extra a l known loadable defaults
+
+  -- two known units are in the order in which they are where other names are known
+  pub precedes_anyhow : (x y : List ℕ) → IsKnown tree Extra x → IsKnown tree Extra y → Precedes tree Other x y → Precedes tree Extra x y
+  precedes_anyhow x y known too p = record { orders = orders_anyhow x y known too p.orders; apart = p.apart }
