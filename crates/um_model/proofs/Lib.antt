@@ -49,4 +49,5 @@ pub mod EnablingLaws
 pub mod DemandsLaws
 pub mod PlanLaws
 pub mod OwnNameLaws
+pub mod GivesLaws
 pub mod KnownLaws

@@ -1,11 +1,11 @@
 -- What a unit says is said by its own name, so dependencies and the order of known units don't ask what else is known.
-use Rattle.std.proofs.Common.{◌≡◌, ◌∙◌, ℕ, zero, suc, Bool, true, false, cond, List, [], ◌∷◌, Option, Some, None, refl, sym, ap, subst}
+use Rattle.std.proofs.Common.{◌≡◌, ◌⊎◌, ◌∙◌, ℕ, zero, suc, Bool, true, false, cond, List, [], ◌∷◌, Option, Some, None, refl, sym, ap, subst, inl, inr}
 use Rattle.std.specs.Str.{bytes_eq}
 use Rattle.std.proofs.lemmas.Option.{none-some, same_Some}
 use Rattle.std.proofs.lemmas.Slice.Eq.{bytes_eq-Decides}
 use Rattle.um_model.specs.Dependencies.{loadable_of, loadable_in, has_defaults, shutdown_target, Gives, Declares, IsKnown, Depends, IsDeclared, PullsIn, Orders, Precedes}
 use Rattle.um_model.specs.Dependencies as model
-use Rattle.um_model.specs.Names.{is_template, instance_of, suffix_of, suffix_text_of, named}
+use Rattle.um_model.specs.Names.{is_template, is_unit_name, instance_of, suffix_of, suffix_text_of}
 use Rattle.um_model.specs.Reached.{first, next}
 use Rattle.um_model.specs.Resolution.{Resolution, AtFile, AtNoFile, AtMask, Nowhere, held, is_mask, is_of_same_type, is_served_type, needs_no_file, of_same_type, next_name, followed, resolution_at, resolved, hop_limit, resolution_of, unit_in_target, with_instance_of}
 use Rattle.um_model.specs.Tree.{Tree, Entry, File, Link}
@@ -29,104 +29,144 @@ same_type unit other same =
     sym (suffix_of_text (suffix_of unit))
     ∙ (ap suffix_of (bytes_same (suffix_text_of (suffix_of unit)) (suffix_text_of (suffix_of other)) same) ∙ suffix_of_text (suffix_of other))
 
--- the unit is of this type, and its own name leads there by however many hops
-abbrev Stays : Tree → Option Suffix → List ℕ → Resolution → Type 0
-Stays tree type unit r = (suffix_of unit ≡ type) × ((hops : ℕ) → resolved hops tree unit ≡ r)
+-- the unit has the name that was asked for, or a unit name
+abbrev pub AskedOrName : List ℕ → List ℕ → Type 0
+AskedOrName asked unit = (unit ≡ asked) ⊎ (is_unit_name unit ≡ true)
 
--- the same of the unit to which a name leads, where it does
-abbrev Returns : Tree → Option Suffix → Resolution → Type 0
-Returns tree type (AtFile unit path text) = Stays tree type unit (AtFile unit path text)
-Returns tree type (AtNoFile unit) = Stays tree type unit (AtNoFile unit)
-Returns tree type (AtMask unit) = Stays tree type unit (AtMask unit)
-Returns tree type Nowhere = Unit {0}
+-- of a name that leads to a unit: the unit has its type, and its own name, which leads there too by however many hops, or a unit name
+record Stays (tree : Tree) (asked unit : List ℕ) (r : Resolution) : Type 0 where
+  type : suffix_of asked ≡ suffix_of unit
+  stays : (hops : ℕ) → resolved hops tree unit ≡ r
+  is_name : AskedOrName asked unit
+
+-- the same of where it leads, if anywhere
+abbrev Returns : Tree → List ℕ → Resolution → Type 0
+Returns tree asked (AtFile unit path text) = Stays tree asked unit (AtFile unit path text)
+Returns tree asked (AtNoFile unit) = Stays tree asked unit (AtNoFile unit)
+Returns tree asked (AtMask unit) = Stays tree asked unit (AtMask unit)
+Returns tree asked Nowhere = Unit {0}
+
+-- a name that a hop leads on to has a unit name
+stays_before : (tree : Tree) (asked other unit : List ℕ) (r : Resolution) → suffix_of asked ≡ suffix_of other → is_unit_name other ≡ true → Stays tree other unit r → Stays tree asked unit r
+stays_before tree asked other unit r same named s = record { type = same ∙ s.type; stays = s.stays; is_name = inr (by_name s.is_name) }
+  where
+    by_name : AskedOrName other unit → is_unit_name unit ≡ true
+    by_name (inl is) = ap is_unit_name is ∙ named
+    by_name (inr is) = is
+
+returns_before : (tree : Tree) (asked other : List ℕ) (r : Resolution) → suffix_of asked ≡ suffix_of other → is_unit_name other ≡ true → Returns tree other r → Returns tree asked r
+returns_before tree asked other (AtFile unit path text) same named s = stays_before tree asked other unit (AtFile unit path text) same named s
+returns_before tree asked other (AtNoFile unit) same named s = stays_before tree asked other unit (AtNoFile unit) same named s
+returns_before tree asked other (AtMask unit) same named s = stays_before tree asked other unit (AtMask unit) same named s
+returns_before tree asked other Nowhere same named s = tt
 
 module _ (tree : Tree) (unit : List ℕ) where
   -- what holds the unit leads there, wherever its hops go on
-  stays_by : (o : Option (List ℕ × Entry)) (r : Resolution) → held tree unit ≡ o → ((follow : List ℕ → Resolution) → resolution_at unit o follow ≡ r)
-      → (hops : ℕ) → resolved hops tree unit ≡ r
-  stays_by o r at leads zero = ap (λ x. resolution_at unit x (λ other. Nowhere)) at ∙ leads (λ other. Nowhere)
-  stays_by o r at leads (suc hops) = ap (λ x. resolution_at unit x (resolved hops tree)) at ∙ leads (resolved hops tree)
+  stays_by : (o : Option (List ℕ × Entry)) (r : Resolution) → held tree unit ≡ o → ((follow : List ℕ → Resolution) → resolution_at unit o follow ≡ r) → Stays tree unit unit r
+  stays_by o r at leads = record { type = refl; stays = by_hops; is_name = inl refl }
+    where
+      by_hops : (hops : ℕ) → resolved hops tree unit ≡ r
+      by_hops zero = ap (λ x. resolution_at unit x (λ other. Nowhere)) at ∙ leads (λ other. Nowhere)
+      by_hops (suc hops) = ap (λ x. resolution_at unit x (resolved hops tree)) at ∙ leads (resolved hops tree)
 
-  module _ (follow : List ℕ → Resolution) (later : (other : List ℕ) → suffix_of unit ≡ suffix_of other → Returns tree (suffix_of unit) (follow other)) where
-    at_nothing : (b : Bool) → held tree unit ≡ None → needs_no_file unit ≡ b → Returns tree (suffix_of unit) (cond b (AtNoFile unit) Nowhere)
-    at_nothing true at needs = (refl, stays_by None (AtNoFile unit) at (λ further. ap (λ b. cond b (AtNoFile unit) Nowhere) needs))
+  module _ (follow : List ℕ → Resolution) (later : (other : List ℕ) → Returns tree other (follow other)) where
+    at_nothing : (b : Bool) → held tree unit ≡ None → needs_no_file unit ≡ b → Returns tree unit (cond b (AtNoFile unit) Nowhere)
+    at_nothing true at needs = stays_by None (AtNoFile unit) at (λ further. ap (λ b. cond b (AtNoFile unit) Nowhere) needs)
     at_nothing false at needs = tt
 
-    at_other : (other : List ℕ) (b : Bool) → is_of_same_type unit other ≡ b → Returns tree (suffix_of unit) (followed (cond b (Some other) None) follow)
-    at_other other true same = later other (same_type unit other same)
-    at_other other false same = tt
+    at_other : (other : List ℕ) (b : Bool) → is_unit_name other ≡ true → is_of_same_type unit other ≡ b → Returns tree unit (followed (cond b (Some other) None) follow)
+    at_other other true named same = returns_before tree unit other (follow other) (same_type unit other same) named (later other)
+    at_other other false named same = tt
 
-    at_next : (o : Option (List ℕ)) → Returns tree (suffix_of unit) (followed (of_same_type unit o) follow)
-    at_next None = tt
-    at_next (Some other) = at_other other (is_of_same_type unit other) refl
+    at_next : (other : List ℕ) (b : Bool) → is_unit_name other ≡ b → Returns tree unit (followed (of_same_type unit (cond b (Some other) None)) follow)
+    at_next other true named = at_other other (is_of_same_type unit other) named refl
+    at_next other false named = tt
 
     at_link : (path target : List ℕ) (b : Bool) → held tree unit ≡ Some (path, Link target) → is_mask target ≡ b
-        → Returns tree (suffix_of unit) (cond b (AtMask unit) (followed (next_name unit target) follow))
+        → Returns tree unit (cond b (AtMask unit) (followed (next_name unit target) follow))
     at_link path target true at mask =
-        (refl, stays_by (Some (path, Link target)) (AtMask unit) at (λ further. ap (λ b. cond b (AtMask unit) (followed (next_name unit target) further)) mask))
-    at_link path target false at mask = at_next (named (with_instance_of (instance_of unit) (unit_in_target target)))
+        stays_by (Some (path, Link target)) (AtMask unit) at (λ further. ap (λ b. cond b (AtMask unit) (followed (next_name unit target) further)) mask)
+    at_link path target false at mask = at_next (with_instance_of (instance_of unit) (unit_in_target target)) _ refl
 
-    returns_at : (o : Option (List ℕ × Entry)) → held tree unit ≡ o → Returns tree (suffix_of unit) (resolution_at unit o follow)
+    returns_at : (o : Option (List ℕ × Entry)) → held tree unit ≡ o → Returns tree unit (resolution_at unit o follow)
     returns_at None at = at_nothing (needs_no_file unit) at refl
-    returns_at (Some (path, File [])) at = (refl, stays_by (Some (path, File [])) (AtMask unit) at (λ further. refl))
-    returns_at (Some (path, File (b ∷ bs))) at = (refl, stays_by (Some (path, File (b ∷ bs))) (AtFile unit path (b ∷ bs)) at (λ further. refl))
+    returns_at (Some (path, File [])) at = stays_by (Some (path, File [])) (AtMask unit) at (λ further. refl)
+    returns_at (Some (path, File (b ∷ bs))) at = stays_by (Some (path, File (b ∷ bs))) (AtFile unit path (b ∷ bs)) at (λ further. refl)
     returns_at (Some (path, Link target)) at = at_link path target (is_mask target) at refl
 
-returns : (hops : ℕ) (tree : Tree) (unit : List ℕ) → Returns tree (suffix_of unit) (resolved hops tree unit)
-returns zero tree unit = returns_at tree unit (λ other. Nowhere) (λ other same. tt) (held tree unit) refl
-returns (suc hops) tree unit =
-    returns_at tree unit (resolved hops tree) (λ other same. subst (λ type. Returns tree type (resolved hops tree other)) (sym same) (returns hops tree other)) (held tree unit) refl
+returns : (hops : ℕ) (tree : Tree) (unit : List ℕ) → Returns tree unit (resolved hops tree unit)
+returns zero tree unit = returns_at tree unit (λ other. Nowhere) (λ other. tt) (held tree unit) refl
+returns (suc hops) tree unit = returns_at tree unit (resolved hops tree) (returns hops tree) (held tree unit) refl
 
--- the unit to which a name leads is led to the same by its own
-abbrev IsOwn : Tree → Resolution → Type 0
-IsOwn tree (AtFile unit path text) = resolution_of tree unit ≡ AtFile unit path text
-IsOwn tree (AtNoFile unit) = resolution_of tree unit ≡ AtNoFile unit
-IsOwn tree (AtMask unit) = resolution_of tree unit ≡ AtMask unit
-IsOwn tree Nowhere = Unit {0}
+-- the unit to which a name leads is led to the same by its own, which is that name or a unit name
+record OwnName (tree : Tree) (asked unit : List ℕ) (r : Resolution) : Type 0 where
+  leads : resolution_of tree unit ≡ r
+  is_name : AskedOrName asked unit
 
-own_served : (tree : Tree) (type : Option Suffix) (unit : List ℕ) (r : Resolution) → is_served_type type ≡ true → Stays tree type unit r → resolution_of tree unit ≡ r
+abbrev HasOwn : Tree → List ℕ → Resolution → Type 0
+HasOwn tree asked (AtFile unit path text) = OwnName tree asked unit (AtFile unit path text)
+HasOwn tree asked (AtNoFile unit) = OwnName tree asked unit (AtNoFile unit)
+HasOwn tree asked (AtMask unit) = OwnName tree asked unit (AtMask unit)
+HasOwn tree asked Nowhere = Unit {0}
+
+own_stays : (tree : Tree) (asked unit : List ℕ) (r : Resolution) → is_served_type (suffix_of asked) ≡ true → Stays tree asked unit r → OwnName tree asked unit r
 unfolding resolution_of
-own_served tree type unit r served stays = ap (λ b. cond b (resolved hop_limit tree unit) Nowhere) (ap is_served_type stays.0 ∙ served) ∙ stays.1 hop_limit
+own_stays tree asked unit r served s = record {
+  leads = ap (λ b. cond b (resolved hop_limit tree unit) Nowhere) (sym (ap is_served_type s.type) ∙ served) ∙ s.stays hop_limit;
+  is_name = s.is_name;
+}
 
-own_resolved : (tree : Tree) (type : Option Suffix) (r : Resolution) → is_served_type type ≡ true → Returns tree type r → IsOwn tree r
-own_resolved tree type (AtFile unit path text) served stays = own_served tree type unit (AtFile unit path text) served stays
-own_resolved tree type (AtNoFile unit) served stays = own_served tree type unit (AtNoFile unit) served stays
-own_resolved tree type (AtMask unit) served stays = own_served tree type unit (AtMask unit) served stays
-own_resolved tree type Nowhere served stays = tt
+own_returns : (tree : Tree) (asked : List ℕ) (r : Resolution) → is_served_type (suffix_of asked) ≡ true → Returns tree asked r → HasOwn tree asked r
+own_returns tree asked (AtFile unit path text) served s = own_stays tree asked unit (AtFile unit path text) served s
+own_returns tree asked (AtNoFile unit) served s = own_stays tree asked unit (AtNoFile unit) served s
+own_returns tree asked (AtMask unit) served s = own_stays tree asked unit (AtMask unit) served s
+own_returns tree asked Nowhere served s = tt
 
-own_resolution : (tree : Tree) (asked : List ℕ) → IsOwn tree (resolution_of tree asked)
+own_resolution : (tree : Tree) (asked : List ℕ) → HasOwn tree asked (resolution_of tree asked)
 unfolding resolution_of
 own_resolution tree asked = by_type (is_served_type (suffix_of asked)) refl
   where
-    by_type : (b : Bool) → is_served_type (suffix_of asked) ≡ b → IsOwn tree (cond b (resolved hop_limit tree asked) Nowhere)
-    by_type true served = own_resolved tree (suffix_of asked) (resolved hop_limit tree asked) served (returns hop_limit tree asked)
+    by_type : (b : Bool) → is_served_type (suffix_of asked) ≡ b → HasOwn tree asked (cond b (resolved hop_limit tree asked) Nowhere)
+    by_type true served = own_returns tree asked (resolved hop_limit tree asked) served (returns hop_limit tree asked)
     by_type false unserved = tt
+
+name_by_reason : (asked : List ℕ) (u : LoadedUnit) (reason : Option (List ℕ)) → name_in asked (found_unless reason u) ≡ u.name
+name_by_reason asked u None = refl
+name_by_reason asked u (Some reason) = refl
+
+name_at_file : (tree : Tree) (asked unit path text : List ℕ) → name_in asked (loading_at tree (AtFile unit path text)) ≡ unit
+name_at_file tree asked unit path text =
+    let sources = sources_at tree (AtFile unit path text) in
+    name_by_reason asked (unit_by unit (Some path) sources) (reason_of unit (assignments_in (suffix_of unit) sources))
+
+-- the name that counts for one that was asked for is that one or a unit name
+pub named_or_asked : (tree : Tree) (asked : List ℕ) → AskedOrName asked (unit_named tree asked)
+unfolding load
+named_or_asked tree asked = by_resolution (resolution_of tree asked) (own_resolution tree asked)
+  where
+    by_resolution : (r : Resolution) → HasOwn tree asked r → AskedOrName asked (name_in asked (loading_at tree r))
+    by_resolution (AtFile unit path text) own = subst (AskedOrName asked) (sym (name_at_file tree asked unit path text)) own.is_name
+    by_resolution (AtNoFile unit) own = own.is_name
+    by_resolution (AtMask unit) own = own.is_name
+    by_resolution Nowhere own = inl refl
 
 -- a unit that is found is found by its own name
 pub found_by_own : (tree : Tree) (asked : List ℕ) (l : LoadedUnit) → load tree asked ≡ Found l → load tree l.name ≡ Found l
 unfolding load
 found_by_own tree asked l found = by_resolution (resolution_of tree asked) (own_resolution tree asked) found
   where
-    same_name : (unit : List ℕ) (o : Loading) → o ≡ Found l → name_in unit o ≡ unit → l.name ≡ unit
-    same_name unit o is named = sym (ap (name_in unit) is) ∙ named
+    by_own : (unit : List ℕ) (r : Resolution) → name_in asked (loading_at tree r) ≡ unit → OwnName tree asked unit r → loading_at tree r ≡ Found l
+        → loading_at tree (resolution_of tree l.name) ≡ Found l
+    by_own unit r named own is = ap (loading_at tree) (ap (resolution_of tree) (sym (ap (name_in asked) is) ∙ named) ∙ own.leads) ∙ is
 
-    name_by_reason : (unit : List ℕ) (u : LoadedUnit) (reason : Option (List ℕ)) → name_in unit (found_unless reason u) ≡ u.name
-    name_by_reason unit u None = refl
-    name_by_reason unit u (Some reason) = refl
-
-    by_own : (unit : List ℕ) (r : Resolution) → l.name ≡ unit → resolution_of tree unit ≡ r → loading_at tree r ≡ Found l → loading_at tree (resolution_of tree l.name) ≡ Found l
-    by_own unit r named own is = ap (loading_at tree) (ap (resolution_of tree) named ∙ own) ∙ is
-
-    by_resolution : (r : Resolution) → IsOwn tree r → loading_at tree r ≡ Found l → loading_at tree (resolution_of tree l.name) ≡ Found l
-    by_resolution (AtFile unit path text) own is =
-        let sources = sources_at tree (AtFile unit path text) in
-        let named = name_by_reason unit (unit_by unit (Some path) sources) (reason_of unit (assignments_in (suffix_of unit) sources)) in
-        by_own unit (AtFile unit path text) (same_name unit (loading_at tree (AtFile unit path text)) is named) own is
-    by_resolution (AtNoFile unit) own is = by_own unit (AtNoFile unit) (same_name unit (loading_at tree (AtNoFile unit)) is refl) own is
+    by_resolution : (r : Resolution) → HasOwn tree asked r → loading_at tree r ≡ Found l → loading_at tree (resolution_of tree l.name) ≡ Found l
+    by_resolution (AtFile unit path text) own is = by_own unit (AtFile unit path text) (name_at_file tree asked unit path text) own is
+    by_resolution (AtNoFile unit) own is = by_own unit (AtNoFile unit) refl own is
     by_resolution (AtMask unit) own is = cc
     by_resolution Nowhere own is = cc
 
-loadable_found : (o : Loading) (l : LoadedUnit) → loadable_of o ≡ Some l → o ≡ Found l
+-- what can be loaded is found
+pub loadable_found : (o : Loading) (l : LoadedUnit) → loadable_of o ≡ Some l → o ≡ Found l
 loadable_found (Found u) l loadable = by_template (is_template u.name) loadable
   where
     by_template : (b : Bool) → cond b None (Some u) ≡ Some l → Found u ≡ Found l
