@@ -187,7 +187,7 @@ shutdown_is_name = refl
 -- ---- what a name gives and declares
 
 -- of two names what holds of the same ones
-of_same : (R : List ℕ → List ℕ → Type 0) {u v x y : List ℕ} → x ≡ u → y ≡ v → R u v → R x y
+pub of_same : (R : List ℕ → List ℕ → Type 0) {u v x y : List ℕ} → x ≡ u → y ≡ v → R u v → R x y
 of_same R {u = u} {v = v} {x = x} {y = y} first second h = subst (λ z. R z y) (sym first) (subst (R u) (sym second) h)
 
 module _ (tree : Tree) (a : List ℕ) where
@@ -215,7 +215,8 @@ module _ (tree : Tree) (a : List ℕ) where
   abbrev IsLinked : DependencyKind → List ℕ → List ℕ → Type 0
   IsLinked kind x y = (x ≡ unit_named tree a) × AnyOf (λ name. Links tree kind a name × (y ≡ unit_named tree name)) names_cover.0
 
-  abbrev IsEnding : List ℕ → List ℕ → LoadedUnit → Type 0
+  -- the unit is x, which ends with the unit y: that of the shutdown
+  abbrev pub IsEnding : List ℕ → List ℕ → LoadedUnit → Type 0
   IsEnding x y l = (has_defaults l ≡ true) × ((x ≡ l.name) × (y ≡ unit_named tree shutdown_target))
 
   abbrev IsGiven : DependencyKind → List ℕ → List ℕ → Type 0
@@ -242,7 +243,7 @@ module _ (tree : Tree) (a : List ℕ) where
       both_decided (same_name x (unit_named tree a))
       (any_decided (λ name. Links tree kind a name × (y ≡ unit_named tree name)) (λ name. both_decided (links_or_not tree kind a name) (same_name y (unit_named tree name))) names_cover.0)
 
-  ending_or_not : (x y : List ℕ) (l : LoadedUnit) → IsDecided (IsEnding x y l)
+  pub ending_or_not : (x y : List ℕ) (l : LoadedUnit) → IsDecided (IsEnding x y l)
   ending_or_not x y l = both_decided (passes_or_not (has_defaults l) true) (both_decided (same_name x l.name) (same_name y (unit_named tree shutdown_target)))
 
   -- by the name, x depends on y or not

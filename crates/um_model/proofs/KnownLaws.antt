@@ -13,7 +13,7 @@ use Rattle.um_model.specs.declared.dependencies.DependencyKind.TheVariants as ki
 use Rattle.um_model.proofs.AmongLaws.{both_decided, either_decided, not_decided, passes_or_not, decided_as, AnyOf, any_decided, among_or_not, among_left, among_right, IsListOf, list_of}
 use Rattle.um_model.proofs.CoverLaws.{names_cover}
 use Rattle.um_model.proofs.DemandsLaws.{reached_in}
-use Rattle.um_model.proofs.GivesLaws.{all_kinds, among_kinds, same_kind, links_or_not, names_of_link, IsLoadable, loadable_or_not, gives_or_not, declares_or_not, OwnOrName, names_mentioned, mentions_or_not}
+use Rattle.um_model.proofs.GivesLaws.{all_kinds, among_kinds, same_kind, links_or_not, names_of_link, IsLoadable, loadable_or_not, of_same, IsEnding, ending_or_not, gives_or_not, declares_or_not, OwnOrName, names_mentioned, mentions_or_not}
 use Rattle.um_model.proofs.LeastLaws.{IsDecided, Among}
 use Rattle.um_model.proofs.NamedLaws.{named_by_name}
 use Rattle.um_model.proofs.OwnNameLaws.{AskedOrName, named_or_asked}
@@ -159,3 +159,57 @@ module _ (tree : Tree) (Extra : List ℕ → Type 0) (extras : List (List ℕ)) 
     depends_or_not kind x y =
         decided_as (λ h. record { name = h.0.0; known = h.0.1; gives = h.0.2; apart = h.1 }) (λ d. ((d.name, d.known, d.gives), d.apart))
         (both_decided (among_known (λ name. Gives tree name kind x y) (λ name. gives_or_not tree name kind x y)) (not_decided (same_name x y)))
+
+    declared_or_not : (x y : List ℕ) → IsDecided (IsDeclared tree Extra x y)
+    declared_or_not x y =
+        decided_as (λ h. record { name = h.0; known = h.1; declares = h.2 }) (λ d. (d.name, d.known, d.declares))
+        (among_known (λ name. Declares tree name x y) (λ name. declares_or_not tree name x y))
+
+    declines_or_not : (x : List ℕ) → IsDecided (Declines tree x)
+    declines_or_not x =
+        decided_as (λ h. record { unit = h.0; loadable = h.1; says = h.2 }) (λ d. (d.unit, d.loadable, d.says))
+        (loadable_or_not tree x (λ l. l.settings.dependencies.default_dependencies ≡ false) (λ l. passes_or_not l.settings.dependencies.default_dependencies false))
+
+    -- the target x wants y, or requires it
+    abbrev Pulls : List ℕ → List ℕ → Type 0
+    Pulls x y = Depends tree Extra kinds.Wants x y ⊎ Depends tree Extra kinds.Requires x y
+
+    pulls_by : (kind : DependencyKind) (x y : List ℕ) → (kind ≡ kinds.Wants) ⊎ (kind ≡ kinds.Requires) → Depends tree Extra kind x y → Pulls x y
+    pulls_by kind x y (inl is) d = inl (subst (λ k. Depends tree Extra k x y) is d)
+    pulls_by kind x y (inr is) d = inr (subst (λ k. Depends tree Extra k x y) is d)
+
+    to_pulls : (x y : List ℕ) → (is_target x ≡ true) × (Pulls x y × ((¬ Declines tree x) × (¬ Declines tree y))) → PullsIn tree Extra x y
+    to_pulls x y (target, (inl d, (accepts, too))) = record { holds = target; kind = kinds.Wants; wants = inl refl; depends = d; accepts = accepts; too = too }
+    to_pulls x y (target, (inr d, (accepts, too))) = record { holds = target; kind = kinds.Requires; wants = inr refl; depends = d; accepts = accepts; too = too }
+
+    pulled_or_not : (x y : List ℕ) → IsDecided (PullsIn tree Extra x y)
+    pulled_or_not x y =
+        decided_as (to_pulls x y) (λ p. (p.holds, (pulls_by p.kind x y p.wants p.depends, (p.accepts, p.too))))
+        (both_decided (passes_or_not (is_target x) true)
+        (both_decided (either_decided (depends_or_not kinds.Wants x y) (depends_or_not kinds.Requires x y))
+        (both_decided (not_decided (declines_or_not x)) (not_decided (declines_or_not y)))))
+
+    abbrev IsOrdered : List ℕ → List ℕ → Type 0
+    IsOrdered x y =
+        IsDeclared tree Extra x y
+            ⊎ ((PullsIn tree Extra y x × (¬ IsDeclared tree Extra y x)) ⊎ ((name : List ℕ) × IsKnown tree Extra name × IsLoadable tree name (IsEnding tree name x y)))
+
+    to_orders : (x y : List ℕ) → IsOrdered x y → Orders tree Extra x y
+    to_orders x y (inl d) = model.declared d
+    to_orders x y (inr (inl (p, isnt))) = model.pulled_in p isnt
+    to_orders x y (inr (inr (name, known, (l, loadable, (defaults, (same, leads)))))) = of_same (Orders tree Extra) same leads (model.ending known loadable defaults)
+
+    from_orders : (x y : List ℕ) → Orders tree Extra x y → IsOrdered x y
+    from_orders x y (model.declared d) = inl d
+    from_orders x y (model.pulled_in p isnt) = inr (inl (p, isnt))
+    from_orders _ _ (model.ending {a = name} {l = l} known loadable defaults) = inr (inr (name, known, (l, loadable, (defaults, (refl, refl)))))
+
+    -- x goes before y or not
+    pub precedes_or_not : (x y : List ℕ) → IsDecided (Precedes tree Extra x y)
+    precedes_or_not x y =
+        decided_as (λ h. record { orders = to_orders x y h.0; apart = h.1 }) (λ p. (from_orders x y p.orders, p.apart))
+        (both_decided
+        (either_decided (declared_or_not x y)
+        (either_decided (both_decided (pulled_or_not y x) (not_decided (declared_or_not y x)))
+        (among_known (λ name. IsLoadable tree name (IsEnding tree name x y)) (λ name. loadable_or_not tree name (IsEnding tree name x y) (ending_or_not tree name x y)))))
+        (not_decided (same_name x y)))

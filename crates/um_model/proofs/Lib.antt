@@ -49,5 +49,6 @@ pub mod EnablingLaws
 pub mod DemandsLaws
 pub mod PlanLaws
 pub mod OwnNameLaws
+pub mod OnceLaws
 pub mod GivesLaws
 pub mod KnownLaws
