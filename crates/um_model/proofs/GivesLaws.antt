@@ -28,7 +28,7 @@ use Rattle.um_model.proofs.TreeLaws.{path_of_parts, fit-name}
 -- ---- kinds
 
 -- a kind is another one or not
-pub same_kind : (kind other : DependencyKind) → IsDecided (kind ≡ other)
+same_kind : (kind other : DependencyKind) → IsDecided (kind ≡ other)
 same_kind kind other = by_test (sameb dependency_kind.the_type kind other) refl
   where
     by_test : (b : Bool) → sameb dependency_kind.the_type kind other ≡ b → IsDecided (kind ≡ other)
@@ -110,6 +110,7 @@ module _ (tree : Tree) (kind : DependencyKind) (x y : List ℕ) where
           decided_as (λ says. (target, parts, at, served, says)) (λ link. subst (λ p. Says p kind x y) (same_Some link.1 parts (sym link.3 ∙ served)) link.4)
           (says_or_not parts kind x y)
 
+  -- the tree has such a link or not
   pub links_or_not : IsDecided (Links tree kind x y)
   links_or_not =
       decided_as (λ any. record { path = any.0; target = any.2.0; parts = any.2.1; link = any.2.2; served = any.2.3; says = any.2.4 })
@@ -141,7 +142,7 @@ names_fit fits unit values name is = let value = from_flat_map (names_said fits 
         let word = from_map (unit_reading fits unit) words reading.0 reading.1 in
         read_fits fits name (text_reading unit word.0) (sym (ap read_in word.2) ∙ reading.2)
 
--- all that a unit names to depend on, or to be before or after, has a unit name
+-- all units that the settings name to depend on, or to be before or after, have unit names
 pub record AreNames (d : Dependencies) : Type 0 where
   pub needs : (kind : DependencyKind) (name : List ℕ) → Among (names_in kind d) name → is_unit_name name ≡ true
   pub before : (name : List ℕ) → Among d.before name → is_unit_name name ≡ true
@@ -177,6 +178,7 @@ names_loaded tree asked = by_resolution (resolution_of tree asked)
     by_resolution (AtMask unit) = tt
     by_resolution Nowhere = tt
 
+-- the units that the settings of one that can be loaded name have unit names
 pub names_of_loadable : (tree : Tree) (asked : List ℕ) (l : LoadedUnit) → loadable_in tree asked ≡ Some l → AreNames l.settings.dependencies
 names_of_loadable tree asked l loadable = subst AreNamesIn (loadable_found (load tree asked) l loadable) (names_loaded tree asked)
 
@@ -195,6 +197,7 @@ module _ (tree : Tree) (a : List ℕ) where
   abbrev pub IsLoadable : (LoadedUnit → Type 0) → Type 0
   IsLoadable Has = (l : LoadedUnit) × (loadable_in tree a ≡ Some l) × Has l
 
+  -- it can and has it, or not
   pub loadable_or_not : (Has : LoadedUnit → Type 0) → ((l : LoadedUnit) → IsDecided (Has l)) → IsDecided (IsLoadable Has)
   loadable_or_not Has decided = by_unit (loadable_in tree a) refl
     where
@@ -215,7 +218,7 @@ module _ (tree : Tree) (a : List ℕ) where
   abbrev IsLinked : DependencyKind → List ℕ → List ℕ → Type 0
   IsLinked kind x y = (x ≡ unit_named tree a) × AnyOf (λ name. Links tree kind a name × (y ≡ unit_named tree name)) names_cover.0
 
-  -- the unit is x, which ends with the unit y: that of the shutdown
+  -- the unit is x and ends at a shutdown, and y is the shutdown's unit
   abbrev pub IsEnding : List ℕ → List ℕ → LoadedUnit → Type 0
   IsEnding x y l = (has_defaults l ≡ true) × ((x ≡ l.name) × (y ≡ unit_named tree shutdown_target))
 
@@ -243,6 +246,7 @@ module _ (tree : Tree) (a : List ℕ) where
       both_decided (same_name x (unit_named tree a))
       (any_decided (λ name. Links tree kind a name × (y ≡ unit_named tree name)) (λ name. both_decided (links_or_not tree kind a name) (same_name y (unit_named tree name))) names_cover.0)
 
+  -- it is so or not
   pub ending_or_not : (x y : List ℕ) (l : LoadedUnit) → IsDecided (IsEnding x y l)
   ending_or_not x y l = both_decided (passes_or_not (has_defaults l) true) (both_decided (same_name x l.name) (same_name y (unit_named tree shutdown_target)))
 

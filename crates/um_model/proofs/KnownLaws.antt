@@ -1,24 +1,27 @@
 -- Known units: where more is named, more is known; what is known is decided, and so is what depends on what, and what goes before what.
-use Rattle.std.proofs.Common.{◌≡◌, ◌≢◌, ◌⊎◌, ◌∙◌, ℕ, zero, suc, ◌<◌, ◌≤◌, true, false, List, [], ◌∷◌, ◌++◌, length, All, AllPairs, Option, Some, None, is_some, refl, sym, ap, subst, inl, inr, arith}
+use Rattle.std.proofs.Common.{◌≡◌, ◌≢◌, ◌⊎◌, ◌∙◌, ℕ, ◌≤◌, true, false, List, ◌++◌, length, get_or, AllPairs, Option, Some, None, is_some, refl, sym, ap, subst, inl, inr, arith}
 use Rattle.std.specs.FinMap as map
+use Rattle.std.proofs.lemmas.Bool.{cases_lt}
+use Rattle.std.proofs.lemmas.List.Elements.{All-contains}
 use Rattle.std.proofs.lemmas.Option.{none-some, same_Some}
-use Rattle.um_model.specs.Dependencies.{loadable_in, is_target, shutdown_target, has_defaults, Says, Links, HasEntry, Gives, Declares, Mentions, IsNamed, IsKnown, unit_limit, KnowsTooMany, Depends, IsDeclared, Declines, PullsIn, Orders, Precedes}
+use Rattle.um_model.specs.Dependencies.{is_target, Links, HasEntry, Gives, Declares, Mentions, IsNamed, IsKnown, unit_limit, KnowsTooMany, Depends, IsDeclared, Declines, PullsIn, Orders, Precedes}
 use Rattle.um_model.specs.Dependencies as model
 use Rattle.um_model.specs.Names.{is_template, is_unit_name}
 use Rattle.um_model.specs.Reached.{first, next}
 use Rattle.um_model.specs.Tree.{Tree, Entry, PathParts, Place, Unit as Itself, DropIn, Wants, Requires, path_parts}
-use Rattle.um_model.specs.Units.{LoadedUnit, unit_named}
+use Rattle.um_model.specs.Units.{unit_named}
 use Rattle.um_model.specs.declared.dependencies.DependencyKind.{DependencyKind}
 use Rattle.um_model.specs.declared.dependencies.DependencyKind.TheVariants as kinds
-use Rattle.um_model.proofs.AmongLaws.{both_decided, either_decided, not_decided, passes_or_not, decided_as, AnyOf, any_decided, among_or_not, among_left, among_right, IsListOf, list_of}
+use Rattle.um_model.proofs.AmongLaws.{both_decided, either_decided, not_decided, passes_or_not, decided_as, AnyOf, any_decided, among_or_not, among_left, among_right, contains_among, IsListOf, list_of}
 use Rattle.um_model.proofs.CoverLaws.{names_cover}
 use Rattle.um_model.proofs.DemandsLaws.{reached_in}
-use Rattle.um_model.proofs.GivesLaws.{all_kinds, among_kinds, same_kind, links_or_not, names_of_link, IsLoadable, loadable_or_not, of_same, IsEnding, ending_or_not, gives_or_not, declares_or_not, OwnOrName, names_mentioned, mentions_or_not}
+use Rattle.um_model.proofs.GivesLaws.{all_kinds, among_kinds, links_or_not, names_of_link, IsLoadable, loadable_or_not, of_same, IsEnding, ending_or_not, gives_or_not, declares_or_not, OwnOrName, names_mentioned, mentions_or_not}
 use Rattle.um_model.proofs.LeastLaws.{IsDecided, Among}
 use Rattle.um_model.proofs.NamedLaws.{named_by_name}
+use Rattle.um_model.proofs.OnceLaws.{among_at, no_more, once_each}
 use Rattle.um_model.proofs.OwnNameLaws.{AskedOrName, named_or_asked}
-use Rattle.um_model.proofs.ReachedLaws.{reached_or_not, reached_list}
-use Rattle.um_model.proofs.TimersLaws.{same_name, same_option, among_keys}
+use Rattle.um_model.proofs.ReachedLaws.{reached_or_not}
+use Rattle.um_model.proofs.TimersLaws.{same_name, among_keys}
 use Rattle.um_model.proofs.TreeLaws.{path_of_parts, fit-name}
 
 -- ---- more is known where more is named
@@ -30,7 +33,7 @@ module _ (tree : Tree) (Other Extra : List ℕ → Type 0) (within : (x : List �
   named_grows x (model.link links) = first (model.link links)
   named_grows x (model.extra more) = within x more
 
-  -- where all that is named besides is known by the other names, all that is known is known by them
+  -- where all that the one names besides the tree is known by the other, all that is known by the one is known by the other
   pub known_grows : (x : List ℕ) → IsKnown tree Other x → IsKnown tree Extra x
   known_grows = reached_in (IsKnown tree Extra) named_grows (λ a b known mentions. next known mentions)
 
@@ -69,9 +72,11 @@ module _ (tree : Tree) (x : List ℕ) where
       (λ h. (h.path, among_keys tree h.path (ap is_some h.held), (h.entry, h.parts, h.held, h.served, (h.own, (h.named, h.single)))))
       (any_decided IsEntryAt entry_at_or_not (map.keys tree))
 
+  -- x holds a link of this kind
   abbrev Holds : DependencyKind → Type 0
   Holds kind = AnyOf (λ y. Links tree kind x y) names_cover.0
 
+  -- a link of this kind names x
   abbrev IsHeld : DependencyKind → Type 0
   IsHeld kind = AnyOf (λ holder. Links tree kind holder x) names_cover.0
 
@@ -91,6 +96,7 @@ module _ (tree : Tree) (x : List ℕ) where
     to_named (inr (inr (inl (kind, among, (holder, covered, links))))) = model.link links
     to_named (inr (inr (inr more))) = model.extra more
 
+    -- x is named in the tree or besides, or not
     pub named_or_not : IsDecided (Extra x) → IsDecided (IsNamed tree Extra x)
     named_or_not decided = decided_as to_named from_named (either_decided has_entry_or_not (either_decided holds_or_not (either_decided held_or_not decided)))
       where
@@ -101,7 +107,7 @@ module _ (tree : Tree) (x : List ℕ) where
             inr (inr (inl (kind, among_kinds kind, (holder, names_cover.1 holder (names_of_link tree kind holder x links).0, links))))
         from_named (model.extra more) = inr (inr (inr more))
 
--- ---- what is known is decided, where it is decided what is named besides, and a list has all of that
+-- ---- what is known is decided, where a list has just what is named besides the tree
 
 module _ (tree : Tree) (Extra : List ℕ → Type 0) (extras : List (List ℕ)) where
   -- among those, or a unit name
@@ -154,7 +160,7 @@ module _ (tree : Tree) (Extra : List ℕ → Type 0) (extras : List (List ℕ)) 
     among_known Has decided =
         decided_as (λ any. (any.0, known_list.1.has any.0 any.1, any.2)) (λ h. (h.0, known_list.1.all h.0 h.1, h.2)) (any_decided Has decided known_list.0)
 
-    -- x depends on y so or not
+    -- x depends on y in this kind or not
     pub depends_or_not : (kind : DependencyKind) (x y : List ℕ) → IsDecided (Depends tree Extra kind x y)
     depends_or_not kind x y =
         decided_as (λ h. record { name = h.0.0; known = h.0.1; gives = h.0.2; apart = h.1 }) (λ d. ((d.name, d.known, d.gives), d.apart))
@@ -189,10 +195,11 @@ module _ (tree : Tree) (Extra : List ℕ → Type 0) (extras : List (List ℕ)) 
         (both_decided (either_decided (depends_or_not kinds.Wants x y) (depends_or_not kinds.Requires x y))
         (both_decided (not_decided (declines_or_not x)) (not_decided (declines_or_not y)))))
 
+    -- by one of the three rules x goes before y
     abbrev IsOrdered : List ℕ → List ℕ → Type 0
     IsOrdered x y =
         IsDeclared tree Extra x y
-            ⊎ ((PullsIn tree Extra y x × (¬ IsDeclared tree Extra y x)) ⊎ ((name : List ℕ) × IsKnown tree Extra name × IsLoadable tree name (IsEnding tree name x y)))
+        ⊎ ((PullsIn tree Extra y x × (¬ IsDeclared tree Extra y x)) ⊎ ((name : List ℕ) × IsKnown tree Extra name × IsLoadable tree name (IsEnding tree name x y)))
 
     to_orders : (x y : List ℕ) → IsOrdered x y → Orders tree Extra x y
     to_orders x y (inl d) = model.declared d
@@ -213,3 +220,25 @@ module _ (tree : Tree) (Extra : List ℕ → Type 0) (extras : List (List ℕ)) 
         (either_decided (both_decided (pulled_or_not y x) (not_decided (declared_or_not y x)))
         (among_known (λ name. IsLoadable tree name (IsEnding tree name x y)) (λ name. loadable_or_not tree name (IsEnding tree name x y) (ending_or_not tree name x y)))))
         (not_decided (same_name x y)))
+
+    -- a list has each known unit once
+    pub known_once : (xs : List (List ℕ)) × IsListOf (IsKnown tree Extra) xs × AllPairs (λ x y. x ≢ y) xs
+    known_once = by_list (once_each same_name known_list.0)
+      where
+        by_list : (xs : List (List ℕ)) × IsListOf (Among known_list.0) xs × AllPairs (λ x y. x ≢ y) xs
+            → (xs : List (List ℕ)) × IsListOf (IsKnown tree Extra) xs × AllPairs (λ x y. x ≢ y) xs
+        by_list (xs, once, apart) =
+            (xs, record { has = λ x among. known_list.1.has x (once.has x among); all = λ x known. once.all x (known_list.1.all x known) }, apart)
+
+    -- too many are known or not
+    pub too_many_or_not : IsDecided (KnowsTooMany tree Extra)
+    too_many_or_not = by_list known_once
+      where
+        no_longer : (xs : List (List ℕ)) → IsListOf (IsKnown tree Extra) xs → (k : KnowsTooMany tree Extra) → length k.names ≤ length xs
+        no_longer xs list k = no_more k.names xs k.apart (λ z among. list.all z (All-contains (IsKnown tree Extra) k.names z k.known (contains_among k.names z among)))
+
+        by_list : (xs : List (List ℕ)) × IsListOf (IsKnown tree Extra) xs × AllPairs (λ x y. x ≢ y) xs → IsDecided (KnowsTooMany tree Extra)
+        by_list (xs, list, apart) = elim (cases_lt unit_limit (length xs)) as (λ _. IsDecided (KnowsTooMany tree Extra)) [
+          | inl more ↦ inl (record { names = xs; known = λ k d few. list.has (get_or xs k d) (among_at xs k d few); apart = apart; many = more })
+          | inr few ↦ inr (λ k. omega (arith, few, k.many, no_longer xs list k))
+        ]

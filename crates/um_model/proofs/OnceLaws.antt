@@ -1,12 +1,13 @@
 -- A list that has each of its elements once is no longer than any that has them all; and each list has one with the same elements.
-use Rattle.std.proofs.Common.{◌≡◌, ◌≢◌, ◌⊎◌, ◌+◌, ◌<◌, ◌≤◌, ◌∙◌, ℕ, suc, List, [], ◌∷◌, length, get_or, AllPairs, Contains, refl, sym, subst, inl, inr, arith}
+use Rattle.std.proofs.Common.{◌≡◌, ◌≢◌, ◌+◌, ◌<◌, ◌≤◌, ◌∙◌, ℕ, suc, List, [], ◌∷◌, length, get_or, AllPairs, Contains, refl, sym, subst, inl, inr, arith}
 use Rattle.std.proofs.lemmas.List.Elements.{Contains-get_or}
 use Rattle.std.proofs.lemmas.List.Kept.{AllPairs-cons}
 use Rattle.um_model.proofs.AmongLaws.{among_or_not, among_contained, contains_among, IsListOf}
 use Rattle.um_model.proofs.LeastLaws.{IsDecided, Among}
 
 module _ {A : Type 0} where
-  among_at : (xs : List A) (k : ℕ) (d : A) → k < length xs → Among xs (get_or xs k d)
+  -- what stands at a place is among the list
+  pub among_at : (xs : List A) (k : ℕ) (d : A) → k < length xs → Among xs (get_or xs k d)
   among_at xs k d few = among_contained xs (get_or xs k d) (Contains-get_or xs k d few)
 
   -- an element is taken out of a list once: all others stay

@@ -1,6 +1,5 @@
 -- What a unit says is said by its own name, so dependencies and the order of known units don't ask what else is known.
 use Rattle.std.proofs.Common.{◌≡◌, ◌⊎◌, ◌∙◌, ℕ, zero, suc, Bool, true, false, cond, List, [], ◌∷◌, Option, Some, None, refl, sym, ap, subst, inl, inr}
-use Rattle.std.specs.Str.{bytes_eq}
 use Rattle.std.proofs.lemmas.Option.{none-some, same_Some}
 use Rattle.std.proofs.lemmas.Slice.Eq.{bytes_eq-Decides}
 use Rattle.um_model.specs.Dependencies.{loadable_of, loadable_in, has_defaults, shutdown_target, Gives, Declares, IsKnown, Depends, IsDeclared, PullsIn, Orders, Precedes}
@@ -14,10 +13,7 @@ use Rattle.um_model.specs.declared.dependencies.DependencyKind.{DependencyKind}
 use Rattle.um_model.specs.declared.names.Suffix.{Suffix}
 use Rattle.um_model.proofs.NamesLaws.{suffix_of-append}
 
--- ---- a unit's own name leads where the names do that lead to it
-
-bytes_same : (a b : List ℕ) → bytes_eq a b ≡ true → a ≡ b
-bytes_same a b = (bytes_eq-Decides a b).0
+-- ---- a unit's own name leads where each name leads that leads to the unit
 
 suffix_of_text : (type : Option Suffix) → suffix_of (suffix_text_of type) ≡ type
 unfolding suffix_of
@@ -27,26 +23,26 @@ suffix_of_text (Some suffix) = suffix_of-append [] suffix
 same_type : (unit other : List ℕ) → is_of_same_type unit other ≡ true → suffix_of unit ≡ suffix_of other
 same_type unit other same =
     sym (suffix_of_text (suffix_of unit))
-    ∙ (ap suffix_of (bytes_same (suffix_text_of (suffix_of unit)) (suffix_text_of (suffix_of other)) same) ∙ suffix_of_text (suffix_of other))
+    ∙ (ap suffix_of ((bytes_eq-Decides (suffix_text_of (suffix_of unit)) (suffix_text_of (suffix_of other))).0 same) ∙ suffix_of_text (suffix_of other))
 
 -- the unit has the name that was asked for, or a unit name
 abbrev pub AskedOrName : List ℕ → List ℕ → Type 0
 AskedOrName asked unit = (unit ≡ asked) ⊎ (is_unit_name unit ≡ true)
 
--- of a name that leads to a unit: the unit has its type, and its own name, which leads there too by however many hops, or a unit name
+-- a unit to which the asked name leads has that name's type, is led to the same by its own name in however many hops, and is named so or by a unit name
 record Stays (tree : Tree) (asked unit : List ℕ) (r : Resolution) : Type 0 where
   type : suffix_of asked ≡ suffix_of unit
   stays : (hops : ℕ) → resolved hops tree unit ≡ r
   is_name : AskedOrName asked unit
 
--- the same of where it leads, if anywhere
+-- so does the unit of where a name leads, where there is one
 abbrev Returns : Tree → List ℕ → Resolution → Type 0
 Returns tree asked (AtFile unit path text) = Stays tree asked unit (AtFile unit path text)
 Returns tree asked (AtNoFile unit) = Stays tree asked unit (AtNoFile unit)
 Returns tree asked (AtMask unit) = Stays tree asked unit (AtMask unit)
 Returns tree asked Nowhere = Unit {0}
 
--- a name that a hop leads on to has a unit name
+-- a hop leads on to a unit name of the same type
 stays_before : (tree : Tree) (asked other unit : List ℕ) (r : Resolution) → suffix_of asked ≡ suffix_of other → is_unit_name other ≡ true → Stays tree other unit r → Stays tree asked unit r
 stays_before tree asked other unit r same named s = record { type = same ∙ s.type; stays = s.stays; is_name = inr (by_name s.is_name) }
   where
@@ -98,11 +94,12 @@ returns : (hops : ℕ) (tree : Tree) (unit : List ℕ) → Returns tree unit (re
 returns zero tree unit = returns_at tree unit (λ other. Nowhere) (λ other. tt) (held tree unit) refl
 returns (suc hops) tree unit = returns_at tree unit (resolved hops tree) (returns hops tree) (held tree unit) refl
 
--- the unit to which a name leads is led to the same by its own, which is that name or a unit name
+-- the unit's own name leads to the same in all hops that are allowed, and is the asked one or a unit name
 record OwnName (tree : Tree) (asked unit : List ℕ) (r : Resolution) : Type 0 where
   leads : resolution_of tree unit ≡ r
   is_name : AskedOrName asked unit
 
+-- so does that of the unit to which the asked name leads, where it leads to one
 abbrev HasOwn : Tree → List ℕ → Resolution → Type 0
 HasOwn tree asked (AtFile unit path text) = OwnName tree asked unit (AtFile unit path text)
 HasOwn tree asked (AtNoFile unit) = OwnName tree asked unit (AtNoFile unit)
@@ -182,7 +179,7 @@ loadable_by_own tree asked l loadable =
     let found = loadable_found (load tree asked) l loadable in
     ap loadable_of (found_by_own tree asked l found ∙ sym found) ∙ loadable
 
--- which counts for each name that leads to it
+-- its name counts for each name that leads to it
 pub name_of_loadable : (tree : Tree) (asked : List ℕ) (l : LoadedUnit) → loadable_in tree asked ≡ Some l → unit_named tree asked ≡ l.name
 name_of_loadable tree asked l loadable = ap (name_in asked) (loadable_found (load tree asked) l loadable)
 
@@ -195,13 +192,13 @@ module _ (tree : Tree) (Other Extra : List ℕ → Type 0) where
   gives_anyhow name _ _ _ known (model.linked links) = (name, first (model.holder links), model.linked links)
   gives_anyhow name _ _ _ known (model.ends {l = l} loadable defaults) = (l.name, known, model.ends (loadable_by_own tree name l loadable) defaults)
 
-  -- a known unit depends on each unit on which it does where other names are known
+  -- a known unit depends on all on which it does where other names are known
   pub depends_by_known : (kind : DependencyKind) (x y : List ℕ) → IsKnown tree Extra x → Depends tree Other kind x y → Depends tree Extra kind x y
   depends_by_known kind x y known d =
       let own = gives_anyhow d.name kind x y known d.gives in
       record { name = own.0; known = own.1; gives = own.2; apart = d.apart }
 
-  -- the same of two known units
+  -- so does one known unit on another
   pub depends_anyhow : (kind : DependencyKind) (x y : List ℕ) → IsKnown tree Extra x → IsKnown tree Extra y → Depends tree Other kind x y → Depends tree Extra kind x y
   depends_anyhow kind x y known too d = depends_by_known kind x y known d
 
@@ -209,7 +206,7 @@ module _ (tree : Tree) (Other Extra : List ℕ → Type 0) where
   declares_anyhow name _ _ known too (model.precedes {l = l} loadable names) = (l.name, known, model.precedes (loadable_by_own tree name l loadable) names)
   declares_anyhow name _ _ known too (model.follows {l = l} loadable names) = (l.name, too, model.follows (loadable_by_own tree name l loadable) names)
 
-  -- of two known units the one is declared before the other where it is by other known names
+  -- of two known units the one is declared before the other where it is when other names are known
   pub declared_anyhow : (x y : List ℕ) → IsKnown tree Extra x → IsKnown tree Extra y → IsDeclared tree Other x y → IsDeclared tree Extra x y
   declared_anyhow x y known too d =
       let own = declares_anyhow d.name x y known too d.declares in
@@ -236,6 +233,6 @@ module _ (tree : Tree) (Other Extra : List ℕ → Type 0) where
       (λ d. isnt (declared_anyhow tree Extra Other x y (next p.depends.known (model.owner p.depends.gives)) (next p.depends.known (model.other p.depends.gives)) d))
   orders_anyhow _ _ known too (model.ending {a = a} {l = l} other loadable defaults) = ending_anyhow tree Other Extra a l known loadable defaults
 
-  -- two known units are in the order in which they are where other names are known
+  -- of two known units the one goes before the other where it does when other names are known
   pub precedes_anyhow : (x y : List ℕ) → IsKnown tree Extra x → IsKnown tree Extra y → Precedes tree Other x y → Precedes tree Extra x y
   precedes_anyhow x y known too p = record { orders = orders_anyhow x y known too p.orders; apart = p.apart }
