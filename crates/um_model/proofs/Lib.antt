@@ -51,3 +51,7 @@ pub mod PlanLaws
 pub mod DemandedLaws
 pub mod CycleLaws
 pub mod PlannedLaws
+pub mod OwnNameLaws
+pub mod OnceLaws
+pub mod GivesLaws
+pub mod KnownLaws
