@@ -1,5 +1,5 @@
 -- How many units are known, by the names that were followed.
-use Rattle.std.proofs.Common.{◌≡◌, ◌≢◌, ◌↔◌, ◌∙◌, ◌+◌, ◌<◌, ◌≤◌, ℕ, zero, suc, List, [], ◌∷◌, length, get_or, AllPairs, Contains, IsSome, refl, sym, inl, inr, arith}
+use Rattle.std.proofs.Common.{◌≡◌, ◌≢◌, ◌↔◌, ◌∙◌, ◌+◌, ◌<◌, ◌≤◌, ℕ, zero, suc, List, [], ◌∷◌, length, get_or, AllPairs, Contains, IsSome, Option, Some, None, max, unwrap_or, refl, sym, ap, subst, inl, inr, arith}
 use Rattle.std.specs.BTreeMap as sorted
 use Rattle.std.specs.BTreeMap.{btree_map_len}
 use Rattle.std.specs.Cmp.Lexicographic.{slice_cmp, nat_list_cmp_total}
@@ -9,9 +9,9 @@ use Rattle.std.proofs.lemmas.List.Elements.{All-contains, Contains-get_or}
 use Rattle.std.proofs.lemmas.Map.Keys.{Less-from_sorted}
 use Rattle.std.proofs.lemmas.Map.Lookups.{exact_bytes}
 use Rattle.std.proofs.lemmas.Map.Views.{btree_map_contains_key_iff}
-use Rattle.um_model.specs.Dependencies.{IsKnown, KnowsTooMany}
-use Rattle.um_model.specs.Tree.{Tree}
-use Rattle.um_graph.specs.Known.{IsUnderWay, Loaded}
+use Rattle.um_model.specs.Dependencies.{CountsFor, IsKnown, KnowsSoMany, KnowsTooMany}
+use Rattle.um_model.specs.Tree.{Tree, without_run}
+use Rattle.um_graph.specs.Known.{CountsLasting, IsUnderWay, Loaded}
 use Rattle.um_graph.specs.declared.told.Told.{Told}
 use Rattle.um_graph.proofs.KnownLaws.{all_followed}
 use Rattle.um_graph.proofs.ListLaws.{cons_in, in_cons}
@@ -48,7 +48,26 @@ module _ (tree : Tree) (extra : List (List ℕ)) (loaded : Loaded) where
     many = omega (arith, m, length-map loaded.entries (λ (e : List ℕ × _). e.0));
   }
 
+  pub knows : (told : List Told) → IsUnderWay tree extra loaded [] told → sorted.IsOrdered (slice_cmp nat_cmp) loaded → KnowsSoMany tree (Contains extra) (btree_map_len loaded)
+  knows told w o = record {
+    names = sorted.keys loaded;
+    whole = λ x. (λ c. w.known x (inl ((keys_followed x).1 c)), λ k. (keys_followed x).0 (all_followed tree extra loaded told w x k));
+    apart = λ i j d lt le e. not_before_itself _ _ (Less-from_sorted (slice_cmp nat_cmp) (sorted.keys loaded) i j d o lt le) e;
+    long = length-map loaded.entries (λ (e : List ℕ × _). e.0);
+  }
+
   pub not_too_many : (told : List Told) → IsUnderWay tree extra loaded [] told → btree_map_len loaded ≤ 1024 → KnowsTooMany tree (Contains extra) → ⊥
   not_too_many told w m k =
       let few = no_more k.names (sorted.keys loaded) k.apart (λ z c. (keys_followed z).0 (all_followed tree extra loaded told w z (All-contains (IsKnown tree (Contains extra)) k.names z k.known c))) in
       omega (arith, m, k.many, few, length-map loaded.entries (λ (e : List ℕ × _). e.0))
+
+-- the greater of the two counts, where the tree without its entries under `run/` is another
+pub counts_for : (tree : Tree) (extra : List (List ℕ)) (o : Option ℕ) (held n count : ℕ) → CountsLasting tree extra o → KnowsSoMany tree (Contains extra) held → n ≡ held → count ≡ max n (unwrap_or o n) → CountsFor tree (Contains extra) count
+counts_for tree extra None held n count same knows is e =
+    record { held = held; lasting = held; by_tree = knows; by_rest = subst (λ t. KnowsSoMany t (Contains extra) held) (sym same) knows; greater = e ∙ ap (λ m. max m m) is }
+counts_for tree extra (Some lasting) held n count told knows is e =
+    record { held = held; lasting = lasting; by_tree = knows; by_rest = told.0; greater = e ∙ ap (λ m. max m lasting) is }
+
+pub few_lasting : (tree : Tree) (extra : List (List ℕ)) (o : Option ℕ) → CountsLasting tree extra o → ¬ KnowsTooMany tree (Contains extra) → ¬ KnowsTooMany (without_run tree) (Contains extra)
+few_lasting tree extra None same few k = few (subst (λ t. KnowsTooMany t (Contains extra)) same k)
+few_lasting tree extra (Some lasting) told few k = told.1 k

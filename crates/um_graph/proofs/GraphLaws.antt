@@ -394,14 +394,14 @@ module _ (tree : Tree) (extra : List (List ℕ)) (loaded : Loaded) (told : List 
     rows_long : length (map (λ (u : Unit). values_of u.row.neighbours.entries) units) ≡ length (names_of units)
     rows_long = length-map units (λ (u : Unit). values_of u.row.neighbours.entries) ∙ sym (length-map units (λ (u : Unit). u.name))
 
-    stands_out : (bit i j : ℕ) → Stands (graph_of units).rows bit i j → Joins units bit i j
+    stands_out : (bit i j : ℕ) → Stands (map (λ (u : Unit). values_of u.row.neighbours.entries) units) bit i j → Joins units bit i j
     stands_out bit i j h = subst (λ ns. Holds ns bit j) (row_seen units i) h
 
-    stands_in : (bit i j : ℕ) → Joins units bit i j → Stands (graph_of units).rows bit i j
+    stands_in : (bit i j : ℕ) → Joins units bit i j → Stands (map (λ (u : Unit). values_of u.row.neighbours.entries) units) bit i j
     stands_in bit i j h = subst (λ ns. Holds ns bit j) (sym (row_seen units i)) h
 
-    pub graph_is : IsGraphOf tree Extra (graph_of units)
-    graph_is = record {
+    pub graph_is : (count : ℕ) → IsGraphOf tree Extra (graph_of units count)
+    graph_is count = record {
       known = known_iff;
       sorted = ascend;
       loaded = loading_there;
@@ -425,10 +425,18 @@ module _ (tree : Tree) (extra : List (List ℕ)) (loaded : Loaded) (told : List 
       rowed = rows_long;
     }
 
-    pub graph_sound : IsGraph (graph_of units)
-    graph_sound = record {
+    pub graph_sound : (count : ℕ) → IsGraph (graph_of units count)
+    graph_sound count = record {
       loaded = length-map units (λ (u : Unit). u.loading) ∙ sym (length-map units (λ (u : Unit). u.name));
       rowed = rows_long;
       sorted = ascend;
       within = rows_within;
+      mirrored = λ kind i j. (
+        λ h. stands_in (bit_of kind) j i ((depends_iff kind j i).1 ((needed_iff kind i j).0 (stands_out (inverse_bit_of kind) i j h))),
+        λ h. stands_in (inverse_bit_of kind) i j ((needed_iff kind i j).1 ((depends_iff kind j i).0 (stands_out (bit_of kind) j i h))),
+      );
+      ordered = λ i j. (
+        λ h. stands_in before_bit j i ((before_iff j i).1 ((after_iff i j).0 (stands_out after_bit i j h))),
+        λ h. stands_in after_bit i j ((after_iff i j).1 ((before_iff j i).0 (stands_out before_bit j i h))),
+      );
     }

@@ -12,11 +12,12 @@ use Rattle.um_unit.specs.declared.loaded.Loading.{Loading}
 use Rattle.um_graph.specs.Kinds.{bit_of, inverse_bit_of, before_bit, after_bit, has}
 use Rattle.um_graph.specs.declared.row.Neighbour.{Neighbour}
 
--- of each unit, by its number: its name, what became of its look, and its neighbours
+-- of each unit, by its number: its name, what became of its look, and its neighbours; and for how many units the tree counts
 pub record GraphView : Type 0 where
   pub names : List (List ℕ)
   pub loadings : List Loading
   pub rows : List (List Neighbour)
+  pub count : ℕ
 
 -- a neighbour in the list is the unit, and stands to it in this way
 pub record Holds (neighbours : List Neighbour) (bit unit : ℕ) : Type 0 where
@@ -37,12 +38,15 @@ row_of rows x = neighbours_or_none (slice_get rows x)
 abbrev pub Stands : List (List Neighbour) → ℕ → ℕ → ℕ → Type 0
 Stands rows bit x y = Holds (row_of rows x) bit y
 
--- there is a row and a loading for each name, the names ascend, and each neighbour is one of the units
+-- there is a row and a loading for each name, the names ascend, each neighbour is one of the units, and each dependency stands in
+-- the rows of both units, as the order does
 pub record IsGraph (g : GraphView) : Type 0 where
   pub loaded : length g.loadings ≡ length g.names
   pub rowed : length g.rows ≡ length g.names
   pub sorted : AllPairs IsNamedBefore g.names
   pub within : All (All (λ (n : Neighbour). n.unit < length g.names)) g.rows
+  pub mirrored : (kind : DependencyKind) (i j : ℕ) → Stands g.rows (inverse_bit_of kind) i j ↔ Stands g.rows (bit_of kind) j i
+  pub ordered : (i j : ℕ) → Stands g.rows after_bit i j ↔ Stands g.rows before_bit j i
 
 -- the number of the unit is its place among the names
 abbrev pub IsNumberOf : GraphView → ℕ → List ℕ → Type 0

@@ -1,14 +1,14 @@
 -- Units on the way to be known: names that were followed, names that are left, and what was told.
 -- Follows the definition of known units, a least set, as a work list finds it.
 -- The contracts of the search stand on this file.
-use Rattle.std.specs.Prelude.{◌≡◌, ◌⊎◌, ℕ, true, List, [], ◌∷◌, ◌++◌, Contains, Option, Some, is_some, if◌then◌else◌}
+use Rattle.std.specs.Prelude.{◌≡◌, ◌⊎◌, ℕ, true, List, [], ◌∷◌, ◌++◌, Contains, Option, Some, None, is_some, if◌then◌else◌}
 use Rattle.std.specs.BTreeMap.{BTreeMap, get}
 use Rattle.std.specs.Cmp.Lexicographic.{slice_cmp}
 use Rattle.std.specs.FinMap as map
 use Rattle.std.specs.List.{flat_map}
 use Rattle.std.specs.Ordering.{nat_cmp}
-use Rattle.um_model.specs.Dependencies.{IsKnown, IsNamed}
-use Rattle.um_model.specs.Tree.{Tree}
+use Rattle.um_model.specs.Dependencies.{IsKnown, IsNamed, KnowsSoMany, KnowsTooMany}
+use Rattle.um_model.specs.Tree.{Tree, without_run}
 use Rattle.um_model.specs.Units.{load}
 use Rattle.um_unit.specs.View.{loading_of}
 use Rattle.um_unit.specs.declared.loaded.Loading.{Loading}
@@ -55,6 +55,11 @@ pub record IsUnderWay (tree : Tree) (extra : List (List ℕ)) (loaded : Loaded) 
   pub linked : (t : Told) → Contains (links_told tree) t → Contains told t
   pub whole : (x : List ℕ) → IsFollowed loaded x → (t : Told) → Contains (told_in tree x) t → Contains told t
   pub ends : (t : Told) → Contains told t → IsMet loaded left t.from × IsMet loaded left t.to
+
+-- so many units are known, and not too many, by the tree without its entries under `run/`; nothing is told where it is the tree itself
+abbrev pub CountsLasting : Tree → List (List ℕ) → Option ℕ → Type 0
+CountsLasting tree extra None = without_run tree ≡ tree
+CountsLasting tree extra (Some count) = KnowsSoMany (without_run tree) (Contains extra) count × ¬ KnowsTooMany (without_run tree) (Contains extra)
 
 -- names were left out that had been followed, and no other
 pub record LeavesOut (loaded : Loaded) (old new : List (List ℕ)) : Type 0 where

@@ -1,15 +1,16 @@
 -- What the code holds as what the definitions speak of.
 -- Follows no manual page: it is how the code keeps it.
 -- The contracts of the graph stand on this file.
-use Rattle.std.specs.Prelude.{List, map}
+use Rattle.std.specs.Prelude.{ℕ, List, map}
 use Rattle.std.specs.Map.{values_of}
 use Rattle.um_graph.specs.Graph.{GraphView}
 use Rattle.um_graph.specs.declared.units.Unit.{Unit}
 
--- the units by their numbers
-abbrev pub graph_of : List Unit → GraphView
-graph_of units = record {
+-- the units by their numbers, and for how many the tree counts
+abbrev pub graph_of : List Unit → ℕ → GraphView
+graph_of units count = record {
   names = map (λ u. u.name) units;
   loadings = map (λ u. u.loading) units;
   rows = map (λ u. values_of u.row.neighbours.entries) units;
+  count = count;
 }

@@ -1,8 +1,9 @@
-ghost use Rattle.std.specs.Prelude.{◌≡◌, ◌⊎◌, Option, Some, Contains, IfOk, IfErr, MatchOption, OnOk, length, option_copied, slice_get};
-ghost use Rattle.um_model.specs.Dependencies.{KnowsTooMany};
+ghost use Rattle.std.specs.Prelude.{◌≡◌, ◌⊎◌, Option, Some, Contains, IfOk, IfErr, MatchOption, length, max, option_copied, slice_get, unwrap_or};
+ghost use Rattle.um_model.specs.Dependencies.{CountsFor, KnowsTooMany};
 ghost use Rattle.um_model.specs.Tree.{without_run};
 ghost use Rattle.um_graph.specs.Edges.{AreUnits};
 ghost use Rattle.um_graph.specs.Graph.{GraphView, IsGraph, IsGraphOf, row_of};
+ghost use Rattle.um_graph.specs.Known.{CountsLasting};
 ghost use Rattle.um_graph.specs.View.{graph_of};
 ghost use Rattle.um_wire.specs.declared.refusal.Refusal.TheVariants as refusals;
 ghost use Rattle.um_model.specs.declared.refusals.Limit.TheVariants as limits;
@@ -23,14 +24,15 @@ use um_wire::Refusal;
 #[derive(Drop)]
 pub struct Graph {
     units: Units,
+    count: usize,
 }
 
 impl Model for Graph {
     ghost Value = { GraphView };
 
-    ghost view = { λ g. graph_of g.units.units.items };
+    ghost view = { λ g. graph_of g.units.units.items g.count };
 
-    ghost invariant = { λ g. IsGraph (graph_of g.units.units.items) };
+    ghost invariant = { λ g. IsGraph (graph_of g.units.units.items g.count) };
 }
 
 impl Graph {
@@ -39,16 +41,27 @@ impl Graph {
     /// (E13 `units`), and want of memory (E15).
     pub fn of(alloc: Global, tree: &Tree, extra: &[UnitName]) -> Result<Graph, Refusal>
         ensures graph { IfOk result (λ g. IsGraphOf tree.now (λ x. Contains extra.now x) g) }
+        ensures count { IfOk result (λ g. CountsFor tree.now (λ x. Contains extra.now x) g.count) }
         ensures few { IfOk result (λ _. ¬ (KnowsTooMany tree.now (λ x. Contains extra.now x)
             ⊎ KnowsTooMany (without_run tree.now) (λ x. Contains extra.now x))) }
         ensures refused { IfErr result (λ e. ¬ (e ≡ refusals.NoMemory) → (e ≡ refusals.TooLarge limits.Units)
             × (KnowsTooMany tree.now (λ x. Contains extra.now x) ⊎ KnowsTooMany (without_run tree.now) (λ x. Contains extra.now x))) }
     {
-        check_lasting(alloc, tree, extra)?;
+        let lasting = lasting_count(alloc, tree, extra)?;
         let known = Known::of(alloc, tree, extra)?;
+        let count = greater(known.loaded.len(), lasting);
         Ok(Graph {
             units: joined_units(alloc, known)?,
+            count,
         })
+    }
+
+    /// For how many units the tree counts: the greater of the counts of known units now and without the entries under `run/`.
+    pub fn count(&self) -> usize
+        ensures count { result ≡ self.now.count }
+        ensures graph { IsGraph self.now }
+    {
+        self.count
     }
 
     /// How many units there are.
@@ -97,16 +110,29 @@ impl Graph {
     }
 }
 
-/// Refuses too many units that are known by the tree without its entries under `run/`.
-fn check_lasting(alloc: Global, tree: &Tree, extra: &[UnitName]) -> Result<(), Refusal>
-    ensures few { OnOk result (¬ KnowsTooMany (without_run tree.now) (Contains extra.now)) }
+/// How many units are known by the tree without its entries under `run/`, where it has any; refused are too many.
+fn lasting_count(alloc: Global, tree: &Tree, extra: &[UnitName]) -> Result<Option<usize>, Refusal>
+    ensures counts { IfOk result (λ count. CountsLasting tree.now extra.now count) }
     ensures refused { IfErr result (λ e. ¬ (e ≡ refusals.NoMemory)
         → (e ≡ refusals.TooLarge limits.Units) × KnowsTooMany (without_run tree.now) (Contains extra.now)) }
 {
+    if !tree.has_run() {
+        return Ok(None);
+    }
     let mut lasting = tree.copy()?;
     lasting.clear_run();
-    Known::of(alloc, &lasting, extra)?;
-    Ok(())
+    let known = Known::of(alloc, &lasting, extra)?;
+    Ok(Some(known.loaded.len()))
+}
+
+/// The greater of two counts, where there are two.
+fn greater(count: usize, other: Option<usize>) -> usize
+    ensures { result ≡ max count (unwrap_or other count) }
+{
+    match other {
+        Some(other) if other > count => other,
+        _ => count,
+    }
 }
 
 /// The known units, joined by what they tell.

@@ -5,7 +5,7 @@ ghost use Rattle.std.specs.BTreeMap.{IsOrdered, btree_map_len};
 ghost use Rattle.std.specs.Cmp.Lexicographic.{slice_cmp};
 ghost use Rattle.std.specs.List.{flat_map};
 ghost use Rattle.std.specs.Ordering.{nat_cmp};
-ghost use Rattle.um_model.specs.Dependencies.{KnowsTooMany, loadable_of};
+ghost use Rattle.um_model.specs.Dependencies.{KnowsSoMany, KnowsTooMany, loadable_of};
 ghost use Rattle.um_model.specs.declared.refusals.Limit.TheVariants as limits;
 ghost use Rattle.um_wire.specs.declared.refusal.Refusal.TheVariants as refusals;
 ghost use Rattle.um_unit.specs.View.{loading_of};
@@ -136,6 +136,7 @@ impl Known {
     /// All known units, and what they tell. Refused is a tree by which more than 1,024 units are known (E13 `units`).
     pub(crate) fn of(alloc: Global, tree: &Tree, extra: &[UnitName]) -> Result<Known, Refusal>
         ensures whole { IfOk result (λ k. IsUnderWay tree.now extra.now k.loaded [] k.told.items) }
+        ensures count { IfOk result (λ k. KnowsSoMany tree.now (Contains extra.now) (btree_map_len k.loaded)) }
         ensures few { IfOk result (λ _. ¬ KnowsTooMany tree.now (Contains extra.now)) }
         ensures refused { IfErr result (λ e. ¬ (e ≡ refusals.NoMemory)
             → (e ≡ refusals.TooLarge limits.Units) × KnowsTooMany tree.now (Contains extra.now)) }

@@ -1,11 +1,11 @@
 -- Laws of the tree: what each change keeps, and that a served path has its parts and no others.
-use Rattle.std.proofs.Common.{◌≡◌, ℕ, ◌+◌, ◌-◌, ◌<◌, ◌≤◌, nat_eq, nat_le, nat_lt, Bool, true, false, not, ◌&&◌, cond, T, List, [], ◌∷◌, ◌++◌, length, take, drop, get_or, codes, Option, Some, None, is_none, is_some, option_map, Ordering, Less, Equal, Greater, refl, sym, ap, ◌∙◌, subst, append_assoc, append-nil, take-append-drop, take_at, length-append, lit≤, arith}
+use Rattle.std.proofs.Common.{◌≡◌, ℕ, ◌+◌, ◌-◌, ◌<◌, ◌≤◌, nat_eq, nat_le, nat_lt, Bool, true, false, not, ◌&&◌, ◌||◌, cond, T, List, [], ◌∷◌, ◌++◌, length, take, drop, get_or, codes, Option, Some, None, is_none, is_some, option_map, Ordering, Less, Equal, Greater, refl, sym, ap, ◌∙◌, subst, append_assoc, append-nil, take-append-drop, take_at, length-append, lit≤, arith}
 use Rattle.std.specs.Cmp.{tied_itself}
 use Rattle.std.specs.Cmp.Lexicographic.{slice_cmp, nat_list_cmp_total}
 use Rattle.std.specs.FinMap as map
 use Rattle.std.specs.FinMap.{nat_cmp-IsAntisymmetric, slice_cmp-IsAntisymmetric}
 use Rattle.std.specs.FinMap.Entries.{find, below_all, is_sorted, where_key, is_sorted-where_key, find-where_key}
-use Rattle.std.specs.List.{list_all, starts_with, ends_with, position_or_len, before_first, after_first}
+use Rattle.std.specs.List.{list_all, list_any, starts_with, ends_with, position_or_len, before_first, after_first}
 use Rattle.std.specs.Ordering.{nat_cmp, eq_by_cmp, is_eq, is_lt}
 use Rattle.std.specs.Str.{bytes_eq}
 use Rattle.std.proofs.lemmas.Bool.{leb-false, ltb-true, ltb-false, lt-ltb, le-ltb, le-leb, eqb-true, ne_eqb, and_from, and_parts, cond-true, false≢true, not-false}
@@ -18,7 +18,7 @@ use Rattle.std.proofs.lemmas.Option.{same_Some}
 use Rattle.std.proofs.lemmas.Slice.Eq.{bytes_eq-Decides, starts_is}
 use Rattle.um_model.specs.Names.{is_prefix_byte, is_instance_byte, is_fit_instance, instance_text, suffix_text, is_unit_name, is_template}
 use Rattle.um_model.specs.Refusals.{Refused, cause, first_cause}
-use Rattle.um_model.specs.Tree.{layer_text, Place, Unit, DropIn, Wants, Requires, place_text, PathParts, is_drop_in_name, is_plain_name, is_fit_place, IsPathOf, is_slash, behind, before, around_slash, layer_among, layer_and_rest, place_among, place_in, unit_and_place, where_fit, parts_behind, path_parts, Entry, File, Link, Tree, IsTree, entry_limit, text_limit, is_served, is_fit_entry, is_fit_at, is_fit_target, is_link, is_other_than_link, is_full_for, put_cause, link_cause, is_volatile, without_run, path_text, are_fit}
+use Rattle.um_model.specs.Tree.{layer_text, Place, Unit, DropIn, Wants, Requires, place_text, PathParts, is_drop_in_name, is_plain_name, is_fit_place, IsPathOf, is_slash, behind, before, around_slash, layer_among, layer_and_rest, place_among, place_in, unit_and_place, where_fit, parts_behind, path_parts, Entry, File, Link, Tree, IsTree, entry_limit, text_limit, is_served, is_fit_entry, is_fit_at, is_fit_target, is_link, is_other_than_link, is_full_for, put_cause, link_cause, is_volatile, has_run, without_run, path_text, are_fit}
 use Rattle.um_model.specs.declared.names.Suffix.{Suffix}
 use Rattle.um_model.specs.declared.names.Suffix.TheVariants.{Service, Socket, Device, Mount, Automount, Swap, Target, Path, Timer, Slice, Scope}
 use Rattle.um_model.specs.declared.tree.Layer.{Layer}
@@ -115,6 +115,20 @@ without_run_keeps tree is =
       fit = λ q. ap (is_fit_at q) (map.get-retain_keys tree p q (λ x e. ap p (sym (slice_cmp-IsAntisymmetric nat_cmp-IsAntisymmetric q x e)))) ∙ some_or_none (p q) q (map.get tree q) (is.fit q);
       few = omega (arith, is.few, map.len-entries tree, map.len-entries (map.retain_keys tree p), ap length (entries-retain_keys tree p), length-filter (λ e. p e.0) (map.entries tree), count_by-le-length (λ e. p e.0) (map.entries tree));
     }
+
+-- a tree with no entry under `run/` comes out of a boot as it is
+all_kept : (es : List (List ℕ × Entry)) → list_any (λ e. is_volatile e.0) es ≡ false → where_key (slice_cmp nat_cmp) (λ path. not (is_volatile path)) es ≡ es
+all_kept [] h = refl
+all_kept (e ∷ es) h = by (is_volatile e.0) refl h (all_kept es)
+  where
+    by : (b : Bool) → is_volatile e.0 ≡ b → (b || list_any (λ e. is_volatile e.0) es) ≡ false → (list_any (λ e. is_volatile e.0) es ≡ false → where_key (slice_cmp nat_cmp) (λ path. not (is_volatile path)) es ≡ es)
+        → cond (not (is_volatile e.0)) (e ∷ where_key (slice_cmp nat_cmp) (λ path. not (is_volatile path)) es) (where_key (slice_cmp nat_cmp) (λ path. not (is_volatile path)) es) ≡ e ∷ es
+    by true t h rest = cc
+    by false t h rest = ap (λ b. cond (not b) (e ∷ where_key (slice_cmp nat_cmp) (λ path. not (is_volatile path)) es) (where_key (slice_cmp nat_cmp) (λ path. not (is_volatile path)) es)) t ∙ ap (λ xs. e ∷ xs) (rest h)
+
+pub without_run_same : (tree : Tree) → has_run tree ≡ false → without_run tree ≡ tree
+unfolding without_run
+without_run_same tree h = map.same_entries_map (without_run tree) tree (entries-retain_keys tree (λ path. not (is_volatile path)) ∙ all_kept (map.entries tree) h)
 
 -- the tree with no entry
 pub empty_is : IsTree map.empty

@@ -1,7 +1,7 @@
 -- How units depend on one another by a tree, which of them are known, and which come before which.
 -- Follows systemd.unit(5), "Wants=" to "Conflicts=", "Before=", "After=" and "Default Dependencies".
 -- Transactions, the job order and the limit of known units stand on this file.
-use Rattle.std.specs.Prelude.{◌≡◌, ◌≢◌, ◌⊎◌, ℕ, ◌<◌, Bool, true, false, not, ◌&&◌, if◌then◌else◌, List, length, AllPairs, All, Contains, Option, Some, None, codes}
+use Rattle.std.specs.Prelude.{◌≡◌, ◌≢◌, ◌⊎◌, ◌↔◌, ℕ, ◌<◌, max, Bool, true, false, not, ◌&&◌, if◌then◌else◌, List, length, AllPairs, All, Contains, Option, Some, None, codes}
 use Rattle.std.specs.Str.{bytes_eq}
 use Rattle.std.specs.FinMap as map
 use Rattle.um_model.specs.Reached.{Reached}
@@ -122,6 +122,21 @@ pub record KnowsTooMany (tree : Tree) (Extra : List ℕ → Type 0) : Type 0 whe
   pub known : All (IsKnown tree Extra) names
   pub apart : AllPairs (λ x y. x ≢ y) names
   pub many : unit_limit < length names
+
+-- just so many units are known: a list of exactly these, none twice
+pub record KnowsSoMany (tree : Tree) (Extra : List ℕ → Type 0) (count : ℕ) : Type 0 where
+  pub names : List (List ℕ)
+  pub whole : (x : List ℕ) → Contains names x ↔ IsKnown tree Extra x
+  pub apart : AllPairs (λ x y. x ≢ y) names
+  pub long : length names ≡ count
+
+-- a tree counts for so many units: the greater of the counts by it and by it without its entries under `run/`
+pub record CountsFor (tree : Tree) (Extra : List ℕ → Type 0) (count : ℕ) : Type 0 where
+  pub held : ℕ
+  pub lasting : ℕ
+  pub by_tree : KnowsSoMany tree Extra held
+  pub by_rest : KnowsSoMany (without_run tree) Extra lasting
+  pub greater : count ≡ max held lasting
 
 -- ---- dependencies and the order
 

@@ -16,7 +16,7 @@ use Rattle.um_graph.specs.Graph.{GraphView, IsGraph}
 use Rattle.um_transact.specs.Checks.{CannotStartBy, counted, is_started, planned_at}
 use Rattle.um_transact.specs.Order.{jobs_at, name_at}
 use Rattle.um_transact.specs.Scene as scenes
-use Rattle.um_transact.specs.Scene.{IsMirrored, item_for, jobs_by, scene_of}
+use Rattle.um_transact.specs.Scene.{item_for, jobs_by, scene_of}
 use Rattle.um_transact.specs.Situation.{IsDemandedBy}
 use Rattle.um_transact.specs.Walk.{Demanded, IsMarked, marks_at}
 use Rattle.um_transact.specs.declared.walk.Marks.{Marks}
@@ -41,7 +41,7 @@ second : (r s p : Bool) → r ≡ false → of_three r s p ≡ cond s (Some Star
 second false s p e = refl
 second true s p e = cc
 
-module _ (g : GraphView) (is : IsGraph g) (mirror : IsMirrored g) (activity : List ActiveState) (pending : List UnitJobs) (demand : Demand) (unit : ℕ) (known : unit < length g.names)
+module _ (g : GraphView) (is : IsGraph g) (activity : List ActiveState) (pending : List UnitJobs) (demand : Demand) (unit : ℕ) (known : unit < length g.names)
     (marks : List Marks) (marked : (q : Demanded) → IsMarked marks q ↔ IsDemandedBy g activity (demand, unit) q) where
   abbrev name : ℕ → List ℕ
   name = name_at g.names
@@ -56,10 +56,10 @@ module _ (g : GraphView) (is : IsGraph g) (mirror : IsMirrored g) (activity : Li
   one = names_once g.names is.sorted
 
   pub marked_named : (d : Demand) (i : ℕ) → IsMarked marks (d, i) → Demands scene root (d, name i)
-  marked_named d i m = (named_demanded g is mirror activity pending demand unit known d i ((marked (d, i)).0 m)).1
+  marked_named d i m = (named_demanded g is activity pending demand unit known d i ((marked (d, i)).0 m)).1
 
   pub named_marked : (d : Demand) (x : List ℕ) → Demands scene root (d, x) → (i : ℕ) × (name i ≡ x) × (i < length g.names) × IsMarked marks (d, i)
-  named_marked d x r = let b = demanded_named g is mirror activity pending demand unit known d x r in (b.0, b.1, b.2, (marked (d, b.0)).1 b.3)
+  named_marked d x r = let b = demanded_named g is activity pending demand unit known d x r in (b.0, b.1, b.2, (marked (d, b.0)).1 b.3)
 
   pub named_marked_at : (d : Demand) (i : ℕ) → i < length g.names → Demands scene root (d, name i) → IsMarked marks (d, i)
   named_marked_at d i h r = let b = named_marked d (name i) r in subst (λ u. IsMarked marks (d, u)) (one b.0 i b.2 h b.1) b.3

@@ -1,4 +1,4 @@
--- Where each dependency stands in both rows, what the rows say is what the definitions of demands say of them.
+-- As each dependency stands in both rows, what the rows say is what the definitions of demands say of them.
 use Rattle.std.proofs.Common.{◌≡◌, ◌⊎◌, ◌||◌, ◌∙◌, ℕ, Bool, true, List, Contains, refl, sym, ap, subst, inl, inr}
 use Rattle.um_model.specs.Reached.{Reached, first, next}
 use Rattle.um_model.specs.Demands.{Brings, required, bound, conflicting, conflicted, stopped, restarted, LeansOn, requires, binds, is_part, starts, restarts}
@@ -11,10 +11,9 @@ use Rattle.um_model.specs.declared.dependencies.DependencyKind.TheVariants.{Want
 use Rattle.um_model.specs.declared.service.ActiveState.{ActiveState}
 use Rattle.um_model.specs.declared.service.ActiveState.TheVariants.{Inactive, Activating, Active, Deactivating, Failed}
 use Rattle.um_model.proofs.DemandsLaws.{reached_in}
-use Rattle.um_graph.specs.Graph.{GraphView, Stands, row_of}
+use Rattle.um_graph.specs.Graph.{GraphView, IsGraph, Stands, row_of}
 use Rattle.um_graph.specs.Kinds.{has, bit_of, inverse_bit_of}
 use Rattle.um_graph.specs.declared.row.Neighbour.{Neighbour}
-use Rattle.um_transact.specs.Scene.{IsMirrored}
 use Rattle.um_transact.specs.Situation.{IsDemandedBy, IsRequiredBy, IsStartableBy, LeadsAlongBy, LeadsBy, is_loadable_at}
 use Rattle.um_transact.specs.Walk.{Demanded, activity_at, brings, brought, brought_by, conflicts, leans, needs}
 use Rattle.um_transact.proofs.RowLaws.{and_both, and_parts, by_one, contains_flat, flat_contains, or_cases, or_left, or_right, to_one}
@@ -30,7 +29,7 @@ active_is Failed h = cc
 reached_same : (P Q : Demanded → Demanded → Type 0) → ((p q : Demanded) → P p q → Q p q) → (root q : Demanded) → Reached (λ p. p ≡ root) P q → Reached (λ p. p ≡ root) Q q
 reached_same P Q f root q r = reached_in (Reached (λ p. p ≡ root) Q) (λ a e. first e) (λ a b i h. next i (f a b h)) q r
 
-module _ (g : GraphView) (mirror : IsMirrored g) (activity : List ActiveState) where
+module _ (g : GraphView) (is : IsGraph g) (activity : List ActiveState) where
   abbrev pub Depends : DependencyKind → ℕ → ℕ → Type 0
   Depends kind i j = Stands g.rows (bit_of kind) i j
 
@@ -52,15 +51,15 @@ module _ (g : GraphView) (mirror : IsMirrored g) (activity : List ActiveState) w
   conflict_led : (x : ℕ) (n : Neighbour) → Contains (row_of g.rows x) n → conflicts n ≡ true → (Depends Conflicts x n.unit) ⊎ (Depends Conflicts n.unit x)
   conflict_led x n c b = elim (or_cases (has (bit_of Conflicts) n.kinds) (has (inverse_bit_of Conflicts) n.kinds) b) [
     | inl h ↦ inl (stands (bit_of Conflicts) x n c h)
-    | inr h ↦ inr (mirror.here Conflicts x n.unit (stands (inverse_bit_of Conflicts) x n c h))
+    | inr h ↦ inr ((is.mirrored Conflicts x n.unit).0 (stands (inverse_bit_of Conflicts) x n c h))
   ]
 
   leans_led : (x : ℕ) (n : Neighbour) → Contains (row_of g.rows x) n → leans n ≡ true → LeansOn Depends n.unit x
   leans_led x n c b = elim (or_cases (has (inverse_bit_of Requires) n.kinds) (has (inverse_bit_of BindsTo) n.kinds || has (inverse_bit_of PartOf) n.kinds) b) as (λ _. LeansOn Depends n.unit x) [
-    | inl h ↦ requires (mirror.here Requires x n.unit (stands (inverse_bit_of Requires) x n c h))
+    | inl h ↦ requires ((is.mirrored Requires x n.unit).0 (stands (inverse_bit_of Requires) x n c h))
     | inr r ↦ elim (or_cases (has (inverse_bit_of BindsTo) n.kinds) (has (inverse_bit_of PartOf) n.kinds) r) as (λ _. LeansOn Depends n.unit x) [
-      | inl h ↦ binds (mirror.here BindsTo x n.unit (stands (inverse_bit_of BindsTo) x n c h))
-      | inr h ↦ is_part (mirror.here PartOf x n.unit (stands (inverse_bit_of PartOf) x n c h))
+      | inl h ↦ binds ((is.mirrored BindsTo x n.unit).0 (stands (inverse_bit_of BindsTo) x n c h))
+      | inr h ↦ is_part ((is.mirrored PartOf x n.unit).0 (stands (inverse_bit_of PartOf) x n c h))
     ]
   ]
 
@@ -84,14 +83,14 @@ module _ (g : GraphView) (mirror : IsMirrored g) (activity : List ActiveState) w
 
   found_leaning : (d : Demand) (x y : ℕ) → LeansOn Depends y x → ((n : Neighbour) → n.unit ≡ y → leans n ≡ true → brings d d (active n) n ≡ true) → LeadsBy g activity (d, x) (d, y)
   found_leaning d x y (requires h) f =
-      let s = mirror.there Requires x y h in
+      let s = (is.mirrored Requires x y).1 h in
       found d d (inverse_bit_of Requires) x y s (f s.neighbour s.is (or_left (has (inverse_bit_of Requires) s.neighbour.kinds) (has (inverse_bit_of BindsTo) s.neighbour.kinds || has (inverse_bit_of PartOf) s.neighbour.kinds) s.kind))
   found_leaning d x y (binds h) f =
-      let s = mirror.there BindsTo x y h in
+      let s = (is.mirrored BindsTo x y).1 h in
       found d d (inverse_bit_of BindsTo) x y s (f s.neighbour s.is (or_right (has (inverse_bit_of Requires) s.neighbour.kinds) (has (inverse_bit_of BindsTo) s.neighbour.kinds || has (inverse_bit_of PartOf) s.neighbour.kinds)
       (or_left (has (inverse_bit_of BindsTo) s.neighbour.kinds) (has (inverse_bit_of PartOf) s.neighbour.kinds) s.kind)))
   found_leaning d x y (is_part h) f =
-      let s = mirror.there PartOf x y h in
+      let s = (is.mirrored PartOf x y).1 h in
       found d d (inverse_bit_of PartOf) x y s (f s.neighbour s.is (or_right (has (inverse_bit_of Requires) s.neighbour.kinds) (has (inverse_bit_of BindsTo) s.neighbour.kinds || has (inverse_bit_of PartOf) s.neighbour.kinds)
       (or_right (has (inverse_bit_of BindsTo) s.neighbour.kinds) (has (inverse_bit_of PartOf) s.neighbour.kinds) s.kind)))
 
@@ -103,9 +102,9 @@ module _ (g : GraphView) (mirror : IsMirrored g) (activity : List ActiveState) w
   finds p q (conflicting {x = x} {y = y} starts h) = found Start Stop (bit_of Conflicts) x y h (or_left (has (bit_of Conflicts) h.neighbour.kinds) (has (inverse_bit_of Conflicts) h.neighbour.kinds) h.kind)
   finds p q (conflicting {x = x} {y = y} restarts h) = found Restart Stop (bit_of Conflicts) x y h (or_left (has (bit_of Conflicts) h.neighbour.kinds) (has (inverse_bit_of Conflicts) h.neighbour.kinds) h.kind)
   finds p q (conflicted {x = x} {y = y} starts h) =
-      let t = mirror.there Conflicts x y h in found Start Stop (inverse_bit_of Conflicts) x y t (or_right (has (bit_of Conflicts) t.neighbour.kinds) (has (inverse_bit_of Conflicts) t.neighbour.kinds) t.kind)
+      let t = (is.mirrored Conflicts x y).1 h in found Start Stop (inverse_bit_of Conflicts) x y t (or_right (has (bit_of Conflicts) t.neighbour.kinds) (has (inverse_bit_of Conflicts) t.neighbour.kinds) t.kind)
   finds p q (conflicted {x = x} {y = y} restarts h) =
-      let t = mirror.there Conflicts x y h in found Restart Stop (inverse_bit_of Conflicts) x y t (or_right (has (bit_of Conflicts) t.neighbour.kinds) (has (inverse_bit_of Conflicts) t.neighbour.kinds) t.kind)
+      let t = (is.mirrored Conflicts x y).1 h in found Restart Stop (inverse_bit_of Conflicts) x y t (or_right (has (bit_of Conflicts) t.neighbour.kinds) (has (inverse_bit_of Conflicts) t.neighbour.kinds) t.kind)
   finds p q (stopped {x = x} {y = y} l) = found_leaning Stop x y l (λ n e b. b)
   finds p q (restarted {x = x} {y = y} l a) = found_leaning Restart x y l (λ n e b. and_both (leans n) (active n) b (ap is_active (ap (activity_at activity) e ∙ a)))
 

@@ -16,7 +16,7 @@ use Rattle.um_graph.specs.Graph.{GraphView, IsGraph, IsNumberOf}
 use Rattle.um_graph.specs.Kinds.{before_bit}
 use Rattle.um_transact.specs.Checks.{BarsBy, ClashesBy, DropsBy, RefusesFirst, is_started, planned_at}
 use Rattle.um_transact.specs.Order.{jobs_at, name_at}
-use Rattle.um_transact.specs.Scene.{IsAccepted, IsMirrored, IsRefused, Joins, jobs_by, scene_of}
+use Rattle.um_transact.specs.Scene.{IsAccepted, IsRefused, Joins, jobs_by, scene_of}
 use Rattle.um_transact.specs.Situation.{IsDemandedBy}
 use Rattle.um_transact.specs.Walk.{Demanded, IsMarked, marks_at}
 use Rattle.um_transact.specs.declared.walk.Marks.{Marks}
@@ -45,7 +45,7 @@ module _ (g : GraphView) (is : IsGraph g) (Has : List ℕ → Type 0) (Refuses :
   none_has : ((u : ℕ) → u < length g.names → (r : Refused) → ¬ Refuses u r) → (x : List ℕ) → ¬ Has x
   none_has none x has = let w = whole x has in none w.0 w.2 w.3 w.4
 
-module _ (g : GraphView) (is : IsGraph g) (mirror : IsMirrored g) (activity : List ActiveState) (pending : List UnitJobs) (demand : Demand) (unit : ℕ) (known : unit < length g.names)
+module _ (g : GraphView) (is : IsGraph g) (activity : List ActiveState) (pending : List UnitJobs) (demand : Demand) (unit : ℕ) (known : unit < length g.names)
     (marks : List Marks) (marked : (q : Demanded) → IsMarked marks q ↔ IsDemandedBy g activity (demand, unit) q) (mode : JobMode) (plan : List UnitJobs)
     (each : (u : ℕ) → u < length g.names → jobs_at plan u ≡ planned_at marks activity pending u) where
   abbrev name : ℕ → List ℕ
@@ -60,15 +60,15 @@ module _ (g : GraphView) (is : IsGraph g) (mirror : IsMirrored g) (activity : Li
   -- ---- units that can't be started
   bars_sound : (u : ℕ) (r : Refused) → u < length g.names → BarsBy g marks u r → IsBarred (scene_of g activity pending) (demand, name unit) (name u)
   bars_sound u r h b = record {
-    started = started_named g is mirror activity pending demand unit known marks marked u b.started;
+    started = started_named g is activity pending demand unit known marks marked u b.started;
     refusal = r;
-    cause = cannot_named g is mirror activity pending demand unit known marks marked u r h b.cause;
+    cause = cannot_named g is activity pending demand unit known marks marked u r h b.cause;
   }
 
   bars_whole : (x : List ℕ) → IsBarred (scene_of g activity pending) (demand, name unit) x → (u : ℕ) × (name u ≡ x) × (u < length g.names) × (r : Refused) × BarsBy g marks u r
   bars_whole x b =
-      let s = named_started g is mirror activity pending demand unit known marks marked x b.started in
-      let k = named_cannot g is mirror activity pending demand unit known marks marked x b.refusal b.cause in
+      let s = named_started g is activity pending demand unit known marks marked x b.started in
+      let k = named_cannot g is activity pending demand unit known marks marked x b.refusal b.cause in
       let same : s.0 ≡ k.0 = one s.0 k.0 s.2 k.2 (s.1 ∙ sym k.1) in
       (k.0, k.1, k.2, b.refusal, record { started = subst (λ v. is_started (marks_at marks v) ≡ true) same s.3; cause = k.3 })
 
@@ -76,7 +76,7 @@ module _ (g : GraphView) (is : IsGraph g) (mirror : IsMirrored g) (activity : Li
   bars_named r f = record {
     unit = name f.unit;
     least = first_least g is (IsBarred (scene_of g activity pending) (demand, name unit)) (BarsBy g marks) bars_sound bars_whole r f;
-    cause = cannot_named g is mirror activity pending demand unit known marks marked f.unit r f.within f.cause.cause;
+    cause = cannot_named g is activity pending demand unit known marks marked f.unit r f.within f.cause.cause;
   }
 
   no_bars : None (BarsBy g marks) → (r : Refused) → ¬ NamesBarred (scene_of g activity pending) (demand, name unit) r
@@ -85,14 +85,14 @@ module _ (g : GraphView) (is : IsGraph g) (mirror : IsMirrored g) (activity : Li
   -- ---- units that are started and stopped
   clashes_sound : (u : ℕ) (r : Refused) → u < length g.names → ClashesBy g marks u r → Clashes (scene_of g activity pending) (demand, name unit) (name u)
   clashes_sound u r h b = record {
-    started = started_named g is mirror activity pending demand unit known marks marked u b.started;
-    stopped = marked_named g is mirror activity pending demand unit known marks marked Stop u b.stopped;
+    started = started_named g is activity pending demand unit known marks marked u b.started;
+    stopped = marked_named g is activity pending demand unit known marks marked Stop u b.stopped;
   }
 
   clashes_whole : (x : List ℕ) → Clashes (scene_of g activity pending) (demand, name unit) x → (u : ℕ) × (name u ≡ x) × (u < length g.names) × (r : Refused) × ClashesBy g marks u r
   clashes_whole x b =
-      let s = named_started g is mirror activity pending demand unit known marks marked x b.started in
-      let k = named_marked g is mirror activity pending demand unit known marks marked Stop x b.stopped in
+      let s = named_started g is activity pending demand unit known marks marked x b.started in
+      let k = named_marked g is activity pending demand unit known marks marked Stop x b.stopped in
       let same : s.0 ≡ k.0 = one s.0 k.0 s.2 k.2 (s.1 ∙ sym k.1) in
       (k.0, k.1, k.2, clash (name k.0), record { started = subst (λ v. is_started (marks_at marks v) ≡ true) same s.3; stopped = k.3; name = name k.0; known = name_got g.names k.0 k.2; refusal = refl })
 
@@ -150,7 +150,7 @@ module _ (g : GraphView) (is : IsGraph g) (mirror : IsMirrored g) (activity : Li
   module _ (asked : List ℕ) (number : IsNumberOf g unit asked) where
     refused_for : (r : Refused) → Causes r → IsRefused (scene_of g activity pending) (demand, asked) mode r
     refused_for r c = subst (λ x. IsRefused (scene_of g activity pending) (demand, x) mode r) (name_is g.names unit asked number)
-        (record { after = jobs_by g.names plan; plan = is_plan g is mirror activity pending demand unit known marks marked plan each; cause = c })
+        (record { after = jobs_by g.names plan; plan = is_plan g is activity pending demand unit known marks marked plan each; cause = c })
 
     pub refused_bars : (r : Refused) → RefusesFirst (BarsBy g marks) (length g.names) r → IsRefused (scene_of g activity pending) (demand, asked) mode r
     refused_bars r f = refused_for r (at_first (bars_named r f))
@@ -182,4 +182,4 @@ module _ (g : GraphView) (is : IsGraph g) (mirror : IsMirrored g) (activity : Li
 
             pub accepted : IsAccepted (scene_of g activity pending) (demand, asked) mode (jobs_by g.names plan)
             accepted = subst (λ x. IsAccepted (scene_of g activity pending) (demand, x) mode (jobs_by g.names plan)) (name_is g.names unit asked number)
-                (record { plan = is_plan g is mirror activity pending demand unit known marks marked plan each; unrefused = unrefused; free = free })
+                (record { plan = is_plan g is activity pending demand unit known marks marked plan each; unrefused = unrefused; free = free })

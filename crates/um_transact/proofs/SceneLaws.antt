@@ -15,7 +15,7 @@ use Rattle.um_graph.specs.Graph.{GraphView, IsGraph, Stands}
 use Rattle.um_graph.specs.Kinds.{bit_of}
 use Rattle.um_transact.specs.Order.{name_at}
 use Rattle.um_transact.specs.Scene as scenes
-use Rattle.um_transact.specs.Scene.{IsFound, IsMirrored, Joins, item_for, scene_of}
+use Rattle.um_transact.specs.Scene.{IsFound, Joins, item_for, scene_of}
 use Rattle.um_transact.specs.Situation.{IsDemandedBy, is_loadable_at, loading_at}
 use Rattle.um_transact.specs.Walk.{activity_at}
 use Rattle.um_transact.proofs.MirrorLaws.{Depends, IsActive, IsLoadable, demanded_here, demanded_there}
@@ -29,7 +29,7 @@ some_is None h = cc
 is_some_by : {A : Type 0} (o : Option A) (a : A) → o ≡ Some a → is_some o ≡ true
 is_some_by o a e = ap is_some e
 
-module _ (g : GraphView) (is : IsGraph g) (mirror : IsMirrored g) (activity : List ActiveState) (pending : List UnitJobs) where
+module _ (g : GraphView) (is : IsGraph g) (activity : List ActiveState) (pending : List UnitJobs) where
   abbrev Inside : ℕ → Type 0
   Inside i = i < length g.names
 
@@ -67,11 +67,11 @@ module _ (g : GraphView) (is : IsGraph g) (mirror : IsMirrored g) (activity : Li
   module _ (demand : Demand) (unit : ℕ) (known : unit < length g.names) where
     pub named_demanded : (d : Demand) (i : ℕ) → IsDemandedBy g activity (demand, unit) (d, i) → (i < length g.names) × Demands (scene_of g activity pending) (demand, name unit) (d, name i)
     named_demanded d i r =
-        demanded_forth name Inside (Depends g mirror activity) (λ kind x y. Joins g (bit_of kind) x y) (IsActive g mirror activity) (λ x. item_for Inactive g.names activity x ≡ Active) (IsLoadable g mirror activity) (λ x. scenes.IsLoadable g x)
-        one within forth back active loadable (demand, unit) known (d, i) (demanded_there g mirror activity (demand, unit) (d, i) r)
+        demanded_forth name Inside (Depends g is activity) (λ kind x y. Joins g (bit_of kind) x y) (IsActive g is activity) (λ x. item_for Inactive g.names activity x ≡ Active) (IsLoadable g is activity) (λ x. scenes.IsLoadable g x)
+        one within forth back active loadable (demand, unit) known (d, i) (demanded_there g is activity (demand, unit) (d, i) r)
 
     pub demanded_named : (d : Demand) (x : List ℕ) → Demands (scene_of g activity pending) (demand, name unit) (d, x) → (i : ℕ) × (name i ≡ x) × (i < length g.names) × IsDemandedBy g activity (demand, unit) (d, i)
     demanded_named d x r =
-        let b = demanded_back name Inside (Depends g mirror activity) (λ kind x y. Joins g (bit_of kind) x y) (IsActive g mirror activity) (λ x. item_for Inactive g.names activity x ≡ Active) (IsLoadable g mirror activity) (λ x. scenes.IsLoadable g x)
+        let b = demanded_back name Inside (Depends g is activity) (λ kind x y. Joins g (bit_of kind) x y) (IsActive g is activity) (λ x. item_for Inactive g.names activity x ≡ Active) (IsLoadable g is activity) (λ x. scenes.IsLoadable g x)
         one within forth back active loadable (demand, unit) known d x r in
-        (b.0, b.1, b.2, demanded_here g mirror activity (demand, unit) (d, b.0) b.3)
+        (b.0, b.1, b.2, demanded_here g is activity (demand, unit) (d, b.0) b.3)

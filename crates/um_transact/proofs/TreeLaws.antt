@@ -20,32 +20,16 @@ use Rattle.um_unit.specs.View.{loading_of}
 use Rattle.um_unit.specs.declared.loaded.Loading.{Loading}
 use Rattle.um_unit.specs.declared.loaded.Loading.TheVariants.{NotFound}
 use Rattle.um_graph.specs.Graph.{GraphView, IsGraph, IsGraphOf, IsNumberOf}
-use Rattle.um_graph.specs.Kinds.{bit_of, inverse_bit_of, before_bit}
+use Rattle.um_graph.specs.Kinds.{bit_of, before_bit}
 use Rattle.um_transact.specs.Order.{jobs_at, name_at}
-use Rattle.um_transact.specs.Scene.{IsAccepted, IsFound, IsMirrored, IsRefused, Joins, item_for, jobs_by, scene_of}
+use Rattle.um_transact.specs.Scene.{IsAccepted, IsFound, IsRefused, Joins, item_for, jobs_by, scene_of}
 use Rattle.um_transact.specs.Scene as scenes
 use Rattle.um_transact.specs.Walk.{activity_at}
 use Rattle.um_model.specs.declared.service.ActiveState.TheVariants.{Inactive}
 use Rattle.um_model.specs.Jobs.{no_jobs}
 use Rattle.um_transact.proofs.NameLaws.{among_or_apart, got_within, item_at, jobs_by_at, jobs_by_none, name_got, name_is, names_once}
-use Rattle.um_transact.proofs.RowLaws.{stands_within}
 
 module _ (tree : Tree) (Extra : List ℕ → Type 0) (g : GraphView) (is : IsGraph g) (of : IsGraphOf tree Extra g) where
-  -- each dependency of a tree's graph stands in both rows
-  pub mirrored : IsMirrored g
-  mirrored = record {
-    here = λ kind i j s.
-        let w = stands_within g is (inverse_bit_of kind) i j s in
-        let x = name_got g.names i w.0 in
-        let y = name_got g.names j w.1 in
-        (of.depends kind j i (name_at g.names j) (name_at g.names i) y x).1 ((of.needed kind i j (name_at g.names i) (name_at g.names j) x y).0 s);
-    there = λ kind i j s.
-        let w = stands_within g is (bit_of kind) j i s in
-        let x = name_got g.names i w.1 in
-        let y = name_got g.names j w.0 in
-        (of.needed kind i j (name_at g.names i) (name_at g.names j) x y).1 ((of.depends kind j i (name_at g.names j) (name_at g.names i) y x).0 s);
-  }
-
   -- the known units have numbers
   number : (x : List ℕ) → IsKnown tree Extra x → (i : ℕ) × IsNumberOf g i x
   number x k = let c = (of.known x).1 k in (c.0, slice_get-get_or g.names c.0 x c.1 ∙ ap Some c.2)

@@ -21,12 +21,7 @@ use Rattle.um_model.specs.declared.service.ActiveState.TheVariants.{Inactive}
 use Rattle.um_unit.specs.View.{loading_of}
 use Rattle.um_unit.specs.declared.loaded.Loading.{Loading}
 use Rattle.um_graph.specs.Graph.{GraphView, IsNumberOf, Stands}
-use Rattle.um_graph.specs.Kinds.{bit_of, inverse_bit_of, before_bit}
-
--- each dependency stands in the rows of both units
-pub record IsMirrored (g : GraphView) : Type 0 where
-  pub here : (kind : DependencyKind) (i j : ℕ) → Stands g.rows (inverse_bit_of kind) i j → Stands g.rows (bit_of kind) j i
-  pub there : (kind : DependencyKind) (i j : ℕ) → Stands g.rows (bit_of kind) j i → Stands g.rows (inverse_bit_of kind) i j
+use Rattle.um_graph.specs.Kinds.{bit_of, before_bit}
 
 -- x and y are units of the graph, and y stands in the row of x in this way
 pub record Joins (g : GraphView) (bit : ℕ) (x y : List ℕ) : Type 0 where

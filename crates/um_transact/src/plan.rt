@@ -5,7 +5,7 @@ ghost use Rattle.um_graph.specs.Graph.{IsGraph, IsNumberOf};
 ghost use Rattle.um_model.specs.declared.jobs.UnitJobs.{UnitJobs};
 ghost use Rattle.um_transact.specs.Checks.{planned_at};
 ghost use Rattle.um_transact.specs.Order.{jobs_at};
-ghost use Rattle.um_transact.specs.Scene.{IsAccepted, IsMirrored, IsRefused, jobs_by, scene_of};
+ghost use Rattle.um_transact.specs.Scene.{IsAccepted, IsRefused, jobs_by, scene_of};
 ghost use Rattle.um_transact.specs.Walk.{activity_at};
 ghost use Rattle.um_wire.specs.Refusal.{refused_of};
 ghost use Rattle.um_wire.specs.declared.refusal.Refusal.TheVariants.{NoMemory};
@@ -100,9 +100,9 @@ pub fn build(
     mode: JobMode,
 ) -> Result<Plan, Refusal>
     ensures long { IfOk result (λ plan. length plan ≡ length graph.now.names) }
-    ensures accepted { IfOk result (λ plan. (name : List ℕ) → IsMirrored graph.now → IsNumberOf graph.now unit name
+    ensures accepted { IfOk result (λ plan. (name : List ℕ) → IsNumberOf graph.now unit name
         → IsAccepted (scene_of graph.now activity.now pending.now) (demand, name) mode (jobs_by graph.now.names plan)) }
-    ensures refused { IfErr result (λ e. e ≢ NoMemory → (name : List ℕ) → IsMirrored graph.now → IsNumberOf graph.now unit name
+    ensures refused { IfErr result (λ e. e ≢ NoMemory → (name : List ℕ) → IsNumberOf graph.now unit name
         → IsRefused (scene_of graph.now activity.now pending.now) (demand, name) mode (refused_of e)) }
     ensures past { length graph.now.names ≤ unit → IfOk result (λ plan. (u : ℕ) → u < length graph.now.names → jobs_at plan u ≡ jobs_at pending.now u) }
     ensures whole { length graph.now.names ≤ unit → IfErr result (λ e. e ≡ NoMemory) }

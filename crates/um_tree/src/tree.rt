@@ -214,6 +214,18 @@ impl Tree {
         Ok(())
     }
 
+    /// Whether an entry stands under `run/`. It takes no memory.
+    pub fn has_run(&self) -> bool
+        ensures { result ≡ model.has_run self.now }
+    {
+        for (path, _) in self.entries() {
+            if is_volatile(path) {
+                return true;
+            }
+        }
+        false
+    }
+
     /// Takes out each entry under `run/`: those don't outlive a boot. It takes no memory.
     pub fn clear_run(&mut self)
         ensures { self.new ≡ model.without_run self.old }

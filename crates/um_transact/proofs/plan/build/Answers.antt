@@ -2,7 +2,7 @@ use Rattle.std.proofs.Common.{◌≡◌, ◌≢◌, ◌<◌, ℕ, List, arith, l
 use Rattle.um_graph.specs.Graph.{IsNumberOf}
 use Rattle.um_transact.specs.Checks.{planned_at}
 use Rattle.um_transact.specs.Order.{jobs_at}
-use Rattle.um_transact.specs.Scene.{IsMirrored, IsRefused, scene_of}
+use Rattle.um_transact.specs.Scene.{IsRefused, scene_of}
 use Rattle.um_wire.specs.Refusal.{refused_of}
 use Rattle.um_wire.specs.declared.refusal.Refusal.TheVariants.{NoMemory}
 use Rattle.um_transact.proofs.CheckLaws.{err_is}
@@ -18,9 +18,9 @@ returns-in_err-check_bars-clause-refused c =
     let each : (u : ℕ) → u < length g.names → jobs_at plan u ≡ planned_at marks c.args.activity.now c.args.pending.now u =
     λ u h. rw c.deref.ensures.value at (c.in_ok-jobs-2.ensures.each u (omega (arith, h))) in
     let refused = rw c.deref-2.ensures.value at c.in_err-check_bars.ensures in
-    let step : c.in_err-check_bars.field-0.0 ≢ NoMemory → (name : List ℕ) → IsMirrored g → IsNumberOf g c.args.unit name
+    let step : c.in_err-check_bars.field-0.0 ≢ NoMemory → (name : List ℕ) → IsNumberOf g c.args.unit name
     → IsRefused (scene_of g c.args.activity.now c.args.pending.now) (c.args.demand, name) c.args.mode (refused_of c.in_err-check_bars.field-0.0) =
-    λ differs name mirror number. refused_bars g c.len.ensures.graph mirror c.args.activity.now c.args.pending.now c.args.demand c.args.unit known marks c.in_ok-marks.ensures.marks c.args.mode plan each name number _ (refused differs) in
+    λ differs name number. refused_bars g c.len.ensures.graph c.args.activity.now c.args.pending.now c.args.demand c.args.unit known marks c.in_ok-marks.ensures.marks c.args.mode plan each name number _ (refused differs) in
     err_is _ c.from_residual-in_err-check_bars.result c.in_err-check_bars.field-0.0 c.from_residual-in_err-check_bars.ensures.1 step
 
 pub returns-in_err-check_clashes-clause-refused : goal.returns-in_err-check_clashes-clause-refused
@@ -33,9 +33,9 @@ returns-in_err-check_clashes-clause-refused c =
     λ u h. rw c.deref.ensures.value at (c.in_ok-jobs-2.ensures.each u (omega (arith, h))) in
     let able = rw c.deref-2.ensures.value at c.in_ok-check_bars.ensures in
     let refused = rw c.deref-3.ensures.value at c.in_err-check_clashes.ensures in
-    let step : c.in_err-check_clashes.field-0.0 ≢ NoMemory → (name : List ℕ) → IsMirrored g → IsNumberOf g c.args.unit name
+    let step : c.in_err-check_clashes.field-0.0 ≢ NoMemory → (name : List ℕ) → IsNumberOf g c.args.unit name
     → IsRefused (scene_of g c.args.activity.now c.args.pending.now) (c.args.demand, name) c.args.mode (refused_of c.in_err-check_clashes.field-0.0) =
-    λ differs name mirror number. refused_clashes g c.len.ensures.graph mirror c.args.activity.now c.args.pending.now c.args.demand c.args.unit known marks c.in_ok-marks.ensures.marks c.args.mode plan each name number able _ (refused differs) in
+    λ differs name number. refused_clashes g c.len.ensures.graph c.args.activity.now c.args.pending.now c.args.demand c.args.unit known marks c.in_ok-marks.ensures.marks c.args.mode plan each name number able _ (refused differs) in
     err_is _ c.from_residual-in_err-check_clashes.result c.in_err-check_clashes.field-0.0 c.from_residual-in_err-check_clashes.ensures.1 step
 
 pub returns-in_err-check_drops-clause-refused : goal.returns-in_err-check_drops-clause-refused
@@ -49,9 +49,9 @@ returns-in_err-check_drops-clause-refused c =
     let able = rw c.deref-2.ensures.value at c.in_ok-check_bars.ensures in
     let apart = rw c.deref-3.ensures.value at c.in_ok-check_clashes.ensures in
     let refused = rw c.deref-4.ensures.value at c.in_err-check_drops.ensures in
-    let step : c.in_err-check_drops.field-0.0 ≢ NoMemory → (name : List ℕ) → IsMirrored g → IsNumberOf g c.args.unit name
+    let step : c.in_err-check_drops.field-0.0 ≢ NoMemory → (name : List ℕ) → IsNumberOf g c.args.unit name
     → IsRefused (scene_of g c.args.activity.now c.args.pending.now) (c.args.demand, name) c.args.mode (refused_of c.in_err-check_drops.field-0.0) =
-    λ differs name mirror number. refused_drops g c.len.ensures.graph mirror c.args.activity.now c.args.pending.now c.args.demand c.args.unit known marks c.in_ok-marks.ensures.marks c.args.mode plan each name number able apart _ (refused differs) in
+    λ differs name number. refused_drops g c.len.ensures.graph c.args.activity.now c.args.pending.now c.args.demand c.args.unit known marks c.in_ok-marks.ensures.marks c.args.mode plan each name number able apart _ (refused differs) in
     err_is _ c.from_residual-in_err-check_drops.result c.in_err-check_drops.field-0.0 c.from_residual-in_err-check_drops.ensures.1 step
 
 pub returns-in_err-check_order-clause-refused : goal.returns-in_err-check_order-clause-refused
@@ -66,9 +66,9 @@ returns-in_err-check_order-clause-refused c =
     let apart = rw c.deref-3.ensures.value at c.in_ok-check_clashes.ensures in
     let keeps = rw c.deref-4.ensures.value at c.in_ok-check_drops.ensures in
     let refused = rw c.deref-5.ensures.value at c.in_err-check_order.ensures in
-    let step : c.in_err-check_order.field-0.0 ≢ NoMemory → (name : List ℕ) → IsMirrored g → IsNumberOf g c.args.unit name
+    let step : c.in_err-check_order.field-0.0 ≢ NoMemory → (name : List ℕ) → IsNumberOf g c.args.unit name
     → IsRefused (scene_of g c.args.activity.now c.args.pending.now) (c.args.demand, name) c.args.mode (refused_of c.in_err-check_order.field-0.0) =
-    λ differs name mirror number. refused_cycle g c.len.ensures.graph mirror c.args.activity.now c.args.pending.now c.args.demand c.args.unit known marks c.in_ok-marks.ensures.marks c.args.mode plan each name number able apart keeps _ (refused differs) in
+    λ differs name number. refused_cycle g c.len.ensures.graph c.args.activity.now c.args.pending.now c.args.demand c.args.unit known marks c.in_ok-marks.ensures.marks c.args.mode plan each name number able apart keeps _ (refused differs) in
     err_is _ c.from_residual-in_err-check_order.result c.in_err-check_order.field-0.0 c.from_residual-in_err-check_order.ensures.1 step
 
 pub returns-clause-accepted : goal.returns-clause-accepted
@@ -83,4 +83,4 @@ returns-clause-accepted c =
     let apart = rw c.deref-3.ensures.value at c.in_ok-check_clashes.ensures in
     let keeps = rw c.deref-4.ensures.value at c.in_ok-check_drops.ensures in
     let free = rw c.deref-5.ensures.value at c.in_ok-check_order.ensures in
-    λ name mirror number. accepted g c.len.ensures.graph mirror c.args.activity.now c.args.pending.now c.args.demand c.args.unit known marks c.in_ok-marks.ensures.marks c.args.mode plan each name number able apart keeps free
+    λ name number. accepted g c.len.ensures.graph c.args.activity.now c.args.pending.now c.args.demand c.args.unit known marks c.in_ok-marks.ensures.marks c.args.mode plan each name number able apart keeps free

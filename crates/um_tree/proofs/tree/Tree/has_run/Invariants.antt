@@ -1,0 +1,8 @@
+use Rattle.std.proofs.Common.{◌≡◌}
+use Rattle.std.specs.List.{list_any}
+use Rattle.um_model.specs.Tree.{is_volatile}
+use Rattle.um_tree.proofs.tree.Tree.has_run.Given as goal
+
+-- what is under `run/` among those that are left is so among all
+abbrev pub invariant-loop-path : goal.invariant-loop-path
+invariant-loop-path l = list_any (λ e. is_volatile e.0) l.path-iterator ≡ list_any (λ e. is_volatile e.0) l.initial.path-iterator
