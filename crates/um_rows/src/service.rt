@@ -32,16 +32,17 @@ struct Outcome {
     next: u64,
 }
 
-/// What follows for a loadable unit at the second, where this is the next process number and no stop job waits.
+/// What follows for a loadable unit at the moment of so many microseconds, where this is the next process number and no stop job
+/// waits.
 fn follows(
     unit: &mut Service,
     alloc: Global,
     event: UnitEvent,
-    second: u64,
+    micros: u64,
     next: u64,
 ) -> Result<Outcome, Fail> {
     let around = Around {
-        moment: at(second * SECOND)?,
+        moment: at(micros)?,
         next: NextNumber::new(next).ok_or("no number")?,
         loadable: true,
         stop_waits: false,
@@ -110,7 +111,7 @@ fn a_simple_service_starts(rt: HostRuntime) -> Result<(), Fail> {
 fn a_stop_that_nothing_ends_is_given_up(rt: HostRuntime) -> Result<(), Fail> {
     let alloc = rt.alloc();
     let mut unit = running(alloc)?;
-    let stop = follows(&mut unit, alloc, UnitEvent::StopBegins, 5, 2)?;
+    let stop = follows(&mut unit, alloc, UnitEvent::StopBegins, 5 * SECOND, 2)?;
     assert_eq!(rt; stop, asks(kill(alloc, 1, Signal::Term)?, 2));
     assert_eq!(rt;
         stands(&unit),
@@ -121,7 +122,7 @@ fn a_stop_that_nothing_ends_is_given_up(rt: HostRuntime) -> Result<(), Fail> {
             Some(95 * SECOND)
         )
     );
-    let killed = follows(&mut unit, alloc, UnitEvent::DeadlinePasses, 95, 2)?;
+    let killed = follows(&mut unit, alloc, UnitEvent::DeadlinePasses, 95 * SECOND, 2)?;
     assert_eq!(rt; killed, asks(kill(alloc, 1, Signal::Kill)?, 2));
     assert_eq!(rt;
         stands(&unit),
@@ -132,7 +133,7 @@ fn a_stop_that_nothing_ends_is_given_up(rt: HostRuntime) -> Result<(), Fail> {
             Some(185 * SECOND)
         )
     );
-    let end = follows(&mut unit, alloc, UnitEvent::DeadlinePasses, 185, 2)?;
+    let end = follows(&mut unit, alloc, UnitEvent::DeadlinePasses, 185 * SECOND, 2)?;
     let wanted = Outcome {
         stop_ends: true,
         ..asks(Vec::new(alloc), 2)
@@ -149,10 +150,10 @@ fn a_stop_that_nothing_ends_is_given_up(rt: HostRuntime) -> Result<(), Fail> {
 fn an_end_by_the_signal_that_asked_for_it_is_clean(rt: HostRuntime) -> Result<(), Fail> {
     let alloc = rt.alloc();
     let mut unit = running(alloc)?;
-    let stop = follows(&mut unit, alloc, UnitEvent::StopBegins, 5, 2)?;
+    let stop = follows(&mut unit, alloc, UnitEvent::StopBegins, 5 * SECOND, 2)?;
     assert_eq!(rt; stop, asks(kill(alloc, 1, Signal::Term)?, 2));
     let ends = UnitEvent::MainEnds(End::Signal(15));
-    let end = follows(&mut unit, alloc, ends, 6, 2)?;
+    let end = follows(&mut unit, alloc, ends, 6 * SECOND, 2)?;
     let wanted = Outcome {
         stop_ends: true,
         ..asks(Vec::new(alloc), 2)
@@ -170,7 +171,7 @@ fn a_failure_without_restart_stays(rt: HostRuntime) -> Result<(), Fail> {
     let alloc = rt.alloc();
     let mut unit = running(alloc)?;
     let ends = UnitEvent::MainEnds(End::Code(1));
-    let end = follows(&mut unit, alloc, ends, 1, 2)?;
+    let end = follows(&mut unit, alloc, ends, SECOND, 2)?;
     assert_eq!(rt; end.asked, Vec::new(alloc));
     assert_eq!(rt;
         stands(&unit),
