@@ -1,6 +1,8 @@
 //! Worked rows of disk and bytes, and of the small layers: what they answer and leave, by their public calls alone.
 #![tactic(auto)]
 
+pub mod marks;
+
 #[cfg(test)]
 mod answers;
 #[cfg(test)]
