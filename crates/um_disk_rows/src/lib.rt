@@ -1,8 +1,6 @@
 //! Worked rows of disk and bytes, and of the small layers: what they answer and leave, by their public calls alone.
 #![tactic(auto)]
 
-pub mod marks;
-
 #[cfg(test)]
 mod answers;
 #[cfg(test)]
@@ -13,6 +11,7 @@ mod filedisk;
 mod limit;
 #[cfg(test)]
 mod log;
+pub mod marks;
 #[cfg(test)]
 mod order;
 #[cfg(test)]

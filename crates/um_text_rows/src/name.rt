@@ -15,36 +15,42 @@ fn is_taken(rt: &(impl AllocGlobal + Abort), text: &str) {
     same(rt, unit(rt, text).as_str(), text);
 }
 
+/// A name with each suffix.
+const EACH_SUFFIX: &[&str] = &[
+    "a.service",
+    "a.socket",
+    "a.device",
+    "a.mount",
+    "a.automount",
+    "a.swap",
+    "a.target",
+    "a.path",
+    "a.timer",
+    "a.slice",
+    "a.scope",
+];
+
 #[test]
 fn names_with_each_suffix_are_taken(rt: HostRuntime) {
-    for text in [
-        "a.service",
-        "a.socket",
-        "a.device",
-        "a.mount",
-        "a.automount",
-        "a.swap",
-        "a.target",
-        "a.path",
-        "a.timer",
-        "a.slice",
-        "a.scope",
-    ] {
+    for text in EACH_SUFFIX {
         is_taken(&rt, text);
     }
 }
 
+/// Names with each kind of byte, and at the edges of their form.
+const EACH_BYTE: &[&str] = &[
+    "AMZamz059:-_.\\.service",
+    "a@AMZamz059:-_.\\@.service",
+    "a@b@c.service",
+    "a@.service",
+    "-.mount",
+    "..service",
+    "a.service.target",
+];
+
 #[test]
 fn names_with_each_kind_of_byte_are_taken(rt: HostRuntime) {
-    for text in [
-        "AMZamz059:-_.\\.service",
-        "a@AMZamz059:-_.\\@.service",
-        "a@b@c.service",
-        "a@.service",
-        "-.mount",
-        "..service",
-        "a.service.target",
-    ] {
+    for text in EACH_BYTE {
         is_taken(&rt, text);
     }
 }
@@ -57,43 +63,49 @@ fn is_no_name(rt: &(impl AllocGlobal + Abort), text: &str) {
     same_at(rt, is_unit_name(text), false, text);
 }
 
+/// Texts without the form of a name.
+const NO_FORM: &[&str] = &[
+    "",
+    "a",
+    "a.b",
+    "service",
+    ".service",
+    "@.service",
+    "@x.service",
+    "a.Service",
+    "a.services",
+    "a.service ",
+    "a@b.conf",
+];
+
 #[test]
 fn texts_without_the_form_of_a_name_are_refused(rt: HostRuntime) {
-    for text in [
-        "",
-        "a",
-        "a.b",
-        "service",
-        ".service",
-        "@.service",
-        "@x.service",
-        "a.Service",
-        "a.services",
-        "a.service ",
-        "a@b.conf",
-    ] {
+    for text in NO_FORM {
         is_no_name(&rt, text);
     }
 }
 
+/// Texts with bytes that no name has.
+const OTHER_BYTES: &[&str] = &[
+    "a b.service",
+    "a/b.service",
+    "a[b.service",
+    "a`b.service",
+    "a{b.service",
+    "a;b.service",
+    "a,b.service",
+    "a^b.service",
+    "a\n.service",
+    "a\u{0}.service",
+    "\u{e9}.service",
+    "a@b/c.service",
+    "a@b%i.service",
+    "a@\u{e9}.service",
+];
+
 #[test]
 fn texts_with_other_bytes_are_refused(rt: HostRuntime) {
-    for text in [
-        "a b.service",
-        "a/b.service",
-        "a[b.service",
-        "a`b.service",
-        "a{b.service",
-        "a;b.service",
-        "a,b.service",
-        "a^b.service",
-        "a\n.service",
-        "a\u{0}.service",
-        "\u{e9}.service",
-        "a@b/c.service",
-        "a@b%i.service",
-        "a@\u{e9}.service",
-    ] {
+    for text in OTHER_BYTES {
         is_no_name(&rt, text);
     }
 }
@@ -258,19 +270,22 @@ fn is_escaped(rt: &(impl AllocGlobal + Abort), bytes: &str, wanted: &str) {
     same_at(rt, text.as_str(), wanted, bytes);
 }
 
+/// Bytes, and the text that they are escaped as.
+const ESCAPED: &[(&str, &str)] = &[
+    ("", ""),
+    ("/", "-"),
+    (".x", "\\x2ex"),
+    ("x.y", "x.y"),
+    ("..", "\\x2e."),
+    ("AZaz09:_", "AZaz09:_"),
+    ("home/a b", "home-a\\x20b"),
+    ("a-b\\@~", "a\\x2db\\x5c\\x40\\x7e"),
+    ("\u{e9}\n\u{0}", "\\xc3\\xa9\\x0a\\x00"),
+];
+
 #[test]
 fn bytes_are_escaped(rt: HostRuntime) {
-    for (bytes, wanted) in [
-        ("", ""),
-        ("/", "-"),
-        (".x", "\\x2ex"),
-        ("x.y", "x.y"),
-        ("..", "\\x2e."),
-        ("AZaz09:_", "AZaz09:_"),
-        ("home/a b", "home-a\\x20b"),
-        ("a-b\\@~", "a\\x2db\\x5c\\x40\\x7e"),
-        ("\u{e9}\n\u{0}", "\\xc3\\xa9\\x0a\\x00"),
-    ] {
+    for (bytes, wanted) in ESCAPED {
         is_escaped(&rt, bytes, wanted);
     }
 }
@@ -283,29 +298,32 @@ fn is_read(rt: &(impl AllocGlobal + Abort), text: &str, wanted: Option<&str>) {
     same_at(rt, bytes.as_deref(), wanted, text);
 }
 
+/// Escaped texts, and the bytes that each stands for, where it can be read.
+const ESCAPES: &[(&str, Option<&str>)] = &[
+    ("", Some("")),
+    ("-", Some("/")),
+    ("\\x2ex", Some(".x")),
+    ("x.y", Some("x.y")),
+    ("home-a\\x20b", Some("home/a b")),
+    ("a@b\\x00", Some("a@b\u{0}")),
+    ("\\xc3\\xa9", Some("\u{e9}")),
+    ("\u{e9}", Some("\u{e9}")),
+    ("\\x5cx41", Some("\\x41")),
+    ("\\x2E", None),
+    ("\\X2e", None),
+    ("a\\", None),
+    ("\\x4", None),
+    ("\\x", None),
+    ("\\n", None),
+    ("\\\\", None),
+    ("\\x4g", None),
+    ("\\x:0", None),
+];
+
 #[test]
 fn escapes_are_read_back(rt: HostRuntime) {
-    for (text, wanted) in [
-        ("", Some("")),
-        ("-", Some("/")),
-        ("\\x2ex", Some(".x")),
-        ("x.y", Some("x.y")),
-        ("home-a\\x20b", Some("home/a b")),
-        ("a@b\\x00", Some("a@b\u{0}")),
-        ("\\xc3\\xa9", Some("\u{e9}")),
-        ("\u{e9}", Some("\u{e9}")),
-        ("\\x5cx41", Some("\\x41")),
-        ("\\x2E", None),
-        ("\\X2e", None),
-        ("a\\", None),
-        ("\\x4", None),
-        ("\\x", None),
-        ("\\n", None),
-        ("\\\\", None),
-        ("\\x4g", None),
-        ("\\x:0", None),
-    ] {
-        is_read(&rt, text, wanted);
+    for (text, wanted) in ESCAPES {
+        is_read(&rt, text, *wanted);
     }
 }
 

@@ -140,7 +140,7 @@ fn eight_hops_are_found_and_nine_are_not(rt: HostRuntime) {
 }
 
 /// The files of an instance, its template and another instance.
-const DROP_INS: [&str; 8] = [
+const DROP_INS: &[&str] = &[
     "lib/app@.service",
     "lib/app@.service.d/20.conf",
     "etc/app@.service.d/30.conf",
@@ -153,7 +153,7 @@ const DROP_INS: [&str; 8] = [
 
 #[test]
 fn drop_ins_stand_by_the_names_of_their_files(rt: HostRuntime) {
-    let tree = tree_of(&rt, &DROP_INS, "[Unit]");
+    let tree = tree_of(&rt, DROP_INS, "[Unit]");
     let of_the_instance = [
         "lib/app@.service",
         "etc/app@x.service.d/10.conf",

@@ -12,40 +12,49 @@ fn expands(rt: &(impl AllocGlobal + Abort), name: &str, text: &str, wanted: Opti
     same_at(rt, got.as_deref(), wanted, (name, text));
 }
 
+/// Names, texts, and what each text is expanded to under the name.
+const EXPANDED: &[(&str, &str, &str)] = &[
+    ("app@x-y.service", "%p %i %I %j %%", "app x-y x/y app %"),
+    ("app@x-y.service", "%n|%N", "app@x-y.service|app@x-y"),
+    ("a-b-c.service", "%j %p [%i] [%I] %N", "c a-b-c [] [] a-b-c"),
+    ("a-@b-c.service", "[%j] %N", "[] a-@b-c"),
+];
+
 #[test]
 fn specifiers_stand_for_parts_of_the_name(rt: HostRuntime) {
-    for (name, text, wanted) in [
-        ("app@x-y.service", "%p %i %I %j %%", "app x-y x/y app %"),
-        ("app@x-y.service", "%n|%N", "app@x-y.service|app@x-y"),
-        ("a-b-c.service", "%j %p [%i] [%I] %N", "c a-b-c [] [] a-b-c"),
-        ("a-@b-c.service", "[%j] %N", "[] a-@b-c"),
-    ] {
+    for (name, text, wanted) in EXPANDED {
         expands(&rt, name, text, Some(wanted));
     }
 }
 
+/// Texts, and what each is expanded to.
+const PERCENT_SIGNS: &[(&str, &str)] = &[
+    ("100%", "100%"),
+    ("% %1%\u{e9}%-", "% %1%\u{e9}%-"),
+    ("%%n", "%n"),
+    ("", ""),
+];
+
 #[test]
 fn a_percent_sign_before_no_letter_stays(rt: HostRuntime) {
-    for (text, wanted) in [
-        ("100%", "100%"),
-        ("% %1%\u{e9}%-", "% %1%\u{e9}%-"),
-        ("%%n", "%n"),
-        ("", ""),
-    ] {
+    for (text, wanted) in PERCENT_SIGNS {
         expands(&rt, "a@b.service", text, Some(wanted));
     }
 }
 
+/// Names, texts, and what each text is expanded to under the name, where it has an expansion.
+const UNEXPANDED: &[(&str, &str, Option<&str>)] = &[
+    ("a@b.service", "x%z", None),
+    ("a@b.service", "%n %P", None),
+    ("a@a\\xff.service", "%I", None),
+    ("a@a\\xff.service", "%i", Some("a\\xff")),
+    ("a@\\y.service", "%I", None),
+    ("a@\\xc3\\xa9.service", "%I", Some("\u{e9}")),
+];
+
 #[test]
 fn other_letters_and_ill_instances_have_no_expansion(rt: HostRuntime) {
-    for (name, text, wanted) in [
-        ("a@b.service", "x%z", None),
-        ("a@b.service", "%n %P", None),
-        ("a@a\\xff.service", "%I", None),
-        ("a@a\\xff.service", "%i", Some("a\\xff")),
-        ("a@\\y.service", "%I", None),
-        ("a@\\xc3\\xa9.service", "%I", Some("\u{e9}")),
-    ] {
-        expands(&rt, name, text, wanted);
+    for (name, text, wanted) in UNEXPANDED {
+        expands(&rt, name, text, *wanted);
     }
 }

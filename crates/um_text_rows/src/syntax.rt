@@ -1,5 +1,6 @@
 //! What the lines of a unit file say.
 use crate::answers::{same, same_at};
+use crate::spans::at;
 use std::process::Abort;
 use um_syntax::{Item, Span, WarningKind, parse};
 
@@ -44,11 +45,6 @@ fn is_said(item: &Item<'_>, wanted: &Said<'_>) -> bool {
         }
         _ => false,
     }
-}
-
-/// The bytes from the first up to the second.
-fn at(start: usize, end: usize) -> Span {
-    Span { start, end }
 }
 
 /// Asserts that an item is the wanted one.

@@ -8,36 +8,39 @@ fn long(rt: &(impl AllocGlobal + Abort), count: usize) -> String {
     "x".repeat(rt.alloc(), count).expect(rt, "no memory")
 }
 
+/// Paths, and whether they are served.
+const PATHS: &[(&str, bool)] = &[
+    ("etc/a.service", true),
+    ("run/app@x-y.service", true),
+    ("lib/app@.service", true),
+    ("lib/a.service.d/10-x_y.z:w.conf", true),
+    ("lib/app@.service.d/10.conf", true),
+    ("etc/m.target.wants/a.service", true),
+    ("etc/m.target.requires/app@x.service", true),
+    ("", false),
+    ("a.service", false),
+    ("opt/a.service", false),
+    ("etc/a", false),
+    ("etc//a.service", false),
+    ("lib/../x", false),
+    ("etc/a.service/b", false),
+    ("etc/a.service.d/.conf", false),
+    ("etc/a.service.d/x", false),
+    ("etc/a.service.d/a b.conf", false),
+    ("etc/a.service.d/x/y.conf", false),
+    ("etc/a.service.d/x.conf/", false),
+    ("etc/a.d/x.conf", false),
+    ("etc/a@.service.wants/b.service", false),
+    ("etc/a.service.wants/b@.service", false),
+    ("etc/a@.service.requires/b.service", false),
+    ("etc/a.service.requires/b", false),
+    ("etc/a.service.wants/", false),
+];
+
 #[test]
 fn paths_have_four_forms(rt: HostRuntime) {
-    for (path, served) in [
-        ("etc/a.service", true),
-        ("run/app@x-y.service", true),
-        ("lib/app@.service", true),
-        ("lib/a.service.d/10-x_y.z:w.conf", true),
-        ("lib/app@.service.d/10.conf", true),
-        ("etc/m.target.wants/a.service", true),
-        ("etc/m.target.requires/app@x.service", true),
-        ("", false),
-        ("a.service", false),
-        ("opt/a.service", false),
-        ("etc/a", false),
-        ("etc//a.service", false),
-        ("lib/../x", false),
-        ("etc/a.service/b", false),
-        ("etc/a.service.d/.conf", false),
-        ("etc/a.service.d/x", false),
-        ("etc/a.service.d/a b.conf", false),
-        ("etc/a.service.d/x/y.conf", false),
-        ("etc/a.service.d/x.conf/", false),
-        ("etc/a.d/x.conf", false),
-        ("etc/a@.service.wants/b.service", false),
-        ("etc/a.service.wants/b@.service", false),
-        ("etc/a@.service.requires/b.service", false),
-        ("etc/a.service.requires/b", false),
-        ("etc/a.service.wants/", false),
-    ] {
-        same_at(&rt, ServedPath::parse(path).is_some(), served, path);
+    for (path, served) in PATHS {
+        same_at(&rt, ServedPath::parse(path).is_some(), *served, path);
     }
 }
 
@@ -166,74 +169,80 @@ fn puts(
     is_refused(rt, tree.put(path, text.as_str()), wanted, (path, size));
 }
 
+/// Files of so many bytes that are put one after another, and what each is refused by.
+const PUTS: &[(&str, usize, Option<&str>)] = &[
+    ("lib/../x", 65_537, Some("E12 BadPath lib/../x")),
+    ("etc/z.service", 65_537, Some("E11 Exists etc/z.service")),
+    ("etc/a.service", 65_537, Some("E13 TooLarge text")),
+    ("etc/a.service", 65_536, None),
+];
+
 #[test]
 fn put_is_refused_in_order(rt: HostRuntime) {
     let mut tree = Tree::new(rt.alloc());
     link(&rt, &mut tree, "etc/z.service", "lib/a.service");
-    for (path, size, wanted) in [
-        ("lib/../x", 65_537, Some("E12 BadPath lib/../x")),
-        ("etc/z.service", 65_537, Some("E11 Exists etc/z.service")),
-        ("etc/a.service", 65_537, Some("E13 TooLarge text")),
-        ("etc/a.service", 65_536, None),
-    ] {
-        puts(&rt, &mut tree, path, size, wanted);
+    for (path, size, wanted) in PUTS {
+        puts(&rt, &mut tree, path, *size, *wanted);
     }
     same(&rt, tree.len(), 2);
 }
+
+/// Links that are set one after another, and what each is refused by.
+const LINKS: &[(&str, &str, Option<&str>)] = &[
+    ("etc/a", "/dev/null", Some("E12 BadPath etc/a")),
+    (
+        "etc/a.service.d/x.conf",
+        "/dev/null",
+        Some("E12 BadPath etc/a.service.d/x.conf"),
+    ),
+    ("etc/a.service", "", Some("E12 BadPath etc/a.service")),
+    (
+        "etc/a.service",
+        "lib/a.service",
+        Some("E12 BadPath etc/a.service"),
+    ),
+    (
+        "etc/a.service",
+        "a.service",
+        Some("E12 BadPath etc/a.service"),
+    ),
+    (
+        "etc/a.service",
+        "lib/b.service/",
+        Some("E12 BadPath etc/a.service"),
+    ),
+    (
+        "etc/a.service",
+        "/dev/zero",
+        Some("E12 BadPath etc/a.service"),
+    ),
+    (
+        "etc/f.service",
+        "lib/f.service",
+        Some("E12 BadPath etc/f.service"),
+    ),
+    (
+        "etc/f.service",
+        "lib/b.service",
+        Some("E11 Exists etc/f.service"),
+    ),
+    ("etc/a.service", "/usr/lib/systemd/system/b.service", None),
+    ("etc/a.service", "/usr/lib/systemd/system/b.service", None),
+    (
+        "etc/a.service",
+        "lib/b.service",
+        Some("E11 Exists etc/a.service"),
+    ),
+    ("etc/b.service", "/dev/null", None),
+    ("etc/c.service", "d.service", None),
+];
 
 #[test]
 fn link_is_refused_in_order(rt: HostRuntime) {
     let mut tree = Tree::new(rt.alloc());
     put(&rt, &mut tree, "etc/f.service", "");
-    for (path, target, wanted) in [
-        ("etc/a", "/dev/null", Some("E12 BadPath etc/a")),
-        (
-            "etc/a.service.d/x.conf",
-            "/dev/null",
-            Some("E12 BadPath etc/a.service.d/x.conf"),
-        ),
-        ("etc/a.service", "", Some("E12 BadPath etc/a.service")),
-        (
-            "etc/a.service",
-            "lib/a.service",
-            Some("E12 BadPath etc/a.service"),
-        ),
-        (
-            "etc/a.service",
-            "a.service",
-            Some("E12 BadPath etc/a.service"),
-        ),
-        (
-            "etc/a.service",
-            "lib/b.service/",
-            Some("E12 BadPath etc/a.service"),
-        ),
-        (
-            "etc/a.service",
-            "/dev/zero",
-            Some("E12 BadPath etc/a.service"),
-        ),
-        (
-            "etc/f.service",
-            "lib/f.service",
-            Some("E12 BadPath etc/f.service"),
-        ),
-        (
-            "etc/f.service",
-            "lib/b.service",
-            Some("E11 Exists etc/f.service"),
-        ),
-        ("etc/a.service", "/usr/lib/systemd/system/b.service", None),
-        ("etc/a.service", "/usr/lib/systemd/system/b.service", None),
-        (
-            "etc/a.service",
-            "lib/b.service",
-            Some("E11 Exists etc/a.service"),
-        ),
-        ("etc/b.service", "/dev/null", None),
-        ("etc/c.service", "d.service", None),
-    ] {
-        is_refused(&rt, tree.link(path, target), wanted, (path, target));
+    for (path, target, wanted) in LINKS {
+        is_refused(&rt, tree.link(path, target), *wanted, (path, target));
     }
     same(&rt, tree.len(), 4);
 }

@@ -258,61 +258,67 @@ fn is_bad(rt: &(impl AllocGlobal + Abort), text: &str, wanted: Option<&str>) {
     same_at(rt, reason.as_deref(), wanted, text);
 }
 
+/// Services, and why each cannot be loaded, where it cannot.
+const REASONS: &[(&str, Option<&str>)] = &[
+    (
+        "[Service]\nExecStart=a\nUser=x\nUser=\nExecStartPre=b\n",
+        Some("setting User"),
+    ),
+    (
+        "[Unit]\nConditionHost=\nAssertHost=x\n[Service]\nType=idle\n",
+        Some("setting AssertHost"),
+    ),
+    (
+        "[Service]\nType=forking\nExecStart=a\nRestart=always\n",
+        Some("type"),
+    ),
+    (
+        "[Service]\nType=forking\nType=simple\nType=other\nExecStart=a\n",
+        None,
+    ),
+    ("[Service]\nExecStart=a\nExecStart=b\n", Some("exec-count")),
+    ("[Service]\nExecStart=bin/a\n", Some("exec-count")),
+    ("[Unit]\nDescription=a\n", Some("exec-count")),
+    ("[Service]\nRemainAfterExit=yes\nExecStop=a\n", None),
+    (
+        "[Service]\nType=simple\nRemainAfterExit=yes\nExecStop=a\n",
+        Some("exec-count"),
+    ),
+    (
+        "[Service]\nType=oneshot\nExecStart=a\nRestart=always\n",
+        Some("restart"),
+    ),
+    (
+        "[Service]\nType=oneshot\nExecStart=a\nRestart=on-failure\n",
+        None,
+    ),
+    ("[Service]\nUser=\nExecStart=a\n", None),
+];
+
 #[test]
 fn the_first_reason_counts(rt: HostRuntime) {
-    for (text, wanted) in [
-        (
-            "[Service]\nExecStart=a\nUser=x\nUser=\nExecStartPre=b\n",
-            Some("setting User"),
-        ),
-        (
-            "[Unit]\nConditionHost=\nAssertHost=x\n[Service]\nType=idle\n",
-            Some("setting AssertHost"),
-        ),
-        (
-            "[Service]\nType=forking\nExecStart=a\nRestart=always\n",
-            Some("type"),
-        ),
-        (
-            "[Service]\nType=forking\nType=simple\nType=other\nExecStart=a\n",
-            None,
-        ),
-        ("[Service]\nExecStart=a\nExecStart=b\n", Some("exec-count")),
-        ("[Service]\nExecStart=bin/a\n", Some("exec-count")),
-        ("[Unit]\nDescription=a\n", Some("exec-count")),
-        ("[Service]\nRemainAfterExit=yes\nExecStop=a\n", None),
-        (
-            "[Service]\nType=simple\nRemainAfterExit=yes\nExecStop=a\n",
-            Some("exec-count"),
-        ),
-        (
-            "[Service]\nType=oneshot\nExecStart=a\nRestart=always\n",
-            Some("restart"),
-        ),
-        (
-            "[Service]\nType=oneshot\nExecStart=a\nRestart=on-failure\n",
-            None,
-        ),
-        ("[Service]\nUser=\nExecStart=a\n", None),
-    ] {
-        is_bad(&rt, text, wanted);
+    for (text, wanted) in REASONS {
+        is_bad(&rt, text, *wanted);
     }
 }
 
+/// Ends, and whether the service takes each as success.
+const ENDS: &[(End, bool)] = &[
+    (End::Code(1), false),
+    (End::Code(2), true),
+    (End::Signal(9), true),
+    (End::Code(3), false),
+    (End::Code(4), true),
+];
+
 /// Asserts that the service takes exactly these ends as success, and none as a reason to restart.
 fn takes_ends(rt: &impl Abort, service: &ServiceSettings) {
-    for (end, wanted) in [
-        (End::Code(1), false),
-        (End::Code(2), true),
-        (End::Signal(9), true),
-        (End::Code(3), false),
-        (End::Code(4), true),
-    ] {
+    for (end, wanted) in ENDS {
         let held = (
-            service.success.holds(end),
-            service.forces_restart.holds(end),
+            service.success.holds(*end),
+            service.forces_restart.holds(*end),
         );
-        same_at(rt, held, (wanted, false), end);
+        same_at(rt, held, (*wanted, false), end);
     }
 }
 

@@ -4,33 +4,45 @@ use std::process::Abort;
 use um_model::{End, Span};
 use um_value::{ExitSet, RestartPolicy, TimeSpan, boolean, exit_set, number, restart, span};
 
+/// Texts that say yes.
+const TRUE_WORDS: &[&str] = &["1", "yes", "YES", "True", "on", "y", "T"];
+
+/// Texts that say no.
+const FALSE_WORDS: &[&str] = &["0", "no", "fALSE", "off", "N", "f"];
+
+/// Texts that say neither.
+const NO_TRUTH: &[&str] = &["", "maybe", "10", "yes ", "tru"];
+
 #[test]
 fn a_truth_value_is_one_of_twelve_words(rt: HostRuntime) {
-    for text in ["1", "yes", "YES", "True", "on", "y", "T"] {
+    for text in TRUE_WORDS {
         same_at(&rt, boolean(text), Some(true), text);
     }
-    for text in ["0", "no", "fALSE", "off", "N", "f"] {
+    for text in FALSE_WORDS {
         same_at(&rt, boolean(text), Some(false), text);
     }
-    for text in ["", "maybe", "10", "yes ", "tru"] {
+    for text in NO_TRUTH {
         same_at(&rt, boolean(text), None, text);
     }
 }
+
+/// Texts that are no numbers.
+const NO_NUMBERS: &[&str] = &[
+    "",
+    "4294967296",
+    "-1",
+    "+1",
+    "1 ",
+    "1.0",
+    "000000000000000000000000000099999999999",
+];
 
 #[test]
 fn a_number_has_digits_alone(rt: HostRuntime) {
     same(&rt, number("5"), Some(5));
     same(&rt, number("0010"), Some(10));
     same(&rt, number("4294967295"), Some(4_294_967_295));
-    for text in [
-        "",
-        "4294967296",
-        "-1",
-        "+1",
-        "1 ",
-        "1.0",
-        "000000000000000000000000000099999999999",
-    ] {
+    for text in NO_NUMBERS {
         same_at(&rt, number(text), None, text);
     }
 }
@@ -61,58 +73,67 @@ fn parts_of_a_span_are_added_up(rt: HostRuntime) {
     same(&rt, span("infinity"), Some(TimeSpan::Infinite));
 }
 
+/// A day in each unit that it fills.
+const DAYS: &[&str] = &[
+    "86400s",
+    "86400sec",
+    "86400second",
+    "86400seconds",
+    "1440m",
+    "1440min",
+    "1440minute",
+    "1440minutes",
+    "24h",
+    "24hr",
+    "24hour",
+    "24hours",
+    "1d",
+    "1day",
+    "1days",
+];
+
+/// A week in each of the other units.
+const WEEKS: &[&str] = &[
+    "604800000000us",
+    "604800000000usec",
+    "604800000ms",
+    "604800000msec",
+    "1w",
+    "1week",
+    "1weeks",
+];
+
 #[test]
 fn each_unit_has_its_words(rt: HostRuntime) {
-    for text in [
-        "86400s",
-        "86400sec",
-        "86400second",
-        "86400seconds",
-        "1440m",
-        "1440min",
-        "1440minute",
-        "1440minutes",
-    ] {
+    for text in DAYS {
         same_at(&rt, span(text), micros(86_400_000_000), text);
     }
-    for text in ["24h", "24hr", "24hour", "24hours", "1d", "1day", "1days"] {
-        same_at(&rt, span(text), micros(86_400_000_000), text);
-    }
-    for text in [
-        "604800000000us",
-        "604800000000usec",
-        "604800000ms",
-        "604800000msec",
-        "1w",
-        "1week",
-        "1weeks",
-    ] {
+    for text in WEEKS {
         same_at(&rt, span(text), micros(604_800_000_000), text);
     }
 }
 
+/// Texts that are no spans, and at the end spans that are too long.
+const NO_SPANS: &[&str] = &[
+    "",
+    " ",
+    "1.5s",
+    "infinity 1",
+    " infinity",
+    "1sx",
+    "1S",
+    "s",
+    "-1",
+    "1s,2s",
+    "4611686018427387905us",
+    "4611686018427387904us 1us",
+    "999999999999999999999999999999",
+    "99999999999999w",
+];
+
 #[test]
 fn other_texts_are_no_spans(rt: HostRuntime) {
-    for text in [
-        "",
-        " ",
-        "1.5s",
-        "infinity 1",
-        " infinity",
-        "1sx",
-        "1S",
-        "s",
-        "-1",
-        "1s,2s",
-    ] {
-        same_at(&rt, span(text), None, text);
-    }
-    for text in [
-        "4611686018427387905us",
-        "4611686018427387904us 1us",
-        "999999999999999999999999999999",
-        "99999999999999w",
-    ] {
+    for text in NO_SPANS {
         same_at(&rt, span(text), None, text);
     }
 }
@@ -129,6 +150,9 @@ fn held(text: &str) -> Option<[bool; 5]> {
     ])
 }
 
+/// Texts that are no sets of exits.
+const NO_SETS: &[&str] = &["256", "TERM", "sigterm", "SIGSTOP", "1,2", "\"0\"", "-1"];
+
 #[test]
 fn an_exit_set_holds_what_its_words_tell(rt: HostRuntime) {
     same(
@@ -142,7 +166,7 @@ fn an_exit_set_holds_what_its_words_tell(rt: HostRuntime) {
         Some([false, true, true, true, false]),
     );
     same(&rt, held(" "), Some([false, false, false, false, false]));
-    for text in ["256", "TERM", "sigterm", "SIGSTOP", "1,2", "\"0\"", "-1"] {
+    for text in NO_SETS {
         same_at(&rt, held(text), None, text);
     }
 }
@@ -152,21 +176,24 @@ fn set_of(rt: &impl Abort, text: &str) -> ExitSet {
     exit_set(text).expect(rt, "no set")
 }
 
+/// Ends, and whether the joined set holds them.
+const ENDS: &[(End, bool)] = &[
+    (End::Code(7), true),
+    (End::Code(255), true),
+    (End::Signal(1), true),
+    (End::Signal(15), true),
+    (End::Code(1), false),
+    (End::Code(15), false),
+    (End::Signal(7), false),
+    (End::Lost, false),
+];
+
 #[test]
 fn a_set_is_joined_with_another(rt: HostRuntime) {
     let mut set = set_of(&rt, "7 SIGHUP");
     set.add(&set_of(&rt, "255 SIGHUP SIGTERM"));
-    for (end, wanted) in [
-        (End::Code(7), true),
-        (End::Code(255), true),
-        (End::Signal(1), true),
-        (End::Signal(15), true),
-        (End::Code(1), false),
-        (End::Code(15), false),
-        (End::Signal(7), false),
-        (End::Lost, false),
-    ] {
-        same_at(&rt, set.holds(end), wanted, end);
+    for (end, wanted) in ENDS {
+        same_at(&rt, set.holds(*end), *wanted, end);
     }
 }
 
@@ -190,26 +217,29 @@ fn is_of_signal(rt: &impl Abort, name: &str, number: u8) {
     same_at(rt, others, (false, false), name);
 }
 
+/// The signals that have a name, and their numbers.
+const SIGNALS: &[(&str, u8)] = &[
+    ("SIGHUP", 1),
+    ("SIGINT", 2),
+    ("SIGQUIT", 3),
+    ("SIGILL", 4),
+    ("SIGTRAP", 5),
+    ("SIGABRT", 6),
+    ("SIGBUS", 7),
+    ("SIGFPE", 8),
+    ("SIGKILL", 9),
+    ("SIGUSR1", 10),
+    ("SIGSEGV", 11),
+    ("SIGUSR2", 12),
+    ("SIGPIPE", 13),
+    ("SIGALRM", 14),
+    ("SIGTERM", 15),
+];
+
 #[test]
 fn each_signal_has_its_number(rt: HostRuntime) {
-    for (name, number) in [
-        ("SIGHUP", 1),
-        ("SIGINT", 2),
-        ("SIGQUIT", 3),
-        ("SIGILL", 4),
-        ("SIGTRAP", 5),
-        ("SIGABRT", 6),
-        ("SIGBUS", 7),
-        ("SIGFPE", 8),
-        ("SIGKILL", 9),
-        ("SIGUSR1", 10),
-        ("SIGSEGV", 11),
-        ("SIGUSR2", 12),
-        ("SIGPIPE", 13),
-        ("SIGALRM", 14),
-        ("SIGTERM", 15),
-    ] {
-        is_of_signal(&rt, name, number);
+    for (name, number) in SIGNALS {
+        is_of_signal(&rt, name, *number);
     }
 }
 

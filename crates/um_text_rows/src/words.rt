@@ -44,18 +44,21 @@ fn escapes_are_read_inside_quotes_and_outside(rt: HostRuntime) {
     has_words(&rt, "\\x41", &["A"]);
 }
 
+/// Texts with an unclosed quote or an escape that is left out.
+const UNREADABLE: &[&str] = &[
+    "a \"b",
+    "'",
+    "\\x00",
+    "\\x80",
+    "\\101",
+    "\\u0041",
+    "\\U00000041",
+    "b \"\\x80\"",
+];
+
 #[test]
 fn unclosed_quotes_and_escapes_left_out_are_unreadable(rt: HostRuntime) {
-    for text in [
-        "a \"b",
-        "'",
-        "\\x00",
-        "\\x80",
-        "\\101",
-        "\\u0041",
-        "\\U00000041",
-        "b \"\\x80\"",
-    ] {
+    for text in UNREADABLE {
         let got: Result<_, _> = words(rt.alloc(), text);
         same_at(&rt, got.expect(&rt, "no memory"), None, text);
     }
@@ -89,16 +92,19 @@ fn names_with_an_unclosed_quote_are_unreadable(rt: HostRuntime) {
     }
 }
 
+/// The variables of the rows.
+const VARIABLES: &[(&str, &str)] = &[
+    ("Y", "no"),
+    ("X", "p  q"),
+    ("Y", "'two two' too"),
+    ("Z", "a\\ \"b  c"),
+    ("_1", "one"),
+];
+
 /// The environment of the rows.
 fn environment(rt: &(impl AllocGlobal + Abort)) -> Vec<Variable> {
     let mut environment = Vec::new(rt.alloc());
-    for (name, value) in [
-        ("Y", "no"),
-        ("X", "p  q"),
-        ("Y", "'two two' too"),
-        ("Z", "a\\ \"b  c"),
-        ("_1", "one"),
-    ] {
+    for (name, value) in VARIABLES {
         let variable = Variable {
             name: text(rt, name),
             value: text(rt, value),
@@ -208,9 +214,12 @@ fn each_command_has_signs_of_its_own(rt: HostRuntime) {
     reads(&rt, "\"-a\" ; :b", Some(wanted));
 }
 
+/// Words, and whether they can be run.
+const RUNNABLE: &[(&str, bool)] = &[("/bin/x", true), ("x", true), ("bin/x", false), ("", false)];
+
 #[test]
 fn paths_and_names_can_be_run(rt: HostRuntime) {
-    for (word, wanted) in [("/bin/x", true), ("x", true), ("bin/x", false), ("", false)] {
-        same_at(&rt, is_executable_word(word), wanted, word);
+    for (word, wanted) in RUNNABLE {
+        same_at(&rt, is_executable_word(word), *wanted, word);
     }
 }
