@@ -127,19 +127,27 @@ fn map_of(rt: &(impl AllocGlobal + Abort), pairs: &[(&str, u8)]) -> BTreeMap<Str
     map
 }
 
+/// The bytes of the keys "", "Z" and "b" with the values 9, 1 and 2.
+const ASCENDING: &[u8] = &[
+    0, 0, 0, 3, 0, 0, 0, 0, 9, 0, 0, 0, 1, 90, 1, 0, 0, 0, 1, 98, 2,
+];
+
+/// The key "b" before the key "Z".
+const TURNED: &[u8] = &[0, 0, 0, 2, 0, 0, 0, 1, 98, 2, 0, 0, 0, 1, 90, 1];
+
+/// The key "b" twice.
+const TWICE: &[u8] = &[0, 0, 0, 2, 0, 0, 0, 1, 98, 2, 0, 0, 0, 1, 98, 2];
+
+/// One key where two are told.
+const SHORT: &[u8] = &[0, 0, 0, 2, 0, 0, 0, 1, 98, 2];
+
 #[test]
 fn the_keys_of_a_map_strictly_ascend(rt: HostRuntime) {
     is_spelled(&rt, &map_of(&rt, &[]), &[0, 0, 0, 0]);
     let map = map_of(&rt, &[("b", 2), ("Z", 1), ("", 9)]);
-    let bytes = [
-        0, 0, 0, 3, 0, 0, 0, 0, 9, 0, 0, 0, 1, 90, 1, 0, 0, 0, 1, 98, 2,
-    ];
-    is_spelled(&rt, &map, &bytes);
-    let turned = [0, 0, 0, 2, 0, 0, 0, 1, 98, 2, 0, 0, 0, 1, 90, 1];
-    is_not_read::<BTreeMap<String, u8>>(&rt, &turned);
-    let twice = [0, 0, 0, 2, 0, 0, 0, 1, 98, 2, 0, 0, 0, 1, 98, 2];
-    is_not_read::<BTreeMap<String, u8>>(&rt, &twice);
-    let short = [0, 0, 0, 2, 0, 0, 0, 1, 98, 2];
-    is_not_read::<BTreeMap<String, u8>>(&rt, &short);
+    is_spelled(&rt, &map, ASCENDING);
+    is_not_read::<BTreeMap<String, u8>>(&rt, TURNED);
+    is_not_read::<BTreeMap<String, u8>>(&rt, TWICE);
+    is_not_read::<BTreeMap<String, u8>>(&rt, SHORT);
     is_not_read::<BTreeMap<String, u8>>(&rt, &[]);
 }
