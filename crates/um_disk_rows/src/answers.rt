@@ -1,7 +1,7 @@
 //! Answers and sectors as values that can be compared and shown.
 use std::fmt::Debug;
 use std::process::Abort;
-use um_sector::{Disk, Sector};
+use um_sector::{Disk, Fault, Sector};
 use um_wire::Refusal;
 
 /// Asserts that the value is the wanted one.
@@ -35,6 +35,15 @@ pub fn is_refused<T: Drop>(
 fn prints(rt: &(impl AllocGlobal + Abort), refusal: &Refusal, wanted: Option<&str>) {
     let printed = refusal.to_string(rt.alloc()).expect(rt, "no memory");
     same(rt, Some(printed.as_str()), wanted);
+}
+
+/// Asserts that the disk failed the call, which a request is refused for by the number of a device.
+pub fn fails<T: Drop>(rt: &(impl AllocGlobal + Abort), answer: Result<T, Fault>) {
+    let wanted = Some("E16 Device");
+    match answer {
+        Ok(_) => same(rt, None, wanted),
+        Err(fault) => prints(rt, &Refusal::from(fault), wanted),
+    }
 }
 
 /// What a sector holds.

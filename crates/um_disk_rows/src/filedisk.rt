@@ -1,7 +1,8 @@
 //! A file as a disk: what the system keeps of it.
-use crate::answers::{same, same_at};
+use crate::answers::{fails, same, same_at};
 use crate::marks::marked_byte;
 use std::fs::{File, Files, OpenOptions};
+use std::io::ErrorKind;
 use std::path::PathBuf;
 use std::process::Abort;
 use std::test::Fail;
@@ -81,8 +82,7 @@ fn make(rt: &(impl AllocGlobal + Files<File = File> + Abort), path: &str) {
     same(rt, (disk.sectors(), first_byte(&mut disk, 2)), (3, Some(0)));
     disk.write(1, &marked()).expect(rt, "not written");
     disk.sync().expect(rt, "not synced");
-    let past = disk.write(3, &marked()).is_err();
-    assert!(rt; past, "a sector past the end was written");
+    fails(rt, disk.write(3, &marked()));
     same(rt, first_byte(&mut disk, 3), None);
     same(rt, (disk.calls(), disk.failures()), (5, 2));
 }
@@ -141,11 +141,16 @@ fn what_is_no_path_is_not_opened(rt: HostRuntime) {
     assert!(rt; begins, "{no_path}");
 }
 
+const NO_FOLDER: &str = "the system refused the file: Not a directory (os error 20)";
+
 /// Asserts that no disk is made inside a file, nor where the file was.
 fn makes_none_inside(rt: &(impl AllocGlobal + Files<File = File> + Abort), path: &PathBuf) {
     let inside = path.join(rt.alloc(), "inside").expect(rt, "no memory");
-    let no_folder = FileDisk::create(rt, inside.as_str(), 2).is_err();
-    assert!(rt; no_folder, "a disk was made inside a file");
+    says(
+        rt,
+        FileDisk::create(rt, inside.as_str(), 2),
+        Some(NO_FOLDER),
+    );
     remove(rt, path.as_str());
     says(rt, FileDisk::create(rt, inside.as_str(), 2), Some(ABSENT));
 }
@@ -164,7 +169,11 @@ fn a_file_is_not_made_where_something_stands(rt: HostRuntime) -> Result<(), Fail
 
 /// Asserts that nothing stands there.
 fn is_absent(rt: &(impl AllocGlobal + Files<File = File> + Abort), path: &str) {
-    assert!(rt; fs::metadata(rt, path).is_err(), "a file was left");
+    let refused = match fs::metadata(rt, path) {
+        Ok(_) => None,
+        Err(error) => Some(error.kind()),
+    };
+    same(rt, refused, Some(ErrorKind::NotFound));
 }
 
 #[test]
@@ -223,8 +232,7 @@ fn has_two_sectors(
     same(rt, disk.sectors(), 2);
     same(rt, first_byte(disk, 1), Some(5));
     same(rt, first_byte(disk, 2), None);
-    let part = disk.write(2, &[6; 512]).is_err();
-    assert!(rt; part, "a part of a sector was written");
+    fails(rt, disk.write(2, &[6; 512]));
     same(rt, disk.failures(), 2);
     let metadata = fs::metadata(rt, path).expect(rt, "no file");
     same(rt, metadata.len(), 1535);

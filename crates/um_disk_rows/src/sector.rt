@@ -1,5 +1,5 @@
 //! A disk in memory, its crashes, and a disk that fails a call.
-use crate::answers::{same, same_at, sector_at};
+use crate::answers::{fails, same, same_at, sector_at};
 use std::fmt::Debug;
 use std::process::Abort;
 use um_sector::{
@@ -58,10 +58,8 @@ fn a_disk_in_memory_gives_what_was_written_last(rt: HostRuntime) {
 fn a_sector_past_the_end_is_a_fault(rt: HostRuntime) {
     let mut disk = empty(&rt);
     let mut sector: Sector = [0; 512];
-    let written = disk.write(3, &[9; 512]).is_err();
-    assert!(rt; written, "a sector past the end was written");
-    let read = disk.read(3, &mut sector).is_err();
-    assert!(rt; read, "a sector past the end was read");
+    fails(&rt, disk.write(3, &[9; 512]));
+    fails(&rt, disk.read(3, &mut sector));
 }
 
 #[test]
@@ -114,8 +112,7 @@ fn failed(rt: &(impl AllocGlobal + Abort)) -> Fuse<MemDisk> {
     let mut disk = Fuse::new(empty(rt), 3);
     put(rt, &mut disk, 0, 1);
     same(rt, sector_at(rt, &mut disk, 0)[511], 1);
-    let failed = disk.write(0, &[2; 512]).is_err();
-    assert!(rt; failed, "the third call was done");
+    fails(rt, disk.write(0, &[2; 512]));
     disk
 }
 
@@ -139,8 +136,7 @@ fn a_synced_run_stands_in_its_place(rt: HostRuntime) {
     write_run_synced(&mut disk, 1, &run).expect(&rt, "not written");
     ends(&rt, &mut disk, [0, 6, 7]);
     is_unsynced(&rt, &disk, &[]);
-    let failed = write_run_synced(&mut disk, 2, &run).is_err();
-    assert!(rt; failed, "a run past the end was written");
+    fails(&rt, write_run_synced(&mut disk, 2, &run));
 }
 
 #[test]
