@@ -28,6 +28,7 @@ pub mod Ends
 pub mod Transitions
 pub mod Jobs
 pub mod Plan
+pub mod Weight
 pub mod Machine
 pub mod Live
 pub mod Numbers
