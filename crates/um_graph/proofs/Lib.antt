@@ -4,8 +4,10 @@ pub mod GraphLaws
 pub mod KnownLaws
 pub mod ListLaws
 pub mod MapLaws
+pub mod NamedLaws
 pub mod NumberLaws
 pub mod ResolveLaws
 pub mod RowLaws
 pub mod SettingLaws
+pub mod StandLaws
 pub mod TellLaws

@@ -5,3 +5,4 @@ pub mod Known
 pub mod Rows
 pub mod Edges
 pub mod View
+pub mod Named

@@ -40,7 +40,7 @@ one_carried t unit event s a b v w h k =
     (same_actions (acting_in s.loaded unit).settings (around t s unit) (change_of t s unit event).unit (change_of t s unit event).order a b h.asked k.asked, h.state ∙ sym k.state)
 
 -- of two jobs not each is told before the other
-told_one_way : (j k : Job) → IsToldBefore j k → IsToldBefore k j → ⊥
+pub told_one_way : (j k : Job) → IsToldBefore j k → IsToldBefore k j → ⊥
 told_one_way j k (by_name l) (by_name m) = names_one_way j.unit k.unit l m
 told_one_way j k (by_name l) (stop_first {unit = unit}) = names_one_way unit unit l l
 told_one_way j k (stop_first {unit = unit}) (by_name l) = names_one_way unit unit l l

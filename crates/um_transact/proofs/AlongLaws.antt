@@ -13,7 +13,8 @@ use Rattle.um_graph.specs.Kinds.{has, bit_of}
 use Rattle.um_graph.specs.declared.row.Neighbour.{Neighbour}
 use Rattle.um_transact.specs.Situation.{AddsWanted, IsStartableBy, LeadsBy, LeadsAlongBy, is_starting}
 use Rattle.um_transact.specs.Walk.{Demanded, brought}
-use Rattle.um_transact.proofs.RowLaws.{leads_within, neighbour_within}
+use Rattle.um_transact.proofs.RowLaws.{leads_within}
+use Rattle.um_graph.proofs.StandLaws.{neighbour_within}
 
 pub is_start : (d : Demand) → is_starting d ≡ true → IsStarting d
 is_start Start h = starts

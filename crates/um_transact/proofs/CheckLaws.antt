@@ -17,7 +17,8 @@ use Rattle.um_unit.specs.declared.loaded.Loading.TheVariants as loading
 use Rattle.um_wire.specs.declared.refusal.Refusal.{Refusal}
 use Rattle.um_graph.specs.Graph.{GraphView}
 use Rattle.um_transact.specs.Checks.{BarsBy, CannotStartBy, RefusesBy, is_started}
-use Rattle.um_transact.specs.Order.{jobs_at, name_at}
+use Rattle.um_jobs.specs.Named.{jobs_at}
+use Rattle.um_graph.specs.Named.{name_at}
 use Rattle.um_transact.specs.Situation.{is_loadable_at}
 use Rattle.um_transact.specs.Walk.{marks_at}
 use Rattle.um_transact.specs.declared.walk.Marks.{Marks}

@@ -1,5 +1,4 @@
 pub mod WalkLaws
-pub mod NameLaws
 pub mod RowLaws
 pub mod AlongLaws
 pub mod TurnLaws
@@ -7,7 +6,6 @@ pub mod CheckLaws
 pub mod PairLaws
 pub mod MirrorLaws
 pub mod SceneLaws
-pub mod DropLaws
 pub mod MarkedLaws
 pub mod OutcomeLaws
 pub mod TreeLaws

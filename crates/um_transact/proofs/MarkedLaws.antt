@@ -14,13 +14,15 @@ use Rattle.um_model.specs.declared.service.ActiveState.TheVariants.{Inactive}
 use Rattle.um_unit.specs.View.{loading_of}
 use Rattle.um_graph.specs.Graph.{GraphView, IsGraph}
 use Rattle.um_transact.specs.Checks.{CannotStartBy, counted, is_started, planned_at}
-use Rattle.um_transact.specs.Order.{jobs_at, name_at}
+use Rattle.um_jobs.specs.Named.{jobs_at, jobs_by}
+use Rattle.um_graph.specs.Named.{name_at, item_for}
 use Rattle.um_transact.specs.Scene as scenes
-use Rattle.um_transact.specs.Scene.{item_for, jobs_by, scene_of}
+use Rattle.um_transact.specs.Scene.{scene_of}
 use Rattle.um_transact.specs.Situation.{IsDemandedBy}
 use Rattle.um_transact.specs.Walk.{Demanded, IsMarked, marks_at}
 use Rattle.um_transact.specs.declared.walk.Marks.{Marks}
-use Rattle.um_transact.proofs.NameLaws.{IsApart, among_or_apart, got_within, item_at, jobs_by_at, jobs_by_none, jobs_by_tidy, name_got, name_is, names_once}
+use Rattle.um_graph.proofs.NamedLaws.{IsApart, among_or_apart, got_within, item_at, name_got, name_is, names_once}
+use Rattle.um_jobs.proofs.NamedLaws.{jobs_by_at, jobs_by_none, jobs_by_tidy}
 use Rattle.um_transact.proofs.RowLaws.{or_cases, or_left, or_right}
 use Rattle.um_transact.proofs.SceneLaws.{demanded_named, named_demanded}
 

@@ -1,8 +1,7 @@
 -- As each dependency stands in both rows, what the rows say is what the definitions of demands say of them.
 use Rattle.std.proofs.Common.{◌≡◌, ◌⊎◌, ◌||◌, ◌∙◌, ℕ, Bool, true, List, Contains, refl, sym, ap, subst, inl, inr}
 use Rattle.um_model.specs.Reached.{Reached, first, next}
-use Rattle.um_model.specs.Demands.{Brings, required, bound, conflicting, conflicted, stopped, restarted, LeansOn, requires, binds, is_part, starts, restarts}
-use Rattle.um_model.specs.Demands.{BringsAlong, needed, wanted, IsStartable, IsRequired, IsDemanded}
+use Rattle.um_model.specs.Demands.{Brings, required, bound, conflicting, conflicted, stopped, restarted, LeansOn, requires, binds, is_part, starts, restarts, BringsAlong, needed, wanted, IsStartable, IsRequired, IsDemanded}
 use Rattle.um_model.specs.Jobs.{is_active}
 use Rattle.um_model.specs.declared.dependencies.Demand.{Demand}
 use Rattle.um_model.specs.declared.dependencies.Demand.TheVariants.{Start, Stop, Restart}

@@ -15,14 +15,16 @@ use Rattle.um_model.specs.declared.service.ActiveState.{ActiveState}
 use Rattle.um_graph.specs.Graph.{GraphView, IsGraph, IsNumberOf}
 use Rattle.um_graph.specs.Kinds.{before_bit}
 use Rattle.um_transact.specs.Checks.{BarsBy, ClashesBy, DropsBy, RefusesFirst, is_started, planned_at}
-use Rattle.um_transact.specs.Order.{jobs_at, name_at}
-use Rattle.um_transact.specs.Scene.{IsAccepted, IsRefused, Joins, jobs_by, scene_of}
+use Rattle.um_jobs.specs.Named.{jobs_at, jobs_by}
+use Rattle.um_graph.specs.Named.{name_at, Joins}
+use Rattle.um_transact.specs.Scene.{IsAccepted, IsRefused, scene_of}
 use Rattle.um_transact.specs.Situation.{IsDemandedBy}
 use Rattle.um_transact.specs.Walk.{Demanded, IsMarked, marks_at}
 use Rattle.um_transact.specs.declared.walk.Marks.{Marks}
-use Rattle.um_transact.proofs.DropLaws.{dropped_told, none_dropped, told_dropped}
+use Rattle.um_jobs.proofs.DropLaws.{dropped_told, none_dropped, told_dropped}
 use Rattle.um_transact.proofs.MarkedLaws.{cannot_named, is_plan, marked_named, named_cannot, named_marked, named_started, started_named}
-use Rattle.um_transact.proofs.NameLaws.{among_or_apart, jobs_by_at, jobs_by_none, name_got, name_is, named_before, names_once}
+use Rattle.um_graph.proofs.NamedLaws.{among_or_apart, name_got, name_is, named_before, names_once}
+use Rattle.um_jobs.proofs.NamedLaws.{jobs_by_at, jobs_by_none}
 
 -- the first unit that gives a refusal is the least of those that have the property
 module _ (g : GraphView) (is : IsGraph g) (Has : List ℕ → Type 0) (Refuses : ℕ → Refused → Type 0)

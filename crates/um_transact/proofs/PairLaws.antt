@@ -21,10 +21,13 @@ use Rattle.um_model.specs.declared.jobs.UnitJobs.{UnitJobs}
 use Rattle.um_graph.specs.Graph.{GraphView, IsGraph, Stands, row_of}
 use Rattle.um_graph.specs.Kinds.{has, before_bit}
 use Rattle.um_graph.specs.declared.row.Neighbour.{Neighbour}
-use Rattle.um_transact.specs.Order.{ArePairs, Node, jobs_at, name_at, node_at, number_of, pair_of, pairs_before, pairs_by, pairs_in}
-use Rattle.um_transact.specs.Scene.{Joins, jobs_by}
-use Rattle.um_transact.proofs.NameLaws.{IsAmong, IsApart, among_or_apart, got_within, jobs_by_at, jobs_by_none, name_got, name_is, names_once, not_before}
-use Rattle.um_transact.proofs.RowLaws.{and_both, and_parts, contains_flat, flat_contains, stands_within}
+use Rattle.um_transact.specs.Order.{ArePairs, Node, node_at, number_of, pair_of, pairs_before, pairs_by, pairs_in}
+use Rattle.um_jobs.specs.Named.{jobs_at, jobs_by}
+use Rattle.um_graph.specs.Named.{name_at, Joins}
+use Rattle.um_graph.proofs.NamedLaws.{IsAmong, IsApart, among_or_apart, got_within, name_got, name_is, names_once, not_before}
+use Rattle.um_jobs.proofs.NamedLaws.{jobs_by_at, jobs_by_none}
+use Rattle.um_transact.proofs.RowLaws.{and_both, and_parts, contains_flat, flat_contains}
+use Rattle.um_graph.proofs.StandLaws.{stands_within}
 
 -- ---- the pairs of the rows, one row after another
 pub pairs_none : (rows : List (List Neighbour)) (plan : List UnitJobs) (pairs : List (ℕ × ℕ)) → pairs ≡ [] → ArePairs rows plan 0 pairs

@@ -1,14 +1,14 @@
 -- What stands in the rows of a graph, and what is found in the row of a unit.
-use Rattle.std.proofs.Common.{◌≡◌, ◌⊎◌, ◌∙◌, ◌||◌, ◌&&◌, ◌<◌, ℕ, zero, suc, Bool, true, false, List, [], ◌∷◌, ◌++◌, length, All, Contains, Option, Some, None, slice_get, refl, sym, subst, inl, inr, arith}
+use Rattle.std.proofs.Common.{◌≡◌, ◌⊎◌, ◌||◌, ◌&&◌, ◌<◌, zero, suc, Bool, true, false, List, [], ◌∷◌, ◌++◌, length, Contains, refl, sym, subst, inl, inr, arith}
 use Rattle.std.specs.List.{flat_map}
 use Rattle.std.proofs.lemmas.List.Elements.{Contains-append_left, Contains-append_right, Contains-append_cases}
-use Rattle.std.proofs.lemmas.Option.{slice_get_cases}
 use Rattle.um_model.specs.Jobs.{is_active}
 use Rattle.um_model.specs.declared.dependencies.Demand.{Demand}
 use Rattle.um_model.specs.declared.dependencies.Demand.TheVariants.{Start, Stop, Restart}
 use Rattle.um_model.specs.declared.service.ActiveState.{ActiveState}
-use Rattle.um_graph.specs.Graph.{GraphView, IsGraph, Stands, row_of, neighbours_or_none}
+use Rattle.um_graph.specs.Graph.{GraphView, IsGraph, row_of}
 use Rattle.um_graph.specs.declared.row.Neighbour.{Neighbour}
+use Rattle.um_graph.proofs.StandLaws.{neighbour_within}
 use Rattle.um_transact.specs.Situation.{LeadsBy}
 use Rattle.um_transact.specs.Walk.{Demanded, activity_at, brings, brought_by, one_if}
 
@@ -72,49 +72,12 @@ to_one d Restart a n b = Contains-append_right (one_if (brings d Start a n) (Sta
     (Contains-append_right (one_if (brings d Stop a n) (Stop, n.unit)) (one_if (brings d Restart a n) (Restart, n.unit)) (Restart, n.unit) (one_has (brings d Restart a n) (Restart, n.unit) b))
 
 -- ---- rows
-row_within : (g : GraphView) (o : Option (List Neighbour)) → ((row : List Neighbour) → o ≡ Some row → All (λ (n : Neighbour). n.unit < length g.names) row) → (n : Neighbour) → Contains (neighbours_or_none o) n → n.unit < length g.names
-row_within g None f n (k, h, e) = absurd (omega arith)
-row_within g (Some row) f n (k, h, e) = subst (λ (m : Neighbour). m.unit < length g.names) e (f row refl k n h)
+module _ (g : GraphView) (is : IsGraph g) (activity : List ActiveState) where
+  abbrev active : Neighbour → Bool
+  active n = is_active (activity_at activity n.unit)
 
-module _ (g : GraphView) (is : IsGraph g) where
-  -- each neighbour is a unit
-  pub neighbour_within : (x : ℕ) (n : Neighbour) → Contains (row_of g.rows x) n → n.unit < length g.names
-  neighbour_within x n c = row_within g (slice_get g.rows x) (λ row e. elim (slice_get_cases g.rows x).1 as (λ _. All (λ (m : Neighbour). m.unit < length g.names) row) [
-    | inl s ↦
-        let same : s.0 ≡ row = some_same s.0 row (sym s.2 ∙ e) in
-        subst (All (λ (m : Neighbour). m.unit < length g.names)) (s.3 ∙ same) (is.within x s.0 s.1)
-    | inr s ↦ absurd (some_none row (sym e ∙ s.1))
-  ]) n c
-    where
-      some_same : (a b : List Neighbour) → Some a ≡ Some b → a ≡ b
-      some_same a b e = cc
-
-      some_none : (a : List Neighbour) → Some a ≡ None → ⊥
-      some_none a e = cc
-
-  -- and so is the unit in whose row it stands
-  row_some : (o : Option (List Neighbour)) (n : Neighbour) → Contains (neighbours_or_none o) n → (row : List Neighbour) × (o ≡ Some row)
-  row_some None n (k, h, e) = absurd (omega arith)
-  row_some (Some row) n c = (row, refl)
-
-  pub owner_within : (x : ℕ) (n : Neighbour) → Contains (row_of g.rows x) n → x < length g.names
-  owner_within x n c = elim (slice_get_cases g.rows x).1 as (λ _. x < length g.names) [
-    | inl s ↦ omega (arith, s.1, is.rowed)
-    | inr s ↦ let r = row_some (slice_get g.rows x) n c in absurd (some_none r.0 (sym r.1 ∙ s.1))
-  ]
-    where
-      some_none : (a : List Neighbour) → Some a ≡ None → ⊥
-      some_none a e = cc
-
-  pub stands_within : (bit x y : ℕ) → Stands g.rows bit x y → (x < length g.names) × (y < length g.names)
-  stands_within bit x y h = (owner_within x h.neighbour h.listed, subst (λ u. u < length g.names) h.is (neighbour_within x h.neighbour h.listed))
-
-  module _ (activity : List ActiveState) where
-    abbrev active : Neighbour → Bool
-    active n = is_active (activity_at activity n.unit)
-
-    pub leads_within : (p q : Demanded) → LeadsBy g activity p q → q.1 < length g.names
-    leads_within p q c =
-        let r = flat_contains (λ n. brought_by p.0 (active n) n) (row_of g.rows p.1) q c in
-        let t = by_one p.0 (active r.0) r.0 q r.2 in
-        subst (λ (w : Demanded). w.1 < length g.names) t.2 (neighbour_within p.1 r.0 r.1)
+  pub leads_within : (p q : Demanded) → LeadsBy g activity p q → q.1 < length g.names
+  leads_within p q c =
+      let r = flat_contains (λ n. brought_by p.0 (active n) n) (row_of g.rows p.1) q c in
+      let t = by_one p.0 (active r.0) r.0 q r.2 in
+      subst (λ (w : Demanded). w.1 < length g.names) t.2 (neighbour_within g is p.1 r.0 r.1)

@@ -13,14 +13,14 @@ use Rattle.um_unit.specs.View.{loading_of}
 use Rattle.um_unit.specs.declared.loaded.Loading.TheVariants.{NotFound}
 use Rattle.um_graph.specs.Graph.{GraphView, IsGraph, Stands}
 use Rattle.um_graph.specs.Kinds.{bit_of}
-use Rattle.um_transact.specs.Order.{name_at}
+use Rattle.um_graph.specs.Named.{name_at, Joins, item_for}
 use Rattle.um_transact.specs.Scene as scenes
-use Rattle.um_transact.specs.Scene.{IsFound, Joins, item_for, scene_of}
+use Rattle.um_transact.specs.Scene.{IsFound, scene_of}
 use Rattle.um_transact.specs.Situation.{IsDemandedBy, is_loadable_at, loading_at}
 use Rattle.um_transact.specs.Walk.{activity_at}
 use Rattle.um_transact.proofs.MirrorLaws.{Depends, IsActive, IsLoadable, demanded_here, demanded_there}
-use Rattle.um_transact.proofs.NameLaws.{got_within, item_at, name_got, name_is, names_once}
-use Rattle.um_transact.proofs.RowLaws.{stands_within}
+use Rattle.um_graph.proofs.NamedLaws.{got_within, item_at, name_got, name_is, names_once}
+use Rattle.um_graph.proofs.StandLaws.{stands_within}
 
 some_is : {A : Type 0} (o : Option A) → is_some o ≡ true → (a : A) × (o ≡ Some a)
 some_is (Some a) h = (a, refl)

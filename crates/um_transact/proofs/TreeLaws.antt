@@ -2,7 +2,7 @@
 use Rattle.std.proofs.Common.{◌≡◌, ◌↔◌, ◌∙◌, ℕ, List, Some, option_map, get_or, sym, ap, subst, inl, inr, arith}
 use Rattle.std.proofs.lemmas.Option.{same_Some, slice_get-get_or}
 use Rattle.um_model.specs.Dependencies.{Depends, IsKnown, Orders, Precedes, declared, pulled_in, ending, ends, owner, other, earlier, later, loadable_in, loadable_of}
-use Rattle.um_model.specs.Jobs.{jobs_of_unit}
+use Rattle.um_model.specs.Jobs.{jobs_of_unit, no_jobs}
 use Rattle.um_model.specs.Machine as machine
 use Rattle.um_model.specs.Plan.{Scene}
 use Rattle.um_model.specs.Reached.{next}
@@ -21,13 +21,14 @@ use Rattle.um_unit.specs.declared.loaded.Loading.{Loading}
 use Rattle.um_unit.specs.declared.loaded.Loading.TheVariants.{NotFound}
 use Rattle.um_graph.specs.Graph.{GraphView, IsGraph, IsGraphOf, IsNumberOf}
 use Rattle.um_graph.specs.Kinds.{bit_of, before_bit}
-use Rattle.um_transact.specs.Order.{jobs_at, name_at}
-use Rattle.um_transact.specs.Scene.{IsAccepted, IsFound, IsRefused, Joins, item_for, jobs_by, scene_of}
+use Rattle.um_jobs.specs.Named.{jobs_at, jobs_by}
+use Rattle.um_graph.specs.Named.{Joins, item_for}
+use Rattle.um_transact.specs.Scene.{IsAccepted, IsFound, IsRefused, scene_of}
 use Rattle.um_transact.specs.Scene as scenes
 use Rattle.um_transact.specs.Walk.{activity_at}
 use Rattle.um_model.specs.declared.service.ActiveState.TheVariants.{Inactive}
-use Rattle.um_model.specs.Jobs.{no_jobs}
-use Rattle.um_transact.proofs.NameLaws.{among_or_apart, got_within, item_at, jobs_by_at, jobs_by_none, name_got, name_is, names_once}
+use Rattle.um_graph.proofs.NamedLaws.{among_or_apart, got_within, item_at, name_got, name_is, names_once}
+use Rattle.um_jobs.proofs.NamedLaws.{jobs_by_at, jobs_by_none}
 
 module _ (tree : Tree) (Extra : List ℕ → Type 0) (g : GraphView) (is : IsGraph g) (of : IsGraphOf tree Extra g) where
   -- the known units have numbers

@@ -1,7 +1,7 @@
 -- The checks of a plan, one unit after another: which refusal a unit gives, and what a check over all of them answers.
 -- Follows the definition of why a plan is refused: it says it by numbers.
 -- The order of refusals stands on this file.
-use Rattle.std.specs.Prelude.{◌≡◌, ◌≢◌, ℕ, ◌<◌, ◌||◌, if◌then◌else◌, Bool, true, false, List, Option, Some, None, Result, Ok, Err, slice_get}
+use Rattle.std.specs.Prelude.{◌≡◌, ◌≢◌, ℕ, ◌<◌, ◌||◌, if◌then◌else◌, Bool, true, List, Option, Some, None, Result, Ok, Err, slice_get}
 use Rattle.um_model.specs.Jobs.{Job, ComesBefore}
 use Rattle.um_model.specs.Machine.{CannotStart}
 use Rattle.um_model.specs.Order.{IsCycle}
@@ -12,8 +12,6 @@ use Rattle.um_model.specs.declared.commands.JobMode.{JobMode}
 use Rattle.um_model.specs.declared.commands.JobMode.TheVariants.{Fail}
 use Rattle.um_model.specs.declared.dependencies.Demand.{Demand}
 use Rattle.um_model.specs.declared.dependencies.Demand.TheVariants.{Start, Stop, Restart}
-use Rattle.um_model.specs.declared.jobs.JobState.{JobState}
-use Rattle.um_model.specs.declared.jobs.JobState.TheVariants.{Waiting, Running}
 use Rattle.um_model.specs.declared.jobs.UnitJobs.{UnitJobs}
 use Rattle.um_model.specs.declared.service.ActiveState.{ActiveState}
 use Rattle.um_unit.specs.View.{loading_of}
@@ -22,7 +20,8 @@ use Rattle.um_wire.specs.Refusal.{refused_of}
 use Rattle.um_wire.specs.declared.refusal.Refusal.{Refusal}
 use Rattle.um_wire.specs.declared.refusal.Refusal.TheVariants.{NoMemory}
 use Rattle.um_graph.specs.Graph.{GraphView, IsNumberOf}
-use Rattle.um_transact.specs.Order.{jobs_at}
+use Rattle.um_jobs.specs.Named.{jobs_at}
+use Rattle.um_jobs.specs.Drops.{drops_one}
 use Rattle.um_transact.specs.Walk.{activity_at, marks_at}
 use Rattle.um_transact.specs.declared.walk.Marks.{Marks}
 
@@ -36,19 +35,6 @@ planned_at marks activity pending u = jobs_for (counted (marks_at marks u)) (act
 
 abbrev pub is_started : Marks → Bool
 is_started m = m.start || m.restart
-
--- a job that was pending is gone, or is no more as it was
-abbrev pub is_dropped : Option JobState → Option JobState → Bool
-is_dropped None after = false
-is_dropped (Some Waiting) (Some Waiting) = false
-is_dropped (Some Waiting) (Some Running) = true
-is_dropped (Some Waiting) None = true
-is_dropped (Some Running) (Some Running) = false
-is_dropped (Some Running) (Some Waiting) = true
-is_dropped (Some Running) None = true
-
-abbrev pub drops_one : UnitJobs → UnitJobs → Bool
-drops_one before after = is_dropped before.stop after.stop || is_dropped before.start after.start
 
 -- ---- one unit
 

@@ -1,9 +1,9 @@
 -- The order of the pending jobs, over numbers: of each unit its stop job, and then its start job.
 -- Follows the definition of which job comes before which: it says it by numbers.
 -- The check for cycles stands on this file.
-use Rattle.std.specs.Prelude.{ℕ, ◌+◌, ◌*◌, ◌/◌, ◌%◌, ◌==◌, ◌<◌, ◌&&◌, if◌then◌else◌, List, [], ◌∷◌, ◌++◌, Contains, is_some, slice_index_or}
+use Rattle.std.specs.Prelude.{ℕ, ◌+◌, ◌*◌, ◌/◌, ◌%◌, ◌==◌, ◌<◌, ◌&&◌, if◌then◌else◌, List, [], ◌∷◌, ◌++◌, Contains, is_some}
 use Rattle.std.specs.List.{flat_map}
-use Rattle.um_model.specs.Jobs.{job_of, no_jobs}
+use Rattle.um_model.specs.Jobs.{job_of}
 use Rattle.um_model.specs.Machine.{is_waiting}
 use Rattle.um_model.specs.declared.jobs.JobKind.{JobKind}
 use Rattle.um_model.specs.declared.jobs.JobKind.TheVariants.{Stop, Start}
@@ -11,14 +11,7 @@ use Rattle.um_model.specs.declared.jobs.UnitJobs.{UnitJobs}
 use Rattle.um_graph.specs.Graph.{row_of}
 use Rattle.um_graph.specs.Kinds.{has, before_bit}
 use Rattle.um_graph.specs.declared.row.Neighbour.{Neighbour}
-
--- the jobs of the unit with this number: one past the last has none
-abbrev pub jobs_at : List UnitJobs → ℕ → UnitJobs
-jobs_at pending u = slice_index_or pending u no_jobs
-
--- the name of the unit with this number
-abbrev pub name_at : List (List ℕ) → ℕ → List ℕ
-name_at names u = slice_index_or names u []
+use Rattle.um_jobs.specs.Named.{jobs_at}
 
 -- a job of the unit with a number
 abbrev pub Node : Type 0

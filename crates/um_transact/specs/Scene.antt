@@ -1,11 +1,9 @@
 -- What a transaction over a graph is: its scene by the names of units, the pending jobs that a plan stands for, and what the answer promises.
 -- Follows the definitions of plans: it puts a graph in their place.
 -- The one public call stands on this file.
-use Rattle.std.specs.Prelude.{◌≡◌, ℕ, if◌then◌else◌, List, [], ◌∷◌, Some, slice_get}
-use Rattle.std.specs.FinMap as map
-use Rattle.std.specs.Str.{bytes_eq}
+use Rattle.std.specs.Prelude.{◌≡◌, ℕ, List, Some, slice_get}
 use Rattle.um_model.specs.Dependencies.{loadable_of}
-use Rattle.um_model.specs.Jobs.{Job, ComesBefore, with_jobs}
+use Rattle.um_model.specs.Jobs.{Job, ComesBefore}
 use Rattle.um_model.specs.Machine as machine
 use Rattle.um_model.specs.Order.{IsCycle}
 use Rattle.um_model.specs.Plan.{Scene, IsPlan, CausesOfPlan}
@@ -14,22 +12,15 @@ use Rattle.um_model.specs.Service.{ByUnit}
 use Rattle.um_model.specs.Units.{LoadedUnit}
 use Rattle.um_model.specs.declared.commands.JobMode.{JobMode}
 use Rattle.um_model.specs.declared.dependencies.Demand.{Demand}
-use Rattle.um_model.specs.declared.dependencies.DependencyKind.{DependencyKind}
 use Rattle.um_model.specs.declared.jobs.UnitJobs.{UnitJobs}
 use Rattle.um_model.specs.declared.service.ActiveState.{ActiveState}
 use Rattle.um_model.specs.declared.service.ActiveState.TheVariants.{Inactive}
 use Rattle.um_unit.specs.View.{loading_of}
 use Rattle.um_unit.specs.declared.loaded.Loading.{Loading}
-use Rattle.um_graph.specs.Graph.{GraphView, IsNumberOf, Stands}
+use Rattle.um_graph.specs.Graph.{GraphView, IsNumberOf}
 use Rattle.um_graph.specs.Kinds.{bit_of, before_bit}
-
--- x and y are units of the graph, and y stands in the row of x in this way
-pub record Joins (g : GraphView) (bit : ℕ) (x y : List ℕ) : Type 0 where
-  pub from : ℕ
-  pub to : ℕ
-  pub first : IsNumberOf g from x
-  pub second : IsNumberOf g to y
-  pub stands : Stands g.rows bit from to
+use Rattle.um_graph.specs.Named.{Joins, item_for}
+use Rattle.um_jobs.specs.Named.{jobs_by}
 
 -- this became of the look for the unit
 pub record IsFound (g : GraphView) (x : List ℕ) (loading : Loading) : Type 0 where
@@ -49,18 +40,6 @@ pub record CannotStart (g : GraphView) (x : List ℕ) (r : Refused) : Type 0 whe
   pub loading : Loading
   pub found : IsFound g x loading
   pub cause : machine.CannotStart x (loading_of loading) r
-
--- of the items in the order of the names the one for this name
-abbrev pub item_for : {X : Type 0} → X → List (List ℕ) → List X → List ℕ → X
-item_for none [] xs name = none
-item_for none (n ∷ ns) [] name = none
-item_for none (n ∷ ns) (x ∷ xs) name = if bytes_eq n name then x else item_for none ns xs name
-
--- the pending jobs, from those of each unit in the order of the names
-abbrev pub jobs_by : List (List ℕ) → List UnitJobs → ByUnit UnitJobs
-jobs_by [] jobs = map.empty
-jobs_by (n ∷ ns) [] = map.empty
-jobs_by (n ∷ ns) (j ∷ jobs) = with_jobs (jobs_by ns jobs) n j
 
 -- what a transaction over this graph is made from, with how active each unit is and its pending jobs, by number
 abbrev pub scene_of : GraphView → List ActiveState → List UnitJobs → Scene

@@ -5,23 +5,16 @@ ghost use Rattle.um_graph.specs.Graph.{IsGraph};
 ghost use Rattle.um_model.specs.declared.commands.JobMode.TheVariants.{Fail};
 ghost use Rattle.um_transact.specs.Checks as told;
 ghost use Rattle.um_transact.specs.Checks.{BarsBy, CannotStartBy, ChecksBy, ClashesBy, DropsBy, RefusesBy};
-ghost use Rattle.um_transact.specs.Order.{jobs_at};
+ghost use Rattle.um_jobs.specs.Named.{jobs_at};
 
 use crate::demands::marks_of;
 use crate::refusals::{check_start, clash, job_conflict};
-use crate::table::drops_one;
 use crate::walk::Marks;
 use std::alloc::Global;
 use um_graph::Graph;
+use um_jobs::{drops_one, jobs_of};
 use um_model::{JobMode, UnitJobs};
 use um_wire::Refusal;
-
-/// The pending jobs of the unit with this number.
-pub fn jobs_of(pending: &[UnitJobs], unit: usize) -> UnitJobs
-    ensures { result ≡ jobs_at pending.now unit }
-{
-    pending.get(unit).copied().unwrap_or(UnitJobs::NONE)
-}
 
 fn is_started(marks: Marks) -> bool
     ensures { result ≡ told.is_started marks }

@@ -7,7 +7,6 @@ mod demands;
 mod order;
 mod plan;
 mod refusals;
-mod table;
 mod walk;
 
 pub use plan::{Plan, build};

@@ -4,15 +4,15 @@ ghost use Rattle.std.specs.Prelude.{◌≡◌, ◌+◌, ◌*◌, ◌/◌, ◌^�
 ghost use Rattle.um_graph.specs.Graph.{IsGraph, row_of};
 ghost use Rattle.um_graph.specs.Kinds.{before_bit};
 ghost use Rattle.um_model.specs.Jobs as jobs;
-ghost use Rattle.um_model.specs.Machine as machine;
 ghost use Rattle.um_transact.specs.Checks.{OrdersBy};
-ghost use Rattle.um_transact.specs.Order.{ArePairs, Node, jobs_at, name_at, number_of, pair_of, pairs_before, pairs_by, pairs_in};
-ghost use Rattle.um_transact.specs.Scene.{Joins, jobs_by};
+ghost use Rattle.um_transact.specs.Order.{ArePairs, Node, number_of, pair_of, pairs_before, pairs_by, pairs_in};
+ghost use Rattle.um_jobs.specs.Named.{jobs_at, jobs_by};
+ghost use Rattle.um_graph.specs.Named.{Joins, name_at};
 
-use crate::checks::jobs_of;
 use crate::refusals::text_of;
 use std::alloc::{AllocError, Global};
 use um_graph::{Graph, Neighbour};
+use um_jobs::{is_waiting, jobs_of};
 use um_model::{JobKind, JobState, UnitJobs};
 use um_order::{Order, check};
 use um_wire::{Refusal, Texts};
@@ -37,12 +37,6 @@ fn job_of(plan: &[UnitJobs], job: (JobKind, usize)) -> Option<JobState>
         JobKind::Stop => jobs.stop,
         JobKind::Start => jobs.start,
     }
-}
-
-fn is_waiting(job: Option<JobState>) -> bool
-    ensures { result ≡ machine.is_waiting job }
-{
-    matches!(job, Some(JobState::Waiting))
 }
 
 /// Adds that the first job is before the second, where it is pending and the second waits.

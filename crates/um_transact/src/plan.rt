@@ -3,21 +3,22 @@
 ghost use Rattle.std.specs.Prelude.{◌≡◌, ◌≢◌, ◌≤◌, ◌<◌, ℕ, List, IfOk, IfErr, length, vec_len};
 ghost use Rattle.um_graph.specs.Graph.{IsGraph, IsNumberOf};
 ghost use Rattle.um_model.specs.declared.jobs.UnitJobs.{UnitJobs};
+ghost use Rattle.um_transact.specs.Checks as checks;
 ghost use Rattle.um_transact.specs.Checks.{planned_at};
-ghost use Rattle.um_transact.specs.Order.{jobs_at};
-ghost use Rattle.um_transact.specs.Scene.{IsAccepted, IsRefused, jobs_by, scene_of};
+ghost use Rattle.um_jobs.specs.Named.{jobs_at, jobs_by};
+ghost use Rattle.um_transact.specs.Scene.{IsAccepted, IsRefused, scene_of};
 ghost use Rattle.um_transact.specs.Walk.{activity_at};
 ghost use Rattle.um_wire.specs.Refusal.{refused_of};
 ghost use Rattle.um_wire.specs.declared.refusal.Refusal.TheVariants.{NoMemory};
 
-use crate::checks::{check_bars, check_clashes, check_drops, jobs_of};
+use crate::checks::{check_bars, check_clashes, check_drops};
 use crate::demands::{demanded, marks_of};
 use crate::order::check_order;
-use crate::table::{counted, jobs_for};
 use crate::walk::Marks;
 use std::alloc::{AllocError, Global};
 use std::marker::Model;
 use um_graph::Graph;
+use um_jobs::{jobs_for, jobs_of};
 use um_model::{ActiveState, Demand, JobMode, UnitJobs};
 use um_wire::Refusal;
 
@@ -47,6 +48,21 @@ fn activity_of(activity: &[ActiveState], unit: usize) -> ActiveState
     ensures { result ≡ activity_at activity.now unit }
 {
     activity.get(unit).copied().unwrap_or(ActiveState::Inactive)
+}
+
+/// Which demand counts for a unit: where it is restarted and started too, it is restarted.
+fn counted(met: Marks) -> Option<Demand>
+    ensures { result ≡ checks.counted met }
+{
+    if met.restart {
+        Some(Demand::Restart)
+    } else if met.start {
+        Some(Demand::Start)
+    } else if met.stop {
+        Some(Demand::Stop)
+    } else {
+        None
+    }
 }
 
 /// The jobs of the unit with this number after what is demanded of it.

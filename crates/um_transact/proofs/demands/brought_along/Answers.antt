@@ -1,7 +1,7 @@
 use Rattle.std.proofs.Common.{◌∙◌, get_or, Contains, arith, subst, sym}
 use Rattle.std.proofs.lemmas.List.{get_or_default}
 use Rattle.std.proofs.lemmas.List.Elements.{Contains-get_or}
-use Rattle.um_transact.proofs.RowLaws.{neighbour_within}
+use Rattle.um_graph.proofs.StandLaws.{neighbour_within}
 use Rattle.um_transact.proofs.AlongLaws.{along_first, along_more, along_all, along_stop, is_start, is_no_start}
 use Rattle.um_transact.proofs.demands.brought_along.Goals as goal
 

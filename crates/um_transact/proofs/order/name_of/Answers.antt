@@ -1,5 +1,5 @@
 use Rattle.std.proofs.Common.{rules, ◌≡◌, sym, []}
-use Rattle.um_transact.specs.Order.{name_at}
+use Rattle.um_graph.specs.Named.{name_at}
 use Rattle.um_transact.proofs.CheckLaws.{none_named}
 use Rattle.um_transact.proofs.order.name_of.Goals as goal
 

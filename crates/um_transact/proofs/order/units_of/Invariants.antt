@@ -1,6 +1,6 @@
 use Rattle.std.proofs.Common.{◌≡◌, ◌/◌, map, take}
 use Rattle.std.specs.Prelude.{string_bytes}
-use Rattle.um_transact.specs.Order.{name_at}
+use Rattle.um_graph.specs.Named.{name_at}
 use Rattle.um_transact.proofs.order.units_of.Given as goal
 
 abbrev pub invariant-loop-node : goal.invariant-loop-node

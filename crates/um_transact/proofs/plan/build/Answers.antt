@@ -1,7 +1,7 @@
 use Rattle.std.proofs.Common.{◌≡◌, ◌≢◌, ◌<◌, ℕ, List, arith, length}
 use Rattle.um_graph.specs.Graph.{IsNumberOf}
 use Rattle.um_transact.specs.Checks.{planned_at}
-use Rattle.um_transact.specs.Order.{jobs_at}
+use Rattle.um_jobs.specs.Named.{jobs_at}
 use Rattle.um_transact.specs.Scene.{IsRefused, scene_of}
 use Rattle.um_wire.specs.Refusal.{refused_of}
 use Rattle.um_wire.specs.declared.refusal.Refusal.TheVariants.{NoMemory}

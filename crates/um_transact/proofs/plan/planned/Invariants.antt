@@ -1,6 +1,6 @@
 use Rattle.std.proofs.Common.{ℕ, ◌≡◌, ◌<◌, vec_len}
 use Rattle.um_transact.specs.Checks.{planned_at}
-use Rattle.um_transact.specs.Order.{jobs_at}
+use Rattle.um_jobs.specs.Named.{jobs_at}
 use Rattle.um_transact.proofs.plan.planned.Given as goal
 
 abbrev pub invariant-loop-unit : goal.invariant-loop-unit

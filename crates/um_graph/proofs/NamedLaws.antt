@@ -1,19 +1,12 @@
 -- Names in their order and the numbers of units: each name has one number; and what lists in that order say of a name.
-use Rattle.std.proofs.Common.{◌≡◌, ◌≢◌, ◌⊎◌, ◌∙◌, ◌<◌, ◌≤◌, ℕ, zero, suc, true, false, cond, List, [], ◌∷◌, length, AllPairs, Some, refl, sym, ap, subst, inl, inr, arith, unwrap_or, slice_get, get_or}
+use Rattle.std.proofs.Common.{◌≡◌, ◌≢◌, ◌⊎◌, ◌∙◌, ◌<◌, ◌≤◌, ℕ, zero, suc, true, false, cond, List, [], ◌∷◌, length, AllPairs, Some, refl, sym, ap, subst, inl, inr, arith, slice_get, get_or}
 use Rattle.std.proofs.lemmas.Bool.{cases_lt}
 use Rattle.std.proofs.lemmas.Option.{none-some, get_or_from_slice_get, slice_get-get_or, slice_get_cases}
 use Rattle.std.proofs.lemmas.Slice.Eq.{bytes_eq-Decides}
-use Rattle.std.specs.FinMap as map
-use Rattle.std.specs.Cmp.Lexicographic.{slice_cmp}
-use Rattle.std.specs.Ordering.{nat_cmp}
 use Rattle.std.specs.Str.{bytes_eq}
-use Rattle.um_model.specs.Jobs.{jobs_of_unit, no_jobs, AreTidyJobs}
 use Rattle.um_model.specs.Least.{IsNamedBefore}
-use Rattle.um_model.specs.declared.jobs.UnitJobs.{UnitJobs}
 use Rattle.um_model.proofs.TimersLaws.{names_one_way, same_name}
-use Rattle.um_model.proofs.UnitLaws.{jobs_here, jobs_apart, tidy_empty, tidy_jobs}
-use Rattle.um_transact.specs.Order.{jobs_at, name_at}
-use Rattle.um_transact.specs.Scene.{item_for, jobs_by}
+use Rattle.um_graph.specs.Named.{item_for, name_at}
 
 -- the name under a number
 pub name_got : (names : List (List ℕ)) (i : ℕ) → i < length names → slice_get names i ≡ Some (name_at names i)
@@ -75,10 +68,10 @@ module _ (names : List (List ℕ)) (sorted : AllPairs IsNamedBefore names) where
         names_one_way (name_at names j) (name_at names j) c c
   ]
 
-once_later : (n : List ℕ) (ns : List (List ℕ)) → AreOnce (n ∷ ns) → AreOnce ns
+pub once_later : (n : List ℕ) (ns : List (List ℕ)) → AreOnce (n ∷ ns) → AreOnce ns
 once_later n ns once i j h k e = let s : suc i ≡ suc j = once (suc i) (suc j) (omega arith) (omega arith) e in omega arith
 
-first_apart : (n : List ℕ) (ns : List (List ℕ)) → AreOnce (n ∷ ns) → (i : ℕ) → i < length ns → n ≢ name_at ns i
+pub first_apart : (n : List ℕ) (ns : List (List ℕ)) → AreOnce (n ∷ ns) → (i : ℕ) → i < length ns → n ≢ name_at ns i
 first_apart n ns once i h e = let s : 0 ≡ suc i = once 0 (suc i) (omega arith) (omega arith) e in absurd (omega arith)
 
 same_true : (x : List ℕ) → bytes_eq x x ≡ true
@@ -97,23 +90,3 @@ item_at none (n ∷ ns) [] once i h = refl
 item_at none (n ∷ ns) (x ∷ xs) once zero h = ap (λ b. cond b x (item_for none ns xs n)) (same_true n)
 item_at none (n ∷ ns) (x ∷ xs) once (suc i) h =
     ap (λ b. cond b x (item_for none ns xs (name_at ns i))) (other_false n (name_at ns i) (first_apart n ns once i (omega arith))) ∙ item_at none ns xs (once_later n ns once) i (omega arith)
-
-nothing_held : (x : List ℕ) → jobs_of_unit map.empty x ≡ no_jobs
-nothing_held x = ap (λ o. unwrap_or o no_jobs) (map.get-empty (slice_cmp nat_cmp) x)
-
-pub jobs_by_at : (names : List (List ℕ)) (js : List UnitJobs) → AreOnce names → (i : ℕ) → i < length names → jobs_of_unit (jobs_by names js) (name_at names i) ≡ jobs_at js i
-jobs_by_at [] js once i h = absurd (omega arith)
-jobs_by_at (n ∷ ns) [] once i h = nothing_held (name_at (n ∷ ns) i)
-jobs_by_at (n ∷ ns) (j ∷ js) once zero h = jobs_here (jobs_by ns js) n j
-jobs_by_at (n ∷ ns) (j ∷ js) once (suc i) h =
-    jobs_apart (jobs_by ns js) n j (name_at ns i) (λ e. first_apart n ns once i (omega arith) (sym e)) ∙ jobs_by_at ns js (once_later n ns once) i (omega arith)
-
-pub jobs_by_none : (names : List (List ℕ)) (js : List UnitJobs) (x : List ℕ) → IsApart names x → jobs_of_unit (jobs_by names js) x ≡ no_jobs
-jobs_by_none [] js x a = nothing_held x
-jobs_by_none (n ∷ ns) [] x a = nothing_held x
-jobs_by_none (n ∷ ns) (j ∷ js) x a = jobs_apart (jobs_by ns js) n j x (λ e. a 0 (omega arith) (sym e)) ∙ jobs_by_none ns js x (λ i h. a (suc i) (omega arith))
-
-pub jobs_by_tidy : (names : List (List ℕ)) (js : List UnitJobs) → AreTidyJobs (jobs_by names js)
-jobs_by_tidy [] js = tidy_empty no_jobs
-jobs_by_tidy (n ∷ ns) [] = tidy_empty no_jobs
-jobs_by_tidy (n ∷ ns) (j ∷ js) = tidy_jobs (jobs_by ns js) n j (jobs_by_tidy ns js)

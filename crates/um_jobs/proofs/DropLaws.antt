@@ -6,7 +6,7 @@ use Rattle.um_model.specs.declared.jobs.JobKind.TheVariants.{Stop, Start}
 use Rattle.um_model.specs.declared.jobs.JobState.{JobState}
 use Rattle.um_model.specs.declared.jobs.JobState.TheVariants.{Waiting, Running}
 use Rattle.um_model.specs.declared.jobs.UnitJobs.{UnitJobs}
-use Rattle.um_transact.specs.Checks.{is_dropped, drops_one}
+use Rattle.um_jobs.specs.Drops.{is_dropped, drops_one}
 
 -- one job
 gone : (before after : Option JobState) → is_dropped before after ≡ true → (state : JobState) × (before ≡ Some state) × (after ≡ Some state → ⊥)

@@ -1,0 +1,3 @@
+pub mod NamedLaws
+pub mod DropLaws
+pub mod ReadyLaws

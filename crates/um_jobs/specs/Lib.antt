@@ -1,0 +1,4 @@
+pub mod Named
+pub mod Drops
+pub mod Jobs
+pub mod Ready

@@ -1,0 +1,35 @@
+-- Which job is ready, by the numbers of the units: what the row of a unit says.
+-- Follows the definition of ready jobs: it says it by numbers.
+-- The search for the least ready job stands on this file.
+use Rattle.std.specs.Prelude.{ℕ, Bool, not, ◌&&◌, ◌||◌, if◌then◌else◌, List, Option, Some, None, is_none, is_some}
+use Rattle.std.specs.List.{list_any}
+use Rattle.um_model.specs.Machine.{is_waiting}
+use Rattle.um_model.specs.declared.jobs.JobKind.{JobKind}
+use Rattle.um_model.specs.declared.jobs.JobKind.TheVariants.{Stop, Start}
+use Rattle.um_model.specs.declared.jobs.UnitJobs.{UnitJobs}
+use Rattle.um_graph.specs.Graph.{GraphView, row_of}
+use Rattle.um_graph.specs.Kinds.{has, after_bit, before_bit}
+use Rattle.um_graph.specs.declared.row.Neighbour.{Neighbour}
+use Rattle.um_jobs.specs.Jobs.{JobsView, held_at}
+use Rattle.um_jobs.specs.Named.{jobs_at}
+
+-- the stop of a unit waits for the stop of a neighbour that it is before
+abbrev pub holds_stop : List UnitJobs → Neighbour → Bool
+holds_stop jobs n = has before_bit n.kinds && is_some (jobs_at jobs n.unit).stop
+
+-- the start of a unit waits for the start of a neighbour that is before it, and for the stop of one that it is ordered with
+abbrev pub holds_start : List UnitJobs → Neighbour → Bool
+holds_start jobs n = (has after_bit n.kinds && is_some (jobs_at jobs n.unit).start) || ((has before_bit n.kinds || has after_bit n.kinds) && is_some (jobs_at jobs n.unit).stop)
+
+-- the stop of the unit waits, and for no other job
+abbrev pub is_stop_ready : GraphView → JobsView → ℕ → Bool
+is_stop_ready g v u = is_waiting (jobs_at v.units u).stop && not (list_any (holds_stop v.units) (row_of g.rows u))
+
+-- the start of the unit waits, for no other job, nor for the unit's own stop or its being deactivating
+abbrev pub is_start_ready : GraphView → JobsView → ℕ → Bool
+is_start_ready g v u =
+    is_waiting (jobs_at v.units u).start && (is_none (jobs_at v.units u).stop && (not (held_at v.held u) && not (list_any (holds_start v.units) (row_of g.rows u))))
+
+-- the first job of the unit that is ready
+abbrev pub ready_kind : GraphView → JobsView → ℕ → Option JobKind
+ready_kind g v u = if is_stop_ready g v u then Some Stop else (if is_start_ready g v u then Some Start else None)

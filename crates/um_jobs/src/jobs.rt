@@ -1,0 +1,286 @@
+//! The pending jobs of the units of a graph, and which of them begins next (systemd.unit(5), "Before=, After=").
+
+ghost use Rattle.std.specs.Prelude.{⊤, ◌≡◌, ◌↔◌, ◌<◌, true, false, not, ℕ, Option, IfErr, IfOk, IfSome, IsOk, MatchOption, OnErr, OnOk, is_some, length, replicate, slice_index_or};
+ghost use Rattle.std.specs.List.{list_any};
+ghost use Rattle.um_graph.specs.Graph.{row_of};
+ghost use Rattle.um_jobs.specs.Jobs as told;
+ghost use Rattle.um_jobs.specs.Jobs.{IsReadyIn, JobsView, has_waiting, held_at, job_named, with_held_at, with_jobs_at, without_job, without_waiting};
+ghost use Rattle.um_jobs.specs.Named.{jobs_at};
+ghost use Rattle.um_jobs.specs.Ready as rows;
+ghost use Rattle.um_jobs.specs.Ready.{ready_kind};
+ghost use Rattle.um_model.specs.Jobs as model;
+ghost use Rattle.um_model.specs.Jobs.{IsToldBefore, Job, no_jobs};
+ghost use Rattle.um_model.specs.Least.{IsLeast};
+ghost use Rattle.um_model.specs.Refusals as refused;
+ghost use Rattle.um_wire.specs.Refusal.{refused_of};
+ghost use Rattle.um_wire.specs.declared.refusal.Refusal.TheVariants.{NoMemory};
+
+use crate::table::{is_waiting, jobs_of, with_running};
+use std::alloc::{AllocError, Global};
+use std::marker::Model;
+use um_graph::{Graph, Neighbour};
+use um_model::{JobKind, JobState, UnitJobs};
+use um_name::UnitName;
+use um_wire::Refusal;
+
+/// The pending jobs of the units of a graph by their numbers, and which units count as deactivating. A number past the last unit
+/// is that of a unit without jobs, and nothing changes it.
+#[derive(Drop)]
+pub struct Jobs {
+    units: Vec<UnitJobs>,
+    held: Vec<bool>,
+}
+
+impl Model for Jobs {
+    ghost use Rattle.std.specs.Prelude.{◌≡◌, length};
+    ghost use Rattle.um_jobs.specs.Jobs.{JobsView};
+
+    ghost Value = { JobsView };
+
+    ghost view = { λ j. record { units = j.units.items; held = j.held.items } };
+
+    ghost invariant = { λ j. length j.held.items ≡ length j.units.items };
+}
+
+impl Jobs {
+    /// No job of so many units, none of which counts as deactivating.
+    pub fn new(alloc: Global, units: usize) -> Result<Jobs, AllocError>
+        ensures units { IfOk result (λ j. j.units ≡ replicate units no_jobs) }
+        ensures held { IfOk result (λ j. j.held ≡ replicate units false) }
+    {
+        Ok(Jobs {
+            units: vec![in alloc; UnitJobs::NONE; units]?,
+            held: vec![in alloc; false; units]?,
+        })
+    }
+
+    /// The same jobs again.
+    pub fn copy(&self) -> Result<Jobs, AllocError>
+        ensures { IfOk result (λ j. j ≡ self.now) }
+    {
+        Ok(Jobs {
+            units: self.units.clone()?,
+            held: self.held.clone()?,
+        })
+    }
+
+    /// The pending jobs of the unit with this number.
+    pub fn get(&self, unit: usize) -> UnitJobs
+        ensures { result ≡ jobs_at self.now.units unit }
+    {
+        jobs_of(&self.units, unit)
+    }
+
+    /// The pending jobs of each unit, in the order of their numbers.
+    pub fn as_slice(&self) -> &[UnitJobs]
+        ensures units { result.now ≡ self.now.units }
+        ensures held { length self.now.held ≡ length self.now.units }
+    {
+        self.units.as_slice()
+    }
+
+    /// Whether the unit with this number counts as deactivating.
+    pub fn is_held(&self, unit: usize) -> bool
+        ensures { result ≡ held_at self.now.held unit }
+    {
+        self.held.get(unit).copied().unwrap_or(false)
+    }
+}
+
+impl Jobs {
+    /// Leaves just these jobs, those of a plan by number. It takes no memory. Which units count as deactivating stays.
+    pub fn install(&mut self, plan: &[UnitJobs])
+        ensures each { (u : ℕ) → u < length self.old.units → jobs_at self.new.units u ≡ jobs_at plan.now u }
+        ensures len { length self.new.units ≡ length self.old.units }
+        ensures held { self.new.held ≡ self.old.held }
+    {
+        for unit in 0..self.units.len() {
+            self.units[unit] = jobs_of(plan, unit);
+        }
+    }
+
+    /// The unit with this number counts as deactivating from now on, or no more.
+    pub fn hold(&mut self, unit: usize, deactivating: bool)
+        ensures { self.new ≡ with_held_at self.old unit deactivating }
+    {
+        if let Some(held) = self.held.get_mut(unit) {
+            *held = deactivating;
+        }
+    }
+
+    /// The unit with this number has just these jobs.
+    pub fn set(&mut self, unit: usize, jobs: UnitJobs)
+        ensures { self.new ≡ with_jobs_at self.old unit jobs }
+    {
+        if let Some(now) = self.units.get_mut(unit) {
+            *now = jobs;
+        }
+    }
+
+    /// That job of the unit runs from now on.
+    pub fn begin(&mut self, unit: usize, kind: JobKind)
+        ensures { self.new ≡ with_jobs_at self.old unit (model.with_running kind (jobs_at self.old.units unit)) }
+    {
+        self.set(unit, with_running(kind, self.get(unit)));
+    }
+
+    /// That job of the unit is over.
+    pub fn finish(&mut self, unit: usize, kind: JobKind)
+        ensures { self.new ≡ with_jobs_at self.old unit (without_job kind (jobs_at self.old.units unit)) }
+    {
+        self.set(unit, without_job(kind, self.get(unit)));
+    }
+
+    /// Takes out the jobs of the unit that wait. Where none waits it is refused (E21), and all is as before.
+    pub fn cancel(&mut self, alloc: Global, unit: usize, name: &UnitName) -> Result<(), Refusal>
+        ensures ok { OnOk result (self.new ≡ with_jobs_at self.old unit (without_waiting (jobs_at self.old.units unit))) }
+        ensures waits { IsOk result ↔ (has_waiting (jobs_at self.old.units unit) ≡ true) }
+        ensures err { OnErr result (self.new ≡ self.old) }
+        ensures refused { IfErr result (λ e. ¬ (e ≡ NoMemory) → refused_of e ≡ refused.no_such_job name.now) }
+    {
+        let jobs = self.get(unit);
+        if !has_waiting(jobs) {
+            return Err(no_such_job(alloc, name));
+        }
+        self.set(unit, without_waiting(jobs));
+        Ok(())
+    }
+}
+
+impl Jobs {
+    /// The job that begins next, with the number of its unit: the least ready one; none where none is ready. It takes no memory.
+    ///
+    /// A job is ready where it waits and no other comes before it by the rows of the graph; a start moreover where its unit
+    /// doesn't count as deactivating. One is less than another by the names of their units, and of one unit the stop is.
+    pub fn ready(&self, graph: &Graph) -> Option<(usize, JobKind)>
+        ensures least { MatchOption result ((job : Job) → ¬ IsReadyIn graph.now self.now job)
+            (λ r. IsLeast IsToldBefore (IsReadyIn graph.now self.now) (job_named graph.now r.0 r.1)) }
+        ensures within { IfSome result (λ r. r.0 < length graph.now.names) }
+    {
+        for unit in 0..graph.len() {
+            if let Some(kind) = self.ready_kind(graph, unit) {
+                return Some((unit, kind));
+            }
+        }
+        None
+    }
+
+    /// The first job of the unit that is ready.
+    fn ready_kind(&self, graph: &Graph, unit: usize) -> Option<JobKind>
+        ensures { result ≡ ready_kind graph.now self.now unit }
+    {
+        if self.is_stop_ready(graph, unit) {
+            Some(JobKind::Stop)
+        } else if self.is_start_ready(graph, unit) {
+            Some(JobKind::Start)
+        } else {
+            None
+        }
+    }
+
+    /// Whether the stop of the unit waits, and for no other job.
+    fn is_stop_ready(&self, graph: &Graph, unit: usize) -> bool
+        ensures { result ≡ rows.is_stop_ready graph.now self.now unit }
+    {
+        is_waiting(self.get(unit).stop) && !self.holds_stop_of(graph.neighbours(unit))
+    }
+
+    /// Whether the start of the unit waits, and neither for another job nor for the end of its being deactivating.
+    fn is_start_ready(&self, graph: &Graph, unit: usize) -> bool
+        ensures { result ≡ rows.is_start_ready graph.now self.now unit }
+    {
+        let jobs = self.get(unit);
+        is_waiting(jobs.start)
+            && jobs.stop.is_none()
+            && !self.is_held(unit)
+            && !self.holds_start_of(graph.neighbours(unit))
+    }
+
+    /// Whether the stop of a unit waits for one of its neighbours.
+    fn holds_stop_of(&self, row: &[Neighbour]) -> bool
+        ensures { result ≡ list_any (rows.holds_stop self.now.units) row.now }
+    {
+        for neighbour in row {
+            if self.holds_stop(*neighbour) {
+                return true;
+            }
+        }
+        false
+    }
+
+    /// Whether the start of a unit waits for one of its neighbours.
+    fn holds_start_of(&self, row: &[Neighbour]) -> bool
+        ensures { result ≡ list_any (rows.holds_start self.now.units) row.now }
+    {
+        for neighbour in row {
+            if self.holds_start(*neighbour) {
+                return true;
+            }
+        }
+        false
+    }
+
+    /// Whether the stop of a unit waits for the neighbour: for its stop, where the unit is before it.
+    fn holds_stop(&self, neighbour: Neighbour) -> bool
+        ensures { result ≡ rows.holds_stop self.now.units neighbour }
+    {
+        neighbour.kinds.is_before() && self.get(neighbour.unit).stop.is_some()
+    }
+
+    /// Whether the start of a unit waits for the neighbour: for its start, where that is before the unit, and for its stop, where
+    /// the two are ordered.
+    fn holds_start(&self, neighbour: Neighbour) -> bool
+        ensures { result ≡ rows.holds_start self.now.units neighbour }
+    {
+        let jobs = self.get(neighbour.unit);
+        let before = neighbour.kinds.is_before();
+        let after = neighbour.kinds.is_after();
+        (after && jobs.start.is_some()) || ((before || after) && jobs.stop.is_some())
+    }
+}
+
+fn without_job(kind: JobKind, jobs: UnitJobs) -> UnitJobs
+    ensures { result ≡ told.without_job kind jobs }
+{
+    match kind {
+        JobKind::Stop => UnitJobs { stop: None, ..jobs },
+        JobKind::Start => UnitJobs {
+            start: None,
+            ..jobs
+        },
+    }
+}
+
+fn unless_waiting(job: Option<JobState>) -> Option<JobState>
+    ensures { result ≡ told.unless_waiting job }
+{
+    match job {
+        Some(JobState::Waiting) => None,
+        other => other,
+    }
+}
+
+fn without_waiting(jobs: UnitJobs) -> UnitJobs
+    ensures { result ≡ told.without_waiting jobs }
+{
+    UnitJobs {
+        stop: unless_waiting(jobs.stop),
+        start: unless_waiting(jobs.start),
+    }
+}
+
+fn has_waiting(jobs: UnitJobs) -> bool
+    ensures { result ≡ told.has_waiting jobs }
+{
+    is_waiting(jobs.stop) || is_waiting(jobs.start)
+}
+
+/// E21 with the unit, or want of memory for its text.
+fn no_such_job(alloc: Global, unit: &UnitName) -> Refusal
+    ensures { ¬ (result ≡ NoMemory) → refused_of result ≡ refused.no_such_job unit.now }
+{
+    match String::from_str(alloc, unit.as_str()) {
+        Ok(unit) => Refusal::NoSuchJob { unit },
+        Err(_) => Refusal::NoMemory,
+    }
+}

@@ -1,0 +1,12 @@
+//! The jobs of units: what becomes of those of one unit, and which of the pending jobs of a graph's units begins next.
+#![tactic(auto)]
+
+mod jobs;
+mod laws;
+mod table;
+
+pub use jobs::Jobs;
+pub use laws::one_ready_job_is_the_least;
+pub use table::{
+    drops_one, is_active, is_waiting, jobs_after, jobs_for, jobs_left, jobs_of, with_running,
+};

@@ -1,0 +1,179 @@
+//! What becomes of the jobs of one unit (systemctl(1), "start", "stop", "restart").
+
+ghost use Rattle.std.specs.Prelude.{◌≡◌, ◌||◌};
+ghost use Rattle.um_jobs.specs.Drops.{drops_one, is_dropped};
+ghost use Rattle.um_jobs.specs.Named.{jobs_at};
+ghost use Rattle.um_model.specs.Jobs as model;
+ghost use Rattle.um_model.specs.Machine as machine;
+ghost use Rattle.um_model.specs.Plan as plans;
+
+use um_model::{ActiveState, Demand, JobKind, JobState, StartJob, UnitJobs, UnitVerb};
+
+/// The pending jobs of the unit with this number; one past the last has none.
+pub fn jobs_of(pending: &[UnitJobs], unit: usize) -> UnitJobs
+    ensures { result ≡ jobs_at pending.now unit }
+{
+    pending.get(unit).copied().unwrap_or(UnitJobs::NONE)
+}
+
+/// Whether a job is pending and waits.
+pub fn is_waiting(job: Option<JobState>) -> bool
+    ensures { result ≡ machine.is_waiting job }
+{
+    matches!(job, Some(JobState::Waiting))
+}
+
+/// Whether a unit in this state is active.
+pub fn is_active(active: ActiveState) -> bool
+    ensures { result ≡ model.is_active active }
+{
+    matches!(active, ActiveState::Active)
+}
+
+/// Neither inactive nor failed.
+fn is_up(active: ActiveState) -> bool
+    ensures { result ≡ model.is_up active }
+{
+    !matches!(active, ActiveState::Inactive | ActiveState::Failed)
+}
+
+/// After a start a start job that is pending stays. Else a stop job that waits is dropped, one that runs stays, and a start job
+/// is put, unless the unit is active and no stop job remains.
+fn started(active: ActiveState, now: UnitJobs) -> UnitJobs
+    ensures { result ≡ model.started active now.stop now.start }
+{
+    if now.start.is_some() {
+        return now;
+    }
+    if let Some(JobState::Running) = now.stop {
+        return UnitJobs {
+            start: Some(JobState::Waiting),
+            ..now
+        };
+    }
+    UnitJobs {
+        stop: None,
+        start: if is_active(active) {
+            None
+        } else {
+            Some(JobState::Waiting)
+        },
+    }
+}
+
+/// After a stop the start job is dropped; a stop job is put where none is pending and the unit is up.
+fn stopped(active: ActiveState, now: UnitJobs) -> UnitJobs
+    ensures { result ≡ model.stopped active now.stop }
+{
+    let stop = match now.stop {
+        Some(stop) => Some(stop),
+        None if is_up(active) => Some(JobState::Waiting),
+        None => None,
+    };
+    UnitJobs { stop, start: None }
+}
+
+/// After a restart of a unit that is up a start job that runs is dropped; a stop job is put where none is pending, and a start
+/// job where none waits.
+fn restarted(now: UnitJobs) -> UnitJobs
+    ensures { result ≡ model.restarted now.stop }
+{
+    UnitJobs {
+        stop: Some(now.stop.unwrap_or(JobState::Waiting)),
+        start: Some(JobState::Waiting),
+    }
+}
+
+/// The pending jobs of a unit in this state after a command for it.
+pub fn jobs_after(verb: UnitVerb, active: ActiveState, now: UnitJobs) -> UnitJobs
+    ensures { result ≡ model.jobs_after verb active now }
+{
+    match verb {
+        UnitVerb::Start => started(active, now),
+        UnitVerb::Stop => stopped(active, now),
+        UnitVerb::Restart if is_up(active) => restarted(now),
+        UnitVerb::Restart => started(active, now),
+        UnitVerb::TryRestart if is_active(active) => restarted(now),
+        UnitVerb::TryRestart => now,
+    }
+}
+
+/// The pending jobs of a unit in this state after the demand that counts for it, if there is one.
+pub fn jobs_for(demand: Option<Demand>, active: ActiveState, now: UnitJobs) -> UnitJobs
+    ensures { result ≡ plans.jobs_for demand active now }
+{
+    match demand {
+        None => now,
+        Some(Demand::Start) => jobs_after(UnitVerb::Start, active, now),
+        Some(Demand::Stop) => jobs_after(UnitVerb::Stop, active, now),
+        Some(Demand::Restart) => jobs_after(UnitVerb::Restart, active, now),
+    }
+}
+
+/// Whether a job that was pending is gone, or is no more as it was.
+fn is_dropped(before: Option<JobState>, after: Option<JobState>) -> bool
+    ensures { result ≡ is_dropped before after }
+{
+    match (before, after) {
+        (None, _) => false,
+        (Some(JobState::Waiting), Some(JobState::Waiting)) => false,
+        (Some(JobState::Running), Some(JobState::Running)) => false,
+        _ => true,
+    }
+}
+
+/// Whether one of the unit's jobs is dropped.
+pub fn drops_one(before: UnitJobs, after: UnitJobs) -> bool
+    ensures { result ≡ drops_one before after }
+{
+    is_dropped(before.stop, after.stop) || is_dropped(before.start, after.start)
+}
+
+/// The jobs with that one running.
+pub fn with_running(kind: JobKind, now: UnitJobs) -> UnitJobs
+    ensures { result ≡ model.with_running kind now }
+{
+    match kind {
+        JobKind::Stop => UnitJobs {
+            stop: Some(JobState::Running),
+            ..now
+        },
+        JobKind::Start => UnitJobs {
+            start: Some(JobState::Running),
+            ..now
+        },
+    }
+}
+
+fn unless_running(job: Option<JobState>) -> Option<JobState>
+    ensures { result ≡ model.unless_running job }
+{
+    match job {
+        Some(JobState::Running) => None,
+        other => other,
+    }
+}
+
+fn start_left(start: StartJob, job: Option<JobState>) -> Option<JobState>
+    ensures { result ≡ model.start_left start job }
+{
+    match start {
+        StartJob::Stays => job,
+        StartJob::Ends | StartJob::Fails => unless_running(job),
+    }
+}
+
+/// What an event leaves of the jobs of its unit: the running start job is over where it ended or failed, the running stop job
+/// where it ended.
+pub fn jobs_left(start: StartJob, stop_ends: bool, now: UnitJobs) -> UnitJobs
+    ensures { result ≡ model.jobs_left start stop_ends now }
+{
+    UnitJobs {
+        stop: if stop_ends {
+            unless_running(now.stop)
+        } else {
+            now.stop
+        },
+        start: start_left(start, now.start),
+    }
+}
