@@ -1,2 +1,3 @@
 pub mod Drops
 pub mod Engine
+pub mod Over
