@@ -22,6 +22,8 @@ mod lines;
 #[cfg(test)]
 mod one_service;
 #[cfg(test)]
+mod plans;
+#[cfg(test)]
 mod proto;
 #[cfg(test)]
 mod refusals;
