@@ -29,13 +29,13 @@ use Rattle.um_model.specs.declared.transition.StartJob.{StartJob}
 use Rattle.um_model.specs.declared.transition.StartJob.TheVariants.{Stays, Ends, Fails}
 use Rattle.um_model.specs.declared.transition.UnitEvent.{UnitEvent}
 use Rattle.um_model.specs.declared.transition.UnitEvent.TheVariants.{DeadlinePasses}
+use Rattle.um_model.proofs.AlongLaws.{taken_along_or_not}
 use Rattle.um_model.proofs.CycleLaws.{fewer_free, held, least_unit_first}
 use Rattle.um_model.proofs.DemandsLaws.{reached_in}
 use Rattle.um_model.proofs.LeastLaws.{IsDecided}
 use Rattle.um_model.proofs.OwnNameLaws.{precedes_anyhow}
 use Rattle.um_model.proofs.PlannedLaws.{free_of_causes}
-use Rattle.um_model.proofs.SameUnits.{same_job_state}
-use Rattle.um_model.proofs.TimersLaws.{same_name, same_option}
+use Rattle.um_model.proofs.TimersLaws.{same_name}
 use Rattle.um_model.proofs.UnitLaws.{jobs_here, jobs_apart}
 
 -- no list of jobs is a cycle of what comes before what
@@ -153,21 +153,16 @@ changed_less s unit c = record { loaded = refl; fewer = fewer_at s.pending unit 
 begun_less : (s : State) (j : Job) → IsWaiting s.pending j → HasLess s (begun s j)
 begun_less s j waits = record { loaded = refl; fewer = fewer_at s.pending j.unit _ (running_fewer j.kind (jobs_of_unit s.pending j.unit) waits) }
 
-comes_either_way : (o p : Option JobState) (P : Type 0) → (P → ComesOf o p) → (¬ P → ComesOf o p) → ComesOf o p
-comes_either_way o p P f g = record {
-  waits = λ e. either_way P (same_option same_job_state o (Some Waiting)) (λ h. (f h).waits e) (λ h. (g h).waits e);
-  none = λ e. either_way P (same_option same_job_state p None) (λ h. (f h).none e) (λ h. (g h).none e);
-}
-
 along_less : (s : State) (failed : List ℕ) (v : State) → TakesAlong s failed v → HasLess s v
 along_less s failed v a = record { loaded = ap (λ (x : State). x.loaded) a.rest; fewer = fewer }
   where
     fewer : (unit : List ℕ) → HasFewer (jobs_of_unit s.pending unit) (jobs_of_unit v.pending unit)
     fewer unit kind =
         let j = jobs_of_unit s.pending unit in
-        comes_either_way (job_of kind j) (job_of kind (jobs_of_unit v.pending unit)) (IsTakenAlong s failed unit)
-        (λ taken. subst (λ k. ComesOf (job_of kind j) (job_of kind k)) (sym (a.starts unit taken)) (without_start_fewer j kind))
-        (λ isnt. subst (λ k. ComesOf (job_of kind j) (job_of kind k)) (sym (a.other_jobs unit isnt)) (stays (job_of kind j)))
+        elim (taken_along_or_not s failed unit) as (λ _. ComesOf (job_of kind j) (job_of kind (jobs_of_unit v.pending unit))) [
+          | inl taken ↦ subst (λ k. ComesOf (job_of kind j) (job_of kind k)) (sym (a.starts unit taken)) (without_start_fewer j kind)
+          | inr isnt ↦ subst (λ k. ComesOf (job_of kind j) (job_of kind k)) (sym (a.other_jobs unit isnt)) (stays (job_of kind j))
+        ]
 
 becomes_less : (s : State) (unit : List ℕ) (c : Change) (v : State) → Becomes s unit c v → HasLess s v
 becomes_less s unit c v (Becomes.alone isnt) = changed_less s unit c
