@@ -56,3 +56,4 @@ pub mod OnceLaws
 pub mod GivesLaws
 pub mod KnownLaws
 pub mod AlongLaws
+pub mod SceneLaws
