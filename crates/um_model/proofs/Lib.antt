@@ -57,3 +57,4 @@ pub mod OnceLaws
 pub mod GivesLaws
 pub mod KnownLaws
 pub mod AlongLaws
+pub mod SceneLaws
