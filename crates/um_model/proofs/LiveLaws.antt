@@ -352,17 +352,17 @@ pends_or_runs None there = absurd (there refl)
 pends_or_runs (Some Waiting) there = inl refl
 pends_or_runs (Some Running) there = inr refl
 
-deactivating : (x : SubState) → is_stopping x ≡ false → active_state_of x ≢ active.Deactivating
-deactivating sub.Stop f e = true≢false f
-deactivating sub.StopSigterm f e = true≢false f
-deactivating sub.StopSigkill f e = true≢false f
-deactivating sub.Dead f e = cc
-deactivating sub.Start f e = cc
-deactivating sub.Running f e = cc
-deactivating sub.Exited f e = cc
-deactivating sub.Failed f e = cc
-deactivating sub.AutoRestart f e = cc
-deactivating sub.Active f e = cc
+not_deactivating : (x : SubState) → is_stopping x ≡ false → active_state_of x ≢ active.Deactivating
+not_deactivating sub.Stop f e = true≢false f
+not_deactivating sub.StopSigterm f e = true≢false f
+not_deactivating sub.StopSigkill f e = true≢false f
+not_deactivating sub.Dead f e = cc
+not_deactivating sub.Start f e = cc
+not_deactivating sub.Running f e = cc
+not_deactivating sub.Exited f e = cc
+not_deactivating sub.Failed f e = cc
+not_deactivating sub.AutoRestart f e = cc
+not_deactivating sub.Active f e = cc
 
 module _ (s : State) (fits : AllFit s) (still : IsStill s) where
   module _ (j : Job) (is_there : IsPending s.pending j) where
@@ -386,7 +386,7 @@ module _ (s : State) (fits : AllFit s) (still : IsStill s) where
     first_waits : (down : Bool) → is_stopping (state_of_unit s.units j.unit).sub ≡ down → IsWaiting s.pending j
         → ((other : Job) → ¬ ComesBefore (IsBefore s.loaded) s.pending other j) → (number : ℕ) × WaitsFor s j number
     first_waits true e waits free = waits_in_stop e
-    first_waits false e waits free = absurd (still j (record { waits = waits; free = free; still = λ starts. deactivating (state_of_unit s.units j.unit).sub e }))
+    first_waits false e waits free = absurd (still j (record { waits = waits; free = free; still = λ starts. not_deactivating (state_of_unit s.units j.unit).sub e }))
 
     free_waits : ((other : Job) → ¬ ComesBefore (IsBefore s.loaded) s.pending other j) → (number : ℕ) × WaitsFor s j number
     free_waits free = elim (pends_or_runs (state_of_job s.pending j) is_there) as (λ _. (number : ℕ) × WaitsFor s j number) [
