@@ -55,3 +55,4 @@ pub mod OwnNameLaws
 pub mod OnceLaws
 pub mod GivesLaws
 pub mod KnownLaws
+pub mod AlongTotal
