@@ -1,29 +1,21 @@
 -- A start that fails takes along the starts that need it: there is a state in which just these are gone.
 use Rattle.std.proofs.Common.{ℕ, ◌≡◌, ◌≢◌, ◌∙◌, List, [], ◌∷◌, ◌++◌, Option, Some, None, is_some, unwrap_or, refl, sym, ap, inl, inr}
-use Rattle.std.specs.Prelude.{⊤}
 use Rattle.std.specs.FinMap as map
 use Rattle.std.specs.Cmp.Lexicographic.{slice_cmp}
 use Rattle.std.specs.Ordering.{nat_cmp}
 use Rattle.std.proofs.lemmas.Option.{none-some}
-use Rattle.um_model.specs.Dependencies.{Depends, IsKnown, extra}
 use Rattle.um_model.specs.Jobs.{start_job, jobs_of_unit, no_jobs, with_jobs, without_start}
-use Rattle.um_model.specs.Machine.{State, IsBefore, NeedsStart, IsTakenAlong, TakesAlong, with_result_dependency}
+use Rattle.um_model.specs.Machine.{State, IsTakenAlong, TakesAlong, with_result_dependency}
 use Rattle.um_model.specs.Reached.{first, next}
 use Rattle.um_model.specs.Service.{ByUnit, dead_unit, state_of_unit, with_unit}
-use Rattle.um_model.specs.Tree.{Tree}
-use Rattle.um_model.specs.declared.dependencies.DependencyKind.{DependencyKind}
-use Rattle.um_model.specs.declared.dependencies.DependencyKind.TheVariants.{Requires, BindsTo}
 use Rattle.um_model.specs.declared.jobs.JobState.TheVariants.{Waiting}
 use Rattle.um_model.specs.declared.jobs.UnitJobs.{UnitJobs}
 use Rattle.um_model.specs.declared.service.UnitState.{UnitState}
-use Rattle.um_model.proofs.AmongLaws.{among_left, among_right, both_decided, decided_as, either_decided, IsListOf}
+use Rattle.um_model.proofs.AlongLaws.{taken_along_or_not}
+use Rattle.um_model.proofs.AmongLaws.{among_left, among_right}
 use Rattle.um_model.proofs.CycleLaws.{held}
-use Rattle.um_model.proofs.KnownLaws.{depends_or_not, precedes_or_not}
 use Rattle.um_model.proofs.LeastLaws.{IsDecided, Among}
-use Rattle.um_model.proofs.OwnNameLaws.{depends_anyhow, precedes_anyhow}
-use Rattle.um_model.proofs.ReachedLaws.{reached_or_not}
-use Rattle.um_model.proofs.SameUnits.{same_job_state}
-use Rattle.um_model.proofs.TimersLaws.{among_keys, same_name, same_option}
+use Rattle.um_model.proofs.TimersLaws.{among_keys, same_name}
 use Rattle.um_model.proofs.UnitLaws.{IsTidy, jobs_apart, jobs_here, state_apart, state_here, tidy_empty, tidy_jobs, tidy_units}
 
 -- ---- a map of given values
@@ -88,48 +80,6 @@ along_waits s failed unit (next reached needs) = needs.waits
 along_held : (s : State) (failed unit : List ℕ) → IsTakenAlong s failed unit → Among (map.keys s.pending) unit
 along_held s failed unit along =
     among_keys s.pending unit (held s.pending (start_job unit) (λ none. none-some Waiting (sym none ∙ along_waits s failed unit along)))
-
--- ---- it is decided which starts are
-
-module _ (tree : Tree) (x y : List ℕ) where
-  -- one of the two units
-  abbrev IsEither : List ℕ → Type 0
-  IsEither = Among (x ∷ y ∷ [])
-
-  either_listed : IsListOf IsEither (x ∷ y ∷ [])
-  either_listed = record { has = λ unit is. is; all = λ unit is. is }
-
-  x_known : IsKnown tree IsEither x
-  x_known = first (extra (inl refl))
-
-  y_known : IsKnown tree IsEither y
-  y_known = first (extra (inr (inl refl)))
-
-  any_known : (unit : List ℕ) → IsKnown tree (λ unit. ⊤) unit
-  any_known unit = first (extra tt)
-
-  -- by a tree one unit is before another or not
-  pub before_or_not : IsDecided (IsBefore tree x y)
-  before_or_not =
-      decided_as (precedes_anyhow tree IsEither (λ unit. ⊤) x y (any_known x) (any_known y)) (precedes_anyhow tree (λ unit. ⊤) IsEither x y x_known y_known)
-      (precedes_or_not tree IsEither (x ∷ y ∷ []) either_listed x y)
-
-  anyhow_or_not : (kind : DependencyKind) → IsDecided (Depends tree (λ unit. ⊤) kind x y)
-  anyhow_or_not kind =
-      decided_as (depends_anyhow tree IsEither (λ unit. ⊤) kind x y (any_known x) (any_known y)) (depends_anyhow tree (λ unit. ⊤) IsEither kind x y x_known y_known)
-      (depends_or_not tree IsEither (x ∷ y ∷ []) either_listed kind x y)
-
--- the start of a unit needs another or not
-needs_or_not : (s : State) (other unit : List ℕ) → IsDecided (NeedsStart s other unit)
-needs_or_not s other unit =
-    decided_as (λ h. record { needs = h.0; later = h.1.0; waits = h.1.1 }) (λ n. (n.needs, (n.later, n.waits)))
-    (both_decided (either_decided (anyhow_or_not s.loaded unit other Requires) (anyhow_or_not s.loaded unit other BindsTo))
-    (both_decided (before_or_not s.loaded other unit) (same_option same_job_state (jobs_of_unit s.pending unit).start (Some Waiting))))
-
--- it is taken along or not
-taken_along_or_not : (s : State) (failed unit : List ℕ) → IsDecided (IsTakenAlong s failed unit)
-taken_along_or_not s failed =
-    reached_or_not (NeedsStart s failed) (NeedsStart s) (map.keys s.pending) (along_held s failed) (needs_or_not s failed) (needs_or_not s)
 
 -- ---- the state without them
 

@@ -22,7 +22,8 @@ use Rattle.um_model.specs.declared.service.UnitState.{UnitState}
 use Rattle.um_model.specs.declared.transition.Change.{Change}
 use Rattle.um_model.specs.declared.transition.UnitEvent.{UnitEvent}
 use Rattle.um_model.specs.declared.transition.UnitEvent.TheVariants.{DeadlinePasses}
-use Rattle.um_model.proofs.AlongTotal.{an_along, before_or_not}
+use Rattle.um_model.proofs.AlongLaws.{before_or_not}
+use Rattle.um_model.proofs.AlongTotal.{an_along}
 use Rattle.um_model.proofs.AmongLaws.{any_decided, both_decided, decided_as, not_decided}
 use Rattle.um_model.proofs.CycleLaws.{among_pending, comes_or_not, jobs_of}
 use Rattle.um_model.proofs.DeadlinesLaws.{with_deadline, get_with, or_else}
