@@ -55,5 +55,6 @@ pub mod OwnNameLaws
 pub mod OnceLaws
 pub mod GivesLaws
 pub mod KnownLaws
+pub mod CrowdedLaws
 pub mod AlongLaws
 pub mod AlongTotal
