@@ -1,55 +1,19 @@
--- What a state holds is listed, so that it is decided whether too many units are known and whether the state is too heavy.
-use Rattle.std.proofs.Common.{ℕ, ◌<◌, ◌≤◌, ◌≡◌, ◌≢◌, ◌⊎◌, ◌∙◌, true, List, ◌∷◌, ◌++◌, length, Option, Some, None, is_some, AllPairs, refl, sym, ap, subst, inl, inr, arith}
+-- A tree counts for one number of units; and it is decided whether too many units are known, and whether a state is too heavy.
+use Rattle.std.proofs.Common.{ℕ, ◌<◌, ◌≤◌, ◌≡◌, ◌≢◌, ◌⊎◌, ◌∙◌, List, length, AllPairs, refl, sym, ap, subst, inl, inr, arith}
 use Rattle.std.specs.Prelude.{max}
-use Rattle.std.specs.FinMap as map
 use Rattle.std.proofs.lemmas.Bool.{cases_lt}
-use Rattle.std.proofs.lemmas.Option.{none-some}
 use Rattle.um_model.specs.Dependencies.{IsKnown, KnowsTooMany, KnowsSoMany, CountsFor}
-use Rattle.um_model.specs.Machine.{State, IsHeld, IsHeldOr, IsCrowded, IsTooHeavy}
-use Rattle.um_model.specs.Refusals.{Refused, too_large}
+use Rattle.um_model.specs.Machine.{State, IsHeld, IsCrowded, IsTooHeavy}
+use Rattle.um_model.specs.Refusals.{too_large}
 use Rattle.um_model.specs.Tree.{Tree, without_run}
 use Rattle.um_model.specs.Weight.{weight_of}
 use Rattle.um_model.specs.declared.refusals.Limit.TheVariants.{Units}
-use Rattle.um_model.proofs.AmongLaws.{among_contained, among_left, among_right, contains_among, either_decided, IsListOf, list_of}
+use Rattle.um_model.proofs.AmongLaws.{among_contained, contains_among, either_decided, IsListOf}
 use Rattle.um_model.proofs.CausesLaws.{OneOrNone}
 use Rattle.um_model.proofs.KnownLaws.{known_once, too_many_or_not}
 use Rattle.um_model.proofs.LeastLaws.{IsDecided, Among}
 use Rattle.um_model.proofs.OnceLaws.{no_more}
-use Rattle.um_model.proofs.TimersLaws.{among_keys}
-
--- ---- the units of which a state holds something
-
-some_or_not : {A : Type 0} (o : Option A) → IsDecided (o ≢ None)
-some_or_not None = inr (λ some. some refl)
-some_or_not (Some a) = inl (λ none. none-some a (sym none))
-
-is_there : {A : Type 0} (o : Option A) → o ≢ None → is_some o ≡ true
-is_there None some = absurd (some refl)
-is_there (Some a) some = refl
-
-held_among : (s : State) (unit : List ℕ) → IsHeld s unit → Among (map.keys s.units ++ map.keys s.pending) unit
-held_among s unit (inl some) = among_left (map.keys s.units) (map.keys s.pending) unit (among_keys s.units unit (is_there (map.get s.units unit) some))
-held_among s unit (inr some) = among_right (map.keys s.units) (map.keys s.pending) unit (among_keys s.pending unit (is_there (map.get s.pending unit) some))
-
--- a list has just the units that a state holds
-pub held_list : (s : State) → (units : List (List ℕ)) × IsListOf (IsHeld s) units
-held_list s =
-    list_of (IsHeld s) (λ unit. either_decided (some_or_not (map.get s.units unit)) (some_or_not (map.get s.pending unit))) (map.keys s.units ++ map.keys s.pending) (held_among s)
-
--- and one those with the named one
-pub held_or_list : (s : State) (named : List ℕ) → (units : List (List ℕ)) × IsListOf (IsHeldOr s named) units
-held_or_list s named = with_named (held_list s)
-  where
-    has : (units : List (List ℕ)) → IsListOf (IsHeld s) units → (unit : List ℕ) → Among (named ∷ units) unit → IsHeldOr s named unit
-    has units list unit (inl is) = inr is
-    has units list unit (inr later) = inl (list.has unit later)
-
-    all : (units : List (List ℕ)) → IsListOf (IsHeld s) units → (unit : List ℕ) → IsHeldOr s named unit → Among (named ∷ units) unit
-    all units list unit (inl held) = inr (list.all unit held)
-    all units list unit (inr is) = inl is
-
-    with_named : (units : List (List ℕ)) × IsListOf (IsHeld s) units → (units : List (List ℕ)) × IsListOf (IsHeldOr s named) units
-    with_named (units, list) = (named ∷ units, record { has = has units list; all = all units list })
+use Rattle.um_model.proofs.SceneLaws.{held_list}
 
 -- ---- the limit of known units
 

@@ -55,6 +55,7 @@ pub mod OwnNameLaws
 pub mod OnceLaws
 pub mod GivesLaws
 pub mod KnownLaws
-pub mod CrowdedLaws
 pub mod AlongLaws
 pub mod AlongTotal
+pub mod SceneLaws
+pub mod CrowdedLaws
