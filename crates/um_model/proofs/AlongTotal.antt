@@ -45,7 +45,7 @@ module _ {A : Type 0} (nothing : A) (put : ByUnit A → List ℕ → A → ByUni
       elim (same_name unit other) as (λ _. held_of nothing (put (put_all others) other (value other)) unit ≡ value unit) [
         | inl is ↦ ap (held_of nothing (put (put_all others) other (value other))) is ∙ (here (put_all others) other (value other) ∙ ap value (sym is))
         | inr differs ↦ apart (put_all others) other (value other) unit differs
-            ∙ all_held others unit (λ none. empty (λ among. elim among as (λ _. ⊥) [ | inl is ↦ differs is | inr later ↦ none later ]))
+            ∙ all_held others unit (λ none. empty (λ among. elim among as (λ _. ⊥) [ inl is ↦ differs is | inr later ↦ none later ]))
       ]
 
   -- where all others have the empty value, a tidy map has just these values
