@@ -12,6 +12,7 @@ use Rattle.um_model.specs.Jobs.{Job, IsReady, IsToldBefore, by_name, stop_first,
 use Rattle.um_model.specs.Plan.{IsPlan, CausesOfPlan, NamesCycle, units_of}
 use Rattle.um_model.specs.Timers.{Timers}
 use Rattle.um_model.specs.Transitions.{HasNumber}
+use Rattle.um_model.specs.Alike.{NamesACycle, AlikeBut, the_same, both_name}
 use Rattle.um_model.specs.Machine.{State, Command, Happening, ProcessEnded, Tick, Event, Input, Reply, EnabledAs, Listed, Refusal, Query, IsReplyTo, shows, tells_activity, tells_files, tells_enabling, unit_listed, lists_units, lists_jobs, Becomes, alone, along, Carries, change_of, acting_in, around, begins, begun, IsBefore, Settles, begins_next, IsProcessOf, AreDeadlines, end_of, Fires, none_due, fires, passes, IsHeld, IsHeldOr, scene_at, IsCrowded, IsNotThere, IsMissing, HasNoPlan, HasNoneWaiting, CausesOfCancel, CausesOf, CausesOfLoad, LoadsNone, active_asked, demand_of, unit_asked, Refuses, puts_none, links_none, removes_none, plans_none, cancels_none, reloads_none, installs_none, Changes, puts, links, removes, reloads, plans, demands_nothing, cancels, installs, Follows, ends, ticks, HasNoEffect, is_over, is_idle, Takes, obeys, meets, HasNoRoom, moment_of, Step, refused, crowded_out, idle, taken, reply_after, Run, goes}
 use Rattle.um_model.specs.declared.commands.JobMode.{JobMode}
 use Rattle.um_model.specs.declared.commands.UnitVerb.{UnitVerb}
@@ -36,15 +37,6 @@ use Rattle.um_model.proofs.TransitionLaws.{same_actions}
 use Rattle.um_model.proofs.TimersLaws.{one_due_first, same_name, names_one_way}
 
 -- ---- alike but for a cycle
-
--- a refusal names a cycle
-abbrev pub NamesACycle : Refused → Type 0
-NamesACycle r = (units : List (List ℕ)) × (r ≡ ordering_cycle units)
-
--- two replies are the same, or both are refusals that name a cycle
-pub data AlikeBut : Reply → Reply → Type 0 where
-  the_same : {r q : Reply} → r ≡ q → AlikeBut r q
-  both_name : {r q : Refused} → NamesACycle r → NamesACycle q → AlikeBut (Refusal r) (Refusal q)
 
 -- two outcomes are one, but for the cycle that a refusal names
 pub record IsSameOutcome (r q : Reply) (a b : List Action) (s t : State) : Type 0 where
