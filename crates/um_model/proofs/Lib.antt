@@ -13,6 +13,7 @@ pub mod CausesLaws
 pub mod MachineLaws
 pub mod UnitLaws
 pub mod FitLaws
+pub mod FreeLaws
 pub mod LiveLaws
 pub mod NumbersLaws
 pub mod PiecesLaws
@@ -55,3 +56,8 @@ pub mod OwnNameLaws
 pub mod OnceLaws
 pub mod GivesLaws
 pub mod KnownLaws
+pub mod AlongLaws
+pub mod GivenMaps
+pub mod AlongTotal
+pub mod SceneLaws
+pub mod CrowdedLaws

@@ -41,4 +41,5 @@ pub mod Disk
 pub mod Bytes
 pub mod Store
 pub mod Finds
+pub mod Alike
 pub mod Sessions
