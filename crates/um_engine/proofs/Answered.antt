@@ -2,7 +2,7 @@
 use Rattle.std.proofs.Common.{◌≡◌, ◌∙◌, ℕ, List, sym, ap, subst}
 use Rattle.um_model.proofs.KeepsLaws.{settles_keeps}
 use Rattle.um_model.specs.Install.{IsEnabledAs}
-use Rattle.um_model.specs.Machine.{State, Event, Reply, Shown, Activity, EnabledAs, Query, Show, IsActive, Cat, IsEnabled, shown_of, state_asked, files_told, IsReplyTo, shows, tells_activity, tells_files, tells_enabling, reply_after, Settles}
+use Rattle.um_model.specs.Machine.{State, Event, Reply, Shown, Activity, EnabledAs, Show, IsActive, Cat, IsEnabled, shown_of, state_asked, files_told, IsReplyTo, shows, tells_activity, tells_files, tells_enabling, reply_after, Settles}
 use Rattle.um_model.specs.Resolution.{resolution_of}
 use Rattle.um_model.specs.Service.{Action, active_state_of}
 use Rattle.um_model.specs.Units.{load}

@@ -1,19 +1,17 @@
 -- What commands are refused for, and what they change, from what the calls below tell.
-use Rattle.std.proofs.Common.{◌≡◌, ◌≢◌, ◌∙◌, ℕ, List, Some, true, false, Result, Ok, Err, codes, sym, ap, subst}
+use Rattle.std.proofs.Common.{◌≡◌, ◌≢◌, ◌∙◌, ℕ, List, Some, Result, Ok, Err, sym, ap, subst}
 use Rattle.um_model.specs.Machine as model
 use Rattle.um_model.specs.Machine.{State, CannotStart, IsNotThere, StartsNone, DropsAJob, CausesOf, Refuses, puts_none, links_none, removes_none, plans_none, installs_none, Changes, puts, links, removes, reloads, plans, installs}
-use Rattle.um_model.specs.Names.{is_template}
-use Rattle.um_model.specs.Refusals.{Refused, not_found, masked, bad_setting, unless_refused, FirstCause, at_first, at_second}
+use Rattle.um_model.specs.Refusals.{Refused, unless_refused, at_first, at_second}
 use Rattle.std.specs.FinMap as map
 use Rattle.um_model.specs.Tree.{Tree, File, Link, put_cause, link_cause, remove_cause, put_file, put_link, remove_at}
-use Rattle.um_model.specs.Units.{LoadedUnit, Found, Masked, NotFound, BadSetting, load}
+use Rattle.um_model.specs.Units.{load}
 use Rattle.um_model.specs.Install.{Installs, RefusesInstall}
 use Rattle.um_model.specs.declared.commands.JobMode.{JobMode}
 use Rattle.um_model.specs.declared.commands.UnitVerb.{UnitVerb}
 use Rattle.um_model.specs.declared.install.InstallVerb.{InstallVerb}
 use Rattle.um_model.specs.declared.jobs.UnitJobs.{UnitJobs}
 use Rattle.um_engine.specs.Engine.{StartsSo}
-use Rattle.um_wire.specs.Gives.{RefusesBy}
 use Rattle.um_wire.specs.Refusal.{refused_of}
 use Rattle.um_wire.specs.declared.refusal.Refusal.{Refusal}
 use Rattle.um_wire.specs.declared.refusal.Refusal.TheVariants.{NoMemory}
@@ -87,24 +85,6 @@ link_refused tree path target r q e f = ap (λ o. unless_refused o (map.insert t
 pub remove_refused : (tree : Tree) (path : List ℕ) (r q : Refused) → remove_cause tree path ≡ Some r → q ≡ r → remove_at tree path ≡ Err q
 unfolding remove_at
 remove_refused tree path r q e f = ap (λ o. unless_refused o (map.remove tree path)) e ∙ ap Err (sym f)
-
--- ---- why a unit can't be started
-
-pub of_another_kind : (asked : List ℕ) (l : LoadedUnit) (r : Refused) → model.is_served_kind l.settings.service.kind ≡ false → r ≡ bad_setting l.name (codes "type") → CannotStart asked (Found l) r
-of_another_kind asked l r kind is = subst (CannotStart asked (Found l)) (sym is) (model.is_of_another_kind kind)
-
-pub a_template : (asked : List ℕ) (l : LoadedUnit) (r : Refused) → model.is_served_kind l.settings.service.kind ≡ true → is_template l.name ≡ true
-    → r ≡ bad_setting l.name (codes "template") → CannotStart asked (Found l) r
-a_template asked l r kind template is = subst (CannotStart asked (Found l)) (sym is) (model.is_a_template kind template)
-
-pub nowhere : (asked : List ℕ) (r : Refused) → r ≡ not_found asked → CannotStart asked NotFound r
-nowhere asked r is = subst (CannotStart asked NotFound) (sym is) model.isnt_found
-
-pub behind_a_mask : (asked unit : List ℕ) (r : Refused) → r ≡ masked unit → CannotStart asked (Masked unit) r
-behind_a_mask asked unit r is = subst (CannotStart asked (Masked unit)) (sym is) model.is_masked
-
-pub of_bad_setting : (asked unit reason : List ℕ) (r : Refused) → r ≡ bad_setting unit reason → CannotStart asked (BadSetting unit reason) r
-of_bad_setting asked unit reason r is = subst (CannotStart asked (BadSetting unit reason)) (sym is) model.has_bad_setting
 
 -- ---- a command for a unit
 

@@ -1,6 +1,5 @@
 -- A step, by what is planned of it.
-use Rattle.std.proofs.Common.{◌≡◌, ◌∙◌, ◌↔◌, ℕ, Bool, true, false, true≢false, List, [], Option, Some, None, is_some, refl, sym, ap, subst}
-use Rattle.um_model.specs.Machine as model
+use Rattle.std.proofs.Common.{◌≡◌, ◌∙◌, ◌↔◌, ℕ, Bool, true, false, true≢false, List, [], Option, Some, None, is_some, sym, ap, subst}
 use Rattle.um_model.specs.Machine.{State, Command, Happening, Event, Commanded, Happened, Input, Reply, Done, Refusal, Refuses, HasNoEffect, LacksEffect, Takes, meets, Step, refused, idle, taken, reply_after, moment_of}
 use Rattle.um_model.specs.Refusals.{Refused}
 use Rattle.um_model.specs.Service.{Action}

@@ -1,5 +1,5 @@
 -- What an engine, a planned step and the way back hold; and what the engine's helpers do, with the actions before and after.
-use Rattle.std.specs.Prelude.{◌≡◌, ◌≢◌, ℕ, ◌<◌, ◌≤◌, Bool, true, false, List, [], ◌++◌, Option, Some, None, is_some, map}
+use Rattle.std.specs.Prelude.{◌≡◌, ◌≢◌, ℕ, ◌<◌, ◌≤◌, Bool, true, List, [], ◌++◌, Option, Some, None, is_some, map}
 use Rattle.std.specs.FinMap as finite
 use Rattle.um_model.specs.Machine as model
 use Rattle.um_model.specs.Refusals.{Refused}

@@ -3,8 +3,8 @@ ghost use Rattle.um_engine.specs.Engine.{CarriesTo};
 ghost use Rattle.um_state.specs.View.{state_of, action_of};
 
 use crate::acting::Acting;
-use crate::jobs::{is_waiting, jobs_left};
 use std::alloc::{AllocError, Global};
+use um_jobs::{is_waiting, jobs_left};
 use um_model::{Around, Moment, UnitEvent};
 use um_name::UnitName;
 use um_service::Service;

@@ -9,50 +9,22 @@ ghost use Rattle.um_model.specs.Tree.{put_file, put_link, remove_at};
 ghost use Rattle.um_model.specs.Units as units;
 ghost use Rattle.um_state.specs.View.{state_of, command_of, reply_of};
 ghost use Rattle.um_model.specs.declared.commands.JobMode.TheVariants.{Fail};
-ghost use Rattle.um_unit.specs.View.{loading_of, unit_of};
+ghost use Rattle.um_unit.specs.View.{loading_of};
 ghost use Rattle.um_wire.specs.Gives.{RefusesBy};
 ghost use Rattle.um_wire.specs.Refusal.{refused_of};
 ghost use Rattle.um_wire.specs.declared.refusal.Refusal.TheVariants.{NoMemory};
 
-use crate::jobs::{drops_one, jobs_after, starts_it};
+use crate::jobs::starts_it;
 use crate::names::{name_in, text_of};
 use std::alloc::{AllocError, Global};
 use um_install::{Installed, install};
-use um_model::{InstallVerb, JobMode, UnitJobs, UnitKind, UnitVerb};
+use um_jobs::{drops_one, jobs_after};
+use um_model::{InstallVerb, JobMode, UnitJobs, UnitVerb};
 use um_name::UnitName;
 use um_state::{Command, Reply, State};
-use um_unit::{LoadedUnit, Loading, load};
+use um_transact::{check_start, job_conflict};
+use um_unit::{Loading, load};
 use um_wire::Refusal;
-
-/// E6 with the unit and the reason, or want of memory for their texts.
-fn bad_setting(alloc: Global, unit: &UnitName, reason: &str) -> Refusal
-    ensures { ¬ (result ≡ NoMemory) → refused_of result ≡ told.bad_setting unit.now reason.now }
-{
-    match (text_of(alloc, unit), String::from_str(alloc, reason)) {
-        (Ok(unit), Ok(reason)) => Refusal::BadSetting { unit, reason },
-        _ => Refusal::NoMemory,
-    }
-}
-
-/// E4 with the unit, or want of memory for its text.
-fn not_found(alloc: Global, unit: &UnitName) -> Refusal
-    ensures { ¬ (result ≡ NoMemory) → refused_of result ≡ told.not_found unit.now }
-{
-    match text_of(alloc, unit) {
-        Ok(unit) => Refusal::NotFound { unit },
-        Err(_) => Refusal::NoMemory,
-    }
-}
-
-/// E5 with the unit, or want of memory for its text.
-fn masked(alloc: Global, unit: &UnitName) -> Refusal
-    ensures { ¬ (result ≡ NoMemory) → refused_of result ≡ told.masked unit.now }
-{
-    match text_of(alloc, unit) {
-        Ok(unit) => Refusal::Masked { unit },
-        Err(_) => Refusal::NoMemory,
-    }
-}
 
 /// E7 with the unit, or want of memory for its text.
 fn not_loaded(alloc: Global, unit: &UnitName) -> Refusal
@@ -61,48 +33,6 @@ fn not_loaded(alloc: Global, unit: &UnitName) -> Refusal
     match text_of(alloc, unit) {
         Ok(unit) => Refusal::NotLoaded { unit },
         Err(_) => Refusal::NoMemory,
-    }
-}
-
-/// E10 with the unit, or want of memory for its text.
-fn job_conflict(alloc: Global, unit: &UnitName) -> Refusal
-    ensures { ¬ (result ≡ NoMemory) → refused_of result ≡ told.job_conflict unit.now }
-{
-    match text_of(alloc, unit) {
-        Ok(unit) => Refusal::JobConflict { unit },
-        Err(_) => Refusal::NoMemory,
-    }
-}
-
-/// Of the kinds of units simple services are served.
-fn is_served_kind(kind: UnitKind) -> bool
-    ensures { result ≡ model.is_served_kind kind }
-{
-    matches!(kind, UnitKind::Simple)
-}
-
-/// Refuses to start a unit that was found and isn't a simple service, or is a template (E6).
-fn check_found(alloc: Global, asked: &UnitName, found: &LoadedUnit) -> Result<(), Refusal>
-    ensures { RefusesBy (model.CannotStart asked.now (units.Found (unit_of found.now))) result }
-{
-    if !is_served_kind(found.settings.service.kind) {
-        return Err(bad_setting(alloc, &found.name, "type"));
-    }
-    if found.name.is_template() {
-        return Err(bad_setting(alloc, &found.name, "template"));
-    }
-    Ok(())
-}
-
-/// Refuses to start a unit that isn't found (E4), is masked (E5), has a refused setting, isn't a simple service or is a template (E6).
-fn check_start(alloc: Global, asked: &UnitName, loading: &Loading) -> Result<(), Refusal>
-    ensures { RefusesBy (model.CannotStart asked.now (loading_of loading.now)) result }
-{
-    match loading {
-        Loading::Found(found) => check_found(alloc, asked, found),
-        Loading::NotFound => Err(not_found(alloc, asked)),
-        Loading::Masked { unit } => Err(masked(alloc, unit)),
-        Loading::BadSetting { unit, reason } => Err(bad_setting(alloc, unit, reason.as_str())),
     }
 }
 

@@ -5,8 +5,9 @@ ghost use Rattle.um_model.specs.Machine.{begun, IsBefore, IsStill};
 ghost use Rattle.um_state.specs.View.{state_of, action_of};
 
 use crate::carrying::carry_out;
-use crate::jobs::{begins, with_running};
+use crate::jobs::begins;
 use std::alloc::{AllocError, Global};
+use um_jobs::with_running;
 use um_model::{Deadline, JobKind, Moment, UnitEvent};
 use um_name::UnitName;
 use um_state::{Action, State};

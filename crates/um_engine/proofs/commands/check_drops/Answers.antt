@@ -1,4 +1,4 @@
-use Rattle.um_engine.proofs.Drops.{told_dropped}
+use Rattle.um_jobs.proofs.DropLaws.{told_dropped}
 use Rattle.um_engine.proofs.commands.check_drops.Goals as goal
 
 pub returns-then-drops_one : goal.returns-then-drops_one

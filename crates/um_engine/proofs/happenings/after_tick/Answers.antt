@@ -1,4 +1,4 @@
-use Rattle.std.proofs.Common.{◌≡◌, ◌∙◌, [], map, sym, ap, true≢false}
+use Rattle.std.proofs.Common.{◌∙◌, map, sym, ap, true≢false}
 use Rattle.um_state.specs.View.{state_of, action_of}
 use Rattle.um_engine.proofs.Ticks.{tick_follows, tick_idle, tick_acts}
 use Rattle.um_engine.proofs.happenings.after_tick.Goals as goal
