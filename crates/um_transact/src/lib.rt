@@ -10,4 +10,4 @@ mod refusals;
 mod walk;
 
 pub use plan::{Plan, build};
-pub use refusals::check_start;
+pub use refusals::{check_start, job_conflict};

@@ -41,6 +41,13 @@ impl Plan {
     {
         jobs_of(&self.jobs, unit)
     }
+
+    /// The jobs of each unit, in the order of their numbers.
+    pub fn as_slice(&self) -> &[UnitJobs]
+        ensures { result.now ≡ self.now }
+    {
+        self.jobs.as_slice()
+    }
 }
 
 /// How active the unit with this number is.
