@@ -59,3 +59,4 @@ pub mod KnownLaws
 pub mod AlongLaws
 pub mod AlongTotal
 pub mod SceneLaws
+pub mod WeightLaws
