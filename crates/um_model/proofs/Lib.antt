@@ -61,3 +61,6 @@ pub mod GivenMaps
 pub mod AlongTotal
 pub mod SceneLaws
 pub mod CrowdedLaws
+pub mod AlongTotal
+pub mod SceneLaws
+pub mod WeightLaws
