@@ -57,4 +57,6 @@ pub mod OnceLaws
 pub mod GivesLaws
 pub mod KnownLaws
 pub mod AlongLaws
+pub mod AlongTotal
 pub mod SceneLaws
+pub mod CrowdedLaws

@@ -156,6 +156,20 @@ one_unless A B C one other r q (at_first h) (at_second none k) = absurd (none r 
 one_unless A B C one other r q (at_second none h) (at_first k) = absurd (none q k)
 one_unless A B C one other r q (at_second none h) (at_second neither k) = other r q h k
 
+-- the pending jobs have a cycle that refuses, or none
+pub cycle_or_no_refusal : (Before : List ℕ → List ℕ → Type 0) → ((x y : List ℕ) → IsDecided (Before x y)) → (pending : ByUnit UnitJobs) → OneOrNone (NamesCycle Before pending)
+cycle_or_no_refusal Before decided pending = by_cycle (jobs_cycle_or_none Before decided pending)
+  where
+    named : (cycle : List Job) → IsCycle (ComesBefore Before pending) cycle → OneOrNone (NamesCycle Before pending)
+    named cycle c =
+        let d = least_unit_first (ComesBefore Before pending) cycle c in
+        inl (ordering_cycle (units_of d.0), record { cycle = d.0; closed = d.1; least = d.2; refusal = refl })
+
+    by_cycle : ((cycle : List Job) × IsCycle (ComesBefore Before pending) cycle) ⊎ ((cycle : List Job) → ¬ (IsCycle (ComesBefore Before pending) cycle))
+        → OneOrNone (NamesCycle Before pending)
+    by_cycle (inl found) = named found.0 found.1
+    by_cycle (inr none) = inr (λ r h. none h.cycle h.closed)
+
 -- where no cause refuses the plan, its jobs have no cycle
 pub free_of_causes : (scene : Scene) (root : Demand × List ℕ) (mode : JobMode) (after : ByUnit UnitJobs) → ((r : Refused) → ¬ (CausesOfPlan scene root mode after r))
     → (cycle : List Job) → ¬ (IsCycle (ComesBefore scene.IsBefore after) cycle)
@@ -308,23 +322,10 @@ module _ (scene : Scene) (units : List (List ℕ)) (finite : IsFinite scene unit
       by_least (inl none) = inr (λ r h. none h.unit h.least.has)
       by_least (inr found) = inl (clash found.0, record { unit = found.0; least = found.1; refusal = refl })
 
-  named_or_none : (after : ByUnit UnitJobs) → OneOrNone (NamesCycle scene.IsBefore after)
-  named_or_none after = by_cycle (jobs_cycle_or_none scene.IsBefore finite.before after)
-    where
-      named : (cycle : List Job) → IsCycle (ComesBefore scene.IsBefore after) cycle → OneOrNone (NamesCycle scene.IsBefore after)
-      named cycle c =
-          let d = least_unit_first (ComesBefore scene.IsBefore after) cycle c in
-          inl (ordering_cycle (units_of d.0), record { cycle = d.0; closed = d.1; least = d.2; refusal = refl })
-
-      by_cycle : ((cycle : List Job) × IsCycle (ComesBefore scene.IsBefore after) cycle) ⊎ ((cycle : List Job) → ¬ (IsCycle (ComesBefore scene.IsBefore after) cycle))
-          → OneOrNone (NamesCycle scene.IsBefore after)
-      by_cycle (inl found) = named found.0 found.1
-      by_cycle (inr none) = inr (λ r h. none h.cycle h.closed)
-
   -- one cause refuses a plan, or none does
   pub cause_or_none : (mode : JobMode) (after : ByUnit UnitJobs) → OneOrNone (CausesOfPlan scene root mode after)
   cause_or_none mode after =
-      first_or_none _ _ barred_or_none (first_or_none _ _ clash_or_none (first_or_none _ _ (drop_or_none mode scene.pending after) (named_or_none after)))
+      first_or_none _ _ barred_or_none (first_or_none _ _ clash_or_none (first_or_none _ _ (drop_or_none mode scene.pending after) (cycle_or_no_refusal scene.IsBefore finite.before after)))
 
   one_barred : (r q : Refused) → NamesBarred scene root r → NamesBarred scene root q → r ≡ q
   one_barred r q h k =
