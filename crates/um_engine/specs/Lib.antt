@@ -1,3 +1,3 @@
-pub mod Drops
 pub mod Engine
+pub mod Known
 pub mod Over
