@@ -1,6 +1,6 @@
 pub mod Along
 pub mod Carrying
-pub mod Drops
 pub mod Engine
 pub mod Filled
+pub mod Known
 pub mod Over
