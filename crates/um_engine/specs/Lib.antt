@@ -1,3 +1,6 @@
-pub mod Drops
+pub mod Along
+pub mod Carrying
 pub mod Engine
+pub mod Filled
+pub mod Known
 pub mod Over

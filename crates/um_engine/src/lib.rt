@@ -3,14 +3,21 @@
 #![tactic(auto)]
 
 mod acting;
+mod along;
 mod answer;
 mod carrying;
 mod commands;
 mod engine;
 mod happenings;
 mod jobs;
+mod known;
 mod laws;
+mod loading;
+mod missing;
 mod names;
+mod planning;
+mod room;
+mod served;
 mod settling;
 
 pub use engine::{Back, Engine, Next};
