@@ -55,3 +55,5 @@ pub mod OwnNameLaws
 pub mod OnceLaws
 pub mod GivesLaws
 pub mod KnownLaws
+pub mod AlongLaws
+pub mod SceneLaws
