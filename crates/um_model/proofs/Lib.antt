@@ -56,4 +56,7 @@ pub mod OnceLaws
 pub mod GivesLaws
 pub mod KnownLaws
 pub mod AlongLaws
+pub mod GivenMaps
+pub mod AlongTotal
 pub mod SceneLaws
+pub mod CrowdedLaws
