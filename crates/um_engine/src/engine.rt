@@ -114,7 +114,7 @@ impl Engine {
         ensures refused { IfErr result (λ e. ¬ (e ≡ NoMemory) → RefusesOrCrowds (size_in self.now) moment (state_in self.now) (command_of command.now) (refused_of e)) }
     {
         let Outcome { served, reply } = changed(self.alloc, &self.served, command)?;
-        let (served, actions) = settled(self.alloc, served, moment)?;
+        let (served, actions) = settle_all(self.alloc, served, moment)?;
         check_room(self.alloc, &served, self.size)?;
         Ok(Settled {
             served,
@@ -214,7 +214,7 @@ impl Engine {
 }
 
 /// The state in which jobs begin at the moment until none is ready, and what is asked of processes.
-fn settled(
+fn settle_all(
     alloc: Global,
     served: Served,
     moment: Moment,

@@ -61,6 +61,4 @@ pub mod GivenMaps
 pub mod AlongTotal
 pub mod SceneLaws
 pub mod CrowdedLaws
-pub mod AlongTotal
-pub mod SceneLaws
 pub mod WeightLaws
