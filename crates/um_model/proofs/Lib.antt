@@ -60,3 +60,5 @@ pub mod AlongLaws
 pub mod AlongTotal
 pub mod SceneLaws
 pub mod WeightLaws
+pub mod GivenMaps
+pub mod CrowdedLaws
