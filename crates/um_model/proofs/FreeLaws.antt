@@ -1,26 +1,21 @@
 -- No pending jobs wait for one another in a circle: after any inputs the order of the loaded tree has no cycle among them.
-use Rattle.std.proofs.Common.{ℕ, ◌≡◌, ◌≢◌, ◌⊎◌, ◌∙◌, Bool, true, false, true≢false, cond, is_some, List, [], ◌∷◌, Option, Some, None, unwrap_or, refl, sym, ap, subst, subst₂, inl, inr}
+use Rattle.std.proofs.Common.{ℕ, ◌≡◌, ◌∙◌, Bool, true, false, true≢false, cond, is_some, List, [], ◌∷◌, Option, Some, None, unwrap_or, refl, sym, ap, subst, inl, inr}
 use Rattle.std.proofs.lemmas.Option.{none-some}
 use Rattle.std.specs.FinMap as map
-use Rattle.um_model.specs.Demands.{Brings, BringsAlong, LeansOn}
-use Rattle.um_model.specs.Dependencies.{Depends, IsKnown, Precedes}
-use Rattle.um_model.specs.Dependencies as model
-use Rattle.um_model.specs.Jobs.{Job, jobs, no_jobs, jobs_of_unit, with_jobs, job_of, unless_waiting, cancelled, without_start, GoesBefore, ComesBefore, IsPending, IsWaiting, with_running, unless_running, start_left, jobs_left}
-use Rattle.um_model.specs.Machine.{State, empty_state, Command, Happening, Event, Input, Reply, IsHeld, IsHeldOr, IsBefore, changed, TakesAlong, IsTakenAlong, Becomes, Carries, change_of, begins, begun, Settles, unit_asked, jobs_asked, scene_at, CausesOf, CausesOfLoad, HasNoPlan, Refuses, Changes, Fires, Follows, Takes, end_of, moment_of, Step, Run}
-use Rattle.um_model.specs.Order.{LeadsTo, IsCycle}
-use Rattle.um_model.specs.Plan.{Counts, Demands, IsPlan, NamesCycle, Scene, jobs_for, units_of}
-use Rattle.um_model.specs.Reached.{Reached}
-use Rattle.um_model.specs.Refusals.{Refused, FirstCause, at_first, at_second, ordering_cycle}
+use Rattle.um_model.specs.Dependencies.{IsKnown, Precedes, Mentions, extra}
+use Rattle.um_model.specs.Jobs.{Job, jobs, no_jobs, jobs_of_unit, with_jobs, job_of, unless_waiting, cancelled, without_start, GoesBefore, starts, stops, stops_then_starts, stops_then_starts_before, of_one_unit, ComesBefore, IsPending, IsWaiting, with_running, unless_running, start_left, jobs_left}
+use Rattle.um_model.specs.Machine.{State, empty_state, Command, Happening, Event, Input, Reply, IsHeldOr, IsBefore, changed, TakesAlong, Becomes, Carries, change_of, begins, begun, Settles, unit_asked, jobs_asked, scene_at, CausesOfLoad, Refuses, Changes, Fires, Follows, Takes, end_of, moment_of, Step, Run}
+use Rattle.um_model.specs.Order.{IsCycle}
+use Rattle.um_model.specs.Plan.{Counts, restarted, started, stopped, left, Demands, IsPlan, units_of}
+use Rattle.um_model.specs.Reached.{first, next}
+use Rattle.um_model.specs.Refusals.{Refused, at_first, at_second, ordering_cycle}
 use Rattle.um_model.specs.Service.{Action, ByUnit, state_of_unit}
 use Rattle.um_model.specs.Timers.{Timers}
 use Rattle.um_model.specs.Tree.{Tree}
 use Rattle.um_model.specs.declared.dependencies.Demand.{Demand}
-use Rattle.um_model.specs.declared.dependencies.Demand.TheVariants as demands
-use Rattle.um_model.specs.declared.dependencies.DependencyKind.{DependencyKind}
-use Rattle.um_model.specs.declared.dependencies.DependencyKind.TheVariants as kinds
-use Rattle.um_model.specs.declared.commands.JobMode.{JobMode}
+use Rattle.um_model.specs.declared.dependencies.Demand.TheVariants.{Start, Stop, Restart}
 use Rattle.um_model.specs.declared.jobs.JobKind.{JobKind}
-use Rattle.um_model.specs.declared.jobs.JobKind.TheVariants.{Start, Stop}
+use Rattle.um_model.specs.declared.jobs.JobKind.TheVariants as job
 use Rattle.um_model.specs.declared.jobs.JobState.{JobState}
 use Rattle.um_model.specs.declared.jobs.JobState.TheVariants.{Waiting, Running}
 use Rattle.um_model.specs.declared.jobs.UnitJobs.{UnitJobs}
@@ -31,31 +26,17 @@ use Rattle.um_model.specs.declared.transition.UnitEvent.{UnitEvent}
 use Rattle.um_model.specs.declared.transition.UnitEvent.TheVariants.{DeadlinePasses}
 use Rattle.um_model.proofs.AlongLaws.{taken_along_or_not}
 use Rattle.um_model.proofs.CycleLaws.{fewer_free, held, least_unit_first}
-use Rattle.um_model.proofs.DemandsLaws.{reached_in}
-use Rattle.um_model.proofs.LeastLaws.{IsDecided}
+use Rattle.um_model.proofs.OrderLaws.{cycle_weaker}
 use Rattle.um_model.proofs.OwnNameLaws.{precedes_anyhow}
-use Rattle.um_model.proofs.PlannedLaws.{free_of_causes}
+use Rattle.um_model.proofs.PlanLaws.{AreAlike, demands_same}
+use Rattle.um_model.proofs.PlannedLaws.{counts_some, free_of_causes}
+use Rattle.um_model.proofs.SceneLaws.{finite_scene}
 use Rattle.um_model.proofs.TimersLaws.{same_name}
 use Rattle.um_model.proofs.UnitLaws.{jobs_here, jobs_apart}
 
 -- no list of jobs is a cycle of what comes before what
 abbrev pub IsFree : State → Type 0
 IsFree s = (cycle : List Job) → ¬ IsCycle (ComesBefore (IsBefore s.loaded) s.pending) cycle
-
--- ---- what holds either way
-
--- a decided fact that holds where another does, and where that doesn't, holds
-pub either_way : {A : Type 0} (P : Type 0) → IsDecided A → (P → A) → (¬ P → A) → A
-either_way P (inl is) with_it without = is
-either_way P (inr isnt) with_it without = absurd (isnt (without (λ p. isnt (with_it p))))
-
--- a decided fact that holds whichever demand counts for a unit holds
-pub whichever_counts : {A : Type 0} (scene : Scene) (root : Demand × List ℕ) (unit : List ℕ) → IsDecided A
-    → ((counted : Option Demand) → Counts scene root unit counted → A) → A
-whichever_counts scene root unit decided f =
-    either_way (Demands scene root (demands.Restart, unit)) decided (λ r. f (Some demands.Restart) (Counts.restarted r)) (λ nr.
-    either_way (Demands scene root (demands.Start, unit)) decided (λ s. f (Some demands.Start) (Counts.started nr s)) (λ ns.
-    either_way (Demands scene root (demands.Stop, unit)) decided (λ p. f (Some demands.Stop) (Counts.stopped nr ns p)) (λ np. f None (Counts.left nr ns np))))
 
 -- ---- fewer jobs of a unit
 
@@ -81,8 +62,8 @@ comes_further : (o p q : Option JobState) → ComesOf o p → ComesOf p q → Co
 comes_further o p q f g = record { waits = λ e. f.waits (g.waits e); none = λ e. g.none (f.none e) }
 
 both_fewer : (stop start stop' start' : Option JobState) → ComesOf stop stop' → ComesOf start start' → HasFewer (jobs stop start) (jobs stop' start')
-both_fewer stop start stop' start' f g Stop = f
-both_fewer stop start stop' start' f g Start = g
+both_fewer stop start stop' start' f g job.Stop = f
+both_fewer stop start stop' start' f g job.Start = g
 
 no_longer_runs : (o : Option JobState) → ComesOf o (unless_running o)
 no_longer_runs None = stays None
@@ -113,8 +94,8 @@ without_start_fewer : (j : UnitJobs) → HasFewer j (without_start j)
 without_start_fewer j = both_fewer j.stop j.start _ _ (stays j.stop) (goes_away j.start)
 
 running_fewer : (kind : JobKind) (j : UnitJobs) → job_of kind j ≡ Some Waiting → HasFewer j (with_running kind j)
-running_fewer Stop j is = both_fewer j.stop j.start _ _ (comes_to_run j.stop is) (stays j.start)
-running_fewer Start j is = both_fewer j.stop j.start _ _ (stays j.stop) (comes_to_run j.start is)
+running_fewer job.Stop j is = both_fewer j.stop j.start _ _ (comes_to_run j.stop is) (stays j.start)
+running_fewer job.Start j is = both_fewer j.stop j.start _ _ (stays j.stop) (comes_to_run j.start is)
 
 -- ---- fewer jobs of all units
 
@@ -174,9 +155,9 @@ settles_less t s actions v (Settles.begins_next {u = u} {more = more} j n h k) =
     less_trans s (begun s j) v (begun_less s j n.has.waits)
     (less_trans (begun s j) u v (becomes_less (begun s j) j.unit (change_of t (begun s j) j.unit (begins j.kind)) u h.state) (settles_less t u more v k))
 
-carried_less : (t : ℕ) (unit : List ℕ) (event : UnitEvent) (s : State) (first next : List Action) (u v : State) → Carries t unit event s first u → Settles t u next v → HasLess s v
-carried_less t unit event s first next u v h k =
-    less_trans s u v (becomes_less s unit (change_of t s unit event) u h.state) (settles_less t u next v k)
+carried_less : (t : ℕ) (unit : List ℕ) (event : UnitEvent) (s : State) (early late : List Action) (u v : State) → Carries t unit event s early u → Settles t u late v → HasLess s v
+carried_less t unit event s early late u v h k =
+    less_trans s u v (becomes_less s unit (change_of t s unit event) u h.state) (settles_less t u late v k)
 
 fires_less : (t : ℕ) (timers : Timers) (s : State) (actions : List Action) (v : State) → Fires t timers s actions v → HasLess s v
 fires_less t timers s actions v (Fires.none_due none) = same_less s
@@ -191,76 +172,58 @@ follows_less t s happening actions v (Follows.ticks timers are h) = fires_less t
 
 -- ---- a plan
 
--- where no step of the one kind isn't one of the other, no cycle isn't either
-module _ {U : Type 0} (P Q : U → U → Type 0) (each : (x y : U) → P x y → ¬ (¬ Q x y)) where
-  leads_doubly : (x : U) (zs : List U) (y : U) → LeadsTo P x zs y → ¬ (¬ LeadsTo Q x zs y)
-  leads_doubly x [] y h isnt = each x y h isnt
-  leads_doubly x (z ∷ zs) y h isnt = each x z h.0 (λ q. leads_doubly z zs y h.1 (λ l. isnt (q, l)))
-
-  cycle_doubly : (cycle : List U) → IsCycle P cycle → ¬ (¬ IsCycle Q cycle)
-  cycle_doubly [] h isnt = h
-  cycle_doubly (x ∷ xs) h isnt = leads_doubly x xs x h isnt
-
 module _ (s : State) (named : List ℕ) where
   -- known while the plan for the named unit is made
   abbrev Known : List ℕ → Type 0
   Known = IsKnown s.loaded (IsHeldOr s named)
 
-  both_known : (kind : DependencyKind) (x y : List ℕ) → Depends s.loaded (IsHeldOr s named) kind x y → Known x × Known y
-  both_known kind x y d = (Reached.next d.known (model.owner d.gives), Reached.next d.known (model.other d.gives))
+  same_scene : AreAlike Known (scene_at s named) (scene_at s named)
+  same_scene = record {
+    within = λ kind x y d. (next d.known (Mentions.owner d.gives), next d.known (Mentions.other d.gives));
+    depends = λ kind x y. (λ d. d, λ d. d);
+    before = λ x y. (λ b. b, λ b. b);
+    loadable = λ x known. (λ l. l, λ l. l);
+    cannot = λ x known r. (λ c. c, λ c. c);
+    activity = λ x known. refl;
+    pending = λ x. refl;
+  }
 
-  leaning_known : (y x : List ℕ) → LeansOn (Depends s.loaded (IsHeldOr s named)) y x → Known y
-  leaning_known y x (LeansOn.requires d) = (both_known kinds.Requires y x d).0
-  leaning_known y x (LeansOn.binds d) = (both_known kinds.BindsTo y x d).0
-  leaning_known y x (LeansOn.is_part d) = (both_known kinds.PartOf y x d).0
-
-  brought_known : (IsActive : List ℕ → Type 0) (p q : Demand × List ℕ) → Brings (Depends s.loaded (IsHeldOr s named)) IsActive p q → Known q.1
-  brought_known IsActive _ _ (Brings.required {x = x} {y = y} starting d) = (both_known kinds.Requires x y d).1
-  brought_known IsActive _ _ (Brings.bound {x = x} {y = y} starting d) = (both_known kinds.BindsTo x y d).1
-  brought_known IsActive _ _ (Brings.conflicting {x = x} {y = y} starting d) = (both_known kinds.Conflicts x y d).1
-  brought_known IsActive _ _ (Brings.conflicted {x = x} {y = y} starting d) = (both_known kinds.Conflicts y x d).0
-  brought_known IsActive _ _ (Brings.stopped {x = x} {y = y} leans) = leaning_known y x leans
-  brought_known IsActive _ _ (Brings.restarted {x = x} {y = y} leans active) = leaning_known y x leans
-
-  along_known : (IsActive IsLoadable : List ℕ → Type 0) (p q : Demand × List ℕ) → BringsAlong (Depends s.loaded (IsHeldOr s named)) IsActive IsLoadable p q → Known q.1
-  along_known IsActive IsLoadable p q (BringsAlong.needed brings) = brought_known IsActive p q brings
-  along_known IsActive IsLoadable _ _ (BringsAlong.wanted {x = x} {w = w} starting d startable) = (both_known kinds.Wants x w d).1
+  demanded_known : (demand d : Demand) (unit : List ℕ) → Demands (scene_at s named) (demand, named) (d, unit) → Known unit
+  demanded_known demand d unit h =
+      (demands_same Known (demand, named) (first (extra (inr refl))) (scene_at s named) (scene_at s named) same_scene (d, unit) h).0
 
   module _ (demand : Demand) (after : ByUnit UnitJobs) (plan : IsPlan (scene_at s named) (demand, named) after) where
-    -- what is demanded is known
-    demanded_known : (p : Demand × List ℕ) → Demands (scene_at s named) (demand, named) p → Known p.1
-    demanded_known =
-        reached_in (λ p. Known p.1) (λ p is. subst (λ q. Known q.1) (sym is) (Reached.first (model.extra (inr refl)))) (λ p q known brings. along_known _ _ p q brings)
-
-    -- so is a unit of which a job is pending after the plan: it had one, or something is demanded of it
+    -- a unit of which a job is pending after the plan had one, or something is demanded of it
     counted_known : (j : Job) → IsPending after j → (counted : Option Demand) → Counts (scene_at s named) (demand, named) j.unit counted → Known j.unit
-    counted_known j pends _ (Counts.restarted r) = demanded_known _ r
-    counted_known j pends _ (Counts.started nr d) = demanded_known _ d
-    counted_known j pends _ (Counts.stopped nr ns d) = demanded_known _ d
-    counted_known j pends _ (Counts.left nr ns np) =
-        let pended : IsPending s.pending j = λ none. pends (ap (job_of j.kind) (plan.jobs j.unit None (Counts.left nr ns np)) ∙ none) in
-        Reached.first (model.extra (inl (inr (λ none. true≢false (sym (held s.pending j pended) ∙ ap is_some none)))))
+    counted_known j pends _ (restarted r) = demanded_known demand Restart j.unit r
+    counted_known j pends _ (started nr d) = demanded_known demand Start j.unit d
+    counted_known j pends _ (stopped nr ns d) = demanded_known demand Stop j.unit d
+    counted_known j pends _ (left nr ns np) =
+        let pended : IsPending s.pending j = λ none. pends (ap (job_of j.kind) (plan.jobs j.unit None (left nr ns np)) ∙ none) in
+        first (extra (inl (inr (λ none. true≢false (sym (held s.pending j pended) ∙ ap is_some none)))))
 
-    pending_known : (j : Job) → IsPending after j → ¬ (¬ Known j.unit)
-    pending_known j pends isnt = whichever_counts (scene_at s named) (demand, named) j.unit (inr (λ never. never)) (λ counted counts. isnt (counted_known j pends counted counts))
+    pending_known : (j : Job) → IsPending after j → Known j.unit
+    pending_known j pends =
+        let scene = finite_scene s named in
+        let c = counts_some (scene_at s named) scene.0 scene.1 (demand, named) j.unit in
+        counted_known j pends c.0 c.1
 
     goes_by_known : (j k : Job) → Known j.unit → Known k.unit → GoesBefore (IsBefore s.loaded) j k → GoesBefore (Precedes s.loaded (IsHeldOr s named)) j k
-    goes_by_known _ _ known too (GoesBefore.starts {x = x} {y = y} b) = GoesBefore.starts (precedes_anyhow s.loaded _ (IsHeldOr s named) x y known too b)
-    goes_by_known _ _ known too (GoesBefore.stops {x = x} {y = y} b) = GoesBefore.stops (precedes_anyhow s.loaded _ (IsHeldOr s named) x y too known b)
-    goes_by_known _ _ known too (GoesBefore.stops_then_starts {x = x} {y = y} b) = GoesBefore.stops_then_starts (precedes_anyhow s.loaded _ (IsHeldOr s named) x y known too b)
-    goes_by_known _ _ known too (GoesBefore.stops_then_starts_before {x = x} {y = y} b) = GoesBefore.stops_then_starts_before (precedes_anyhow s.loaded _ (IsHeldOr s named) x y too known b)
-    goes_by_known _ _ known too GoesBefore.of_one_unit = GoesBefore.of_one_unit
+    goes_by_known _ _ known too (starts {x = x} {y = y} b) = starts (precedes_anyhow s.loaded _ (IsHeldOr s named) x y known too b)
+    goes_by_known _ _ known too (stops {x = x} {y = y} b) = stops (precedes_anyhow s.loaded _ (IsHeldOr s named) x y too known b)
+    goes_by_known _ _ known too (stops_then_starts {x = x} {y = y} b) = stops_then_starts (precedes_anyhow s.loaded _ (IsHeldOr s named) x y known too b)
+    goes_by_known _ _ known too (stops_then_starts_before {x = x} {y = y} b) = stops_then_starts_before (precedes_anyhow s.loaded _ (IsHeldOr s named) x y too known b)
+    goes_by_known _ _ known too of_one_unit = of_one_unit
 
-    comes_by_known : (j k : Job) → ComesBefore (IsBefore s.loaded) after j k → ¬ (¬ ComesBefore (Precedes s.loaded (IsHeldOr s named)) after j k)
-    comes_by_known j k c isnt =
-        pending_known j c.pends (λ known.
-        pending_known k (λ none. none-some Waiting (sym none ∙ c.waits)) (λ too.
-        isnt (record { pends = c.pends; waits = c.waits; goes = goes_by_known j k known too c.goes })))
+    comes_by_known : (j k : Job) → ComesBefore (IsBefore s.loaded) after j k → ComesBefore (Precedes s.loaded (IsHeldOr s named)) after j k
+    comes_by_known j k c =
+        let pends : IsPending after k = λ none. none-some Waiting (sym none ∙ c.waits) in
+        record { pends = c.pends; waits = c.waits; goes = goes_by_known j k (pending_known j c.pends) (pending_known k pends) c.goes }
 
-    -- jobs of a plan without a cycle in the order by which it was made have none
+    -- jobs of a plan that have no cycle in the order by which it was made have none
     plan_free : ((cycle : List Job) → ¬ IsCycle (ComesBefore (Precedes s.loaded (IsHeldOr s named)) after) cycle)
         → (cycle : List Job) → ¬ IsCycle (ComesBefore (IsBefore s.loaded) after) cycle
-    plan_free free cycle c = cycle_doubly _ _ comes_by_known cycle c (free cycle)
+    plan_free free cycle c = free cycle (cycle_weaker _ _ comes_by_known cycle c)
 
 -- ---- a command
 
@@ -305,8 +268,8 @@ run_free size s t inputs Run.rests free = free
 run_free size s t (i ∷ inputs) (Run.goes {t = v} reply actions step run) free = run_free size v t inputs run (step_free size s i reply actions v step free)
 
 none_waits : (kind : JobKind) → job_of kind no_jobs ≡ Some Waiting → ⊥
-none_waits Stop e = none-some Waiting e
-none_waits Start e = none-some Waiting e
+none_waits job.Stop e = none-some Waiting e
+none_waits job.Start e = none-some Waiting e
 
 -- of the empty state no job is pending
 none_comes : (j k : Job) → ¬ ComesBefore (IsBefore empty_state.loaded) empty_state.pending j k
