@@ -1,5 +1,5 @@
-ghost use Rattle.std.specs.Prelude.{◌≡◌, string_bytes, IfOk, OnOk, OnErr, IfErr, Ok, Err};
-ghost use Rattle.um_model.specs.Machine.{empty_state};
+ghost use Rattle.std.specs.Prelude.{◌≡◌, ◌↔◌, ℕ, List, Contains, string_bytes, IsTrue, IfOk, OnOk, OnErr, IfErr, Ok, Err};
+ghost use Rattle.um_model.specs.Machine.{IsHeld, empty_state};
 ghost use Rattle.um_model.specs.Service.{with_unit};
 ghost use Rattle.um_model.specs.Jobs.{with_jobs};
 ghost use Rattle.um_model.specs.Tree.{put_file, put_link, remove_at};
@@ -91,6 +91,23 @@ impl State {
         ensures { result.now ≡ (state_of self.now).pending }
     {
         &self.pending
+    }
+
+    /// Whether the state holds anything of the unit: how it stands, or a pending job. It takes no memory.
+    pub fn holds(&self, unit: &UnitName) -> bool
+        ensures { IsTrue result ↔ IsHeld (state_of self.now) unit.now }
+    {
+        self.units.holds(unit) || self.pending.holds(unit)
+    }
+
+    /// The units of which the state holds anything; one may stand twice.
+    pub fn held(&self, alloc: Global) -> Result<Vec<UnitName>, AllocError>
+        ensures { IfOk result (λ names. (unit : List ℕ) → Contains names.items unit ↔ IsHeld (state_of self.now) unit) }
+    {
+        let mut names = Vec::new(alloc);
+        self.units.push_names(&mut names)?;
+        self.pending.push_names(&mut names)?;
+        Ok(names)
     }
 
     /// Puts a file into the tree in hand, with the refusals of `Tree::put`; all is as before then.
