@@ -1,3 +1,5 @@
-pub mod Drops
 pub mod Engine
+pub mod Known
 pub mod Over
+pub mod Planned
+pub mod Served

@@ -9,8 +9,14 @@ mod commands;
 mod engine;
 mod happenings;
 mod jobs;
+mod known;
 mod laws;
+mod loading;
+mod missing;
 mod names;
+mod planning;
+mod room;
+mod served;
 mod settling;
 
 pub use engine::{Back, Engine, Next};

@@ -175,6 +175,13 @@ impl State {
         self.pending.set(unit, jobs)
     }
 
+    /// Sets the pending jobs, in the place of those that were.
+    pub fn set_pending(&mut self, pending: Pending)
+        ensures { state_of self.new ≡ record (state_of self.old) { pending = pending } }
+    {
+        self.pending = pending;
+    }
+
     /// Sets the next process number.
     pub fn set_next(&mut self, next: NextNumber)
         ensures { state_of self.new ≡ record (state_of self.old) { next = next } }
