@@ -1,8 +1,10 @@
 use Rattle.std.proofs.Common.{◌∙◌, ap, List}
-use Rattle.um_model.specs.Settings.{ServiceSettings, acting_settings, default_settings}
+use Rattle.um_model.specs.Settings.{ServiceSettings, default_settings}
 use Rattle.um_model.specs.Substitution.{Variable}
 use Rattle.um_model.specs.Words.{Command}
 use Rattle.um_unit.specs.ServiceView.{service_settings_of}
+use Rattle.um_words.specs.Commands.{commands_seen}
+use Rattle.um_words.specs.Environment.{variables_of}
 use Rattle.um_unit.proofs.service_settings.ServiceSettings.acting.Goals as goal
 
 abbrev with_both : ServiceSettings → List Command → List Variable → ServiceSettings
@@ -11,7 +13,8 @@ with_both s start environment = record s { start = start; environment = environm
 pub returns : goal.returns
 returns c =
     let s = service_settings_of c.args.self.now in
-    let default = default_settings s.kind in
-    ap (λ d. with_both d _ _) c.new-settings.ensures
-    ∙ (ap (λ x. with_both default x _) (rw c.deref.ensures.value at c.in_ok-settings.ensures)
-    ∙ ap (λ x. with_both default s.start x) (rw c.deref-2.ensures.value at c.in_ok-settings-2.ensures))
+    let start = rw c.deref.ensures.value at c.in_ok-settings.ensures in
+    let environment = rw c.deref-2.ensures.value at c.in_ok-settings-2.ensures in
+    let variables = variables_of c.in_ok-settings-2.field-0.items in
+    ap (λ d. with_both d (commands_seen c.in_ok-settings.field-0.items) variables) c.new-settings.ensures
+    ∙ (ap (λ x. with_both (default_settings s.kind) x variables) start ∙ ap (λ x. with_both (default_settings s.kind) s.start x) environment)
