@@ -180,8 +180,11 @@ pub fn memory<R: Read, W: Write>(
     ensures ok { IfOk result (λ e. WritesFrom memory_size empty_state [] (R.remaining input.old) (W.contents output.old) (W.contents output.new) e) }
     ensures err { OnErr result (BeginsFrom memory_size empty_state [] (R.remaining input.old) (W.contents output.old) (W.contents output.new)) }
 {
+    let Ok(engine) = Engine::of(alloc, State::empty(alloc), MEMORY_SIZE) else {
+        return Err(Fault::NoMemory);
+    };
     let mut manager = Manager {
-        engine: Engine::of(alloc, State::empty(alloc), MEMORY_SIZE),
+        engine,
         kept: Vec::new(alloc),
     };
     'frames: for _ in 0..u64::MAX {

@@ -12,6 +12,7 @@ mod happenings;
 mod jobs;
 mod known;
 mod laws;
+mod listing;
 mod loading;
 mod missing;
 mod names;
