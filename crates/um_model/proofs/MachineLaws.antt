@@ -4,6 +4,7 @@ use Rattle.std.proofs.lemmas.Option.{none-some, same_Some}
 use Rattle.std.specs.FinMap as map
 use Rattle.std.specs.FinMap.{slice_cmp-IsAntisymmetric, nat_cmp-IsAntisymmetric}
 use Rattle.std.specs.Cmp.Lexicographic.{nat_list_cmp_total}
+use Rattle.um_model.specs.Alike.{NamesACycle, AlikeBut, the_same, both_name, IsSameOutcome}
 use Rattle.um_model.specs.Refusals.{Refused, FirstCause, at_first, at_second, no_room, ordering_cycle}
 use Rattle.um_model.specs.Tree.{Tree, put_file, put_link, remove_at}
 use Rattle.um_model.specs.Least.{IsNamedBefore}
@@ -12,7 +13,6 @@ use Rattle.um_model.specs.Jobs.{Job, IsReady, IsToldBefore, by_name, stop_first,
 use Rattle.um_model.specs.Plan.{IsPlan, CausesOfPlan, NamesCycle, units_of}
 use Rattle.um_model.specs.Timers.{Timers}
 use Rattle.um_model.specs.Transitions.{HasNumber}
-use Rattle.um_model.specs.Alike.{NamesACycle, AlikeBut, the_same, both_name}
 use Rattle.um_model.specs.Machine.{State, Command, Happening, ProcessEnded, Tick, Event, Input, Reply, EnabledAs, Listed, Refusal, Query, IsReplyTo, shows, tells_activity, tells_files, tells_enabling, unit_listed, lists_units, lists_jobs, Becomes, alone, along, Carries, change_of, acting_in, around, begins, begun, IsBefore, Settles, begins_next, IsProcessOf, AreDeadlines, end_of, Fires, none_due, fires, passes, IsHeld, IsHeldOr, scene_at, IsCrowded, IsNotThere, IsMissing, HasNoPlan, HasNoneWaiting, CausesOfCancel, CausesOf, CausesOfLoad, LoadsNone, active_asked, demand_of, unit_asked, Refuses, puts_none, links_none, removes_none, plans_none, cancels_none, reloads_none, installs_none, Changes, puts, links, removes, reloads, plans, demands_nothing, cancels, installs, Follows, ends, ticks, HasNoEffect, is_over, is_idle, Takes, obeys, meets, HasNoRoom, moment_of, Step, refused, crowded_out, idle, taken, reply_after, Run, goes}
 use Rattle.um_model.specs.declared.commands.JobMode.{JobMode}
 use Rattle.um_model.specs.declared.commands.UnitVerb.{UnitVerb}
@@ -36,13 +36,7 @@ use Rattle.um_model.proofs.SceneLaws.{finite_scene, one_list_of_known}
 use Rattle.um_model.proofs.TransitionLaws.{same_actions}
 use Rattle.um_model.proofs.TimersLaws.{one_due_first, same_name, names_one_way}
 
--- ---- alike but for a cycle
-
--- two outcomes are one, but for the cycle that a refusal names
-pub record IsSameOutcome (r q : Reply) (a b : List Action) (s t : State) : Type 0 where
-  pub reply : AlikeBut r q
-  pub actions : a ≡ b
-  pub state : s ≡ t
+-- ---- refusals
 
 -- refusals for a cause are one, or each names a cycle
 abbrev AreOneBut : (Refused → Type 0) → Type 0

@@ -1,11 +1,12 @@
--- When two replies, and all that is written for a stream, are the same but for the cycles that refusals name.
--- Follows no manual page: which of several cycles a refusal names is left open.
--- The laws of one outcome stand on this file.
+-- When two outcomes of a step, and two lists of replies, are one but for the cycle that a refusal names.
+-- Follows no manual page: of several cycles among pending jobs it isn't told which is named (E9).
+-- The laws of one outcome, of one end and of one reading stand on this file.
 use Rattle.std.specs.Prelude.{◌≡◌, ℕ, List, ◌++◌}
 use Rattle.um_model.specs.Frames.{frame_of, last_reply}
-use Rattle.um_model.specs.Machine.{Reply, Refusal}
+use Rattle.um_model.specs.Machine.{State, Reply, Refusal}
 use Rattle.um_model.specs.Refusals.{Refused, ordering_cycle}
 use Rattle.um_model.specs.Replies.{reply_text}
+use Rattle.um_model.specs.Service.{Action}
 use Rattle.um_model.specs.declared.frames.Ending.{Ending}
 
 -- a refusal names a cycle
@@ -16,6 +17,12 @@ NamesACycle r = (units : List (List ℕ)) × (r ≡ ordering_cycle units)
 pub data AlikeBut : Reply → Reply → Type 0 where
   the_same : {r q : Reply} → r ≡ q → AlikeBut r q
   both_name : {r q : Refused} → NamesACycle r → NamesACycle q → AlikeBut (Refusal r) (Refusal q)
+
+-- two outcomes are one, but for the cycle that a refusal names
+pub record IsSameOutcome (r q : Reply) (a b : List Action) (s t : State) : Type 0 where
+  pub reply : AlikeBut r q
+  pub actions : a ≡ b
+  pub state : s ≡ t
 
 -- as many replies stand in both, each the same or both refusals that name a cycle, and the same end
 pub data AreAlikeBut (ending : Ending) : (out other : List ℕ) → Type 0 where
