@@ -1,12 +1,12 @@
 //! A start that fails takes along the starts that need it (systemd.unit(5), "Requires=").
 
-ghost use Rattle.std.specs.Prelude.{◌≡◌, ◌&&◌, Contains, OnOk};
+ghost use Rattle.std.specs.Prelude.{◌≡◌, ◌∷◌, ℕ, [], Contains, IfOk, OnOk};
 ghost use Rattle.um_engine.specs.Along as taking;
 ghost use Rattle.um_engine.specs.Over.{Serves};
-ghost use Rattle.um_graph.specs.Graph.{row_of};
+ghost use Rattle.um_graph.specs.Graph.{IsNumberOf, row_of};
 ghost use Rattle.um_model.proofs.WaitingLaws.{NoMoreWait};
+ghost use Rattle.um_model.specs.Jobs as model;
 ghost use Rattle.um_model.specs.Jobs.{AreTidyJobs};
-ghost use Rattle.um_model.specs.Jobs as jobs;
 ghost use Rattle.um_model.specs.Machine.{TakesAlong};
 ghost use Rattle.um_model.specs.Service.{AreTidyUnits};
 ghost use Rattle.um_state.specs.View.{state_of};
@@ -47,7 +47,7 @@ fn goes_before(row: &[Neighbour], unit: usize) -> bool
 
 /// Without the start job.
 fn without_start(jobs: UnitJobs) -> UnitJobs
-    ensures { result ≡ jobs.without_start jobs }
+    ensures { result ≡ model.without_start jobs }
 {
     UnitJobs {
         start: None,
@@ -120,6 +120,17 @@ fn take_all(
     Ok(())
 }
 
+/// The number of the unit alone, where it is one of the graph.
+fn listed(alloc: Global, graph: &Graph, unit: &UnitName) -> Result<Vec<usize>, AllocError>
+    ensures { IfOk result (λ list. Contains graph.now.names unit.now → (u : ℕ) × IsNumberOf graph.now u unit.now × (list.items ≡ u ∷ [])) }
+{
+    let mut list = Vec::new(alloc);
+    if let Some(number) = graph.number(unit) {
+        list.push(number)?;
+    }
+    Ok(list)
+}
+
 /// The starts that need that of the unit, which failed, are gone, and so are those that need one of these; the units tell so.
 /// Where memory is refused the state is of no use.
 pub fn take_along(
@@ -133,10 +144,7 @@ pub fn take_along(
         → TakesAlong (state_of state.old) failed.now (state_of state.new) × Serves graph.now (state_of state.new)) }
     ensures waits { OnOk result (NoMoreWait (state_of state.new).pending (state_of state.old).pending) }
 {
-    let mut list = Vec::new(alloc);
-    if let Some(unit) = graph.number(failed) {
-        list.push(unit)?;
-    }
+    let mut list = listed(alloc, graph, failed)?;
     'units: while let Some(unit) = list.pop() {
         take_all(graph, state, &mut list, unit)?;
     }

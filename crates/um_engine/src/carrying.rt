@@ -71,7 +71,8 @@ pub fn carry_out(
         × Serves graph.now (state_of state.new)) }
     ensures waits { OnOk result (NoMoreWait (state_of state.new).pending (state_of state.old).pending) }
 {
-    if change(alloc, graph, state, actions, moment, unit, event)? {
+    let fails = change(alloc, graph, state, actions, moment, unit, event)?;
+    if fails {
         take_along(alloc, graph, state, unit)?;
     }
     Ok(())
