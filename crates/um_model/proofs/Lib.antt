@@ -57,8 +57,8 @@ pub mod OnceLaws
 pub mod GivesLaws
 pub mod KnownLaws
 pub mod AlongLaws
-pub mod GivenMaps
 pub mod AlongTotal
 pub mod SceneLaws
-pub mod CrowdedLaws
 pub mod WeightLaws
+pub mod GivenMaps
+pub mod CrowdedLaws

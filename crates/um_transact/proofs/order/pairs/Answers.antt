@@ -16,5 +16,5 @@ loop-unit-preserved c = elim c.if-has_job.branch [
 
 pub returns : goal.returns
 returns c =
-    let at : c.loop-unit.unit ≡ length c.args.plan.now = omega arith in
+    let at : c.loop-unit.unit ≡ length c.args.graph.now.names = omega arith in
     subst (λ n. ArePairs c.args.graph.now.rows c.args.plan.now n c.loop-unit.pairs.items) at c.loop-unit.invariant
