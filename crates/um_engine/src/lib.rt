@@ -15,6 +15,7 @@ mod laws;
 mod listing;
 mod loading;
 mod missing;
+mod listing;
 mod names;
 mod planning;
 mod room;
