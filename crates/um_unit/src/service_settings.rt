@@ -1,5 +1,5 @@
 ghost use Rattle.std.specs.Prelude.{◌≡◌, IfOk, map, string_bytes};
-ghost use Rattle.um_model.specs.Settings.{acting_settings, default_settings};
+ghost use Rattle.um_model.specs.Settings.{acting_kind, acting_settings, default_settings};
 ghost use Rattle.um_unit.specs.ServiceView.{service_settings_of};
 ghost use Rattle.um_words.specs.Commands.{commands_seen};
 ghost use Rattle.um_words.specs.Environment.{variables_of};
@@ -66,14 +66,25 @@ impl ServiceSettings {
         }
     }
 
-    /// What the service table acts on until services are served in full: the commands of `ExecStart=` and their environment.
+    /// What the service table acts on until services are served in full, each as a simple one: the commands of `ExecStart=` and
+    /// their environment.
     pub fn acting(&self, alloc: Global) -> Result<ServiceSettings, AllocError>
         ensures { IfOk result (λ s. service_settings_of s ≡ acting_settings (service_settings_of self.now)) }
     {
-        let mut settings = ServiceSettings::new(alloc, self.kind);
+        let mut settings = ServiceSettings::new(alloc, acting_kind(self.kind));
         settings.start = commands_copied(alloc, &self.start)?;
         settings.environment = environment_copied(alloc, &self.environment)?;
         Ok(settings)
+    }
+}
+
+/// A service acts as a simple one until services are served in full.
+fn acting_kind(kind: UnitKind) -> UnitKind
+    ensures { result ≡ acting_kind kind }
+{
+    match kind {
+        UnitKind::Target => UnitKind::Target,
+        UnitKind::Simple | UnitKind::Exec | UnitKind::Oneshot => UnitKind::Simple,
     }
 }
 

@@ -1,5 +1,5 @@
 use Rattle.std.proofs.Common.{◌∙◌, ap, List}
-use Rattle.um_model.specs.Settings.{ServiceSettings, default_settings}
+use Rattle.um_model.specs.Settings.{ServiceSettings, acting_kind, default_settings}
 use Rattle.um_model.specs.Substitution.{Variable}
 use Rattle.um_model.specs.Words.{Command}
 use Rattle.um_unit.specs.ServiceView.{service_settings_of}
@@ -16,5 +16,5 @@ returns c =
     let start = rw c.deref.ensures.value at c.in_ok-settings.ensures in
     let environment = rw c.deref-2.ensures.value at c.in_ok-settings-2.ensures in
     let variables = variables_of c.in_ok-settings-2.field-0.items in
-    ap (λ d. with_both d (commands_seen c.in_ok-settings.field-0.items) variables) c.new-settings.ensures
-    ∙ (ap (λ x. with_both (default_settings s.kind) x variables) start ∙ ap (λ x. with_both (default_settings s.kind) s.start x) environment)
+    ap (λ d. with_both d (commands_seen c.in_ok-settings.field-0.items) variables) (c.new-settings.ensures ∙ ap default_settings c.acting_kind.ensures)
+    ∙ (ap (λ x. with_both (default_settings (acting_kind s.kind)) x variables) start ∙ ap (λ x. with_both (default_settings (acting_kind s.kind)) s.start x) environment)
