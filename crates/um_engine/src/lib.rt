@@ -15,7 +15,6 @@ mod laws;
 mod listing;
 mod loading;
 mod missing;
-mod listing;
 mod names;
 mod planning;
 mod room;
