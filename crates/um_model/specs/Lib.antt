@@ -42,5 +42,4 @@ pub mod Disk
 pub mod Bytes
 pub mod Store
 pub mod Finds
-pub mod Alike
 pub mod Sessions
