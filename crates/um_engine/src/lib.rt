@@ -11,6 +11,7 @@ mod happenings;
 mod jobs;
 mod known;
 mod laws;
+mod listing;
 mod loading;
 mod missing;
 mod names;
