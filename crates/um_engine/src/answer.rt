@@ -9,9 +9,7 @@ ghost use Rattle.um_state.specs.View.{state_of, query_of, reply_of, shown_of as 
 ghost use Rattle.um_model.specs.declared.install.Enabling.{Enabling};
 ghost use Rattle.um_unit.specs.View.{loading_of, unit_of};
 
-use crate::known::Known;
 use crate::listing::list_units;
-use crate::served::Served;
 use crate::names::{name_in, text_of};
 use std::alloc::{AllocError, Global};
 use um_install::is_enabled;
@@ -127,32 +125,16 @@ fn list_jobs(state: &State) -> Result<Reply, AllocError>
     Ok(Reply::Jobs(state.pending().shown()?))
 }
 
-/// The known units. What is known for the state is told where it fits, and else found anew.
-fn list_known(alloc: Global, served: &Served) -> Result<Reply, AllocError>
-    ensures { IfOk result (λ reply. model.IsReplyTo (state_of served.now.state) model.ListUnits (reply_of reply)) }
-{
-    let state = served.state();
-    let known = served.known();
-    if known.fits(state, None) {
-        return list_units(alloc, known.graph(), state);
-    }
-    match Known::of(alloc, state.loaded(), state, None) {
-        Ok(known) => list_units(alloc, known.graph(), state),
-        Err(_) => Err(AllocError),
-    }
-}
-
 /// The reply to a query.
-pub fn reply_to(alloc: Global, served: &Served, query: &Query) -> Result<Reply, AllocError>
-    ensures { IfOk result (λ reply. model.IsReplyTo (state_of served.now.state) (query_of query.now) (reply_of reply)) }
+pub fn reply_to(alloc: Global, state: &State, query: &Query) -> Result<Reply, AllocError>
+    ensures { IfOk result (λ reply. model.IsReplyTo (state_of state.now) (query_of query.now) (reply_of reply)) }
 {
-    let state = served.state();
     match query {
         Query::Show { unit } => show(alloc, state, unit),
         Query::IsActive { unit } => is_active(alloc, state, unit),
         Query::Cat { unit } => cat(alloc, state.tree(), unit),
         Query::IsEnabled { unit } => enabled_as(alloc, state.tree(), unit),
-        Query::ListUnits => list_known(alloc, served),
+        Query::ListUnits => list_units(alloc, state),
         Query::ListJobs => list_jobs(state),
     }
 }
