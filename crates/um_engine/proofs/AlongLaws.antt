@@ -1,35 +1,26 @@
 -- What the code takes along, going from one unit to the next, is what a failed start takes along.
-use Rattle.std.proofs.Common.{◌≡◌, ◌≢◌, ◌⊎◌, ◌∙◌, ◌+◌, ◌<◌, ◌≤◌, ◌==◌, ◌&&◌, ◌||◌, ℕ, zero, suc, Bool, true, false, true≢false, cond, List, [], ◌∷◌, ◌++◌, length, sum_by, Contains, Option, Some, None, slice_get, unwrap_or, refl, sym, ap, subst, inl, inr, arith}
-use Rattle.std.proofs.lemmas.Bool.{and_parts, or_cases}
-use Rattle.std.proofs.lemmas.Bool.Decides.{Decides-eqb}
+use Rattle.std.proofs.Common.{◌≡◌, ◌≢◌, ◌⊎◌, ◌∙◌, ◌+◌, ◌<◌, ◌≤◌, ◌&&◌, ◌||◌, ℕ, zero, suc, Bool, true, false, true≢false, cond, List, [], ◌∷◌, ◌++◌, length, sum_by, Contains, Option, Some, None, slice_get, refl, sym, ap, subst, inl, inr, arith}
+use Rattle.std.proofs.lemmas.Bool.{or_cases}
 use Rattle.std.proofs.lemmas.List.{length-append}
-use Rattle.std.proofs.lemmas.List.Elements.{Contains-append_left, Contains-push, Contains-push_cases}
 use Rattle.std.proofs.lemmas.List.Sums.{sum_by-cons}
-use Rattle.std.proofs.lemmas.Option.{none-some, same_Some, get_or_from_slice_get, slice_get-get_or}
+use Rattle.std.proofs.lemmas.Option.{none-some, get_or_from_slice_get, slice_get-get_or}
 use Rattle.std.specs.FinMap as map
 use Rattle.std.specs.Cmp.Lexicographic.{nat_list_cmp_total}
 use Rattle.std.specs.List.{list_any}
-use Rattle.um_model.specs.Dependencies.{Depends, IsKnown, Precedes, extra}
-use Rattle.um_model.specs.Jobs.{AreTidyJobs, has_job, jobs_of_unit, no_jobs, with_jobs, without_start}
-use Rattle.um_model.specs.Machine.{State, IsHeld, IsBefore, NeedsStart, IsTakenAlong, TakesAlong, is_waiting, with_result_dependency}
-use Rattle.um_model.specs.Reached.{first, next}
-use Rattle.um_model.specs.Service.{AreTidyUnits, ByUnit, holds_nothing, state_of_unit, with_unit}
-use Rattle.um_model.specs.declared.dependencies.DependencyKind.{DependencyKind}
-use Rattle.um_model.specs.declared.dependencies.DependencyKind.TheVariants.{Requires, BindsTo}
+use Rattle.um_model.specs.Jobs.{has_job, jobs_of_unit, with_jobs, without_start}
+use Rattle.um_model.specs.Machine.{State, is_waiting}
+use Rattle.um_model.specs.Service.{ByUnit, holds_nothing, with_unit}
 use Rattle.um_model.specs.declared.jobs.JobState.{JobState}
 use Rattle.um_model.specs.declared.jobs.JobState.TheVariants.{Waiting, Running}
 use Rattle.um_model.specs.declared.jobs.UnitJobs.{UnitJobs}
 use Rattle.um_model.specs.declared.service.UnitState.{UnitState}
-use Rattle.um_model.proofs.OwnNameLaws.{depends_anyhow, precedes_anyhow}
 use Rattle.um_model.proofs.TimersLaws.{same_name}
-use Rattle.um_model.proofs.UnitLaws.{jobs_apart, jobs_here, state_apart, state_here, tidy_jobs, tidy_units, unlike}
+use Rattle.um_model.proofs.UnitLaws.{jobs_apart, jobs_here, unlike}
 use Rattle.um_model.proofs.WaitingLaws.{NoMoreWait, waits, waits_in}
-use Rattle.um_graph.specs.Graph.{GraphView, IsGraph, IsGraphOf, IsNumberOf, Stands, row_of}
-use Rattle.um_graph.specs.Kinds.{has, before_bit, inverse_bit_of}
+use Rattle.um_graph.specs.Graph.{GraphView, IsNumberOf}
 use Rattle.um_graph.specs.declared.row.Neighbour.{Neighbour}
 use Rattle.um_graph.proofs.NamedLaws.{got_within}
-use Rattle.um_engine.specs.Along.{Taking, goes_before, is_later, needs_it, taken, taken_all, taken_by, taken_named, taken_next, without_start_of}
-use Rattle.um_engine.specs.Over.{Serves}
+use Rattle.um_engine.specs.Along.{Taking, goes_before, needs_it, taken, taken_all, taken_by, taken_named, taken_next, without_start_of}
 
 -- ---- tests and lists
 pub any_in : {A : Type 0} (p : A → Bool) (xs : List A) (x : A) → Contains xs x → p x ≡ true → list_any p xs ≡ true
@@ -157,7 +148,7 @@ sum_falls : (names : List (List ℕ)) (f h : List ℕ → ℕ) → ((n : List �
 sum_falls [] f h less = omega arith
 sum_falls (n ∷ ns) f h less = omega (arith, sum_by-cons f n ns, sum_by-cons h n ns, less n, sum_falls ns f h less)
 
-sum_drops : (names : List (List ℕ)) (f h : List ℕ → ℕ) → ((n : List ℕ) → f n ≤ h n) → (y : List ℕ) → Contains names y → f y + 1 ≤ h y → sum_by f names + 1 ≤ sum_by h names
+pub sum_drops : (names : List (List ℕ)) (f h : List ℕ → ℕ) → ((n : List ℕ) → f n ≤ h n) → (y : List ℕ) → Contains names y → f y + 1 ≤ h y → sum_by f names + 1 ≤ sum_by h names
 sum_drops [] f h less y c d = absurd (omega (arith, c.1))
 sum_drops (n ∷ ns) f h less y c d = elim (cons_cases n ns y c) as (λ _. sum_by f (n ∷ ns) + 1 ≤ sum_by h (n ∷ ns)) [
   | inl same ↦

@@ -1,10 +1,11 @@
 -- What happens to a unit is carried out, by what its parts have become.
-use Rattle.std.proofs.Common.{◌≡◌, ◌≢◌, ◌∙◌, ℕ, ◌+◌, ◌≤◌, Bool, true, false, List, ◌++◌, Contains, Option, Some, None, sym, ap, subst, inl, inr, arith}
+use Rattle.std.proofs.Common.{◌≡◌, ◌≢◌, ◌∙◌, ℕ, ◌+◌, ◌≤◌, Bool, true, false, List, ◌++◌, Contains, Option, Some, None, unwrap_or, sym, ap, subst, inl, inr, arith}
+use Rattle.std.proofs.lemmas.Option.{none-some}
 use Rattle.um_model.specs.Jobs.{AreTidyJobs, jobs_of_unit, jobs_left, start_left, unless_running, with_jobs}
 use Rattle.um_model.specs.Machine as machine
 use Rattle.um_model.specs.Machine.{State, IsHeld, TakesAlong, acting_in, around, alone, along, change_of, changed, fails_start}
-use Rattle.um_model.specs.Service.{Action, AreTidyUnits, with_unit}
-use Rattle.um_model.specs.Transitions.{AreActions, spawned}
+use Rattle.um_model.specs.Service.{Action, AreTidyUnits, dead_unit, state_of_unit, with_unit}
+use Rattle.um_model.specs.Transitions.{AreActions, HasNumber, spawned}
 use Rattle.um_model.specs.declared.jobs.JobState.{JobState}
 use Rattle.um_model.specs.declared.jobs.JobState.TheVariants.{Waiting, Running}
 use Rattle.um_model.specs.declared.jobs.UnitJobs.{UnitJobs}
@@ -38,8 +39,8 @@ changes_so t unit event s u v w before after new fails e f g is asked all tidy_j
     record {
       new = new;
       state = g
-      ∙ (ap (λ (x : State). record x { next = s.next + spawned c.order }) f
-      ∙ ap (λ (x : State). record x { pending = with_jobs x.pending unit jobs; next = s.next + spawned c.order }) e);
+          ∙ (ap (λ (x : State). record x { next = s.next + spawned c.order }) f
+          ∙ ap (λ (x : State). record x { pending = with_jobs x.pending unit jobs; next = s.next + spawned c.order }) e);
       fails_so = is;
       asked = asked;
       actions = all;
@@ -110,10 +111,14 @@ module _ (g : GraphView) (t : ℕ) (unit : List ℕ) (event : UnitEvent) (s v : 
   -- where no start fails
   pub carried_alone : fails ≡ false → CarriesTo t unit event s before v after × Serves g v
   carried_alone none = (
-    (changes.new, record {
-      state = subst (λ x. machine.Becomes s unit c x) (sym changes.state) (alone (sym changes.fails_so ∙ none));
-      asked = changes.asked;
-    }, changes.actions),
+    (
+      changes.new,
+      record {
+        state = subst (λ x. machine.Becomes s unit c x) (sym changes.state) (alone (sym changes.fails_so ∙ none));
+        asked = changes.asked;
+      },
+      changes.actions,
+    ),
     serves_now,
   )
 
@@ -125,9 +130,26 @@ module _ (g : GraphView) (t : ℕ) (unit : List ℕ) (event : UnitEvent) (s v : 
       let pending = subst (λ (x : State). AreTidyJobs x.pending) (sym changes.state) (tidy_jobs s.pending unit (jobs_left c.start c.stop_ends (jobs_of_unit s.pending unit)) changes.tidy_jobs) in
       let units = subst (λ (x : State). AreTidyUnits x.units) (sym changes.state) (tidy_units s.units unit c.unit changes.tidy_units) in
       let taken = takes serves_now known pending units in (
-        (changes.new, record {
-          state = along (sym changes.fails_so ∙ one) (subst (λ x. TakesAlong x unit w) changes.state taken.0);
-          asked = changes.asked;
-        }, changes.actions),
+        (
+          changes.new,
+          record {
+            state = along (sym changes.fails_so ∙ one) (subst (λ x. TakesAlong x unit w) changes.state taken.0);
+            asked = changes.asked;
+          },
+          changes.actions,
+        ),
         taken.1,
       )
+
+-- ---- units of which the state holds something are known
+
+pub deadline_known : (g : GraphView) (s : State) (unit : List ℕ) (deadline : ℕ) → Serves g s → (state_of_unit s.units unit).deadline ≡ Some deadline → Contains g.names unit
+deadline_known g s unit deadline serves stands =
+    serves.held unit (inl (λ e. none-some deadline (sym (ap (λ o. (unwrap_or o dead_unit).deadline) e) ∙ stands)))
+
+pub process_known : (g : GraphView) (s : State) (unit : List ℕ) (number : ℕ) → Serves g s → HasNumber (state_of_unit s.units unit) number → Contains g.names unit
+process_known g s unit number serves has = serves.held unit (inl (λ e. dead_has (subst (λ o. HasNumber (unwrap_or o dead_unit) number) e has)))
+  where
+    dead_has : HasNumber dead_unit number → ⊥
+    dead_has (inl e) = none-some number e
+    dead_has (inr e) = none-some number e

@@ -1,27 +1,24 @@
 -- The code goes from one unit to the next by the rows of the graph: what it has taken so far, and what it has taken in the end.
-use Rattle.std.proofs.Common.{◌≡◌, ◌≢◌, ◌⊎◌, ◌∙◌, ◌<◌, ◌==◌, ◌&&◌, ◌||◌, ℕ, suc, Bool, true, false, true≢false, cond, List, [], ◌∷◌, ◌++◌, length, Contains, Option, Some, None, slice_get, unwrap_or, refl, sym, ap, subst, inl, inr, arith}
+use Rattle.std.proofs.Common.{◌≡◌, ◌≢◌, ◌⊎◌, ◌∙◌, ◌==◌, ◌&&◌, ℕ, suc, Bool, true, false, cond, List, [], ◌∷◌, ◌++◌, length, Contains, Option, Some, None, slice_get, unwrap_or, refl, sym, ap, subst, inl, inr, arith}
 use Rattle.std.proofs.lemmas.Bool.{and_parts, or_cases}
 use Rattle.std.proofs.lemmas.Bool.Decides.{Decides-eqb}
 use Rattle.std.proofs.lemmas.List.Elements.{Contains-append_left, Contains-push, Contains-push_cases}
 use Rattle.std.proofs.lemmas.Option.{none-some, same_Some}
-use Rattle.std.specs.FinMap as map
-use Rattle.um_model.specs.Dependencies.{Depends, IsKnown, Precedes, extra}
+use Rattle.um_model.specs.Dependencies.{Depends, IsKnown, extra}
 use Rattle.um_model.specs.Jobs.{AreTidyJobs, jobs_of_unit, no_jobs, without_start}
 use Rattle.um_model.specs.Machine.{State, IsHeld, IsBefore, NeedsStart, IsTakenAlong, TakesAlong, is_waiting, with_result_dependency}
 use Rattle.um_model.specs.Reached.{first, next}
-use Rattle.um_model.specs.Service.{AreTidyUnits, ByUnit, state_of_unit}
-use Rattle.um_model.specs.Tree.{Tree}
+use Rattle.um_model.specs.Service.{AreTidyUnits, state_of_unit}
 use Rattle.um_model.specs.declared.dependencies.DependencyKind.{DependencyKind}
 use Rattle.um_model.specs.declared.dependencies.DependencyKind.TheVariants.{Requires, BindsTo}
 use Rattle.um_model.specs.declared.jobs.JobState.TheVariants.{Waiting}
-use Rattle.um_model.specs.declared.jobs.UnitJobs.{UnitJobs}
 use Rattle.um_model.proofs.OwnNameLaws.{depends_anyhow, precedes_anyhow}
 use Rattle.um_model.proofs.TimersLaws.{same_name}
 use Rattle.um_model.proofs.UnitLaws.{jobs_apart, jobs_here, state_apart, state_here, tidy_jobs, tidy_units}
 use Rattle.um_graph.specs.Graph.{GraphView, IsGraphOf, IsNumberOf, Stands, row_of}
 use Rattle.um_graph.specs.Kinds.{has, before_bit, inverse_bit_of}
 use Rattle.um_graph.specs.declared.row.Neighbour.{Neighbour}
-use Rattle.um_engine.specs.Along.{Taking, goes_before, is_later, needs_it, taken, taken_all, taken_by, taken_named, taken_next, without_start_of}
+use Rattle.um_engine.specs.Along.{Taking, goes_before, is_later, needs_it, taken, taken_all, taken_by, taken_next, without_start_of}
 use Rattle.um_engine.specs.Over.{Serves}
 use Rattle.um_engine.proofs.AlongLaws.{StartWaits, all_quiet, and_both, any_in, cons_cases, in_any, known_by, number_by, or_both, pending_apart, units_apart, waiting_is}
 

@@ -7,7 +7,7 @@ use Rattle.um_model.specs.Machine.{State}
 use Rattle.um_model.specs.Service.{active_state_of, state_of_unit}
 use Rattle.um_model.specs.declared.service.ActiveState.{ActiveState}
 use Rattle.um_model.specs.declared.service.ActiveState.TheVariants.{Deactivating}
-use Rattle.um_graph.specs.Graph.{GraphView, IsNumberOf}
+use Rattle.um_graph.specs.Graph.{GraphView, IsGraph, IsNumberOf}
 use Rattle.um_jobs.specs.Jobs.{JobsView, held_at, with_held_at, with_jobs_at}
 use Rattle.um_jobs.specs.Named.{jobs_at}
 
@@ -25,6 +25,7 @@ told_of s i unit v = with_held_at (with_jobs_at v i (jobs_of_unit s.pending unit
 
 -- of the units of the graph with a number below n what is told by number is what the state tells
 pub record TellsBelow (g : GraphView) (s : State) (n : ℕ) (v : JobsView) : Type 0 where
+  pub graph : IsGraph g
   pub long : length v.units ≡ length g.names
   pub wide : length v.held ≡ length g.names
   pub jobs : (i : ℕ) (unit : List ℕ) → i < n → IsNumberOf g i unit → jobs_at v.units i ≡ jobs_of_unit s.pending unit

@@ -1,4 +1,4 @@
-use Rattle.std.proofs.Common.{◌≡◌, arith}
+use Rattle.std.proofs.Common.{arith}
 use Rattle.um_graph.specs.Graph.{row_of}
 use Rattle.um_state.specs.View.{state_of}
 use Rattle.um_engine.specs.Along.{Taking}
