@@ -4,3 +4,5 @@ pub mod Engine
 pub mod Filled
 pub mod Known
 pub mod Over
+pub mod Planned
+pub mod Served

@@ -26,6 +26,7 @@ use um_install::{Installed, install};
 use um_model::{InstallVerb, UnitJobs};
 use um_name::UnitName;
 use um_state::{Command, Reply, State};
+use um_tree::Tree;
 use um_wire::Refusal;
 
 /// E21 with the unit, or want of memory for its text.
@@ -65,8 +66,8 @@ fn without_waiting(alloc: Global, served: &Served, asked: &UnitName) -> Result<S
     ensures changed { IfOk result (λ u. model.Changes (state_of served.now.state) (model.Cancel asked.now) (state_of u)) }
     ensures refused { RefusesBy (model.Refuses (state_of served.now.state) (model.Cancel asked.now)) result }
 {
-    let state = &served.state;
-    let leads = Asked::of(alloc, served.graph(), state.loaded(), asked)?;
+    let state = served.state();
+    let leads = Asked::of(alloc, served.known().graph(), state.loaded(), asked)?;
     check_cancel(alloc, state, asked, &leads)?;
     let jobs = cancelled(state.pending().get(&leads.unit));
     let mut changed = state.copy()?;
@@ -144,27 +145,40 @@ pub struct Outcome {
     pub reply: Reply,
 }
 
-/// The same units and jobs by the same loaded tree: what is known stays, and nothing is answered.
+/// The state as a command left its loaded tree, with nothing new that it holds: what is known stays, and nothing is answered.
 fn done(served: &Served, state: State) -> Result<Outcome, AllocError>
+    requires { HoldsNoMore (state_of served.now.state) (state_of state) }
+    ensures state { IfOk result (λ o. o.served.state ≡ state) }
+    ensures reply { IfOk result (λ o. reply_of o.reply ≡ model.Done) }
 {
-    let known = served.known.clone()?;
     Ok(Outcome {
-        served: Served { state, known },
+        served: Served::with(state, served.share_known()?),
         reply: Reply::Done,
     })
 }
 
-/// The state with its tree in hand loaded.
-fn reloaded(alloc: Global, state: &State) -> Result<Outcome, Refusal>
+/// The state with its tree in hand loaded. Refused are too many known units (E13), and pending jobs in a circle (E9).
+fn reloaded(alloc: Global, state: &State) -> Result<Served, Refusal>
+    ensures changed { IfOk result (λ u. model.Changes (state_of state.now) model.DaemonReload (state_of u.state)) }
+    ensures refused { RefusesBy (model.Refuses (state_of state.now) model.DaemonReload) result }
 {
     let known = known_of_loaded(alloc, state, state.tree())?;
     let known = Rc::new(alloc, known)?;
     let mut changed = state.copy()?;
     changed.reload()?;
-    Ok(Outcome {
-        served: Served { state: changed, known },
-        reply: Reply::Done,
-    })
+    Ok(Served::with(changed, known))
+}
+
+/// The state with that tree, loaded. Refused are too many known units (E13), and pending jobs in a circle (E9).
+fn with_tree(alloc: Global, state: &State, tree: Tree) -> Result<Served, Refusal>
+    ensures changed { IfOk result (λ u. state_of u.state ≡ record (state_of state.now) { tree = tree; loaded = tree }) }
+    ensures refused { RefusesBy (model.CausesOfLoad (state_of state.now) tree) result }
+{
+    let known = known_of_loaded(alloc, state, &tree)?;
+    let known = Rc::new(alloc, known)?;
+    let mut changed = state.copy()?;
+    changed.load_tree(tree)?;
+    Ok(Served::with(changed, known))
 }
 
 /// The state with the tree that comes of enabling the unit or its kin, loaded.
@@ -174,16 +188,31 @@ fn installed(
     verb: InstallVerb,
     unit: &UnitName,
 ) -> Result<Outcome, Refusal>
+    ensures changed { IfOk result (λ o. model.Changes (state_of state.now) (model.Install verb unit.now) (state_of o.served.state)) }
+    ensures reply { IfOk result (λ o. reply_of o.reply
+        ≡ model.Relinked (paths_beyond (state_of state.now).tree (state_of o.served.state).tree) (paths_beyond (state_of o.served.state).tree (state_of state.now).tree)) }
+    ensures refused { RefusesBy (model.Refuses (state_of state.now) (model.Install verb unit.now)) result }
 {
-    let Installed { tree, made, removed } = install(alloc, state.tree(), verb, unit)?;
-    let known = known_of_loaded(alloc, state, &tree)?;
-    let known = Rc::new(alloc, known)?;
-    let mut changed = state.copy()?;
-    changed.load_tree(tree)?;
+    let Installed {
+        tree,
+        made,
+        removed,
+    } = install(alloc, state.tree(), verb, unit)?;
     Ok(Outcome {
-        served: Served { state: changed, known },
+        served: with_tree(alloc, state, tree)?,
         reply: Reply::Relinked { made, removed },
     })
+}
+
+/// Nothing is answered.
+fn silent(served: Served) -> Outcome
+    ensures state { result.served.state ≡ served.state }
+    ensures reply { reply_of result.reply ≡ model.Done }
+{
+    Outcome {
+        served,
+        reply: Reply::Done,
+    }
 }
 
 /// The state as a command changes it; or the command is refused.
@@ -193,7 +222,7 @@ pub fn changed(alloc: Global, served: &Served, command: &Command) -> Result<Outc
         ≡ model.reply_after (model.Commanded (command_of command.now)) (state_of served.now.state).tree (state_of c.served.state).tree) }
     ensures refused { RefusesBy (model.Refuses (state_of served.now.state) (command_of command.now)) result }
 {
-    let state = &served.state;
+    let state = served.state();
     match command {
         Command::PutFile { path, text } => {
             let changed = with_file(alloc, state, path.as_str(), text.as_str())?;
@@ -207,13 +236,9 @@ pub fn changed(alloc: Global, served: &Served, command: &Command) -> Result<Outc
             let changed = without_path(alloc, state, path.as_str())?;
             Ok(done(served, changed)?)
         }
-        Command::DaemonReload => reloaded(alloc, state),
+        Command::DaemonReload => Ok(silent(reloaded(alloc, state)?)),
         Command::ForUnit { verb, unit, mode } => {
-            let served = planned(alloc, served, *verb, unit, *mode)?;
-            Ok(Outcome {
-                served,
-                reply: Reply::Done,
-            })
+            Ok(silent(planned(alloc, served, *verb, unit, *mode)?))
         }
         Command::Cancel { unit } => {
             let changed = without_waiting(alloc, served, unit)?;

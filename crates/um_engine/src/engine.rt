@@ -51,16 +51,15 @@ impl Next {
         ensures reply { reply_in result ≡ reply_of reply }
         ensures actions { actions_in result ≡ map action_of actions.items }
     {
-        let Some(Served { mut state, known }) = served else {
+        let Some(served) = served else {
             return Next {
                 served: None,
                 reply,
                 actions,
             };
         };
-        state.set_clock(moment);
         Next {
-            served: Some(Served { state, known }),
+            served: Some(served.at(moment)),
             reply,
             actions,
         }
@@ -101,7 +100,7 @@ impl Engine {
     pub fn clock(&self) -> Moment
         ensures { result ≡ (state_in self.now).clock }
     {
-        self.served.state.clock()
+        self.served.state().clock()
     }
 
     /// What comes of a command at the moment: the state after it, but for its clock.
@@ -114,7 +113,7 @@ impl Engine {
         ensures refused { IfErr result (λ e. ¬ (e ≡ NoMemory) → RefusesOrCrowds (size_in self.now) moment (state_in self.now) (command_of command.now) (refused_of e)) }
     {
         let Outcome { served, reply } = changed(self.alloc, &self.served, command)?;
-        let (served, actions) = settled(self.alloc, served, moment)?;
+        let (served, actions) = settle_all(self.alloc, served, moment)?;
         check_room(self.alloc, &served, self.size)?;
         Ok(Settled {
             served,
@@ -131,13 +130,14 @@ impl Engine {
         happening: &Happening,
     ) -> Result<(Option<Served>, Vec<Action>), AllocError>
     {
-        let Served { state, known } = &self.served;
-        let (after, actions) = met(self.alloc, known.graph(), state, moment, happening)?;
+        let served = &self.served;
+        let graph = served.known().graph();
+        let (after, actions) = met(self.alloc, graph, served.state(), moment, happening)?;
         let Some(state) = after else {
             return Ok((None, actions));
         };
-        let known = known.clone()?;
-        Ok((Some(Served { state, known }), actions))
+        let known = served.share_known()?;
+        Ok((Some(Served::with(state, known)), actions))
     }
 
     /// The step that the input is. It is refused as the machine refuses it, or for want of memory; nothing has changed then.
@@ -150,7 +150,7 @@ impl Engine {
         ensures refused { IfErr result (λ e. ¬ (e ≡ NoMemory)
             → Step (size_in self.now) (state_in self.now) (input_of input.now) (model.Refusal (refused_of e)) [] (state_in self.now)) }
     {
-        let moment = self.served.state.clock().or_later(input.moment());
+        let moment = self.served.state().clock().or_later(input.moment());
         match input.event() {
             Event::Commanded(command) => {
                 let settled = self.obeyed(moment, command)?;
@@ -209,19 +209,19 @@ impl Engine {
     pub fn query(&self, query: &Query) -> Result<Reply, AllocError>
         ensures { IfOk result (λ reply. model.IsReplyTo (state_in self.now) (query_of query.now) (reply_of reply)) }
     {
-        reply_to(self.alloc, &self.served.state, query)
+        reply_to(self.alloc, self.served.state(), query)
     }
 }
 
 /// The state in which jobs begin at the moment until none is ready, and what is asked of processes.
-fn settled(
+fn settle_all(
     alloc: Global,
     served: Served,
     moment: Moment,
 ) -> Result<(Served, Vec<Action>), AllocError>
 {
-    let Served { mut state, known } = served;
+    let (mut state, known) = served.into_parts();
     let mut actions = Vec::new(alloc);
     settle(alloc, known.graph(), &mut state, &mut actions, moment)?;
-    Ok((Served { state, known }, actions))
+    Ok((Served::with(state, known), actions))
 }

@@ -1,17 +1,14 @@
 //! What is known of the units of a tree.
 
-ghost use Rattle.std.specs.Prelude.{◌≡◌, ◌×◌, ◌↔◌, IfOk, IfErr, IsTrue, Contains, Option, Some, option_map};
-ghost use Rattle.um_engine.specs.Known.{IsFull, IsHeldWith, KnowsFor, KnownView, Tells};
-ghost use Rattle.um_graph.specs.Graph.{IsGraph};
+ghost use Rattle.std.specs.Prelude.{◌≡◌, ◌↔◌, ℕ, List, Contains, IfOk, IfErr, IsTrue, Option, Some, option_copied};
+ghost use Rattle.um_engine.specs.Known.{IsFull, IsGraphFor, IsHeldWith, KnowsFor, KnownView};
 ghost use Rattle.um_model.specs.Machine.{IsHeld};
-ghost use Rattle.um_model.specs.Tree.{has_run};
 ghost use Rattle.um_state.specs.View.{state_of};
 ghost use Rattle.um_wire.specs.declared.refusal.Refusal.TheVariants as refusals;
 ghost use Rattle.um_model.specs.declared.refusals.Limit.TheVariants as limits;
 
-use std::alloc::Global;
+use std::alloc::{AllocError, Global};
 use std::marker::Model;
-use std::rc::Rc;
 use um_graph::Graph;
 use um_name::UnitName;
 use um_state::State;
@@ -31,6 +28,31 @@ impl Model for Known {
     ghost view = { λ k. record { graph = k.graph; extra = k.extra.items } };
 }
 
+/// The units that the state holds, and the one that is named.
+fn held_with(
+    alloc: Global,
+    state: &State,
+    named: Option<&UnitName>,
+) -> Result<Vec<UnitName>, AllocError>
+    ensures { IfOk result (λ names. (unit : List ℕ) → Contains names.items unit ↔ IsHeldWith (state_of state.now) (option_copied named) unit) }
+{
+    let mut names = state.held(alloc)?;
+    if let Some(named) = named {
+        names.push(named.copy()?)?;
+    }
+    Ok(names)
+}
+
+/// Whether the state holds the unit, or it is the one that is named.
+fn holds_with(state: &State, named: Option<&UnitName>, unit: &UnitName) -> bool
+    ensures { IsTrue result → IsHeldWith (state_of state.now) (option_copied named) unit.now }
+{
+    match named {
+        Some(named) => state.holds(unit) || unit == named,
+        None => state.holds(unit),
+    }
+}
+
 impl Known {
     /// What is known of the units of the tree, with those that the state holds and one that is named. Refused are too many (E13
     /// `units`).
@@ -40,15 +62,13 @@ impl Known {
         state: &State,
         named: Option<&UnitName>,
     ) -> Result<Known, Refusal>
-        ensures tells { IfOk result (λ k. Tells tree.now (Contains k.extra) k.graph) }
+        ensures made { IfOk result (λ k. IsGraphFor tree.now (Contains k.extra) k.graph) }
         ensures extra { IfOk result (λ k. (unit : List ℕ) → Contains k.extra unit ↔ IsHeldWith (state_of state.now) (option_copied named) unit) }
+        ensures few { IfOk result (λ k. ¬ IsFull tree.now (IsHeldWith (state_of state.now) (option_copied named))) }
         ensures refused { IfErr result (λ e. ¬ (e ≡ refusals.NoMemory) → (e ≡ refusals.TooLarge limits.Units)
             × IsFull tree.now (IsHeldWith (state_of state.now) (option_copied named))) }
     {
-        let mut extra = state.held(alloc)?;
-        if let Some(named) = named {
-            extra.push(named.copy()?)?;
-        }
+        let extra = held_with(alloc, state, named)?;
         let graph = Graph::of(alloc, tree, extra.as_slice())?;
         Ok(Known { graph, extra })
     }
@@ -61,28 +81,34 @@ impl Known {
     }
 
     /// Whether each unit for which the graph was made is held by the state, or is the one that is named.
-    fn is_made_for(&self, state: &State, named: Option<&UnitName>) -> bool {
+    fn is_made_for(&self, state: &State, named: Option<&UnitName>) -> bool
+        ensures { IsTrue result → (unit : List ℕ) → Contains self.now.extra unit → IsHeldWith (state_of state.now) (option_copied named) unit }
+    {
         for unit in &self.extra {
-            if !(state.holds(unit) || named == Some(unit)) {
+            if !holds_with(state, named, unit) {
                 return false;
             }
         }
         true
     }
 
-    /// Whether the unit is known.
-    fn knows(&self, unit: Option<&UnitName>) -> bool {
-        match unit {
-            Some(unit) => self.graph.number(unit).is_some(),
+    /// Whether the unit that is named is known.
+    fn knows(&self, named: Option<&UnitName>) -> bool
+        ensures { IsTrue result → (unit : List ℕ) → option_copied named ≡ Some unit → Contains self.now.graph.names unit }
+    {
+        match named {
+            Some(named) => self.graph.number(named).is_some(),
             None => true,
         }
     }
 
-    /// Whether what is known for a state is exactly what counts of its loaded tree, with the units that it holds and the one that
+    /// Whether what is known for a state is exactly what counts by its loaded tree, with the units that it holds and the one that
     /// is named.
     ///
-    /// A tree with entries under `run/` is asked anew: without those it may lack units that the state holds.
+    /// Where entries stand under `run/` it never is: without those the tree may lack units that the state holds.
     pub fn fits(&self, state: &State, named: Option<&UnitName>) -> bool
+        ensures { IsTrue result → KnowsFor self.now (state_of state.now)
+            → IsGraphFor (state_of state.now).loaded (IsHeldWith (state_of state.now) (option_copied named)) self.now.graph }
     {
         self.knows(named) && self.is_made_for(state, named) && !state.loaded().has_run()
     }

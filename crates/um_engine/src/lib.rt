@@ -14,6 +14,7 @@ mod known;
 mod laws;
 mod loading;
 mod missing;
+mod listing;
 mod names;
 mod planning;
 mod room;

@@ -3,6 +3,7 @@
 ghost use Rattle.std.specs.Prelude.{◌≡◌};
 ghost use Rattle.um_model.specs.Machine as model;
 ghost use Rattle.um_model.specs.Refusals as told;
+ghost use Rattle.um_model.specs.Units.{load};
 ghost use Rattle.um_state.specs.View.{state_of};
 ghost use Rattle.um_wire.specs.Gives.{RefusesBy};
 ghost use Rattle.um_wire.specs.Refusal.{refused_of};

@@ -1,15 +1,17 @@
 //! A state with what is known of its units.
 
-ghost use Rattle.std.specs.Prelude.{◌≡◌, IfOk, IfErr};
-ghost use Rattle.um_engine.specs.Known.{IsFull, KnowsFor, Tells};
+ghost use Rattle.std.specs.Prelude.{◌≡◌, IfOk, Contains, Some};
+ghost use Rattle.um_engine.specs.Known.{IsGraphFor, KnowsFor};
+ghost use Rattle.um_engine.specs.Served.{ServedView};
 ghost use Rattle.um_model.specs.Machine.{IsHeld, IsHeldOr, IsCrowded};
 ghost use Rattle.um_state.specs.View.{state_of};
 ghost use Rattle.um_wire.specs.Gives.{RefusesBy};
 
 use crate::known::Known;
 use std::alloc::{AllocError, Global};
+use std::marker::Model;
 use std::rc::Rc;
-use um_graph::Graph;
+use um_model::Moment;
 use um_name::UnitName;
 use um_state::State;
 use um_wire::Refusal;
@@ -18,15 +20,22 @@ use um_wire::Refusal;
 /// share what is known.
 #[derive(Drop)]
 pub struct Served {
-    pub state: State,
-    pub known: Rc<Known>,
-    ghost knows: { KnowsFor known.value (state_of state) },
+    state: State,
+    known: Rc<Known>,
+}
+
+impl Model for Served {
+    ghost Value = { ServedView };
+
+    ghost view = { λ s. record { state = s.state; known = s.known.value } };
+
+    ghost invariant = { λ s. KnowsFor s.known.value (state_of s.state) };
 }
 
 impl Served {
     /// The state with what is known of just its units. Refused are too many known units (E13).
     pub fn of(alloc: Global, state: State) -> Result<Served, Refusal>
-        ensures state { IfOk result (λ s. state_of s.state ≡ state_of state) }
+        ensures state { IfOk result (λ s. s.state ≡ state) }
         ensures refused { RefusesBy (IsCrowded (state_of state).loaded (IsHeld (state_of state))) result }
     {
         let known = Known::of(alloc, state.loaded(), &state, None)?;
@@ -34,17 +43,63 @@ impl Served {
         Ok(Served { state, known })
     }
 
-    /// The graph of the units.
-    pub fn graph(&self) -> &Graph
-        ensures { result.now ≡ self.now.known.value.graph }
+    /// A state with what is known for it.
+    pub fn with(state: State, known: Rc<Known>) -> Served
+        requires { KnowsFor known.value (state_of state) }
+        ensures state { result.state ≡ state }
+        ensures known { result.known ≡ known.value }
     {
-        self.known.graph()
+        Served { state, known }
     }
 
-    /// What is known of the units, and of the one that a command names: the same again where that fits. Refused are too many known
+    /// The state by itself, and what is known.
+    pub fn into_parts(self) -> (State, Rc<Known>)
+        ensures state { result.0 ≡ self.state }
+        ensures known { result.1.value ≡ self.known }
+        ensures knows { KnowsFor self.known (state_of self.state) }
+    {
+        let Served { state, known } = self;
+        (state, known)
+    }
+
+    /// The same at that moment.
+    pub fn at(self, moment: Moment) -> Served
+        ensures state { state_of result.state ≡ record (state_of self.state) { clock = moment } }
+    {
+        let Served { mut state, known } = self;
+        state.set_clock(moment);
+        Served { state, known }
+    }
+
+    /// The state.
+    pub fn state(&self) -> &State
+        ensures state { result.now ≡ self.now.state }
+        ensures knows { KnowsFor self.now.known (state_of self.now.state) }
+    {
+        &self.state
+    }
+
+    /// What is known of the units.
+    pub fn known(&self) -> &Known
+        ensures known { result.now ≡ self.now.known }
+        ensures knows { KnowsFor self.now.known (state_of self.now.state) }
+    {
+        &self.known
+    }
+
+    /// What is known, again.
+    pub fn share_known(&self) -> Result<Rc<Known>, AllocError>
+        ensures known { IfOk result (λ k. k.value ≡ self.now.known) }
+        ensures knows { KnowsFor self.now.known (state_of self.now.state) }
+    {
+        self.known.clone()
+    }
+
+    /// What is known of the units and of the one that a command names: the same again where that fits. Refused are too many known
     /// units (E13).
     pub fn known_with(&self, alloc: Global, named: &UnitName) -> Result<Rc<Known>, Refusal>
-        ensures ok { IfOk result (λ k. Tells (state_of self.now.state).loaded (IsHeldOr (state_of self.now.state) named.now) k.value.graph) }
+        ensures made { IfOk result (λ k. IsGraphFor (state_of self.now.state).loaded (Contains k.value.extra) k.value.graph) }
+        ensures known { IfOk result (λ k. IsGraphFor (state_of self.now.state).loaded (IsHeldOr (state_of self.now.state) named.now) k.value.graph) }
         ensures refused { RefusesBy (IsCrowded (state_of self.now.state).loaded (IsHeldOr (state_of self.now.state) named.now)) result }
     {
         if self.known.fits(&self.state, Some(named)) {

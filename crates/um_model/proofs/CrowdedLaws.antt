@@ -1,5 +1,5 @@
--- A tree counts for one number of units; and it is decided whether too many units are known, and whether a state is too heavy.
-use Rattle.std.proofs.Common.{ℕ, ◌<◌, ◌≤◌, ◌≡◌, ◌≢◌, ◌⊎◌, ◌∙◌, List, length, AllPairs, refl, sym, ap, subst, inl, inr, arith}
+-- A tree counts for some number of units; and it is decided whether too many units are known, and whether a state is too heavy.
+use Rattle.std.proofs.Common.{ℕ, ◌<◌, ◌≢◌, ◌⊎◌, List, length, AllPairs, refl, subst, inl, inr, arith}
 use Rattle.std.specs.Prelude.{max}
 use Rattle.std.proofs.lemmas.Bool.{cases_lt}
 use Rattle.um_model.specs.Dependencies.{IsKnown, KnowsTooMany, KnowsSoMany, CountsFor}
@@ -11,30 +11,10 @@ use Rattle.um_model.specs.declared.refusals.Limit.TheVariants.{Units}
 use Rattle.um_model.proofs.AmongLaws.{among_contained, contains_among, either_decided, IsListOf}
 use Rattle.um_model.proofs.CausesLaws.{OneOrNone}
 use Rattle.um_model.proofs.KnownLaws.{known_once, too_many_or_not}
-use Rattle.um_model.proofs.LeastLaws.{IsDecided, Among}
-use Rattle.um_model.proofs.OnceLaws.{no_more}
-use Rattle.um_model.proofs.SceneLaws.{held_list}
+use Rattle.um_model.proofs.LeastLaws.{IsDecided}
+use Rattle.um_model.proofs.SceneLaws.{held_list, one_count}
 
 -- ---- the limit of known units
-
-module _ (tree : Tree) (Extra : List ℕ → Type 0) where
-  -- a count is no more than another
-  no_more_known : (m n : ℕ) → KnowsSoMany tree Extra m → KnowsSoMany tree Extra n → m ≤ n
-  no_more_known m n h k = omega (arith, h.long, k.long, no_more h.names k.names h.apart within)
-    where
-      within : (unit : List ℕ) → Among h.names unit → Among k.names unit
-      within unit among = among_contained k.names unit ((k.whole unit).1 ((h.whole unit).0 (contains_among h.names unit among)))
-
-  -- just one number of units are known
-  pub one_many : (m n : ℕ) → KnowsSoMany tree Extra m → KnowsSoMany tree Extra n → m ≡ n
-  one_many m n h k = omega (arith, no_more_known m n h k, no_more_known n m k h)
-
--- a tree counts for one number of units
-pub one_count : (tree : Tree) (Extra : List ℕ → Type 0) (m n : ℕ) → CountsFor tree Extra m → CountsFor tree Extra n → m ≡ n
-one_count tree Extra m n h k =
-    h.greater
-    ∙ (ap (λ count. max count h.lasting) (one_many tree Extra h.held k.held h.by_tree k.by_tree)
-    ∙ (ap (max k.held) (one_many (without_run tree) Extra h.lasting k.lasting h.by_rest k.by_rest) ∙ sym k.greater))
 
 module _ (Extra : List ℕ → Type 0) (extras : List (List ℕ)) (listed : IsListOf Extra extras) where
   -- where a list has what is named besides the tree, too many units are known or not

@@ -188,16 +188,16 @@ module _ (s : State) (named : List ℕ) where
     pending = λ x. refl;
   }
 
-  module _ (demand : Demand) (after : ByUnit UnitJobs) (plan : IsPlan (scene_at s named) (demand, named) after) where
-    demanded_known : (d : Demand) (unit : List ℕ) → Demands (scene_at s named) (demand, named) (d, unit) → Known unit
-    demanded_known d unit h =
-        (demands_same Known (demand, named) (first (extra (inr refl))) (scene_at s named) (scene_at s named) same_scene (d, unit) h).0
+  demanded_known : (demand d : Demand) (unit : List ℕ) → Demands (scene_at s named) (demand, named) (d, unit) → Known unit
+  demanded_known demand d unit h =
+      (demands_same Known (demand, named) (first (extra (inr refl))) (scene_at s named) (scene_at s named) same_scene (d, unit) h).0
 
+  module _ (demand : Demand) (after : ByUnit UnitJobs) (plan : IsPlan (scene_at s named) (demand, named) after) where
     -- a unit of which a job is pending after the plan had one, or something is demanded of it
     counted_known : (j : Job) → IsPending after j → (counted : Option Demand) → Counts (scene_at s named) (demand, named) j.unit counted → Known j.unit
-    counted_known j pends _ (restarted r) = demanded_known Restart j.unit r
-    counted_known j pends _ (started nr d) = demanded_known Start j.unit d
-    counted_known j pends _ (stopped nr ns d) = demanded_known Stop j.unit d
+    counted_known j pends _ (restarted r) = demanded_known demand Restart j.unit r
+    counted_known j pends _ (started nr d) = demanded_known demand Start j.unit d
+    counted_known j pends _ (stopped nr ns d) = demanded_known demand Stop j.unit d
     counted_known j pends _ (left nr ns np) =
         let pended : IsPending s.pending j = λ none. pends (ap (job_of j.kind) (plan.jobs j.unit None (left nr ns np)) ∙ none) in
         first (extra (inl (inr (λ none. true≢false (sym (held s.pending j pended) ∙ ap is_some none)))))

@@ -25,15 +25,18 @@ becomes_keeps s unit c v (alone holds) = record { tree = refl; loaded = refl; bo
 becomes_keeps s unit c v (along fails h) =
     record { tree = ap (λ x. x.tree) h.rest; loaded = ap (λ x. x.loaded) h.rest; boot = ap (λ x. x.boot) h.rest; clock = ap (λ x. x.clock) h.rest }
 
+-- so does what happens to a unit
 pub carries_keeps : (t : ℕ) (unit : List ℕ) (event : UnitEvent) (s : State) (actions : List Action) (v : State) → Carries t unit event s actions v → Keeps s v
 carries_keeps t unit event s actions v h = becomes_keeps s unit (change_of t s unit event) v h.state
 
+-- and all jobs that begin
 pub settles_keeps : (t : ℕ) (s : State) (actions : List Action) (v : State) → Settles t s actions v → Keeps s v
 settles_keeps t s actions v (rests none) = itself s
 settles_keeps t s actions v (begins_next {u = u} {first = first} {more = more} j next happens later) =
     let k = carries_keeps t j.unit _ (begun s j) first u happens in
     then_keeps s u v (record { tree = k.tree; loaded = k.loaded; boot = k.boot; clock = k.clock }) (settles_keeps t u more v later)
 
+-- and all deadlines that pass
 pub fires_keeps : (t : ℕ) (timers : Timers) (s : State) (actions : List Action) (v : State) → Fires t timers s actions v → Keeps s v
 fires_keeps t timers s actions v (none_due none) = itself s
 fires_keeps t timers s actions w (fires {u = u} {v = v} {first = first} {next = next} {more = more} deadline unit due low stands happens settles later) =

@@ -59,4 +59,6 @@ pub mod KnownLaws
 pub mod AlongLaws
 pub mod AlongTotal
 pub mod SceneLaws
+pub mod WeightLaws
+pub mod GivenMaps
 pub mod CrowdedLaws

@@ -56,7 +56,7 @@ pub record IsSameOutcome (r q : Reply) (a b : List Action) (s t : State) : Type 
 abbrev AreOneBut : (Refused → Type 0) → Type 0
 AreOneBut Cause = (r q : Refused) → Cause r → Cause q → (r ≡ q) ⊎ (NamesACycle r × NamesACycle q)
 
--- of causes of which that holds it holds for the first that holds
+-- so they are for the first of two causes, where they are for each
 first_but : (A B : Refused → Type 0) → AreOneBut A → AreOneBut B → AreOneBut (FirstCause A B)
 first_but A B one other r q (at_first h) (at_first k) = one r q h k
 first_but A B one other r q (at_first h) (at_second none k) = absurd (none r h)
@@ -161,7 +161,7 @@ one_crowded tree Extra r q h k = inl (h.refusal ∙ sym k.refusal)
 one_cycle : (Before : List ℕ → List ℕ → Type 0) (pending : ByUnit UnitJobs) → AreOneBut (NamesCycle Before pending)
 one_cycle Before pending r q h k = inr (names_a_cycle Before pending r h, names_a_cycle Before pending q k)
 
--- a command makes one plan
+-- a command for a unit makes one plan, and that is refused in one way
 module _ (s : State) (verb : UnitVerb) (asked : List ℕ) where
   one_planned_map : (d e : Demand) (u v : ByUnit UnitJobs) → demand_of verb (active_asked s asked) ≡ Some d → demand_of verb (active_asked s asked) ≡ Some e
       → IsPlan (scene_at s (unit_asked s asked)) (d, unit_asked s asked) u → IsPlan (scene_at s (unit_asked s asked)) (e, unit_asked s asked) v → (d ≡ e) × (u ≡ v)
@@ -243,6 +243,7 @@ one_reply_to s query r q lists_jobs lists_jobs = refl
 
 -- ---- what happens has one outcome
 
+-- it has one end, with one list of actions
 pub one_followed : (t : ℕ) (s : State) (happening : Happening) (a b : List Action) (v w : State)
     → Follows t s happening a v → Follows t s happening b w → (a ≡ b) × (v ≡ w)
 one_followed t s happening a b v w (ends {number = number} {end = end} {first = first} {more = more} {u = u} unit is h k) (ends {first = other} {more = others} {u = x} unit' is' h' k') =

@@ -91,15 +91,17 @@ held_or_list s named =
 pub finite_scene : (s : State) (named : List ℕ) → (units : List (List ℕ)) × IsFinite (scene_at s named) units
 finite_scene s named =
     let extras = held_or_list s named in
-    let known = known_list s.loaded (IsHeldOr s named) extras.0 extras.1 in
-    (known.0, record {
-      within = λ kind x y d. (known.1.all x (next d.known (owner d.gives)), known.1.all y (next d.known (other d.gives)));
-      depends = depends_or_not s.loaded (IsHeldOr s named) extras.0 extras.1;
-      before = precedes_or_not s.loaded (IsHeldOr s named) extras.0 extras.1;
-      loadable = λ x. there_or_not (loadable_in s.loaded x);
-      cannot = λ x. can_start x (load s.loaded x);
-      one_cannot = λ x. one_hindrance x (load s.loaded x);
-    })
+    let known = known_list s.loaded (IsHeldOr s named) extras.0 extras.1 in (
+      known.0,
+      record {
+        within = λ kind x y d. (known.1.all x (next d.known (owner d.gives)), known.1.all y (next d.known (other d.gives)));
+        depends = depends_or_not s.loaded (IsHeldOr s named) extras.0 extras.1;
+        before = precedes_or_not s.loaded (IsHeldOr s named) extras.0 extras.1;
+        loadable = λ x. there_or_not (loadable_in s.loaded x);
+        cannot = λ x. can_start x (load s.loaded x);
+        one_cannot = λ x. one_hindrance x (load s.loaded x);
+      },
+    )
 
 -- ---- known units are listed and counted in one way
 
@@ -120,12 +122,7 @@ one_sorted [] [] s t there back = refl
 one_sorted [] (y ∷ ys) s t there back = absurd (back y (inl refl))
 one_sorted (x ∷ xs) [] s t there back = absurd (there x (inl refl))
 one_sorted (x ∷ xs) (y ∷ ys) s t there back =
-    let firsts = same_first (there x (inl refl)) (back y (inl refl)) in
-    let others =
-        one_sorted xs ys (others_sorted x xs s) (others_sorted y ys t)
-        (λ z later. behind ys z y (subst (λ a. IsNamedBefore a z) firsts (first_before x xs s z later)) (there z (inr later)))
-        (λ z later. behind xs z x (subst (λ a. IsNamedBefore a z) (sym firsts) (first_before y ys t z later)) (back z (inr later)))
-        in
+    let others = one_sorted xs ys (others_sorted x xs s) (others_sorted y ys t) there_later back_later in
     λ i. firsts i ∷ others i
   where
     same_first : Among (y ∷ ys) x → Among (x ∷ xs) y → x ≡ y
@@ -133,9 +130,18 @@ one_sorted (x ∷ xs) (y ∷ ys) s t there back =
     same_first (inr later) (inl is) = sym is
     same_first (inr later) (inr too) = absurd (names_one_way x y (first_before x xs s y too) (first_before y ys t x later))
 
+    firsts : x ≡ y
+    firsts = same_first (there x (inl refl)) (back y (inl refl))
+
     behind : (names : List (List ℕ)) (z a : List ℕ) → IsNamedBefore a z → Among (a ∷ names) z → Among names z
     behind names z a before (inl is) = absurd (names_one_way a a (subst (IsNamedBefore a) is before) (subst (IsNamedBefore a) is before))
     behind names z a before (inr later) = later
+
+    there_later : (z : List ℕ) → Among xs z → Among ys z
+    there_later z later = behind ys z y (subst (λ a. IsNamedBefore a z) firsts (first_before x xs s z later)) (there z (inr later))
+
+    back_later : (z : List ℕ) → Among ys z → Among xs z
+    back_later z later = behind xs z x (subst (λ a. IsNamedBefore a z) (sym firsts) (first_before y ys t z later)) (back z (inr later))
 
 -- the known units are one list
 pub one_list_of_known : (s : State) (xs ys : List (List ℕ)) → AreKnownUnits s xs → AreKnownUnits s ys → xs ≡ ys

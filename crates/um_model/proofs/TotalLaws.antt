@@ -88,6 +88,7 @@ module _ (s : State) (verb : UnitVerb) (asked : List ℕ) (mode : JobMode) where
             → OneOrNone (HasNoPlan s verb asked mode)
         by_cause (after, plan) (units, finite) = by_refusal after plan (cause_or_none (scene_at s named) units finite (demand, named) mode after)
 
+  -- one cause refuses what is demanded, or none does
   plan_or_none : OneOrNone (HasNoPlan s verb asked mode)
   plan_or_none = by_demand (demand_of verb (active_asked s asked)) refl
     where
@@ -95,7 +96,7 @@ module _ (s : State) (verb : UnitVerb) (asked : List ℕ) (mode : JobMode) where
       by_demand None e = inr (nothing_planned e)
       by_demand (Some demand) e = plan_refused_or_not demand e
 
-  -- the state after it
+  -- where nothing refuses the command, a state follows
   a_planned : (u : State) × Changes s (ForUnit verb asked mode) u
   a_planned = by_demand (demand_of verb (active_asked s asked)) refl
     where
@@ -105,6 +106,7 @@ module _ (s : State) (verb : UnitVerb) (asked : List ℕ) (mode : JobMode) where
           let made = a_plan_made demand e in
           (record s { pending = made.0 }, plans e made.1)
 
+  -- and so of all causes
   planned_or_not : OneOrNone (CausesOf s verb asked mode)
   planned_or_not =
       let held = held_or_list s (unit_asked s asked) in
@@ -140,7 +142,7 @@ removal_becomes s path (Ok tree) e = inr (free, (_, removes e))
     free : (r : Refused) → ¬ (Refuses s (Remove path) r)
     free r (removes_none f) = isnt_refused (remove_at s.tree path) tree r e f
 
--- a tree is loaded or isn't
+-- one cause keeps a tree from being loaded, or none does
 load_or_none : (s : State) (tree : Tree) → OneOrNone (CausesOfLoad s tree)
 load_or_none s tree =
     let held = held_list s in

@@ -147,6 +147,7 @@ module _ (t : ℕ) (s u : State) (new : List Action) (j : Job) (next : BeginsNex
       let less = running_waits j.kind (jobs_of_unit s.pending j.unit) next.has.waits in
       omega arith
 
+  -- of no unit more jobs wait
   pub begun_no_more : NoMoreWait u.pending s.pending
   begun_no_more other = elim (same_name other j.unit) as (λ _. waits_in (jobs_of_unit u.pending other) ≤ waits_in (jobs_of_unit s.pending other)) [
     | inl same ↦
@@ -158,6 +159,7 @@ module _ (t : ℕ) (s u : State) (new : List Action) (j : Job) (next : BeginsNex
         omega arith
   ]
 
+  -- and of all that waited at first fewer do
   pub begun_fewer : (first : ByUnit UnitJobs) → NoMoreWait s.pending first → waiting (map.keys first) u.pending < waiting (map.keys first) s.pending
   begun_fewer first none =
       let less = fewer_here in

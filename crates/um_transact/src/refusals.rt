@@ -76,7 +76,7 @@ pub fn job_conflict(alloc: Global, unit: &UnitName) -> Refusal
 fn is_served_kind(kind: UnitKind) -> bool
     ensures { result ≡ machine.is_served_kind kind }
 {
-    matches!(kind, UnitKind::Simple)
+    matches!(kind, UnitKind::Simple | UnitKind::Target)
 }
 
 /// Refuses to start a unit that was found and isn't a simple service, or is a template (E6).
