@@ -112,10 +112,7 @@ fn commands_copied(alloc: Global, commands: &[Command]) -> Result<Vec<Command>, 
     Ok(copies)
 }
 
-fn environment_copied(
-    alloc: Global,
-    environment: &[Variable],
-) -> Result<Vec<Variable>, AllocError>
+fn environment_copied(alloc: Global, environment: &[Variable]) -> Result<Vec<Variable>, AllocError>
     ensures { IfOk result (λ copies. variables_of copies.items ≡ variables_of environment.now) }
 {
     let mut copies = Vec::new(alloc);
