@@ -133,6 +133,7 @@ pub fn reply_to(alloc: Global, state: &State, query: &Query) -> Result<Reply, Al
         Query::IsActive { unit } => is_active(alloc, state, unit),
         Query::Cat { unit } => cat(alloc, state.tree(), unit),
         Query::IsEnabled { unit } => enabled_as(alloc, state.tree(), unit),
+        Query::ListUnits => list_jobs(state),
         Query::ListJobs => list_jobs(state),
     }
 }

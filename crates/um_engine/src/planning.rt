@@ -1,6 +1,6 @@
 //! What the plan of a command for a unit makes of the state (systemctl(1), "start", "stop", "restart", "try-restart").
 
-ghost use Rattle.std.specs.Prelude.{◌≡◌, ◌≢◌, ◌<◌, ◌×◌, ℕ, List, IfOk, IfErr, OnOk, drop, length};
+ghost use Rattle.std.specs.Prelude.{◌≡◌, ◌≢◌, ◌<◌, ℕ, List, IfOk, IfErr, OnOk, drop, length};
 ghost use Rattle.um_engine.specs.Known.{IsGraphFor, KnowsFor};
 ghost use Rattle.um_engine.specs.Planned.{AreActive, ArePending, HasPlan};
 ghost use Rattle.um_graph.specs.Graph.{IsNumberOf};
