@@ -1,4 +1,7 @@
+pub mod Along
+pub mod Carrying
 pub mod Engine
+pub mod Filled
 pub mod Known
 pub mod Listed
 pub mod Over

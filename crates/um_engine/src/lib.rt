@@ -3,6 +3,7 @@
 #![tactic(auto)]
 
 mod acting;
+mod along;
 mod answer;
 mod carrying;
 mod commands;
