@@ -3,7 +3,6 @@ pub mod Carrying
 pub mod Engine
 pub mod Filled
 pub mod Known
-pub mod Listed
 pub mod Over
 pub mod Planned
 pub mod Served

@@ -180,8 +180,8 @@ pub fn planned(
     asked: &UnitName,
     mode: JobMode,
 ) -> Result<Served, Refusal>
-    ensures changed { IfOk result (λ u. model.Changes (state_of served.now.state) (model.ForUnit verb asked.now mode) (state_of u.state)) }
-    ensures refused { RefusesBy (model.Refuses (state_of served.now.state) (model.ForUnit verb asked.now mode)) result }
+    ensures changed { IfOk result (λ u. model.Changes served.now.state (model.ForUnit verb asked.now mode) u.state) }
+    ensures refused { RefusesBy (model.Refuses served.now.state (model.ForUnit verb asked.now mode)) result }
 {
     let state = served.state();
     let Asked { unit, is_found } = Asked::of(alloc, served.known().graph(), state.loaded(), asked)?;
