@@ -1,6 +1,6 @@
 //! What the plan of a command for a unit makes of the state (systemctl(1), "start", "stop", "restart", "try-restart").
 
-ghost use Rattle.std.specs.Prelude.{◌≡◌, ◌≢◌, ◌<◌, ◌×◌, ℕ, List, IfOk, IfErr, OnOk, drop, length};
+ghost use Rattle.std.specs.Prelude.{◌≡◌, ◌≢◌, ◌<◌, ℕ, List, IfOk, IfErr, OnOk, drop, length};
 ghost use Rattle.um_engine.specs.Known.{IsGraphFor, KnowsFor};
 ghost use Rattle.um_engine.specs.Planned.{AreActive, ArePending, HasPlan};
 ghost use Rattle.um_graph.specs.Graph.{IsNumberOf};
@@ -180,8 +180,8 @@ pub fn planned(
     asked: &UnitName,
     mode: JobMode,
 ) -> Result<Served, Refusal>
-    ensures changed { IfOk result (λ u. model.Changes (state_of served.now.state) (model.ForUnit verb asked.now mode) (state_of u.state)) }
-    ensures refused { RefusesBy (model.Refuses (state_of served.now.state) (model.ForUnit verb asked.now mode)) result }
+    ensures changed { IfOk result (λ u. model.Changes served.now.state (model.ForUnit verb asked.now mode) u.state) }
+    ensures refused { RefusesBy (model.Refuses served.now.state (model.ForUnit verb asked.now mode)) result }
 {
     let state = served.state();
     let Asked { unit, is_found } = Asked::of(alloc, served.known().graph(), state.loaded(), asked)?;
