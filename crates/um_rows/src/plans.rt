@@ -32,16 +32,17 @@ const SPAWNED_SECOND: &str = r#"{"ok":true,"value":[["spawn",2,["/bin/sleep","9"
 const FIRST_TOLD_TO_END: &str = r#"{"ok":true,"value":[["signal",1,"TERM"]]}"#;
 
 /// Three services, each before the next, and the last before the first.
-const A_BEFORE_B: &str = r#"{"verb":"put-file","path":"lib/a.service","text":"[Service]\nExecStart=/bin/sleep 9\n[Unit]\nBefore=b.service\n"}"#;
+const A_BEFORE_B: &str =
+    r#"{"verb":"put-file","path":"lib/a.service","text":"[Service]\nExecStart=/bin/sleep 9\n[Unit]\nBefore=b.service\n"}"#;
 
-const B_BEFORE_C: &str = r#"{"verb":"put-file","path":"lib/b.service","text":"[Service]\nExecStart=/bin/sleep 9\n[Unit]\nBefore=c.service\n"}"#;
+const B_BEFORE_C: &str =
+    r#"{"verb":"put-file","path":"lib/b.service","text":"[Service]\nExecStart=/bin/sleep 9\n[Unit]\nBefore=c.service\n"}"#;
 
-const C_BEFORE_A: &str = r#"{"verb":"put-file","path":"lib/c.service","text":"[Service]\nExecStart=/bin/sleep 9\n[Unit]\nBefore=a.service\n"}"#;
+const C_BEFORE_A: &str =
+    r#"{"verb":"put-file","path":"lib/c.service","text":"[Service]\nExecStart=/bin/sleep 9\n[Unit]\nBefore=a.service\n"}"#;
 
 #[test]
-fn units_that_are_wanted_in_a_circle_of_orders_are_refused(
-    rt: HostRuntime,
-) -> Result<(), Fail> {
+fn units_that_are_wanted_in_a_circle_of_orders_are_refused(rt: HostRuntime) -> Result<(), Fail> {
     play(
         &rt,
         &[
@@ -97,7 +98,8 @@ const PUT_OLD: &str =
     r#"{"verb":"put-file","path":"lib/old.service","text":"[Service]\nExecStart=/bin/sleep 9\n"}"#;
 
 /// A service in conflict with the old one, and before it.
-const PUT_NEW: &str = r#"{"verb":"put-file","path":"lib/new.service","text":"[Service]\nExecStart=/bin/sleep 9\n[Unit]\nConflicts=old.service\nBefore=old.service\n"}"#;
+const PUT_NEW: &str =
+    r#"{"verb":"put-file","path":"lib/new.service","text":"[Service]\nExecStart=/bin/sleep 9\n[Unit]\nConflicts=old.service\nBefore=old.service\n"}"#;
 
 const START_OLD: &str = r#"{"verb":"start","unit":"old"}"#;
 
@@ -166,10 +168,7 @@ fn what_is_required_and_in_conflict_clashes(rt: HostRuntime) -> Result<(), Fail>
                 DONE,
             ),
             (RELOAD, DONE),
-            (
-                START_A,
-                r#"{"detail":["a.service"],"error":8,"ok":false}"#,
-            ),
+            (START_A, r#"{"detail":["a.service"],"error":8,"ok":false}"#),
         ],
     )
 }
@@ -207,10 +206,12 @@ fn what_is_wanted_and_cannot_start_is_left(rt: HostRuntime) -> Result<(), Fail> 
 }
 
 /// A service in conflict with s and after it.
-const A_AFTER_S: &str = r#"{"verb":"put-file","path":"lib/a.service","text":"[Service]\nExecStart=/bin/sleep 9\n[Unit]\nConflicts=s.service\nAfter=s.service\n"}"#;
+const A_AFTER_S: &str =
+    r#"{"verb":"put-file","path":"lib/a.service","text":"[Service]\nExecStart=/bin/sleep 9\n[Unit]\nConflicts=s.service\nAfter=s.service\n"}"#;
 
 /// A service after a.
-const B_AFTER_A: &str = r#"{"verb":"put-file","path":"lib/b.service","text":"[Service]\nExecStart=/bin/sleep 9\n[Unit]\nAfter=a.service\n"}"#;
+const B_AFTER_A: &str =
+    r#"{"verb":"put-file","path":"lib/b.service","text":"[Service]\nExecStart=/bin/sleep 9\n[Unit]\nAfter=a.service\n"}"#;
 
 const T_WANTS_BOTH: &str =
     r#"{"verb":"put-file","path":"lib/t.target","text":"[Unit]\nWants=a.service b.service\n"}"#;
@@ -270,10 +271,12 @@ fn known_units_are_listed_by_name(rt: HostRuntime) -> Result<(), Fail> {
 }
 
 /// A service that requires a and comes after it.
-const B_NEEDS_A: &str = r#"{"verb":"put-file","path":"lib/b.service","text":"[Service]\nExecStart=/bin/sleep 9\n[Unit]\nRequires=a.service\nAfter=a.service\n"}"#;
+const B_NEEDS_A: &str =
+    r#"{"verb":"put-file","path":"lib/b.service","text":"[Service]\nExecStart=/bin/sleep 9\n[Unit]\nRequires=a.service\nAfter=a.service\n"}"#;
 
 /// A service that requires a in no order.
-const C_REQUIRES_A: &str = r#"{"verb":"put-file","path":"lib/c.service","text":"[Service]\nExecStart=/bin/sleep 9\n[Unit]\nRequires=a.service\n"}"#;
+const C_REQUIRES_A: &str =
+    r#"{"verb":"put-file","path":"lib/c.service","text":"[Service]\nExecStart=/bin/sleep 9\n[Unit]\nRequires=a.service\n"}"#;
 
 #[test]
 fn a_failed_start_takes_along_what_needs_it(rt: HostRuntime) -> Result<(), Fail> {
@@ -314,9 +317,7 @@ fn a_failed_start_takes_along_what_needs_it(rt: HostRuntime) -> Result<(), Fail>
 }
 
 #[test]
-fn a_stop_and_a_restart_come_over_to_what_leans_on_the_unit(
-    rt: HostRuntime,
-) -> Result<(), Fail> {
+fn a_stop_and_a_restart_come_over_to_what_leans_on_the_unit(rt: HostRuntime) -> Result<(), Fail> {
     play(
         &rt,
         &[
