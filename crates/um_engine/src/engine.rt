@@ -209,7 +209,7 @@ impl Engine {
     pub fn query(&self, query: &Query) -> Result<Reply, AllocError>
         ensures { IfOk result (λ reply. model.IsReplyTo (state_in self.now) (query_of query.now) (reply_of reply)) }
     {
-        reply_to(self.alloc, &self.served, query)
+        reply_to(self.alloc, self.served.state(), query)
     }
 }
 
