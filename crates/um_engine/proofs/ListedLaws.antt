@@ -14,8 +14,8 @@ lists_units_so s held names units holds known sorted is =
     subst (λ listed. IsReplyTo s ListUnits (Listed listed)) (sym is)
     (lists_units (record {
       each = λ unit. (
-        λ named. known_grows s.loaded (IsHeld s) (Contains held) (λ x h. first (extra ((holds x).0 h))) unit ((known unit).0 named),
-        λ counts. (known unit).1 (known_grows s.loaded (Contains held) (IsHeld s) (λ x h. first (extra ((holds x).1 h))) unit counts),
+        λ named. known_grows s.loaded (Contains held) (IsHeld s) (λ x h. first (extra ((holds x).0 h))) unit ((known unit).0 named),
+        λ counts. (known unit).1 (known_grows s.loaded (IsHeld s) (Contains held) (λ x h. first (extra ((holds x).1 h))) unit counts),
       );
       sorted = sorted;
     }))
