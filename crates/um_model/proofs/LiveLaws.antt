@@ -9,7 +9,7 @@ use Rattle.um_model.specs.Jobs.{Job, stop_job, start_job, job_of, jobs, no_jobs,
 use Rattle.um_model.specs.Timers.{Timers}
 use Rattle.um_model.specs.Machine.{State, empty_state, Command, Happening, Event, Input, Reply, IsBefore, with_result_dependency, TakesAlong, Becomes, Carries, change_of, changed, acting_in, around, begins, begun, IsStill, Settles, begins_next, unit_asked, with_plan, jobs_asked, scene_at, Changes, puts, links, removes, reloads, plans, demands_nothing, cancels, installs, end_of, Fires, none_due, fires, passes, Follows, ends, ticks, Takes, obeys, meets, moment_of, Step, refused, crowded_out, idle, taken, Run, goes}
 use Rattle.um_model.specs.Plan.{IsPlan, jobs_for, verb_of}
-use Rattle.um_model.specs.Live.{is_starting, WaitsFor, IsNotStuck}
+use Rattle.um_model.specs.Live.{IsFree, is_starting, WaitsFor, IsNotStuck}
 use Rattle.um_model.specs.declared.commands.UnitVerb.{UnitVerb}
 use Rattle.um_model.specs.declared.commands.UnitVerb.TheVariants as verbs
 use Rattle.um_model.specs.declared.dependencies.Demand.{Demand}
@@ -31,7 +31,7 @@ use Rattle.um_model.specs.declared.transition.UnitEvent.{UnitEvent}
 use Rattle.um_model.specs.declared.transition.UnitEvent.TheVariants.{StartBegins, StopBegins, DeadlinePasses}
 use Rattle.um_model.proofs.AlongLaws.{before_or_not, taken_along_or_not}
 use Rattle.um_model.proofs.CycleLaws.{a_first_job}
-use Rattle.um_model.proofs.FreeLaws.{IsFree, no_cycle_after}
+use Rattle.um_model.proofs.FreeLaws.{no_cycle_after}
 use Rattle.um_model.proofs.PlannedLaws.{counts_some}
 use Rattle.um_model.proofs.SceneLaws.{finite_scene}
 use Rattle.um_model.proofs.TimersLaws.{same_name}
