@@ -1,117 +1,153 @@
 //! Canonical bytes: how values are spelled, and what is no spelling.
-use std::alloc::{AllocError, Global};
+use crate::answers::same;
 use std::collections::BTreeMap;
 use std::process::Abort;
-use std::test::Fail;
 use um_wire::{Canon, get_tag, put_tag, read_whole, spell};
 
+/// Asserts that the value is spelled by these bytes.
+fn has_spelling<T: Canon>(rt: &(impl AllocGlobal + Abort), value: &T, bytes: &[u8]) {
+    let spelled = spell(rt.alloc(), value).expect(rt, "no memory");
+    same(rt, spelled.as_slice(), bytes);
+}
+
+/// The bytes with others behind them.
+fn followed(rt: &(impl AllocGlobal + Abort), bytes: &[u8]) -> Vec<u8> {
+    let mut longer = Vec::from_slice(rt.alloc(), bytes).expect(rt, "no memory");
+    longer
+        .extend_from_slice(&[7, 0, 255])
+        .expect(rt, "no memory");
+    longer
+}
+
+/// Asserts that a value is read from the bytes with others behind them, and is spelled by the bytes.
+fn is_read<T: Canon + Drop>(rt: &(impl AllocGlobal + Abort), bytes: &[u8]) {
+    let longer = followed(rt, bytes);
+    let found = T::get(rt.alloc(), longer.as_slice()).expect(rt, "no memory");
+    let (read, count) = found.expect(rt, "what is spelled isn't read");
+    same(rt, count, bytes.len());
+    has_spelling(rt, &read, bytes);
+}
+
 /// Asserts that the value is spelled by these bytes, and is read from them with others behind them.
-fn is_spelled<T: Canon + Drop>(
-    rt: &(impl AllocGlobal + Abort),
-    value: &T,
-    bytes: &[u8],
-) -> Result<(), Fail> {
-    let alloc = rt.alloc();
-    assert_eq!(rt; spell(alloc, value)?.as_slice(), bytes);
-    let mut longer = Vec::from_slice(alloc, bytes)?;
-    longer.extend_from_slice(&[7, 0, 255])?;
-    let (read, count) = T::get(alloc, longer.as_slice())?.ok_or("what is spelled isn't read")?;
-    assert_eq!(rt; count, bytes.len());
-    assert_eq!(rt; spell(alloc, &read)?.as_slice(), bytes);
-    Ok(())
+fn is_spelled<T: Canon + Drop>(rt: &(impl AllocGlobal + Abort), value: &T, bytes: &[u8]) {
+    has_spelling(rt, value, bytes);
+    is_read::<T>(rt, bytes);
 }
 
 /// Asserts that no front of the bytes spells a value.
-fn is_not_read<T: Canon + Drop>(rt: &(impl AllocGlobal + Abort), bytes: &[u8]) -> Result<(), Fail> {
-    let read = T::get(rt.alloc(), bytes)?;
+fn is_not_read<T: Canon + Drop>(rt: &(impl AllocGlobal + Abort), bytes: &[u8]) {
+    let read = T::get(rt.alloc(), bytes).expect(rt, "no memory");
     assert!(rt; read.is_none(), "{bytes:?} are read");
-    Ok(())
 }
 
-fn text(alloc: Global, text: &str) -> Result<String, AllocError> {
-    String::from_str(alloc, text)
-}
-
-#[test]
-fn numbers_stand_with_the_highest_byte_first(rt: HostRuntime) -> Result<(), Fail> {
-    is_spelled(&rt, &7u8, &[7])?;
-    is_spelled(&rt, &0x0102_0304u32, &[1, 2, 3, 4])?;
-    is_spelled(&rt, &256u32, &[0, 0, 1, 0])?;
-    is_spelled(&rt, &0x0102_0304_0506_0708u64, &[1, 2, 3, 4, 5, 6, 7, 8])?;
-    is_spelled(&rt, &u64::MAX, &[255; 8])?;
-    is_not_read::<u8>(&rt, &[])?;
-    is_not_read::<u32>(&rt, &[0, 0, 1])?;
-    is_not_read::<u64>(&rt, &[0, 0, 0, 0, 0, 0, 1])?;
-    assert_eq!(rt; u32::get(rt.alloc(), &[0, 0, 1, 0, 9, 9])?, Some((256, 4)));
-    Ok(())
+fn text(rt: &(impl AllocGlobal + Abort), text: &str) -> String {
+    String::from_str(rt.alloc(), text).expect(rt, "no memory")
 }
 
 #[test]
-fn truth_and_options_begin_with_0_or_1(rt: HostRuntime) -> Result<(), Fail> {
-    let alloc = rt.alloc();
-    is_spelled(&rt, &false, &[0])?;
-    is_spelled(&rt, &true, &[1])?;
-    is_not_read::<bool>(&rt, &[2])?;
-    is_not_read::<bool>(&rt, &[])?;
-    assert_eq!(rt; get_tag::<bool>(&[1, 5]), Some((true, 1)));
-    let mut out = Vec::new(alloc);
-    put_tag(&true, &mut out)?;
-    assert_eq!(rt; out.as_slice(), [1].as_slice());
+fn numbers_stand_with_the_highest_byte_first(rt: HostRuntime) {
+    is_spelled(&rt, &7u8, &[7]);
+    is_spelled(&rt, &0x0102_0304u32, &[1, 2, 3, 4]);
+    is_spelled(&rt, &256u32, &[0, 0, 1, 0]);
+    is_spelled(&rt, &0x0102_0304_0506_0708u64, &[1, 2, 3, 4, 5, 6, 7, 8]);
+    is_spelled(&rt, &u64::MAX, &[255; 8]);
+    is_not_read::<u8>(&rt, &[]);
+    is_not_read::<u32>(&rt, &[0, 0, 1]);
+    is_not_read::<u64>(&rt, &[0, 0, 0, 0, 0, 0, 1]);
+    let read = u32::get(rt.alloc(), &[0, 0, 1, 0, 9, 9]).expect(&rt, "no memory");
+    same(&rt, read, Some((256, 4)));
+}
+
+#[test]
+fn truth_is_0_or_1(rt: HostRuntime) {
+    is_spelled(&rt, &false, &[0]);
+    is_spelled(&rt, &true, &[1]);
+    is_not_read::<bool>(&rt, &[2]);
+    is_not_read::<bool>(&rt, &[]);
+    same(&rt, get_tag::<bool>(&[1, 5]), Some((true, 1)));
+}
+
+#[test]
+fn a_tag_is_put_behind_what_stands(rt: HostRuntime) {
+    let mut out = Vec::new(rt.alloc());
+    put_tag(&true, &mut out).expect(&rt, "no memory");
+    same(&rt, out.as_slice(), [1].as_slice());
+}
+
+#[test]
+fn options_begin_with_0_or_1(rt: HostRuntime) {
     let absent: Option<u8> = None;
-    is_spelled(&rt, &absent, &[0])?;
-    is_spelled(&rt, &Some(5u8), &[1, 5])?;
-    is_spelled(&rt, &(Some(5u8), true), &[1, 5, 1])?;
-    is_not_read::<Option<u8>>(&rt, &[2, 5])?;
-    is_not_read::<Option<u8>>(&rt, &[1])?;
-    is_not_read::<Option<u8>>(&rt, &[])?;
-    is_not_read::<(u8, bool)>(&rt, &[7, 2])
+    is_spelled(&rt, &absent, &[0]);
+    is_spelled(&rt, &Some(5u8), &[1, 5]);
+    is_spelled(&rt, &(Some(5u8), true), &[1, 5, 1]);
+    is_not_read::<Option<u8>>(&rt, &[2, 5]);
+    is_not_read::<Option<u8>>(&rt, &[1]);
+    is_not_read::<Option<u8>>(&rt, &[]);
+    is_not_read::<(u8, bool)>(&rt, &[7, 2]);
 }
 
 #[test]
-fn texts_begin_with_their_length(rt: HostRuntime) -> Result<(), Fail> {
-    let alloc = rt.alloc();
-    is_spelled(&rt, &text(alloc, "")?, &[0, 0, 0, 0])?;
-    let accented = text(alloc, "h\u{e9}")?;
-    is_spelled(&rt, &accented, &[0, 0, 0, 3, 104, 195, 169])?;
-    is_not_read::<String>(&rt, &[])?;
-    is_not_read::<String>(&rt, &[0, 0, 0, 3, 104, 104])?;
-    is_not_read::<String>(&rt, &[255, 255, 255, 255, 104])?;
-    is_not_read::<String>(&rt, &[0, 0, 0, 1, 195])?;
-    is_not_read::<String>(&rt, &[0, 0, 0, 2, 195, 40])
+fn texts_begin_with_their_length(rt: HostRuntime) {
+    is_spelled(&rt, &text(&rt, ""), &[0, 0, 0, 0]);
+    let accented = text(&rt, "h\u{e9}");
+    is_spelled(&rt, &accented, &[0, 0, 0, 3, 104, 195, 169]);
+    is_not_read::<String>(&rt, &[]);
+    is_not_read::<String>(&rt, &[0, 0, 0, 3, 104, 104]);
+    is_not_read::<String>(&rt, &[255, 255, 255, 255, 104]);
+    is_not_read::<String>(&rt, &[0, 0, 0, 1, 195]);
+    is_not_read::<String>(&rt, &[0, 0, 0, 2, 195, 40]);
 }
 
 #[test]
-fn lists_begin_with_their_count(rt: HostRuntime) -> Result<(), Fail> {
-    let alloc = rt.alloc();
-    let mut items = Vec::new(alloc);
-    is_spelled(&rt, &items, &[0, 0, 0, 0])?;
-    items.push((3u8, true))?;
-    items.push((2u8, false))?;
-    is_spelled(&rt, &items, &[0, 0, 0, 2, 3, 1, 2, 0])?;
-    is_not_read::<Vec<u8>>(&rt, &[0, 0, 0, 3, 1, 2])?;
-    is_not_read::<Vec<bool>>(&rt, &[0, 0, 0, 2, 1, 2])?;
-    assert_eq!(rt; read_whole::<u8>(alloc, &[7])?, Some(7));
-    assert_eq!(rt; read_whole::<u8>(alloc, &[7, 7])?, None);
-    Ok(())
+fn lists_begin_with_their_count(rt: HostRuntime) {
+    let mut items = Vec::new(rt.alloc());
+    is_spelled(&rt, &items, &[0, 0, 0, 0]);
+    items.push((3u8, true)).expect(&rt, "no memory");
+    items.push((2u8, false)).expect(&rt, "no memory");
+    is_spelled(&rt, &items, &[0, 0, 0, 2, 3, 1, 2, 0]);
+    is_not_read::<Vec<u8>>(&rt, &[0, 0, 0, 3, 1, 2]);
+    is_not_read::<Vec<bool>>(&rt, &[0, 0, 0, 2, 1, 2]);
 }
 
 #[test]
-fn the_keys_of_a_map_strictly_ascend(rt: HostRuntime) -> Result<(), Fail> {
-    let alloc = rt.alloc();
-    let mut map = BTreeMap::new(alloc);
-    is_spelled(&rt, &map, &[0, 0, 0, 0])?;
-    map.insert(text(alloc, "b")?, 2u8)?;
-    map.insert(text(alloc, "Z")?, 1u8)?;
-    map.insert(text(alloc, "")?, 9u8)?;
-    let bytes = [
-        0, 0, 0, 3, 0, 0, 0, 0, 9, 0, 0, 0, 1, 90, 1, 0, 0, 0, 1, 98, 2,
-    ];
-    is_spelled(&rt, &map, &bytes)?;
-    let turned = [0, 0, 0, 2, 0, 0, 0, 1, 98, 2, 0, 0, 0, 1, 90, 1];
-    is_not_read::<BTreeMap<String, u8>>(&rt, &turned)?;
-    let twice = [0, 0, 0, 2, 0, 0, 0, 1, 98, 2, 0, 0, 0, 1, 98, 2];
-    is_not_read::<BTreeMap<String, u8>>(&rt, &twice)?;
-    let short = [0, 0, 0, 2, 0, 0, 0, 1, 98, 2];
-    is_not_read::<BTreeMap<String, u8>>(&rt, &short)?;
-    is_not_read::<BTreeMap<String, u8>>(&rt, &[])
+fn a_whole_reading_leaves_nothing_behind(rt: HostRuntime) {
+    let whole = read_whole::<u8>(rt.alloc(), &[7]).expect(&rt, "no memory");
+    same(&rt, whole, Some(7));
+    let part = read_whole::<u8>(rt.alloc(), &[7, 7]).expect(&rt, "no memory");
+    same(&rt, part, None);
+}
+
+/// A map of these texts and numbers.
+fn map_of(rt: &(impl AllocGlobal + Abort), pairs: &[(&str, u8)]) -> BTreeMap<String, u8> {
+    let mut map = BTreeMap::new(rt.alloc());
+    for (key, number) in pairs {
+        let inserted: Result<_, _> = map.insert(text(rt, key), *number);
+        inserted.expect(rt, "no memory");
+    }
+    map
+}
+
+/// The bytes of the keys "", "Z" and "b" with the values 9, 1 and 2.
+const ASCENDING: &[u8] = &[
+    0, 0, 0, 3, 0, 0, 0, 0, 9, 0, 0, 0, 1, 90, 1, 0, 0, 0, 1, 98, 2,
+];
+
+/// The key "b" before the key "Z".
+const TURNED: &[u8] = &[0, 0, 0, 2, 0, 0, 0, 1, 98, 2, 0, 0, 0, 1, 90, 1];
+
+/// The key "b" twice.
+const TWICE: &[u8] = &[0, 0, 0, 2, 0, 0, 0, 1, 98, 2, 0, 0, 0, 1, 98, 2];
+
+/// One key where two are told.
+const SHORT: &[u8] = &[0, 0, 0, 2, 0, 0, 0, 1, 98, 2];
+
+#[test]
+fn the_keys_of_a_map_strictly_ascend(rt: HostRuntime) {
+    is_spelled(&rt, &map_of(&rt, &[]), &[0, 0, 0, 0]);
+    let map = map_of(&rt, &[("b", 2), ("Z", 1), ("", 9)]);
+    is_spelled(&rt, &map, ASCENDING);
+    is_not_read::<BTreeMap<String, u8>>(&rt, TURNED);
+    is_not_read::<BTreeMap<String, u8>>(&rt, TWICE);
+    is_not_read::<BTreeMap<String, u8>>(&rt, SHORT);
+    is_not_read::<BTreeMap<String, u8>>(&rt, &[]);
 }

@@ -11,6 +11,7 @@ mod filedisk;
 mod limit;
 #[cfg(test)]
 mod log;
+pub mod marks;
 #[cfg(test)]
 mod order;
 #[cfg(test)]

@@ -1,4 +1,5 @@
 //! The start limit of a unit.
+use crate::answers::same;
 use std::test::Fail;
 use um_limit::{Counted, Window};
 use um_model::{Moment, Span};
@@ -27,21 +28,22 @@ fn three_starts_in_ten_seconds_pass_and_the_fourth_is_refused(rt: HostRuntime) -
     let mut window = Window::new();
     let interval = Some(Span::from_micros(10_000_000));
     let moments = [5_000_000, 5_000_000, 15_000_000, 15_000_000];
-    assert_eq!(rt;
+    same(
+        &rt,
         passed(&mut window, moments, interval, 3)?,
-        [true, true, true, false]
+        [true, true, true, false],
     );
     let full = Counted {
         began: at(5_000_000)?,
         count: 3,
     };
-    assert_eq!(rt; window.copy(), Window::from_counted(Some(full)));
-    assert_eq!(rt; window.count(at(15_000_001)?, interval, 3), true);
+    same(&rt, window.copy(), Window::from_counted(Some(full)));
+    same(&rt, window.count(at(15_000_001)?, interval, 3), true);
     let next = Counted {
         began: at(15_000_001)?,
         count: 1,
     };
-    assert_eq!(rt; window.counted(), Some(next));
+    same(&rt, window.counted(), Some(next));
     Ok(())
 }
 
@@ -53,7 +55,7 @@ fn without_a_limit_nothing_is_counted(rt: HostRuntime) -> Result<(), Fail> {
             passed(&mut window, [7, 7, 7, 7], interval, burst)?,
             [true; 4]
         );
-        assert_eq!(rt; window.counted(), None);
+        same(&rt, window.counted(), None);
     }
     Ok(())
 }
@@ -62,14 +64,15 @@ fn without_a_limit_nothing_is_counted(rt: HostRuntime) -> Result<(), Fail> {
 fn a_window_without_end_lets_its_burst_through_once(rt: HostRuntime) -> Result<(), Fail> {
     let mut window = Window::new();
     let late = 4_000_000_000_000_000_000;
-    assert_eq!(rt;
+    same(
+        &rt,
         passed(&mut window, [1, late, late, late], None, 1)?,
-        [true, false, false, false]
+        [true, false, false, false],
     );
     let first = Counted {
         began: at(1)?,
         count: 1,
     };
-    assert_eq!(rt; window.counted(), Some(first));
+    same(&rt, window.counted(), Some(first));
     Ok(())
 }

@@ -1,7 +1,7 @@
 //! The log of a store: its records and what a crash leaves of them.
-use crate::answers::{change, filled, refused, sector_at};
-use std::alloc::Global;
-use std::test::Fail;
+use crate::answers::{change, filled, is_refused, same, same_at, sector_at};
+use std::fmt::Debug;
+use std::process::Abort;
 use um_log::{Layout, Log, RECORD_LIMIT, scan};
 use um_sector::{Disk, Fuse, MemDisk};
 
@@ -9,142 +9,148 @@ use um_sector::{Disk, Fuse, MemDisk};
 const START: usize = 129;
 
 /// The log of generation 2 of a store of slots of 64 sectors and a log of 512.
-fn new_log() -> Result<Log, Fail> {
-    let layout = Layout::new(64, 512).ok_or("no layout")?;
-    Ok(Log::new(layout, 2))
+fn new_log(rt: &impl Abort) -> Log {
+    Log::new(Layout::new(64, 512).expect(rt, "no layout"), 2)
+}
+
+/// An empty disk for that store.
+fn new_disk(rt: &(impl AllocGlobal + Abort)) -> MemDisk {
+    MemDisk::new(rt.alloc(), 641).expect(rt, "no memory")
+}
+
+/// Appends a record.
+fn append<D: Disk>(rt: &(impl AllocGlobal + Abort), disk: &mut D, log: &mut Log, record: &[u8]) {
+    log.append(rt.alloc(), disk, record).expect(rt, "no record");
 }
 
 /// Appends so many records of one byte.
 fn append_bytes<D: Disk>(
-    alloc: Global,
+    rt: &(impl AllocGlobal + Abort),
     disk: &mut D,
     log: &mut Log,
     count: usize,
-) -> Result<(), Fail> {
+) {
     for _ in 0..count {
-        log.append(alloc, disk, &[7])?;
+        append(rt, disk, log, &[7]);
     }
-    Ok(())
 }
 
 /// The lengths of the records that a scan gives.
-fn lengths<D: Disk>(alloc: Global, disk: &mut D, log: &Log) -> Result<Vec<usize>, Fail> {
-    let mut lengths = Vec::new(alloc);
-    for bytes in &scan(alloc, disk, log.layout, log.generation)? {
-        lengths.push(bytes.len())?;
+fn lengths<D: Disk>(rt: &(impl AllocGlobal + Abort), disk: &mut D, log: &Log) -> Vec<usize> {
+    let mut lengths = Vec::new(rt.alloc());
+    let records = scan(rt.alloc(), disk, log.layout, log.generation).expect(rt, "no scan");
+    for bytes in &records {
+        lengths.push(bytes.len()).expect(rt, "no memory");
     }
-    Ok(lengths)
+    lengths
+}
+
+/// Asserts that a scan gives records of these lengths, in this row.
+fn has_lengths<D: Disk, R: Debug + Drop>(
+    rt: &(impl AllocGlobal + Abort),
+    disk: &mut D,
+    log: &Log,
+    wanted: &[usize],
+    row: R,
+) {
+    let lengths = lengths(rt, disk, log);
+    same_at(rt, lengths.as_slice(), wanted, row);
 }
 
 #[test]
-fn a_record_is_written_by_its_layout(rt: HostRuntime) -> Result<(), Fail> {
-    let alloc = rt.alloc();
-    let mut disk = MemDisk::new(alloc, 641)?;
-    let mut log = new_log()?;
-    append_bytes(alloc, &mut disk, &mut log, 4)?;
+fn a_record_is_written_by_its_layout(rt: HostRuntime) {
+    let mut disk = new_disk(&rt);
+    let mut log = new_log(&rt);
+    append_bytes(&rt, &mut disk, &mut log, 4);
     let record: [u8; 10] = [0x01, 0x11, 0, 0, 0, 0, 0, 0x10, 0xc8, 0xe0];
-    log.append(alloc, &mut disk, &record)?;
+    append(&rt, &mut disk, &mut log, &record);
     // its name, generation, number, part, parts, length and bytes
     let written = [
         0x55, 0x4d, 0x4c, 0x47, 0, 0, 0, 0, 0, 0, 0, 2, 0, 0, 0, 0, 0, 0, 0, 4, 0, 0, 0, 0, 0, 0,
         0, 1, 0, 0, 0, 10, 0x01, 0x11, 0, 0, 0, 0, 0, 0x10, 0xc8, 0xe0,
     ];
-    assert_eq!(rt; sector_at(&mut disk, START + 4)?, filled(&written));
-    assert_eq!(rt;
-        lengths(alloc, &mut disk, &log)?.as_slice(),
-        [1, 1, 1, 1, 10].as_slice()
-    );
-    Ok(())
+    same(&rt, sector_at(&rt, &mut disk, START + 4), filled(&written));
+    has_lengths(&rt, &mut disk, &log, &[1, 1, 1, 1, 10], "the end");
 }
 
-#[test]
-fn a_torn_record_is_absent(rt: HostRuntime) -> Result<(), Fail> {
-    let alloc = rt.alloc();
+/// A disk where the sync behind a record of two sectors failed, and its log.
+fn torn(rt: &(impl AllocGlobal + Abort)) -> (MemDisk, Log) {
     // the third call, the sync, fails
-    let mut disk = Fuse::new(MemDisk::new(alloc, 641)?, 3);
-    let mut log = new_log()?;
-    let failed = log.append(alloc, &mut disk, &[9; 481]);
-    assert_eq!(rt; refused(alloc, failed)?.as_deref(), Some("E16 Device"));
-    assert_eq!(rt; (log.next, log.number), (START, 0));
-    let disk = disk.into_inner();
-    for picks in [[0, 0], [1, 0], [0, 1]] {
-        let mut left = disk.crash(alloc, &picks)?;
-        assert_eq!(rt;
-            lengths(alloc, &mut left, &log)?,
-            Vec::new(alloc),
-            "at {picks:?}"
-        );
-    }
-    let mut left = disk.crash(alloc, &[1, 1])?;
-    assert_eq!(rt;
-        lengths(alloc, &mut left, &log)?.as_slice(),
-        [481].as_slice()
-    );
-    Ok(())
+    let mut disk = Fuse::new(new_disk(rt), 3);
+    let mut log = new_log(rt);
+    let failed = log.append(rt.alloc(), &mut disk, &[9; 481]);
+    is_refused(rt, failed, Some("E16 Device"));
+    (disk.into_inner(), log)
+}
+
+/// Asserts that a crash that leaves these writes leaves records of these lengths.
+fn leaves(
+    rt: &(impl AllocGlobal + Abort),
+    disk: &MemDisk,
+    log: &Log,
+    picks: [usize; 2],
+    wanted: &[usize],
+) {
+    let mut left = disk.crash(rt.alloc(), &picks).expect(rt, "no memory");
+    has_lengths(rt, &mut left, log, wanted, picks);
 }
 
 #[test]
-fn a_record_takes_the_least_number_of_sectors(rt: HostRuntime) -> Result<(), Fail> {
-    let alloc = rt.alloc();
-    let mut disk = MemDisk::new(alloc, 641)?;
-    let mut log = new_log()?;
-    log.append(alloc, &mut disk, &[5; 480])?;
-    assert_eq!(rt; (log.next, disk.syncs()), (START + 1, 1));
-    log.append(alloc, &mut disk, &[6; 481])?;
-    assert_eq!(rt; (log.next, disk.syncs()), (START + 3, 2));
-    assert_eq!(rt;
-        lengths(alloc, &mut disk, &log)?.as_slice(),
-        [480, 481].as_slice()
-    );
-    Ok(())
+fn a_torn_record_is_absent(rt: HostRuntime) {
+    let (disk, log) = torn(&rt);
+    same(&rt, (log.next, log.number), (START, 0));
+    leaves(&rt, &disk, &log, [0, 0], &[]);
+    leaves(&rt, &disk, &log, [1, 0], &[]);
+    leaves(&rt, &disk, &log, [0, 1], &[]);
+    leaves(&rt, &disk, &log, [1, 1], &[481]);
 }
 
 #[test]
-fn a_record_has_1_to_131_072_bytes(rt: HostRuntime) -> Result<(), Fail> {
-    let alloc = rt.alloc();
-    let mut disk = MemDisk::new(alloc, 641)?;
-    let mut log = new_log()?;
-    for (size, wanted) in [
-        (0, false),
-        (1, true),
-        (RECORD_LIMIT, true),
-        (RECORD_LIMIT + 1, false),
-    ] {
-        assert_eq!(rt; log.fits(size), wanted, "at {size}");
-    }
-    let empty = log.append(alloc, &mut disk, &[]);
-    assert_eq!(rt; refused(alloc, empty)?.as_deref(), Some("E14 NoRoom"));
-    assert_eq!(rt; disk.syncs(), 0);
-    Ok(())
+fn a_record_takes_the_least_number_of_sectors(rt: HostRuntime) {
+    let mut disk = new_disk(&rt);
+    let mut log = new_log(&rt);
+    append(&rt, &mut disk, &mut log, &[5; 480]);
+    same(&rt, (log.next, disk.syncs()), (START + 1, 1));
+    append(&rt, &mut disk, &mut log, &[6; 481]);
+    same(&rt, (log.next, disk.syncs()), (START + 3, 2));
+    has_lengths(&rt, &mut disk, &log, &[480, 481], "the end");
 }
 
 #[test]
-fn what_is_not_as_it_is_written_is_no_record(rt: HostRuntime) -> Result<(), Fail> {
-    let alloc = rt.alloc();
+fn a_record_has_1_to_131_072_bytes(rt: HostRuntime) {
+    let log = new_log(&rt);
+    same_at(&rt, log.fits(0), false, 0);
+    same_at(&rt, log.fits(1), true, 1);
+    same_at(&rt, log.fits(RECORD_LIMIT), true, RECORD_LIMIT);
+    same_at(&rt, log.fits(RECORD_LIMIT + 1), false, RECORD_LIMIT + 1);
+}
+
+#[test]
+fn an_empty_record_is_refused(rt: HostRuntime) {
+    let mut disk = new_disk(&rt);
+    let empty = new_log(&rt).append(rt.alloc(), &mut disk, &[]);
+    is_refused(&rt, empty, Some("E14 NoRoom"));
+    same(&rt, disk.syncs(), 0);
+}
+
+/// Asserts that of three records only the first is left where this byte of the second is changed so.
+fn ends_at_the_change(rt: &(impl AllocGlobal + Abort), at: usize, byte: u8) {
+    let mut disk = new_disk(rt);
+    let mut log = new_log(rt);
+    append_bytes(rt, &mut disk, &mut log, 3);
+    has_lengths(rt, &mut disk, &log, &[1, 1, 1], at);
+    change(rt, &mut disk, START + 1, at, byte);
+    has_lengths(rt, &mut disk, &log, &[1], at);
+}
+
+#[test]
+fn what_is_not_as_it_is_written_is_no_record(rt: HostRuntime) {
     // generation, length 0, length above the limit, parts, a byte behind the payload, the record's number, the name
-    let changes: [(usize, u8); 7] = [
-        (11, 3),
-        (31, 0),
-        (28, 1),
-        (27, 2),
-        (511, 1),
-        (19, 0),
-        (0, 0),
-    ];
-    for (at, byte) in changes {
-        let mut disk = MemDisk::new(alloc, 641)?;
-        let mut log = new_log()?;
-        append_bytes(alloc, &mut disk, &mut log, 3)?;
-        assert_eq!(rt;
-            lengths(alloc, &mut disk, &log)?.as_slice(),
-            [1, 1, 1].as_slice()
-        );
-        change(&mut disk, START + 1, at, byte)?;
-        assert_eq!(rt;
-            lengths(alloc, &mut disk, &log)?.as_slice(),
-            [1].as_slice(),
-            "at {at}"
-        );
-    }
-    Ok(())
+    ends_at_the_change(&rt, 11, 3);
+    ends_at_the_change(&rt, 31, 0);
+    ends_at_the_change(&rt, 28, 1);
+    ends_at_the_change(&rt, 27, 2);
+    ends_at_the_change(&rt, 511, 1);
+    ends_at_the_change(&rt, 19, 0);
+    ends_at_the_change(&rt, 0, 0);
 }

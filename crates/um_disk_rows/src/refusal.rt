@@ -1,11 +1,11 @@
 //! The numbers and names of refusals, and how they print.
-use std::alloc::{AllocError, Global};
+use crate::answers::same;
+use std::alloc::AllocError;
 use std::process::Abort;
-use std::test::Fail;
 use um_wire::{Limit, Refusal, Texts};
 
-fn text(alloc: Global, text: &str) -> Result<String, AllocError> {
-    String::from_str(alloc, text)
+fn text(rt: &(impl AllocGlobal + Abort), text: &str) -> String {
+    String::from_str(rt.alloc(), text).expect(rt, "no memory")
 }
 
 /// Asserts that the refusal tells this number and name, and prints as that text.
@@ -15,140 +15,135 @@ fn prints(
     number: u64,
     name: &str,
     printed: &str,
-) -> Result<(), Fail> {
-    assert_eq!(rt; refusal.number(), number);
-    assert_eq!(rt; refusal.name(), name);
-    let shown = refusal.to_string(rt.alloc())?;
-    assert_eq!(rt; shown.as_str(), printed);
-    Ok(())
+) {
+    let shown = refusal.to_string(rt.alloc()).expect(rt, "no memory");
+    same(rt, shown.as_str(), printed);
+    same(rt, (refusal.number(), refusal.name()), (number, name));
 }
 
 #[test]
-fn refusals_without_details_print_their_number_and_name(rt: HostRuntime) -> Result<(), Fail> {
-    prints(&rt, Refusal::BadRequest, 1, "BadRequest", "E1 BadRequest")?;
-    prints(&rt, Refusal::NoRoom, 14, "NoRoom", "E14 NoRoom")?;
-    prints(&rt, Refusal::NoMemory, 15, "NoMemory", "E15 NoMemory")?;
-    prints(&rt, Refusal::Device, 16, "Device", "E16 Device")?;
-    prints(&rt, Refusal::Reopen, 17, "Reopen", "E17 Reopen")?;
+fn refusals_without_details_print_their_number_and_name(rt: HostRuntime) {
+    prints(&rt, Refusal::BadRequest, 1, "BadRequest", "E1 BadRequest");
+    prints(&rt, Refusal::NoRoom, 14, "NoRoom", "E14 NoRoom");
+    prints(&rt, Refusal::NoMemory, 15, "NoMemory", "E15 NoMemory");
+    prints(&rt, Refusal::Device, 16, "Device", "E16 Device");
+    prints(&rt, Refusal::Reopen, 17, "Reopen", "E17 Reopen");
     prints(
         &rt,
         Refusal::NotFormatted,
         19,
         "NotFormatted",
         "E19 NotFormatted",
-    )?;
+    );
     prints(
         &rt,
         Refusal::GenerationsSpent,
         20,
         "GenerationsSpent",
         "E20 GenerationsSpent",
-    )?;
+    );
     prints(
         &rt,
         Refusal::OtherLayout,
         22,
         "OtherLayout",
         "E22 OtherLayout",
-    )
+    );
 }
 
 #[test]
-fn refusals_of_texts_and_paths_print_them(rt: HostRuntime) -> Result<(), Fail> {
-    let alloc = rt.alloc();
-    let verb = text(alloc, "frob")?;
+fn refusals_of_texts_and_paths_print_them(rt: HostRuntime) {
+    let verb = text(&rt, "frob");
     prints(
         &rt,
         Refusal::UnknownVerb { verb },
         2,
         "UnknownVerb",
         "E2 UnknownVerb frob",
-    )?;
-    let name = text(alloc, "a b")?;
+    );
+    let name = text(&rt, "a b");
     prints(
         &rt,
         Refusal::BadName { text: name },
         3,
         "BadName",
         "E3 BadName a b",
-    )?;
-    let path = text(alloc, "etc/a.service")?;
+    );
+    let path = text(&rt, "etc/a.service");
     prints(
         &rt,
         Refusal::Exists { path },
         11,
         "Exists",
         "E11 Exists etc/a.service",
-    )?;
-    let path = text(alloc, "lib/../x")?;
+    );
+    let path = text(&rt, "lib/../x");
     prints(
         &rt,
         Refusal::BadPath { path },
         12,
         "BadPath",
         "E12 BadPath lib/../x",
-    )
+    );
 }
 
 #[test]
-fn refusals_of_units_print_their_names(rt: HostRuntime) -> Result<(), Fail> {
-    let alloc = rt.alloc();
-    let unit = text(alloc, "b.service")?;
+fn refusals_of_units_print_their_names(rt: HostRuntime) {
+    let unit = text(&rt, "b.service");
     prints(
         &rt,
         Refusal::NotFound { unit },
         4,
         "NotFound",
         "E4 NotFound b.service",
-    )?;
-    let unit = text(alloc, "b.service")?;
+    );
+    let unit = text(&rt, "b.service");
     prints(
         &rt,
         Refusal::Masked { unit },
         5,
         "Masked",
         "E5 Masked b.service",
-    )?;
-    let unit = text(alloc, "b.service")?;
+    );
+    let unit = text(&rt, "b.service");
     prints(
         &rt,
         Refusal::NotLoaded { unit },
         7,
         "NotLoaded",
         "E7 NotLoaded b.service",
-    )?;
-    let unit = text(alloc, "b.service")?;
+    );
+    let unit = text(&rt, "b.service");
     prints(
         &rt,
         Refusal::Clash { unit },
         8,
         "Clash",
         "E8 Clash b.service",
-    )?;
-    let unit = text(alloc, "b.service")?;
+    );
+    let unit = text(&rt, "b.service");
     prints(
         &rt,
         Refusal::JobConflict { unit },
         10,
         "JobConflict",
         "E10 JobConflict b.service",
-    )?;
-    let unit = text(alloc, "b.service")?;
+    );
+    let unit = text(&rt, "b.service");
     prints(
         &rt,
         Refusal::NoSuchJob { unit },
         21,
         "NoSuchJob",
         "E21 NoSuchJob b.service",
-    )
+    );
 }
 
 #[test]
-fn refusals_of_several_details_print_them_in_their_order(rt: HostRuntime) -> Result<(), Fail> {
-    let alloc = rt.alloc();
+fn refusals_of_several_details_print_them_in_their_order(rt: HostRuntime) {
     let refusal = Refusal::BadSetting {
-        unit: text(alloc, "b.service")?,
-        reason: text(alloc, "exec-count")?,
+        unit: text(&rt, "b.service"),
+        reason: text(&rt, "exec-count"),
     };
     prints(
         &rt,
@@ -156,16 +151,20 @@ fn refusals_of_several_details_print_them_in_their_order(rt: HostRuntime) -> Res
         6,
         "BadSetting",
         "E6 BadSetting b.service exec-count",
-    )?;
-    let items = vec![in alloc; text(alloc, "a.service")?, text(alloc, "b.service")?]?;
-    let units = Texts { items };
+    );
+    let units = Texts {
+        items: vec![in rt.alloc(); text(&rt, "a.service"), text(&rt, "b.service")].expect(
+            &rt,
+            "no memory",
+        ),
+    };
     prints(
         &rt,
         Refusal::OrderingCycle { units },
         9,
         "OrderingCycle",
         "E9 OrderingCycle a.service b.service",
-    )?;
+    );
     let limit = Limit::Frame;
     prints(
         &rt,
@@ -173,28 +172,26 @@ fn refusals_of_several_details_print_them_in_their_order(rt: HostRuntime) -> Res
         13,
         "TooLarge",
         "E13 TooLarge frame",
-    )?;
+    );
     prints(
         &rt,
         Refusal::Damaged { sector: 129 },
         18,
         "Damaged",
         "E18 Damaged 129",
-    )
+    );
 }
 
 #[test]
-fn each_limit_has_its_word(rt: HostRuntime) -> Result<(), Fail> {
-    assert_eq!(rt; Limit::Frame.word(), "frame");
-    assert_eq!(rt; Limit::Text.word(), "text");
-    assert_eq!(rt; Limit::Entries.word(), "entries");
-    assert_eq!(rt; Limit::Units.word(), "units");
-    assert_eq!(rt; Limit::Reply.word(), "reply");
-    Ok(())
+fn each_limit_has_its_word(rt: HostRuntime) {
+    same(&rt, Limit::Frame.word(), "frame");
+    same(&rt, Limit::Text.word(), "text");
+    same(&rt, Limit::Entries.word(), "entries");
+    same(&rt, Limit::Units.word(), "units");
+    same(&rt, Limit::Reply.word(), "reply");
 }
 
 #[test]
-fn want_of_memory_is_no_memory(rt: HostRuntime) -> Result<(), Fail> {
-    assert_eq!(rt; Refusal::from(AllocError).number(), 15);
-    Ok(())
+fn want_of_memory_is_no_memory(rt: HostRuntime) {
+    same(&rt, Refusal::from(AllocError).number(), 15);
 }

@@ -1,148 +1,162 @@
 //! A disk in memory, its crashes, and a disk that fails a call.
-use crate::answers::sector_at;
-use std::alloc::Global;
-use std::test::Fail;
+use crate::answers::{fails, same, same_at, sector_at};
+use std::fmt::Debug;
+use std::process::Abort;
 use um_sector::{
     Disk, Fault, Fields, Fuse, MemDisk, Sector, u32_at, u64_at, write_blank, write_run_synced,
 };
 
-/// Writes a sector of this byte.
-fn put<D: Disk>(disk: &mut D, k: usize, byte: u8) -> Result<(), Fault> {
-    disk.write(k, &[byte; 512])
+/// A disk of three sectors.
+fn empty(rt: &(impl AllocGlobal + Abort)) -> MemDisk {
+    MemDisk::new(rt.alloc(), 3).expect(rt, "no memory")
 }
 
-/// The last byte of each of three sectors.
-fn last_bytes<D: Disk>(disk: &mut D) -> Result<[u8; 3], Fail> {
-    let first = sector_at(disk, 0)?[511];
-    let second = sector_at(disk, 1)?[511];
-    let third = sector_at(disk, 2)?[511];
-    Ok([first, second, third])
+/// Writes a sector of this byte.
+fn put<D: Disk>(rt: &impl Abort, disk: &mut D, k: usize, byte: u8) {
+    disk.write(k, &[byte; 512]).expect(rt, "not written");
+}
+
+/// Syncs the disk.
+fn sync<D: Disk>(rt: &impl Abort, disk: &mut D) {
+    disk.sync().expect(rt, "not synced");
+}
+
+/// Asserts that the last bytes of the three sectors are these, in this row.
+fn ends_at<D: Disk, R: Debug + Drop>(rt: &impl Abort, disk: &mut D, wanted: [u8; 3], row: R) {
+    let first = sector_at(rt, disk, 0)[511];
+    let second = sector_at(rt, disk, 1)[511];
+    let third = sector_at(rt, disk, 2)[511];
+    same_at(rt, [first, second, third], wanted, row);
+}
+
+/// Asserts that the last bytes of the three sectors are these.
+fn ends<D: Disk>(rt: &impl Abort, disk: &mut D, wanted: [u8; 3]) {
+    ends_at(rt, disk, wanted, "the end");
+}
+
+/// Asserts that these writes are not synced.
+fn is_unsynced(rt: &(impl AllocGlobal + Abort), disk: &MemDisk, wanted: &[(usize, usize)]) {
+    let unsynced = disk.unsynced(rt.alloc()).expect(rt, "no memory");
+    same(rt, unsynced.as_slice(), wanted);
+}
+
+#[test]
+fn a_disk_in_memory_gives_what_was_written_last(rt: HostRuntime) {
+    let mut disk = empty(&rt);
+    same(&rt, disk.sectors(), 3);
+    ends(&rt, &mut disk, [0, 0, 0]);
+    put(&rt, &mut disk, 1, 7);
+    put(&rt, &mut disk, 1, 8);
+    ends(&rt, &mut disk, [0, 8, 0]);
+    same(&rt, disk.syncs(), 0);
+    sync(&rt, &mut disk);
+    same(&rt, disk.syncs(), 1);
+    is_unsynced(&rt, &disk, &[]);
+}
+
+#[test]
+fn a_sector_past_the_end_is_a_fault(rt: HostRuntime) {
+    let mut disk = empty(&rt);
+    let mut sector: Sector = [0; 512];
+    fails(&rt, disk.write(3, &[9; 512]));
+    fails(&rt, disk.read(3, &mut sector));
+}
+
+#[test]
+fn a_fault_prints_as_a_sentence(rt: HostRuntime) {
+    let printed = Fault.to_string(rt.alloc()).expect(&rt, "no memory");
+    same(&rt, printed.as_str(), "the disk failed");
 }
 
 /// Three sectors: 1 in the first at the last sync, then 2 in the first, 3 in the last, and 4 in the first.
-fn written(alloc: Global) -> Result<MemDisk, Fail> {
-    let mut disk = MemDisk::new(alloc, 3)?;
-    put(&mut disk, 0, 1)?;
-    disk.sync()?;
-    put(&mut disk, 0, 2)?;
-    put(&mut disk, 2, 3)?;
-    put(&mut disk, 0, 4)?;
-    Ok(disk)
+fn written(rt: &(impl AllocGlobal + Abort)) -> MemDisk {
+    let mut disk = empty(rt);
+    put(rt, &mut disk, 0, 1);
+    sync(rt, &mut disk);
+    put(rt, &mut disk, 0, 2);
+    put(rt, &mut disk, 2, 3);
+    put(rt, &mut disk, 0, 4);
+    disk
+}
+
+/// Asserts that a crash that leaves these writes leaves a synced disk of these last bytes.
+fn leaves(rt: &(impl AllocGlobal + Abort), disk: &MemDisk, picks: &[usize], wanted: [u8; 3]) {
+    let mut left = disk.crash(rt.alloc(), picks).expect(rt, "no memory");
+    ends_at(rt, &mut left, wanted, picks);
+    is_unsynced(rt, &left, &[]);
+    same(rt, left.syncs(), 0);
 }
 
 #[test]
-fn a_disk_in_memory_gives_what_was_written_last(rt: HostRuntime) -> Result<(), Fail> {
-    let alloc = rt.alloc();
-    let mut disk = MemDisk::new(alloc, 3)?;
-    assert_eq!(rt; disk.sectors(), 3);
-    assert_eq!(rt; last_bytes(&mut disk)?, [0, 0, 0]);
-    put(&mut disk, 1, 7)?;
-    put(&mut disk, 1, 8)?;
-    assert_eq!(rt; last_bytes(&mut disk)?, [0, 8, 0]);
-    assert_eq!(rt; disk.syncs(), 0);
-    disk.sync()?;
-    assert_eq!(rt; disk.syncs(), 1);
-    assert_eq!(rt; disk.unsynced(alloc)?, Vec::new(alloc));
-    Ok(())
+fn a_crash_leaves_any_candidate_of_each_sector(rt: HostRuntime) {
+    let disk = written(&rt);
+    is_unsynced(&rt, &disk, &[(0, 3), (2, 2)]);
+    leaves(&rt, &disk, &[0, 0], [1, 0, 0]);
+    leaves(&rt, &disk, &[0, 1], [1, 0, 3]);
+    leaves(&rt, &disk, &[1, 0], [2, 0, 0]);
+    leaves(&rt, &disk, &[1, 1], [2, 0, 3]);
+    leaves(&rt, &disk, &[2, 0], [4, 0, 0]);
+    leaves(&rt, &disk, &[2, 1], [4, 0, 3]);
 }
 
 #[test]
-fn a_sector_past_the_end_is_a_fault(rt: HostRuntime) -> Result<(), Fail> {
-    let alloc = rt.alloc();
-    let mut disk = MemDisk::new(alloc, 3)?;
-    let mut sector: Sector = [0; 512];
-    assert!(rt;
-        put(&mut disk, 3, 9).is_err(),
-        "a sector past the end was written"
-    );
-    assert!(rt;
-        disk.read(3, &mut sector).is_err(),
-        "a sector past the end was read"
-    );
-    assert_eq!(rt; Fault.to_string(alloc)?.as_str(), "the disk failed");
-    Ok(())
+fn a_candidate_that_is_not_there_is_the_first(rt: HostRuntime) {
+    let disk = written(&rt);
+    leaves(&rt, &disk, &[3, 1], [1, 0, 3]);
+    leaves(&rt, &disk, &[2, 2], [4, 0, 0]);
+    leaves(&rt, &disk, &[2], [4, 0, 0]);
+}
+
+/// A disk whose third call failed: 1 stands in its first sector.
+fn failed(rt: &(impl AllocGlobal + Abort)) -> Fuse<MemDisk> {
+    let mut disk = Fuse::new(empty(rt), 3);
+    put(rt, &mut disk, 0, 1);
+    same(rt, sector_at(rt, &mut disk, 0)[511], 1);
+    fails(rt, disk.write(0, &[2; 512]));
+    disk
 }
 
 #[test]
-fn a_crash_leaves_any_candidate_of_each_sector(rt: HostRuntime) -> Result<(), Fail> {
-    let alloc = rt.alloc();
-    let disk = written(alloc)?;
-    assert_eq!(rt;
-        disk.unsynced(alloc)?.as_slice(),
-        [(0, 3), (2, 2)].as_slice()
-    );
-    let images: [([usize; 2], [u8; 3]); 8] = [
-        ([0, 0], [1, 0, 0]),
-        ([0, 1], [1, 0, 3]),
-        ([1, 0], [2, 0, 0]),
-        ([1, 1], [2, 0, 3]),
-        ([2, 0], [4, 0, 0]),
-        ([2, 1], [4, 0, 3]),
-        // there is no such candidate
-        ([3, 1], [1, 0, 3]),
-        ([2, 2], [4, 0, 0]),
-    ];
-    for (picks, wanted) in images {
-        let mut left = disk.crash(alloc, &picks)?;
-        assert_eq!(rt; last_bytes(&mut left)?, wanted, "at {picks:?}");
-        assert_eq!(rt; left.unsynced(alloc)?, Vec::new(alloc));
-        assert_eq!(rt; left.syncs(), 0);
-    }
-    let mut left = disk.crash(alloc, &[2])?;
-    assert_eq!(rt; last_bytes(&mut left)?, [4, 0, 0]);
-    Ok(())
-}
-
-#[test]
-fn a_fuse_fails_one_call_and_goes_on(rt: HostRuntime) -> Result<(), Fail> {
-    let mut disk = Fuse::new(MemDisk::new(rt.alloc(), 3)?, 3);
-    put(&mut disk, 0, 1)?;
-    assert_eq!(rt; sector_at(&mut disk, 0)?[511], 1);
-    assert!(rt; put(&mut disk, 0, 2).is_err(), "the third call was done");
-    assert_eq!(rt; disk.calls(), 3);
-    assert_eq!(rt; last_bytes(&mut disk)?, [1, 0, 0]);
-    put(&mut disk, 1, 5)?;
-    disk.sync()?;
-    assert_eq!(rt; disk.calls(), 8);
+fn a_fuse_fails_one_call_and_goes_on(rt: HostRuntime) {
+    let mut disk = failed(&rt);
+    same(&rt, disk.calls(), 3);
+    ends(&rt, &mut disk, [1, 0, 0]);
+    put(&rt, &mut disk, 1, 5);
+    sync(&rt, &mut disk);
+    same(&rt, disk.calls(), 8);
     let mut inner = disk.into_inner();
-    assert_eq!(rt; inner.syncs(), 1);
-    assert_eq!(rt; last_bytes(&mut inner)?, [1, 5, 0]);
-    Ok(())
+    same(&rt, inner.syncs(), 1);
+    ends(&rt, &mut inner, [1, 5, 0]);
 }
 
 #[test]
-fn a_synced_run_stands_in_its_place(rt: HostRuntime) -> Result<(), Fail> {
-    let alloc = rt.alloc();
-    let mut disk = MemDisk::new(alloc, 3)?;
+fn a_synced_run_stands_in_its_place(rt: HostRuntime) {
+    let mut disk = empty(&rt);
     let run: [Sector; 2] = [[6; 512], [7; 512]];
-    write_run_synced(&mut disk, 1, &run)?;
-    assert_eq!(rt; last_bytes(&mut disk)?, [0, 6, 7]);
-    assert_eq!(rt; disk.unsynced(alloc)?, Vec::new(alloc));
-    let failed = write_run_synced(&mut disk, 2, &run).is_err();
-    assert!(rt; failed, "a run past the end was written");
-    Ok(())
+    write_run_synced(&mut disk, 1, &run).expect(&rt, "not written");
+    ends(&rt, &mut disk, [0, 6, 7]);
+    is_unsynced(&rt, &disk, &[]);
+    fails(&rt, write_run_synced(&mut disk, 2, &run));
 }
 
 #[test]
-fn fields_lie_one_behind_the_other_and_zeros_behind_them(rt: HostRuntime) -> Result<(), Fail> {
+fn fields_lie_one_behind_the_other_and_zeros_behind_them(rt: HostRuntime) {
     let mut fields = Fields::new();
     fields.put(b"ab");
     fields.put_u32(258);
     fields.put_u64(3);
     let sector = fields.sector();
-    assert_eq!(rt; sector[4], 1);
-    assert_eq!(rt; u64_at(&sector, 6), 3);
-    assert_eq!(rt; u32_at(&sector, 14), 0);
-    Ok(())
+    same(&rt, sector[4], 1);
+    same(&rt, u64_at(&sector, 6), 3);
+    same(&rt, u32_at(&sector, 14), 0);
 }
 
 #[test]
-fn a_blank_run_is_written_in_its_place(rt: HostRuntime) -> Result<(), Fail> {
-    let mut disk = MemDisk::new(rt.alloc(), 3)?;
-    put(&mut disk, 0, 7)?;
-    put(&mut disk, 1, 8)?;
-    put(&mut disk, 2, 9)?;
-    write_blank(&mut disk, 1, 2)?;
-    assert_eq!(rt; last_bytes(&mut disk)?, [7, 0, 0]);
-    Ok(())
+fn a_blank_run_is_written_in_its_place(rt: HostRuntime) {
+    let mut disk = empty(&rt);
+    put(&rt, &mut disk, 0, 7);
+    put(&rt, &mut disk, 1, 8);
+    put(&rt, &mut disk, 2, 9);
+    write_blank(&mut disk, 1, 2).expect(&rt, "not written");
+    ends(&rt, &mut disk, [7, 0, 0]);
 }

@@ -1,63 +1,67 @@
 //! Deadlines by unit.
-use std::alloc::Global;
-use std::test::Fail;
+use crate::answers::same;
+use std::process::Abort;
 use um_model::Deadline;
 use um_name::UnitName;
 use um_timer::Timers;
 
-fn unit(alloc: Global, text: &str) -> Result<UnitName, Fail> {
-    Ok(UnitName::parse(alloc, text)?)
+/// The unit of this name.
+fn unit(rt: &(impl AllocGlobal + Abort), name: &str) -> UnitName {
+    UnitName::parse(rt.alloc(), name).expect(rt, "no unit")
 }
 
 /// The deadline of so many microseconds.
-fn deadline(micros: u64) -> Result<Deadline, Fail> {
-    Ok(Deadline::new(micros).ok_or("no deadline")?)
+fn deadline(rt: &impl Abort, micros: u64) -> Deadline {
+    Deadline::new(micros).expect(rt, "no deadline")
 }
 
-/// The deadline of the timer that is due first, in microseconds.
-fn first_deadline(timers: &Timers) -> Option<u64> {
-    match timers.next_due() {
-        Some((deadline, _)) => Some(deadline.micros()),
-        None => None,
+/// Sets the deadline of the unit of this name.
+fn set(rt: &(impl AllocGlobal + Abort), timers: &mut Timers, name: &str, micros: u64) {
+    timers
+        .set(unit(rt, name), deadline(rt, micros))
+        .expect(rt, "no memory");
+}
+
+/// The timers of these units and deadlines, which are set one after another.
+fn timers_of(rt: &(impl AllocGlobal + Abort), deadlines: &[(&str, u64)]) -> Timers {
+    let mut timers = Timers::new(rt.alloc());
+    for (name, micros) in deadlines {
+        set(rt, &mut timers, name, *micros);
     }
+    timers
 }
 
-/// The unit of the timer that is due first.
-fn first_unit(timers: &Timers) -> Option<&str> {
+/// The timer that is due first: its deadline in microseconds, and its unit.
+fn first(timers: &Timers) -> Option<(u64, &str)> {
     match timers.next_due() {
-        Some((_, unit)) => Some(unit.as_str()),
+        Some((deadline, unit)) => Some((deadline.micros(), unit.as_str())),
         None => None,
     }
 }
 
 #[test]
-fn of_equal_deadlines_the_least_name_is_due_first(rt: HostRuntime) -> Result<(), Fail> {
-    let alloc = rt.alloc();
-    let mut timers = Timers::new(alloc);
-    assert_eq!(rt; first_deadline(&timers), None);
-    timers.set(unit(alloc, "b.service")?, deadline(7)?)?;
-    timers.set(unit(alloc, "c.service")?, deadline(5)?)?;
-    timers.set(unit(alloc, "a.service")?, deadline(7)?)?;
-    assert_eq!(rt; first_deadline(&timers), Some(5));
-    assert_eq!(rt; first_unit(&timers), Some("c.service"));
-    timers.clear(&unit(alloc, "c.service")?);
-    assert_eq!(rt; first_deadline(&timers), Some(7));
-    assert_eq!(rt; first_unit(&timers), Some("a.service"));
-    Ok(())
+fn of_equal_deadlines_the_least_name_is_due_first(rt: HostRuntime) {
+    same(&rt, first(&timers_of(&rt, &[])), None);
+    let deadlines = [("b.service", 7), ("c.service", 5), ("a.service", 7)];
+    let mut timers = timers_of(&rt, &deadlines);
+    same(&rt, first(&timers), Some((5, "c.service")));
+    timers.clear(&unit(&rt, "c.service"));
+    same(&rt, first(&timers), Some((7, "a.service")));
+}
+
+/// The deadline of the unit of this name, in microseconds.
+fn micros_of(rt: &(impl AllocGlobal + Abort), timers: &Timers, name: &str) -> Option<u64> {
+    let deadline = timers.get(&unit(rt, name));
+    deadline.map(|deadline| deadline.micros())
 }
 
 #[test]
-fn a_deadline_takes_the_place_of_the_one_before(rt: HostRuntime) -> Result<(), Fail> {
-    let alloc = rt.alloc();
-    let name = unit(alloc, "a.service")?;
-    let mut timers = Timers::new(alloc);
-    timers.set(name.copy()?, deadline(5)?)?;
-    let kept = timers.copy()?;
-    timers.set(name.copy()?, deadline(9)?)?;
-    assert_eq!(rt; timers.get(&name), Some(deadline(9)?));
-    assert_eq!(rt; kept.get(&name), Some(deadline(5)?));
-    timers.set(name.copy()?, deadline(2)?)?;
-    assert_eq!(rt; first_deadline(&timers), Some(2));
-    assert_eq!(rt; first_unit(&timers), Some("a.service"));
-    Ok(())
+fn a_deadline_takes_the_place_of_the_one_before(rt: HostRuntime) {
+    let mut timers = timers_of(&rt, &[("a.service", 5)]);
+    let kept = timers.copy().expect(&rt, "no memory");
+    set(&rt, &mut timers, "a.service", 9);
+    same(&rt, micros_of(&rt, &timers, "a.service"), Some(9));
+    same(&rt, micros_of(&rt, &kept, "a.service"), Some(5));
+    set(&rt, &mut timers, "a.service", 2);
+    same(&rt, first(&timers), Some((2, "a.service")));
 }

@@ -1,9 +1,10 @@
 //! A reader that gives little at a time, and a writer that fails.
+use crate::answers::{same, same_at};
 use crate::script::{DONE, RELOAD, frames, front};
 use std::io;
 use std::io::{ErrorKind, Read, Write};
-use std::test::Fail;
-use um_bin::{Fault, memory};
+use std::process::Abort;
+use um_bin::{Ending, Fault, memory};
 
 /// A reader that gives its bytes one at a time.
 #[derive(Drop)]
@@ -48,29 +49,44 @@ impl Write for Short {
     }
 }
 
-#[test]
-fn a_writer_that_fails_has_taken_a_beginning_of_the_replies(rt: HostRuntime) -> Result<(), Fail> {
-    let alloc = rt.alloc();
-    let input = frames(alloc, &[RELOAD, RELOAD])?;
-    let wanted = frames(alloc, &[DONE, DONE])?;
-    for left in 0..31usize {
-        let mut output = Short {
-            left,
-            taken: Vec::new(alloc),
-        };
-        let mut rest = input.as_slice();
-        let result = memory(alloc, &mut rest, &mut output);
-        let Short { left: _, taken } = output;
-        assert_eq!(rt;
-            matches!(result, Err(Fault::Write(_))),
-            left < 30,
-            "at {left}: {result:?}"
-        );
-        assert_eq!(rt;
-            taken.as_slice(),
-            front(wanted.as_slice(), left),
-            "at {left}"
-        );
+/// How the serving ended, or the kind of the failure of its writer.
+fn ended(answer: &Result<Ending, Fault>) -> (Option<Ending>, Option<ErrorKind>) {
+    match answer {
+        Ok(ending) => (Some(*ending), None),
+        Err(Fault::Write(error)) => (None, Some(error.kind())),
+        Err(_) => (None, None),
     }
-    Ok(())
+}
+
+/// Asserts that a writer that takes so many bytes has taken as many of the replies, and that serving ends at its failure where
+/// they are more.
+fn takes(rt: &(impl AllocGlobal + Abort), input: &[u8], replies: &[u8], left: usize) {
+    let mut output = Short {
+        left,
+        taken: Vec::new(rt.alloc()),
+    };
+    let mut rest = input;
+    let answer = memory(rt.alloc(), &mut rest, &mut output);
+    let wanted = if left < replies.len() {
+        (None, Some(ErrorKind::BrokenPipe))
+    } else {
+        (Some(Ending::Between), None)
+    };
+    same_at(rt, ended(&answer), wanted, (left, &answer));
+    same_at(rt, output.taken.as_slice(), front(replies, left), left);
+}
+
+/// Asserts that for each count of bytes that a writer takes.
+fn takes_each_count(rt: &(impl AllocGlobal + Abort), input: &[u8], replies: &[u8]) {
+    for left in 0..31usize {
+        takes(rt, input, replies, left);
+    }
+}
+
+#[test]
+fn a_writer_that_fails_has_taken_a_beginning_of_the_replies(rt: HostRuntime) {
+    let input = frames(rt.alloc(), &[RELOAD, RELOAD]).expect(&rt, "no memory");
+    let replies = frames(rt.alloc(), &[DONE, DONE]).expect(&rt, "no memory");
+    same(&rt, replies.len(), 30);
+    takes_each_count(&rt, input.as_slice(), replies.as_slice());
 }

@@ -1,7 +1,7 @@
 //! From a file that is put to a unit that is shown.
-use crate::script::{DONE, RELOAD, frames, front, play, replies_in, rest, served, texts};
+use crate::answers::same;
+use crate::script::{DONE, RELOAD, frames, front, play, rest, served};
 use std::test::Fail;
-use um_bin::Ending;
 
 const PUT: &str =
     r#"{"verb":"put-file","path":"lib/a.service","text":"[Service]\nExecStart=/bin/sleep 9\n"}"#;
@@ -16,23 +16,19 @@ const NOT_FOUND: &str =
 
 #[test]
 fn a_file_that_is_put_is_shown_after_a_reload(rt: HostRuntime) -> Result<(), Fail> {
-    let alloc = rt.alloc();
-    let input = frames(alloc, &[PUT, RELOAD, SHOW])?;
-    assert_eq!(rt;
-        front(rest(input.as_slice(), 91), 5),
-        b"\x00\x00\x00\x18{".as_slice()
-    );
-    let (output, ending) = served(alloc, input.as_slice())?;
-    assert_eq!(rt; ending, Ending::Between);
-    assert_eq!(rt;
-        replies_in(alloc, output.as_slice())?,
-        texts(alloc, &[DONE, DONE, LOADED])?
-    );
-    assert_eq!(rt;
-        front(output.as_slice(), 34),
-        b"\x00\x00\x00\x0b{\"ok\":true}\x00\x00\x00\x0b{\"ok\":true}\x00\x00\x00\xa7".as_slice()
-    );
-    Ok(())
+    play(&rt, &[(PUT, DONE), (RELOAD, DONE), (SHOW, LOADED)])
+}
+
+/// The first bytes of the replies: two whole frames and the length of the third.
+const OUTPUT: &[u8] = b"\x00\x00\x00\x0b{\"ok\":true}\x00\x00\x00\x0b{\"ok\":true}\x00\x00\x00\xa7";
+
+#[test]
+fn the_length_of_each_text_stands_before_it(rt: HostRuntime) {
+    let input = frames(rt.alloc(), &[PUT, RELOAD, SHOW]).expect(&rt, "no memory");
+    let second = front(rest(input.as_slice(), 91), 5);
+    same(&rt, second, b"\x00\x00\x00\x18{".as_slice());
+    let (output, _) = served(rt.alloc(), input.as_slice()).expect(&rt, "not served");
+    same(&rt, front(output.as_slice(), 34), OUTPUT);
 }
 
 #[test]

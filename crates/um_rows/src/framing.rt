@@ -1,9 +1,9 @@
 //! Where the frames of a stream begin and end.
+use crate::answers::{same, same_at};
 use crate::devices::Slow;
-use crate::script::{
-    BAD_REQUEST, DONE, RELOAD, frames, front, play, replies_in, rest, served, texts,
-};
+use crate::script::{BAD_REQUEST, DONE, RELOAD, frames, front, has_replies, play, rest, served};
 use std::alloc::{AllocError, Global};
+use std::process::Abort;
 use std::test::Fail;
 use um_bin::{Ending, memory};
 
@@ -38,63 +38,63 @@ fn an_empty_frame_is_no_request_and_the_next_is_read(rt: HostRuntime) -> Result<
     play(&rt, &[("", BAD_REQUEST), (RELOAD, DONE)])
 }
 
-#[test]
-fn the_longest_frame_is_served_and_a_longer_one_ends_the_session(
-    rt: HostRuntime,
-) -> Result<(), Fail> {
-    let alloc = rt.alloc();
-    let input = at_the_limits(alloc, FRAME_LIMIT)?;
-    assert_eq!(rt;
-        front(rest(input.as_slice(), 32), 5),
-        b"\x00\x08\x00\x00{".as_slice()
-    );
-    let (output, ending) = served(alloc, input.as_slice())?;
-    assert_eq!(rt; ending, Ending::TooLong);
-    assert_eq!(rt;
-        replies_in(alloc, output.as_slice())?,
-        texts(alloc, &[BAD_REQUEST, DONE, NOT_FOUND, TOO_LONG])?
-    );
-    Ok(())
+/// Asserts that the replies are those to the frames at the limits.
+fn are_to_the_limits(rt: &(impl AllocGlobal + Abort), output: &[u8]) {
+    has_replies(rt, output, &[BAD_REQUEST, DONE, NOT_FOUND, TOO_LONG]);
 }
 
 #[test]
-fn bytes_that_come_one_at_a_time_have_the_same_replies(rt: HostRuntime) -> Result<(), Fail> {
-    let alloc = rt.alloc();
+fn the_longest_frame_is_served_and_a_longer_one_ends_the_session(rt: HostRuntime) {
+    let input = at_the_limits(rt.alloc(), FRAME_LIMIT).expect(&rt, "no memory");
+    let longest = front(rest(input.as_slice(), 32), 5);
+    same(&rt, longest, b"\x00\x08\x00\x00{".as_slice());
+    let (output, ending) = served(rt.alloc(), input.as_slice()).expect(&rt, "not served");
+    same(&rt, ending, Ending::TooLong);
+    are_to_the_limits(&rt, output.as_slice());
+}
+
+#[test]
+fn bytes_that_come_one_at_a_time_have_the_same_replies(rt: HostRuntime) {
     let mut input = Slow {
-        bytes: at_the_limits(alloc, 9000)?,
+        bytes: at_the_limits(rt.alloc(), 9000).expect(&rt, "no memory"),
         given: 0,
     };
-    let mut output = Vec::new(alloc);
-    let ending = memory(alloc, &mut input, &mut output)?;
-    assert_eq!(rt; ending, Ending::TooLong);
-    assert_eq!(rt;
-        replies_in(alloc, output.as_slice())?,
-        texts(alloc, &[BAD_REQUEST, DONE, NOT_FOUND, TOO_LONG])?
-    );
-    Ok(())
+    let mut output = Vec::new(rt.alloc());
+    let ending = memory(rt.alloc(), &mut input, &mut output).expect(&rt, "not served");
+    same(&rt, ending, Ending::TooLong);
+    are_to_the_limits(&rt, output.as_slice());
 }
 
+/// Asserts that the bytes, cut there, have these replies and end so.
+fn has_when_cut(
+    rt: &(impl AllocGlobal + Abort),
+    input: &[u8],
+    cut: usize,
+    replies: &[u8],
+    wanted: Ending,
+) {
+    let (output, ending) = served(rt.alloc(), front(input, cut)).expect(rt, "not served");
+    same_at(rt, ending, wanted, cut);
+    same_at(rt, output.as_slice(), replies, cut);
+}
+
+/// Where two frames are cut, how many bytes of replies they have then, and how they end.
+const CUTS: &[(usize, usize, Ending)] = &[
+    (0, 0, Ending::Between),
+    (1, 0, Ending::Inside),
+    (4, 0, Ending::Inside),
+    (27, 0, Ending::Inside),
+    (28, 15, Ending::Between),
+    (29, 15, Ending::Inside),
+    (55, 15, Ending::Inside),
+];
+
 #[test]
-fn a_frame_that_is_cut_has_no_reply(rt: HostRuntime) -> Result<(), Fail> {
-    let alloc = rt.alloc();
-    let input = frames(alloc, &[RELOAD, RELOAD])?;
-    let one = frames(alloc, &[DONE])?;
-    for (cut, replies, wanted) in [
-        (0usize, 0usize, Ending::Between),
-        (1, 0, Ending::Inside),
-        (4, 0, Ending::Inside),
-        (27, 0, Ending::Inside),
-        (28, 15, Ending::Between),
-        (29, 15, Ending::Inside),
-        (55, 15, Ending::Inside),
-    ] {
-        let (output, ending) = served(alloc, front(input.as_slice(), cut))?;
-        assert_eq!(rt; ending, wanted, "at {cut}");
-        assert_eq!(rt;
-            output.as_slice(),
-            front(one.as_slice(), replies),
-            "at {cut}"
-        );
+fn a_frame_that_is_cut_has_no_reply(rt: HostRuntime) {
+    let input = frames(rt.alloc(), &[RELOAD, RELOAD]).expect(&rt, "no memory");
+    let one = frames(rt.alloc(), &[DONE]).expect(&rt, "no memory");
+    for (cut, count, wanted) in CUTS {
+        let replies = front(one.as_slice(), *count);
+        has_when_cut(&rt, input.as_slice(), *cut, replies, *wanted);
     }
-    Ok(())
 }

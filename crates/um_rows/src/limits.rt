@@ -1,7 +1,8 @@
 //! The limits of a store's room and of known units.
-use crate::answers::{at, refused};
+use crate::answers::{at, is_refused, text};
 use crate::script::{DONE, RELOAD, play};
 use std::alloc::{AllocError, Global};
+use std::process::Abort;
 use std::test::Fail;
 use um_engine::Engine;
 use um_state::{Command, Event, Input, State};
@@ -9,29 +10,22 @@ use um_state::{Command, Event, Input, State};
 /// The size of a store, in bytes.
 const SIZE: u64 = 32_256;
 
-/// Why an empty store of that size refuses `lib/a.service` with a text of so many bytes; None where it doesn't.
-fn refusal_of(alloc: Global, length: usize) -> Result<Option<String>, Fail> {
-    let engine = Engine::of(alloc, State::empty(alloc), SIZE)?;
+/// Asserts that an empty store of that size answers so to `lib/a.service` with a text of so many bytes.
+fn answers(rt: &(impl AllocGlobal + Abort), length: usize, wanted: Option<&str>) {
+    let alloc = rt.alloc();
+    let engine = Engine::of(alloc, State::empty(alloc), SIZE).expect(rt, "no engine");
     let command = Command::PutFile {
-        path: String::from_str(alloc, "lib/a.service")?,
-        text: "#".repeat(alloc, length)?,
+        path: text(rt, "lib/a.service"),
+        text: "#".repeat(alloc, length).expect(rt, "no memory"),
     };
-    let input = Input::new(at(0)?, Event::Commanded(command));
-    refused(alloc, engine.plan(&input))
+    let input = Input::new(at(rt, 0), Event::Commanded(command));
+    is_refused(rt, engine.plan(&input), wanted, length);
 }
 
 #[test]
-fn a_file_that_fills_the_store_is_taken(rt: HostRuntime) -> Result<(), Fail> {
-    let refusal = refusal_of(rt.alloc(), 31_955)?;
-    assert_eq!(rt; refusal.as_deref(), None);
-    Ok(())
-}
-
-#[test]
-fn a_file_of_a_byte_more_has_no_room(rt: HostRuntime) -> Result<(), Fail> {
-    let refusal = refusal_of(rt.alloc(), 31_956)?;
-    assert_eq!(rt; refusal.as_deref(), Some("E14 NoRoom"));
-    Ok(())
+fn a_state_has_room_up_to_the_size_of_its_store(rt: HostRuntime) {
+    answers(&rt, 31_955, None);
+    answers(&rt, 31_956, Some("E14 NoRoom"));
 }
 
 /// A request to put `lib/a.service`, which wants so many units that aren't there.

@@ -1,4 +1,5 @@
 //! Scripts of requests with the replies that are wanted for them.
+use crate::answers::{list, same};
 use std::alloc::{AllocError, Global};
 use std::process::Abort;
 use std::test::Fail;
@@ -65,13 +66,10 @@ pub fn replies_in(alloc: Global, output: &[u8]) -> Result<Vec<String>, AllocErro
     Ok(replies)
 }
 
-/// These texts as a list of their own.
-pub fn texts(alloc: Global, texts: &[&str]) -> Result<Vec<String>, AllocError> {
-    let mut owned = Vec::new(alloc);
-    for text in texts {
-        owned.push(String::from_str(alloc, text)?)?;
-    }
-    Ok(owned)
+/// Asserts that the replies that were written are these.
+pub fn has_replies(rt: &(impl AllocGlobal + Abort), output: &[u8], wanted: &[&str]) {
+    let replies = replies_in(rt.alloc(), output).expect(rt, "no memory");
+    same(rt, replies, list(rt, wanted));
 }
 
 /// The first step whose reply isn't the wanted one: its number, what was asked, wanted and got. None where each is.

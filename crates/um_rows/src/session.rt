@@ -1,6 +1,8 @@
 //! A client's session by its public calls.
-use std::alloc::{AllocError, Global};
-use std::test::Fail;
+use crate::answers::{same, same_at, text};
+use crate::script::{front, rest};
+use std::fmt::Debug;
+use std::process::Abort;
 use um_proto::{Asked, Request};
 use um_session::Session;
 use um_state::{Command, Event};
@@ -9,84 +11,93 @@ use um_state::{Command, Event};
 const RELOAD: &[u8] = b"\0\0\0\x18{\"verb\":\"daemon-reload\"}";
 
 /// Feeds the bytes.
-fn feed(session: &mut Session, bytes: &[u8]) -> Result<(), AllocError> {
-    session.room(bytes.len())?;
-    session.feed(bytes)
+fn feed(rt: &impl Abort, session: &mut Session, bytes: &[u8]) {
+    session.room(bytes.len()).expect(rt, "no memory");
+    session.feed(bytes).expect(rt, "no memory");
+}
+
+/// What the request is called.
+fn word(request: &Request) -> &'static str {
+    match request {
+        Request {
+            at: None,
+            asked: Asked::Event(Event::Commanded(Command::DaemonReload)),
+        } => "reload",
+        _ => "another",
+    }
 }
 
 /// What is read next: `reload`, the refusal, or nothing.
-fn next(alloc: Global, session: &mut Session) -> Result<String, AllocError> {
+fn next(rt: &(impl AllocGlobal + Abort), session: &mut Session) -> String {
     match session.next_request() {
-        None => Ok(String::new(alloc)),
-        Some(Ok(Request { at: None, asked })) => match asked {
-            Asked::Event(Event::Commanded(Command::DaemonReload)) => {
-                String::from_str(alloc, "reload")
-            }
-            _ => String::from_str(alloc, "another"),
-        },
-        Some(Ok(_)) => String::from_str(alloc, "another"),
-        Some(Err(refusal)) => refusal.to_string(alloc),
+        None => text(rt, ""),
+        Some(Ok(request)) => text(rt, word(&request)),
+        Some(Err(refusal)) => refusal.to_string(rt.alloc()).expect(rt, "no memory"),
     }
 }
 
+/// Asserts that this is read next, in this row.
+fn reads<R: Debug + Drop>(
+    rt: &(impl AllocGlobal + Abort),
+    session: &mut Session,
+    wanted: &str,
+    row: R,
+) {
+    let read = next(rt, session);
+    same_at(rt, read.as_str(), wanted, row);
+}
+
+/// Asserts that the frame of a request, cut in these two places, is read as that request alone.
+fn is_one_request(rt: &(impl AllocGlobal + Abort), first: usize, second: usize) {
+    let mut session = Session::new(rt.alloc());
+    feed(rt, &mut session, front(RELOAD, first));
+    feed(rt, &mut session, rest(front(RELOAD, second), first));
+    feed(rt, &mut session, rest(RELOAD, second));
+    reads(rt, &mut session, "reload", (first, second));
+    reads(rt, &mut session, "", (first, second));
+}
+
 #[test]
-fn a_frame_cut_anywhere_in_two_and_in_three_is_the_same_request(
-    rt: HostRuntime,
-) -> Result<(), Fail> {
-    let alloc = rt.alloc();
+fn a_frame_cut_anywhere_in_two_and_in_three_is_the_same_request(rt: HostRuntime) {
     for first in 0..=RELOAD.len() {
         for second in first..=RELOAD.len() {
-            let mut session = Session::new(alloc);
-            for piece in [&RELOAD[..first], &RELOAD[first..second], &RELOAD[second..]] {
-                feed(&mut session, piece)?;
-            }
-            let got = next(alloc, &mut session)?;
-            assert_eq!(rt; got.as_str(), "reload", "cut at {first} and {second}");
-            assert!(rt;
-                session.next_request().is_none(),
-                "cut at {first} and {second}: more was read"
-            );
+            is_one_request(&rt, first, second);
         }
     }
-    Ok(())
 }
 
 #[test]
-fn an_empty_frame_is_refused_and_the_stream_goes_on(rt: HostRuntime) -> Result<(), Fail> {
-    let alloc = rt.alloc();
-    let mut session = Session::new(alloc);
-    feed(&mut session, &[0, 0, 0, 0])?;
-    feed(&mut session, RELOAD)?;
-    for want in ["E1 BadRequest", "reload", ""] {
-        let got = next(alloc, &mut session)?;
-        assert_eq!(rt; got.as_str(), want);
-    }
-    assert!(rt; !session.failed());
-    Ok(())
-}
-
-#[test]
-fn a_length_past_the_limit_is_refused_at_once_and_nothing_more_is_read(
-    rt: HostRuntime,
-) -> Result<(), Fail> {
-    let alloc = rt.alloc();
-    let mut session = Session::new(alloc);
-    feed(&mut session, &[0, 8, 0, 1])?;
-    let got = next(alloc, &mut session)?;
-    assert_eq!(rt; got.as_str(), "E13 TooLarge frame");
-    assert!(rt; session.failed());
-    feed(&mut session, RELOAD)?;
-    assert!(rt; session.next_request().is_none());
-    Ok(())
-}
-
-#[test]
-fn replies_are_put_out_as_frames_in_their_order(rt: HostRuntime) -> Result<(), Fail> {
+fn an_empty_frame_is_refused_and_the_stream_goes_on(rt: HostRuntime) {
     let mut session = Session::new(rt.alloc());
-    session.push_reply(b"{}")?;
-    session.push_reply(b"[1]")?;
+    feed(&rt, &mut session, &[0, 0, 0, 0]);
+    feed(&rt, &mut session, RELOAD);
+    reads(&rt, &mut session, "E1 BadRequest", "first");
+    reads(&rt, &mut session, "reload", "second");
+    reads(&rt, &mut session, "", "third");
+    same(&rt, session.failed(), false);
+}
+
+#[test]
+fn a_length_past_the_limit_is_refused_at_once_and_nothing_more_is_read(rt: HostRuntime) {
+    let mut session = Session::new(rt.alloc());
+    feed(&rt, &mut session, &[0, 8, 0, 1]);
+    reads(&rt, &mut session, "E13 TooLarge frame", "first");
+    same(&rt, session.failed(), true);
+    feed(&rt, &mut session, RELOAD);
+    reads(&rt, &mut session, "", "second");
+}
+
+/// Asserts that these bytes are put out.
+fn puts_out(rt: &impl Abort, session: &mut Session, wanted: &[u8]) {
     let output = session.take_output();
-    assert_eq!(rt; output.as_slice(), b"\0\0\0\x02{}\0\0\0\x03[1]".as_slice());
-    assert!(rt; session.take_output().is_empty());
-    Ok(())
+    same(rt, output.as_slice(), wanted);
+}
+
+#[test]
+fn replies_are_put_out_as_frames_in_their_order(rt: HostRuntime) {
+    let mut session = Session::new(rt.alloc());
+    session.push_reply(b"{}").expect(&rt, "no memory");
+    session.push_reply(b"[1]").expect(&rt, "no memory");
+    puts_out(&rt, &mut session, b"\0\0\0\x02{}\0\0\0\x03[1]");
+    puts_out(&rt, &mut session, b"");
 }

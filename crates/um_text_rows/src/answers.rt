@@ -1,21 +1,57 @@
 //! Answers as values that can be compared and shown.
-use std::alloc::{AllocError, Global};
-use std::test::Fail;
+use std::fmt::Debug;
+use std::process::Abort;
 use um_wire::Refusal;
 
-/// Why an answer is a refusal, as it is printed: its number, name and details. None where it isn't one.
-pub fn refused<T: Drop>(alloc: Global, answer: Result<T, Refusal>) -> Result<Option<String>, Fail> {
+/// Asserts that the value is the wanted one.
+pub fn same<T: PartialEq + Debug + Drop>(rt: &impl Abort, got: T, wanted: T) {
+    assert_eq!(rt; got, wanted);
+}
+
+/// Asserts that the value is the wanted one, in this row.
+pub fn same_at<T: PartialEq + Debug + Drop, R: Debug + Drop>(
+    rt: &impl Abort,
+    got: T,
+    wanted: T,
+    row: R,
+) {
+    assert_eq!(rt; got, wanted, "at {row:?}");
+}
+
+/// Asserts that the answer is the wanted one, in this row: a refusal that prints as this text, or no refusal.
+pub fn is_refused<T: Drop, R: Debug + Drop>(
+    rt: &(impl AllocGlobal + Abort),
+    answer: Result<T, Refusal>,
+    wanted: Option<&str>,
+    row: R,
+) {
     match answer {
-        Ok(_) => Ok(None),
-        Err(refusal) => Ok(Some(refusal.to_string(alloc)?)),
+        Ok(_) => same_at(rt, None, wanted, row),
+        Err(refusal) => prints(rt, &refusal, wanted, row),
     }
 }
 
+/// Asserts that the refusal is wanted, and prints as this text: its number, name and details.
+fn prints<R: Debug + Drop>(
+    rt: &(impl AllocGlobal + Abort),
+    refusal: &Refusal,
+    wanted: Option<&str>,
+    row: R,
+) {
+    let printed = refusal.to_string(rt.alloc()).expect(rt, "no memory");
+    same_at(rt, Some(printed.as_str()), wanted, row);
+}
+
+/// A text of its own.
+pub fn text(rt: &(impl AllocGlobal + Abort), text: &str) -> String {
+    String::from_str(rt.alloc(), text).expect(rt, "no memory")
+}
+
 /// These texts as a list of their own.
-pub fn list(alloc: Global, texts: &[&str]) -> Result<Vec<String>, AllocError> {
-    let mut list = Vec::new(alloc);
-    for text in texts {
-        list.push(String::from_str(alloc, text)?)?;
+pub fn list(rt: &(impl AllocGlobal + Abort), texts: &[&str]) -> Vec<String> {
+    let mut list = Vec::new(rt.alloc());
+    for item in texts {
+        list.push(text(rt, item)).expect(rt, "no memory");
     }
-    Ok(list)
+    list
 }
