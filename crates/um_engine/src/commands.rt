@@ -1,15 +1,14 @@
 //! What a command does, and why it is refused.
 
-ghost use Rattle.std.specs.Prelude.{◌≡◌, ◌↔◌, Err, IsTrue, IfOk, IfErr};
-ghost use Rattle.um_engine.specs.Engine.{StartsSo};
+ghost use Rattle.std.specs.Prelude.{◌≡◌, Err, false, IfOk, IfErr};
+ghost use Rattle.um_engine.specs.Known.{HoldsNoMore};
+ghost use Rattle.um_model.specs.Machine.{has_waiting};
 ghost use Rattle.um_model.specs.Install.{paths_beyond};
 ghost use Rattle.um_model.specs.Machine as model;
 ghost use Rattle.um_model.specs.Refusals as told;
 ghost use Rattle.um_model.specs.Tree.{put_file, put_link, remove_at};
 ghost use Rattle.um_model.specs.Units as units;
 ghost use Rattle.um_state.specs.View.{state_of, command_of, reply_of};
-ghost use Rattle.um_model.specs.declared.commands.JobMode.TheVariants.{Fail};
-ghost use Rattle.um_unit.specs.View.{loading_of, unit_of};
 ghost use Rattle.um_wire.specs.Gives.{RefusesBy};
 ghost use Rattle.um_wire.specs.Refusal.{refused_of};
 ghost use Rattle.um_wire.specs.declared.refusal.Refusal.TheVariants.{NoMemory};
@@ -55,7 +54,11 @@ fn check_cancel(
     state: &State,
     asked: &UnitName,
     leads: &Asked,
-) -> Result<(), Refusal> {
+) -> Result<(), Refusal>
+    requires unit { leads.now.unit ≡ model.unit_asked (state_of state.now) asked.now }
+    requires found { leads.now.is_found ≡ model.is_found (units.load (state_of state.now).loaded asked.now) }
+    ensures { RefusesBy (model.Refuses (state_of state.now) (model.Cancel asked.now)) result }
+{
     check_missing(alloc, state, asked, leads.is_found)?;
     check_waiting(alloc, &leads.unit, state.pending().get(&leads.unit))?;
     Ok(())

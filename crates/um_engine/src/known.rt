@@ -37,10 +37,13 @@ fn held_with(
     ensures { IfOk result (λ names. (unit : List ℕ) → Contains names.items unit ↔ IsHeldWith (state_of state.now) (option_copied named.entry) unit) }
 {
     let mut names = state.held(alloc)?;
-    if let Some(named) = named {
-        names.push(named.copy()?)?;
+    match named {
+        Some(named) => {
+            names.push(named.copy()?)?;
+            Ok(names)
+        }
+        None => Ok(names),
     }
-    Ok(names)
 }
 
 /// Whether the state holds the unit, or it is the one that is named.
@@ -110,6 +113,9 @@ impl Known {
         ensures { IsTrue result → KnowsFor self.now (state_of state.now)
             → IsGraphFor (state_of state.now).loaded (IsHeldWith (state_of state.now) (option_copied named.entry)) self.now.graph }
     {
-        self.knows(named) && self.is_made_for(state, named) && !state.loaded().has_run()
+        if state.loaded().has_run() || !self.knows(named) {
+            return false;
+        }
+        self.is_made_for(state, named)
     }
 }

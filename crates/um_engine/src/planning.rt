@@ -3,7 +3,7 @@
 ghost use Rattle.std.specs.Prelude.{◌≡◌, ◌≢◌, ◌<◌, ℕ, List, IfOk, IfErr, OnOk, drop, length};
 ghost use Rattle.um_engine.specs.Known.{IsGraphFor, KnowsFor};
 ghost use Rattle.um_engine.specs.Planned.{AreActive, ArePending, HasPlan};
-ghost use Rattle.um_graph.specs.Graph.{IsNumberOf};
+ghost use Rattle.um_graph.specs.Graph.{IsGraph, IsNumberOf};
 ghost use Rattle.um_jobs.specs.Named.{jobs_at, jobs_by};
 ghost use Rattle.um_model.specs.Jobs.{jobs_of_unit, with_jobs};
 ghost use Rattle.um_model.specs.Machine as model;
@@ -65,6 +65,7 @@ pub fn pending_by_number(
     graph: &Graph,
     state: &State,
 ) -> Result<Vec<UnitJobs>, AllocError>
+    ensures graph { IsGraph graph.now }
     ensures len { IfOk result (λ pending. length pending.items ≡ length graph.now.names) }
     ensures each { IfOk result (λ pending. ArePending graph.now (state_of state.now) pending.items) }
 {
