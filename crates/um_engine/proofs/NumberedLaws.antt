@@ -85,9 +85,10 @@ module _ (s : State) (named : List ℕ) (g : GraphView) (exact : IsGraphFor s.lo
         depends = a.depends;
         before = a.before;
         loadable = λ x k.
-            let l = a.loadable x k in
-            (λ h none. let u = l.0 h in none-some u.0 (sym none ∙ u.1),
-            λ there. l.1 (some_there x (loadable_in s.loaded x) refl there));
+            let l = a.loadable x k in (
+              λ h none. let u = l.0 h in none-some u.0 (sym none ∙ u.1),
+              λ there. l.1 (some_there x (loadable_in s.loaded x) refl there),
+            );
         cannot = a.cannot;
         activity = a.activity;
         pending = a.pending;

@@ -128,8 +128,7 @@ impl Engine {
         &self,
         moment: Moment,
         happening: &Happening,
-    ) -> Result<(Option<Served>, Vec<Action>), AllocError>
-    {
+    ) -> Result<(Option<Served>, Vec<Action>), AllocError> {
         let served = &self.served;
         let graph = served.known().graph();
         let (after, actions) = met(self.alloc, graph, served.state(), moment, happening)?;
@@ -218,8 +217,7 @@ fn settle_all(
     alloc: Global,
     served: Served,
     moment: Moment,
-) -> Result<(Served, Vec<Action>), AllocError>
-{
+) -> Result<(Served, Vec<Action>), AllocError> {
     let (mut state, known) = served.into_parts();
     let mut actions = Vec::new(alloc);
     settle(alloc, known.graph(), &mut state, &mut actions, moment)?;

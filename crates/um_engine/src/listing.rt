@@ -10,11 +10,7 @@ use um_name::UnitName;
 use um_state::{Reply, State, UnitListed};
 
 /// These units, each with how it stands.
-fn listed(
-    alloc: Global,
-    state: &State,
-    names: &[UnitName],
-) -> Result<Vec<UnitListed>, AllocError>
+fn listed(alloc: Global, state: &State, names: &[UnitName]) -> Result<Vec<UnitListed>, AllocError>
     ensures { IfOk result (λ listed. map listed_of listed.items ≡ map (model.unit_listed (state_of state.now)) names.now) }
 {
     let mut listed = Vec::new(alloc);
