@@ -85,17 +85,18 @@ module _ (s : State) (named : List ℕ) (g : GraphView) (exact : IsGraphFor s.lo
         depends = a.depends;
         before = a.before;
         loadable = λ x k.
-            let l = a.loadable x k in
-            (λ h none. let u = l.0 h in none-some u.0 (sym none ∙ u.1),
-            λ there. l.1 (some_there (loadable_in s.loaded x) refl there));
+            let l = a.loadable x k in (
+              λ h none. let u = l.0 h in none-some u.0 (sym none ∙ u.1),
+              λ there. l.1 (some_there x (loadable_in s.loaded x) refl there),
+            );
         cannot = a.cannot;
         activity = a.activity;
         pending = a.pending;
       }
     where
-      some_there : {x : List ℕ} (o : Option LoadedUnit) → loadable_in s.loaded x ≡ o → loadable_in s.loaded x ≢ None → (l : LoadedUnit) × (loadable_in s.loaded x ≡ Some l)
-      some_there None at there = absurd (there at)
-      some_there (Some l) at there = (l, at)
+      some_there : (x : List ℕ) (o : Option LoadedUnit) → loadable_in s.loaded x ≡ o → loadable_in s.loaded x ≢ None → (l : LoadedUnit) × (loadable_in s.loaded x ≡ Some l)
+      some_there x None at there = absurd (there at)
+      some_there x (Some l) at there = (l, at)
 
   named_known : IsKnown s.loaded (IsHeldOr s named) named
   named_known = first (extra (inr refl))

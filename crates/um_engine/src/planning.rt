@@ -124,7 +124,8 @@ fn plan_for(
 {
     let activity = activity(alloc, graph, state)?;
     let pending = pending_by_number(alloc, graph, state)?;
-    build(alloc, graph, &activity, &pending, demand, unit, mode)
+    let plan = build(alloc, graph, &activity, &pending, demand, unit, mode)?;
+    Ok(plan)
 }
 
 /// The state with the plan for what is demanded of the unit.
