@@ -1,5 +1,8 @@
 -- What is known for a state, by what the tests of it tell.
-use Rattle.std.proofs.Common.{◌≡◌, ◌≢◌, ◌⊎◌, ◌↔◌, ◌∙◌, ◌++◌, ◌∷◌, [], ℕ, List, Contains, Option, Some, None, false, refl, sym, ap, subst, inl, inr}
+use Rattle.std.proofs.Common.{◌≡◌, ◌≢◌, ◌⊎◌, ◌↔◌, ◌∙◌, ◌++◌, ◌∷◌, [], ℕ, List, Contains, Option, Some, None, is_some, Bool, true, false, true≢false, refl, sym, ap, subst, inl, inr}
+use Rattle.std.specs.Prelude.{MatchOption, slice_get}
+use Rattle.std.proofs.lemmas.Option.{get_or_from_slice_get}
+use Rattle.um_graph.proofs.NamedLaws.{got_within}
 use Rattle.um_model.specs.Dependencies.{IsKnown, extra}
 use Rattle.um_model.specs.Machine.{State, IsHeld, IsHeldOr}
 use Rattle.um_model.specs.Reached.{first}
@@ -35,3 +38,9 @@ knows_still k s u h same held = record { made = subst (λ tree. IsGraphFor tree 
 
 pub knows_less : (k : KnownView) (s u : State) → KnowsFor k s → HoldsNoMore s u → KnowsFor k u
 knows_less k s u h less = knows_still k s u h less.loaded (λ x held. h.held x (less.held x held))
+
+-- a unit that has a number is known
+pub known_by : (names : List (List ℕ)) (o : Option ℕ) (x y : List ℕ) (b : Bool) → b ≡ is_some o → MatchOption o (¬ Contains names x) (λ i. slice_get names i ≡ Some x) → x ≡ y → b ≡ true
+    → Contains names y
+known_by names None x y b e found is t = absurd (true≢false (sym t ∙ e))
+known_by names (Some i) x y b e found is t = (i, got_within names i y (found ∙ ap Some is), get_or_from_slice_get names i y y (found ∙ ap Some is))

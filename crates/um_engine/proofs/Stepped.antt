@@ -1,12 +1,12 @@
 -- A step, by what is planned of it.
 use Rattle.std.proofs.Common.{◌≡◌, ◌∙◌, ◌↔◌, ℕ, Bool, true, false, true≢false, List, [], Option, Some, None, is_some, refl, sym, ap, subst}
 use Rattle.um_model.specs.Machine as model
-use Rattle.um_model.specs.Machine.{State, Command, Happening, Event, Commanded, Happened, Input, Reply, Done, Refusal, Refuses, HasNoEffect, LacksEffect, Takes, meets, Step, refused, idle, taken, reply_after, moment_of}
-use Rattle.um_model.specs.Refusals.{Refused}
+use Rattle.um_model.specs.Machine.{State, Command, Happening, Event, Commanded, Happened, Input, Reply, Done, Refusal, Refuses, HasNoEffect, LacksEffect, Takes, meets, Step, refused, crowded_out, HasNoRoom, idle, taken, reply_after, moment_of}
+use Rattle.um_model.specs.Refusals.{Refused, no_room}
 use Rattle.um_model.specs.Service.{Action}
-use Rattle.um_engine.specs.Engine.{Met, state_at}
-use Rattle.um_state.specs.View.{state_of}
-use Rattle.um_state.specs.declared.state.State as code
+use Rattle.um_engine.specs.Engine.{MetBy, state_at}
+use Rattle.um_engine.specs.Served.{ServedView}
+use Rattle.um_engine.specs.Planned.{Declines, for_cause, for_room}
 
 -- for the input itself, by its event
 of_input : (size : ℕ) (s : State) (i : Input) (event : Event) (reply : Reply) (actions : List Action) (v : State) → i.event ≡ event
@@ -16,15 +16,21 @@ of_input size s i event reply actions v e step = subst (λ x. Step size s x repl
 pub refused_step : (size : ℕ) (s : State) (i : Input) (command : Command) (r : Refused) → i.event ≡ Commanded command → Refuses s command r → Step size s i (Refusal r) [] s
 refused_step size s i command r e h = of_input size s i (Commanded command) (Refusal r) [] s e (refused h)
 
+pub declined_step : (size : ℕ) (s : State) (i : Input) (t : ℕ) (command : Command) (r : Refused) → i.event ≡ Commanded command → t ≡ moment_of s i.moment
+    → Declines size t s command r → Step size s i (Refusal r) [] s
+declined_step size s i t command r e f (for_cause h) = refused_step size s i command r e h
+declined_step size s i t command _ e f (for_room takes heavy) =
+    of_input size s i (Commanded command) (Refusal no_room) [] s e (crowded_out (subst (λ n. Takes n s (Commanded command) _ _) f takes) heavy)
+
 pub taken_step : (size : ℕ) (s : State) (i : Input) (t : ℕ) (event : Event) (reply : Reply) (all actions : List Action) (u v : State) → i.event ≡ event → t ≡ moment_of s i.moment
-    → Takes t s event actions u → reply ≡ reply_after event s.tree u.tree → all ≡ actions → v ≡ record u { clock = t } → Step size s i reply all v
-taken_step size s i t event reply all actions u v e f takes g h k =
+    → Takes t s event actions u → ¬ HasNoRoom size event u → reply ≡ reply_after event s.tree u.tree → all ≡ actions → v ≡ record u { clock = t } → Step size s i reply all v
+taken_step size s i t event reply all actions u v e f takes room g h k =
     let input : Input = record { moment = i.moment; event = event } in
     of_input size s i event reply all v e
     (subst (λ x. Step size s input x all v) (sym g)
     (subst (λ x. Step size s input (reply_after event s.tree u.tree) x v) (sym h)
     (subst (λ x. Step size s input (reply_after event s.tree u.tree) actions x) (sym (k ∙ ap (λ n. record u { clock = n }) f))
-    (taken (subst (λ n. Takes n s event actions u) f takes)))))
+    (taken (subst (λ n. Takes n s event actions u) f takes) room))))
 
 idle_step : (size : ℕ) (s : State) (i : Input) (t : ℕ) (happening : Happening) (reply : Reply) (all : List Action) (v : State) → i.event ≡ Happened happening → t ≡ moment_of s i.moment
     → HasNoEffect t s happening → reply ≡ Done → all ≡ [] → v ≡ s → Step size s i reply all v
@@ -37,21 +43,21 @@ idle_step size s i t happening reply all v e f none g h k =
     (idle (subst (λ n. HasNoEffect n s happening) f none)))))
 
 -- what comes of a happening is the step
-pub met_step : (size : ℕ) (s : State) (i : Input) (t : ℕ) (happening : Happening) (reply : Reply) (all actions : List Action) (after : Option code.State) (v : State)
-    → i.event ≡ Happened happening → t ≡ moment_of s i.moment → Met t s happening after actions → reply ≡ Done → all ≡ actions → v ≡ state_at t after s → Step size s i reply all v
+pub met_step : (size : ℕ) (s : State) (i : Input) (t : ℕ) (happening : Happening) (reply : Reply) (all actions : List Action) (after : Option ServedView) (v : State)
+    → i.event ≡ Happened happening → t ≡ moment_of s i.moment → MetBy t s happening after actions → reply ≡ Done → all ≡ actions → v ≡ state_at t after s → Step size s i reply all v
 met_step size s i t happening reply all actions None v e f met g h k = idle_step size s i t happening reply all v e f met.0 g (h ∙ met.1) k
 met_step size s i t happening reply all actions (Some after) v e f met g h k =
-    taken_step size s i t (Happened happening) reply all actions (state_of after) v e f (meets met.0 met.1) g h k
+    taken_step size s i t (Happened happening) reply all actions after.state v e f (meets met.0 met.1) (λ none. none) g h k
 
-pub met_effect : (t t' : ℕ) (s : State) (event : Event) (happening : Happening) (after : Option code.State) (actions : List Action) (b : Bool)
-    → event ≡ Happened happening → t ≡ t' → b ≡ is_some after → Met t s happening after actions → (b ≡ false) ↔ LacksEffect t' s event
+pub met_effect : (t t' : ℕ) (s : State) (event : Event) (happening : Happening) (after : Option ServedView) (actions : List Action) (b : Bool)
+    → event ≡ Happened happening → t ≡ t' → b ≡ is_some after → MetBy t s happening after actions → (b ≡ false) ↔ LacksEffect t' s event
 met_effect t t' s event happening None actions b e f g met =
     (λ _. subst (λ x. LacksEffect t' s x) (sym e) (subst (λ n. HasNoEffect n s happening) f met.0), λ _. g)
 met_effect t t' s event happening (Some after) actions b e f g met =
     (λ h. absurd (true≢false (sym g ∙ h)), λ h. absurd (met.0 (subst (λ n. HasNoEffect n s happening) (sym f) (subst (λ x. LacksEffect t' s x) e h))))
 
-pub met_nothing : (t : ℕ) (s : State) (happening : Happening) (after : Option code.State) (all actions : List Action) (b : Bool) (v : State)
-    → b ≡ is_some after → Met t s happening after actions → all ≡ actions → v ≡ state_at t after s → b ≡ false → (v ≡ s) × (all ≡ [])
+pub met_nothing : (t : ℕ) (s : State) (happening : Happening) (after : Option ServedView) (all actions : List Action) (b : Bool) (v : State)
+    → b ≡ is_some after → MetBy t s happening after actions → all ≡ actions → v ≡ state_at t after s → b ≡ false → (v ≡ s) × (all ≡ [])
 met_nothing t s happening None all actions b v g met h k none = (k, h ∙ met.1)
 met_nothing t s happening (Some after) all actions b v g met h k none = absurd (true≢false (sym g ∙ none))
 

@@ -1,15 +1,14 @@
 //! What a command does, and why it is refused.
 
-ghost use Rattle.std.specs.Prelude.{◌≡◌, ◌↔◌, Err, IsTrue, IfOk, IfErr};
-ghost use Rattle.um_engine.specs.Engine.{StartsSo};
+ghost use Rattle.std.specs.Prelude.{◌≡◌, Err, false, IfOk, IfErr};
+ghost use Rattle.um_engine.specs.Known.{HoldsNoMore};
+ghost use Rattle.um_model.specs.Machine.{has_waiting};
 ghost use Rattle.um_model.specs.Install.{paths_beyond};
 ghost use Rattle.um_model.specs.Machine as model;
 ghost use Rattle.um_model.specs.Refusals as told;
 ghost use Rattle.um_model.specs.Tree.{put_file, put_link, remove_at};
 ghost use Rattle.um_model.specs.Units as units;
 ghost use Rattle.um_state.specs.View.{state_of, command_of, reply_of};
-ghost use Rattle.um_model.specs.declared.commands.JobMode.TheVariants.{Fail};
-ghost use Rattle.um_unit.specs.View.{loading_of, unit_of};
 ghost use Rattle.um_wire.specs.Gives.{RefusesBy};
 ghost use Rattle.um_wire.specs.Refusal.{refused_of};
 ghost use Rattle.um_wire.specs.declared.refusal.Refusal.TheVariants.{NoMemory};
@@ -41,7 +40,7 @@ fn no_such_job(alloc: Global, unit: &UnitName) -> Refusal
 
 /// Refuses to drop the waiting jobs of a unit where none waits (E21).
 fn check_waiting(alloc: Global, unit: &UnitName, jobs: UnitJobs) -> Result<(), Refusal>
-    ensures { RefusesBy (HasNone jobs unit.now) result }
+    ensures { RefusesBy (λ r. (has_waiting jobs ≡ false) × (r ≡ told.no_such_job unit.now)) result }
 {
     if has_waiting(jobs) {
         return Ok(());
@@ -55,7 +54,11 @@ fn check_cancel(
     state: &State,
     asked: &UnitName,
     leads: &Asked,
-) -> Result<(), Refusal> {
+) -> Result<(), Refusal>
+    requires unit { leads.now.unit ≡ model.unit_asked (state_of state.now) asked.now }
+    requires found { leads.now.is_found ≡ model.is_found (units.load (state_of state.now).loaded asked.now) }
+    ensures { RefusesBy (model.Refuses (state_of state.now) (model.Cancel asked.now)) result }
+{
     check_missing(alloc, state, asked, leads.is_found)?;
     check_waiting(alloc, &leads.unit, state.pending().get(&leads.unit))?;
     Ok(())
@@ -63,8 +66,8 @@ fn check_cancel(
 
 /// The state without the waiting jobs of a unit.
 fn without_waiting(alloc: Global, served: &Served, asked: &UnitName) -> Result<State, Refusal>
-    ensures changed { IfOk result (λ u. model.Changes (state_of served.now.state) (model.Cancel asked.now) (state_of u)) }
-    ensures refused { RefusesBy (model.Refuses (state_of served.now.state) (model.Cancel asked.now)) result }
+    ensures changed { IfOk result (λ u. model.Changes served.now.state (model.Cancel asked.now) (state_of u)) }
+    ensures refused { RefusesBy (model.Refuses served.now.state (model.Cancel asked.now)) result }
 {
     let state = served.state();
     let leads = Asked::of(alloc, served.known().graph(), state.loaded(), asked)?;
@@ -147,8 +150,8 @@ pub struct Outcome {
 
 /// The state as a command left its loaded tree, with nothing new that it holds: what is known stays, and nothing is answered.
 fn done(served: &Served, state: State) -> Result<Outcome, AllocError>
-    requires { HoldsNoMore (state_of served.now.state) (state_of state) }
-    ensures state { IfOk result (λ o. o.served.state ≡ state) }
+    requires { HoldsNoMore served.now.state (state_of state) }
+    ensures state { IfOk result (λ o. o.served.state ≡ state_of state) }
     ensures reply { IfOk result (λ o. reply_of o.reply ≡ model.Done) }
 {
     Ok(Outcome {
@@ -159,7 +162,7 @@ fn done(served: &Served, state: State) -> Result<Outcome, AllocError>
 
 /// The state with its tree in hand loaded. Refused are too many known units (E13), and pending jobs in a circle (E9).
 fn reloaded(alloc: Global, state: &State) -> Result<Served, Refusal>
-    ensures changed { IfOk result (λ u. model.Changes (state_of state.now) model.DaemonReload (state_of u.state)) }
+    ensures changed { IfOk result (λ u. model.Changes (state_of state.now) model.DaemonReload u.state) }
     ensures refused { RefusesBy (model.Refuses (state_of state.now) model.DaemonReload) result }
 {
     let known = known_of_loaded(alloc, state, state.tree())?;
@@ -171,7 +174,7 @@ fn reloaded(alloc: Global, state: &State) -> Result<Served, Refusal>
 
 /// The state with that tree, loaded. Refused are too many known units (E13), and pending jobs in a circle (E9).
 fn with_tree(alloc: Global, state: &State, tree: Tree) -> Result<Served, Refusal>
-    ensures changed { IfOk result (λ u. state_of u.state ≡ record (state_of state.now) { tree = tree; loaded = tree }) }
+    ensures changed { IfOk result (λ u. u.state ≡ record (state_of state.now) { tree = tree; loaded = tree }) }
     ensures refused { RefusesBy (model.CausesOfLoad (state_of state.now) tree) result }
 {
     let known = known_of_loaded(alloc, state, &tree)?;
@@ -188,9 +191,9 @@ fn installed(
     verb: InstallVerb,
     unit: &UnitName,
 ) -> Result<Outcome, Refusal>
-    ensures changed { IfOk result (λ o. model.Changes (state_of state.now) (model.Install verb unit.now) (state_of o.served.state)) }
+    ensures changed { IfOk result (λ o. model.Changes (state_of state.now) (model.Install verb unit.now) o.served.state) }
     ensures reply { IfOk result (λ o. reply_of o.reply
-        ≡ model.Relinked (paths_beyond (state_of state.now).tree (state_of o.served.state).tree) (paths_beyond (state_of o.served.state).tree (state_of state.now).tree)) }
+        ≡ model.Relinked (paths_beyond (state_of state.now).tree o.served.state.tree) (paths_beyond o.served.state.tree (state_of state.now).tree)) }
     ensures refused { RefusesBy (model.Refuses (state_of state.now) (model.Install verb unit.now)) result }
 {
     let Installed {
@@ -217,10 +220,10 @@ fn silent(served: Served) -> Outcome
 
 /// The state as a command changes it; or the command is refused.
 pub fn changed(alloc: Global, served: &Served, command: &Command) -> Result<Outcome, Refusal>
-    ensures changed { IfOk result (λ c. model.Changes (state_of served.now.state) (command_of command.now) (state_of c.served.state)) }
+    ensures changed { IfOk result (λ c. model.Changes served.now.state (command_of command.now) c.served.state) }
     ensures reply { IfOk result (λ c. reply_of c.reply
-        ≡ model.reply_after (model.Commanded (command_of command.now)) (state_of served.now.state).tree (state_of c.served.state).tree) }
-    ensures refused { RefusesBy (model.Refuses (state_of served.now.state) (command_of command.now)) result }
+        ≡ model.reply_after (model.Commanded (command_of command.now)) served.now.state.tree c.served.state.tree) }
+    ensures refused { RefusesBy (model.Refuses served.now.state (command_of command.now)) result }
 {
     let state = served.state();
     match command {

@@ -106,10 +106,10 @@ impl Engine {
     /// What comes of a command at the moment: the state after it, but for its clock.
     fn obeyed(&self, moment: Moment, command: &Command) -> Result<Settled, Refusal>
         ensures taken { IfOk result (λ o.
-            Takes moment (state_in self.now) (model.Commanded (command_of command.now)) (map action_of o.actions.items) (state_of o.served.state)) }
+            Takes moment (state_in self.now) (model.Commanded (command_of command.now)) (map action_of o.actions.items) o.served.state) }
         ensures reply { IfOk result (λ o. reply_of o.reply
-            ≡ model.reply_after (model.Commanded (command_of command.now)) (state_in self.now).tree (state_of o.served.state).tree) }
-        ensures room { IfOk result (λ o. ¬ IsTooHeavy (size_in self.now) (state_of o.served.state)) }
+            ≡ model.reply_after (model.Commanded (command_of command.now)) (state_in self.now).tree o.served.state.tree) }
+        ensures room { IfOk result (λ o. ¬ IsTooHeavy (size_in self.now) o.served.state) }
         ensures refused { IfErr result (λ e. ¬ (e ≡ NoMemory) → RefusesOrCrowds (size_in self.now) moment (state_in self.now) (command_of command.now) (refused_of e)) }
     {
         let Outcome { served, reply } = changed(self.alloc, &self.served, command)?;

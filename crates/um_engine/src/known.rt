@@ -34,18 +34,21 @@ fn held_with(
     state: &State,
     named: Option<&UnitName>,
 ) -> Result<Vec<UnitName>, AllocError>
-    ensures { IfOk result (λ names. (unit : List ℕ) → Contains names.items unit ↔ IsHeldWith (state_of state.now) (option_copied named) unit) }
+    ensures { IfOk result (λ names. (unit : List ℕ) → Contains names.items unit ↔ IsHeldWith (state_of state.now) (option_copied named.entry) unit) }
 {
     let mut names = state.held(alloc)?;
-    if let Some(named) = named {
-        names.push(named.copy()?)?;
+    match named {
+        Some(named) => {
+            names.push(named.copy()?)?;
+            Ok(names)
+        }
+        None => Ok(names),
     }
-    Ok(names)
 }
 
 /// Whether the state holds the unit, or it is the one that is named.
 fn holds_with(state: &State, named: Option<&UnitName>, unit: &UnitName) -> bool
-    ensures { IsTrue result → IsHeldWith (state_of state.now) (option_copied named) unit.now }
+    ensures { IsTrue result → IsHeldWith (state_of state.now) (option_copied named.entry) unit.now }
 {
     match named {
         Some(named) => state.holds(unit) || unit == named,
@@ -63,10 +66,10 @@ impl Known {
         named: Option<&UnitName>,
     ) -> Result<Known, Refusal>
         ensures made { IfOk result (λ k. IsGraphFor tree.now (Contains k.extra) k.graph) }
-        ensures extra { IfOk result (λ k. (unit : List ℕ) → Contains k.extra unit ↔ IsHeldWith (state_of state.now) (option_copied named) unit) }
-        ensures few { IfOk result (λ k. ¬ IsFull tree.now (IsHeldWith (state_of state.now) (option_copied named))) }
+        ensures extra { IfOk result (λ k. (unit : List ℕ) → Contains k.extra unit ↔ IsHeldWith (state_of state.now) (option_copied named.entry) unit) }
+        ensures few { IfOk result (λ k. ¬ IsFull tree.now (IsHeldWith (state_of state.now) (option_copied named.entry))) }
         ensures refused { IfErr result (λ e. ¬ (e ≡ refusals.NoMemory) → (e ≡ refusals.TooLarge limits.Units)
-            × IsFull tree.now (IsHeldWith (state_of state.now) (option_copied named))) }
+            × IsFull tree.now (IsHeldWith (state_of state.now) (option_copied named.entry))) }
     {
         let extra = held_with(alloc, state, named)?;
         let graph = Graph::of(alloc, tree, extra.as_slice())?;
@@ -82,7 +85,7 @@ impl Known {
 
     /// Whether each unit for which the graph was made is held by the state, or is the one that is named.
     fn is_made_for(&self, state: &State, named: Option<&UnitName>) -> bool
-        ensures { IsTrue result → (unit : List ℕ) → Contains self.now.extra unit → IsHeldWith (state_of state.now) (option_copied named) unit }
+        ensures { IsTrue result → (unit : List ℕ) → Contains self.now.extra unit → IsHeldWith (state_of state.now) (option_copied named.entry) unit }
     {
         for unit in &self.extra {
             if !holds_with(state, named, unit) {
@@ -94,7 +97,7 @@ impl Known {
 
     /// Whether the unit that is named is known.
     fn knows(&self, named: Option<&UnitName>) -> bool
-        ensures { IsTrue result → (unit : List ℕ) → option_copied named ≡ Some unit → Contains self.now.graph.names unit }
+        ensures { IsTrue result → (unit : List ℕ) → option_copied named.entry ≡ Some unit → Contains self.now.graph.names unit }
     {
         match named {
             Some(named) => self.graph.number(named).is_some(),
@@ -108,8 +111,11 @@ impl Known {
     /// Where entries stand under `run/` it never is: without those the tree may lack units that the state holds.
     pub fn fits(&self, state: &State, named: Option<&UnitName>) -> bool
         ensures { IsTrue result → KnowsFor self.now (state_of state.now)
-            → IsGraphFor (state_of state.now).loaded (IsHeldWith (state_of state.now) (option_copied named)) self.now.graph }
+            → IsGraphFor (state_of state.now).loaded (IsHeldWith (state_of state.now) (option_copied named.entry)) self.now.graph }
     {
-        self.knows(named) && self.is_made_for(state, named) && !state.loaded().has_run()
+        if state.loaded().has_run() || !self.knows(named) {
+            return false;
+        }
+        self.is_made_for(state, named)
     }
 }

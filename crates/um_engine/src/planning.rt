@@ -1,9 +1,9 @@
 //! What the plan of a command for a unit makes of the state (systemctl(1), "start", "stop", "restart", "try-restart").
 
-ghost use Rattle.std.specs.Prelude.{◌≡◌, ◌≢◌, ◌<◌, ◌×◌, ℕ, List, IfOk, IfErr, OnOk, drop, length};
+ghost use Rattle.std.specs.Prelude.{◌≡◌, ◌≢◌, ◌<◌, ℕ, List, IfOk, IfErr, OnOk, drop, length};
 ghost use Rattle.um_engine.specs.Known.{IsGraphFor, KnowsFor};
 ghost use Rattle.um_engine.specs.Planned.{AreActive, ArePending, HasPlan};
-ghost use Rattle.um_graph.specs.Graph.{IsNumberOf};
+ghost use Rattle.um_graph.specs.Graph.{IsGraph, IsNumberOf};
 ghost use Rattle.um_jobs.specs.Named.{jobs_at, jobs_by};
 ghost use Rattle.um_model.specs.Jobs.{jobs_of_unit, with_jobs};
 ghost use Rattle.um_model.specs.Machine as model;
@@ -65,6 +65,7 @@ pub fn pending_by_number(
     graph: &Graph,
     state: &State,
 ) -> Result<Vec<UnitJobs>, AllocError>
+    ensures graph { IsGraph graph.now }
     ensures len { IfOk result (λ pending. length pending.items ≡ length graph.now.names) }
     ensures each { IfOk result (λ pending. ArePending graph.now (state_of state.now) pending.items) }
 {
@@ -180,8 +181,8 @@ pub fn planned(
     asked: &UnitName,
     mode: JobMode,
 ) -> Result<Served, Refusal>
-    ensures changed { IfOk result (λ u. model.Changes (state_of served.now.state) (model.ForUnit verb asked.now mode) (state_of u.state)) }
-    ensures refused { RefusesBy (model.Refuses (state_of served.now.state) (model.ForUnit verb asked.now mode)) result }
+    ensures changed { IfOk result (λ u. model.Changes served.now.state (model.ForUnit verb asked.now mode) u.state) }
+    ensures refused { RefusesBy (model.Refuses served.now.state (model.ForUnit verb asked.now mode)) result }
 {
     let state = served.state();
     let Asked { unit, is_found } = Asked::of(alloc, served.known().graph(), state.loaded(), asked)?;

@@ -22,7 +22,7 @@ const UNIT_WEIGHT: u64 = 2_048;
 
 /// For how many units the loaded tree counts, with those that the state holds.
 fn units(alloc: Global, served: &Served) -> Result<usize, AllocError>
-    ensures { IfOk result (λ units. CountsFor (state_of served.now.state).loaded (IsHeld (state_of served.now.state)) units) }
+    ensures { IfOk result (λ units. CountsFor served.now.state.loaded (IsHeld served.now.state) units) }
 {
     let state = served.state();
     let known = served.known();
@@ -44,8 +44,8 @@ fn weight(tree: u64, loaded: u64, units: usize) -> Option<u64>
 
 /// Refuses a state that weighs more than a store of so many bytes holds (E14).
 pub fn check_room(alloc: Global, served: &Served, size: u64) -> Result<(), Refusal>
-    ensures room { IfOk result (λ _. ¬ IsTooHeavy size (state_of served.now.state)) }
-    ensures refused { IfErr result (λ e. ¬ (e ≡ NoMemory) → (refused_of e ≡ no_room) × IsTooHeavy size (state_of served.now.state)) }
+    ensures room { IfOk result (λ _. ¬ IsTooHeavy size served.now.state) }
+    ensures refused { IfErr result (λ e. ¬ (e ≡ NoMemory) → (refused_of e ≡ no_room) × IsTooHeavy size served.now.state) }
 {
     let units = units(alloc, served)?;
     let state = served.state();

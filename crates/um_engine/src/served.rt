@@ -1,6 +1,9 @@
 //! A state with what is known of its units.
 
 ghost use Rattle.std.specs.Prelude.{◌≡◌, IfOk, Contains, Some};
+ghost use Rattle.std.specs.Coded.{codes};
+ghost use Rattle.std.specs.FinMap as maps;
+ghost use Rattle.um_model.specs.Tree.{tree_code};
 ghost use Rattle.um_engine.specs.Known.{IsGraphFor, KnowsFor};
 ghost use Rattle.um_engine.specs.Served.{ServedView};
 ghost use Rattle.um_model.specs.Machine.{IsHeld, IsHeldOr, IsCrowded};
@@ -27,7 +30,9 @@ pub struct Served {
 impl Model for Served {
     ghost Value = { ServedView };
 
-    ghost view = { λ s. record { state = s.state; known = s.known.value } };
+    ghost coded = { Prim.hlevel (codes, maps.code, tree_code) };
+
+    ghost view = { λ s. record { state = state_of s.state; known = s.known.value } };
 
     ghost invariant = { λ s. KnowsFor s.known.value (state_of s.state) };
 }
@@ -35,7 +40,7 @@ impl Model for Served {
 impl Served {
     /// The state with what is known of just its units. Refused are too many known units (E13).
     pub fn of(alloc: Global, state: State) -> Result<Served, Refusal>
-        ensures state { IfOk result (λ s. s.state ≡ state) }
+        ensures state { IfOk result (λ s. s.state ≡ state_of state) }
         ensures refused { RefusesBy (IsCrowded (state_of state).loaded (IsHeld (state_of state))) result }
     {
         let known = Known::of(alloc, state.loaded(), &state, None)?;
@@ -46,7 +51,7 @@ impl Served {
     /// A state with what is known for it.
     pub fn with(state: State, known: Rc<Known>) -> Served
         requires { KnowsFor known.value (state_of state) }
-        ensures state { result.state ≡ state }
+        ensures state { result.state ≡ state_of state }
         ensures known { result.known ≡ known.value }
     {
         Served { state, known }
@@ -54,9 +59,9 @@ impl Served {
 
     /// The state by itself, and what is known.
     pub fn into_parts(self) -> (State, Rc<Known>)
-        ensures state { result.0 ≡ self.state }
+        ensures state { state_of result.0 ≡ self.state }
         ensures known { result.1.value ≡ self.known }
-        ensures knows { KnowsFor self.known (state_of self.state) }
+        ensures knows { KnowsFor self.known self.state }
     {
         let Served { state, known } = self;
         (state, known)
@@ -64,7 +69,7 @@ impl Served {
 
     /// The same at that moment.
     pub fn at(self, moment: Moment) -> Served
-        ensures state { state_of result.state ≡ record (state_of self.state) { clock = moment } }
+        ensures state { result.state ≡ record self.state { clock = moment } }
     {
         let Served { mut state, known } = self;
         state.set_clock(moment);
@@ -73,8 +78,8 @@ impl Served {
 
     /// The state.
     pub fn state(&self) -> &State
-        ensures state { result.now ≡ self.now.state }
-        ensures knows { KnowsFor self.now.known (state_of self.now.state) }
+        ensures state { state_of result.now ≡ self.now.state }
+        ensures knows { KnowsFor self.now.known self.now.state }
     {
         &self.state
     }
@@ -82,7 +87,7 @@ impl Served {
     /// What is known of the units.
     pub fn known(&self) -> &Known
         ensures known { result.now ≡ self.now.known }
-        ensures knows { KnowsFor self.now.known (state_of self.now.state) }
+        ensures knows { KnowsFor self.now.known self.now.state }
     {
         &self.known
     }
@@ -90,7 +95,7 @@ impl Served {
     /// What is known, again.
     pub fn share_known(&self) -> Result<Rc<Known>, AllocError>
         ensures known { IfOk result (λ k. k.value ≡ self.now.known) }
-        ensures knows { KnowsFor self.now.known (state_of self.now.state) }
+        ensures knows { KnowsFor self.now.known self.now.state }
     {
         self.known.clone()
     }
@@ -98,9 +103,9 @@ impl Served {
     /// What is known of the units and of the one that a command names: the same again where that fits. Refused are too many known
     /// units (E13).
     pub fn known_with(&self, alloc: Global, named: &UnitName) -> Result<Rc<Known>, Refusal>
-        ensures made { IfOk result (λ k. IsGraphFor (state_of self.now.state).loaded (Contains k.value.extra) k.value.graph) }
-        ensures known { IfOk result (λ k. IsGraphFor (state_of self.now.state).loaded (IsHeldOr (state_of self.now.state) named.now) k.value.graph) }
-        ensures refused { RefusesBy (IsCrowded (state_of self.now.state).loaded (IsHeldOr (state_of self.now.state) named.now)) result }
+        ensures made { IfOk result (λ k. IsGraphFor self.now.state.loaded (Contains k.value.extra) k.value.graph) }
+        ensures known { IfOk result (λ k. IsGraphFor self.now.state.loaded (IsHeldOr self.now.state named.now) k.value.graph) }
+        ensures refused { RefusesBy (IsCrowded self.now.state.loaded (IsHeldOr self.now.state named.now)) result }
     {
         if self.known.fits(&self.state, Some(named)) {
             return Ok(self.known.clone()?);

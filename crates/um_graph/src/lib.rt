@@ -12,7 +12,7 @@ mod row;
 mod told;
 mod units;
 
-pub use count::count_of;
+pub use count::{count_of, known_units};
 pub use graph::Graph;
 pub use kinds::{Kinds, inverse_of, kinds_of};
 pub use row::Neighbour;

@@ -4,6 +4,7 @@ use Rattle.std.proofs.lemmas.Option.{none-some, same_Some}
 use Rattle.std.specs.FinMap as map
 use Rattle.std.specs.FinMap.{slice_cmp-IsAntisymmetric, nat_cmp-IsAntisymmetric}
 use Rattle.std.specs.Cmp.Lexicographic.{nat_list_cmp_total}
+use Rattle.um_model.specs.Alike.{NamesACycle, AlikeBut, the_same, both_name, IsSameOutcome}
 use Rattle.um_model.specs.Refusals.{Refused, FirstCause, at_first, at_second, no_room, ordering_cycle}
 use Rattle.um_model.specs.Tree.{Tree, put_file, put_link, remove_at}
 use Rattle.um_model.specs.Least.{IsNamedBefore}
@@ -35,22 +36,7 @@ use Rattle.um_model.proofs.SceneLaws.{finite_scene, one_list_of_known}
 use Rattle.um_model.proofs.TransitionLaws.{same_actions}
 use Rattle.um_model.proofs.TimersLaws.{one_due_first, same_name, names_one_way}
 
--- ---- alike but for a cycle
-
--- a refusal names a cycle
-abbrev pub NamesACycle : Refused → Type 0
-NamesACycle r = (units : List (List ℕ)) × (r ≡ ordering_cycle units)
-
--- two replies are the same, or both are refusals that name a cycle
-pub data AlikeBut : Reply → Reply → Type 0 where
-  the_same : {r q : Reply} → r ≡ q → AlikeBut r q
-  both_name : {r q : Refused} → NamesACycle r → NamesACycle q → AlikeBut (Refusal r) (Refusal q)
-
--- two outcomes are one, but for the cycle that a refusal names
-pub record IsSameOutcome (r q : Reply) (a b : List Action) (s t : State) : Type 0 where
-  pub reply : AlikeBut r q
-  pub actions : a ≡ b
-  pub state : s ≡ t
+-- ---- refusals
 
 -- refusals for a cause are one, or each names a cycle
 abbrev AreOneBut : (Refused → Type 0) → Type 0

@@ -35,6 +35,7 @@ pub mod Numbers
 pub mod Requests
 pub mod Replies
 pub mod Frames
+pub mod Alike
 pub mod Timers
 pub mod Specifiers
 pub mod Disk

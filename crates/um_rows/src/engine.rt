@@ -49,7 +49,7 @@ fn refusal(alloc: Global, engine: &Engine, input: Input) -> Result<Option<String
 
 /// An engine that has loaded `a.service`.
 fn loaded(alloc: Global) -> Result<Engine, Fail> {
-    let mut engine = Engine::of(alloc, State::empty(alloc), SIZE);
+    let mut engine = Engine::of(alloc, State::empty(alloc), SIZE)?;
     let reload = Input::new(at(5)?, Event::Commanded(Command::DaemonReload));
     assert_nothing(step(alloc, &mut engine, put(alloc)?)?)?;
     assert_nothing(step(alloc, &mut engine, reload)?)?;
@@ -76,7 +76,7 @@ fn unit(alloc: Global, engine: &Engine) -> Result<UnitState, Fail> {
 #[test]
 fn a_step_is_taken_and_taken_back(rt: HostRuntime) -> Result<(), Fail> {
     let alloc = rt.alloc();
-    let mut engine = Engine::of(alloc, State::empty(alloc), SIZE);
+    let mut engine = Engine::of(alloc, State::empty(alloc), SIZE)?;
     let next = engine.plan(&put(alloc)?)?;
     assert_eq!(rt; next.has_effect(), true);
     let (_, actions, back) = engine.commit(next);
@@ -134,7 +134,7 @@ fn the_way_back_from_a_step_without_effect_changes_nothing(rt: HostRuntime) -> R
 #[test]
 fn a_start_of_nothing_is_refused(rt: HostRuntime) -> Result<(), Fail> {
     let alloc = rt.alloc();
-    let engine = Engine::of(alloc, State::empty(alloc), SIZE);
+    let engine = Engine::of(alloc, State::empty(alloc), SIZE)?;
     for (verb, wanted) in [
         (UnitVerb::Start, "E4 NotFound a.service"),
         (UnitVerb::Restart, "E4 NotFound a.service"),
@@ -156,7 +156,7 @@ fn a_put_into_a_full_tree_is_refused(rt: HostRuntime) -> Result<(), Fail> {
         let path = format!(in alloc; "lib/u{number}.service")?;
         state.put_file(path.as_str(), "#")?;
     }
-    let mut engine = Engine::of(alloc, state, SIZE);
+    let mut engine = Engine::of(alloc, state, SIZE)?;
     // the last one that has room is put once more in its own place
     for _ in 0..2 {
         assert_eq!(rt; step(alloc, &mut engine, put(alloc)?)?, Vec::new(alloc));

@@ -16,6 +16,8 @@ mod first_path;
 #[cfg(test)]
 mod framing;
 #[cfg(test)]
+mod jobs;
+#[cfg(test)]
 mod lines;
 #[cfg(test)]
 mod one_service;
