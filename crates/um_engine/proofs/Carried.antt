@@ -15,10 +15,10 @@ use Rattle.um_model.specs.declared.transition.StartJob.{StartJob}
 use Rattle.um_model.specs.declared.transition.StartJob.TheVariants.{Stays, Ends, Fails}
 use Rattle.um_model.specs.declared.transition.UnitEvent.{UnitEvent}
 use Rattle.um_model.proofs.TimersLaws.{same_name}
-use Rattle.um_model.proofs.UnitLaws.{jobs_apart, jobs_here, tidy_jobs, tidy_units}
+use Rattle.um_model.proofs.UnitLaws.{jobs_apart, jobs_here, state_apart, tidy_jobs, tidy_units}
 use Rattle.um_model.proofs.WaitingLaws.{NoMoreWait, waits, waits_in}
 use Rattle.um_graph.specs.Graph.{GraphView}
-use Rattle.um_engine.specs.Carrying.{ChangesTo}
+use Rattle.um_engine.specs.Carrying.{ChangesTo, KeepsOthers}
 use Rattle.um_engine.specs.Engine.{CarriesTo}
 use Rattle.um_engine.specs.Over.{Serves}
 use Rattle.um_engine.proofs.AlongLaws.{pending_apart, units_apart}
@@ -153,3 +153,21 @@ process_known g s unit number serves has = serves.held unit (inl (λ e. dead_has
     dead_has : HasNumber dead_unit number → ⊥
     dead_has (inl e) = none-some number e
     dead_has (inr e) = none-some number e
+
+-- ---- the other units are as they were
+
+pub others_kept : (unit : List ℕ) (s u v w : State) (stands : UnitState) (jobs : UnitJobs) (next : ℕ) → u ≡ record s { units = with_unit s.units unit stands }
+    → v ≡ record u { pending = with_jobs u.pending unit jobs } → w ≡ record v { next = next } → KeepsOthers unit s w
+others_kept unit s u v w stands jobs next e f g = record {
+  jobs = λ x apart. ap (λ p. jobs_of_unit p x) pending ∙ jobs_apart s.pending unit jobs x apart;
+  states = λ x apart. ap (λ p. state_of_unit p x) units ∙ state_apart s.units unit stands x apart;
+}
+  where
+    pending : w.pending ≡ with_jobs s.pending unit jobs
+    pending = ap (λ (x : State). x.pending) g ∙ (ap (λ (x : State). x.pending) f ∙ ap (λ (x : State). with_jobs x.pending unit jobs) e)
+
+    units : w.units ≡ with_unit s.units unit stands
+    units = ap (λ (x : State). x.units) g ∙ (ap (λ (x : State). x.units) f ∙ ap (λ (x : State). x.units) e)
+
+pub kept_then : (unit : List ℕ) (s u v : State) → KeepsOthers unit s u → KeepsOthers unit u v → KeepsOthers unit s v
+kept_then unit s u v k l = record { jobs = λ x apart. l.jobs x apart ∙ k.jobs x apart; states = λ x apart. l.states x apart ∙ k.states x apart }

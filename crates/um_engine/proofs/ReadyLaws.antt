@@ -25,6 +25,7 @@ use Rattle.um_graph.proofs.NamedLaws.{among_or_apart, got_within, item_at, name_
 use Rattle.um_jobs.specs.Jobs.{IsReadyIn, JobsView, held_at, job_named}
 use Rattle.um_jobs.specs.Named.{jobs_at, jobs_by}
 use Rattle.um_jobs.proofs.NamedLaws.{jobs_by_at, jobs_by_none}
+use Rattle.um_engine.specs.Carrying.{KeepsOthers}
 use Rattle.um_engine.specs.Filled.{Tells, TellsBelow, deactivates, is_deactivating, told_of}
 use Rattle.um_engine.specs.Over.{Serves}
 use Rattle.um_engine.proofs.AlongLaws.{number_by, pending_apart, sum_drops}
@@ -262,3 +263,43 @@ serves_begun g s b j serves known is = subst (Serves g) (sym is) (record { extra
         before : IsHeld (begun s j) x → x ≢ j.unit → IsHeld s x
         before (inl h) apart = inl h
         before (inr h) apart = inr (λ e. h (pending_apart s.pending j.unit (with_running j.kind (jobs_of_unit s.pending j.unit)) x apart ∙ e))
+
+pub begun_keeps : (s b : State) (j : Job) → b ≡ begun s j → KeepsOthers j.unit s b
+begun_keeps s b j is = record {
+  jobs = λ x apart. ap (λ (z : State). jobs_of_unit z.pending x) is ∙ jobs_apart s.pending j.unit (with_running j.kind (jobs_of_unit s.pending j.unit)) x apart;
+  states = λ x apart. ap (λ (z : State). state_of_unit z.units x) is;
+}
+
+-- of one unit it is told anew
+pub told_anew : (g : GraphView) (s t : State) (v w : JobsView) (n : ℕ) (name : List ℕ) → Tells g s v → IsNumberOf g n name → KeepsOthers name s t → w ≡ told_of t n name v → Tells g t w
+told_anew g s t v w n name tells number keeps is = subst (Tells g t) (sym is) (record {
+  graph = tells.graph;
+  long = length-set v.units n (jobs_of_unit t.pending name) ∙ tells.long;
+  wide = length-set v.held n (deactivates t name) ∙ tells.wide;
+  jobs = jobs_now;
+  held = held_now;
+})
+  where
+    within : n < length g.names
+    within = got_within g.names n name number
+
+    here : (i : ℕ) (unit : List ℕ) → i < length g.names → IsNumberOf g i unit → unit ≡ name → i ≡ n
+    here i unit below m same = names_once g.names tells.graph.sorted i n below within (name_is g.names i unit m ∙ (same ∙ sym (name_is g.names n name number)))
+
+    elsewhere : (i : ℕ) (unit : List ℕ) → IsNumberOf g i unit → unit ≢ name → i ≢ n
+    elsewhere i unit m apart at = apart (same_Some unit name (sym m ∙ (ap (slice_get g.names) at ∙ number)))
+
+    jobs_now : (i : ℕ) (unit : List ℕ) → i < length g.names → IsNumberOf g i unit → jobs_at (set v.units n (jobs_of_unit t.pending name)) i ≡ jobs_of_unit t.pending unit
+    jobs_now i unit below m = elim (same_name unit name) as (λ _. jobs_at (set v.units n (jobs_of_unit t.pending name)) i ≡ jobs_of_unit t.pending unit) [
+      | inl same ↦ get_or-set_at v.units n i (jobs_of_unit t.pending name) no_jobs (here i unit below m same) (omega (arith, within, tells.long)) ∙ ap (jobs_of_unit t.pending) (sym same)
+      | inr apart ↦
+          get_or-set_other v.units n i (jobs_of_unit t.pending name) no_jobs (λ e. elsewhere i unit m apart (omega (arith, e))) ∙ (tells.jobs i unit below m ∙ sym (keeps.jobs unit apart))
+    ]
+
+    held_now : (i : ℕ) (unit : List ℕ) → i < length g.names → IsNumberOf g i unit → held_at (set v.held n (deactivates t name)) i ≡ deactivates t unit
+    held_now i unit below m = elim (same_name unit name) as (λ _. held_at (set v.held n (deactivates t name)) i ≡ deactivates t unit) [
+      | inl same ↦ get_or-set_at v.held n i (deactivates t name) false (here i unit below m same) (omega (arith, within, tells.wide)) ∙ ap (deactivates t) (sym same)
+      | inr apart ↦
+          get_or-set_other v.held n i (deactivates t name) false (λ e. elsewhere i unit m apart (omega (arith, e)))
+          ∙ (tells.held i unit below m ∙ ap (λ u. is_deactivating (active_state_of u.sub)) (sym (keeps.states unit apart)))
+    ]

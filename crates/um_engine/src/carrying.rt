@@ -1,5 +1,5 @@
-ghost use Rattle.std.specs.Prelude.{◌≡◌, Contains, map, IfOk, OnOk};
-ghost use Rattle.um_engine.specs.Carrying.{ChangesTo};
+ghost use Rattle.std.specs.Prelude.{◌≡◌, false, Contains, map, IfOk, OnOk};
+ghost use Rattle.um_engine.specs.Carrying.{ChangesTo, KeepsOthers};
 ghost use Rattle.um_engine.specs.Engine.{CarriesTo};
 ghost use Rattle.um_engine.specs.Over.{Serves};
 ghost use Rattle.um_model.proofs.WaitingLaws.{NoMoreWait};
@@ -37,6 +37,7 @@ fn change(
     ensures changes { IfOk result (λ fails. Serves graph.now (state_of state.old) → Contains graph.now.names unit.now
         → ChangesTo moment unit.now event (state_of state.old) (map action_of actions.old.items) fails (state_of state.new) (map action_of actions.new.items)) }
     ensures waits { OnOk result (NoMoreWait (state_of state.new).pending (state_of state.old).pending) }
+    ensures others { OnOk result (KeepsOthers unit.now (state_of state.old) (state_of state.new)) }
 {
     let acting = Acting::in_graph(alloc, graph, unit)?;
     let jobs = state.pending().get(unit);
@@ -56,7 +57,31 @@ fn change(
 }
 
 /// Carries out what happens to a unit of the graph at the moment; what is asked of its processes comes behind the other actions. Where
-/// its start fails, that takes along the starts that need it. Where memory is refused the state is of no use.
+/// its start fails, that takes along the starts that need it. Told is whether it failed: else nothing is changed of the other units.
+/// Where memory is refused the state is of no use.
+pub fn carry(
+    alloc: Global,
+    graph: &Graph,
+    state: &mut State,
+    actions: &mut Vec<Action>,
+    moment: Moment,
+    unit: &UnitName,
+    event: UnitEvent,
+) -> Result<bool, AllocError>
+    ensures carries { OnOk result (Serves graph.now (state_of state.old) → Contains graph.now.names unit.now
+        → CarriesTo moment unit.now event (state_of state.old) (map action_of actions.old.items) (state_of state.new) (map action_of actions.new.items)
+        × Serves graph.now (state_of state.new)) }
+    ensures waits { OnOk result (NoMoreWait (state_of state.new).pending (state_of state.old).pending) }
+    ensures others { IfOk result (λ fails. fails ≡ false → KeepsOthers unit.now (state_of state.old) (state_of state.new)) }
+{
+    let fails = change(alloc, graph, state, actions, moment, unit, event)?;
+    if fails {
+        take_along(alloc, graph, state, unit)?;
+    }
+    Ok(fails)
+}
+
+/// Carries out what happens to a unit of the graph, as `carry` does.
 pub fn carry_out(
     alloc: Global,
     graph: &Graph,
@@ -66,14 +91,10 @@ pub fn carry_out(
     unit: &UnitName,
     event: UnitEvent,
 ) -> Result<(), AllocError>
-    ensures carries { OnOk result (Serves graph.now (state_of state.old) → Contains graph.now.names unit.now
+    ensures { OnOk result (Serves graph.now (state_of state.old) → Contains graph.now.names unit.now
         → CarriesTo moment unit.now event (state_of state.old) (map action_of actions.old.items) (state_of state.new) (map action_of actions.new.items)
         × Serves graph.now (state_of state.new)) }
-    ensures waits { OnOk result (NoMoreWait (state_of state.new).pending (state_of state.old).pending) }
 {
-    let fails = change(alloc, graph, state, actions, moment, unit, event)?;
-    if fails {
-        take_along(alloc, graph, state, unit)?;
-    }
+    carry(alloc, graph, state, actions, moment, unit, event)?;
     Ok(())
 }

@@ -1,13 +1,16 @@
-ghost use Rattle.std.specs.Prelude.{◌≡◌, Contains, map, IfOk, IfSome, OnOk, MatchOption};
+ghost use Rattle.std.specs.Prelude.{◌≡◌, false, map, IfOk, IfSome, OnOk, MatchOption};
+ghost use Rattle.um_engine.specs.Carrying.{KeepsOthers};
 ghost use Rattle.um_engine.specs.Engine.{SettlesTo, FiresOneTo, FiresTo, IsDue, NoneIsDue};
 ghost use Rattle.um_engine.specs.Filled.{Tells, is_deactivating, told_of};
 ghost use Rattle.um_engine.specs.Over.{Serves};
+ghost use Rattle.um_graph.specs.Graph.{IsNumberOf};
 ghost use Rattle.um_model.specs.Jobs.{BeginsNext, IsWaiting, Job};
+ghost use Rattle.um_model.specs.Machine as model;
 ghost use Rattle.um_model.specs.Machine.{begun, IsBefore, IsStill};
 ghost use Rattle.um_model.specs.Service.{active_state_of};
 ghost use Rattle.um_state.specs.View.{state_of, action_of};
 
-use crate::carrying::carry_out;
+use crate::carrying::{carry, carry_out};
 use crate::jobs::begins;
 use std::alloc::{AllocError, Global};
 use um_graph::Graph;
@@ -45,34 +48,59 @@ fn jobs_in(alloc: Global, graph: &Graph, state: &State) -> Result<Jobs, AllocErr
     Ok(jobs)
 }
 
-/// The job that begins next, with its unit's name.
-fn next_job(
-    alloc: Global,
-    graph: &Graph,
-    state: &State,
-) -> Result<Option<(UnitName, JobKind)>, AllocError>
-    ensures next { IfOk result (λ next. Serves graph.now (state_of state.now) → MatchOption next
-        (IsStill (state_of state.now))
-        (λ job. BeginsNext (IsBefore (state_of state.now).loaded) (state_of state.now).units (state_of state.now).pending (record { unit = job.0; kind = job.1 }))) }
-    ensures waits { IfOk result (λ next. IfSome next (λ job. IsWaiting (state_of state.now).pending (record { unit = job.0; kind = job.1 }))) }
-    ensures known { IfOk result (λ next. IfSome next (λ job. Contains graph.now.names job.0)) }
+/// A job that begins: its unit's number and name, and what it does.
+#[derive(Drop)]
+struct NextJob {
+    unit: usize,
+    name: UnitName,
+    kind: JobKind,
+}
+
+/// The job that begins next.
+fn next_job(graph: &Graph, jobs: &Jobs) -> Result<Option<NextJob>, AllocError>
+    ensures next { IfOk result (λ next. (s : model.State) → Serves graph.now s → Tells graph.now s jobs.now → MatchOption next
+        (IsStill s)
+        (λ job. BeginsNext (IsBefore s.loaded) s.units s.pending (record { unit = job.name; kind = job.kind }))) }
+    ensures waits { IfOk result (λ next. (s : model.State) → Tells graph.now s jobs.now
+        → IfSome next (λ job. IsWaiting s.pending (record { unit = job.name; kind = job.kind }))) }
+    ensures number { IfOk result (λ next. IfSome next (λ job. IsNumberOf graph.now job.unit job.name)) }
 {
-    let jobs = jobs_in(alloc, graph, state)?;
     let Some((unit, kind)) = jobs.ready(graph) else {
         return Ok(None);
     };
-    match graph.name(unit) {
-        Some(name) => Ok(Some((name.copy()?, kind))),
-        None => Ok(None),
-    }
+    let Some(name) = graph.name(unit) else {
+        return Ok(None);
+    };
+    let name = name.copy()?;
+    Ok(Some(NextJob { unit, name, kind }))
 }
 
 /// The job runs from now on.
-fn begin_job(state: &mut State, unit: &UnitName, kind: JobKind) -> Result<(), AllocError>
-    ensures { OnOk result (state_of state.new ≡ begun (state_of state.old) (record { unit = unit.now; kind = kind })) }
+fn begin_job(state: &mut State, next: &NextJob) -> Result<(), AllocError>
+    ensures { OnOk result (state_of state.new ≡ begun (state_of state.old) (record { unit = next.now.name; kind = next.now.kind })) }
 {
-    let jobs = state.pending().get(unit);
-    state.set_jobs(unit, with_running(kind, jobs))
+    let jobs = state.pending().get(&next.name);
+    state.set_jobs(&next.name, with_running(next.kind, jobs))
+}
+
+/// Tells anew what the state holds of units, after a job of one of them began: of that one, or of all where its start failed.
+fn tell_anew(
+    alloc: Global,
+    graph: &Graph,
+    jobs: &mut Jobs,
+    state: &State,
+    next: &NextJob,
+    fails: bool,
+) -> Result<(), AllocError>
+    ensures { OnOk result ((before : model.State) → Tells graph.now before jobs.old → IsNumberOf graph.now next.now.unit next.now.name
+        → (fails ≡ false → KeepsOthers next.now.name before (state_of state.now)) → Tells graph.now (state_of state.now) jobs.new) }
+{
+    if fails {
+        *jobs = jobs_in(alloc, graph, state)?;
+    } else {
+        tell(jobs, state, next.unit, &next.name);
+    }
+    Ok(())
 }
 
 /// Lets jobs begin at the moment, one after another, until none is ready. Where memory is refused the state is of no use.
@@ -87,9 +115,12 @@ pub fn settle(
         → SettlesTo moment (state_of state.old) (map action_of actions.old.items) (state_of state.new) (map action_of actions.new.items)
         × Serves graph.now (state_of state.new)) }
 {
-    'jobs: while let Some((unit, kind)) = next_job(alloc, graph, state)? {
-        begin_job(state, &unit, kind)?;
-        carry_out(alloc, graph, state, actions, moment, &unit, begins(kind))?;
+    let mut jobs = jobs_in(alloc, graph, state)?;
+    'jobs: while let Some(next) = next_job(graph, &jobs)? {
+        begin_job(state, &next)?;
+        let event = begins(next.kind);
+        let fails = carry(alloc, graph, state, actions, moment, &next.name, event)?;
+        tell_anew(alloc, graph, &mut jobs, state, &next, fails)?;
     }
     Ok(())
 }

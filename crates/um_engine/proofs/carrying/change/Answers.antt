@@ -1,7 +1,7 @@
 use Rattle.std.proofs.Common.{◌∙◌, ap, map}
 use Rattle.std.proofs.lemmas.List.{map-append}
 use Rattle.um_state.specs.View.{state_of, action_of}
-use Rattle.um_engine.proofs.Carried.{changes_so, no_more_left}
+use Rattle.um_engine.proofs.Carried.{changes_so, no_more_left, others_kept}
 use Rattle.um_engine.proofs.carrying.change.Goals as goal
 
 pub returns-clause-changes : goal.returns-clause-changes
@@ -28,3 +28,8 @@ pub returns-clause-waits : goal.returns-clause-waits
 returns-clause-waits c =
     no_more_left c.args.unit.now c.in_ok-asked.asked.start c.in_ok-asked.asked.stop_ends (state_of c.args.state.now) (state_of c.set_unit.new.self) (state_of c.set_jobs.new.self) (state_of c.set_next.new.self)
     c.unit.result c.in_ok-asked.asked.next c.in_ok-set_unit.ensures.ok (rw (c.jobs_left.ensures, c.get-jobs.ensures.jobs, c.pending.ensures) at c.in_ok-set_jobs.ensures.ok) c.set_next.ensures
+
+pub returns-clause-others : goal.returns-clause-others
+returns-clause-others c =
+    others_kept c.args.unit.now (state_of c.args.state.now) (state_of c.set_unit.new.self) (state_of c.set_jobs.new.self) (state_of c.set_next.new.self)
+    c.unit.result c.jobs_left.result c.in_ok-asked.asked.next c.in_ok-set_unit.ensures.ok c.in_ok-set_jobs.ensures.ok c.set_next.ensures

@@ -15,7 +15,7 @@ returns-clause-met c = λ serves.
     let process = rw (c.in-Some.is, c.units.ensures) at c.in_ok-unit.ensures in
     let known = process_known c.args.graph.now (state_of c.args.state.now) c.in-Some.unit c.args.number serves process.has in
     let serves_after = serves_copy c.args.graph.now (state_of c.args.state.now) (state_of c.in_ok-after.after) c.in_ok-after.ensures serves in
-    let (carried, serves_then) = c.in_ok-carry_out.ensures.carries serves_after known in
+    let (carried, serves_then) = c.in_ok-carry_out.ensures serves_after known in
     let carries = rw (c.end_of-event.ensures, c.get.ensures.state, c.units-2.ensures) at carried in (
       end_has_effect c.args.moment (state_of c.args.state.now) c.args.number c.args.end c.in-Some.unit process.has,
       end_follows c.args.moment (state_of c.args.state.now) (state_of c.in_ok-after.after) (state_of c.carry_out.new.state) (state_of c.settle.new.state)
@@ -29,4 +29,4 @@ returns-clause-serves c = λ serves.
     let process = rw (c.in-Some.is, c.units.ensures) at c.in_ok-unit.ensures in
     let known = process_known c.args.graph.now (state_of c.args.state.now) c.in-Some.unit c.args.number serves process.has in
     let serves_after = serves_copy c.args.graph.now (state_of c.args.state.now) (state_of c.in_ok-after.after) c.in_ok-after.ensures serves in
-    (c.in_ok-settle.ensures (c.in_ok-carry_out.ensures.carries serves_after known).1).1
+    (c.in_ok-settle.ensures (c.in_ok-carry_out.ensures serves_after known).1).1

@@ -1,5 +1,6 @@
 use Rattle.std.proofs.Common.{List, map}
 use Rattle.um_engine.specs.Engine.{SettlesTo}
+use Rattle.um_engine.specs.Filled.{Tells}
 use Rattle.um_engine.specs.Over.{Serves}
 use Rattle.um_model.specs.Machine.{State}
 use Rattle.um_model.specs.Service.{Action}
@@ -7,11 +8,14 @@ use Rattle.um_state.specs.View.{state_of, action_of}
 use Rattle.um_engine.proofs.ReadyLaws.{waiting_in}
 use Rattle.um_engine.proofs.settling.settle.Given as goal
 
--- what settles the rest settles the whole, and the graph serves on
+-- what is told by number is what the state tells; what settles the rest settles the whole, and the graph serves on
 abbrev pub invariant-jobs : goal.invariant-jobs
-invariant-jobs l = Serves l.graph (state_of l.initial.state)
-    → ((v : State) (after : List Action) → SettlesTo l.moment (state_of l.state) (map action_of l.actions.items) v after
-    → SettlesTo l.moment (state_of l.initial.state) (map action_of l.initial.actions.items) v after) × Serves l.graph (state_of l.state)
+invariant-jobs l = record {
+  tells : Tells l.graph (state_of l.state) l.jobs;
+  whole : Serves l.graph (state_of l.initial.state)
+      → ((v : State) (after : List Action) → SettlesTo l.moment (state_of l.state) (map action_of l.actions.items) v after
+      → SettlesTo l.moment (state_of l.initial.state) (map action_of l.initial.actions.items) v after) × Serves l.graph (state_of l.state);
+}
 
 -- the jobs that wait
 abbrev pub decreases-jobs : goal.decreases-jobs

@@ -1,7 +1,7 @@
-use Rattle.std.proofs.Common.{map}
+use Rattle.std.proofs.Common.{map, sym, true≢false, ◌∙◌}
 use Rattle.um_state.specs.View.{state_of, action_of}
 use Rattle.um_engine.proofs.Carried.{carried_alone, carried_along, no_more_then}
-use Rattle.um_engine.proofs.carrying.carry_out.Goals as goal
+use Rattle.um_engine.proofs.carrying.carry.Goals as goal
 
 pub returns-in_ok-take_along-clause-carries : goal.returns-in_ok-take_along-clause-carries
 returns-in_ok-take_along-clause-carries c = λ serves known.
@@ -18,3 +18,6 @@ returns-else-fails-clause-carries c = λ serves known.
     carried_alone c.args.graph.now c.args.moment c.args.unit.now c.args.event (state_of c.args.state.now) (state_of c.change.new.state)
     (map action_of c.args.actions.now.items) (map action_of c.change.new.actions.items) c.in_ok-fails.fails (c.in_ok-fails.ensures.changes serves known) serves known
     c.if-fails.false
+
+pub returns-in_ok-take_along-clause-others : goal.returns-in_ok-take_along-clause-others
+returns-in_ok-take_along-clause-others c = λ none. absurd (true≢false (sym c.if-fails.true ∙ none))
