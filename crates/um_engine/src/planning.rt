@@ -124,8 +124,7 @@ fn plan_for(
 {
     let activity = activity(alloc, graph, state)?;
     let pending = pending_by_number(alloc, graph, state)?;
-    let plan = build(alloc, graph, &activity, &pending, demand, unit, mode)?;
-    Ok(plan)
+    build(alloc, graph, &activity, &pending, demand, unit, mode)
 }
 
 /// The state with the plan for what is demanded of the unit.
@@ -141,11 +140,12 @@ fn demanded(
     ensures planned { IfOk result (λ u. HasPlan (state_of state.now) (demand, unit.now) mode (state_of u)) }
     ensures refused { IfErr result (λ e. e ≢ NoMemory → IsRefused (scene_at (state_of state.now) unit.now) (demand, unit.now) mode (refused_of e)) }
 {
+    let Some(number) = graph.number(unit) else {
+        return Ok(state.copy()?);
+    };
+    let plan = plan_for(alloc, graph, state, demand, number, mode)?;
     let mut planned = state.copy()?;
-    if let Some(number) = graph.number(unit) {
-        let plan = plan_for(alloc, graph, state, demand, number, mode)?;
-        planned.set_pending(jobs_planned(alloc, graph, &plan)?);
-    }
+    planned.set_pending(jobs_planned(alloc, graph, &plan)?);
     Ok(planned)
 }
 
