@@ -26,7 +26,7 @@ use Rattle.um_transact.specs.Scene.{IsAccepted, IsRefused, scene_of}
 use Rattle.um_transact.specs.Walk.{activity_at}
 use Rattle.um_transact.proofs.TreeLaws.{alike_tree, accepted_alike, refused_alike}
 use Rattle.um_engine.specs.Known.{IsGraphFor, IsHeldWith}
-use Rattle.um_engine.specs.Planned.{AreActive, ArePending, HasPlan}
+use Rattle.um_engine.specs.Planned.{AreActive, ArePending}
 
 -- ---- lists by number
 
@@ -109,13 +109,6 @@ module _ (s : State) (named : List ℕ) (g : GraphView) (exact : IsGraphFor s.lo
   pub refused_here : (demand : Demand) (mode : JobMode) (r : Refused) → IsRefused (scene_of g activity pending) (demand, named) mode r
       → IsRefused (scene_at s named) (demand, named) mode r
   refused_here demand mode = refused_alike (IsKnown s.loaded (IsHeldOr s named)) (demand, named) named_known (scene_of g activity pending) (scene_at s named) alike mode
-
--- ---- the state that comes of an accepted plan
-
-pub has_plan : (s u v : State) (root : Demand × List ℕ) (mode : JobMode) (after : ByUnit UnitJobs) → IsAccepted (scene_at s root.1) root mode after → u ≡ s
-    → v ≡ record u { pending = after } → HasPlan s root mode v
-has_plan s u v root mode after accepted same is =
-    subst (HasPlan s root mode) (sym (is ∙ ap (λ (x : State). record x { pending = after }) same)) (record { accepted = accepted; rest = refl })
 
 -- the unit for which the graph was made is one of its units
 pub has_named : (s : State) (named : List ℕ) (g : GraphView) → IsGraphFor s.loaded (IsHeldOr s named) g → Contains g.names named

@@ -1,5 +1,6 @@
 pub mod Along
 pub mod Carrying
+pub mod Demanded
 pub mod Engine
 pub mod Filled
 pub mod Known

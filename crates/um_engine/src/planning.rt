@@ -1,6 +1,7 @@
 //! What the plan of a command for a unit makes of the state (systemctl(1), "start", "stop", "restart", "try-restart").
 
 ghost use Rattle.std.specs.Prelude.{◌≡◌, ◌≢◌, ◌<◌, ℕ, List, IfOk, IfErr, OnOk, drop, length};
+ghost use Rattle.um_engine.specs.Demanded.{HoldsWithin, IsDeclined, Obeys};
 ghost use Rattle.um_engine.specs.Known.{IsGraphFor, KnowsFor};
 ghost use Rattle.um_engine.specs.Planned.{AreActive, ArePending, HasPlan};
 ghost use Rattle.um_graph.specs.Graph.{IsGraph, IsNumberOf};
@@ -138,6 +139,7 @@ fn demanded(
 ) -> Result<State, Refusal>
     requires { IsGraphFor (state_of state.now).loaded (IsHeldOr (state_of state.now) unit.now) graph.now }
     ensures planned { IfOk result (λ u. HasPlan (state_of state.now) (demand, unit.now) mode (state_of u)) }
+    ensures held { IfOk result (λ u. HoldsWithin graph.now (state_of u)) }
     ensures refused { IfErr result (λ e. e ≢ NoMemory → IsRefused (scene_at (state_of state.now) unit.now) (demand, unit.now) mode (refused_of e)) }
 {
     let Some(number) = graph.number(unit) else {
@@ -147,6 +149,33 @@ fn demanded(
     let mut planned = state.copy()?;
     planned.set_pending(jobs_planned(alloc, graph, &plan)?);
     Ok(planned)
+}
+
+/// The state with the plan for what is demanded of the unit, or the same where nothing is demanded.
+fn demanded_or_same(
+    alloc: Global,
+    graph: &Graph,
+    state: &State,
+    demand: Option<Demand>,
+    unit: &UnitName,
+    mode: JobMode,
+) -> Result<State, Refusal>
+    requires { IsGraphFor (state_of state.now).loaded (IsHeldOr (state_of state.now) unit.now) graph.now }
+    ensures obeyed { IfOk result (λ u. Obeys (state_of state.now) demand unit.now mode (state_of u)) }
+    ensures held { IfOk result (λ u. HoldsWithin graph.now (state_of u)) }
+    ensures refused { IfErr result (λ e. e ≢ NoMemory → IsDeclined (state_of state.now) demand unit.now mode (refused_of e)) }
+{
+    let Some(demand) = demand else {
+        return Ok(state.copy()?);
+    };
+    demanded(alloc, graph, state, demand, unit, mode)
+}
+
+/// What a command demands of the unit.
+fn demand_for(state: &State, verb: UnitVerb, unit: &UnitName) -> Option<Demand>
+    ensures { result ≡ model.demand_of verb (active_state_of (state_of_unit (state_of state.now).units unit.now).sub) }
+{
+    demand_of(verb, state.units().get(unit).sub.active_state())
 }
 
 /// Whether the command is for a unit that is there already.
@@ -189,10 +218,7 @@ pub fn planned(
     let Asked { unit, is_found } = Asked::of(alloc, served.known().graph(), state.loaded(), asked)?;
     let known = served.known_with(alloc, &unit)?;
     check_there(alloc, state, verb, asked, is_found)?;
-    let active = state.units().get(&unit).sub.active_state();
-    let changed = match demand_of(verb, active) {
-        Some(demand) => demanded(alloc, known.graph(), state, demand, &unit, mode)?,
-        None => state.copy()?,
-    };
+    let demand = demand_for(state, verb, &unit);
+    let changed = demanded_or_same(alloc, known.graph(), state, demand, &unit, mode)?;
     Ok(Served::with(changed, known))
 }
