@@ -1,5 +1,6 @@
 -- A command for a unit: why it is refused and what it changes, by the name that was found for it.
-use Rattle.std.proofs.Common.{◌≡◌, ◌≢◌, ◌∙◌, ℕ, List, Contains, Option, Some, None, unwrap_or, refl, sym, ap, subst, inl, inr}
+use Rattle.std.proofs.Common.{◌≡◌, ◌≢◌, ◌∙◌, ℕ, List, Contains, Option, Some, None, Result, Ok, Err, unwrap_or, refl, sym, ap, subst, inl, inr}
+use Rattle.std.specs.Result.{IsErrAnd}
 use Rattle.std.specs.FinMap as map
 use Rattle.std.proofs.lemmas.Option.{get_or_from_slice_get}
 use Rattle.um_model.specs.Dependencies.{extra}
@@ -18,10 +19,20 @@ use Rattle.um_graph.proofs.NamedLaws.{among_or_apart, name_got}
 use Rattle.um_jobs.specs.Named.{jobs_by}
 use Rattle.um_jobs.proofs.NamedLaws.{jobs_by_none, jobs_by_tidy}
 use Rattle.um_transact.specs.Scene.{IsRefused}
+use Rattle.um_wire.specs.Gives.{RefusesBy}
+use Rattle.um_wire.specs.Refusal.{refused_of}
+use Rattle.um_wire.specs.declared.refusal.Refusal.{Refusal}
+use Rattle.um_wire.specs.declared.refusal.Refusal.TheVariants.{NoMemory}
 use Rattle.um_engine.specs.Demanded.{Obeys, IsDeclined, HoldsWithin}
 use Rattle.um_engine.specs.Known.{IsGraphFor, KnownView, KnowsFor}
 use Rattle.um_engine.specs.Planned.{HasPlan}
 use Rattle.um_engine.proofs.Causes.{by_crowd, by_absence, by_plan, free_to_plan, free_to_rest, plans_to, rests_so}
+
+-- a call that gives on the refusal of another is refused for its cause
+pub refuses_on : {X : Type 0} (Cause : Refused → Type 0) (result : Result X Refusal) (e : Refusal) → IsErrAnd result (λ f. f ≡ e) → (e ≢ NoMemory → Cause (refused_of e))
+    → RefusesBy Cause result
+refuses_on Cause (Ok done) e h cause = absurd h
+refuses_on Cause (Err f) e h cause = subst (λ (r : Refusal). r ≢ NoMemory → Cause (refused_of r)) (sym h) cause
 
 -- ---- what the state holds after it
 
