@@ -1,11 +1,11 @@
 -- What is found of a state by the numbers of a graph's units, and the plan that comes of it.
-use Rattle.std.proofs.Common.{◌≡◌, ◌≢◌, ◌⊎◌, ◌↔◌, ◌∙◌, ◌+◌, ◌<◌, ◌≤◌, ℕ, suc, List, [], ◌∷◌, ◌++◌, length, drop, get_or, Contains, Option, Some, None, unwrap_or, refl, sym, ap, subst, inl, inr, arith}
+use Rattle.std.proofs.Common.{◌≡◌, ◌≢◌, ◌⊎◌, ◌↔◌, ◌∙◌, ◌+◌, ◌<◌, ℕ, suc, List, [], ◌∷◌, ◌++◌, length, drop, get_or, Contains, Option, Some, None, unwrap_or, refl, sym, ap, subst, inl, inr, arith}
 use Rattle.std.specs.FinMap as map
 use Rattle.std.proofs.Math.Seq.{drop-cons}
 use Rattle.std.proofs.lemmas.Bool.{cases_lt}
-use Rattle.std.proofs.lemmas.List.{drop_all, get_or_append_left, get_or_push}
+use Rattle.std.proofs.lemmas.List.{get_or_append_left, get_or_push}
 use Rattle.std.proofs.lemmas.List.Elements.{Contains-append_left, Contains-push, Contains-push_cases}
-use Rattle.std.proofs.lemmas.Option.{none-some, same_Some, get_or_from_slice_get, slice_get-get_or}
+use Rattle.std.proofs.lemmas.Option.{none-some, get_or_from_slice_get, slice_get-get_or}
 use Rattle.std.specs.List.{slice_get}
 use Rattle.um_model.specs.Dependencies.{IsKnown, extra, loadable_in}
 use Rattle.um_model.specs.Jobs.{jobs_of_unit, no_jobs, with_jobs}
@@ -19,13 +19,11 @@ use Rattle.um_model.specs.declared.jobs.UnitJobs.{UnitJobs}
 use Rattle.um_model.specs.declared.service.ActiveState.{ActiveState}
 use Rattle.um_model.specs.Refusals.{Refused}
 use Rattle.um_model.proofs.PlanLaws.{AreAlike}
-use Rattle.um_graph.specs.Graph.{GraphView, IsGraph, IsNumberOf}
-use Rattle.um_graph.proofs.NamedLaws.{got_within}
+use Rattle.um_graph.specs.Graph.{GraphView, IsNumberOf}
 use Rattle.um_jobs.specs.Named.{jobs_at, jobs_by}
 use Rattle.um_transact.specs.Scene.{IsAccepted, IsRefused, scene_of}
-use Rattle.um_transact.specs.Walk.{activity_at}
 use Rattle.um_transact.proofs.TreeLaws.{alike_tree, accepted_alike, refused_alike}
-use Rattle.um_engine.specs.Known.{IsGraphFor, IsHeldWith}
+use Rattle.um_engine.specs.Known.{IsGraphFor}
 use Rattle.um_engine.specs.Planned.{AreActive, ArePending}
 
 -- ---- lists by number
