@@ -1,6 +1,7 @@
 -- Why a tree isn't loaded, by what the calls below tell.
-use Rattle.std.proofs.Common.{◌≡◌, ◌≢◌, ◌⊎◌, ◌↔◌, ◌∙◌, ℕ, List, Contains, Option, Some, None, unwrap_or, refl, sym, ap, subst, inl, inr}
+use Rattle.std.proofs.Common.{◌≡◌, ◌≢◌, ◌⊎◌, ◌↔◌, ◌∙◌, ℕ, List, Contains, Option, Some, None, Result, Ok, Err, unwrap_or, refl, sym, ap, subst, inl, inr}
 use Rattle.std.specs.Bool.{⊤}
+use Rattle.std.specs.Prelude.{IsErrAnd}
 use Rattle.std.specs.FinMap as map
 use Rattle.std.proofs.lemmas.Option.{none-some, slice_get-get_or}
 use Rattle.um_model.specs.Dependencies.{IsKnown, Precedes, extra}
@@ -24,6 +25,10 @@ use Rattle.um_graph.specs.Named.{Joins}
 use Rattle.um_graph.proofs.NamedLaws.{among_or_apart, got_within, name_got, name_is, names_once}
 use Rattle.um_jobs.specs.Named.{jobs_by}
 use Rattle.um_jobs.proofs.NamedLaws.{jobs_by_at, jobs_by_none}
+use Rattle.um_wire.specs.Gives.{RefusesBy}
+use Rattle.um_wire.specs.Refusal.{refused_of}
+use Rattle.um_wire.specs.declared.refusal.Refusal.{Refusal}
+use Rattle.um_wire.specs.declared.refusal.Refusal.TheVariants.{NoMemory}
 use Rattle.um_engine.specs.Known.{IsFull}
 use Rattle.um_engine.specs.Planned.{ArePending}
 
@@ -112,3 +117,9 @@ module _ (s : State) (tree : Tree) where
   pub free_to_load : ¬ IsFull tree (IsHeld s) → ((r : Refused) → ¬ NamesCycle (IsBefore tree) s.pending r) → (r : Refused) → ¬ CausesOfLoad s tree r
   free_to_load few free r (at_first h) = few h.many
   free_to_load few free r (at_second n h) = free r h
+
+-- a call that hands on a refusal is refused by the cause of that
+pub refused_is : {X : Type 0} (Cause : Refused → Type 0) (result : Result X Refusal) (e : Refusal) → IsErrAnd result (λ f. f ≡ e)
+    → (e ≢ NoMemory → Cause (refused_of e)) → RefusesBy Cause result
+refused_is Cause (Ok done) e h step = absurd h
+refused_is Cause (Err f) e h step = subst (λ g. g ≢ NoMemory → Cause (refused_of g)) (sym h) step

@@ -21,25 +21,25 @@ pub returns-in_err-with_tree-clause-refused : goal.returns-in_err-with_tree-clau
 returns-in_err-with_tree-clause-refused c =
     let s = state_of c.args.state.now in
     let told = c.in_ok-tree.ensures.installed in
-    let made : Installs s.tree c.args.verb c.args.unit.now c.in_ok-tree.tree = search (rules, told, c.in_ok-tree.tree-is, c.tree.ensures) in
+    let made : Installs s.tree c.args.verb c.args.unit.now c.in_ok-tree.field-0.tree = search (rules, told, c.in_ok-tree.tree-is, c.tree.ensures) in
     let free : (r : Refused) → ¬ RefusesInstall s.tree c.args.verb c.args.unit.now r =
     subst (λ t. (r : Refused) → ¬ RefusesInstall t c.args.verb c.args.unit.now r) c.tree.ensures c.in_ok-tree.ensures.refused in
     let step : c.in_err-with_tree.field-0.0 ≢ NoMemory → model.Refuses s (model.Install c.args.verb c.args.unit.now) (refused_of c.in_err-with_tree.field-0.0) =
-    λ differs. by_tree_of_install s c.args.verb c.args.unit.now c.in_ok-tree.tree made free _ (c.in_err-with_tree.ensures.refused differs) in
+    λ differs. by_tree_of_install s c.args.verb c.args.unit.now c.in_ok-tree.field-0.tree made free _ (c.in_err-with_tree.ensures.refused differs) in
     search (rules, step)
 
 pub returns-clause-changed : goal.returns-clause-changed
 returns-clause-changed c =
     let s = state_of c.args.state.now in
     let told = c.in_ok-tree.ensures.installed in
-    let made : Installs s.tree c.args.verb c.args.unit.now c.in_ok-tree.tree = search (rules, told, c.in_ok-tree.tree-is, c.tree.ensures) in
-    installs_to s s c.in_ok-with_tree.field-0.state c.args.verb c.args.unit.now c.in_ok-tree.tree refl made c.in_ok-with_tree.ensures.changed
+    let made : Installs s.tree c.args.verb c.args.unit.now c.in_ok-tree.field-0.tree = search (rules, told, c.in_ok-tree.tree-is, c.tree.ensures) in
+    installs_to s s c.in_ok-with_tree.field-0.state c.args.verb c.args.unit.now c.in_ok-tree.field-0.tree refl made c.in_ok-with_tree.ensures.changed
 
 pub returns-clause-refused : goal.returns-clause-refused
 returns-clause-refused c =
     let s = state_of c.args.state.now in
     let told = c.in_ok-tree.ensures.installed in
-    let made : Installs s.tree c.args.verb c.args.unit.now c.in_ok-tree.tree = search (rules, told, c.in_ok-tree.tree-is, c.tree.ensures) in
+    let made : Installs s.tree c.args.verb c.args.unit.now c.in_ok-tree.field-0.tree = search (rules, told, c.in_ok-tree.tree-is, c.tree.ensures) in
     let free : (r : Refused) → ¬ RefusesInstall s.tree c.args.verb c.args.unit.now r =
     subst (λ t. (r : Refused) → ¬ RefusesInstall t c.args.verb c.args.unit.now r) c.tree.ensures c.in_ok-tree.ensures.refused in
-    free_to_install s c.args.verb c.args.unit.now c.in_ok-tree.tree made free c.in_ok-with_tree.ensures.refused
+    free_to_install s c.args.verb c.args.unit.now c.in_ok-tree.field-0.tree made free c.in_ok-with_tree.ensures.refused

@@ -11,7 +11,7 @@ use Rattle.um_wire.specs.Refusal.{refused_of}
 use Rattle.um_wire.specs.declared.refusal.Refusal.TheVariants.{NoMemory}
 use Rattle.um_engine.specs.Known.{KnownView}
 use Rattle.um_engine.specs.Planned.{ArePending}
-use Rattle.um_engine.proofs.LoadedLaws.{circle_by_number, circle_of_state, free_to_load, loads_none_circle, loads_none_full}
+use Rattle.um_engine.proofs.LoadedLaws.{circle_by_number, circle_of_state, free_to_load, loads_none_circle, loads_none_full, refused_is}
 use Rattle.um_engine.proofs.loading.known_of_loaded.Goals as goal
 
 pub returns-clause-held : goal.returns-clause-held
@@ -36,7 +36,7 @@ returns-in_err-check_pending-clause-refused c =
     let told = rw (c.graph-2.ensures, c.deref.ensures.value) at c.in_err-check_pending.ensures.refuses differs in
     loads_none_circle s tree _ c.in_ok-known.ensures.few
     (circle_of_state s tree (Contains k.extra) k.graph c.in_ok-known.ensures.made.graph c.in_ok-known.ensures.made.of held c.in_ok-pending.pending.items pends _ told) in
-    search (rules, step)
+    refused_is (CausesOfLoad s tree) c.from_residual-in_err-check_pending.result c.in_err-check_pending.field-0.0 c.from_residual-in_err-check_pending.ensures.1 step
 
 pub returns-clause-refused : goal.returns-clause-refused
 returns-clause-refused c =
