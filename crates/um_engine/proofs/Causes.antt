@@ -101,7 +101,7 @@ remove_refused tree path r q e f = ap (λ o. unless_refused o (map.remove tree p
 -- ---- a command for a unit
 
 module _ (s : State) (verb : UnitVerb) (asked : List ℕ) (mode : JobMode) where
-  abbrev Crowds : Refused → Type 0
+  Crowds : Refused → Type 0
   Crowds = IsCrowded s.loaded (IsHeldOr s (model.unit_asked s asked))
 
   pub by_crowd : (r : Refused) → Crowds r → Refuses s (model.ForUnit verb asked mode) r

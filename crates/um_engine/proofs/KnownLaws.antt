@@ -1,24 +1,26 @@
 -- What is known for a state, by what the tests of it tell.
-use Rattle.std.proofs.Common.{◌≡◌, ◌≢◌, ◌⊎◌, ◌↔◌, ◌∙◌, ◌++◌, ◌∷◌, [], ℕ, List, Contains, Option, Some, None, is_some, unwrap_or, Bool, true, false, true≢false, cond, refl, sym, ap, subst, inl, inr}
+use Rattle.std.proofs.Common.{◌≡◌, ◌≢◌, ◌⊎◌, ◌↔◌, ◌∙◌, ◌++◌, ◌∷◌, ◌<◌, ◌≤◌, [], ℕ, List, Contains, Option, Some, None, Result, Ok, Err, is_some, unwrap_or, Bool, true, false, true≢false, cond, refl, sym, ap, subst, inl, inr, arith}
 use Rattle.std.specs.FinMap as map
 use Rattle.std.specs.Cmp.Lexicographic.{slice_cmp, nat_list_cmp_total}
 use Rattle.std.specs.Ordering.{nat_cmp, eq_by_cmp}
-use Rattle.std.specs.Prelude.{MatchOption, slice_get}
+use Rattle.std.specs.Prelude.{IfOk, MatchOption, slice_get}
 use Rattle.std.proofs.lemmas.Option.{get_or_from_slice_get}
 use Rattle.um_graph.proofs.NamedLaws.{got_within}
-use Rattle.um_model.specs.Dependencies.{IsKnown, extra}
+use Rattle.um_model.specs.Dependencies.{CountsFor, IsKnown, extra}
 use Rattle.um_model.specs.Jobs.{cancelled, has_job, jobs_of_unit, no_jobs, with_jobs}
-use Rattle.um_model.specs.Machine.{State, IsHeld, IsHeldOr, PutFile, PutLink, Remove, Cancel, Changes, puts, links, removes, cancels, unit_asked, with_plan}
+use Rattle.um_model.specs.Machine.{State, IsHeld, IsHeldOr, IsTooHeavy, PutFile, PutLink, Remove, Cancel, Changes, puts, links, removes, cancels, unit_asked, with_plan}
 use Rattle.um_model.specs.Reached.{first}
 use Rattle.um_model.specs.Tree.{Tree, has_run, without_run}
 use Rattle.um_model.specs.Service.{ByUnit}
+use Rattle.um_model.specs.Weight.{weight_of}
+use Rattle.um_model.proofs.SceneLaws.{one_count}
 use Rattle.um_model.specs.declared.jobs.UnitJobs.{UnitJobs}
 use Rattle.um_model.proofs.TimersLaws.{same_name}
 use Rattle.um_model.proofs.TreeLaws.{without_run_same}
 use Rattle.um_model.proofs.UnitLaws.{unlike}
 use Rattle.um_engine.specs.Known.{IsHeldWith, IsGraphFor, KnownView, KnowsFor, HoldsNoMore}
 use Rattle.um_engine.specs.Over.{Serves}
-use Rattle.um_engine.proofs.SameUnitsLaws.{KnowsSame, graph_same}
+use Rattle.um_engine.proofs.SameUnitsLaws.{KnowsSame, count_by, graph_same}
 
 module _ (s : State) (k : KnownView) (named : Option (List ℕ)) (knows : KnowsFor k s) (made : (x : List ℕ) → Contains k.extra x → IsHeldWith s named x)
     (known : (x : List ℕ) → named ≡ Some x → Contains k.graph.names x) where
@@ -102,3 +104,17 @@ remove_holds_no_more s _ path (removes e) = record { loaded = refl; held = λ x 
 
 pub waiting_holds_no_more : (s : State) (asked : List ℕ) (u : State) → Changes s (Cancel asked) u → HoldsNoMore s u
 waiting_holds_no_more s asked _ cancels = cancel_holds_no_more s (unit_asked s asked)
+
+-- the count for the list of what is held
+pub count_found : {E : Type 0} (s : State) (tree : Tree) (names : List (List ℕ)) → tree ≡ s.loaded → ((x : List ℕ) → Contains names x ↔ IsHeld s x)
+    → (result : Result ℕ E) → IfOk result (λ units. CountsFor tree (Contains names) units) → IfOk result (λ units. CountsFor s.loaded (IsHeld s) units)
+count_found s tree names same held (Ok units) h = count_by s.loaded (Contains names) (IsHeld s) held units (subst (λ t. CountsFor t (Contains names) units) same h)
+count_found s tree names same held (Err e) h = h
+
+-- a state isn't too heavy where its weight by one count isn't
+pub light_by : (size : ℕ) (s : State) (units weight : ℕ) → CountsFor s.loaded (IsHeld s) units → weight ≡ weight_of s.tree s.loaded units → weight ≤ size → ¬ IsTooHeavy size s
+light_by size s units weight counts is fits heavy =
+    let same : heavy.units ≡ units = one_count s.loaded (IsHeld s) heavy.units units heavy.count counts in
+    let over : size < weight_of s.tree s.loaded units = subst (λ n. size < weight_of s.tree s.loaded n) same heavy.heavy in
+    let under : weight_of s.tree s.loaded units ≤ size = subst (λ n. n ≤ size) is fits in
+    omega (arith, over, under)

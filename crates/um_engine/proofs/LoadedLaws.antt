@@ -69,11 +69,11 @@ module _ (s : State) (tree : Tree) (Extra : List ℕ → Type 0) (g : GraphView)
   same_jobs : (x : List ℕ) → jobs_of_unit (jobs_by g.names pending) x ≡ jobs_of_unit s.pending x
   same_jobs x = elim (among_or_apart g.names x) as (λ _. jobs_of_unit (jobs_by g.names pending) x ≡ jobs_of_unit s.pending x) [
     | inl b ↦
-      let known : IsNumberOf g b.0 x = name_got g.names b.0 b.1 ∙ ap Some b.2 in
-      ap (jobs_of_unit (jobs_by g.names pending)) (sym b.2) ∙ (jobs_by_at g.names pending (names_once g.names is.sorted) b.0 b.1 ∙ pends b.0 x known)
+        let known : IsNumberOf g b.0 x = name_got g.names b.0 b.1 ∙ ap Some b.2 in
+        ap (jobs_of_unit (jobs_by g.names pending)) (sym b.2) ∙ (jobs_by_at g.names pending (names_once g.names is.sorted) b.0 b.1 ∙ pends b.0 x known)
     | inr apart ↦
-      jobs_by_none g.names pending x apart
-      ∙ sym (none_apart x (map.get s.pending x) refl (λ c. let n = number x c in apart n.0 (got_within g.names n.0 x n.1) (name_is g.names n.0 x n.1)))
+        jobs_by_none g.names pending x apart
+        ∙ sym (none_apart x (map.get s.pending x) refl (λ c. let n = number x c in apart n.0 (got_within g.names n.0 x n.1) (name_is g.names n.0 x n.1)))
   ]
 
   pending_held : (job : Job) → IsPending s.pending job → Contains g.names job.unit

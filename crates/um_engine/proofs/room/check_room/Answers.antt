@@ -1,7 +1,7 @@
 use Rattle.std.proofs.Common.{◌≡◌, ◌∙◌, ◌+◌, ◌*◌, ◌≤◌, ℕ, rules, sym, ap, subst}
 use Rattle.um_model.specs.Machine.{State}
 use Rattle.um_model.specs.Weight.{tree_weight, weight_of}
-use Rattle.um_engine.proofs.RoomLaws.{light_by}
+use Rattle.um_engine.proofs.KnownLaws.{light_by}
 use Rattle.um_engine.proofs.room.check_room.Goals as goal
 
 pub returns-in-Some-clause-room : goal.returns-in-Some-clause-room

@@ -3,7 +3,7 @@ use Rattle.um_model.specs.Dependencies.{CountsFor}
 use Rattle.um_model.specs.Machine.{IsHeld, State}
 use Rattle.um_model.specs.Tree.{Tree}
 use Rattle.um_state.specs.View.{state_of}
-use Rattle.um_engine.proofs.RoomLaws.{count_found}
+use Rattle.um_engine.proofs.KnownLaws.{count_found}
 use Rattle.um_engine.proofs.room.units.Goals as goal
 
 pub returns : goal.returns
