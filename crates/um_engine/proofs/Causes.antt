@@ -1,10 +1,10 @@
 -- What commands are refused for, and what they change, from what the calls below tell.
 use Rattle.std.proofs.Common.{◌≡◌, ◌≢◌, ◌∙◌, ℕ, List, Option, Some, None, true, false, Result, Ok, Err, codes, sym, ap, subst}
-use Rattle.um_model.specs.Jobs.{cancelled}
+use Rattle.um_model.specs.Jobs.{cancelled, jobs_of_unit}
 use Rattle.um_model.specs.Machine as model
 use Rattle.um_model.specs.Machine.{State, IsCrowded, IsHeldOr, IsNotThere, IsMissing, HasNoneWaiting, HasNoPlan, Refuses, puts_none, links_none, removes_none, plans_none, cancels_none, reloads_none, installs_none, scene_at, active_asked, demand_of, demands_nothing, Changes, puts, links, removes, reloads, plans, cancels, installs}
 use Rattle.um_model.specs.Names.{is_template}
-use Rattle.um_model.specs.Refusals.{Refused, not_found, masked, bad_setting, unless_refused, FirstCause, at_first, at_second}
+use Rattle.um_model.specs.Refusals.{Refused, not_found, masked, bad_setting, no_such_job, unless_refused, FirstCause, at_first, at_second}
 use Rattle.std.specs.FinMap as map
 use Rattle.um_model.specs.Tree.{Tree, File, Link, put_cause, link_cause, remove_cause, put_file, put_link, remove_at}
 use Rattle.um_model.specs.Units.{LoadedUnit, Found, Masked, NotFound, BadSetting, load}
@@ -165,3 +165,24 @@ module _ (s : State) (asked : List ℕ) where
   cancels_to u v unit jobs same e f is =
       subst (Changes s (model.Cancel asked))
       (sym (is ∙ (ap (λ (x : State). model.with_plan x unit jobs) same ∙ (ap (λ x. model.with_plan s x jobs) e ∙ ap (λ x. model.with_plan s (model.unit_asked s asked) x) f)))) cancels
+
+-- ---- what has no waiting job, and what isn't loaded
+
+pub none_waits : (s : State) (asked unit : List ℕ) (jobs : UnitJobs) → unit ≡ model.unit_asked s asked → jobs ≡ jobs_of_unit s.pending unit
+    → (r : Refused) → (model.has_waiting jobs ≡ false) × (r ≡ no_such_job unit) → HasNoneWaiting s asked r
+none_waits s asked unit jobs is held r h = record {
+  none = ap model.has_waiting (sym (held ∙ ap (jobs_of_unit s.pending) is)) ∙ h.0;
+  refusal = h.1 ∙ ap no_such_job is;
+}
+
+pub some_waits : (s : State) (asked unit : List ℕ) (jobs : UnitJobs) → unit ≡ model.unit_asked s asked → jobs ≡ jobs_of_unit s.pending unit
+    → ((r : Refused) → ¬ ((model.has_waiting jobs ≡ false) × (r ≡ no_such_job unit))) → (r : Refused) → ¬ HasNoneWaiting s asked r
+some_waits s asked unit jobs is held waits r h =
+    waits r (ap model.has_waiting (held ∙ ap (jobs_of_unit s.pending) is) ∙ h.none, h.refusal ∙ ap no_such_job (sym is))
+
+pub by_tree_of_install : (s : State) (verb : InstallVerb) (unit : List ℕ) (tree : Tree) → Installs s.tree verb unit tree → ((r : Refused) → ¬ RefusesInstall s.tree verb unit r)
+    → (r : Refused) → model.CausesOfLoad s tree r → Refuses s (model.Install verb unit) r
+by_tree_of_install s verb unit tree made free r h = installs_none (at_second free (record { tree = tree; installs = made; cause = h }))
+
+pub by_install : (s : State) (verb : InstallVerb) (unit : List ℕ) (r : Refused) → RefusesInstall s.tree verb unit r → Refuses s (model.Install verb unit) r
+by_install s verb unit r h = installs_none (at_first h)
