@@ -1,10 +1,14 @@
 -- A step, by what is planned of it.
-use Rattle.std.proofs.Common.{◌≡◌, ◌∙◌, ◌↔◌, ℕ, Bool, true, false, true≢false, List, [], Option, Some, None, is_some, refl, sym, ap, subst}
+use Rattle.std.proofs.Common.{◌≡◌, ◌∙◌, ◌↔◌, ℕ, Bool, true, false, true≢false, List, [], ◌++◌, Option, Some, None, is_some, refl, sym, ap, subst}
 use Rattle.um_model.specs.Machine as model
-use Rattle.um_model.specs.Machine.{State, Command, Happening, Event, Commanded, Happened, Input, Reply, Done, Refusal, Refuses, HasNoEffect, LacksEffect, Takes, meets, Step, refused, crowded_out, HasNoRoom, idle, taken, reply_after, moment_of}
+use Rattle.um_model.proofs.KeepsLaws.{carries_keeps, settles_keeps, fires_keeps}
+use Rattle.um_model.specs.Machine.{State, Command, Happening, Event, Commanded, Happened, Follows, ends, ticks, Settles, obeys, Changes, Input, Reply, Done, Refusal, Refuses, HasNoEffect, LacksEffect, Takes, meets, Step, refused, crowded_out, HasNoRoom, idle, taken, reply_after, moment_of}
 use Rattle.um_model.specs.Refusals.{Refused, no_room}
 use Rattle.um_model.specs.Service.{Action}
-use Rattle.um_engine.specs.Engine.{MetBy, state_at}
+use Rattle.um_engine.proofs.KnownLaws.{serves_for, knows_still}
+use Rattle.um_engine.specs.Engine.{MetBy, SettlesTo, state_at}
+use Rattle.um_engine.specs.Known.{KnownView, KnowsFor}
+use Rattle.um_engine.specs.Over.{Serves}
 use Rattle.um_engine.specs.Served.{ServedView}
 use Rattle.um_engine.specs.Planned.{Declines, for_cause, for_room}
 
@@ -63,3 +67,25 @@ met_nothing t s happening (Some after) all actions b v g met h k none = absurd (
 
 pub command_effect : (t : ℕ) (s : State) (event : Event) (command : Command) (b : Bool) → event ≡ Commanded command → b ≡ true → (b ≡ false) ↔ LacksEffect t s event
 command_effect t s event command b e f = (λ h. absurd (true≢false (sym f ∙ h)), λ h. absurd (subst (λ x. LacksEffect t s x) e h))
+
+-- ---- what is known stays so
+
+-- what follows from a happening leaves the loaded tree
+follows_loaded : (t : ℕ) (s v : State) (happening : Happening) (actions : List Action) → Follows t s happening actions v → v.loaded ≡ s.loaded
+follows_loaded t s v _ _ (ends {u = u} unit process carries settles) = (settles_keeps t u _ v settles).loaded ∙ (carries_keeps t unit _ s _ u carries).loaded
+follows_loaded t s v _ _ (ticks timers are fired) = (fires_keeps t timers s _ v fired).loaded
+
+pub knows_after : (k : KnownView) (t : ℕ) (s v : State) (happening : Happening) (actions : List Action) → KnowsFor k s → Follows t s happening actions v → Serves k.graph v → KnowsFor k v
+knows_after k t s v happening actions knows follows serves = knows_still k s v knows (follows_loaded t s v happening actions follows) serves.held
+
+pub knows_settled : (k : KnownView) (t : ℕ) (s v : State) (actions : List Action) → KnowsFor k s → Settles t s actions v → Serves k.graph v → KnowsFor k v
+knows_settled k t s v actions knows settles serves = knows_still k s v knows (settles_keeps t s actions v settles).loaded serves.held
+
+-- jobs begin, and nothing was asked for before
+pub settles_all : (t : ℕ) (s v : State) (none all : List Action) → none ≡ [] → SettlesTo t s none v all → Settles t s all v
+settles_all t s v none all e (new, settles, is) = subst (λ l. Settles t s l v) (sym (is ∙ ap (λ l. l ++ new) e)) settles
+
+-- a command that isn't refused, with all jobs that begin
+pub obeyed_so : (t : ℕ) (s u v : State) (command : Command) (actions : List Action) → ((r : Refused) → ¬ Refuses s command r) → Changes s command u → Settles t u actions v
+    → Takes t s (Commanded command) actions v
+obeyed_so t s u v command actions free changes settles = obeys free changes settles
