@@ -114,7 +114,8 @@ impl Engine {
         ensures room { IfOk result (λ o. ¬ IsTooHeavy (size_in self.now) o.served.state) }
         ensures refused { IfErr result (λ e. ¬ (e ≡ NoMemory) → Declines (size_in self.now) moment (state_in self.now) (command_of command.now) (refused_of e)) }
     {
-        let Outcome { served, reply } = changed(self.alloc, &self.served, command)?;
+        let outcome = changed(self.alloc, &self.served, command)?;
+        let Outcome { served, reply } = outcome;
         let (served, actions) = settle_all(self.alloc, served, moment)?;
         check_room(self.alloc, &served, self.size)?;
         Ok(Settled {
