@@ -30,8 +30,8 @@ refused_step size s i command r e h = of_input size s i (Commanded command) (mod
 pub declined_step : (size : ℕ) (s : State) (i : Input) (t : ℕ) (command : Command) (r : Refused) → i.event ≡ Commanded command → t ≡ moment_of s i.moment
     → Declines size t s command r → Step size s i (model.Refusal r) [] s
 declined_step size s i t command r e f (for_cause h) = refused_step size s i command r e h
-declined_step size s i t command _ e f (for_room takes heavy) =
-    of_input size s i (Commanded command) (model.Refusal no_room) [] s e (crowded_out (subst (λ n. Takes n s (Commanded command) _ _) f takes) heavy)
+declined_step size s i t command _ e f (for_room {actions = actions} {u = u} takes heavy) =
+    of_input size s i (Commanded command) (model.Refusal no_room) [] s e (crowded_out (subst (λ n. Takes n s (Commanded command) actions u) f takes) heavy)
 
 pub taken_step : (size : ℕ) (s : State) (i : Input) (t : ℕ) (event : Event) (reply : Reply) (all actions : List Action) (u v : State) → i.event ≡ event → t ≡ moment_of s i.moment
     → Takes t s event actions u → ¬ HasNoRoom size event u → reply ≡ reply_after event s.tree u.tree → all ≡ actions → v ≡ record u { clock = t } → Step size s i reply all v
