@@ -19,11 +19,11 @@ returns-in_err-check_room-clause-refused c =
     let u = c.in_ok-outcome.outcome.served.state in
     let v = c.in_ok-served.served.state in
     let takes = obeyed_so c.args.moment s u v (command_of c.args.command.now) (map action_of c.in_ok-served.actions.items)
-        c.in_ok-outcome.ensures.refused c.in_ok-outcome.ensures.changed c.in_ok-served.ensures in
+    c.in_ok-outcome.ensures.refused c.in_ok-outcome.ensures.changed c.in_ok-served.ensures in
     let step : c.in_err-check_room.field-0.0 ≢ NoMemory
     → Declines c.args.self.now.size c.args.moment s (command_of c.args.command.now) (refused_of c.in_err-check_room.field-0.0) =
     declined_for_room c.args.self.now.size c.args.moment s v (command_of c.args.command.now) (map action_of c.in_ok-served.actions.items) c.in_err-check_room.field-0.0 takes
-        c.in_err-check_room.ensures.refused in
+    c.in_err-check_room.ensures.refused in
     search (rules, step, c.from_residual-in_err-check_room.ensures)
 
 pub returns-clause-taken : goal.returns-clause-taken
