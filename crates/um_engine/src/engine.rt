@@ -1,8 +1,10 @@
 ghost use Rattle.std.specs.Prelude.{◌≡◌, ◌↔◌, [], false, is_some, map, IfOk, IfErr};
-ghost use Rattle.um_engine.specs.Engine.{state_in, size_in, has_effect_in, state_at, state_after, reply_in, actions_in, state_before};
+ghost use Rattle.um_engine.specs.Engine.{state_in, size_in, has_effect_in, state_at, state_after, reply_in, actions_in, state_before, MetBy};
+ghost use Rattle.um_engine.specs.Planned.{Declines};
 ghost use Rattle.um_model.specs.Machine as model;
-ghost use Rattle.um_model.specs.Machine.{Step, Takes, LacksEffect, moment_of};
-ghost use Rattle.um_state.specs.View.{state_of, input_of, query_of, reply_of, action_of, command_of};
+ghost use Rattle.um_model.specs.Machine.{Step, Takes, LacksEffect, moment_of, IsCrowded, IsHeld, IsTooHeavy};
+ghost use Rattle.um_state.specs.View.{state_of, input_of, query_of, reply_of, action_of, command_of, happening_of};
+ghost use Rattle.um_wire.specs.Gives.{RefusesBy};
 ghost use Rattle.um_wire.specs.Refusal.{refused_of};
 ghost use Rattle.um_wire.specs.declared.refusal.Refusal.TheVariants.{NoMemory};
 
@@ -46,7 +48,7 @@ pub struct Next {
 impl Next {
     /// The step to this state, but for its clock, at the moment; none without effect.
     fn at(moment: Moment, served: Option<Served>, reply: Reply, actions: Vec<Action>) -> Next
-        ensures state { (s : model.State) → state_after result s ≡ state_at moment (option_map state_of_served served) s }
+        ensures state { (s : model.State) → state_after result s ≡ state_at moment served s }
         ensures effect { has_effect_in result ≡ is_some served }
         ensures reply { reply_in result ≡ reply_of reply }
         ensures actions { actions_in result ≡ map action_of actions.items }
@@ -110,9 +112,10 @@ impl Engine {
         ensures reply { IfOk result (λ o. reply_of o.reply
             ≡ model.reply_after (model.Commanded (command_of command.now)) (state_in self.now).tree o.served.state.tree) }
         ensures room { IfOk result (λ o. ¬ IsTooHeavy (size_in self.now) o.served.state) }
-        ensures refused { IfErr result (λ e. ¬ (e ≡ NoMemory) → RefusesOrCrowds (size_in self.now) moment (state_in self.now) (command_of command.now) (refused_of e)) }
+        ensures refused { IfErr result (λ e. ¬ (e ≡ NoMemory) → Declines (size_in self.now) moment (state_in self.now) (command_of command.now) (refused_of e)) }
     {
-        let Outcome { served, reply } = changed(self.alloc, &self.served, command)?;
+        let outcome = changed(self.alloc, &self.served, command)?;
+        let Outcome { served, reply } = outcome;
         let (served, actions) = settle_all(self.alloc, served, moment)?;
         check_room(self.alloc, &served, self.size)?;
         Ok(Settled {
@@ -128,7 +131,9 @@ impl Engine {
         &self,
         moment: Moment,
         happening: &Happening,
-    ) -> Result<(Option<Served>, Vec<Action>), AllocError> {
+    ) -> Result<(Option<Served>, Vec<Action>), AllocError>
+        ensures { IfOk result (λ f. MetBy moment (state_in self.now) (happening_of happening.now) f.0 (map action_of f.1.items)) }
+    {
         let served = &self.served;
         let graph = served.known().graph();
         let (after, actions) = met(self.alloc, graph, served.state(), moment, happening)?;
@@ -217,7 +222,9 @@ fn settle_all(
     alloc: Global,
     served: Served,
     moment: Moment,
-) -> Result<(Served, Vec<Action>), AllocError> {
+) -> Result<(Served, Vec<Action>), AllocError>
+    ensures { IfOk result (λ r. model.Settles moment served.state (map action_of r.1.items) r.0.state) }
+{
     let (mut state, known) = served.into_parts();
     let mut actions = Vec::new(alloc);
     settle(alloc, known.graph(), &mut state, &mut actions, moment)?;
