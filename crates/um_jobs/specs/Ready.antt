@@ -19,7 +19,9 @@ holds_stop jobs n = has before_bit n.kinds && is_some (jobs_at jobs n.unit).stop
 
 -- the start of a unit waits for the start of a neighbour that is before it, and for the stop of one that it is ordered with
 abbrev pub holds_start : List UnitJobs → Neighbour → Bool
-holds_start jobs n = (has after_bit n.kinds && is_some (jobs_at jobs n.unit).start) || ((has before_bit n.kinds || has after_bit n.kinds) && is_some (jobs_at jobs n.unit).stop)
+holds_start jobs n =
+    (has after_bit n.kinds && is_some (jobs_at jobs n.unit).start)
+    || ((has before_bit n.kinds || has after_bit n.kinds) && is_some (jobs_at jobs n.unit).stop)
 
 -- the stop of the unit waits, and for no other job
 abbrev pub is_stop_ready : GraphView → JobsView → ℕ → Bool
@@ -28,7 +30,8 @@ is_stop_ready g v u = is_waiting (jobs_at v.units u).stop && not (list_any (hold
 -- the start of the unit waits, for no other job, nor for the unit's own stop or its being deactivating
 abbrev pub is_start_ready : GraphView → JobsView → ℕ → Bool
 is_start_ready g v u =
-    is_waiting (jobs_at v.units u).start && (is_none (jobs_at v.units u).stop && (not (held_at v.held u) && not (list_any (holds_start v.units) (row_of g.rows u))))
+    is_waiting (jobs_at v.units u).start
+    && (is_none (jobs_at v.units u).stop && (not (held_at v.held u) && not (list_any (holds_start v.units) (row_of g.rows u))))
 
 -- the first job of the unit that is ready
 abbrev pub ready_kind : GraphView → JobsView → ℕ → Option JobKind
