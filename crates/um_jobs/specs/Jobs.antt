@@ -49,15 +49,3 @@ with_held_at v u deactivating = record { units = v.units; held = slice_set v.hel
 abbrev pub without_job : JobKind → UnitJobs → UnitJobs
 without_job Stop j = jobs None j.start
 without_job Start j = jobs j.stop None
-
-abbrev pub unless_waiting : Option JobState → Option JobState
-unless_waiting (Some Waiting) = None
-unless_waiting other = other
-
--- without the jobs that wait
-abbrev pub without_waiting : UnitJobs → UnitJobs
-without_waiting j = jobs (unless_waiting j.stop) (unless_waiting j.start)
-
--- a job of the unit waits
-abbrev pub has_waiting : UnitJobs → Bool
-has_waiting j = is_waiting j.stop || is_waiting j.start

@@ -4,7 +4,8 @@ ghost use Rattle.std.specs.Prelude.{⊤, ◌≡◌, ◌↔◌, ◌<◌, true, fa
 ghost use Rattle.std.specs.List.{list_any};
 ghost use Rattle.um_graph.specs.Graph.{row_of};
 ghost use Rattle.um_jobs.specs.Jobs as told;
-ghost use Rattle.um_jobs.specs.Jobs.{IsReadyIn, JobsView, has_waiting, held_at, job_named, with_held_at, with_jobs_at, without_job, without_waiting};
+ghost use Rattle.um_jobs.specs.Jobs.{IsReadyIn, JobsView, held_at, job_named, with_held_at, with_jobs_at, without_job};
+ghost use Rattle.um_model.specs.Machine.{has_waiting};
 ghost use Rattle.um_jobs.specs.Named.{jobs_at};
 ghost use Rattle.um_jobs.specs.Ready as rows;
 ghost use Rattle.um_jobs.specs.Ready.{ready_kind};
@@ -133,7 +134,7 @@ impl Jobs {
 
     /// Takes out the jobs of the unit that wait. Where none waits it is refused (E21), and all is as before.
     pub fn cancel(&mut self, alloc: Global, unit: usize, name: &UnitName) -> Result<(), Refusal>
-        ensures ok { OnOk result (self.new ≡ with_jobs_at self.old unit (without_waiting (jobs_at self.old.units unit))) }
+        ensures ok { OnOk result (self.new ≡ with_jobs_at self.old unit (model.cancelled (jobs_at self.old.units unit))) }
         ensures waits { IsOk result ↔ (has_waiting (jobs_at self.old.units unit) ≡ true) }
         ensures err { OnErr result (self.new ≡ self.old) }
         ensures refused { IfErr result (λ e. ¬ (e ≡ NoMemory) → refused_of e ≡ refused.no_such_job name.now) }
@@ -252,7 +253,7 @@ fn without_job(kind: JobKind, jobs: UnitJobs) -> UnitJobs
 }
 
 fn unless_waiting(job: Option<JobState>) -> Option<JobState>
-    ensures { result ≡ told.unless_waiting job }
+    ensures { result ≡ model.unless_waiting job }
 {
     match job {
         Some(JobState::Waiting) => None,
@@ -261,7 +262,7 @@ fn unless_waiting(job: Option<JobState>) -> Option<JobState>
 }
 
 fn without_waiting(jobs: UnitJobs) -> UnitJobs
-    ensures { result ≡ told.without_waiting jobs }
+    ensures { result ≡ model.cancelled jobs }
 {
     UnitJobs {
         stop: unless_waiting(jobs.stop),
@@ -270,7 +271,7 @@ fn without_waiting(jobs: UnitJobs) -> UnitJobs
 }
 
 fn has_waiting(jobs: UnitJobs) -> bool
-    ensures { result ≡ told.has_waiting jobs }
+    ensures { result ≡ has_waiting jobs }
 {
     is_waiting(jobs.stop) || is_waiting(jobs.start)
 }
