@@ -180,8 +180,12 @@ pub fn memory<R: Read, W: Write>(
     ensures ok { IfOk result (λ e. WritesFrom memory_size empty_state [] (R.remaining input.old) (W.contents output.old) (W.contents output.new) e) }
     ensures err { OnErr result (BeginsFrom memory_size empty_state [] (R.remaining input.old) (W.contents output.old) (W.contents output.new)) }
 {
+    // the empty state holds no unit and its tree names none: only memory can be wanting
+    let Ok(engine) = Engine::of(alloc, State::empty(alloc), MEMORY_SIZE) else {
+        return Err(Fault::NoMemory);
+    };
     let mut manager = Manager {
-        engine: Engine::of(alloc, State::empty(alloc), MEMORY_SIZE),
+        engine,
         kept: Vec::new(alloc),
     };
     'frames: for _ in 0..u64::MAX {

@@ -1,10 +1,10 @@
 -- What commands are refused for, and what they change, from what the calls below tell.
-use Rattle.std.proofs.Common.{◌≡◌, ◌≢◌, ◌∙◌, ℕ, List, Some, true, false, Result, Ok, Err, codes, sym, ap, subst}
-use Rattle.um_model.specs.Jobs.{cancelled}
+use Rattle.std.proofs.Common.{◌≡◌, ◌≢◌, ◌∙◌, ℕ, List, Option, Some, None, true, false, Result, Ok, Err, codes, sym, ap, subst}
+use Rattle.um_model.specs.Jobs.{cancelled, jobs_of_unit}
 use Rattle.um_model.specs.Machine as model
-use Rattle.um_model.specs.Machine.{State, CannotStart, IsNotThere, IsMissing, HasNoneWaiting, StartsNone, DropsAJob, CausesOf, Refuses, puts_none, links_none, removes_none, plans_none, cancels_none, installs_none, Changes, puts, links, removes, reloads, plans, cancels, installs}
+use Rattle.um_model.specs.Machine.{State, IsCrowded, IsHeldOr, IsNotThere, IsMissing, HasNoneWaiting, HasNoPlan, Refuses, puts_none, links_none, removes_none, plans_none, cancels_none, reloads_none, installs_none, scene_at, active_asked, demand_of, demands_nothing, Changes, puts, links, removes, reloads, plans, cancels, installs}
 use Rattle.um_model.specs.Names.{is_template}
-use Rattle.um_model.specs.Refusals.{Refused, not_found, masked, bad_setting, unless_refused, FirstCause, at_first, at_second}
+use Rattle.um_model.specs.Refusals.{Refused, not_found, masked, bad_setting, no_such_job, unless_refused, FirstCause, at_first, at_second}
 use Rattle.std.specs.FinMap as map
 use Rattle.um_model.specs.Tree.{Tree, File, Link, put_cause, link_cause, remove_cause, put_file, put_link, remove_at}
 use Rattle.um_model.specs.Units.{LoadedUnit, Found, Masked, NotFound, BadSetting, load}
@@ -13,7 +13,14 @@ use Rattle.um_model.specs.declared.commands.JobMode.{JobMode}
 use Rattle.um_model.specs.declared.commands.UnitVerb.{UnitVerb}
 use Rattle.um_model.specs.declared.install.InstallVerb.{InstallVerb}
 use Rattle.um_model.specs.declared.jobs.UnitJobs.{UnitJobs}
-use Rattle.um_engine.specs.Engine.{StartsSo}
+use Rattle.um_model.proofs.InstallLaws.{one_install}
+use Rattle.um_engine.specs.Planned.{HasPlan}
+use Rattle.um_model.specs.Plan.{IsPlan, CausesOfPlan}
+use Rattle.um_model.specs.declared.dependencies.Demand.{Demand}
+use Rattle.um_model.proofs.PlannedLaws.{one_plan}
+use Rattle.um_model.proofs.SceneLaws.{finite_scene}
+use Rattle.um_transact.specs.Scene.{IsRefused}
+use Rattle.std.proofs.lemmas.Option.{none-some, same_Some}
 use Rattle.um_wire.specs.Gives.{RefusesBy}
 use Rattle.um_wire.specs.Refusal.{refused_of}
 use Rattle.um_wire.specs.declared.refusal.Refusal.{Refusal}
@@ -44,9 +51,11 @@ pub installs_to : (s u v : State) (verb : InstallVerb) (unit : List ℕ) (tree :
 installs_to s u v verb unit tree same made is =
     subst (Changes s (model.Install verb unit)) (sym (is ∙ ap (λ (x : State). record x { tree = tree; loaded = tree }) same)) (installs made)
 
-pub free_to_install : (s : State) (verb : InstallVerb) (unit : List ℕ) → ((r : Refused) → ¬ RefusesInstall s.tree verb unit r)
-    → (r : Refused) → ¬ Refuses s (model.Install verb unit) r
-free_to_install s verb unit free r (installs_none h) = free r h
+pub free_to_install : (s : State) (verb : InstallVerb) (unit : List ℕ) (tree : Tree) → Installs s.tree verb unit tree → ((r : Refused) → ¬ RefusesInstall s.tree verb unit r)
+    → ((r : Refused) → ¬ model.CausesOfLoad s tree r) → (r : Refused) → ¬ Refuses s (model.Install verb unit) r
+free_to_install s verb unit tree made free loads r (installs_none (at_first h)) = free r h
+free_to_install s verb unit tree made free loads r (installs_none (at_second none h)) =
+    loads r (subst (λ (x : Tree). model.CausesOfLoad s x r) (one_install s.tree verb unit h.tree tree h.installs made) h.cause)
 
 pub puts_none_to : (s u : State) (path text : List ℕ) (e : Refusal) → u ≡ s → (e ≢ NoMemory → put_file u.tree path text ≡ Err (refused_of e))
     → e ≢ NoMemory → Refuses s (model.PutFile path text) (refused_of e)
@@ -72,8 +81,8 @@ free_to_link s path target tree ok r (links_none e) = ok_err (put_link s.tree pa
 pub free_to_remove : (s : State) (path : List ℕ) (tree : Tree) → remove_at s.tree path ≡ Ok tree → (r : Refused) → Refuses s (model.Remove path) r → ⊥
 free_to_remove s path tree ok r (removes_none e) = ok_err (remove_at s.tree path) tree r ok e
 
-pub free_to_reload : (s : State) (r : Refused) → Refuses s model.DaemonReload r → ⊥
-free_to_reload s r h = elim h [ ]
+pub free_to_reload : (s : State) → ((r : Refused) → ¬ model.CausesOfLoad s s.tree r) → (r : Refused) → Refuses s model.DaemonReload r → ⊥
+free_to_reload s free r (reloads_none h) = free r h
 
 -- ---- the causes, found before anything is copied
 
@@ -89,59 +98,54 @@ pub remove_refused : (tree : Tree) (path : List ℕ) (r q : Refused) → remove_
 unfolding remove_at
 remove_refused tree path r q e f = ap (λ o. unless_refused o (map.remove tree path)) e ∙ ap Err (sym f)
 
--- ---- why a unit can't be started
-
-pub of_another_kind : (asked : List ℕ) (l : LoadedUnit) (r : Refused) → model.is_served_kind l.settings.service.kind ≡ false → r ≡ bad_setting l.name (codes "type") → CannotStart asked (Found l) r
-of_another_kind asked l r kind is = subst (CannotStart asked (Found l)) (sym is) (model.is_of_another_kind kind)
-
-pub a_template : (asked : List ℕ) (l : LoadedUnit) (r : Refused) → model.is_served_kind l.settings.service.kind ≡ true → is_template l.name ≡ true
-    → r ≡ bad_setting l.name (codes "template") → CannotStart asked (Found l) r
-a_template asked l r kind template is = subst (CannotStart asked (Found l)) (sym is) (model.is_a_template kind template)
-
-pub nowhere : (asked : List ℕ) (r : Refused) → r ≡ not_found asked → CannotStart asked NotFound r
-nowhere asked r is = subst (CannotStart asked NotFound) (sym is) model.isnt_found
-
-pub behind_a_mask : (asked unit : List ℕ) (r : Refused) → r ≡ masked unit → CannotStart asked (Masked unit) r
-behind_a_mask asked unit r is = subst (CannotStart asked (Masked unit)) (sym is) model.is_masked
-
-pub of_bad_setting : (asked unit reason : List ℕ) (r : Refused) → r ≡ bad_setting unit reason → CannotStart asked (BadSetting unit reason) r
-of_bad_setting asked unit reason r is = subst (CannotStart asked (BadSetting unit reason)) (sym is) model.has_bad_setting
-
 -- ---- a command for a unit
 
 module _ (s : State) (verb : UnitVerb) (asked : List ℕ) (mode : JobMode) where
-  Starts : Refused → Type 0
-  Starts = StartsSo (model.starts_it verb (model.active_asked s asked)) asked (load s.loaded asked)
+  abbrev Crowds : Refused → Type 0
+  Crowds = IsCrowded s.loaded (IsHeldOr s (model.unit_asked s asked))
 
-  Drops : Refused → Type 0
-  Drops = DropsAJob mode (model.unit_asked s asked) (model.jobs_asked s asked) (model.jobs_planned s verb asked)
+  pub by_crowd : (r : Refused) → Crowds r → Refuses s (model.ForUnit verb asked mode) r
+  by_crowd r h = plans_none (at_first h)
 
-  pub by_absence : (r : Refused) → IsNotThere s verb asked r → Refuses s (model.ForUnit verb asked mode) r
-  by_absence r h = plans_none (at_first h)
+  pub by_absence : (r : Refused) → ((q : Refused) → ¬ Crowds q) → IsNotThere s verb asked r → Refuses s (model.ForUnit verb asked mode) r
+  by_absence r few h = plans_none (at_second few (at_first h))
 
-  pub by_start : (r : Refused) → ((q : Refused) → ¬ IsNotThere s verb asked q) → StartsSo (model.starts_it verb (model.active_asked s asked)) asked (load s.loaded asked) r
-      → Refuses s (model.ForUnit verb asked mode) r
-  by_start r there h = plans_none (at_second there (at_first (record { starts = h.starts_it; cause = h.cause })))
+  pub by_plan : (r : Refused) (demand : Demand) → ((q : Refused) → ¬ Crowds q) → ((q : Refused) → ¬ IsNotThere s verb asked q)
+      → demand_of verb (active_asked s asked) ≡ Some demand → IsRefused (scene_at s (model.unit_asked s asked)) (demand, model.unit_asked s asked) mode r → Refuses s (model.ForUnit verb asked mode) r
+  by_plan r demand few there demanded h =
+      plans_none (at_second few (at_second there (record { demand = demand; demanded = demanded; after = h.after; plan = h.plan; cause = h.cause })))
 
-  none_starts : ((q : Refused) → ¬ StartsSo (model.starts_it verb (model.active_asked s asked)) asked (load s.loaded asked) q) → (q : Refused) → ¬ StartsNone s verb asked q
-  none_starts free q h = free q (record { starts_it = h.starts; cause = h.cause })
+  free_by : ((q : Refused) → ¬ Crowds q) → ((q : Refused) → ¬ IsNotThere s verb asked q) → ((q : Refused) → ¬ HasNoPlan s verb asked mode q)
+      → (r : Refused) → ¬ Refuses s (model.ForUnit verb asked mode) r
+  free_by few there planned r (plans_none (at_first h)) = few r h
+  free_by few there planned r (plans_none (at_second n (at_first h))) = there r h
+  free_by few there planned r (plans_none (at_second n (at_second m h))) = planned r h
 
-  pub by_drop : (r : Refused) → ((q : Refused) → ¬ IsNotThere s verb asked q) → ((q : Refused) → ¬ StartsSo (model.starts_it verb (model.active_asked s asked)) asked (load s.loaded asked) q)
-      → DropsAJob mode (model.unit_asked s asked) (model.jobs_asked s asked) (model.jobs_planned s verb asked) r → Refuses s (model.ForUnit verb asked mode) r
-  by_drop r there free h = plans_none (at_second there (at_second (none_starts free) h))
+  pub free_to_rest : ((q : Refused) → ¬ Crowds q) → ((q : Refused) → ¬ IsNotThere s verb asked q) → demand_of verb (active_asked s asked) ≡ None
+      → (r : Refused) → ¬ Refuses s (model.ForUnit verb asked mode) r
+  free_to_rest few there nothing = free_by few there (λ q h. none-some h.demand (sym nothing ∙ h.demanded))
 
-  pub free_to_plan : ((q : Refused) → ¬ IsNotThere s verb asked q) → ((q : Refused) → ¬ StartsSo (model.starts_it verb (model.active_asked s asked)) asked (load s.loaded asked) q)
-      → ((q : Refused) → ¬ DropsAJob mode (model.unit_asked s asked) (model.jobs_asked s asked) (model.jobs_planned s verb asked) q)
-      → (r : Refused) → Refuses s (model.ForUnit verb asked mode) r → ⊥
-  free_to_plan there free kept r (plans_none (at_first h)) = there r h
-  free_to_plan there free kept r (plans_none (at_second n (at_first h))) = none_starts free r h
-  free_to_plan there free kept r (plans_none (at_second n (at_second m h))) = kept r h
+  pub free_to_plan : (demand : Demand) (u : State) → ((q : Refused) → ¬ Crowds q) → ((q : Refused) → ¬ IsNotThere s verb asked q) → demand_of verb (active_asked s asked) ≡ Some demand
+      → HasPlan s (demand, model.unit_asked s asked) mode u → (r : Refused) → ¬ Refuses s (model.ForUnit verb asked mode) r
+  free_to_plan demand u few there demanded planned = free_by few there (λ q h. unrefused q h)
+    where
+      unrefused : (q : Refused) → ¬ HasNoPlan s verb asked mode q
+      unrefused q h =
+          let named = model.unit_asked s asked in
+          let finite = finite_scene s named in
+          let same = same_Some h.demand demand (sym h.demanded ∙ demanded) in
+          let plan = subst (λ d. IsPlan (scene_at s named) (d, named) h.after) same h.plan in
+          let cause = subst (λ d. CausesOfPlan (scene_at s named) (d, named) mode h.after q) same h.cause in
+          planned.accepted.unrefused q
+          (subst (λ p. CausesOfPlan (scene_at s named) (demand, named) mode p q)
+          (one_plan (scene_at s named) finite.0 finite.1 (demand, named) h.after u.pending plan planned.accepted.plan) cause)
 
-  pub plans_to : (u v : State) (unit : List ℕ) (jobs : UnitJobs) → u ≡ s → unit ≡ model.unit_asked s asked → jobs ≡ model.jobs_planned s verb asked
-      → v ≡ model.with_plan u unit jobs → Changes s (model.ForUnit verb asked mode) v
-  plans_to u v unit jobs same e f is =
-      subst (Changes s (model.ForUnit verb asked mode))
-      (sym (is ∙ (ap (λ (x : State). model.with_plan x unit jobs) same ∙ (ap (λ x. model.with_plan s x jobs) e ∙ ap (λ x. model.with_plan s (model.unit_asked s asked) x) f)))) plans
+  pub plans_to : (demand : Demand) (u : State) → demand_of verb (active_asked s asked) ≡ Some demand → HasPlan s (demand, model.unit_asked s asked) mode u
+      → Changes s (model.ForUnit verb asked mode) u
+  plans_to demand u demanded planned = subst (Changes s (model.ForUnit verb asked mode)) (sym planned.rest) (plans demanded planned.accepted.plan)
+
+  pub rests_so : (u : State) → demand_of verb (active_asked s asked) ≡ None → u ≡ s → Changes s (model.ForUnit verb asked mode) u
+  rests_so u nothing is = subst (Changes s (model.ForUnit verb asked mode)) (sym is) (demands_nothing nothing)
 
 -- ---- the waiting jobs of a unit
 
@@ -161,3 +165,24 @@ module _ (s : State) (asked : List ℕ) where
   cancels_to u v unit jobs same e f is =
       subst (Changes s (model.Cancel asked))
       (sym (is ∙ (ap (λ (x : State). model.with_plan x unit jobs) same ∙ (ap (λ x. model.with_plan s x jobs) e ∙ ap (λ x. model.with_plan s (model.unit_asked s asked) x) f)))) cancels
+
+-- ---- what has no waiting job, and what isn't loaded
+
+pub none_waits : (s : State) (asked unit : List ℕ) (jobs : UnitJobs) → unit ≡ model.unit_asked s asked → jobs ≡ jobs_of_unit s.pending unit
+    → (r : Refused) → (model.has_waiting jobs ≡ false) × (r ≡ no_such_job unit) → HasNoneWaiting s asked r
+none_waits s asked unit jobs is held r h = record {
+  none = ap model.has_waiting (sym (held ∙ ap (jobs_of_unit s.pending) is)) ∙ h.0;
+  refusal = h.1 ∙ ap no_such_job is;
+}
+
+pub some_waits : (s : State) (asked unit : List ℕ) (jobs : UnitJobs) → unit ≡ model.unit_asked s asked → jobs ≡ jobs_of_unit s.pending unit
+    → ((r : Refused) → ¬ ((model.has_waiting jobs ≡ false) × (r ≡ no_such_job unit))) → (r : Refused) → ¬ HasNoneWaiting s asked r
+some_waits s asked unit jobs is held waits r h =
+    waits r (ap model.has_waiting (held ∙ ap (jobs_of_unit s.pending) is) ∙ h.none, h.refusal ∙ ap no_such_job (sym is))
+
+pub by_tree_of_install : (s : State) (verb : InstallVerb) (unit : List ℕ) (tree : Tree) → Installs s.tree verb unit tree → ((r : Refused) → ¬ RefusesInstall s.tree verb unit r)
+    → (r : Refused) → model.CausesOfLoad s tree r → Refuses s (model.Install verb unit) r
+by_tree_of_install s verb unit tree made free r h = installs_none (at_second free (record { tree = tree; installs = made; cause = h }))
+
+pub by_install : (s : State) (verb : InstallVerb) (unit : List ℕ) (r : Refused) → RefusesInstall s.tree verb unit r → Refuses s (model.Install verb unit) r
+by_install s verb unit r h = installs_none (at_first h)

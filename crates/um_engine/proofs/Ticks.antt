@@ -5,6 +5,8 @@ use Rattle.um_model.proofs.MachineLaws.{tick_has_effect}
 use Rattle.um_model.specs.Machine.{State, ProcessEnded, Tick, IsProcessOf, end_of, Follows, ends, ticks, HasNoEffect, is_idle}
 use Rattle.um_model.specs.Service.{Action, state_of_unit}
 use Rattle.um_model.specs.declared.service.End.{End}
+use Rattle.um_graph.specs.Graph.{GraphView}
+use Rattle.um_engine.specs.Over.{Serves}
 use Rattle.um_engine.specs.Engine.{CarriesTo, SettlesTo, FiresTo, IsSame}
 
 -- a tick that leaves units, jobs and the next number leaves the state
@@ -40,3 +42,7 @@ tick_follows t s copy v none all same e fires =
 -- a tick that asked for nothing and left units, jobs and the next number has no effect
 pub tick_idle : (t : ℕ) (s copy v : State) (none all : List Action) → copy ≡ s → none ≡ [] → FiresTo t copy none v all → all ≡ [] → IsSame s v → HasNoEffect t s Tick
 tick_idle t s copy v none all same e fires nothing stays = tick_is_idle t s v all (tick_follows t s copy v none all same e fires) nothing stays
+
+-- a graph that serves for a state serves for its copy
+pub serves_copy : (g : GraphView) (s copy : State) → copy ≡ s → Serves g s → Serves g copy
+serves_copy g s copy same serves = subst (Serves g) (sym same) serves

@@ -2,15 +2,14 @@
 use Rattle.std.specs.Prelude.{◌≡◌, ◌≢◌, ℕ, ◌<◌, ◌≤◌, Bool, true, false, List, [], ◌++◌, Option, Some, None, is_some, map}
 use Rattle.std.specs.FinMap as finite
 use Rattle.um_model.specs.Machine as model
-use Rattle.um_model.specs.Refusals.{Refused}
 use Rattle.um_model.specs.Service.{Action, state_of_unit}
 use Rattle.um_model.specs.Timers.{Timers, IsDueFirst}
-use Rattle.um_model.specs.Units.{Loading}
 use Rattle.um_model.specs.declared.transition.UnitEvent.{UnitEvent}
 use Rattle.um_model.specs.declared.transition.UnitEvent.TheVariants.{DeadlinePasses}
 use Rattle.um_unit.specs.ServiceView.{service_settings_of}
 use Rattle.um_state.specs.View.{state_of, reply_of, action_of}
 use Rattle.um_state.specs.declared.state.State.{State}
+use Rattle.um_engine.specs.Served.{ServedView}
 use Rattle.um_engine.specs.declared.acting.Acting.{Acting}
 use Rattle.um_engine.specs.declared.engine.Engine.{Engine}
 use Rattle.um_engine.specs.declared.engine.Next.{Next}
@@ -18,25 +17,25 @@ use Rattle.um_engine.specs.declared.engine.Back.{Back}
 
 -- the state of an engine
 abbrev pub state_in : Engine → model.State
-state_in e = state_of e.state
+state_in e = e.served.state
 
 -- the size of its store, in bytes
 abbrev pub size_in : Engine → ℕ
 size_in e = e.size
 
 -- the state that is given, or else this one
-abbrev pub given_or : Option State → model.State → model.State
+abbrev pub given_or : Option ServedView → model.State → model.State
 given_or None s = s
-given_or (Some given) s = state_of given
+given_or (Some given) s = given.state
 
 -- the state that is given, at the moment, or else this one
-abbrev pub state_at : ℕ → Option State → model.State → model.State
+abbrev pub state_at : ℕ → Option ServedView → model.State → model.State
 state_at t None s = s
-state_at t (Some given) s = record (state_of given) { clock = t }
+state_at t (Some given) s = record given.state { clock = t }
 
 -- the state after a planned step that is taken in the state for which it was planned
 abbrev pub state_after : Next → model.State → model.State
-state_after n s = given_or n.state s
+state_after n s = given_or n.served s
 
 -- its reply
 abbrev pub reply_in : Next → model.Reply
@@ -48,20 +47,15 @@ actions_in n = map action_of n.actions.items
 
 -- it has an effect, so that it must be recorded
 abbrev pub has_effect_in : Next → Bool
-has_effect_in n = is_some n.state
+has_effect_in n = is_some n.served
 
 -- the state before a step that was taken, from the state in which it left the engine
 abbrev pub state_before : Back → model.State → model.State
-state_before b s = given_or b.state s
+state_before b s = given_or b.served s
 
 -- what the service table knows of a unit
 abbrev pub acting_of : Acting → model.Acting
 acting_of a = record { settings = service_settings_of a.settings; loadable = a.loadable }
-
--- a command that starts its unit finds one that can't be started
-pub record StartsSo (starts : Bool) (asked : List ℕ) (found : Loading) (r : Refused) : Type 0 where
-  pub starts_it : starts ≡ true
-  pub cause : model.CannotStart asked found r
 
 -- what happens to a unit is carried out
 abbrev pub CarriesTo : ℕ → List ℕ → UnitEvent → model.State → List Action → model.State → List Action → Type 0
@@ -107,3 +101,8 @@ pub record IsSame (s v : model.State) : Type 0 where
 abbrev pub Met : ℕ → model.State → model.Happening → Option State → List Action → Type 0
 Met t s happening None actions = model.HasNoEffect t s happening × (actions ≡ [])
 Met t s happening (Some v) actions = (¬ model.HasNoEffect t s happening) × model.Follows t s happening actions (state_of v)
+
+-- the same of a state with what is known for it
+abbrev pub MetBy : ℕ → model.State → model.Happening → Option ServedView → List Action → Type 0
+MetBy t s happening None actions = model.HasNoEffect t s happening × (actions ≡ [])
+MetBy t s happening (Some v) actions = (¬ model.HasNoEffect t s happening) × model.Follows t s happening actions v.state

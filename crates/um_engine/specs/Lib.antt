@@ -1,2 +1,9 @@
-pub mod Drops
+pub mod Along
+pub mod Carrying
+pub mod Demanded
 pub mod Engine
+pub mod Filled
+pub mod Known
+pub mod Over
+pub mod Planned
+pub mod Served

@@ -1,15 +1,16 @@
 //! How a unit acts: what the service table knows of it.
 
-ghost use Rattle.std.specs.Prelude.{◌≡◌, IfOk};
+ghost use Rattle.std.specs.Prelude.{◌≡◌, Some, Contains, IfOk, option_copied, option_map};
+ghost use Rattle.um_engine.specs.Over.{Serves};
 ghost use Rattle.um_model.specs.Machine as model;
 ghost use Rattle.um_model.specs.Units as units;
 ghost use Rattle.um_unit.specs.View.{loading_of, unit_of};
 
 use std::alloc::{AllocError, Global};
+use um_graph::Graph;
 use um_model::UnitKind;
 use um_name::UnitName;
-use um_tree::Tree;
-use um_unit::{LoadedUnit, Loading, ServiceSettings, load};
+use um_unit::{LoadedUnit, Loading, ServiceSettings};
 
 /// What the service table knows of a unit.
 #[derive(Drop)]
@@ -18,6 +19,14 @@ pub struct Acting {
     pub settings: ServiceSettings,
     /// It can be started: it is found, has no refused setting and is no template.
     pub loadable: bool,
+}
+
+/// What became of the look for the unit, where it is one of the graph.
+fn loading<'g>(graph: &'g Graph, unit: &UnitName) -> Option<&'g Loading>
+    ensures { (s : model.State) → Serves graph.now s → Contains graph.now.names unit.now
+        → option_map loading_of (option_copied result) ≡ Some (units.load s.loaded unit.now) }
+{
+    graph.loading(graph.number(unit)?)
 }
 
 impl Acting {
@@ -34,35 +43,38 @@ impl Acting {
     }
 
     /// How a unit acts that was found.
-    fn of_found(alloc: Global, found: LoadedUnit) -> Acting
-        ensures { acting_of result ≡ model.acting_of (units.Found (unit_of found)) }
+    fn of_found(alloc: Global, found: &LoadedUnit) -> Result<Acting, AllocError>
+        ensures { IfOk result (λ a. acting_of a ≡ model.acting_of (units.Found (unit_of found.now))) }
     {
         if found.name.is_template() {
-            return Acting::unloadable(alloc);
+            return Ok(Acting::unloadable(alloc));
         }
-        let LoadedUnit { settings, .. } = found;
-        Acting {
-            settings: settings.service.acting(alloc),
+        Ok(Acting {
+            settings: found.settings.service.acting(alloc)?,
             loadable: true,
-        }
+        })
     }
 
     /// How a unit acts, by what was found of it.
-    fn of(alloc: Global, loading: Loading) -> Acting
-        ensures { acting_of result ≡ model.acting_of (loading_of loading) }
+    fn of(alloc: Global, loading: &Loading) -> Result<Acting, AllocError>
+        ensures { IfOk result (λ a. acting_of a ≡ model.acting_of (loading_of loading.now)) }
     {
         match loading {
             Loading::Found(found) => Acting::of_found(alloc, found),
-            Loading::Masked { .. } => Acting::unloadable(alloc),
-            Loading::NotFound => Acting::unloadable(alloc),
-            Loading::BadSetting { .. } => Acting::unloadable(alloc),
+            Loading::Masked { .. } => Ok(Acting::unloadable(alloc)),
+            Loading::NotFound => Ok(Acting::unloadable(alloc)),
+            Loading::BadSetting { .. } => Ok(Acting::unloadable(alloc)),
         }
     }
 
-    /// How a unit acts by the tree.
-    pub fn in_tree(alloc: Global, tree: &Tree, unit: &UnitName) -> Result<Acting, AllocError>
-        ensures { IfOk result (λ a. acting_of a ≡ model.acting_in tree.now unit.now) }
+    /// How a unit of the graph acts. One that the graph doesn't have acts as one that isn't found.
+    pub fn in_graph(alloc: Global, graph: &Graph, unit: &UnitName) -> Result<Acting, AllocError>
+        ensures { IfOk result (λ a. (s : model.State) → Serves graph.now s → Contains graph.now.names unit.now
+            → acting_of a ≡ model.acting_in s.loaded unit.now) }
     {
-        Ok(Acting::of(alloc, load(alloc, tree, unit)?))
+        match loading(graph, unit) {
+            Some(loading) => Acting::of(alloc, loading),
+            None => Ok(Acting::unloadable(alloc)),
+        }
     }
 }

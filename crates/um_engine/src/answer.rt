@@ -9,6 +9,7 @@ ghost use Rattle.um_state.specs.View.{state_of, query_of, reply_of, shown_of as 
 ghost use Rattle.um_model.specs.declared.install.Enabling.{Enabling};
 ghost use Rattle.um_unit.specs.View.{loading_of, unit_of};
 
+use crate::listing::list_units;
 use crate::names::{name_in, text_of};
 use std::alloc::{AllocError, Global};
 use um_install::is_enabled;
@@ -133,6 +134,7 @@ pub fn reply_to(alloc: Global, state: &State, query: &Query) -> Result<Reply, Al
         Query::IsActive { unit } => is_active(alloc, state, unit),
         Query::Cat { unit } => cat(alloc, state.tree(), unit),
         Query::IsEnabled { unit } => enabled_as(alloc, state.tree(), unit),
+        Query::ListUnits => list_units(alloc, state),
         Query::ListJobs => list_jobs(state),
     }
 }

@@ -1,28 +1,45 @@
-ghost use Rattle.std.specs.Prelude.{◌≡◌, map, OnOk};
+ghost use Rattle.std.specs.Prelude.{◌≡◌, false, Contains, map, IfOk, OnOk};
+ghost use Rattle.um_engine.specs.Carrying.{ChangesTo, KeepsOthers};
 ghost use Rattle.um_engine.specs.Engine.{CarriesTo};
+ghost use Rattle.um_engine.specs.Over.{Serves};
+ghost use Rattle.um_model.proofs.WaitingLaws.{NoMoreWait};
+ghost use Rattle.um_model.specs.Machine as model;
 ghost use Rattle.um_state.specs.View.{state_of, action_of};
 
 use crate::acting::Acting;
-use crate::jobs::{is_waiting, jobs_left};
+use crate::along::take_along;
 use std::alloc::{AllocError, Global};
-use um_model::{Around, Moment, UnitEvent};
+use um_graph::Graph;
+use um_jobs::{is_waiting, jobs_left};
+use um_model::{Around, JobState, Moment, StartJob, UnitEvent};
 use um_name::UnitName;
 use um_service::Service;
 use um_state::{Action, State};
 
-/// Carries out what happens to a unit at the moment; what is asked of its processes comes behind the other actions. Where memory is
-/// refused the state is of no use.
-pub fn carry_out(
+/// Whether a start job of the unit runs, and is failed.
+fn fails_start(start: StartJob, job: Option<JobState>) -> bool
+    ensures { result ≡ model.fails_start start job }
+{
+    matches!((start, job), (StartJob::Fails, Some(JobState::Running)))
+}
+
+/// What happens to a unit of the graph at the moment changes it and its jobs; what is asked of its processes comes behind the other
+/// actions. Told is whether a running start of it fails. Where memory is refused the state is of no use.
+fn change(
     alloc: Global,
+    graph: &Graph,
     state: &mut State,
     actions: &mut Vec<Action>,
     moment: Moment,
     unit: &UnitName,
     event: UnitEvent,
-) -> Result<(), AllocError>
-    ensures { OnOk result (CarriesTo moment unit.now event (state_of state.old) (map action_of actions.old.items) (state_of state.new) (map action_of actions.new.items)) }
+) -> Result<bool, AllocError>
+    ensures changes { IfOk result (λ fails. Serves graph.now (state_of state.old) → Contains graph.now.names unit.now
+        → ChangesTo moment unit.now event (state_of state.old) (map action_of actions.old.items) fails (state_of state.new) (map action_of actions.new.items)) }
+    ensures waits { OnOk result (NoMoreWait (state_of state.new).pending (state_of state.old).pending) }
+    ensures others { OnOk result (KeepsOthers unit.now (state_of state.old) (state_of state.new)) }
 {
-    let acting = Acting::in_tree(alloc, state.loaded(), unit)?;
+    let acting = Acting::in_graph(alloc, graph, unit)?;
     let jobs = state.pending().get(unit);
     let around = Around {
         moment,
@@ -36,5 +53,48 @@ pub fn carry_out(
     state.set_jobs(unit, jobs_left(asked.start, asked.stop_ends, jobs))?;
     state.set_next(asked.next);
     actions.append(&mut asked.actions)?;
+    Ok(fails_start(asked.start, jobs.start))
+}
+
+/// Carries out what happens to a unit of the graph at the moment; what is asked of its processes comes behind the other actions. Where
+/// its start fails, that takes along the starts that need it. Told is whether it failed: else nothing is changed of the other units.
+/// Where memory is refused the state is of no use.
+pub fn carry(
+    alloc: Global,
+    graph: &Graph,
+    state: &mut State,
+    actions: &mut Vec<Action>,
+    moment: Moment,
+    unit: &UnitName,
+    event: UnitEvent,
+) -> Result<bool, AllocError>
+    ensures carries { OnOk result (Serves graph.now (state_of state.old) → Contains graph.now.names unit.now
+        → CarriesTo moment unit.now event (state_of state.old) (map action_of actions.old.items) (state_of state.new) (map action_of actions.new.items)
+        × Serves graph.now (state_of state.new)) }
+    ensures waits { OnOk result (NoMoreWait (state_of state.new).pending (state_of state.old).pending) }
+    ensures others { IfOk result (λ fails. fails ≡ false → KeepsOthers unit.now (state_of state.old) (state_of state.new)) }
+{
+    let fails = change(alloc, graph, state, actions, moment, unit, event)?;
+    if fails {
+        take_along(alloc, graph, state, unit)?;
+    }
+    Ok(fails)
+}
+
+/// Carries out what happens to a unit of the graph, as `carry` does.
+pub fn carry_out(
+    alloc: Global,
+    graph: &Graph,
+    state: &mut State,
+    actions: &mut Vec<Action>,
+    moment: Moment,
+    unit: &UnitName,
+    event: UnitEvent,
+) -> Result<(), AllocError>
+    ensures { OnOk result (Serves graph.now (state_of state.old) → Contains graph.now.names unit.now
+        → CarriesTo moment unit.now event (state_of state.old) (map action_of actions.old.items) (state_of state.new) (map action_of actions.new.items)
+        × Serves graph.now (state_of state.new)) }
+{
+    carry(alloc, graph, state, actions, moment, unit, event)?;
     Ok(())
 }

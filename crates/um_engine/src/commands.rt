@@ -1,68 +1,32 @@
 //! What a command does, and why it is refused.
 
-ghost use Rattle.std.specs.Prelude.{◌≡◌, ◌↔◌, Err, IsTrue, IfOk, IfErr};
-ghost use Rattle.um_engine.specs.Engine.{StartsSo};
+ghost use Rattle.std.specs.Prelude.{◌≡◌, Err, false, IfOk, IfErr};
+ghost use Rattle.um_engine.specs.Known.{HoldsNoMore};
+ghost use Rattle.um_model.specs.Machine.{has_waiting};
 ghost use Rattle.um_model.specs.Install.{paths_beyond};
 ghost use Rattle.um_model.specs.Machine as model;
 ghost use Rattle.um_model.specs.Refusals as told;
 ghost use Rattle.um_model.specs.Tree.{put_file, put_link, remove_at};
 ghost use Rattle.um_model.specs.Units as units;
 ghost use Rattle.um_state.specs.View.{state_of, command_of, reply_of};
-ghost use Rattle.um_model.specs.declared.commands.JobMode.TheVariants.{Fail};
-ghost use Rattle.um_unit.specs.View.{loading_of, unit_of};
 ghost use Rattle.um_wire.specs.Gives.{RefusesBy};
 ghost use Rattle.um_wire.specs.Refusal.{refused_of};
 ghost use Rattle.um_wire.specs.declared.refusal.Refusal.TheVariants.{NoMemory};
 
-use crate::jobs::{cancelled, drops_one, has_waiting, jobs_after, starts_it};
-use crate::names::{name_in, text_of};
+use crate::jobs::{cancelled, has_waiting};
+use crate::loading::known_of_loaded;
+use crate::missing::check_missing;
+use crate::names::{Asked, text_of};
+use crate::planning::planned;
+use crate::served::Served;
 use std::alloc::{AllocError, Global};
+use std::rc::Rc;
 use um_install::{Installed, install};
-use um_model::{InstallVerb, JobMode, UnitJobs, UnitKind, UnitVerb};
+use um_model::{InstallVerb, UnitJobs};
 use um_name::UnitName;
 use um_state::{Command, Reply, State};
-use um_unit::{LoadedUnit, Loading, load};
+use um_tree::Tree;
 use um_wire::Refusal;
-
-/// E6 with the unit and the reason, or want of memory for their texts.
-fn bad_setting(alloc: Global, unit: &UnitName, reason: &str) -> Refusal
-    ensures { ¬ (result ≡ NoMemory) → refused_of result ≡ told.bad_setting unit.now reason.now }
-{
-    match (text_of(alloc, unit), String::from_str(alloc, reason)) {
-        (Ok(unit), Ok(reason)) => Refusal::BadSetting { unit, reason },
-        _ => Refusal::NoMemory,
-    }
-}
-
-/// E4 with the unit, or want of memory for its text.
-fn not_found(alloc: Global, unit: &UnitName) -> Refusal
-    ensures { ¬ (result ≡ NoMemory) → refused_of result ≡ told.not_found unit.now }
-{
-    match text_of(alloc, unit) {
-        Ok(unit) => Refusal::NotFound { unit },
-        Err(_) => Refusal::NoMemory,
-    }
-}
-
-/// E5 with the unit, or want of memory for its text.
-fn masked(alloc: Global, unit: &UnitName) -> Refusal
-    ensures { ¬ (result ≡ NoMemory) → refused_of result ≡ told.masked unit.now }
-{
-    match text_of(alloc, unit) {
-        Ok(unit) => Refusal::Masked { unit },
-        Err(_) => Refusal::NoMemory,
-    }
-}
-
-/// E7 with the unit, or want of memory for its text.
-fn not_loaded(alloc: Global, unit: &UnitName) -> Refusal
-    ensures { ¬ (result ≡ NoMemory) → refused_of result ≡ told.not_loaded unit.now }
-{
-    match text_of(alloc, unit) {
-        Ok(unit) => Refusal::NotLoaded { unit },
-        Err(_) => Refusal::NoMemory,
-    }
-}
 
 /// E21 with the unit, or want of memory for its text.
 fn no_such_job(alloc: Global, unit: &UnitName) -> Refusal
@@ -74,185 +38,11 @@ fn no_such_job(alloc: Global, unit: &UnitName) -> Refusal
     }
 }
 
-/// E10 with the unit, or want of memory for its text.
-fn job_conflict(alloc: Global, unit: &UnitName) -> Refusal
-    ensures { ¬ (result ≡ NoMemory) → refused_of result ≡ told.job_conflict unit.now }
-{
-    match text_of(alloc, unit) {
-        Ok(unit) => Refusal::JobConflict { unit },
-        Err(_) => Refusal::NoMemory,
-    }
-}
-
-/// Of the kinds of units simple services are served.
-fn is_served_kind(kind: UnitKind) -> bool
-    ensures { result ≡ model.is_served_kind kind }
-{
-    matches!(kind, UnitKind::Simple)
-}
-
-/// Refuses to start a unit that was found and isn't a simple service, or is a template (E6).
-fn check_found(alloc: Global, asked: &UnitName, found: &LoadedUnit) -> Result<(), Refusal>
-    ensures { RefusesBy (model.CannotStart asked.now (units.Found (unit_of found.now))) result }
-{
-    if !is_served_kind(found.settings.service.kind) {
-        return Err(bad_setting(alloc, &found.name, "type"));
-    }
-    if found.name.is_template() {
-        return Err(bad_setting(alloc, &found.name, "template"));
-    }
-    Ok(())
-}
-
-/// Refuses to start a unit that isn't found (E4), is masked (E5), has a refused setting, isn't a simple service or is a template (E6).
-fn check_start(alloc: Global, asked: &UnitName, loading: &Loading) -> Result<(), Refusal>
-    ensures { RefusesBy (model.CannotStart asked.now (loading_of loading.now)) result }
-{
-    match loading {
-        Loading::Found(found) => check_found(alloc, asked, found),
-        Loading::NotFound => Err(not_found(alloc, asked)),
-        Loading::Masked { unit } => Err(masked(alloc, unit)),
-        Loading::BadSetting { unit, reason } => Err(bad_setting(alloc, unit, reason.as_str())),
-    }
-}
-
-/// Whether the command is for a unit that is there already.
-fn wants_it_there(verb: UnitVerb) -> bool
-    ensures { result ≡ model.wants_it_there verb }
-{
-    matches!(verb, UnitVerb::Stop | UnitVerb::TryRestart)
-}
-
-fn is_found(loading: &Loading) -> bool
-    ensures { result ≡ model.is_found (loading_of loading.now) }
-{
-    !matches!(loading, Loading::NotFound)
-}
-
-/// Refuses a unit that is neither found in the loaded tree nor held in the state (E7).
-fn check_missing(
-    alloc: Global,
-    state: &State,
-    asked: &UnitName,
-    loading: &Loading,
-) -> Result<(), Refusal>
-    requires { loading_of loading.now ≡ units.load (state_of state.now).loaded asked.now }
-    ensures { RefusesBy (model.IsMissing (state_of state.now) asked.now) result }
-{
-    if is_found(loading) || state.units().holds(asked) {
-        return Ok(());
-    }
-    Err(not_loaded(alloc, asked))
-}
-
-/// Refuses a command for a unit that is there already where it is missing (E7).
-fn check_there(
-    alloc: Global,
-    state: &State,
-    verb: UnitVerb,
-    asked: &UnitName,
-    loading: &Loading,
-) -> Result<(), Refusal>
-    requires { loading_of loading.now ≡ units.load (state_of state.now).loaded asked.now }
-    ensures { RefusesBy (model.IsNotThere (state_of state.now) verb asked.now) result }
-{
-    if !wants_it_there(verb) {
-        return Ok(());
-    }
-    check_missing(alloc, state, asked, loading)
-}
-
-fn is_fail(mode: JobMode) -> bool
-    ensures { IsTrue result ↔ (mode ≡ Fail) }
-{
-    matches!(mode, JobMode::Fail)
-}
-
-/// Refuses in mode fail a command that drops a pending job of the unit (E10).
-fn check_drops(
-    alloc: Global,
-    mode: JobMode,
-    unit: &UnitName,
-    before: UnitJobs,
-    after: UnitJobs,
-) -> Result<(), Refusal>
-    ensures { RefusesBy (model.DropsAJob mode unit.now before after) result }
-{
-    if is_fail(mode) && drops_one(before, after) {
-        return Err(job_conflict(alloc, unit));
-    }
-    Ok(())
-}
-
-/// Refuses a command that starts its unit where that can't be started.
-fn check_starts(
-    alloc: Global,
-    starts: bool,
-    asked: &UnitName,
-    loading: &Loading,
-) -> Result<(), Refusal>
-    ensures { RefusesBy (StartsSo starts asked.now (loading_of loading.now)) result }
-{
-    if !starts {
-        return Ok(());
-    }
-    check_start(alloc, asked, loading)
-}
-
-/// Refuses a command for a unit for the first of E7, E4 to E6 and E10 that holds.
-fn check_plan(
-    alloc: Global,
-    state: &State,
-    verb: UnitVerb,
-    asked: &UnitName,
-    mode: JobMode,
-    loading: &Loading,
-) -> Result<(), Refusal>
-    requires { loading_of loading.now ≡ units.load (state_of state.now).loaded asked.now }
-    ensures { RefusesBy (model.Refuses (state_of state.now) (model.ForUnit verb asked.now mode)) result }
-{
-    check_there(alloc, state, verb, asked, loading)?;
-    let unit = name_in(asked, loading);
-    let active = state.units().get(unit).sub.active_state();
-    check_starts(alloc, starts_it(verb, active), asked, loading)?;
-    let before = state.pending().get(unit);
-    check_drops(alloc, mode, unit, before, jobs_after(verb, active, before))?;
-    Ok(())
-}
-
-/// The state with the plan of a command for a unit.
-fn planned(
-    alloc: Global,
-    state: &State,
-    verb: UnitVerb,
-    asked: &UnitName,
-    mode: JobMode,
-) -> Result<State, Refusal>
-    ensures changed { IfOk result (λ u. model.Changes (state_of state.now) (model.ForUnit verb asked.now mode) (state_of u)) }
-    ensures refused { RefusesBy (model.Refuses (state_of state.now) (model.ForUnit verb asked.now mode)) result }
-{
-    let loading = load(alloc, state.loaded(), asked)?;
-    check_plan(alloc, state, verb, asked, mode, &loading)?;
-    let unit = name_in(asked, &loading);
-    let active = state.units().get(unit).sub.active_state();
-    let jobs = jobs_after(verb, active, state.pending().get(unit));
-    let mut planned = state.copy()?;
-    planned.set_jobs(unit, jobs)?;
-    Ok(planned)
-}
-
 /// Refuses to drop the waiting jobs of a unit where none waits (E21).
-fn check_waiting(
-    alloc: Global,
-    state: &State,
-    asked: &UnitName,
-    loading: &Loading,
-) -> Result<(), Refusal>
-    requires { loading_of loading.now ≡ units.load (state_of state.now).loaded asked.now }
-    ensures { RefusesBy (model.HasNoneWaiting (state_of state.now) asked.now) result }
+fn check_waiting(alloc: Global, unit: &UnitName, jobs: UnitJobs) -> Result<(), Refusal>
+    ensures { RefusesBy (λ r. (has_waiting jobs ≡ false) × (r ≡ told.no_such_job unit.now)) result }
 {
-    let unit = name_in(asked, loading);
-    if has_waiting(state.pending().get(unit)) {
+    if has_waiting(jobs) {
         return Ok(());
     }
     Err(no_such_job(alloc, unit))
@@ -263,27 +53,28 @@ fn check_cancel(
     alloc: Global,
     state: &State,
     asked: &UnitName,
-    loading: &Loading,
+    leads: &Asked,
 ) -> Result<(), Refusal>
-    requires { loading_of loading.now ≡ units.load (state_of state.now).loaded asked.now }
+    requires unit { leads.now.unit ≡ model.unit_asked (state_of state.now) asked.now }
+    requires found { leads.now.is_found ≡ model.is_found (units.load (state_of state.now).loaded asked.now) }
     ensures { RefusesBy (model.Refuses (state_of state.now) (model.Cancel asked.now)) result }
 {
-    check_missing(alloc, state, asked, loading)?;
-    check_waiting(alloc, state, asked, loading)?;
+    check_missing(alloc, state, asked, leads.is_found)?;
+    check_waiting(alloc, &leads.unit, state.pending().get(&leads.unit))?;
     Ok(())
 }
 
 /// The state without the waiting jobs of a unit.
-fn without_waiting(alloc: Global, state: &State, asked: &UnitName) -> Result<State, Refusal>
-    ensures changed { IfOk result (λ u. model.Changes (state_of state.now) (model.Cancel asked.now) (state_of u)) }
-    ensures refused { RefusesBy (model.Refuses (state_of state.now) (model.Cancel asked.now)) result }
+fn without_waiting(alloc: Global, served: &Served, asked: &UnitName) -> Result<State, Refusal>
+    ensures changed { IfOk result (λ u. model.Changes served.now.state (model.Cancel asked.now) (state_of u)) }
+    ensures refused { RefusesBy (model.Refuses served.now.state (model.Cancel asked.now)) result }
 {
-    let loading = load(alloc, state.loaded(), asked)?;
-    check_cancel(alloc, state, asked, &loading)?;
-    let unit = name_in(asked, &loading);
-    let jobs = cancelled(state.pending().get(unit));
+    let state = served.state();
+    let leads = Asked::of(alloc, served.known().graph(), state.loaded(), asked)?;
+    check_cancel(alloc, state, asked, &leads)?;
+    let jobs = cancelled(state.pending().get(&leads.unit));
     let mut changed = state.copy()?;
-    changed.set_jobs(unit, jobs)?;
+    changed.set_jobs(&leads.unit, jobs)?;
     Ok(changed)
 }
 
@@ -350,31 +141,47 @@ fn without_path(alloc: Global, state: &State, path: &str) -> Result<State, Refus
     Ok(changed)
 }
 
-/// The state with its tree in hand loaded.
-fn reloaded(state: &State) -> Result<State, AllocError>
-    ensures { IfOk result (λ u. model.Changes (state_of state.now) model.DaemonReload (state_of u)) }
-{
-    let mut changed = state.copy()?;
-    changed.reload()?;
-    Ok(changed)
-}
-
 /// A state as a command changed it, before any job begins, and what is answered.
 #[derive(Drop)]
 pub struct Outcome {
-    pub state: State,
+    pub served: Served,
     pub reply: Reply,
 }
 
-/// Answered with nothing.
-fn done(state: State) -> Outcome
-    ensures state { state_of result.state ≡ state_of state }
-    ensures reply { reply_of result.reply ≡ model.Done }
+/// The state as a command left its loaded tree, with nothing new that it holds: what is known stays, and nothing is answered.
+fn done(served: &Served, state: State) -> Result<Outcome, AllocError>
+    requires { HoldsNoMore served.now.state (state_of state) }
+    ensures state { IfOk result (λ o. o.served.state ≡ state_of state) }
+    ensures reply { IfOk result (λ o. reply_of o.reply ≡ model.Done) }
 {
-    Outcome {
-        state,
+    Ok(Outcome {
+        served: Served::with(state, served.share_known()?),
         reply: Reply::Done,
-    }
+    })
+}
+
+/// The state with its tree in hand loaded. Refused are too many known units (E13), and pending jobs in a circle (E9).
+fn reloaded(alloc: Global, state: &State) -> Result<Served, Refusal>
+    ensures changed { IfOk result (λ u. model.Changes (state_of state.now) model.DaemonReload u.state) }
+    ensures refused { RefusesBy (model.Refuses (state_of state.now) model.DaemonReload) result }
+{
+    let known = known_of_loaded(alloc, state, state.tree())?;
+    let known = Rc::new(alloc, known)?;
+    let mut changed = state.copy()?;
+    changed.reload()?;
+    Ok(Served::with(changed, known))
+}
+
+/// The state with that tree, loaded. Refused are too many known units (E13), and pending jobs in a circle (E9).
+fn with_tree(alloc: Global, state: &State, tree: Tree) -> Result<Served, Refusal>
+    ensures changed { IfOk result (λ u. u.state ≡ record (state_of state.now) { tree = tree; loaded = tree }) }
+    ensures refused { RefusesBy (model.CausesOfLoad (state_of state.now) tree) result }
+{
+    let known = known_of_loaded(alloc, state, &tree)?;
+    let known = Rc::new(alloc, known)?;
+    let mut changed = state.copy()?;
+    changed.load_tree(tree)?;
+    Ok(Served::with(changed, known))
 }
 
 /// The state with the tree that comes of enabling the unit or its kin, loaded.
@@ -384,45 +191,62 @@ fn installed(
     verb: InstallVerb,
     unit: &UnitName,
 ) -> Result<Outcome, Refusal>
-    ensures changed { IfOk result (λ c. model.Changes (state_of state.now) (model.Install verb unit.now) (state_of c.state)) }
-    ensures reply { IfOk result (λ c. reply_of c.reply
-        ≡ model.Relinked (paths_beyond (state_of state.now).tree (state_of c.state).tree) (paths_beyond (state_of c.state).tree (state_of state.now).tree)) }
+    ensures changed { IfOk result (λ o. model.Changes (state_of state.now) (model.Install verb unit.now) o.served.state) }
+    ensures reply { IfOk result (λ o. reply_of o.reply
+        ≡ model.Relinked (paths_beyond (state_of state.now).tree o.served.state.tree) (paths_beyond o.served.state.tree (state_of state.now).tree)) }
     ensures refused { RefusesBy (model.Refuses (state_of state.now) (model.Install verb unit.now)) result }
 {
-    let linked = install(alloc, state.tree(), verb, unit)?;
-    let mut changed = state.copy()?;
     let Installed {
         tree,
         made,
         removed,
-    } = linked;
-    changed.load_tree(tree)?;
+    } = install(alloc, state.tree(), verb, unit)?;
     Ok(Outcome {
-        state: changed,
+        served: with_tree(alloc, state, tree)?,
         reply: Reply::Relinked { made, removed },
     })
 }
 
-/// The state as a command changes it; or the command is refused.
-pub fn changed(alloc: Global, state: &State, command: &Command) -> Result<Outcome, Refusal>
-    ensures changed { IfOk result (λ c. model.Changes (state_of state.now) (command_of command.now) (state_of c.state)) }
-    ensures reply { IfOk result (λ c. reply_of c.reply
-        ≡ model.reply_after (model.Commanded (command_of command.now)) (state_of state.now).tree (state_of c.state).tree) }
-    ensures refused { RefusesBy (model.Refuses (state_of state.now) (command_of command.now)) result }
+/// Nothing is answered.
+fn silent(served: Served) -> Outcome
+    ensures state { result.served.state ≡ served.state }
+    ensures reply { reply_of result.reply ≡ model.Done }
 {
+    Outcome {
+        served,
+        reply: Reply::Done,
+    }
+}
+
+/// The state as a command changes it; or the command is refused.
+pub fn changed(alloc: Global, served: &Served, command: &Command) -> Result<Outcome, Refusal>
+    ensures changed { IfOk result (λ c. model.Changes served.now.state (command_of command.now) c.served.state) }
+    ensures reply { IfOk result (λ c. reply_of c.reply
+        ≡ model.reply_after (model.Commanded (command_of command.now)) served.now.state.tree c.served.state.tree) }
+    ensures refused { RefusesBy (model.Refuses served.now.state (command_of command.now)) result }
+{
+    let state = served.state();
     match command {
         Command::PutFile { path, text } => {
-            Ok(done(with_file(alloc, state, path.as_str(), text.as_str())?))
+            let changed = with_file(alloc, state, path.as_str(), text.as_str())?;
+            Ok(done(served, changed)?)
         }
         Command::PutLink { path, target } => {
-            Ok(done(with_link(alloc, state, path.as_str(), target.as_str())?))
+            let changed = with_link(alloc, state, path.as_str(), target.as_str())?;
+            Ok(done(served, changed)?)
         }
-        Command::Remove { path } => Ok(done(without_path(alloc, state, path.as_str())?)),
-        Command::DaemonReload => Ok(done(reloaded(state)?)),
+        Command::Remove { path } => {
+            let changed = without_path(alloc, state, path.as_str())?;
+            Ok(done(served, changed)?)
+        }
+        Command::DaemonReload => Ok(silent(reloaded(alloc, state)?)),
         Command::ForUnit { verb, unit, mode } => {
-            Ok(done(planned(alloc, state, *verb, unit, *mode)?))
+            Ok(silent(planned(alloc, served, *verb, unit, *mode)?))
         }
-        Command::Cancel { unit } => Ok(done(without_waiting(alloc, state, unit)?)),
+        Command::Cancel { unit } => {
+            let changed = without_waiting(alloc, served, unit)?;
+            Ok(done(served, changed)?)
+        }
         Command::Install { verb, unit } => installed(alloc, state, *verb, unit),
     }
 }

@@ -1,33 +1,37 @@
 ghost use Rattle.std.specs.Prelude.{◌≡◌, ◌↔◌, [], false, is_some, map, IfOk, IfErr};
-ghost use Rattle.um_engine.specs.Engine.{state_in, size_in, has_effect_in, state_at, state_after, reply_in, actions_in, state_before};
+ghost use Rattle.um_engine.specs.Engine.{state_in, size_in, has_effect_in, state_at, state_after, reply_in, actions_in, state_before, MetBy};
+ghost use Rattle.um_engine.specs.Planned.{Declines};
 ghost use Rattle.um_model.specs.Machine as model;
-ghost use Rattle.um_model.specs.Machine.{Step, Takes, LacksEffect, moment_of};
-ghost use Rattle.um_state.specs.View.{state_of, input_of, query_of, reply_of, action_of, command_of};
+ghost use Rattle.um_model.specs.Machine.{Step, Takes, LacksEffect, moment_of, IsCrowded, IsHeld, IsTooHeavy};
+ghost use Rattle.um_state.specs.View.{state_of, input_of, query_of, reply_of, action_of, command_of, happening_of};
+ghost use Rattle.um_wire.specs.Gives.{RefusesBy};
 ghost use Rattle.um_wire.specs.Refusal.{refused_of};
 ghost use Rattle.um_wire.specs.declared.refusal.Refusal.TheVariants.{NoMemory};
 
 use crate::answer::reply_to;
 use crate::commands::{Outcome, changed};
 use crate::happenings::met;
+use crate::room::check_room;
+use crate::served::Served;
 use crate::settling::settle;
 use std::alloc::{AllocError, Global};
 use std::mem;
 use um_model::Moment;
-use um_state::{Action, Command, Event, Input, Query, Reply, State};
+use um_state::{Action, Command, Event, Happening, Input, Query, Reply, State};
 use um_wire::Refusal;
 
-/// The manager's state and the size of its store.
+/// The manager's state, what is known of its units, and the size of its store.
 #[derive(Drop)]
 pub struct Engine {
     alloc: Global,
-    state: State,
+    served: Served,
     size: u64,
 }
 
 /// What comes of a command: the state after it, what is answered, and what is asked of processes.
 #[derive(Drop)]
 struct Settled {
-    state: State,
+    served: Served,
     reply: Reply,
     actions: Vec<Action>,
 }
@@ -36,29 +40,28 @@ struct Settled {
 #[derive(Drop)]
 pub struct Next {
     /// None where the step has no effect.
-    state: Option<State>,
+    served: Option<Served>,
     reply: Reply,
     actions: Vec<Action>,
 }
 
 impl Next {
     /// The step to this state, but for its clock, at the moment; none without effect.
-    fn at(moment: Moment, state: Option<State>, reply: Reply, actions: Vec<Action>) -> Next
-        ensures state { (s : model.State) → state_after result s ≡ state_at moment state s }
-        ensures effect { has_effect_in result ≡ is_some state }
+    fn at(moment: Moment, served: Option<Served>, reply: Reply, actions: Vec<Action>) -> Next
+        ensures state { (s : model.State) → state_after result s ≡ state_at moment served s }
+        ensures effect { has_effect_in result ≡ is_some served }
         ensures reply { reply_in result ≡ reply_of reply }
         ensures actions { actions_in result ≡ map action_of actions.items }
     {
-        let Some(mut state) = state else {
+        let Some(served) = served else {
             return Next {
-                state: None,
+                served: None,
                 reply,
                 actions,
             };
         };
-        state.set_clock(moment);
         Next {
-            state: Some(state),
+            served: Some(served.at(moment)),
             reply,
             actions,
         }
@@ -69,7 +72,7 @@ impl Next {
     pub fn has_effect(&self) -> bool
         ensures { result ≡ has_effect_in self.now }
     {
-        self.state.is_some()
+        self.served.is_some()
     }
 }
 
@@ -77,42 +80,68 @@ impl Next {
 #[derive(Drop)]
 pub struct Back {
     /// None where the step had no effect.
-    state: Option<State>,
+    served: Option<Served>,
 }
 
 impl Engine {
-    /// The engine in this state, over a store of so many bytes. It takes no memory.
-    pub fn of(alloc: Global, state: State, size: u64) -> Engine
-        ensures state { state_in result ≡ state_of state }
-        ensures size { size_in result ≡ size }
+    /// The engine in this state, over a store of so many bytes. Refused are too many known units (E13).
+    pub fn of(alloc: Global, state: State, size: u64) -> Result<Engine, Refusal>
+        ensures state { IfOk result (λ e. state_in e ≡ state_of state) }
+        ensures size { IfOk result (λ e. size_in e ≡ size) }
+        ensures refused { RefusesBy (IsCrowded (state_of state).loaded (IsHeld (state_of state))) result }
     {
-        Engine { alloc, state, size }
+        let served = Served::of(alloc, state)?;
+        Ok(Engine {
+            alloc,
+            served,
+            size,
+        })
     }
 
     /// The moment of the last step.
     pub fn clock(&self) -> Moment
         ensures { result ≡ (state_in self.now).clock }
     {
-        self.state.clock()
+        self.served.state().clock()
     }
 
     /// What comes of a command at the moment: the state after it, but for its clock.
     fn obeyed(&self, moment: Moment, command: &Command) -> Result<Settled, Refusal>
         ensures taken { IfOk result (λ o.
-            Takes moment (state_in self.now) (model.Commanded (command_of command.now)) (map action_of o.actions.items) (state_of o.state)) }
+            Takes moment (state_in self.now) (model.Commanded (command_of command.now)) (map action_of o.actions.items) o.served.state) }
         ensures reply { IfOk result (λ o. reply_of o.reply
-            ≡ model.reply_after (model.Commanded (command_of command.now)) (state_in self.now).tree (state_of o.state).tree) }
-        ensures refused { IfErr result (λ e. ¬ (e ≡ NoMemory) → model.Refuses (state_in self.now) (command_of command.now) (refused_of e)) }
+            ≡ model.reply_after (model.Commanded (command_of command.now)) (state_in self.now).tree o.served.state.tree) }
+        ensures room { IfOk result (λ o. ¬ IsTooHeavy (size_in self.now) o.served.state) }
+        ensures refused { IfErr result (λ e. ¬ (e ≡ NoMemory) → Declines (size_in self.now) moment (state_in self.now) (command_of command.now) (refused_of e)) }
     {
-        let outcome = changed(self.alloc, &self.state, command)?;
-        let Outcome { mut state, reply } = outcome;
-        let mut actions = Vec::new(self.alloc);
-        settle(self.alloc, &mut state, &mut actions, moment)?;
+        let outcome = changed(self.alloc, &self.served, command)?;
+        let Outcome { served, reply } = outcome;
+        let (served, actions) = settle_all(self.alloc, served, moment)?;
+        check_room(self.alloc, &served, self.size)?;
         Ok(Settled {
-            state,
+            served,
             reply,
             actions,
         })
+    }
+
+    /// What comes of what happens at the moment: the state after it, but for its clock, and what is asked of processes; no state
+    /// where it has no effect.
+    fn followed(
+        &self,
+        moment: Moment,
+        happening: &Happening,
+    ) -> Result<(Option<Served>, Vec<Action>), AllocError>
+        ensures { IfOk result (λ f. MetBy moment (state_in self.now) (happening_of happening.now) f.0 (map action_of f.1.items)) }
+    {
+        let served = &self.served;
+        let graph = served.known().graph();
+        let (after, actions) = met(self.alloc, graph, served.state(), moment, happening)?;
+        let Some(state) = after else {
+            return Ok((None, actions));
+        };
+        let known = served.share_known()?;
+        Ok((Some(Served::with(state, known)), actions))
     }
 
     /// The step that the input is. It is refused as the machine refuses it, or for want of memory; nothing has changed then.
@@ -125,20 +154,20 @@ impl Engine {
         ensures refused { IfErr result (λ e. ¬ (e ≡ NoMemory)
             → Step (size_in self.now) (state_in self.now) (input_of input.now) (model.Refusal (refused_of e)) [] (state_in self.now)) }
     {
-        let moment = self.state.clock().or_later(input.moment());
+        let moment = self.served.state().clock().or_later(input.moment());
         match input.event() {
             Event::Commanded(command) => {
                 let settled = self.obeyed(moment, command)?;
                 let Settled {
-                    state,
+                    served,
                     reply,
                     actions,
                 } = settled;
-                Ok(Next::at(moment, Some(state), reply, actions))
+                Ok(Next::at(moment, Some(served), reply, actions))
             }
             Event::Happened(happening) => {
-                let (state, actions) = met(self.alloc, &self.state, moment, happening)?;
-                Ok(Next::at(moment, state, Reply::Done, actions))
+                let (served, actions) = self.followed(moment, happening)?;
+                Ok(Next::at(moment, served, Reply::Done, actions))
             }
         }
     }
@@ -152,19 +181,19 @@ impl Engine {
         ensures back { state_before result.2 (state_in self.new) ≡ state_in self.old }
     {
         let Next {
-            state,
+            served,
             reply,
             actions,
         } = next;
-        let Some(state) = state else {
-            return (reply, actions, Back { state: None });
+        let Some(served) = served else {
+            return (reply, actions, Back { served: None });
         };
-        let before = mem::replace(&mut self.state, state);
+        let before = mem::replace(&mut self.served, served);
         (
             reply,
             actions,
             Back {
-                state: Some(before),
+                served: Some(before),
             },
         )
     }
@@ -174,9 +203,9 @@ impl Engine {
         ensures state { state_in self.new ≡ state_before back (state_in self.old) }
         ensures size { size_in self.new ≡ size_in self.old }
     {
-        let Back { state } = back;
-        if let Some(state) = state {
-            self.state = state;
+        let Back { served } = back;
+        if let Some(served) = served {
+            self.served = served;
         }
     }
 
@@ -184,6 +213,20 @@ impl Engine {
     pub fn query(&self, query: &Query) -> Result<Reply, AllocError>
         ensures { IfOk result (λ reply. model.IsReplyTo (state_in self.now) (query_of query.now) (reply_of reply)) }
     {
-        reply_to(self.alloc, &self.state, query)
+        reply_to(self.alloc, self.served.state(), query)
     }
+}
+
+/// The state in which jobs begin at the moment until none is ready, and what is asked of processes.
+fn settle_all(
+    alloc: Global,
+    served: Served,
+    moment: Moment,
+) -> Result<(Served, Vec<Action>), AllocError>
+    ensures { IfOk result (λ r. model.Settles moment served.state (map action_of r.1.items) r.0.state) }
+{
+    let (mut state, known) = served.into_parts();
+    let mut actions = Vec::new(alloc);
+    settle(alloc, known.graph(), &mut state, &mut actions, moment)?;
+    Ok((Served::with(state, known), actions))
 }

@@ -1,5 +1,6 @@
 ghost use Rattle.std.specs.Prelude.{◌≡◌, ◌↔◌, ◌++◌, ℕ, List};
-ghost use Rattle.um_model.specs.Live.{IsNotStuck};
+ghost use Rattle.um_model.specs.Alike.{IsSameOutcome};
+ghost use Rattle.um_model.specs.Live.{IsFree, IsNotStuck};
 ghost use Rattle.um_model.specs.Machine.{State, Input, Reply, Step, Run, empty_state};
 ghost use Rattle.um_model.specs.Numbers.{AreNew, started_numbers, actions_in};
 ghost use Rattle.um_model.specs.Service.{Action};
@@ -10,10 +11,10 @@ pub fn each_input_has_a_step()
         → (reply : Reply) × (actions : List Action) × (t : State) × Step size s input reply actions t }
 {}
 
-/// A step has one outcome.
+/// A step has one outcome, but for the cycle that a refusal names.
 pub fn a_step_has_one_outcome()
     ensures { (size : ℕ) (s : State) (input : Input) (r q : Reply) (a b : List Action) (t u : State)
-        → Step size s input r a t → Step size s input q b u → (r ≡ q) × (a ≡ b) × (t ≡ u) }
+        → Step size s input r a t → Step size s input q b u → IsSameOutcome r q a b t u }
 {}
 
 /// A run has one end.
@@ -25,6 +26,11 @@ pub fn a_run_has_one_end()
 pub fn runs_join()
     ensures { (size : ℕ) (s u : State) (p q : List Input)
         → ((t : State) × Run size s p t × Run size t q u) ↔ Run size s (p ++ q) u }
+{}
+
+/// After a run from the empty state the pending jobs don't wait for one another in a circle.
+pub fn the_pending_jobs_have_no_cycle()
+    ensures { (size : ℕ) (inputs : List Input) (t : State) → Run size empty_state inputs t → IsFree t }
 {}
 
 /// The machine is never stuck: where a job is pending after a run from the empty state, some pending job's unit is in start or in a

@@ -3,18 +3,26 @@
 #![tactic(auto)]
 
 mod acting;
+mod along;
 mod answer;
 mod carrying;
 mod commands;
 mod engine;
 mod happenings;
 mod jobs;
+mod known;
 mod laws;
+mod listing;
+mod loading;
+mod missing;
 mod names;
+mod planning;
+mod room;
+mod served;
 mod settling;
 
 pub use engine::{Back, Engine, Next};
 pub use laws::{
     a_run_has_one_end, a_step_has_one_outcome, each_input_has_a_step, no_number_is_started_twice,
-    numbers_rise, runs_join, the_machine_is_never_stuck,
+    numbers_rise, runs_join, the_machine_is_never_stuck, the_pending_jobs_have_no_cycle,
 };

@@ -1,49 +1,126 @@
-ghost use Rattle.std.specs.Prelude.{◌≡◌, map, IfOk, OnOk, MatchOption};
+ghost use Rattle.std.specs.Prelude.{◌≡◌, false, map, IfOk, IfSome, OnOk, MatchOption};
+ghost use Rattle.um_engine.specs.Carrying.{KeepsOthers};
 ghost use Rattle.um_engine.specs.Engine.{SettlesTo, FiresOneTo, FiresTo, IsDue, NoneIsDue};
-ghost use Rattle.um_model.specs.Jobs.{BeginsNext, Job};
+ghost use Rattle.um_engine.specs.Filled.{Tells, is_deactivating, told_of};
+ghost use Rattle.um_engine.specs.Over.{Serves};
+ghost use Rattle.um_graph.specs.Graph.{IsNumberOf};
+ghost use Rattle.um_model.specs.Jobs.{BeginsNext, IsWaiting, Job};
+ghost use Rattle.um_model.specs.Machine as model;
 ghost use Rattle.um_model.specs.Machine.{begun, IsBefore, IsStill};
+ghost use Rattle.um_model.specs.Service.{active_state_of};
 ghost use Rattle.um_state.specs.View.{state_of, action_of};
 
-use crate::carrying::carry_out;
-use crate::jobs::{begins, with_running};
+use crate::carrying::{carry, carry_out};
+use crate::jobs::begins;
 use std::alloc::{AllocError, Global};
-use um_model::{Deadline, JobKind, Moment, UnitEvent};
+use um_graph::Graph;
+use um_jobs::{Jobs, with_running};
+use um_model::{ActiveState, Deadline, JobKind, Moment, UnitEvent, UnitState};
 use um_name::UnitName;
 use um_state::{Action, State};
 use um_timer::Timers;
 
-/// The job that begins next, with its unit's name.
-fn next_job(state: &State) -> Result<Option<(UnitName, JobKind)>, AllocError>
-    ensures { IfOk result (λ next. MatchOption next
-        (IsStill (state_of state.now))
-        (λ job. BeginsNext (IsBefore (state_of state.now).loaded) (state_of state.now).units (state_of state.now).pending (record { unit = job.0; kind = job.1 }))) }
+/// Whether the unit counts as deactivating.
+fn is_deactivating(stands: UnitState) -> bool
+    ensures { result ≡ is_deactivating (active_state_of stands.sub) }
 {
-    match state.pending().next_job(state.units()) {
-        Some((unit, kind)) => Ok(Some((unit.copy()?, kind))),
-        None => Ok(None),
+    matches!(stands.sub.active_state(), ActiveState::Deactivating)
+}
+
+/// Tells of the unit with this number and name what the state holds of it.
+fn tell(jobs: &mut Jobs, state: &State, unit: usize, name: &UnitName)
+    ensures { jobs.new ≡ told_of (state_of state.now) unit name.now jobs.old }
+{
+    jobs.set(unit, state.pending().get(name));
+    jobs.hold(unit, is_deactivating(state.units().get(name)));
+}
+
+/// The pending jobs of the graph's units by their numbers, and which of the units count as deactivating.
+fn jobs_in(alloc: Global, graph: &Graph, state: &State) -> Result<Jobs, AllocError>
+    ensures { IfOk result (λ jobs. Tells graph.now (state_of state.now) jobs) }
+{
+    let mut jobs = Jobs::new(alloc, graph.len())?;
+    for unit in 0..graph.len() {
+        if let Some(name) = graph.name(unit) {
+            tell(&mut jobs, state, unit, name);
+        }
     }
+    Ok(jobs)
+}
+
+/// A job that begins: its unit's number and name, and what it does.
+#[derive(Drop)]
+struct NextJob {
+    unit: usize,
+    name: UnitName,
+    kind: JobKind,
+}
+
+/// The job that begins next.
+fn next_job(graph: &Graph, jobs: &Jobs) -> Result<Option<NextJob>, AllocError>
+    ensures next { IfOk result (λ next. (s : model.State) → Serves graph.now s → Tells graph.now s jobs.now → MatchOption next
+        (IsStill s)
+        (λ job. BeginsNext (IsBefore s.loaded) s.units s.pending (record { unit = job.name; kind = job.kind }))) }
+    ensures waits { IfOk result (λ next. (s : model.State) → Tells graph.now s jobs.now
+        → IfSome next (λ job. IsWaiting s.pending (record { unit = job.name; kind = job.kind }))) }
+    ensures number { IfOk result (λ next. IfSome next (λ job. IsNumberOf graph.now job.unit job.name)) }
+{
+    let Some((unit, kind)) = jobs.ready(graph) else {
+        return Ok(None);
+    };
+    let Some(name) = graph.name(unit) else {
+        return Ok(None);
+    };
+    let name = name.copy()?;
+    Ok(Some(NextJob { unit, name, kind }))
 }
 
 /// The job runs from now on.
-fn begin_job(state: &mut State, unit: &UnitName, kind: JobKind) -> Result<(), AllocError>
-    ensures { OnOk result (state_of state.new ≡ begun (state_of state.old) (record { unit = unit.now; kind = kind })) }
+fn begin_job(state: &mut State, next: &NextJob) -> Result<(), AllocError>
+    ensures { OnOk result (state_of state.new ≡ begun (state_of state.old) (record { unit = next.now.name; kind = next.now.kind })) }
 {
-    let jobs = state.pending().get(unit);
-    state.set_jobs(unit, with_running(kind, jobs))
+    let jobs = state.pending().get(&next.name);
+    state.set_jobs(&next.name, with_running(next.kind, jobs))
+}
+
+/// Tells anew what the state holds of units, after a job of one of them began: of that one, or of all where its start failed.
+fn tell_anew(
+    alloc: Global,
+    graph: &Graph,
+    jobs: &mut Jobs,
+    state: &State,
+    next: &NextJob,
+    fails: bool,
+) -> Result<(), AllocError>
+    ensures { OnOk result ((before : model.State) → Tells graph.now before jobs.old → IsNumberOf graph.now next.now.unit next.now.name
+        → (fails ≡ false → KeepsOthers next.now.name before (state_of state.now)) → Tells graph.now (state_of state.now) jobs.new) }
+{
+    if fails {
+        *jobs = jobs_in(alloc, graph, state)?;
+    } else {
+        tell(jobs, state, next.unit, &next.name);
+    }
+    Ok(())
 }
 
 /// Lets jobs begin at the moment, one after another, until none is ready. Where memory is refused the state is of no use.
 pub fn settle(
     alloc: Global,
+    graph: &Graph,
     state: &mut State,
     actions: &mut Vec<Action>,
     moment: Moment,
 ) -> Result<(), AllocError>
-    ensures { OnOk result (SettlesTo moment (state_of state.old) (map action_of actions.old.items) (state_of state.new) (map action_of actions.new.items)) }
+    ensures { OnOk result (Serves graph.now (state_of state.old)
+        → SettlesTo moment (state_of state.old) (map action_of actions.old.items) (state_of state.new) (map action_of actions.new.items)
+        × Serves graph.now (state_of state.new)) }
 {
-    'jobs: while let Some((unit, kind)) = next_job(state)? {
-        begin_job(state, &unit, kind)?;
-        carry_out(alloc, state, actions, moment, &unit, begins(kind))?;
+    let mut jobs = jobs_in(alloc, graph, state)?;
+    'jobs: while let Some(next) = next_job(graph, &jobs)? {
+        begin_job(state, &next)?;
+        let event = begins(next.kind);
+        let fails = carry(alloc, graph, state, actions, moment, &next.name, event)?;
+        tell_anew(alloc, graph, &mut jobs, state, &next, fails)?;
     }
     Ok(())
 }
@@ -72,19 +149,22 @@ fn next_due(timers: &Timers, moment: Moment) -> Result<Option<Due>, AllocError>
 /// Fires one deadline, if it still stands, and lets jobs begin.
 fn fire_one(
     alloc: Global,
+    graph: &Graph,
     state: &mut State,
     actions: &mut Vec<Action>,
     moment: Moment,
     due: &Due,
 ) -> Result<(), AllocError>
-    ensures { OnOk result (FiresOneTo moment due.now.deadline due.now.unit (state_of state.old) (map action_of actions.old.items) (state_of state.new) (map action_of actions.new.items)) }
+    ensures { OnOk result (Serves graph.now (state_of state.old)
+        → FiresOneTo moment due.now.deadline due.now.unit (state_of state.old) (map action_of actions.old.items) (state_of state.new) (map action_of actions.new.items)
+        × Serves graph.now (state_of state.new)) }
 {
     if state.units().get(&due.unit).deadline != Some(due.deadline) {
         return Ok(());
     }
     let event = UnitEvent::DeadlinePasses;
-    carry_out(alloc, state, actions, moment, &due.unit, event)?;
-    settle(alloc, state, actions, moment)?;
+    carry_out(alloc, graph, state, actions, moment, &due.unit, event)?;
+    settle(alloc, graph, state, actions, moment)?;
     Ok(())
 }
 
@@ -92,16 +172,19 @@ fn fire_one(
 /// begin. One that is gone or changed by then doesn't fire. Where memory is refused the state is of no use.
 pub fn fire(
     alloc: Global,
+    graph: &Graph,
     state: &mut State,
     actions: &mut Vec<Action>,
     moment: Moment,
 ) -> Result<(), AllocError>
-    ensures { OnOk result (FiresTo moment (state_of state.old) (map action_of actions.old.items) (state_of state.new) (map action_of actions.new.items)) }
+    ensures { OnOk result (Serves graph.now (state_of state.old)
+        → FiresTo moment (state_of state.old) (map action_of actions.old.items) (state_of state.new) (map action_of actions.new.items)
+        × Serves graph.now (state_of state.new)) }
 {
     let mut timers = state.units().deadlines()?;
     'timers: while let Some(due) = next_due(&timers, moment)? {
         timers.clear(&due.unit);
-        fire_one(alloc, state, actions, moment, &due)?;
+        fire_one(alloc, graph, state, actions, moment, &due)?;
     }
     Ok(())
 }

@@ -51,7 +51,8 @@ names_seen : (units : List Unit) → names_of units ≡ keys_of (map unit_seen u
 names_seen [] = refl
 names_seen (u ∷ units) = ap (λ ns. u.name ∷ ns) (names_seen units)
 
-keys_ascend : (loaded : Loaded) → tied.IsOrdered cmp loaded → AllPairs IsNamedBefore (keys_of loaded.entries)
+-- in the order of their names
+pub keys_ascend : (loaded : Loaded) → tied.IsOrdered cmp loaded → AllPairs IsNamedBefore (keys_of loaded.entries)
 keys_ascend loaded o i j d lt le = Less-from_sorted cmp (keys_of loaded.entries) i j d o lt le
 
 pub names_ascend : (loaded : Loaded) (units : List Unit) → map unit_seen units ≡ loaded.entries → tied.IsOrdered cmp loaded → AllPairs IsNamedBefore (names_of units)
@@ -79,6 +80,10 @@ module _ (tree : Tree) (extra : List (List ℕ)) (loaded : Loaded) (told : List 
 
   followed_iff : (x : List ℕ) → IsFollowed loaded x ↔ Contains (keys_of loaded.entries) x
   followed_iff x = btree_map_contains_key_iff nat_list_cmp_total exact_bytes loaded x
+
+  -- the names that were followed are those of the known units
+  pub keys_known : (x : List ℕ) → Contains (keys_of loaded.entries) x ↔ IsKnown tree Extra x
+  keys_known x = (λ c. w.known x (inl ((followed_iff x).1 c)), λ k. (followed_iff x).0 (all_followed tree extra loaded told w x k))
 
   -- ---- what was told, by the definitions
   depends_out : (kind : DependencyKind) (x y : List ℕ) → Contains told (tell (Depends kind) x y) → x ≢ y → DependsOn tree Extra kind x y

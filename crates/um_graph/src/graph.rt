@@ -40,6 +40,7 @@ impl Graph {
     /// command names. Refused is a tree by which more than 1,024 units are known, now or without its entries under `run/`
     /// (E13 `units`), and want of memory (E15).
     pub fn of(alloc: Global, tree: &Tree, extra: &[UnitName]) -> Result<Graph, Refusal>
+        ensures whole { IfOk result IsGraph }
         ensures graph { IfOk result (λ g. IsGraphOf tree.now (λ x. Contains extra.now x) g) }
         ensures count { IfOk result (λ g. CountsFor tree.now (λ x. Contains extra.now x) g.count) }
         ensures few { IfOk result (λ _. ¬ (KnowsTooMany tree.now (λ x. Contains extra.now x)

@@ -152,4 +152,19 @@ impl Known {
             limit: Limit::Units,
         })
     }
+
+    /// All known units, however many, and what they tell.
+    pub(crate) fn all(alloc: Global, tree: &Tree, extra: &[UnitName]) -> Result<Known, AllocError>
+        ensures whole { IfOk result (λ k. IsUnderWay tree.now extra.now k.loaded [] k.told.items) }
+        ensures count { IfOk result (λ k. KnowsSoMany tree.now (Contains extra.now) (btree_map_len k.loaded)) }
+    {
+        let mut known = Known::begin(alloc, tree, extra)?;
+        for _ in 0..u64::MAX {
+            let Some(name) = known.next() else {
+                return Ok(known);
+            };
+            known.follow(alloc, tree, name)?;
+        }
+        Err(AllocError)
+    }
 }

@@ -2,6 +2,7 @@
 //! give.
 #![tactic(auto)]
 
+mod count;
 mod edges;
 mod entries;
 mod graph;
@@ -11,6 +12,7 @@ mod row;
 mod told;
 mod units;
 
+pub use count::{count_of, known_units};
 pub use graph::Graph;
 pub use kinds::{Kinds, inverse_of, kinds_of};
 pub use row::Neighbour;

@@ -1,19 +1,21 @@
 -- The first unit with a ready job by its row has the least ready job.
-use Rattle.std.proofs.Common.{◌≡◌, ◌≢◌, ◌∙◌, ◌<◌, ◌&&◌, ◌||◌, ℕ, zero, suc, Bool, true, false, true≢false, cond, not, List, [], ◌∷◌, length, Contains, Option, Some, None, is_none, is_some, refl, sym, ap, subst, inl, inr, arith}
+use Rattle.std.proofs.Common.{◌≡◌, ◌≢◌, ◌↔◌, ◌∙◌, ◌<◌, ◌&&◌, ◌||◌, ℕ, zero, suc, Bool, true, false, true≢false, cond, not, List, [], ◌∷◌, length, Contains, Option, Some, None, is_none, is_some, refl, sym, ap, subst, inl, inr, arith}
 use Rattle.std.specs.List.{list_any}
-use Rattle.std.proofs.lemmas.Bool.{and_parts, cases_lt, not-true, or_cases}
-use Rattle.um_model.specs.Jobs.{Job, ComesBefore, GoesBefore, IsToldBefore, by_name, job_of, jobs_of_unit, no_jobs, of_one_unit, start_job, starts, state_of_job, stop_first, stop_job, stops, stops_then_starts, stops_then_starts_before}
+use Rattle.std.proofs.lemmas.Bool.{and_from, and_parts, cases_lt, not-true, or_cases, or_left, or_right}
+use Rattle.um_model.specs.Jobs.{BeginsNext, Job, ComesBefore, GoesBefore, IsReady, IsToldBefore, by_name, job_of, jobs_of_unit, no_jobs, of_one_unit, start_job, starts, state_of_job, stop_first, stop_job, stops, stops_then_starts, stops_then_starts_before}
 use Rattle.um_model.specs.Least.{IsLeast, IsNamedBefore}
 use Rattle.um_model.specs.Machine.{is_waiting}
-use Rattle.um_model.specs.Service.{ByUnit}
+use Rattle.um_model.specs.Service.{ByUnit, active_state_of, state_of_unit}
 use Rattle.um_model.specs.declared.jobs.JobKind.{JobKind}
 use Rattle.um_model.specs.declared.jobs.JobKind.TheVariants.{Stop, Start}
 use Rattle.um_model.specs.declared.jobs.JobState.{JobState}
 use Rattle.um_model.specs.declared.jobs.JobState.TheVariants.{Waiting, Running}
 use Rattle.um_model.specs.declared.jobs.UnitJobs.{UnitJobs}
+use Rattle.um_model.specs.declared.service.ActiveState.TheVariants.{Deactivating}
+use Rattle.um_model.specs.declared.service.UnitState.{UnitState}
 use Rattle.um_graph.specs.Graph.{GraphView, IsGraph, Stands, row_of}
 use Rattle.um_graph.specs.Kinds.{after_bit, before_bit, has}
-use Rattle.um_graph.specs.Named.{Joins, name_at}
+use Rattle.um_graph.specs.Named.{Joins, item_for, name_at}
 use Rattle.um_graph.specs.declared.row.Neighbour.{Neighbour}
 use Rattle.um_graph.proofs.NamedLaws.{AreOnce, IsAmong, among_or_apart, got_within, item_at, name_got, name_is, named_before, names_once}
 use Rattle.um_graph.proofs.StandLaws.{stands_within}
@@ -23,18 +25,6 @@ use Rattle.um_jobs.specs.Ready.{holds_start, holds_stop, is_start_ready, is_stop
 use Rattle.um_jobs.proofs.NamedLaws.{jobs_by_at, jobs_by_none}
 
 -- ---- tests
-or_left : (a b : Bool) → a ≡ true → (a || b) ≡ true
-or_left true b h = refl
-or_left false b h = cc
-
-or_right : (a b : Bool) → b ≡ true → (a || b) ≡ true
-or_right true b h = refl
-or_right false b h = h
-
-and_both : (a b : Bool) → a ≡ true → b ≡ true → (a && b) ≡ true
-and_both true b h k = k
-and_both false b h k = cc
-
 true_not : (b : Bool) → (b ≡ true → ⊥) → not b ≡ true
 true_not true h = absurd (h refl)
 true_not false h = refl
@@ -149,7 +139,7 @@ module _ (g : GraphView) (is : IsGraph g) (v : JobsView) where
   stop_holds : (u w : ℕ) → Stands g.rows before_bit u w → is_some (jobs_at v.units w).stop ≡ true → list_any (holds_stop v.units) (row u) ≡ true
   stop_holds u w h s =
       any_in (holds_stop v.units) (row u) h.neighbour h.listed
-      (and_both (has before_bit h.neighbour.kinds) (is_some (jobs_at v.units h.neighbour.unit).stop) h.kind (subst (λ x. is_some (jobs_at v.units x).stop ≡ true) (sym h.is) s))
+      (and_from (has before_bit h.neighbour.kinds) (is_some (jobs_at v.units h.neighbour.unit).stop) h.kind (subst (λ x. is_some (jobs_at v.units x).stop ≡ true) (sym h.is) s))
 
   stop_free : (u : ℕ) → Inside u → list_any (holds_stop v.units) (row u) ≡ false → (other : Job) → ¬ ComesBefore Before pending other (stop_job (name u))
   stop_free u l f other c =
@@ -168,7 +158,7 @@ module _ (g : GraphView) (is : IsGraph g) (v : JobsView) where
       }
 
   stop_whole : (u : ℕ) → Inside u → IsReadyIn g v (stop_job (name u)) → is_stop_ready g v u ≡ true
-  stop_whole u l r = and_both (is_waiting (jobs_at v.units u).stop) (not (list_any (holds_stop v.units) (row u))) (ap is_waiting (sym (held Stop u l) ∙ r.waits))
+  stop_whole u l r = and_from (is_waiting (jobs_at v.units u).stop) (not (list_any (holds_stop v.units) (row u))) (ap is_waiting (sym (held Stop u l) ∙ r.waits))
       (true_not (list_any (holds_stop v.units) (row u)) (λ t.
       let n = in_any (holds_stop v.units) (row u) t in
       let p = and_parts (has before_bit n.0.kinds) (is_some (jobs_at v.units n.0.unit).stop) n.2 in
@@ -183,12 +173,12 @@ module _ (g : GraphView) (is : IsGraph g) (v : JobsView) where
   by_start : (n : Neighbour) (w : ℕ) → n.unit ≡ w → has after_bit n.kinds ≡ true → is_some (jobs_at v.units w).start ≡ true → holds_start v.units n ≡ true
   by_start n w e h s =
       or_left (has after_bit n.kinds && is_some (jobs_at v.units n.unit).start) ((has before_bit n.kinds || has after_bit n.kinds) && is_some (jobs_at v.units n.unit).stop)
-      (and_both (has after_bit n.kinds) (is_some (jobs_at v.units n.unit).start) h (subst (λ x. is_some (jobs_at v.units x).start ≡ true) (sym e) s))
+      (and_from (has after_bit n.kinds) (is_some (jobs_at v.units n.unit).start) h (subst (λ x. is_some (jobs_at v.units x).start ≡ true) (sym e) s))
 
   by_stop : (n : Neighbour) (w : ℕ) → n.unit ≡ w → (has before_bit n.kinds || has after_bit n.kinds) ≡ true → is_some (jobs_at v.units w).stop ≡ true → holds_start v.units n ≡ true
   by_stop n w e h s =
       or_right (has after_bit n.kinds && is_some (jobs_at v.units n.unit).start) ((has before_bit n.kinds || has after_bit n.kinds) && is_some (jobs_at v.units n.unit).stop)
-      (and_both (has before_bit n.kinds || has after_bit n.kinds) (is_some (jobs_at v.units n.unit).stop) h (subst (λ x. is_some (jobs_at v.units x).stop ≡ true) (sym e) s))
+      (and_from (has before_bit n.kinds || has after_bit n.kinds) (is_some (jobs_at v.units n.unit).stop) h (subst (λ x. is_some (jobs_at v.units x).stop ≡ true) (sym e) s))
 
   start_free : (u : ℕ) → Inside u → (jobs_at v.units u).stop ≡ None → list_any (holds_start v.units) (row u) ≡ false → (other : Job) → ¬ ComesBefore Before pending other (start_job (name u))
   start_free u l none f other c = by (before_start Before other (start_job (name u)) c.goes refl)
@@ -249,10 +239,10 @@ module _ (g : GraphView) (is : IsGraph g) (v : JobsView) where
   start_whole : (u : ℕ) → Inside u → IsReadyIn g v (start_job (name u)) → is_start_ready g v u ≡ true
   start_whole u l r =
       let s = start_parts u in
-      and_both (is_waiting (jobs_at v.units u).start) (s.0 && (s.1 && s.2)) (ap is_waiting (sym (held Start u l) ∙ r.waits))
-      (and_both s.0 (s.1 && s.2)
+      and_from (is_waiting (jobs_at v.units u).start) (s.0 && (s.1 && s.2)) (ap is_waiting (sym (held Start u l) ∙ r.waits))
+      (and_from s.0 (s.1 && s.2)
       (none_unless (jobs_at v.units u).stop (λ t. r.free (stop_job (name u)) (record { pends = pends Stop u l t; waits = r.waits; goes = of_one_unit })))
-      (and_both s.1 s.2
+      (and_from s.1 s.2
       (true_not (held_at v.held u) (λ t. not_false (held_at v.held u) (sym (item_at false g.names v.held once u l) ∙ r.still refl) t))
       (true_not (list_any (holds_start v.units) (row u)) (λ t. let n = in_any (holds_start v.units) (row u) t in start_alone u l r n.0 n.1 n.2))))
 
@@ -336,3 +326,16 @@ module _ (g : GraphView) (is : IsGraph g) (v : JobsView) where
 
   pub none_ready : ((w : ℕ) → Inside w → ready_kind g v w ≡ None) → (j : Job) → ¬ IsReadyIn g v j
   none_ready none j r = let a = known_of j r in kind_whole a.0 a.1 j.kind (subst (IsReadyIn g v) (at_unit j a.0 a.2) r) (none a.0 a.1)
+
+-- where those units are held that are deactivating, a job is ready as the definitions say
+pub ready_is : (g : GraphView) (v : JobsView) (units : ByUnit UnitState) → ((x : List ℕ) → (item_for false g.names v.held x ≡ false) ↔ (active_state_of (state_of_unit units x).sub ≢ Deactivating))
+    → (job : Job) → IsReadyIn g v job ↔ IsReady (Joins g before_bit) units (jobs_by g.names v.units) job
+ready_is g v units h job = (
+  λ r. record { waits = r.waits; free = r.free; still = λ e. (h job.unit).0 (r.still e) },
+  λ r. record { waits = r.waits; free = r.free; still = λ e. (h job.unit).1 (r.still e) },
+)
+
+-- and so the least of them is the one that begins next
+pub begins_next : (g : GraphView) (v : JobsView) (units : ByUnit UnitState) → ((x : List ℕ) → (item_for false g.names v.held x ≡ false) ↔ (active_state_of (state_of_unit units x).sub ≢ Deactivating))
+    → (job : Job) → IsLeast IsToldBefore (IsReadyIn g v) job → BeginsNext (Joins g before_bit) units (jobs_by g.names v.units) job
+begins_next g v units h job l = record { has = (ready_is g v units h job).0 l.has; first = λ other r apart. l.first other ((ready_is g v units h other).1 r) apart }

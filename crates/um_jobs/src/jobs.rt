@@ -92,6 +92,7 @@ impl Jobs {
     /// Leaves just these jobs, those of a plan by number. It takes no memory. Which units count as deactivating stays.
     pub fn install(&mut self, plan: &[UnitJobs])
         ensures each { (u : ℕ) → u < length self.old.units → jobs_at self.new.units u ≡ jobs_at plan.now u }
+        ensures whole { length plan.now ≡ length self.old.units → self.new.units ≡ plan.now }
         ensures len { length self.new.units ≡ length self.old.units }
         ensures held { self.new.held ≡ self.old.held }
     {

@@ -68,7 +68,7 @@ least_unit_first P cycle c =
 -- ---- the pending jobs are finitely many
 
 -- the jobs of these units
-abbrev jobs_of : List (List ℕ) → List Job
+abbrev pub jobs_of : List (List ℕ) → List Job
 jobs_of [] = []
 jobs_of (unit ∷ units) = stop_job unit ∷ start_job unit ∷ jobs_of units
 
@@ -94,7 +94,8 @@ held pending job pends = by_entry (map.get pending job.unit) refl
     by_entry (Some j) e = refl
     by_entry None e = absurd (pends (ap (λ o. job_of job.kind (unwrap_or o no_jobs)) e ∙ job_of_none job.kind))
 
-among_pending : (pending : ByUnit UnitJobs) (job : Job) → IsPending pending job → Among (jobs_of (map.keys pending)) job
+-- a pending job is among those of the units that are held
+pub among_pending : (pending : ByUnit UnitJobs) (job : Job) → IsPending pending job → Among (jobs_of (map.keys pending)) job
 among_pending pending job pends = among_jobs (map.keys pending) job.unit job.kind (among_keys pending job.unit (held pending job pends))
 
 waits_pending : (pending : ByUnit UnitJobs) (job : Job) → IsWaiting pending job → IsPending pending job
@@ -137,7 +138,8 @@ module _ (IsBefore : List ℕ → List ℕ → Type 0) where
         decided_as (by_goes job.kind other.kind job.unit other.unit) (goes_by job other) (by_or_not job.kind other.kind job.unit other.unit)
 
     module _ (pending : ByUnit UnitJobs) where
-      comes_or_not : (job other : Job) → IsDecided (ComesBefore IsBefore pending job other)
+      -- one job comes before another or not
+      pub comes_or_not : (job other : Job) → IsDecided (ComesBefore IsBefore pending job other)
       comes_or_not job other =
           decided_as there (λ c. (c.pends, (c.waits, c.goes)))
           (both_decided (not_decided (same_option same_job_state (state_of_job pending job) None))

@@ -1,9 +1,10 @@
--- A stream has one reading as frames, and what is written for it, frame by frame, is one.
+-- A stream has one reading as frames, and what is written for it, frame by frame, is one but for the cycles that refusals name.
 use Rattle.std.proofs.Common.{◌≡◌, ℕ, zero, suc, ◌+◌, ◌-◌, ◌<◌, ◌≤◌, ◌⊎◌, inl, inr, List, ◌∷◌, ◌++◌, [], length, take, drop, Result, Ok, Err, refl, sym, ap, ◌∙◌, subst, arith, length-append, take-append-drop}
 use Rattle.std.proofs.Math.Seq.{take-append_seam, drop-append_seam}
 use Rattle.std.proofs.lemmas.List.{length-take-le, length-drop}
 use Rattle.std.proofs.lemmas.Bool.{cases_lt}
 use Rattle.byteorder.specs.Endian.{big_number}
+use Rattle.um_model.specs.Alike.{AlikeBut, the_same, AreAlikeBut, at_last, and_reply}
 use Rattle.um_model.specs.Frames.{frame_of, frame_limit, BeginsWith, IsPartial, in_header, in_body, BeginsTooLong, EndsSo, IsStream, ends, frame, Answers, unread, queried, told, stepped, input_of, last_reply, AreReplies, last, reply, Serves}
 use Rattle.um_model.specs.Machine.{State, Reply, Refusal, IsReplyTo, Step}
 use Rattle.um_model.specs.Refusals.{Refused}
@@ -161,9 +162,9 @@ each_stream stream = read_within (length stream) stream (omega arith)
 
 -- ---- what is written
 
--- two answers are one
+-- two answers are one, but for the cycle that a refusal names
 pub record IsSameAnswer (r q : Reply) (s t : State) (a b : List Action) : Type 0 where
-  pub reply : r ≡ q
+  pub reply : AlikeBut r q
   pub state : s ≡ t
   pub kept : a ≡ b
 
@@ -181,11 +182,11 @@ not_both r x y e f = cc
 same_asked : (r : Result Request Refused) (x y : Request) → r ≡ Ok x → r ≡ Ok y → x.asked ≡ y.asked
 same_asked r x y e f = ap (λ (z : Request). z.asked) (same_request r x y e f)
 
--- a frame has one answer
+-- a frame has one answer, but for the cycle that a refusal names
 pub one_answer : (size : ℕ) (s : State) (kept : List Action) (bytes : List ℕ) (r q : Reply) (t u : State) (left other : List Action)
     → Answers size s kept bytes r t left → Answers size s kept bytes q u other → IsSameAnswer r q t u left other
 one_answer size s kept bytes r q t u left other (unread x e) (unread y f) =
-    record { reply = ap Refusal (same_refusal (request_of Memory bytes) x y e f); state = refl; kept = refl }
+    record { reply = the_same (ap Refusal (same_refusal (request_of Memory bytes) x y e f)); state = refl; kept = refl }
 one_answer size s kept bytes r q t u left other (unread x e) (queried at y told_by f h) = absurd (not_both (request_of Memory bytes) _ x f e)
 one_answer size s kept bytes r q t u left other (unread x e) (told at f) = absurd (not_both (request_of Memory bytes) _ x f e)
 one_answer size s kept bytes r q t u left other (unread x e) (stepped at event told_by actions v f step) = absurd (not_both (request_of Memory bytes) _ x f e)
@@ -193,13 +194,13 @@ one_answer size s kept bytes r q t u left other (queried at x by e g) (unread y 
 one_answer size s kept bytes r q t u left other (queried at x by e g) (queried at' y told_by f h) =
     let both = same_asked (request_of Memory bytes) _ _ e f in
     let same : x ≡ y = cc in
-    record { reply = one_reply_to s y by told_by (subst (λ i. IsReplyTo s i by) same g) h; state = refl; kept = refl }
+    record { reply = the_same (one_reply_to s y by told_by (subst (λ i. IsReplyTo s i by) same g) h); state = refl; kept = refl }
 one_answer size s kept bytes r q t u left other (queried at x by e g) (told at' f) = absurd (let both = same_asked (request_of Memory bytes) _ _ e f in cc)
 one_answer size s kept bytes r q t u left other (queried at x by e g) (stepped at' event told_by actions v f step) =
     absurd (let both = same_asked (request_of Memory bytes) _ _ e f in cc)
 one_answer size s kept bytes r q t u left other (told at e) (unread y f) = absurd (not_both (request_of Memory bytes) _ y e f)
 one_answer size s kept bytes r q t u left other (told at e) (queried at' y by f h) = absurd (let both = same_asked (request_of Memory bytes) _ _ e f in cc)
-one_answer size s kept bytes r q t u left other (told at e) (told at' f) = record { reply = refl; state = refl; kept = refl }
+one_answer size s kept bytes r q t u left other (told at e) (told at' f) = record { reply = the_same refl; state = refl; kept = refl }
 one_answer size s kept bytes r q t u left other (told at e) (stepped at' event told_by actions v f step) =
     absurd (let both = same_asked (request_of Memory bytes) _ _ e f in cc)
 one_answer size s kept bytes r q t u left other (stepped at event told_by actions v e step) (unread y f) = absurd (not_both (request_of Memory bytes) _ y e f)
@@ -216,20 +217,20 @@ one_answer size s kept bytes r q t u left other (stepped at event told_by action
     let one = one_outcome size s (input_of s at' event') told_by told_by' actions actions' v v' moved step' in
     record { reply = one.reply; state = one.state; kept = ap (λ l. kept ++ l) one.actions }
 
--- what is written for the frames is one
+-- what is written for the frames is one, but for the cycles that refusals name
 pub one_list_of_replies : (size : ℕ) (ending : Ending) (s : State) (kept : List Action) (frames : List (List ℕ)) (out other : List ℕ)
-    → AreReplies size ending s kept frames out → AreReplies size ending s kept frames other → out ≡ other
-one_list_of_replies size ending s kept [] out other last last = refl
+    → AreReplies size ending s kept frames out → AreReplies size ending s kept frames other → AreAlikeBut ending out other
+one_list_of_replies size ending s kept [] out other last last = at_last
 one_list_of_replies size ending s kept (bytes ∷ frames) out other
     (reply {t = t} {left = left} {out = more} r a h) (reply {t = u} {left = left'} {out = more'} q b k) =
     let same = one_answer size s kept bytes r q t u left left' a b in
-    let later = one_list_of_replies size ending t left frames more more' h
-    (subst (λ x. AreReplies size ending t x frames more') (sym same.kept) (subst (λ x. AreReplies size ending x left' frames more') (sym same.state) k)) in
-    ap (λ x. frame_of (reply_text x) ++ more) same.reply ∙ ap (λ x. frame_of (reply_text q) ++ x) later
+    and_reply same.reply
+    (one_list_of_replies size ending t left frames more more' h
+    (subst (λ x. AreReplies size ending t x frames more') (sym same.kept) (subst (λ x. AreReplies size ending x left' frames more') (sym same.state) k)))
 
--- what is served for a stream is one
+-- what is served for a stream is one, but for the cycles that refusals name
 pub one_serving : (size : ℕ) (s : State) (kept : List Action) (stream out other : List ℕ) (d e : Ending)
-    → Serves size s kept stream out d → Serves size s kept stream other e → (out ≡ other) × (d ≡ e)
+    → Serves size s kept stream out d → Serves size s kept stream other e → AreAlikeBut d out other × (d ≡ e)
 one_serving size s kept stream out other d e h k =
     let same = one_stream stream h.frames k.frames d e h.read k.read in (
       one_list_of_replies size d s kept h.frames out other h.written

@@ -1,8 +1,9 @@
 -- What unit events and ticks leave as it was: trees, boot and clock.
 use Rattle.std.proofs.Common.{ℕ, ◌≡◌, ◌∙◌, List, refl, ap}
-use Rattle.um_model.specs.Machine.{State, Carries, begun, Settles, rests, begins_next, Fires, none_due, fires, passes}
+use Rattle.um_model.specs.Machine.{State, Carries, change_of, Becomes, alone, along, begun, Settles, rests, begins_next, Fires, none_due, fires, passes}
 use Rattle.um_model.specs.Service.{Action}
 use Rattle.um_model.specs.Timers.{Timers}
+use Rattle.um_model.specs.declared.transition.Change.{Change}
 use Rattle.um_model.specs.declared.transition.UnitEvent.{UnitEvent}
 
 -- the states differ at most in units, pending jobs and the next number
@@ -18,16 +19,24 @@ itself s = record { tree = refl; loaded = refl; boot = refl; clock = refl }
 then_keeps : (s u v : State) → Keeps s u → Keeps u v → Keeps s v
 then_keeps s u v k l = record { tree = l.tree ∙ k.tree; loaded = l.loaded ∙ k.loaded; boot = l.boot ∙ k.boot; clock = l.clock ∙ k.clock }
 
-pub carries_keeps : (t : ℕ) (unit : List ℕ) (event : UnitEvent) (s : State) (actions : List Action) (v : State) → Carries t unit event s actions v → Keeps s v
-carries_keeps t unit event s actions v h =
-    record { tree = ap (λ x. x.tree) h.state; loaded = ap (λ x. x.loaded) h.state; boot = ap (λ x. x.boot) h.state; clock = ap (λ x. x.clock) h.state }
+-- a change of a unit leaves them, whether its start fails or not
+pub becomes_keeps : (s : State) (unit : List ℕ) (c : Change) (v : State) → Becomes s unit c v → Keeps s v
+becomes_keeps s unit c v (alone holds) = record { tree = refl; loaded = refl; boot = refl; clock = refl }
+becomes_keeps s unit c v (along fails h) =
+    record { tree = ap (λ x. x.tree) h.rest; loaded = ap (λ x. x.loaded) h.rest; boot = ap (λ x. x.boot) h.rest; clock = ap (λ x. x.clock) h.rest }
 
+-- so does what happens to a unit
+pub carries_keeps : (t : ℕ) (unit : List ℕ) (event : UnitEvent) (s : State) (actions : List Action) (v : State) → Carries t unit event s actions v → Keeps s v
+carries_keeps t unit event s actions v h = becomes_keeps s unit (change_of t s unit event) v h.state
+
+-- and all jobs that begin
 pub settles_keeps : (t : ℕ) (s : State) (actions : List Action) (v : State) → Settles t s actions v → Keeps s v
 settles_keeps t s actions v (rests none) = itself s
 settles_keeps t s actions v (begins_next {u = u} {first = first} {more = more} j next happens later) =
     let k = carries_keeps t j.unit _ (begun s j) first u happens in
     then_keeps s u v (record { tree = k.tree; loaded = k.loaded; boot = k.boot; clock = k.clock }) (settles_keeps t u more v later)
 
+-- and all deadlines that pass
 pub fires_keeps : (t : ℕ) (timers : Timers) (s : State) (actions : List Action) (v : State) → Fires t timers s actions v → Keeps s v
 fires_keeps t timers s actions v (none_due none) = itself s
 fires_keeps t timers s actions w (fires {u = u} {v = v} {first = first} {next = next} {more = more} deadline unit due low stands happens settles later) =

@@ -13,6 +13,7 @@ pub mod CausesLaws
 pub mod MachineLaws
 pub mod UnitLaws
 pub mod FitLaws
+pub mod FreeLaws
 pub mod LiveLaws
 pub mod NumbersLaws
 pub mod PiecesLaws
@@ -55,3 +56,9 @@ pub mod OwnNameLaws
 pub mod OnceLaws
 pub mod GivesLaws
 pub mod KnownLaws
+pub mod AlongLaws
+pub mod AlongTotal
+pub mod SceneLaws
+pub mod WeightLaws
+pub mod GivenMaps
+pub mod CrowdedLaws

@@ -1,16 +1,18 @@
 -- The machine is never stuck: after any inputs a pending job waits for a live process.
 use Rattle.std.proofs.Common.{ℕ, ◌≡◌, ◌≢◌, ◌⊎◌, ◌∙◌, ◌||◌, Bool, true, false, true≢false, cond, is_some, List, ◌∷◌, Option, Some, None, unwrap_or, refl, sym, ap, subst, subst₂, inl, inr}
 use Rattle.std.specs.FinMap as map
-use Rattle.um_model.specs.Service.{Action, active_state_of, dead_unit, state_of_unit}
+use Rattle.um_model.specs.Service.{Action, ByUnit, active_state_of, dead_unit, state_of_unit}
 use Rattle.um_model.specs.Settings.{ServiceSettings}
 use Rattle.um_model.specs.Ends.{is_stopping}
 use Rattle.um_model.specs.Transitions.{transition, HasItsProcess, has_its_process, HasNumber}
-use Rattle.um_model.specs.Jobs.{Job, stop_job, start_job, job_of, jobs, no_jobs, jobs_of_unit, is_active, is_up, started_anew, started, stopped, restarted, jobs_after, unless_waiting, cancelled, IsPending, GoesBefore, starts, stops, stops_then_starts, stops_then_starts_before, of_one_unit, ComesBefore, Unordered, IsReady, with_running, unless_running, start_left, jobs_left}
+use Rattle.um_model.specs.Jobs.{Job, stop_job, start_job, job_of, jobs, no_jobs, jobs_of_unit, is_active, is_up, started_anew, started, stopped, restarted, jobs_after, unless_waiting, cancelled, without_start, state_of_job, IsPending, IsWaiting, of_one_unit, ComesBefore, IsReady, with_running, unless_running, start_left, jobs_left}
 use Rattle.um_model.specs.Timers.{Timers}
-use Rattle.um_model.specs.Machine.{State, empty_state, Command, Happening, Event, Input, Reply, Carries, change_of, changed, acting_in, around, begins, begun, IsStill, Settles, begins_next, unit_asked, with_plan, jobs_asked, jobs_planned, Changes, puts, links, removes, reloads, plans, cancels, installs, end_of, Fires, none_due, fires, passes, Follows, ends, ticks, Takes, obeys, meets, moment_of, Step, refused, idle, taken, Run, goes}
-use Rattle.um_model.specs.Live.{is_starting, WaitsFor, IsNotStuck}
+use Rattle.um_model.specs.Machine.{State, empty_state, Command, Happening, Event, Input, Reply, IsBefore, with_result_dependency, TakesAlong, Becomes, Carries, change_of, changed, acting_in, around, begins, begun, IsStill, Settles, begins_next, unit_asked, with_plan, jobs_asked, scene_at, Changes, puts, links, removes, reloads, plans, demands_nothing, cancels, installs, end_of, Fires, none_due, fires, passes, Follows, ends, ticks, Takes, obeys, meets, moment_of, Step, refused, crowded_out, idle, taken, Run, goes}
+use Rattle.um_model.specs.Plan.{IsPlan, jobs_for, verb_of}
+use Rattle.um_model.specs.Live.{IsFree, is_starting, WaitsFor, IsNotStuck}
 use Rattle.um_model.specs.declared.commands.UnitVerb.{UnitVerb}
 use Rattle.um_model.specs.declared.commands.UnitVerb.TheVariants as verbs
+use Rattle.um_model.specs.declared.dependencies.Demand.{Demand}
 use Rattle.um_model.specs.declared.jobs.JobKind.{JobKind}
 use Rattle.um_model.specs.declared.jobs.JobKind.TheVariants as job
 use Rattle.um_model.specs.declared.jobs.JobState.{JobState}
@@ -27,9 +29,14 @@ use Rattle.um_model.specs.declared.transition.StartJob.{StartJob}
 use Rattle.um_model.specs.declared.transition.StartJob.TheVariants.{Stays, Ends, Fails}
 use Rattle.um_model.specs.declared.transition.UnitEvent.{UnitEvent}
 use Rattle.um_model.specs.declared.transition.UnitEvent.TheVariants.{StartBegins, StopBegins, DeadlinePasses}
+use Rattle.um_model.proofs.AlongLaws.{before_or_not, taken_along_or_not}
+use Rattle.um_model.proofs.CycleLaws.{a_first_job}
+use Rattle.um_model.proofs.FreeLaws.{no_cycle_after}
+use Rattle.um_model.proofs.PlannedLaws.{counts_some}
+use Rattle.um_model.proofs.SceneLaws.{finite_scene}
 use Rattle.um_model.proofs.TimersLaws.{same_name}
 use Rattle.um_model.proofs.UnitLaws.{state_here, state_apart, jobs_here, jobs_apart}
-use Rattle.um_model.proofs.TransitionLaws.{keeps_process}
+use Rattle.um_model.proofs.TransitionLaws.{keeps_process, same_held}
 use Rattle.um_model.proofs.FitLaws.{StartFits, StopFits, begun_start_fits, start_fits, begun_stop_fits, stop_fits}
 
 -- a unit and its jobs fit: it has its process, a start job runs only in start, a stop job only in a stop state, and not both
@@ -166,6 +173,20 @@ planned_fits s unit k keeps fits other =
       | inr apart ↦ subst (Fits (state_of_unit s.units other)) (sym (jobs_apart s.pending unit k other apart)) (fits other)
     ]
 
+counted_keeps : (counted : Option Demand) (a : ActiveState) (j : UnitJobs) → KeepsRunning j (jobs_for counted a j)
+counted_keeps None a j = record { starting = λ e. (e, λ n. n); stopping = λ e. e }
+counted_keeps (Some demand) a j = command_keeps (verb_of demand) a j
+
+-- a plan leaves all fitting
+plan_fits : (s : State) (named : List ℕ) (demand : Demand) (after : ByUnit UnitJobs) → IsPlan (scene_at s named) (demand, named) after → AllFit s → AllFit (record s { pending = after })
+plan_fits s named demand after plan fits unit =
+    let scene = finite_scene s named in
+    let c = counts_some (scene_at s named) scene.0 scene.1 (demand, named) unit in
+    let u = state_of_unit s.units unit in
+    let j = jobs_of_unit s.pending unit in
+    subst (Fits u) (sym (plan.jobs unit c.0 c.1))
+    (command_fits u j (jobs_for c.0 (active_state_of u.sub) j) (counted_keeps c.0 (active_state_of u.sub) j) (fits unit))
+
 -- what a command does leaves all fitting
 changed_fits : (s : State) (command : Command) (u : State) → Changes s command u → AllFit s → AllFit u
 changed_fits s command u (puts e) fits = fits
@@ -175,11 +196,26 @@ changed_fits s command u reloads fits = fits
 changed_fits s command u (installs h) fits = fits
 changed_fits s command u (cancels {asked = asked}) fits =
     planned_fits s (unit_asked s asked) (cancelled (jobs_asked s asked)) (cancel_keeps _ _) fits
-changed_fits s command u (plans {verb = verb} {asked = asked}) fits =
-    planned_fits s (unit_asked s asked) (jobs_planned s verb asked) (command_keeps verb _ (jobs_of_unit s.pending (unit_asked s asked))) fits
+changed_fits s command u (demands_nothing none) fits = fits
+changed_fits s command u (plans {asked = asked} {demand = demand} {after = after} is plan) fits = plan_fits s (unit_asked s asked) demand after plan fits
+
+-- what a failed start takes along leaves all fitting
+along_fits : (s : State) (failed : List ℕ) (v : State) → TakesAlong s failed v → AllFit s → AllFit v
+along_fits s failed v a fits unit =
+    elim (taken_along_or_not s failed unit) as (λ _. Fits (state_of_unit v.units unit) (jobs_of_unit v.pending unit)) [
+      | inl is ↦ subst₂ Fits (sym (a.results unit is)) (sym (a.starts unit is)) (without_fits (state_of_unit s.units unit) (jobs_of_unit s.pending unit) (fits unit))
+      | inr isnt ↦ subst₂ Fits (sym (a.other_units unit isnt)) (sym (a.other_jobs unit isnt)) (fits unit)
+    ]
+  where
+    without_fits : (u : UnitState) (j : UnitJobs) → Fits u j → Fits (with_result_dependency u) (without_start j)
+    without_fits u j f = record { held = same_held u.sub u (with_result_dependency u) refl refl f.held; starting = λ e. absurd (none_runs e); stopping = f.stopping; apart = λ e. absurd (none_runs e) }
+
+becomes_fits : (s : State) (unit : List ℕ) (c : Change) (v : State) → Becomes s unit c v → AllFit (changed s unit c) → AllFit v
+becomes_fits s unit c v (Becomes.alone isnt) fits = fits
+becomes_fits s unit c v (Becomes.along is a) fits = along_fits (changed s unit c) unit v a fits
 
 -- no stop job is pending beside a start job that is ready
-alone : (s : State) (unit : List ℕ) → IsReady Unordered s.units s.pending (start_job unit) → (jobs_of_unit s.pending unit).stop ≡ None
+alone : (s : State) (unit : List ℕ) → IsReady (IsBefore s.loaded) s.units s.pending (start_job unit) → (jobs_of_unit s.pending unit).stop ≡ None
 alone s unit ready = elim (jobs_of_unit s.pending unit).stop as (λ o. (jobs_of_unit s.pending unit).stop ≡ o → o ≡ None) [
   | None ↦ λ e. refl
   | Some x ↦ λ e. absurd (ready.free (stop_job unit) (record { pends = λ f. some_none (jobs_of_unit s.pending unit).stop x f e; waits = ready.waits; goes = of_one_unit }))
@@ -204,7 +240,7 @@ module _ (keeps : (s : ServiceSettings) (c : Around) (u : UnitState) (e : UnitEv
   carried_fits t unit event s actions v h fits =
       let u = state_of_unit s.units unit in
       let settings = (acting_in s.loaded unit).settings in
-      subst AllFit (sym h.state) (fits_at s unit (change_of t s unit event) (λ other apart. fits other)
+      becomes_fits s unit (change_of t s unit event) v h.state (fits_at s unit (change_of t s unit event) (λ other apart. fits other)
       (left_fits (change_of t s unit event) (jobs_of_unit s.pending unit) (keeps settings (around t s unit) u event (fits unit).held)
       (λ e. start_fits settings (around t s unit) u event ((fits unit).starting e))
       (λ e. stop_fits settings (around t s unit) u event ((fits unit).stopping e))
@@ -214,7 +250,7 @@ module _ (keeps : (s : ServiceSettings) (c : Around) (u : UnitState) (e : UnitEv
   begun_here s j = jobs_here s.pending j.unit (with_running j.kind (jobs_of_unit s.pending j.unit))
 
   -- a job begins: what its unit, now with the job running, becomes
-  begun_fits : (kind : JobKind) (unit : List ℕ) (s : State) (c : Around) (settings : ServiceSettings) → IsReady Unordered s.units s.pending (record { unit = unit; kind = kind }) → AllFit s
+  begun_fits : (kind : JobKind) (unit : List ℕ) (s : State) (c : Around) (settings : ServiceSettings) → IsReady (IsBefore s.loaded) s.units s.pending (record { unit = unit; kind = kind }) → AllFit s
       → Fits (transition settings c (state_of_unit s.units unit) (begins kind)).unit (jobs_left (transition settings c (state_of_unit s.units unit) (begins kind)).start (transition settings c (state_of_unit s.units unit) (begins kind)).stop_ends (with_running kind (jobs_of_unit s.pending unit)))
   begun_fits job.Start unit s c settings ready fits =
       let u = state_of_unit s.units unit in
@@ -231,10 +267,10 @@ module _ (keeps : (s : ServiceSettings) (c : Around) (u : UnitState) (e : UnitEv
       (λ e. begun_stop_fits settings c u)
       (λ e. absurd (waits e))
 
-  beginning_fits : (t : ℕ) (j : Job) (s : State) (actions : List Action) (v : State) → IsReady Unordered s.units s.pending j → Carries t j.unit (begins j.kind) (begun s j) actions v → AllFit s → AllFit v
+  beginning_fits : (t : ℕ) (j : Job) (s : State) (actions : List Action) (v : State) → IsReady (IsBefore s.loaded) s.units s.pending j → Carries t j.unit (begins j.kind) (begun s j) actions v → AllFit s → AllFit v
   beginning_fits t j s actions v ready h fits =
       let c = change_of t (begun s j) j.unit (begins j.kind) in
-      subst AllFit (sym h.state) (fits_at (begun s j) j.unit c
+      becomes_fits (begun s j) j.unit c v h.state (fits_at (begun s j) j.unit c
       (λ other apart. subst (Fits (state_of_unit s.units other)) (sym (jobs_apart s.pending j.unit (with_running j.kind (jobs_of_unit s.pending j.unit)) other apart)) (fits other))
       (subst (λ k. Fits c.unit (jobs_left c.start c.stop_ends k)) (sym (begun_here s j))
       (begun_fits j.kind j.unit s (around t (begun s j) j.unit) (acting_in s.loaded j.unit).settings ready fits)))
@@ -261,8 +297,9 @@ module _ (keeps : (s : ServiceSettings) (c : Around) (u : UnitState) (e : UnitEv
 
   step_fits : (size : ℕ) (s : State) (input : Input) (reply : Reply) (actions : List Action) (t : State) → Step size s input reply actions t → AllFit s × IsStill s → AllFit t × IsStill t
   step_fits size s input reply actions t (refused e) calm = calm
+  step_fits size s input reply actions t (crowded_out h heavy) calm = calm
   step_fits size s input reply actions t (idle e) calm = calm
-  step_fits size s input reply actions t (taken {moment = moment} {event = event} {u = v} h) calm = taken_fits (moment_of s moment) s event actions v h calm
+  step_fits size s input reply actions t (taken {moment = moment} {event = event} {u = v} h light) calm = taken_fits (moment_of s moment) s event actions v h calm
 
   run_fits : (size : ℕ) (s t : State) (inputs : List Input) → Run size s inputs t → AllFit s × IsStill s → AllFit t × IsStill t
   run_fits size s t inputs Run.rests calm = calm
@@ -310,84 +347,69 @@ or_true : (b : Bool) → (b || true) ≡ true
 or_true true = refl
 or_true false = refl
 
-module _ (s : State) (fits : AllFit s) (still : IsStill s) (j : Job) (is_there : IsPending s.pending j) where
-  waits_in_start : (state_of_unit s.units j.unit).sub ≡ sub.Start → (number : ℕ) × WaitsFor s j number
-  waits_in_start is =
-      let n = number_in_start (state_of_unit s.units j.unit) is (fits j.unit).held in
-      (n.0, record { pending = is_there; busy = ap (λ x. is_starting x || is_stopping x) is; live = n.1 })
+pends_or_runs : (o : Option JobState) → o ≢ None → (o ≡ Some Waiting) ⊎ (o ≡ Some Running)
+pends_or_runs None there = absurd (there refl)
+pends_or_runs (Some Waiting) there = inl refl
+pends_or_runs (Some Running) there = inr refl
 
-  waits_in_stop : is_stopping (state_of_unit s.units j.unit).sub ≡ true → (number : ℕ) × WaitsFor s j number
-  waits_in_stop down =
-      let u = state_of_unit s.units j.unit in
-      let n = number_in_stop u.sub u down (fits j.unit).held in
-      (n.0, record { pending = is_there; busy = ap (λ b. is_starting u.sub || b) down ∙ or_true (is_starting u.sub); live = n.1 })
+not_deactivating : (x : SubState) → is_stopping x ≡ false → active_state_of x ≢ active.Deactivating
+not_deactivating sub.Stop f e = true≢false f
+not_deactivating sub.StopSigterm f e = true≢false f
+not_deactivating sub.StopSigkill f e = true≢false f
+not_deactivating sub.Dead f e = cc
+not_deactivating sub.Start f e = cc
+not_deactivating sub.Running f e = cc
+not_deactivating sub.Exited f e = cc
+not_deactivating sub.Failed f e = cc
+not_deactivating sub.AutoRestart f e = cc
+not_deactivating sub.Active f e = cc
 
-  stop_is_ready : (jobs_of_unit s.pending j.unit).stop ≡ Some Waiting → ⊥
-  stop_is_ready e = still (stop_job j.unit) (record { waits = e; free = λ other b. nothing_first other (stop_job j.unit) b.goes refl; still = λ f. absurd (stop_start f) })
-    where
-      stop_start : job.Stop ≡ job.Start → ⊥
-      stop_start f = cc
+module _ (s : State) (fits : AllFit s) (still : IsStill s) where
+  module _ (j : Job) (is_there : IsPending s.pending j) where
+    waits_in_start : (state_of_unit s.units j.unit).sub ≡ sub.Start → (number : ℕ) × WaitsFor s j number
+    waits_in_start is =
+        let n = number_in_start (state_of_unit s.units j.unit) is (fits j.unit).held in
+        (n.0, record { pending = is_there; busy = ap (λ x. is_starting x || is_stopping x) is; live = n.1 })
 
-      nothing_first : (x y : Job) → GoesBefore Unordered x y → y.kind ≡ job.Stop → ⊥
-      nothing_first x y of_one_unit f = stop_start (sym f)
-      nothing_first x y (starts b) f = absurd b
-      nothing_first x y (stops b) f = absurd b
-      nothing_first x y (stops_then_starts b) f = absurd b
-      nothing_first x y (stops_then_starts_before b) f = absurd b
+    waits_in_stop : is_stopping (state_of_unit s.units j.unit).sub ≡ true → (number : ℕ) × WaitsFor s j number
+    waits_in_stop down =
+        let u = state_of_unit s.units j.unit in
+        let n = number_in_stop u.sub u down (fits j.unit).held in
+        (n.0, record { pending = is_there; busy = ap (λ b. is_starting u.sub || b) down ∙ or_true (is_starting u.sub); live = n.1 })
 
-  start_is_ready : (jobs_of_unit s.pending j.unit).stop ≡ None → (jobs_of_unit s.pending j.unit).start ≡ Some Waiting → is_stopping (state_of_unit s.units j.unit).sub ≡ false → ⊥
-  start_is_ready none e up = still (start_job j.unit) (record { waits = e; free = free; still = λ f. deactivating (state_of_unit s.units j.unit).sub up })
-    where
-      before : (x y : Job) → GoesBefore Unordered x y → (x.unit ≡ y.unit) × (x.kind ≡ job.Stop)
-      before x y of_one_unit = (refl, refl)
-      before x y (starts b) = absurd b
-      before x y (stops b) = absurd b
-      before x y (stops_then_starts b) = absurd b
-      before x y (stops_then_starts_before b) = absurd b
+    -- a job that runs waits for its unit's live process
+    running_waits : (kind : JobKind) → job_of kind (jobs_of_unit s.pending j.unit) ≡ Some Running → (number : ℕ) × WaitsFor s j number
+    running_waits job.Start is = waits_in_start ((fits j.unit).starting is)
+    running_waits job.Stop is = waits_in_stop ((fits j.unit).stopping is)
 
-      free : (other : Job) → ¬ ComesBefore Unordered s.pending other (start_job j.unit)
-      free other b =
-          let is = before other (start_job j.unit) b.goes in
-          b.pends (ap (λ k. job_of k (jobs_of_unit s.pending other.unit)) is.1 ∙ (ap (λ q. (jobs_of_unit s.pending q).stop) is.0 ∙ none))
+    -- so does one that waits though none comes before it: it isn't ready, as its unit is deactivating
+    first_waits : (down : Bool) → is_stopping (state_of_unit s.units j.unit).sub ≡ down → IsWaiting s.pending j
+        → ((other : Job) → ¬ ComesBefore (IsBefore s.loaded) s.pending other j) → (number : ℕ) × WaitsFor s j number
+    first_waits true e waits free = waits_in_stop e
+    first_waits false e waits free = absurd (still j (record { waits = waits; free = free; still = λ starts. not_deactivating (state_of_unit s.units j.unit).sub e }))
 
-      deactivating : (x : SubState) → is_stopping x ≡ false → active_state_of x ≢ active.Deactivating
-      deactivating sub.Stop f e = true≢false f
-      deactivating sub.StopSigterm f e = true≢false f
-      deactivating sub.StopSigkill f e = true≢false f
-      deactivating sub.Dead f e = cc
-      deactivating sub.Start f e = cc
-      deactivating sub.Running f e = cc
-      deactivating sub.Exited f e = cc
-      deactivating sub.Failed f e = cc
-      deactivating sub.AutoRestart f e = cc
-      deactivating sub.Active f e = cc
+    free_waits : ((other : Job) → ¬ ComesBefore (IsBefore s.loaded) s.pending other j) → (number : ℕ) × WaitsFor s j number
+    free_waits free = elim (pends_or_runs (state_of_job s.pending j) is_there) as (λ _. (number : ℕ) × WaitsFor s j number) [
+      | inl waits ↦ first_waits (is_stopping (state_of_unit s.units j.unit).sub) refl waits free
+      | inr runs ↦ running_waits j.kind runs
+    ]
 
-  none_there : (kind : JobKind) → job_of kind (jobs_of_unit s.pending j.unit) ≢ None → (jobs_of_unit s.pending j.unit).stop ≡ None → (jobs_of_unit s.pending j.unit).start ≡ None → ⊥
-  none_there job.Stop there e f = there e
-  none_there job.Start there e f = there f
+  module _ (free : IsFree s) where
+    -- where a job waits, a job before which none comes waits for a live process
+    waiting_not_stuck : (j : Job) → IsWaiting s.pending j → (other : Job) × (number : ℕ) × WaitsFor s other number
+    waiting_not_stuck j waits =
+        let a = a_first_job (IsBefore s.loaded) (before_or_not s.loaded) s.pending free j waits in
+        let w = free_waits a.0 a.1 a.2.free in
+        (a.0, w.0, w.1)
 
-  by_start : (b : Bool) (o : Option JobState) → is_stopping (state_of_unit s.units j.unit).sub ≡ b → (jobs_of_unit s.pending j.unit).stop ≡ None
-      → (jobs_of_unit s.pending j.unit).start ≡ o → (number : ℕ) × WaitsFor s j number
-  by_start b None down e f = absurd (none_there j.kind is_there e f)
-  by_start b (Some Running) down e f = waits_in_start ((fits j.unit).starting f)
-  by_start true (Some Waiting) down e f = waits_in_stop down
-  by_start false (Some Waiting) down e f = absurd (start_is_ready e f down)
-
-  by_stop : (o : Option JobState) → (jobs_of_unit s.pending j.unit).stop ≡ o → (number : ℕ) × WaitsFor s j number
-  by_stop None e = by_start (is_stopping (state_of_unit s.units j.unit).sub) (jobs_of_unit s.pending j.unit).start refl e refl
-  by_stop (Some Waiting) e = absurd (stop_is_ready e)
-  by_stop (Some Running) e = waits_in_stop ((fits j.unit).stopping e)
-
-  -- its unit's live process is what a pending job waits for
-  pending_waits : (number : ℕ) × WaitsFor s j number
-  pending_waits = by_stop (jobs_of_unit s.pending j.unit).stop refl
-
-fitting_not_stuck : (s : State) → AllFit s → IsStill s → IsNotStuck s
-unfolding pending_waits
-fitting_not_stuck s fits still j is_there = let w = pending_waits s fits still j is_there in (j, w.0, w.1)
+    fitting_not_stuck : IsNotStuck s
+    fitting_not_stuck j is_there = elim (pends_or_runs (state_of_job s.pending j) is_there) as (λ _. (other : Job) × (number : ℕ) × WaitsFor s other number) [
+      | inl waits ↦ waiting_not_stuck j waits
+      | inr runs ↦ let w = running_waits j is_there j.kind runs in (j, w.0, w.1)
+    ]
 
 -- after any inputs the machine isn't stuck
 pub never_stuck : (size : ℕ) (inputs : List Input) (t : State) → Run size empty_state inputs t → IsNotStuck t
 never_stuck size inputs t run =
     let calm = run_fits keeps_process size empty_state t inputs run (empty_fits, empty_still) in
-    fitting_not_stuck t calm.0 calm.1
+    fitting_not_stuck t calm.0 calm.1 (no_cycle_after size inputs t run)

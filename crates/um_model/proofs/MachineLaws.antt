@@ -1,43 +1,73 @@
--- A step has one outcome, a run has one end, and runs join.
-use Rattle.std.proofs.Common.{ℕ, ◌≡◌, ◌≢◌, ◌⊎◌, ◌∙◌, List, [], ◌∷◌, ◌++◌, Some, refl, sym, ap, subst, inl, inr, true≢false, arith}
+-- A step has one outcome, but for the cycle that a refusal names; a run has one end, and runs join.
+use Rattle.std.proofs.Common.{ℕ, ◌≡◌, ◌≢◌, ◌⊎◌, ◌∙◌, List, [], ◌∷◌, ◌++◌, map as each, None, Some, refl, sym, ap, subst, inl, inr, true≢false, arith}
+use Rattle.std.proofs.lemmas.Option.{none-some, same_Some}
 use Rattle.std.specs.FinMap as map
 use Rattle.std.specs.FinMap.{slice_cmp-IsAntisymmetric, nat_cmp-IsAntisymmetric}
 use Rattle.std.specs.Cmp.Lexicographic.{nat_list_cmp_total}
-use Rattle.um_model.specs.Refusals.{Refused, FirstCause}
+use Rattle.um_model.specs.Alike.{NamesACycle, AlikeBut, the_same, both_name, IsSameOutcome}
+use Rattle.um_model.specs.Refusals.{Refused, FirstCause, at_first, at_second, no_room, ordering_cycle}
 use Rattle.um_model.specs.Tree.{Tree, put_file, put_link, remove_at}
 use Rattle.um_model.specs.Least.{IsNamedBefore}
 use Rattle.um_model.specs.Service.{Action, ByUnit, state_of_unit}
 use Rattle.um_model.specs.Jobs.{Job, IsReady, IsToldBefore, by_name, stop_first, BeginsNext}
+use Rattle.um_model.specs.Plan.{IsPlan, CausesOfPlan, NamesCycle, units_of}
 use Rattle.um_model.specs.Timers.{Timers}
 use Rattle.um_model.specs.Transitions.{HasNumber}
-use Rattle.um_model.specs.Units.{Loading}
-use Rattle.um_model.specs.Machine.{State, Command, Happening, ProcessEnded, Tick, Event, Input, Reply, EnabledAs, Refusal, Query, IsReplyTo, shows, tells_activity, tells_files, tells_enabling, lists_jobs, Carries, change_of, acting_in, around, begins, begun, IsBefore, Settles, begins_next, IsProcessOf, AreDeadlines, end_of, Fires, none_due, fires, passes, CannotStart, isnt_found, is_masked, has_bad_setting, is_of_another_kind, is_a_template, IsNotThere, IsMissing, HasNoneWaiting, CausesOfCancel, StartsNone, DropsAJob, CausesOf, unit_asked, jobs_asked, jobs_planned, Refuses, puts_none, links_none, removes_none, plans_none, cancels_none, installs_none, Changes, puts, links, removes, reloads, plans, cancels, installs, Follows, ends, ticks, HasNoEffect, is_over, is_idle, Takes, obeys, meets, moment_of, Step, refused, idle, taken, reply_after, Run, goes}
+use Rattle.um_model.specs.Machine.{State, Command, Happening, ProcessEnded, Tick, Event, Input, Reply, EnabledAs, Listed, Refusal, Query, IsReplyTo, shows, tells_activity, tells_files, tells_enabling, unit_listed, lists_units, lists_jobs, Becomes, alone, along, Carries, change_of, acting_in, around, begins, begun, IsBefore, Settles, begins_next, IsProcessOf, AreDeadlines, end_of, Fires, none_due, fires, passes, IsHeld, IsHeldOr, scene_at, IsCrowded, IsNotThere, IsMissing, HasNoPlan, HasNoneWaiting, CausesOfCancel, CausesOf, CausesOfLoad, LoadsNone, active_asked, demand_of, unit_asked, Refuses, puts_none, links_none, removes_none, plans_none, cancels_none, reloads_none, installs_none, Changes, puts, links, removes, reloads, plans, demands_nothing, cancels, installs, Follows, ends, ticks, HasNoEffect, is_over, is_idle, Takes, obeys, meets, HasNoRoom, moment_of, Step, refused, crowded_out, idle, taken, reply_after, Run, goes}
 use Rattle.um_model.specs.declared.commands.JobMode.{JobMode}
 use Rattle.um_model.specs.declared.commands.UnitVerb.{UnitVerb}
+use Rattle.um_model.specs.declared.dependencies.Demand.{Demand}
+use Rattle.um_model.specs.declared.install.InstallVerb.{InstallVerb}
 use Rattle.um_model.specs.declared.jobs.JobKind.{JobKind}
 use Rattle.um_model.specs.declared.jobs.JobKind.TheVariants.{Stop, Start}
 use Rattle.um_model.specs.declared.jobs.UnitJobs.{UnitJobs}
 use Rattle.um_model.specs.declared.service.End.{End}
 use Rattle.um_model.specs.declared.service.UnitState.{UnitState}
+use Rattle.um_model.specs.declared.transition.Change.{Change}
 use Rattle.um_model.specs.declared.transition.UnitEvent.{UnitEvent}
 use Rattle.um_model.specs.declared.transition.UnitEvent.TheVariants.{DeadlinePasses}
+use Rattle.um_model.proofs.AlongLaws.{one_along}
 use Rattle.um_model.proofs.InstallLaws.{one_install, one_install_refusal, one_enabling}
 use Rattle.um_model.proofs.CausesLaws.{same_ok, same_err, one_first}
 use Rattle.um_model.proofs.LeastLaws.{one_least}
+use Rattle.um_model.proofs.PlannedLaws.{one_plan}
+use Rattle.um_model.proofs.PlannedLaws as planned
+use Rattle.um_model.proofs.SceneLaws.{finite_scene, one_list_of_known}
 use Rattle.um_model.proofs.TransitionLaws.{same_actions}
 use Rattle.um_model.proofs.TimersLaws.{one_due_first, same_name, names_one_way}
 
--- two outcomes are one
-pub record IsSameOutcome (r q : Reply) (a b : List Action) (s t : State) : Type 0 where
-  pub reply : r ≡ q
-  pub actions : a ≡ b
-  pub state : s ≡ t
+-- ---- refusals
+
+-- refusals for a cause are one, or each names a cycle
+abbrev AreOneBut : (Refused → Type 0) → Type 0
+AreOneBut Cause = (r q : Refused) → Cause r → Cause q → (r ≡ q) ⊎ (NamesACycle r × NamesACycle q)
+
+-- so they are for the first of two causes, where they are for each
+first_but : (A B : Refused → Type 0) → AreOneBut A → AreOneBut B → AreOneBut (FirstCause A B)
+first_but A B one other r q (at_first h) (at_first k) = one r q h k
+first_but A B one other r q (at_first h) (at_second none k) = absurd (none r h)
+first_but A B one other r q (at_second none h) (at_first k) = absurd (none q k)
+first_but A B one other r q (at_second none h) (at_second neither k) = other r q h k
+
+names_a_cycle : (Before : List ℕ → List ℕ → Type 0) (pending : ByUnit UnitJobs) (r : Refused) → NamesCycle Before pending r → NamesACycle r
+names_a_cycle Before pending r h = (units_of h.cycle, h.refusal)
+
+-- ---- what happens to a unit, and which jobs begin
+
+-- a change of a unit has one end
+pub one_becomes : (s : State) (unit : List ℕ) (c : Change) (v w : State) → Becomes s unit c v → Becomes s unit c w → v ≡ w
+one_becomes s unit c v w (alone holds) (alone too) = refl
+one_becomes s unit c v w (alone holds) (along fails h) = absurd (true≢false (sym fails ∙ holds))
+one_becomes s unit c v w (along fails h) (alone holds) = absurd (true≢false (sym fails ∙ holds))
+one_becomes s unit c v w (along fails h) (along too k) = one_along _ unit v w h k
 
 -- what happens to a unit is carried out in one way
 pub one_carried : (t : ℕ) (unit : List ℕ) (event : UnitEvent) (s : State) (a b : List Action) (v w : State)
     → Carries t unit event s a v → Carries t unit event s b w → (a ≡ b) × (v ≡ w)
-one_carried t unit event s a b v w h k =
-    (same_actions (acting_in s.loaded unit).settings (around t s unit) (change_of t s unit event).unit (change_of t s unit event).order a b h.asked k.asked, h.state ∙ sym k.state)
+one_carried t unit event s a b v w h k = (
+  same_actions (acting_in s.loaded unit).settings (around t s unit) (change_of t s unit event).unit (change_of t s unit event).order a b h.asked k.asked,
+  one_becomes s unit (change_of t s unit event) v w h.state k.state,
+)
 
 -- of two jobs not each is told before the other
 pub told_one_way : (j k : Job) → IsToldBefore j k → IsToldBefore k j → ⊥
@@ -111,33 +141,66 @@ one_fired t timers s a b v w (passes d n first due isnt l) (passes e o too late 
 
 -- ---- a command has one refusal, and changes the state in one way
 
-one_cause : (asked : List ℕ) (found : Loading) (r q : Refused) → CannotStart asked found r → CannotStart asked found q → r ≡ q
-one_cause asked found r q isnt_found isnt_found = refl
-one_cause asked found r q is_masked is_masked = refl
-one_cause asked found r q has_bad_setting has_bad_setting = refl
-one_cause asked found r q (is_of_another_kind e) (is_of_another_kind f) = refl
-one_cause asked found r q (is_of_another_kind e) (is_a_template f g) = absurd (true≢false (sym f ∙ e))
-one_cause asked found r q (is_a_template f g) (is_of_another_kind e) = absurd (true≢false (sym f ∙ e))
-one_cause asked found r q (is_a_template f g) (is_a_template h k) = refl
+one_crowded : (tree : Tree) (Extra : List ℕ → Type 0) → AreOneBut (IsCrowded tree Extra)
+one_crowded tree Extra r q h k = inl (h.refusal ∙ sym k.refusal)
 
-one_planned : (s : State) (verb : UnitVerb) (asked : List ℕ) (mode : JobMode) (r q : Refused) → CausesOf s verb asked mode r → CausesOf s verb asked mode q → r ≡ q
+one_cycle : (Before : List ℕ → List ℕ → Type 0) (pending : ByUnit UnitJobs) → AreOneBut (NamesCycle Before pending)
+one_cycle Before pending r q h k = inr (names_a_cycle Before pending r h, names_a_cycle Before pending q k)
+
+-- a command for a unit makes one plan, and that is refused in one way
+module _ (s : State) (verb : UnitVerb) (asked : List ℕ) where
+  one_planned_map : (d e : Demand) (u v : ByUnit UnitJobs) → demand_of verb (active_asked s asked) ≡ Some d → demand_of verb (active_asked s asked) ≡ Some e
+      → IsPlan (scene_at s (unit_asked s asked)) (d, unit_asked s asked) u → IsPlan (scene_at s (unit_asked s asked)) (e, unit_asked s asked) v → (d ≡ e) × (u ≡ v)
+  one_planned_map d e u v f g h k =
+      let same : d ≡ e = same_Some d e (sym f ∙ g) in
+      let finite = finite_scene s (unit_asked s asked) in (
+        same,
+        one_plan (scene_at s (unit_asked s asked)) finite.0 finite.1 (d, unit_asked s asked) u v h
+            (subst (λ x. IsPlan (scene_at s (unit_asked s asked)) (x, unit_asked s asked) v) (sym same) k),
+      )
+
+  refused_in_one_way : (mode : JobMode) → AreOneBut (HasNoPlan s verb asked mode)
+  refused_in_one_way mode r q h k =
+      let same = one_planned_map h.demand k.demand h.after k.after h.demanded k.demanded h.plan k.plan in
+      let finite = finite_scene s (unit_asked s asked) in
+      by_cause
+      (planned.one_cause (scene_at s (unit_asked s asked)) finite.0 finite.1 (h.demand, unit_asked s asked) mode h.after r q h.cause
+      (subst (λ x. CausesOfPlan (scene_at s (unit_asked s asked)) (h.demand, unit_asked s asked) mode x q) (sym same.1)
+      (subst (λ x. CausesOfPlan (scene_at s (unit_asked s asked)) (x, unit_asked s asked) mode k.after q) (sym same.0) k.cause)))
+    where
+      by_cause : (r ≡ q) ⊎ (NamesCycle (scene_at s (unit_asked s asked)).IsBefore h.after r × NamesCycle (scene_at s (unit_asked s asked)).IsBefore h.after q)
+          → (r ≡ q) ⊎ (NamesACycle r × NamesACycle q)
+      by_cause (inl is) = inl is
+      by_cause (inr both) = inr (names_a_cycle _ h.after r both.0, names_a_cycle _ h.after q both.1)
+
+one_planned : (s : State) (verb : UnitVerb) (asked : List ℕ) (mode : JobMode) → AreOneBut (CausesOf s verb asked mode)
 one_planned s verb asked mode =
-    let drops = DropsAJob mode (unit_asked s asked) (jobs_asked s asked) (jobs_planned s verb asked) in
-    one_first (IsNotThere s verb asked) (FirstCause (StartsNone s verb asked) drops) (λ r q h k. h.missing.refusal ∙ sym k.missing.refusal)
-    (one_first (StartsNone s verb asked) drops (λ r q h k. one_cause asked _ r q h.cause k.cause) (λ r q h k. h.refusal ∙ sym k.refusal))
+    first_but _ _ (one_crowded s.loaded (IsHeldOr s (unit_asked s asked)))
+    (first_but (IsNotThere s verb asked) (HasNoPlan s verb asked mode) (λ r q h k. inl (h.missing.refusal ∙ sym k.missing.refusal)) (refused_in_one_way s verb asked mode))
+
+one_loaded : (s : State) (tree : Tree) → AreOneBut (CausesOfLoad s tree)
+one_loaded s tree = first_but _ _ (one_crowded tree (IsHeld s)) (one_cycle (IsBefore tree) s.pending)
+
+one_unloaded : (s : State) (verb : InstallVerb) (unit : List ℕ) → AreOneBut (LoadsNone s verb unit)
+one_unloaded s verb unit r q h k =
+    one_loaded s h.tree r q h.cause (subst (λ x. CausesOfLoad s x q) (one_install s.tree verb unit k.tree h.tree k.installs h.installs) k.cause)
 
 one_cancelled : (s : State) (asked : List ℕ) (r q : Refused) → CausesOfCancel s asked r → CausesOfCancel s asked q → r ≡ q
 one_cancelled s asked =
     one_first (IsMissing s asked) (HasNoneWaiting s asked) (λ r q h k. h.refusal ∙ sym k.refusal) (λ r q h k. h.refusal ∙ sym k.refusal)
 
-pub one_refusal : (s : State) (command : Command) (r q : Refused) → Refuses s command r → Refuses s command q → r ≡ q
-one_refusal s command r q (puts_none {path = path} {text = text} e) (puts_none f) = same_err (put_file s.tree path text) r q e f
-one_refusal s command r q (links_none {path = path} {target = target} e) (links_none f) = same_err (put_link s.tree path target) r q e f
-one_refusal s command r q (removes_none {path = path} e) (removes_none f) = same_err (remove_at s.tree path) r q e f
+-- a command has one refusal, but for the cycle that it names
+pub one_refusal : (s : State) (command : Command) (r q : Refused) → Refuses s command r → Refuses s command q → (r ≡ q) ⊎ (NamesACycle r × NamesACycle q)
+one_refusal s command r q (puts_none {path = path} {text = text} e) (puts_none f) = inl (same_err (put_file s.tree path text) r q e f)
+one_refusal s command r q (links_none {path = path} {target = target} e) (links_none f) = inl (same_err (put_link s.tree path target) r q e f)
+one_refusal s command r q (removes_none {path = path} e) (removes_none f) = inl (same_err (remove_at s.tree path) r q e f)
 one_refusal s command r q (plans_none {verb = verb} {asked = asked} {mode = mode} h) (plans_none k) = one_planned s verb asked mode r q h k
-one_refusal s command r q (cancels_none {asked = asked} h) (cancels_none k) = one_cancelled s asked r q h k
-one_refusal s command r q (installs_none {verb = verb} {unit = unit} h) (installs_none k) = one_install_refusal s.tree verb unit r q h k
+one_refusal s command r q (cancels_none {asked = asked} h) (cancels_none k) = inl (one_cancelled s asked r q h k)
+one_refusal s command r q (reloads_none h) (reloads_none k) = one_loaded s s.tree r q h k
+one_refusal s command r q (installs_none {verb = verb} {unit = unit} h) (installs_none k) =
+    first_but _ _ (λ x y g l. inl (one_install_refusal s.tree verb unit x y g l)) (one_unloaded s verb unit) r q h k
 
+-- and changes the state in one way
 pub one_change : (s : State) (command : Command) (u v : State) → Changes s command u → Changes s command v → u ≡ v
 one_change s command u v (puts {path = path} {text = text} {tree = tree} e) (puts {tree = other} f) =
     ap (λ (x : Tree). record s { tree = x }) (same_ok (put_file s.tree path text) tree other e f)
@@ -146,7 +209,11 @@ one_change s command u v (links {path = path} {target = target} {tree = tree} e)
 one_change s command u v (removes {path = path} {tree = tree} e) (removes {tree = other} f) =
     ap (λ (x : Tree). record s { tree = x }) (same_ok (remove_at s.tree path) tree other e f)
 one_change s command u v reloads reloads = refl
-one_change s command u v plans plans = refl
+one_change s command u v (plans {verb = verb} {asked = asked} {demand = d} {after = x} f h) (plans {demand = e} {after = y} g k) =
+    ap (λ (x : ByUnit UnitJobs). record s { pending = x }) (one_planned_map s verb asked d e x y f g h k).1
+one_change s command u v (plans {demand = d} f h) (demands_nothing none) = absurd (none-some d (sym none ∙ f))
+one_change s command u v (demands_nothing none) (plans {demand = d} f h) = absurd (none-some d (sym none ∙ f))
+one_change s command u v (demands_nothing none) (demands_nothing too) = refl
 one_change s command u v cancels cancels = refl
 one_change s command u v (installs {verb = verb} {unit = unit} {tree = tree} h) (installs {tree = other} k) =
     ap (λ (x : Tree). record s { tree = x; loaded = x }) (one_install s.tree verb unit tree other h k)
@@ -157,10 +224,12 @@ one_reply_to s query r q shows shows = refl
 one_reply_to s query r q tells_activity tells_activity = refl
 one_reply_to s query r q tells_files tells_files = refl
 one_reply_to s query r q (tells_enabling {asked = asked} {answer = a} h) (tells_enabling {answer = b} k) = ap EnabledAs (one_enabling s.tree asked a b h k)
+one_reply_to s query r q (lists_units {names = xs} h) (lists_units {names = ys} k) = ap (λ names. Listed (each (unit_listed s) names)) (one_list_of_known s xs ys h k)
 one_reply_to s query r q lists_jobs lists_jobs = refl
 
 -- ---- what happens has one outcome
 
+-- it has one end, with one list of actions
 pub one_followed : (t : ℕ) (s : State) (happening : Happening) (a b : List Action) (v w : State)
     → Follows t s happening a v → Follows t s happening b w → (a ≡ b) × (v ≡ w)
 one_followed t s happening a b v w (ends {number = number} {end = end} {first = first} {more = more} {u = u} unit is h k) (ends {first = other} {more = others} {u = x} unit' is' h' k') =
@@ -187,20 +256,33 @@ one_taken t s event a b v w (obeys {command = command} {u = u} free h k) (obeys 
     one_settled t u a b v w k (subst (λ i. Settles t i b w) (one_change s command x u g h) l)
 one_taken t s event a b v w (meets {happening = happening} effect h) (meets also k) = one_followed t s happening a b v w h k
 
--- a step has one outcome
+alike_refusals : (r q : Refused) → (r ≡ q) ⊎ (NamesACycle r × NamesACycle q) → AlikeBut (Refusal r) (Refusal q)
+alike_refusals r q (inl is) = the_same (ap Refusal is)
+alike_refusals r q (inr both) = both_name both.0 both.1
+
+-- a step has one outcome, but for the cycle that a refusal names
 pub one_outcome : (size : ℕ) (s : State) (input : Input) (r q : Reply) (a b : List Action) (t u : State)
     → Step size s input r a t → Step size s input q b u → IsSameOutcome r q a b t u
 one_outcome size s input r q a b t u (refused {command = command} {r = x} e) (refused {r = y} f) =
-    record { reply = ap Refusal (one_refusal s command x y e f); actions = refl; state = refl }
-one_outcome size s input r q a b t u (refused {r = x} e) (taken (obeys free h k)) = absurd (free x e)
-one_outcome size s input r q a b t u (idle e) (idle f) = record { reply = refl; actions = refl; state = refl }
-one_outcome size s input r q a b t u (idle e) (taken (meets effect h)) = absurd (effect e)
-one_outcome size s input r q a b t u (taken (obeys free h k)) (refused {r = x} e) = absurd (free x e)
-one_outcome size s input r q a b t u (taken (meets effect h)) (idle e) = absurd (effect e)
-one_outcome size s input r q a b t u (taken {moment = moment} {event = event} {u = v} h) (taken {u = w} k) =
+    record { reply = alike_refusals x y (one_refusal s command x y e f); actions = refl; state = refl }
+one_outcome size s input r q a b t u (refused {r = x} e) (crowded_out (obeys free h k) heavy) = absurd (free x e)
+one_outcome size s input r q a b t u (refused {r = x} e) (taken (obeys free h k) fits) = absurd (free x e)
+one_outcome size s input r q a b t u (idle e) (idle f) = record { reply = the_same refl; actions = refl; state = refl }
+one_outcome size s input r q a b t u (idle e) (crowded_out h never) = absurd never
+one_outcome size s input r q a b t u (idle e) (taken (meets effect h) fits) = absurd (effect e)
+one_outcome size s input r q a b t u (crowded_out (obeys free h k) heavy) (refused {r = x} e) = absurd (free x e)
+one_outcome size s input r q a b t u (crowded_out h never) (idle e) = absurd never
+one_outcome size s input r q a b t u (crowded_out h heavy) (crowded_out k too) = record { reply = the_same refl; actions = refl; state = refl }
+one_outcome size s input r q a b t u (crowded_out {moment = moment} {event = event} {actions = c} {u = v} h heavy) (taken {actions = d} {u = w} k fits) =
+    absurd (fits (subst (HasNoRoom size event) (one_taken (moment_of s moment) s event c d v w h k).1 heavy))
+one_outcome size s input r q a b t u (taken {moment = moment} {event = event} {actions = c} {u = v} h fits) (crowded_out {actions = d} {u = w} k heavy) =
+    absurd (fits (subst (HasNoRoom size event) (sym (one_taken (moment_of s moment) s event c d v w h k).1) heavy))
+one_outcome size s input r q a b t u (taken (obeys free h k) fits) (refused {r = x} e) = absurd (free x e)
+one_outcome size s input r q a b t u (taken (meets effect h) fits) (idle e) = absurd (effect e)
+one_outcome size s input r q a b t u (taken {moment = moment} {event = event} {u = v} h fits) (taken {u = w} k suits) =
     let same = one_taken (moment_of s moment) s event a b v w h k in
     record {
-      reply = ap (λ (x : State). reply_after event s.tree x.tree) same.1;
+      reply = the_same (ap (λ (x : State). reply_after event s.tree x.tree) same.1);
       actions = same.0;
       state = ap (λ (x : State). record x { clock = moment_of s moment }) same.1;
     }

@@ -6,11 +6,12 @@ use Rattle.um_model.specs.Service.{Action, SpawnProcess, SendSignal, state_of_un
 use Rattle.um_model.specs.Settings.{ServiceSettings}
 use Rattle.um_model.specs.Timers.{Timers}
 use Rattle.um_model.specs.Transitions.{AreActions, nothing, spawn, signals, spawned, live_numbers}
-use Rattle.um_model.specs.Machine.{State, Command, Happening, Event, Input, Reply, Carries, change_of, acting_in, around, begins, begun, Settles, begins_next, Changes, puts, links, removes, reloads, plans, cancels, installs, end_of, Fires, none_due, fires, passes, Follows, ends, ticks, Takes, obeys, meets, moment_of, Step, refused, idle, taken, Run, goes}
+use Rattle.um_model.specs.Machine.{State, Command, Happening, Event, Input, Reply, Carries, Becomes, alone, along, change_of, acting_in, around, begins, begun, Settles, begins_next, Changes, puts, links, removes, reloads, plans, demands_nothing, cancels, installs, end_of, Fires, none_due, fires, passes, Follows, ends, ticks, Takes, obeys, meets, moment_of, Step, refused, crowded_out, idle, taken, Run, goes}
 use Rattle.um_model.specs.Numbers.{started_numbers, actions_in, AreNew}
 use Rattle.um_model.specs.declared.service.Signal as sent
 use Rattle.um_model.specs.declared.service.UnitState.{UnitState}
 use Rattle.um_model.specs.declared.transition.Around.{Around}
+use Rattle.um_model.specs.declared.transition.Change.{Change}
 use Rattle.um_model.specs.declared.transition.Order.{Order}
 use Rattle.um_model.specs.declared.transition.UnitEvent.{UnitEvent}
 use Rattle.um_model.specs.declared.transition.UnitEvent.TheVariants.{DeadlinePasses}
@@ -73,9 +74,14 @@ asked_count s c u o actions (spawn which i words started) = one_more no_more
 asked_count s c u o actions (signals signal) =
     subst (λ ns. CountsUp c.next ns (c.next + 0)) (sym (signals_start_none signal (live_numbers u))) (none_counted c.next)
 
+-- a change of a unit takes the numbers of its processes, whether its start fails or not
+next_after : (s : State) (unit : List ℕ) (c : Change) (v : State) → Becomes s unit c v → v.next ≡ s.next + spawned c.order
+next_after s unit c v (alone holds) = refl
+next_after s unit c v (along fails h) = ap (λ x. x.next) h.rest
+
 carried_counts : (t : ℕ) (unit : List ℕ) (event : UnitEvent) (s : State) (actions : List Action) (v : State) → Carries t unit event s actions v → Counts s actions v
 carried_counts t unit event s actions v h =
-    subst (Counts s actions) (sym h.state)
+    subst (CountsUp s.next (started_numbers actions)) (sym (next_after s unit (change_of t s unit event) v h.state))
     (asked_count (acting_in s.loaded unit).settings (around t s unit) (change_of t s unit event).unit (change_of t s unit event).order actions h.asked)
 
 settled_counts : (t : ℕ) (s : State) (actions : List Action) (v : State) → Settles t s actions v → Counts s actions v
@@ -96,7 +102,8 @@ same_next s command u (puts e) = refl
 same_next s command u (links e) = refl
 same_next s command u (removes e) = refl
 same_next s command u reloads = refl
-same_next s command u plans = refl
+same_next s command u (plans demanded plan) = refl
+same_next s command u (demands_nothing none) = refl
 same_next s command u cancels = refl
 same_next s command u (installs h) = refl
 
@@ -112,8 +119,9 @@ taken_counts t s event actions v (meets {happening = happening} effect h) = foll
 
 step_counts : (size : ℕ) (s : State) (input : Input) (reply : Reply) (actions : List Action) (t : State) → Step size s input reply actions t → Counts s actions t
 step_counts size s input reply actions t (refused e) = no_more
+step_counts size s input reply actions t (crowded_out h heavy) = no_more
 step_counts size s input reply actions t (idle e) = no_more
-step_counts size s input reply actions t (taken {moment = moment} {event = event} {u = v} h) = taken_counts (moment_of s moment) s event actions v h
+step_counts size s input reply actions t (taken {moment = moment} {event = event} {u = v} h fits) = taken_counts (moment_of s moment) s event actions v h
 
 run_counts : (size : ℕ) (s t : State) (inputs : List Input) (run : Run size s inputs t) → Counts s (actions_in run) t
 run_counts size s t inputs Run.rests = no_more

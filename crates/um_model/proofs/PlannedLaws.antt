@@ -1,12 +1,10 @@
 -- A transaction has one plan, and is refused for one cause or none: where finitely many units depend on one another and what a scene says
 -- is decided.
-use Rattle.std.proofs.Common.{◌≡◌, ◌≢◌, ◌⊎◌, ◌∙◌, ℕ, List, [], ◌∷◌, ◌++◌, Option, Some, None, is_some, unwrap_or, refl, sym, ap, subst, inl, inr}
+use Rattle.std.proofs.Common.{◌≡◌, ◌≢◌, ◌⊎◌, ◌∙◌, ℕ, List, ◌∷◌, ◌++◌, Option, Some, None, refl, sym, ap, subst, inl, inr}
 use Rattle.std.proofs.lemmas.Option.{none-some}
 use Rattle.std.specs.FinMap as map
-use Rattle.std.specs.Cmp.Lexicographic.{slice_cmp}
-use Rattle.std.specs.Ordering.{nat_cmp}
 use Rattle.um_model.specs.Demands.{IsStarting, starts, restarts}
-use Rattle.um_model.specs.Jobs.{Job, AreTidyJobs, ComesBefore, DropsOne, drops, job_of, jobs_of_unit, no_jobs, with_jobs}
+use Rattle.um_model.specs.Jobs.{Job, AreTidyJobs, ComesBefore, DropsOne, drops, job_of, jobs_of_unit, no_jobs}
 use Rattle.um_model.specs.Least.{IsLeast, IsNamedBefore}
 use Rattle.um_model.specs.Order.{IsCycle}
 use Rattle.um_model.specs.Plan.{BeginsWithLeast, CausesOfPlan, Clashes, Counts, Demands, IsActive, IsBarred, IsPlan, IsStarted, NamesBarred, NamesClash, NamesCycle, NamesDrop, Scene}
@@ -24,14 +22,15 @@ use Rattle.um_model.specs.declared.jobs.JobState.{JobState}
 use Rattle.um_model.specs.declared.jobs.UnitJobs.{UnitJobs}
 use Rattle.um_model.specs.declared.service.ActiveState.{ActiveState}
 use Rattle.um_model.specs.declared.service.ActiveState.TheVariants.{Inactive, Activating, Active, Deactivating, Failed}
-use Rattle.um_model.proofs.AmongLaws.{among_left, among_or_not, among_right, both_decided, decided_as, either_decided}
+use Rattle.um_model.proofs.AmongLaws.{among_left, among_right, both_decided, decided_as, either_decided}
 use Rattle.um_model.proofs.CausesLaws.{OneOrNone, first_or_none}
 use Rattle.um_model.proofs.CycleLaws.{held, jobs_cycle_or_none, least_unit_first}
 use Rattle.um_model.proofs.DemandedLaws.{demanded_or_not, demanded_within}
+use Rattle.um_model.proofs.GivenMaps.{a_job_map, not_held}
 use Rattle.um_model.proofs.LeastLaws.{IsDecided, Among, a_least, one_least}
 use Rattle.um_model.proofs.SameUnits.{same_job_state}
 use Rattle.um_model.proofs.TimersLaws.{among_keys, named_trans, names_one_way, one_named_first, same_name, same_option}
-use Rattle.um_model.proofs.UnitLaws.{jobs_apart, jobs_here, same_tidy, tidy_empty, tidy_jobs}
+use Rattle.um_model.proofs.UnitLaws.{same_tidy}
 
 -- finitely many units depend on one another, what the scene says of them is decided, and a unit can't be started for one reason or none
 pub record IsFinite (scene : Scene) (units : List (List ℕ)) : Type 0 where
@@ -77,14 +76,6 @@ none_counts scene root unit counted none (restarted r) = absurd (none Restart r)
 none_counts scene root unit counted none (started nr s) = absurd (none Start s)
 none_counts scene root unit counted none (stopped nr ns p) = absurd (none Stop p)
 none_counts scene root unit counted none (left nr ns np) = refl
-
--- a unit that isn't held has no jobs
-not_held : (pending : ByUnit UnitJobs) (unit : List ℕ) → ¬ (Among (map.keys pending) unit) → jobs_of_unit pending unit ≡ no_jobs
-not_held pending unit none = by_entry (map.get pending unit) refl
-  where
-    by_entry : (o : Option UnitJobs) → map.get pending unit ≡ o → unwrap_or (map.get pending unit) no_jobs ≡ no_jobs
-    by_entry None e = ap (λ o. unwrap_or o no_jobs) e
-    by_entry (Some j) e = absurd (none (among_keys pending unit (ap is_some e)))
 
 -- ---- why a plan is refused
 
@@ -156,6 +147,20 @@ one_unless A B C one other r q (at_first h) (at_second none k) = absurd (none r 
 one_unless A B C one other r q (at_second none h) (at_first k) = absurd (none q k)
 one_unless A B C one other r q (at_second none h) (at_second neither k) = other r q h k
 
+-- the pending jobs have a cycle that refuses, or none
+pub cycle_or_no_refusal : (Before : List ℕ → List ℕ → Type 0) → ((x y : List ℕ) → IsDecided (Before x y)) → (pending : ByUnit UnitJobs) → OneOrNone (NamesCycle Before pending)
+cycle_or_no_refusal Before decided pending = by_cycle (jobs_cycle_or_none Before decided pending)
+  where
+    named : (cycle : List Job) → IsCycle (ComesBefore Before pending) cycle → OneOrNone (NamesCycle Before pending)
+    named cycle c =
+        let d = least_unit_first (ComesBefore Before pending) cycle c in
+        inl (ordering_cycle (units_of d.0), record { cycle = d.0; closed = d.1; least = d.2; refusal = refl })
+
+    by_cycle : ((cycle : List Job) × IsCycle (ComesBefore Before pending) cycle) ⊎ ((cycle : List Job) → ¬ (IsCycle (ComesBefore Before pending) cycle))
+        → OneOrNone (NamesCycle Before pending)
+    by_cycle (inl found) = named found.0 found.1
+    by_cycle (inr none) = inr (λ r h. none h.cycle h.closed)
+
 -- where no cause refuses the plan, its jobs have no cycle
 pub free_of_causes : (scene : Scene) (root : Demand × List ℕ) (mode : JobMode) (after : ByUnit UnitJobs) → ((r : Refused) → ¬ (CausesOfPlan scene root mode after r))
     → (cycle : List Job) → ¬ (IsCycle (ComesBefore scene.IsBefore after) cycle)
@@ -206,57 +211,32 @@ module _ (scene : Scene) (units : List (List ℕ)) (finite : IsFinite scene unit
   planned_jobs : List ℕ → UnitJobs
   planned_jobs unit = jobs_for (counts_some unit).0 (scene.activity unit) (jobs_of_unit scene.pending unit)
 
-  -- the plan of these units
-  plan_over : List (List ℕ) → ByUnit UnitJobs
-  plan_over [] = map.empty
-  plan_over (unit ∷ others) = with_jobs (plan_over others) unit (planned_jobs unit)
-
-  plan_tidy : (over : List (List ℕ)) → AreTidyJobs (plan_over over)
-  unfolding plan_over
-  plan_tidy [] = tidy_empty no_jobs
-  plan_tidy (unit ∷ others) = tidy_jobs (plan_over others) unit (planned_jobs unit) (plan_tidy others)
-
-  plan_there : (over : List (List ℕ)) (unit : List ℕ) → Among over unit → jobs_of_unit (plan_over over) unit ≡ planned_jobs unit
-  unfolding plan_over
-  plan_there [] unit none = absurd none
-  plan_there (other ∷ others) unit (inl is) =
-      ap (jobs_of_unit (with_jobs (plan_over others) other (planned_jobs other))) is ∙ (jobs_here (plan_over others) other (planned_jobs other) ∙ ap planned_jobs (sym is))
-  plan_there (other ∷ others) unit (inr later) =
-      elim (same_name unit other) as (λ _. jobs_of_unit (with_jobs (plan_over others) other (planned_jobs other)) unit ≡ planned_jobs unit) [
-        | inl is ↦ ap (jobs_of_unit (with_jobs (plan_over others) other (planned_jobs other))) is
-            ∙ (jobs_here (plan_over others) other (planned_jobs other) ∙ ap planned_jobs (sym is))
-        | inr apart ↦ jobs_apart (plan_over others) other (planned_jobs other) unit apart ∙ plan_there others unit later
-      ]
-
-  plan_elsewhere : (over : List (List ℕ)) (unit : List ℕ) → ¬ (Among over unit) → jobs_of_unit (plan_over over) unit ≡ no_jobs
-  unfolding plan_over
-  plan_elsewhere [] unit none = ap (λ o. unwrap_or o no_jobs) (map.get-empty (slice_cmp nat_cmp) unit)
-  plan_elsewhere (other ∷ others) unit none =
-      jobs_apart (plan_over others) other (planned_jobs other) unit (λ is. none (inl is)) ∙ plan_elsewhere others unit (λ later. none (inr later))
-
   -- the units of which a job can be pending before or after
   abbrev concerned : List (List ℕ)
   concerned = (root.1 ∷ units) ++ map.keys scene.pending
 
+  jobless : (unit : List ℕ) → ¬ (Among concerned unit) → planned_jobs unit ≡ no_jobs
+  unfolding planned_jobs
+  jobless unit isnt =
+      let nothing = none_counts scene root unit (counts_some unit).0 (λ d h. isnt (among_left (root.1 ∷ units) (map.keys scene.pending) unit (demands_within (d, unit) h))) (counts_some unit).1 in
+      ap (λ o. jobs_for o (scene.activity unit) (jobs_of_unit scene.pending unit)) nothing
+      ∙ not_held no_jobs scene.pending unit (λ key. isnt (among_right (root.1 ∷ units) (map.keys scene.pending) unit key))
+
   -- there is a plan
   pub a_plan : (after : ByUnit UnitJobs) × IsPlan scene root after
   unfolding planned_jobs
-  a_plan = (plan_over concerned, record { tidy = plan_tidy concerned; jobs = λ unit counted c. jobs_there unit counted c (among_or_not same_name concerned unit) })
+  a_plan = by_map (a_job_map planned_jobs concerned jobless)
     where
-      kept : (unit : List ℕ) (counted : Option Demand) → counted ≡ None → jobs_of_unit scene.pending unit ≡ no_jobs
-          → no_jobs ≡ jobs_for counted (scene.activity unit) (jobs_of_unit scene.pending unit)
-      kept unit counted none jobless = sym (ap (λ o. jobs_for o (scene.activity unit) (jobs_of_unit scene.pending unit)) none ∙ jobless)
-
-      jobs_there : (unit : List ℕ) (counted : Option Demand) → Counts scene root unit counted → IsDecided (Among concerned unit)
-          → jobs_of_unit (plan_over concerned) unit ≡ jobs_for counted (scene.activity unit) (jobs_of_unit scene.pending unit)
-      jobs_there unit counted c (inl is) =
-          plan_there concerned unit is
-          ∙ ap (λ o. jobs_for o (scene.activity unit) (jobs_of_unit scene.pending unit)) (counts_one scene root unit (counts_some unit).0 counted (counts_some unit).1 c)
-      jobs_there unit counted c (inr isnt) =
-          plan_elsewhere concerned unit isnt
-          ∙ kept unit counted
-          (none_counts scene root unit counted (λ d h. isnt (among_left (root.1 ∷ units) (map.keys scene.pending) unit (demands_within (d, unit) h))) c)
-          (not_held scene.pending unit (λ key. isnt (among_right (root.1 ∷ units) (map.keys scene.pending) unit key)))
+      by_map : (after : ByUnit UnitJobs) × AreTidyJobs after × ((unit : List ℕ) → jobs_of_unit after unit ≡ planned_jobs unit) → (after : ByUnit UnitJobs) × IsPlan scene root after
+      by_map (after, tidy, are) = (
+        after,
+        record {
+          tidy = tidy;
+          jobs = λ unit counted c.
+              are unit
+              ∙ ap (λ o. jobs_for o (scene.activity unit) (jobs_of_unit scene.pending unit)) (counts_one scene root unit (counts_some unit).0 counted (counts_some unit).1 c);
+        },
+      )
 
   -- ---- one cause or none
 
@@ -308,23 +288,10 @@ module _ (scene : Scene) (units : List (List ℕ)) (finite : IsFinite scene unit
       by_least (inl none) = inr (λ r h. none h.unit h.least.has)
       by_least (inr found) = inl (clash found.0, record { unit = found.0; least = found.1; refusal = refl })
 
-  named_or_none : (after : ByUnit UnitJobs) → OneOrNone (NamesCycle scene.IsBefore after)
-  named_or_none after = by_cycle (jobs_cycle_or_none scene.IsBefore finite.before after)
-    where
-      named : (cycle : List Job) → IsCycle (ComesBefore scene.IsBefore after) cycle → OneOrNone (NamesCycle scene.IsBefore after)
-      named cycle c =
-          let d = least_unit_first (ComesBefore scene.IsBefore after) cycle c in
-          inl (ordering_cycle (units_of d.0), record { cycle = d.0; closed = d.1; least = d.2; refusal = refl })
-
-      by_cycle : ((cycle : List Job) × IsCycle (ComesBefore scene.IsBefore after) cycle) ⊎ ((cycle : List Job) → ¬ (IsCycle (ComesBefore scene.IsBefore after) cycle))
-          → OneOrNone (NamesCycle scene.IsBefore after)
-      by_cycle (inl found) = named found.0 found.1
-      by_cycle (inr none) = inr (λ r h. none h.cycle h.closed)
-
   -- one cause refuses a plan, or none does
   pub cause_or_none : (mode : JobMode) (after : ByUnit UnitJobs) → OneOrNone (CausesOfPlan scene root mode after)
   cause_or_none mode after =
-      first_or_none _ _ barred_or_none (first_or_none _ _ clash_or_none (first_or_none _ _ (drop_or_none mode scene.pending after) (named_or_none after)))
+      first_or_none _ _ barred_or_none (first_or_none _ _ clash_or_none (first_or_none _ _ (drop_or_none mode scene.pending after) (cycle_or_no_refusal scene.IsBefore finite.before after)))
 
   one_barred : (r q : Refused) → NamesBarred scene root r → NamesBarred scene root q → r ≡ q
   one_barred r q h k =

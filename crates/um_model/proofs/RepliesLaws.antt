@@ -7,11 +7,11 @@ use Rattle.serde_json.specs.Data.{string}
 use Rattle.serde_json.specs.View.{items_of}
 use Rattle.serde_json.specs.Written.{has_float, items_have_float, compact_text}
 use Rattle.um_model.specs.Jobs.{JobShown}
-use Rattle.um_model.specs.Machine.{Reply, Done, Shown, Activity, Files, Relinked, EnabledAs, Jobs, Told, Refusal}
+use Rattle.um_model.specs.Machine.{Reply, Done, Shown, Activity, Files, Relinked, EnabledAs, Listed, Jobs, Told, Refusal, UnitListed}
 use Rattle.um_model.specs.Resolution.{UnitFile}
 use Rattle.um_model.specs.Service.{Action, SpawnProcess, SendSignal}
 use Rattle.um_model.specs.Refusals.{Refused, too_large}
-use Rattle.um_model.specs.Replies.{warning_data, file_data, job_data, action_data, refused_data, reply_data, reply_text, within_limit}
+use Rattle.um_model.specs.Replies.{warning_data, file_data, unit_data, job_data, action_data, refused_data, reply_data, reply_text, within_limit}
 use Rattle.um_model.specs.Units.{Warning}
 use Rattle.um_model.specs.declared.refusals.Limit.TheVariants.{Reply as ReplyLimit}
 
@@ -35,6 +35,10 @@ files_plain : (files : List UnitFile) → items_have_float (items_of (map file_d
 files_plain [] = refl
 files_plain (f ∷ fs) = files_plain fs
 
+units_plain : (units : List UnitListed) → items_have_float (items_of (map unit_data units)) ≡ false
+units_plain [] = refl
+units_plain (u ∷ us) = units_plain us
+
 jobs_plain : (jobs : List JobShown) → items_have_float (items_of (map job_data jobs)) ≡ false
 jobs_plain [] = refl
 jobs_plain (j ∷ js) = jobs_plain js
@@ -50,6 +54,7 @@ reply_plain (Activity state) = refl
 reply_plain (Files files) = rw (files_plain files) refl
 reply_plain (Relinked made removed) = rw (texts_plain made, texts_plain removed) refl
 reply_plain (EnabledAs answer) = refl
+reply_plain (Listed units) = rw (units_plain units) refl
 reply_plain (Jobs jobs) = rw (jobs_plain jobs) refl
 reply_plain (Told actions) = rw (actions_plain actions) refl
 reply_plain (Refusal r) = refused_plain r

@@ -7,62 +7,44 @@ use Rattle.std.specs.Ordering.{nat_cmp, eq_by_cmp}
 use Rattle.std.proofs.lemmas.Bool.{cases_lt}
 use Rattle.std.proofs.lemmas.Map.Lookups.{exact_bytes}
 use Rattle.std.proofs.lemmas.Map.Views.{tells_apart}
+use Rattle.std.proofs.lemmas.Option.{none-some}
 use Rattle.um_model.specs.Service.{Action, ByUnit, active_state_of, dead_unit, state_of_unit}
-use Rattle.um_model.specs.Jobs.{Job, stop_job, start_job, no_jobs, jobs_of_unit, job_of, state_of_job, Unordered, GoesBefore, starts, stops, stops_then_starts, stops_then_starts_before, of_one_unit, ComesBefore, IsWaiting, IsReady, IsToldBefore, by_name, stop_first, BeginsNext}
+use Rattle.um_model.specs.Jobs.{Job, stop_job, start_job, jobs_of_unit, state_of_job, ComesBefore, IsReady, IsToldBefore, by_name, stop_first, BeginsNext}
 use Rattle.um_model.specs.Timers.{Timers, IsDueFirst}
-use Rattle.um_model.specs.Machine.{State, Carries, change_of, changed, acting_in, around, begins, begun, IsBefore, IsStill, Settles, begins_next, AreDeadlines, Fires, none_due, fires, passes}
+use Rattle.um_model.specs.Machine.{State, fails_start, Becomes, alone, along, Carries, change_of, changed, acting_in, around, begins, begun, IsBefore, IsStill, Settles, begins_next, AreDeadlines, Fires, none_due, fires, passes}
 use Rattle.um_model.specs.declared.jobs.JobKind.{JobKind}
 use Rattle.um_model.specs.declared.jobs.JobKind.TheVariants.{Stop, Start}
-use Rattle.um_model.specs.declared.jobs.JobState.{JobState}
 use Rattle.um_model.specs.declared.jobs.JobState.TheVariants.{Waiting}
 use Rattle.um_model.specs.declared.jobs.UnitJobs.{UnitJobs}
 use Rattle.um_model.specs.declared.service.ActiveState.{ActiveState}
 use Rattle.um_model.specs.declared.service.ActiveState.TheVariants.{Inactive, Activating, Active, Deactivating, Failed}
 use Rattle.um_model.specs.declared.service.UnitState.{UnitState}
+use Rattle.um_model.specs.declared.transition.Change.{Change}
 use Rattle.um_model.specs.declared.transition.UnitEvent.{UnitEvent}
 use Rattle.um_model.specs.declared.transition.UnitEvent.TheVariants.{DeadlinePasses}
+use Rattle.um_model.proofs.AlongLaws.{before_or_not}
+use Rattle.um_model.proofs.AlongTotal.{an_along}
+use Rattle.um_model.proofs.AmongLaws.{any_decided, both_decided, decided_as, not_decided}
+use Rattle.um_model.proofs.CycleLaws.{among_pending, comes_or_not, jobs_of}
 use Rattle.um_model.proofs.DeadlinesLaws.{with_deadline, get_with, or_else}
-use Rattle.um_model.proofs.LeastLaws.{IsDecided, Among, a_least}
+use Rattle.um_model.proofs.LeastLaws.{IsDecided, a_least}
 use Rattle.um_model.proofs.MachineLaws.{same_job}
 use Rattle.um_model.proofs.SameUnits.{same_job_state}
-use Rattle.um_model.proofs.TimersLaws.{same_name, same_number, same_option, one_named_first, named_trans, among_keys, first_timer, first_is_late, fewer_timers}
+use Rattle.um_model.proofs.TimersLaws.{same_name, same_number, same_option, one_named_first, named_trans, first_timer, first_is_late, fewer_timers}
 use Rattle.um_model.proofs.TransitionLaws.{have_actions}
 use Rattle.um_model.proofs.WaitingLaws.{NoMoreWait, waiting, begun_fewer, begun_no_more}
 
 -- ---- a job is ready or not
 
--- where no unit goes before another, a job goes before the start of its unit alone
-goes_only : (other job : Job) → GoesBefore Unordered other job → (unit : List ℕ) × (other ≡ stop_job unit) × (job ≡ start_job unit)
-goes_only other job (starts never) = absurd never
-goes_only other job (stops never) = absurd never
-goes_only other job (stops_then_starts never) = absurd never
-goes_only other job (stops_then_starts_before never) = absurd never
-goes_only other job (of_one_unit {x = unit}) = (unit, refl, refl)
+-- no pending job comes before the job
+abbrev IsFree : State → Job → Type 0
+IsFree s job = (other : Job) → ¬ (ComesBefore (IsBefore s.loaded) s.pending other job)
 
--- nothing comes before the job
-abbrev IsFree : ByUnit UnitJobs → Job → Type 0
-IsFree pending job = (other : Job) → ¬ (ComesBefore Unordered pending other job)
-
-stop_is_free : (pending : ByUnit UnitJobs) (unit : List ℕ) → IsFree pending (stop_job unit)
-stop_is_free pending unit other comes = let kind = ap (λ (j : Job). j.kind) (goes_only other (stop_job unit) comes.goes).2 in cc
-
-start_is_free : (pending : ByUnit UnitJobs) (unit : List ℕ) → (jobs_of_unit pending unit).stop ≡ None → IsFree pending (start_job unit)
-start_is_free pending unit none other comes =
-    let only = goes_only other (start_job unit) comes.goes in
-    comes.pends (ap (state_of_job pending) only.1 ∙ (ap (λ (j : Job). (jobs_of_unit pending j.unit).stop) (sym only.2) ∙ none))
-
-start_isnt_free : (pending : ByUnit UnitJobs) (unit : List ℕ) (state : JobState) → IsWaiting pending (start_job unit) → (jobs_of_unit pending unit).stop ≡ Some state
-    → ¬ (IsFree pending (start_job unit))
-start_isnt_free pending unit state waits is free = free (stop_job unit) (record { pends = λ none. cc; waits = waits; goes = of_one_unit })
-
-free_or_not : (pending : ByUnit UnitJobs) (unit : List ℕ) (kind : JobKind) → IsWaiting pending (record { unit = unit; kind = kind })
-    → IsDecided (IsFree pending (record { unit = unit; kind = kind }))
-free_or_not pending unit Stop waits = inl (stop_is_free pending unit)
-free_or_not pending unit Start waits =
-    elim (jobs_of_unit pending unit).stop as (λ o. (jobs_of_unit pending unit).stop ≡ o → IsDecided (IsFree pending (start_job unit))) [
-      | None ↦ λ none. inl (start_is_free pending unit none)
-      | Some state ↦ λ is. inr (start_isnt_free pending unit state waits is)
-    ] refl
+free_or_not : (s : State) (job : Job) → IsDecided (IsFree s job)
+free_or_not s job =
+    decided_as (λ none other comes. none (other, among_pending s.pending other comes.pends, comes)) (λ free any. free any.0 any.2)
+    (not_decided (any_decided (λ other. ComesBefore (IsBefore s.loaded) s.pending other job)
+    (λ other. comes_or_not (IsBefore s.loaded) (before_or_not s.loaded) s.pending other job) (jobs_of (map.keys s.pending))))
 
 -- a start doesn't find its unit deactivating
 abbrev IsUndisturbed : JobKind → ActiveState → Type 0
@@ -76,22 +58,12 @@ undisturbed_or_not Start Active = inl (λ _ e. cc)
 undisturbed_or_not Start Deactivating = inr (λ still. still refl refl)
 undisturbed_or_not Start Failed = inl (λ _ e. cc)
 
--- a job is ready or not, in the order that puts no unit before another
-pub ready_or_not : (units : ByUnit UnitState) (pending : ByUnit UnitJobs) (job : Job) → IsDecided (IsReady Unordered units pending job)
-ready_or_not units pending job = by_state (same_option same_job_state (state_of_job pending job) (Some Waiting))
-  where
-    by_active : IsWaiting pending job → IsFree pending job → IsDecided (IsUndisturbed job.kind (active_state_of (state_of_unit units job.unit).sub))
-        → IsDecided (IsReady Unordered units pending job)
-    by_active waits free (inl still) = inl (record { waits = waits; free = free; still = still })
-    by_active waits free (inr down) = inr (λ ready. down ready.still)
-
-    by_order : IsWaiting pending job → IsDecided (IsFree pending job) → IsDecided (IsReady Unordered units pending job)
-    by_order waits (inl free) = by_active waits free (undisturbed_or_not job.kind (active_state_of (state_of_unit units job.unit).sub))
-    by_order waits (inr behind) = inr (λ ready. behind ready.free)
-
-    by_state : IsDecided (IsWaiting pending job) → IsDecided (IsReady Unordered units pending job)
-    by_state (inl waits) = by_order waits (free_or_not pending job.unit job.kind waits)
-    by_state (inr idle) = inr (λ ready. idle ready.waits)
+-- a job is ready or not
+pub ready_or_not : (s : State) (job : Job) → IsDecided (IsReady (IsBefore s.loaded) s.units s.pending job)
+ready_or_not s job =
+    decided_as (λ h. record { waits = h.0; free = h.1.0; still = h.1.1 }) (λ ready. (ready.waits, (ready.free, ready.still)))
+    (both_decided (same_option same_job_state (state_of_job s.pending job) (Some Waiting))
+    (both_decided (free_or_not s job) (undisturbed_or_not job.kind (active_state_of (state_of_unit s.units job.unit).sub))))
 
 -- ---- the job that begins next
 
@@ -121,27 +93,11 @@ told_first a b apart = elim (same_name a.unit b.unit) as (λ _. IsToldBefore a b
     of_unit Stop Start e f same = inl (stop_told a b same e f)
     of_unit Start Stop e f same = inr (stop_told b a (sym same) f e)
 
--- the jobs that these units may have
-abbrev jobs_of : List (List ℕ) → List Job
-jobs_of [] = []
-jobs_of (unit ∷ units) = stop_job unit ∷ (start_job unit ∷ jobs_of units)
-
-among_jobs : (units : List (List ℕ)) (unit : List ℕ) (kind : JobKind) → Among units unit → Among (jobs_of units) (record { unit = unit; kind = kind })
-among_jobs [] unit kind none = none
-among_jobs (first ∷ units) unit Stop (inl is) = inl (ap stop_job is)
-among_jobs (first ∷ units) unit Start (inl is) = inr (inl (ap start_job is))
-among_jobs (first ∷ units) unit kind (inr later) = inr (inr (among_jobs units unit kind later))
-
-job_is_held : (kind : JobKind) (o : Option UnitJobs) → job_of kind (unwrap_or o no_jobs) ≡ Some Waiting → is_some o ≡ true
-job_is_held kind (Some jobs) waits = refl
-job_is_held Stop None waits = cc
-job_is_held Start None waits = cc
-
 -- no job is ready, or one begins next
 pub still_or_next : (s : State) → IsStill s ⊎ ((j : Job) × BeginsNext (IsBefore s.loaded) s.units s.pending j)
 still_or_next s =
-    a_least IsToldBefore (IsReady (IsBefore s.loaded) s.units s.pending) same_job told_trans told_first (ready_or_not s.units s.pending) (jobs_of (map.keys s.pending))
-    (λ j ready. among_jobs (map.keys s.pending) j.unit j.kind (among_keys s.pending j.unit (job_is_held j.kind (map.get s.pending j.unit) ready.waits)))
+    a_least IsToldBefore (IsReady (IsBefore s.loaded) s.units s.pending) same_job told_trans told_first (ready_or_not s) (jobs_of (map.keys s.pending))
+    (λ j ready. among_pending s.pending j (λ none. none-some Waiting (sym none ∙ ready.waits)))
 
 -- ---- settling ends
 
@@ -149,12 +105,23 @@ still_or_next s =
 abbrev pub HasOutcome : (List Action → State → Type 0) → Type 0
 HasOutcome Is = (actions : List Action) × (v : State) × Is actions v
 
+-- a change of a unit has its state
+a_becoming : (s : State) (unit : List ℕ) (c : Change) → (v : State) × Becomes s unit c v
+a_becoming s unit c = by_test (fails_start c.start (jobs_of_unit s.pending unit).start) refl
+  where
+    by_test : (fails : Bool) → fails_start c.start (jobs_of_unit s.pending unit).start ≡ fails → (v : State) × Becomes s unit c v
+    by_test false e = (changed s unit c, alone e)
+    by_test true e =
+        let taken = an_along (changed s unit c) unit in
+        (taken.0, along e taken.1)
+
 -- what happens to a unit is carried out
 pub a_carrying : (t : ℕ) (unit : List ℕ) (event : UnitEvent) (s : State) → HasOutcome (Carries t unit event s)
 a_carrying t unit event s =
     let c = change_of t s unit event in
     let asked = have_actions (acting_in s.loaded unit).settings (around t s unit) c.unit c.order in
-    (asked.0, changed s unit c, record { state = refl; asked = asked.1 })
+    let then = a_becoming s unit c in
+    (asked.0, then.0, record { state = then.1; asked = asked.1 })
 
 -- a job begins, and then the others
 settles_by : (t : ℕ) (first : ByUnit UnitJobs) (s : State) → NoMoreWait s.pending first

@@ -1,33 +1,34 @@
 -- Each state and input has a step: a command is refused or changes the state, and what happens has an effect or none.
 use Rattle.std.proofs.Common.{ℕ, ◌≡◌, ◌≢◌, ◌⊎◌, ◌∙◌, Bool, true, false, true≢false, List, [], ◌∷◌, Option, Some, None, Result, Ok, Err, refl, sym, ap, subst, inl, inr}
+use Rattle.std.proofs.lemmas.Option.{none-some, same_Some}
 use Rattle.std.specs.FinMap as map
 use Rattle.um_model.specs.Least.{IsNamedBefore}
-use Rattle.um_model.specs.Names.{is_template}
-use Rattle.um_model.specs.Refusals.{Refused, job_conflict, no_such_job, not_loaded}
+use Rattle.um_model.specs.Refusals.{Refused, at_first, at_second, no_room, no_such_job, not_loaded}
 use Rattle.um_model.specs.Tree.{Tree, put_file, put_link, remove_at}
-use Rattle.um_model.specs.Install.{RefusesInstall}
-use Rattle.um_model.specs.Units.{LoadedUnit, Loading, Found, Masked, NotFound, BadSetting, load}
+use Rattle.um_model.specs.Install.{Installs, RefusesInstall}
+use Rattle.um_model.specs.Units.{load}
 use Rattle.um_model.specs.Service.{Action, ByUnit, state_of_unit}
-use Rattle.um_model.specs.Jobs.{DropsOne, drops, job_of}
+use Rattle.um_model.specs.Plan.{IsPlan, CausesOfPlan}
 use Rattle.um_model.specs.Transitions.{HasNumber}
-use Rattle.um_model.specs.Machine.{State, Command, PutFile, PutLink, Remove, DaemonReload, ForUnit, Cancel, Install, Happening, ProcessEnded, Tick, Event, Commanded, Happened, Input, Reply, Done, Refusal, IsProcessOf, IsOver, end_of, Follows, ends, ticks, HasNoEffect, is_over, is_idle, is_served_kind, is_found, CannotStart, isnt_found, is_masked, has_bad_setting, is_of_another_kind, is_a_template, active_asked, starts_it, wants_it_there, jobs_asked, jobs_planned, unit_asked, IsNotThere, IsMissing, has_waiting, HasNoneWaiting, CausesOfCancel, StartsNone, DropsAJob, CausesOf, Refuses, puts_none, links_none, removes_none, plans_none, cancels_none, installs_none, Changes, puts, links, removes, reloads, plans, cancels, installs, obeys, meets, moment_of, Step, refused, idle, taken}
+use Rattle.um_model.specs.Machine.{State, Command, PutFile, PutLink, Remove, DaemonReload, ForUnit, Cancel, Install, Happening, ProcessEnded, Tick, Event, Commanded, Happened, Input, Reply, Done, Refusal, IsHeld, IsHeldOr, IsBefore, IsProcessOf, IsOver, end_of, Follows, ends, ticks, HasNoEffect, is_over, is_idle, is_found, active_asked, demand_of, wants_it_there, jobs_asked, unit_asked, scene_at, IsNotThere, IsMissing, HasNoPlan, has_waiting, HasNoneWaiting, CausesOfCancel, CausesOf, CausesOfLoad, Refuses, puts_none, links_none, removes_none, plans_none, cancels_none, reloads_none, installs_none, Changes, puts, links, removes, reloads, plans, demands_nothing, cancels, installs, Takes, obeys, meets, moment_of, HasNoRoom, Step, refused, crowded_out, idle, taken}
 use Rattle.um_model.specs.declared.commands.JobMode.{JobMode}
-use Rattle.um_model.specs.declared.commands.JobMode.TheVariants as modes
 use Rattle.um_model.specs.declared.commands.UnitVerb.{UnitVerb}
+use Rattle.um_model.specs.declared.dependencies.Demand.{Demand}
 use Rattle.um_model.specs.declared.install.InstallVerb.{InstallVerb}
-use Rattle.um_model.specs.declared.jobs.JobKind.{JobKind}
-use Rattle.um_model.specs.declared.jobs.JobKind.TheVariants.{Stop, Start}
-use Rattle.um_model.specs.declared.jobs.JobState.{JobState}
 use Rattle.um_model.specs.declared.jobs.UnitJobs.{UnitJobs}
 use Rattle.um_model.specs.declared.service.End.{End}
 use Rattle.um_model.specs.declared.service.UnitState.{UnitState}
-use Rattle.um_model.proofs.InstallLaws.{an_install}
+use Rattle.um_model.proofs.AlongLaws.{before_or_not}
 use Rattle.um_model.proofs.CausesLaws.{OneOrNone, first_or_none}
+use Rattle.um_model.proofs.CrowdedLaws.{crowded_or_none, heavy_or_not}
+use Rattle.um_model.proofs.InstallLaws.{an_install, one_install}
 use Rattle.um_model.proofs.KeepsLaws.{fires_keeps, same_state, Keeps}
 use Rattle.um_model.proofs.LeastLaws.{IsDecided, a_least}
 use Rattle.um_model.proofs.MachineLaws.{tick_has_effect, end_has_effect}
-use Rattle.um_model.proofs.SameUnits.{same_units, same_pending, same_job_state}
+use Rattle.um_model.proofs.PlannedLaws.{IsFinite, a_plan, cause_or_none, cycle_or_no_refusal, one_plan}
+use Rattle.um_model.proofs.SameUnits.{same_units, same_pending}
 use Rattle.um_model.proofs.ScanLaws.{held_with_number}
+use Rattle.um_model.proofs.SceneLaws.{finite_scene, held_list, held_or_list}
 use Rattle.um_model.proofs.SettleLaws.{HasOutcome, a_carrying, a_settling, a_firing, a_deadline_map}
 use Rattle.um_model.proofs.TimersLaws.{same_name, same_number, same_option, one_named_first, named_trans, among_keys}
 
@@ -49,69 +50,67 @@ there_or_not s verb asked = by_tests (wants_it_there verb) (missing_or_not s ask
     by_tests true (inl missing) e = inl (missing.0, record { wanted = e; missing = missing.1 })
     by_tests true (inr none) e = inr (λ r h. none r h.missing)
 
-found_starts : (asked : List ℕ) (l : LoadedUnit) → OneOrNone (CannotStart asked (Found l))
-found_starts asked l = by_tests (is_served_kind l.settings.service.kind) (is_template l.name) refl refl
-  where
-    none : is_served_kind l.settings.service.kind ≡ true → is_template l.name ≡ false → (r : Refused) → ¬ (CannotStart asked (Found l) r)
-    none served single r (is_of_another_kind other) = true≢false (sym served ∙ other)
-    none served single r (is_a_template too template) = true≢false (sym template ∙ single)
+-- the plan of what a command demands
+module _ (s : State) (verb : UnitVerb) (asked : List ℕ) (mode : JobMode) where
+  -- where it demands nothing, no plan is refused
+  nothing_planned : demand_of verb (active_asked s asked) ≡ None → (r : Refused) → ¬ (HasNoPlan s verb asked mode r)
+  nothing_planned none r h = none-some h.demand (sym none ∙ h.demanded)
 
-    by_tests : (served template : Bool) → is_served_kind l.settings.service.kind ≡ served → is_template l.name ≡ template → OneOrNone (CannotStart asked (Found l))
-    by_tests false template e f = inl (_, is_of_another_kind e)
-    by_tests true true e f = inl (_, is_a_template e f)
-    by_tests true false e f = inr (none e f)
+  module _ (demand : Demand) (demanded : demand_of verb (active_asked s asked) ≡ Some demand) where
+    abbrev named : List ℕ
+    named = unit_asked s asked
 
-can_start : (asked : List ℕ) (found : Loading) → OneOrNone (CannotStart asked found)
-can_start asked (Found l) = found_starts asked l
-can_start asked (Masked unit) = inl (_, is_masked)
-can_start asked NotFound = inl (_, isnt_found)
-can_start asked (BadSetting unit reason) = inl (_, has_bad_setting)
+    a_plan_made : (after : ByUnit UnitJobs) × IsPlan (scene_at s named) (demand, named) after
+    a_plan_made = by_scene (finite_scene s named)
+      where
+        by_scene : (units : List (List ℕ)) × IsFinite (scene_at s named) units → (after : ByUnit UnitJobs) × IsPlan (scene_at s named) (demand, named) after
+        by_scene (units, finite) = a_plan (scene_at s named) units finite (demand, named)
 
-starts_or_not : (s : State) (verb : UnitVerb) (asked : List ℕ) → OneOrNone (StartsNone s verb asked)
-starts_or_not s verb asked = by_tests (starts_it verb (active_asked s asked)) (can_start asked (load s.loaded asked)) refl
-  where
-    by_tests : (starts : Bool) → OneOrNone (CannotStart asked (load s.loaded asked)) → starts_it verb (active_asked s asked) ≡ starts → OneOrNone (StartsNone s verb asked)
-    by_tests false causes e = inr (λ r h. true≢false (sym h.starts ∙ e))
-    by_tests true (inl found) e = inl (found.0, record { starts = e; cause = found.1 })
-    by_tests true (inr none) e = inr (λ r h. none r h.cause)
+    -- where nothing refuses this plan, no other is refused
+    none_refused : (after : ByUnit UnitJobs) → IsPlan (scene_at s named) (demand, named) after → ((r : Refused) → ¬ (CausesOfPlan (scene_at s named) (demand, named) mode after r))
+        → (r : Refused) → ¬ (HasNoPlan s verb asked mode r)
+    none_refused after plan free r h =
+        let same = same_Some h.demand demand (sym h.demanded ∙ demanded) in
+        let other = subst (λ d. IsPlan (scene_at s named) (d, named) h.after) same h.plan in
+        let cause = subst (λ d. CausesOfPlan (scene_at s named) (d, named) mode h.after r) same h.cause in
+        let finite = finite_scene s named in
+        free r (subst (λ p. CausesOfPlan (scene_at s named) (demand, named) mode p r) (one_plan (scene_at s named) finite.0 finite.1 (demand, named) h.after after other plan) cause)
 
--- the job of this kind is dropped or not
-abbrev Drops : UnitJobs → UnitJobs → JobKind → Type 0
-Drops before after kind = (state : JobState) × (job_of kind before ≡ Some state) × (job_of kind after ≢ Some state)
+    plan_refused_or_not : OneOrNone (HasNoPlan s verb asked mode)
+    plan_refused_or_not = by_cause a_plan_made (finite_scene s named)
+      where
+        by_refusal : (after : ByUnit UnitJobs) → IsPlan (scene_at s named) (demand, named) after → OneOrNone (CausesOfPlan (scene_at s named) (demand, named) mode after)
+            → OneOrNone (HasNoPlan s verb asked mode)
+        by_refusal after plan (inl found) = inl (found.0, record { demand = demand; demanded = demanded; after = after; plan = plan; cause = found.1 })
+        by_refusal after plan (inr free) = inr (none_refused after plan free)
 
-drops_or_not : (before after : UnitJobs) (kind : JobKind) → IsDecided (Drops before after kind)
-drops_or_not before after kind = by_job (job_of kind before) refl
-  where
-    by_job : (o : Option JobState) → job_of kind before ≡ o → IsDecided (Drops before after kind)
-    by_job None e = inr (λ dropped. let is = dropped.1 in cc)
-    by_job (Some state) e = elim (same_option same_job_state (job_of kind after) (Some state)) as (λ _. IsDecided (Drops before after kind)) [
-      | inr apart ↦ inl (state, e, apart)
-      | inl stays ↦ inr (λ dropped. dropped.2 (stays ∙ (sym e ∙ dropped.1)))
-    ]
+        by_cause : (after : ByUnit UnitJobs) × IsPlan (scene_at s named) (demand, named) after → (units : List (List ℕ)) × IsFinite (scene_at s named) units
+            → OneOrNone (HasNoPlan s verb asked mode)
+        by_cause (after, plan) (units, finite) = by_refusal after plan (cause_or_none (scene_at s named) units finite (demand, named) mode after)
 
-one_dropped : (before after : UnitJobs) → IsDecided (DropsOne before after)
-one_dropped before after = by_kinds (drops_or_not before after Stop) (drops_or_not before after Start)
-  where
-    none : ¬ (Drops before after Stop) → ¬ (Drops before after Start) → ¬ (DropsOne before after)
-    none stop start (drops Stop state was isnt) = stop (state, was, isnt)
-    none stop start (drops Start state was isnt) = start (state, was, isnt)
+  -- one cause refuses what is demanded, or none does
+  plan_or_none : OneOrNone (HasNoPlan s verb asked mode)
+  plan_or_none = by_demand (demand_of verb (active_asked s asked)) refl
+    where
+      by_demand : (o : Option Demand) → demand_of verb (active_asked s asked) ≡ o → OneOrNone (HasNoPlan s verb asked mode)
+      by_demand None e = inr (nothing_planned e)
+      by_demand (Some demand) e = plan_refused_or_not demand e
 
-    by_kinds : IsDecided (Drops before after Stop) → IsDecided (Drops before after Start) → IsDecided (DropsOne before after)
-    by_kinds (inl is) start = inl (drops Stop is.0 is.1 is.2)
-    by_kinds (inr isnt) (inl is) = inl (drops Start is.0 is.1 is.2)
-    by_kinds (inr isnt) (inr too) = inr (none isnt too)
+  -- where nothing refuses the command, a state follows
+  a_planned : (u : State) × Changes s (ForUnit verb asked mode) u
+  a_planned = by_demand (demand_of verb (active_asked s asked)) refl
+    where
+      by_demand : (o : Option Demand) → demand_of verb (active_asked s asked) ≡ o → (u : State) × Changes s (ForUnit verb asked mode) u
+      by_demand None e = (s, demands_nothing e)
+      by_demand (Some demand) e =
+          let made = a_plan_made demand e in
+          (record s { pending = made.0 }, plans e made.1)
 
-job_dropped : (mode : JobMode) (unit : List ℕ) (before after : UnitJobs) → OneOrNone (DropsAJob mode unit before after)
-job_dropped modes.Replace unit before after = inr (λ r h. let is = h.fails in cc)
-job_dropped modes.Fail unit before after = elim (one_dropped before after) as (λ _. OneOrNone (DropsAJob modes.Fail unit before after)) [
-  | inl is ↦ inl (job_conflict unit, record { fails = refl; drops = is; refusal = refl })
-  | inr isnt ↦ inr (λ r h. isnt h.drops)
-]
-
-planned_or_not : (s : State) (verb : UnitVerb) (asked : List ℕ) (mode : JobMode) → OneOrNone (CausesOf s verb asked mode)
-planned_or_not s verb asked mode =
-    first_or_none _ _ (there_or_not s verb asked)
-    (first_or_none _ _ (starts_or_not s verb asked) (job_dropped mode (unit_asked s asked) (jobs_asked s asked) (jobs_planned s verb asked)))
+  -- and so of all causes
+  planned_or_not : OneOrNone (CausesOf s verb asked mode)
+  planned_or_not =
+      let held = held_or_list s (unit_asked s asked) in
+      first_or_none _ _ (crowded_or_none (IsHeldOr s (unit_asked s asked)) held.0 held.1 s.loaded) (first_or_none _ _ (there_or_not s verb asked) plan_or_none)
 
 -- ---- a command is refused or changes the state
 
@@ -143,12 +142,22 @@ removal_becomes s path (Ok tree) e = inr (free, (_, removes e))
     free : (r : Refused) → ¬ (Refuses s (Remove path) r)
     free r (removes_none f) = isnt_refused (remove_at s.tree path) tree r e f
 
-reload_is_free : (s : State) (r : Refused) → ¬ (Refuses s DaemonReload r)
-reload_is_free s r h = elim h [ ]
+-- one cause keeps a tree from being loaded, or none does
+load_or_none : (s : State) (tree : Tree) → OneOrNone (CausesOfLoad s tree)
+load_or_none s tree =
+    let held = held_list s in
+    first_or_none _ _ (crowded_or_none (IsHeld s) held.0 held.1 tree) (cycle_or_no_refusal (IsBefore tree) (before_or_not tree) s.pending)
+
+reload_becomes : (s : State) → OneOrNone (CausesOfLoad s s.tree) → Becomes s DaemonReload
+reload_becomes s (inl found) = inl (found.0, reloads_none found.1)
+reload_becomes s (inr none) = inr (free, (_, reloads))
+  where
+    free : (r : Refused) → ¬ (Refuses s DaemonReload r)
+    free r (reloads_none h) = none r h
 
 plan_becomes : (s : State) (verb : UnitVerb) (asked : List ℕ) (mode : JobMode) → OneOrNone (CausesOf s verb asked mode) → Becomes s (ForUnit verb asked mode)
 plan_becomes s verb asked mode (inl found) = inl (found.0, plans_none found.1)
-plan_becomes s verb asked mode (inr none) = inr (free, (_, plans))
+plan_becomes s verb asked mode (inr none) = inr (free, a_planned s verb asked mode)
   where
     free : (r : Refused) → ¬ (Refuses s (ForUnit verb asked mode) r)
     free r (plans_none h) = none r h
@@ -168,19 +177,29 @@ cancel_becomes s asked (inr none) = inr (free, (_, cancels))
     free r (cancels_none h) = none r h
 
 install_becomes : (s : State) (verb : InstallVerb) (unit : List ℕ) → Becomes s (Install verb unit)
-install_becomes s verb unit = elim (an_install s.tree verb unit) as (λ _. Becomes s (Install verb unit)) [
-  | inl found ↦ inl (found.0, installs_none found.1)
-  | inr changes ↦ inr (is_free changes.0, (_, installs changes.1.1))
-]
+install_becomes s verb unit = by_tree (an_install s.tree verb unit)
   where
-    is_free : ((r : Refused) → ¬ (RefusesInstall s.tree verb unit r)) → (r : Refused) → ¬ (Refuses s (Install verb unit) r)
-    is_free none r (installs_none h) = none r h
+    is_free : (tree : Tree) → Installs s.tree verb unit tree → ((r : Refused) → ¬ (RefusesInstall s.tree verb unit r)) → ((r : Refused) → ¬ (CausesOfLoad s tree r))
+        → (r : Refused) → ¬ (Refuses s (Install verb unit) r)
+    is_free tree made none free r (installs_none (at_first h)) = none r h
+    is_free tree made none free r (installs_none (at_second _ h)) =
+        free r (subst (λ t. CausesOfLoad s t r) (one_install s.tree verb unit h.tree tree h.installs made) h.cause)
+
+    by_load : (tree : Tree) → Installs s.tree verb unit tree → ((r : Refused) → ¬ (RefusesInstall s.tree verb unit r)) → OneOrNone (CausesOfLoad s tree)
+        → Becomes s (Install verb unit)
+    by_load tree made none (inl found) = inl (found.0, installs_none (at_second none (record { tree = tree; installs = made; cause = found.1 })))
+    by_load tree made none (inr free) = inr (is_free tree made none free, (_, installs made))
+
+    by_tree : ((r : Refused) × RefusesInstall s.tree verb unit r) ⊎ (((r : Refused) → ¬ (RefusesInstall s.tree verb unit r)) × ((tree : Tree) × Installs s.tree verb unit tree))
+        → Becomes s (Install verb unit)
+    by_tree (inl found) = inl (found.0, installs_none (at_first found.1))
+    by_tree (inr changes) = by_load changes.1.0 changes.1.1 changes.0 (load_or_none s changes.1.0)
 
 command_becomes : (s : State) (command : Command) → Becomes s command
 command_becomes s (PutFile path text) = put_becomes s path text (put_file s.tree path text) refl
 command_becomes s (PutLink path target) = link_becomes s path target (put_link s.tree path target) refl
 command_becomes s (Remove path) = removal_becomes s path (remove_at s.tree path) refl
-command_becomes s DaemonReload = inr (reload_is_free s, (_, reloads))
+command_becomes s DaemonReload = reload_becomes s (load_or_none s s.tree)
 command_becomes s (ForUnit verb asked mode) = plan_becomes s verb asked mode (planned_or_not s verb asked mode)
 command_becomes s (Cancel asked) = cancel_becomes s asked (first_or_none _ _ (missing_or_not s asked) (waits_or_not s asked))
 command_becomes s (Install verb unit) = install_becomes s verb unit
@@ -250,15 +269,27 @@ happening_has_effect t s Tick = a_tick t s
 
 -- ---- a step
 
+-- what comes of an event has room or not
+room_or_not : (size : ℕ) (event : Event) (u : State) → IsDecided (HasNoRoom size event u)
+room_or_not size (Commanded command) u = heavy_or_not size u
+room_or_not size (Happened happening) u = inr (λ never. never)
+
+-- so that it is taken or crowded out
+taken_or_not : (size : ℕ) (s : State) (moment : ℕ) (event : Event) (actions : List Action) (u : State) → Takes (moment_of s moment) s event actions u
+    → IsDecided (HasNoRoom size event u) → HasStep size s moment event
+taken_or_not size s moment event actions u takes (inl heavy) = (Refusal no_room, [], s, crowded_out takes heavy)
+taken_or_not size s moment event actions u takes (inr light) = (_, actions, _, taken takes light)
+
 command_steps : (size : ℕ) (s : State) (moment : ℕ) (command : Command) → Becomes s command → HasStep size s moment (Commanded command)
 command_steps size s moment command (inl found) = (Refusal found.0, [], s, refused found.1)
 command_steps size s moment command (inr changes) =
     let settled = a_settling (moment_of s moment) changes.1.0 in
-    (_, settled.0, _, taken (obeys changes.0 changes.1.1 settled.2))
+    taken_or_not size s moment (Commanded command) settled.0 settled.1 (obeys changes.0 changes.1.1 settled.2) (room_or_not size (Commanded command) settled.1)
 
 happening_steps : (size : ℕ) (s : State) (moment : ℕ) (happening : Happening) → HasEffect (moment_of s moment) s happening → HasStep size s moment (Happened happening)
 happening_steps size s moment happening (inl none) = (Done, [], s, idle none)
-happening_steps size s moment happening (inr effect) = (Done, effect.1.0, _, taken (meets effect.0 effect.1.2))
+happening_steps size s moment happening (inr effect) =
+    taken_or_not size s moment (Happened happening) effect.1.0 effect.1.1 (meets effect.0 effect.1.2) (room_or_not size (Happened happening) effect.1.1)
 
 event_steps : (size : ℕ) (s : State) (moment : ℕ) (event : Event) → HasStep size s moment event
 event_steps size s moment (Commanded command) = command_steps size s moment command (command_becomes s command)

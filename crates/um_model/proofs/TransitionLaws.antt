@@ -47,7 +47,7 @@ held_at_rest result.NotLoaded w = refl
 held_at_rest result.Resources w = refl
 
 -- only the numbers count
-same_held : (sub : SubState) (w v : UnitState) → w.main ≡ v.main → w.control ≡ v.control → has_its_process sub w ≡ true → has_its_process sub v ≡ true
+pub same_held : (sub : SubState) (w v : UnitState) → w.main ≡ v.main → w.control ≡ v.control → has_its_process sub w ≡ true → has_its_process sub v ≡ true
 same_held Start w v m k h = subst (λ x. is_some x ≡ true) m h
 same_held Running w v m k h = subst (λ x. is_some x ≡ true) m h
 same_held Stop w v m k h = subst (λ x. is_some x ≡ true) k h

@@ -4,17 +4,19 @@ use Rattle.std.specs.FinMap as map
 use Rattle.std.specs.List.{list_any}
 use Rattle.std.specs.Ordering.{nat_cmp, eq_by_cmp}
 use Rattle.std.specs.Cmp.Lexicographic.{slice_cmp}
+use Rattle.std.proofs.lemmas.Bool.{cases_lt}
 use Rattle.std.proofs.lemmas.Map.Lookups.{exact_bytes}
 use Rattle.std.proofs.lemmas.Map.Views.{tells_apart}
 use Rattle.um_model.proofs.UnitLaws.{jobs_here, jobs_apart}
 use Rattle.um_model.specs.Jobs.{Job, job_of, jobs_of_unit, no_jobs, with_jobs, with_running, unless_running, start_left, jobs_left, BeginsNext}
-use Rattle.um_model.specs.Machine.{State, Carries, begins, begun, change_of, IsBefore}
+use Rattle.um_model.specs.Machine.{State, Carries, Becomes, alone, along, TakesAlong, begins, begun, changed, change_of, IsBefore}
 use Rattle.um_model.specs.Service.{ByUnit, Action}
 use Rattle.um_model.specs.declared.jobs.JobKind.{JobKind}
 use Rattle.um_model.specs.declared.jobs.JobKind.TheVariants.{Stop, Start}
 use Rattle.um_model.specs.declared.jobs.JobState.{JobState}
 use Rattle.um_model.specs.declared.jobs.JobState.TheVariants.{Waiting, Running}
 use Rattle.um_model.specs.declared.jobs.UnitJobs.{UnitJobs}
+use Rattle.um_model.specs.declared.transition.Change.{Change}
 use Rattle.um_model.specs.declared.transition.StartJob.{StartJob}
 use Rattle.um_model.specs.declared.transition.StartJob.TheVariants.{Stays, Ends, Fails}
 use Rattle.um_model.proofs.TimersLaws.{same_name}
@@ -94,23 +96,43 @@ running_waits Start j is =
     let one = ap waits is in
     omega arith
 
+-- where a start fails no more wait: what it takes along is gone
+along_no_more : (s : State) (failed : List ℕ) (v : State) → TakesAlong s failed v → NoMoreWait v.pending s.pending
+along_no_more s failed v h unit =
+    elim (cases_lt (waits_in (jobs_of_unit s.pending unit)) (waits_in (jobs_of_unit v.pending unit))) as (λ _. waits_in (jobs_of_unit v.pending unit) ≤ waits_in (jobs_of_unit s.pending unit)) [
+      | inl more ↦
+          let apart = h.other_jobs unit (λ taken. let e = ap waits_in (h.starts unit taken) in omega arith) in
+          absurd (let e = ap waits_in apart in omega arith)
+      | inr most ↦ most
+    ]
+
+-- nor after a change of a unit, beyond that unit's own jobs
+becomes_no_more : (s : State) (unit : List ℕ) (c : Change) (v : State) → Becomes s unit c v → NoMoreWait v.pending (changed s unit c).pending
+becomes_no_more s unit c v (alone holds) other = omega arith
+becomes_no_more s unit c v (along fails h) other = along_no_more (changed s unit c) unit v h other
+
 -- a job begins: one fewer waits
 module _ (t : ℕ) (s u : State) (new : List Action) (j : Job) (next : BeginsNext (IsBefore s.loaded) s.units s.pending j) (happens : Carries t j.unit (begins j.kind) (begun s j) new u) where
   now_left : UnitJobs
   now_left = jobs_left (change_of t (begun s j) j.unit (begins j.kind)).start (change_of t (begun s j) j.unit (begins j.kind)).stop_ends (jobs_of_unit (begun s j).pending j.unit)
 
-  after_it : u.pending ≡ with_jobs (begun s j).pending j.unit now_left
-  unfolding now_left
-  after_it = ap (λ x. x.pending) happens.state
+  -- the pending jobs before a start that fails takes any along
+  at_first : ByUnit UnitJobs
+  at_first = with_jobs (begun s j).pending j.unit now_left
 
-  here : jobs_of_unit u.pending j.unit ≡ now_left
-  here = ap (λ p. jobs_of_unit p j.unit) after_it ∙ jobs_here (begun s j).pending j.unit now_left
+  no_more_later : NoMoreWait u.pending at_first
+  unfolding at_first now_left
+  no_more_later = becomes_no_more (begun s j) j.unit (change_of t (begun s j) j.unit (begins j.kind)) u happens.state
 
-  elsewhere : (other : List ℕ) → other ≢ j.unit → jobs_of_unit u.pending other ≡ jobs_of_unit s.pending other
+  here : jobs_of_unit at_first j.unit ≡ now_left
+  unfolding at_first
+  here = jobs_here (begun s j).pending j.unit now_left
+
+  elsewhere : (other : List ℕ) → other ≢ j.unit → jobs_of_unit at_first other ≡ jobs_of_unit s.pending other
+  unfolding at_first
   elsewhere other apart =
-      ap (λ p. jobs_of_unit p other) after_it
-      ∙ (jobs_apart (begun s j).pending j.unit now_left other apart
-      ∙ jobs_apart s.pending j.unit (with_running j.kind (jobs_of_unit s.pending j.unit)) other apart)
+      jobs_apart (begun s j).pending j.unit now_left other apart
+      ∙ jobs_apart s.pending j.unit (with_running j.kind (jobs_of_unit s.pending j.unit)) other apart
 
   running : jobs_of_unit (begun s j).pending j.unit ≡ with_running j.kind (jobs_of_unit s.pending j.unit)
   running = jobs_here s.pending j.unit (with_running j.kind (jobs_of_unit s.pending j.unit))
@@ -119,11 +141,13 @@ module _ (t : ℕ) (s u : State) (new : List Action) (j : Job) (next : BeginsNex
   unfolding now_left
   fewer_here =
       let left = left_waits (change_of t (begun s j) j.unit (begins j.kind)).start (change_of t (begun s j) j.unit (begins j.kind)).stop_ends (jobs_of_unit (begun s j).pending j.unit) in
+      let later = no_more_later j.unit in
       let now = ap waits_in here in
       let begun_here = ap waits_in running in
       let less = running_waits j.kind (jobs_of_unit s.pending j.unit) next.has.waits in
       omega arith
 
+  -- of no unit more jobs wait
   pub begun_no_more : NoMoreWait u.pending s.pending
   begun_no_more other = elim (same_name other j.unit) as (λ _. waits_in (jobs_of_unit u.pending other) ≤ waits_in (jobs_of_unit s.pending other)) [
     | inl same ↦
@@ -131,9 +155,11 @@ module _ (t : ℕ) (s u : State) (new : List Action) (j : Job) (next : BeginsNex
         omega arith
     | inr apart ↦
         let e = ap waits_in (elsewhere other apart) in
+        let later = no_more_later other in
         omega arith
   ]
 
+  -- and of all that waited at first fewer do
   pub begun_fewer : (first : ByUnit UnitJobs) → NoMoreWait s.pending first → waiting (map.keys first) u.pending < waiting (map.keys first) s.pending
   begun_fewer first none =
       let less = fewer_here in

@@ -94,6 +94,10 @@ unless_waiting other = other
 abbrev pub cancelled : UnitJobs → UnitJobs
 cancelled j = jobs (unless_waiting j.stop) (unless_waiting j.start)
 
+-- the jobs of a unit without its start job
+abbrev pub without_start : UnitJobs → UnitJobs
+without_start j = jobs j.stop None
+
 -- of these jobs one is dropped, so that those are left: it is there no more, or no more as it was
 pub data DropsOne (before after : UnitJobs) : Type 0 where
   drops : (kind : JobKind) (state : JobState) → job_of kind before ≡ Some state → job_of kind after ≢ Some state → DropsOne before after

@@ -28,12 +28,14 @@ pub mod Ends
 pub mod Transitions
 pub mod Jobs
 pub mod Plan
+pub mod Weight
 pub mod Machine
 pub mod Live
 pub mod Numbers
 pub mod Requests
 pub mod Replies
 pub mod Frames
+pub mod Alike
 pub mod Timers
 pub mod Specifiers
 pub mod Disk

@@ -1,40 +1,51 @@
 -- The machine: its state, what comes in, what is answered, one step, and a run.
 -- The rules of single inputs follow systemctl(1); the machine itself is this project's own.
 -- The engine, the keeper, the manager and the program stand on this file.
-use Rattle.std.specs.Prelude.{◌≡◌, ◌≢◌, ℕ, ◌+◌, ◌<◌, ◌≤◌, max, Bool, true, false, ◌||◌, if◌then◌else◌, List, [], ◌∷◌, ◌++◌, Option, Some, None, Result, Ok, Err, codes}
+use Rattle.std.specs.Prelude.{◌≡◌, ◌≢◌, ◌⊎◌, ◌↔◌, ⊤, ℕ, ◌+◌, ◌<◌, ◌≤◌, max, Bool, true, false, ◌||◌, if◌then◌else◌, List, [], ◌∷◌, ◌++◌, Option, Some, None, Result, Ok, Err, codes, map as each, AllPairs, Contains}
 use Rattle.std.specs.FinMap as map
 use Rattle.um_model.specs.Least.{IsLeast, IsNamedBefore}
-use Rattle.um_model.specs.Refusals.{Refused, not_found, masked, bad_setting, not_loaded, job_conflict, no_such_job, FirstCause}
+use Rattle.um_model.specs.Refusals.{Refused, not_found, masked, bad_setting, not_loaded, no_such_job, no_room, too_large, FirstCause}
 use Rattle.um_model.specs.Names.{is_template}
-use Rattle.um_model.specs.Tree.{Tree, put_file, put_link, remove_at}
+use Rattle.um_model.specs.Tree.{Tree, put_file, put_link, remove_at, without_run}
 use Rattle.um_model.specs.Settings.{ServiceSettings, default_settings, acting_settings}
 use Rattle.um_model.specs.Resolution.{UnitFile, Resolution, AtFile, AtNoFile, AtMask, Nowhere, files_at, resolution_of}
 use Rattle.um_model.specs.Units.{LoadedUnit, Loading, Found, Masked, NotFound, BadSetting, load, name_in, Warning}
+use Rattle.um_model.specs.Dependencies.{IsKnown, KnowsTooMany, CountsFor, Depends, Precedes, loadable_in}
 use Rattle.um_model.specs.Install.{Installs, RefusesInstall, paths_beyond, IsEnabledAs}
-use Rattle.um_model.specs.Service.{ByUnit, state_of_unit, with_unit, active_state_of, is_number, Action}
+use Rattle.um_model.specs.Service.{ByUnit, AreTidyUnits, state_of_unit, with_unit, active_state_of, is_number, Action}
 use Rattle.um_model.specs.Transitions.{transition, AreActions, HasNumber, spawned}
-use Rattle.um_model.specs.Jobs.{Job, jobs_of_unit, with_jobs, is_active, jobs_after, cancelled, JobShown, jobs_shown, DropsOne, jobs_left, with_running, Unordered, IsReady, BeginsNext}
+use Rattle.um_model.specs.Jobs.{Job, jobs_of_unit, with_jobs, AreTidyJobs, is_active, cancelled, JobShown, jobs_shown, jobs_left, without_start, with_running, IsReady, BeginsNext}
+use Rattle.um_model.specs.Plan.{Scene, IsPlan, CausesOfPlan, NamesCycle}
+use Rattle.um_model.specs.Reached.{Reached}
 use Rattle.um_model.specs.Timers.{Timers, IsDueFirst}
+use Rattle.um_model.specs.Weight.{weight_of}
 use Rattle.um_model.specs.declared.commands.JobMode.{JobMode}
-use Rattle.um_model.specs.declared.commands.JobMode.TheVariants as modes
 use Rattle.um_model.specs.declared.commands.UnitVerb.{UnitVerb}
 use Rattle.um_model.specs.declared.commands.UnitVerb.TheVariants as verbs
+use Rattle.um_model.specs.declared.dependencies.Demand.{Demand}
+use Rattle.um_model.specs.declared.dependencies.Demand.TheVariants as demands
+use Rattle.um_model.specs.declared.dependencies.DependencyKind.TheVariants.{Requires, BindsTo}
 use Rattle.um_model.specs.declared.install.Enabling.{Enabling}
 use Rattle.um_model.specs.declared.install.InstallVerb.{InstallVerb}
 use Rattle.um_model.specs.declared.jobs.JobKind.{JobKind}
 use Rattle.um_model.specs.declared.jobs.JobKind.TheVariants as job
 use Rattle.um_model.specs.declared.jobs.JobState.{JobState}
-use Rattle.um_model.specs.declared.jobs.JobState.TheVariants.{Waiting}
+use Rattle.um_model.specs.declared.jobs.JobState.TheVariants.{Waiting, Running}
 use Rattle.um_model.specs.declared.jobs.UnitJobs.{UnitJobs}
 use Rattle.um_model.specs.declared.service.ActiveState.{ActiveState}
 use Rattle.um_model.specs.declared.service.End.{End}
+use Rattle.um_model.specs.declared.refusals.Limit.TheVariants.{Units}
+use Rattle.um_model.specs.declared.service.SubState.{SubState}
+use Rattle.um_model.specs.declared.service.UnitResult.TheVariants.{Dependency}
 use Rattle.um_model.specs.declared.service.UnitState.{UnitState}
 use Rattle.um_model.specs.declared.transition.Around.{Around}
 use Rattle.um_model.specs.declared.transition.Change.{Change}
+use Rattle.um_model.specs.declared.transition.StartJob.{StartJob}
+use Rattle.um_model.specs.declared.transition.StartJob.TheVariants.{Fails}
 use Rattle.um_model.specs.declared.transition.UnitEvent.{UnitEvent}
 use Rattle.um_model.specs.declared.transition.UnitEvent.TheVariants.{StartBegins, StopBegins, MainEnds, ControlEnds, DeadlinePasses}
 use Rattle.um_model.specs.declared.transition.UnitKind.{UnitKind}
-use Rattle.um_model.specs.declared.transition.UnitKind.TheVariants.{Simple}
+use Rattle.um_model.specs.declared.transition.UnitKind.TheVariants.{Simple, Target}
 use Rattle.um_model.specs.declared.units.LoadState.{LoadState}
 use Rattle.um_model.specs.declared.units.LoadState.TheVariants as load_state
 
@@ -100,6 +111,8 @@ pub data Query : Type 0 where
   Cat : (unit : List ℕ) → Query
   -- how it is enabled in the tree in hand
   IsEnabled : (unit : List ℕ) → Query
+  -- the known units
+  ListUnits : Query
   -- the pending jobs
   ListJobs : Query
 
@@ -111,6 +124,11 @@ pub record UnitShown : Type 0 where
   pub warnings : List Warning
   pub state : UnitState
 
+-- a unit as `list-units` tells it
+pub record UnitListed : Type 0 where
+  pub unit : List ℕ
+  pub sub : SubState
+
 -- what is answered
 pub data Reply : Type 0 where
   Done : Reply
@@ -120,6 +138,7 @@ pub data Reply : Type 0 where
   -- the paths at which links were made, and those at which they were removed
   Relinked : (made removed : List (List ℕ)) → Reply
   EnabledAs : Enabling → Reply
+  Listed : List UnitListed → Reply
   Jobs : List JobShown → Reply
   -- the actions since they were last asked for
   Told : List Action → Reply
@@ -152,12 +171,31 @@ files_told tree asked (AtNoFile unit) = Files (files_at tree (AtNoFile unit))
 files_told tree asked (AtMask unit) = Refusal (masked unit)
 files_told tree asked Nowhere = Refusal (not_found asked)
 
+-- ---- which units count
+
+-- the state holds something of the unit: how it stands, or a pending job
+abbrev pub IsHeld : State → List ℕ → Type 0
+IsHeld s unit = (map.get s.units unit ≢ None) ⊎ (map.get s.pending unit ≢ None)
+
+-- while a plan for a unit is made, that unit counts along with those that are held
+abbrev pub IsHeldOr : State → List ℕ → List ℕ → Type 0
+IsHeldOr s named unit = IsHeld s unit ⊎ (unit ≡ named)
+
+-- the known units, by name
+pub record AreKnownUnits (s : State) (names : List (List ℕ)) : Type 0 where
+  pub each : (unit : List ℕ) → Contains names unit ↔ IsKnown s.loaded (IsHeld s) unit
+  pub sorted : AllPairs IsNamedBefore names
+
+abbrev pub unit_listed : State → List ℕ → UnitListed
+unit_listed s unit = record { unit = unit; sub = (state_of_unit s.units unit).sub }
+
 -- the reply to a query
 pub data IsReplyTo (s : State) : Query → Reply → Type 0 where
   shows : {asked : List ℕ} → IsReplyTo s (Show asked) (Shown (shown_of asked (load s.loaded asked) (state_asked s asked)))
   tells_activity : {asked : List ℕ} → IsReplyTo s (IsActive asked) (Activity (active_state_of (state_asked s asked).sub))
   tells_files : {asked : List ℕ} → IsReplyTo s (Cat asked) (files_told s.tree asked (resolution_of s.tree asked))
   tells_enabling : {asked : List ℕ} {answer : Enabling} → IsEnabledAs s.tree asked answer → IsReplyTo s (IsEnabled asked) (EnabledAs answer)
+  lists_units : {names : List (List ℕ)} → AreKnownUnits s names → IsReplyTo s ListUnits (Listed (each (unit_listed s) names))
   lists_jobs : IsReplyTo s ListJobs (Jobs (jobs_shown s.pending))
 
 -- ---- one unit and what happens to it
@@ -205,9 +243,48 @@ changed s unit c = record s {
   next = s.next + spawned c.order;
 }
 
+-- ---- a start that fails
+
+-- the order of units by a tree
+abbrev pub IsBefore : Tree → List ℕ → List ℕ → Type 0
+IsBefore tree = Precedes tree (λ unit. ⊤)
+
+-- the start of a unit waits for that of another, which it requires or is bound to
+pub record NeedsStart (s : State) (other unit : List ℕ) : Type 0 where
+  pub needs : Depends s.loaded (λ unit. ⊤) Requires unit other ⊎ Depends s.loaded (λ unit. ⊤) BindsTo unit other
+  pub later : IsBefore s.loaded other unit
+  pub waits : (jobs_of_unit s.pending unit).start ≡ Some Waiting
+
+-- the units whose starts a failed start takes along: those that need it, and so on for those
+abbrev pub IsTakenAlong : State → List ℕ → List ℕ → Type 0
+IsTakenAlong s failed = Reached (NeedsStart s failed) (NeedsStart s)
+
+abbrev pub with_result_dependency : UnitState → UnitState
+with_result_dependency u = record u { result = Dependency }
+
+-- the starts that the failed start of a unit takes along are gone, and their units tell so
+pub record TakesAlong (s : State) (failed : List ℕ) (s' : State) : Type 0 where
+  pub starts : (unit : List ℕ) → IsTakenAlong s failed unit → jobs_of_unit s'.pending unit ≡ without_start (jobs_of_unit s.pending unit)
+  pub results : (unit : List ℕ) → IsTakenAlong s failed unit → state_of_unit s'.units unit ≡ with_result_dependency (state_of_unit s.units unit)
+  pub other_jobs : (unit : List ℕ) → ¬ IsTakenAlong s failed unit → jobs_of_unit s'.pending unit ≡ jobs_of_unit s.pending unit
+  pub other_units : (unit : List ℕ) → ¬ IsTakenAlong s failed unit → state_of_unit s'.units unit ≡ state_of_unit s.units unit
+  pub tidy_jobs : AreTidyJobs s'.pending
+  pub tidy_units : AreTidyUnits s'.units
+  pub rest : s' ≡ record s { units = s'.units; pending = s'.pending }
+
+-- a start job of the unit runs, and the change fails it
+abbrev pub fails_start : StartJob → Option JobState → Bool
+fails_start Fails (Some Running) = true
+fails_start start job = false
+
+-- the state after a change of a unit: where its start fails, with the starts that it takes along gone
+pub data Becomes (s : State) (unit : List ℕ) (c : Change) : State → Type 0 where
+  alone : fails_start c.start (jobs_of_unit s.pending unit).start ≡ false → Becomes s unit c (changed s unit c)
+  along : {s' : State} → fails_start c.start (jobs_of_unit s.pending unit).start ≡ true → TakesAlong (changed s unit c) unit s' → Becomes s unit c s'
+
 -- what happens to a unit at the moment t is carried out
 pub record Carries (t : ℕ) (unit : List ℕ) (event : UnitEvent) (s : State) (actions : List Action) (s' : State) : Type 0 where
-  pub state : s' ≡ changed s unit (change_of t s unit event)
+  pub state : Becomes s unit (change_of t s unit event) s'
   pub asked : AreActions (acting_in s.loaded unit).settings (around t s unit) (change_of t s unit event).unit (change_of t s unit event).order actions
 
 -- what a job that begins is for its unit
@@ -218,10 +295,6 @@ begins job.Stop = StopBegins
 -- the state with that job running
 abbrev pub begun : State → Job → State
 begun s j = record s { pending = with_jobs s.pending j.unit (with_running j.kind (jobs_of_unit s.pending j.unit)) }
-
--- the order of units by the loaded tree: none is read yet
-abbrev pub IsBefore : Tree → List ℕ → List ℕ → Type 0
-IsBefore tree = Unordered
 
 -- no job is ready to begin
 abbrev pub IsStill : State → Type 0
@@ -235,9 +308,10 @@ pub data Settles (t : ℕ) : State → List Action → State → Type 0 where
 
 -- ---- what a command does
 
--- of the kinds of units simple services are served
+-- of the kinds of units simple services and targets are served
 abbrev pub is_served_kind : UnitKind → Bool
 is_served_kind Simple = true
+is_served_kind Target = true
 is_served_kind other = false
 
 abbrev pub is_found : Loading → Bool
@@ -256,12 +330,12 @@ pub data CannotStart (asked : List ℕ) : Loading → Refused → Type 0 where
 abbrev pub active_asked : State → List ℕ → ActiveState
 active_asked s asked = active_state_of (state_asked s asked).sub
 
--- the command starts its unit: a try-restart where that is active
-abbrev pub starts_it : UnitVerb → ActiveState → Bool
-starts_it verbs.Start a = true
-starts_it verbs.Stop a = false
-starts_it verbs.Restart a = true
-starts_it verbs.TryRestart a = is_active a
+-- what a command demands of its unit: a try-restart nothing where that isn't active
+abbrev pub demand_of : UnitVerb → ActiveState → Option Demand
+demand_of verbs.Start a = Some demands.Start
+demand_of verbs.Stop a = Some demands.Stop
+demand_of verbs.Restart a = Some demands.Restart
+demand_of verbs.TryRestart a = if is_active a then Some demands.Restart else None
 
 -- the command is for a unit that is there already
 abbrev pub wants_it_there : UnitVerb → Bool
@@ -272,9 +346,16 @@ wants_it_there other = false
 abbrev pub jobs_asked : State → List ℕ → UnitJobs
 jobs_asked s asked = jobs_of_unit s.pending (unit_asked s asked)
 
--- the pending jobs of the unit after the command
-abbrev pub jobs_planned : State → UnitVerb → List ℕ → UnitJobs
-jobs_planned s verb asked = jobs_after verb (active_asked s asked) (jobs_asked s asked)
+-- what the plan for a unit is made from
+abbrev pub scene_at : State → List ℕ → Scene
+scene_at s named = record {
+  Depends = Depends s.loaded (IsHeldOr s named);
+  IsBefore = Precedes s.loaded (IsHeldOr s named);
+  IsLoadable = λ unit. loadable_in s.loaded unit ≢ None;
+  CannotStart = λ unit. CannotStart unit (load s.loaded unit);
+  activity = λ unit. active_state_of (state_of_unit s.units unit).sub;
+  pending = s.pending;
+}
 
 -- Why a command for a unit is refused.
 
@@ -289,22 +370,23 @@ pub record IsNotThere (s : State) (verb : UnitVerb) (asked : List ℕ) (r : Refu
   pub wanted : wants_it_there verb ≡ true
   pub missing : IsMissing s asked r
 
--- the command would start a unit that can't be started
-pub record StartsNone (s : State) (verb : UnitVerb) (asked : List ℕ) (r : Refused) : Type 0 where
-  pub starts : starts_it verb (active_asked s asked) ≡ true
-  pub cause : CannotStart asked (load s.loaded asked) r
+-- more units would be known than may be, by the tree or by it without its entries under `run/`
+pub record IsCrowded (tree : Tree) (Extra : List ℕ → Type 0) (r : Refused) : Type 0 where
+  pub many : KnowsTooMany tree Extra ⊎ KnowsTooMany (without_run tree) Extra
+  pub refusal : r ≡ too_large Units
 
--- in mode fail one of the unit's pending jobs would be dropped
-pub record DropsAJob (mode : JobMode) (unit : List ℕ) (before after : UnitJobs) (r : Refused) : Type 0 where
-  pub fails : mode ≡ modes.Fail
-  pub drops : DropsOne before after
-  pub refusal : r ≡ job_conflict unit
+-- what is demanded has a plan, and that is refused
+pub record HasNoPlan (s : State) (verb : UnitVerb) (asked : List ℕ) (mode : JobMode) (r : Refused) : Type 0 where
+  pub demand : Demand
+  pub demanded : demand_of verb (active_asked s asked) ≡ Some demand
+  pub after : ByUnit UnitJobs
+  pub plan : IsPlan (scene_at s (unit_asked s asked)) (demand, unit_asked s asked) after
+  pub cause : CausesOfPlan (scene_at s (unit_asked s asked)) (demand, unit_asked s asked) mode after r
 
 -- the causes in the order in which they are looked at
 abbrev pub CausesOf : State → UnitVerb → List ℕ → JobMode → Refused → Type 0
 CausesOf s verb asked mode =
-    FirstCause (IsNotThere s verb asked)
-    (FirstCause (StartsNone s verb asked) (DropsAJob mode (unit_asked s asked) (jobs_asked s asked) (jobs_planned s verb asked)))
+    FirstCause (IsCrowded s.loaded (IsHeldOr s (unit_asked s asked))) (FirstCause (IsNotThere s verb asked) (HasNoPlan s verb asked mode))
 
 -- Why the waiting jobs of a unit aren't dropped.
 
@@ -320,6 +402,17 @@ pub record HasNoneWaiting (s : State) (asked : List ℕ) (r : Refused) : Type 0 
 abbrev pub CausesOfCancel : State → List ℕ → Refused → Type 0
 CausesOfCancel s asked = FirstCause (IsMissing s asked) (HasNoneWaiting s asked)
 
+-- Why a tree isn't loaded: too many units would be known, or the pending jobs would wait for one another in a circle.
+
+abbrev pub CausesOfLoad : State → Tree → Refused → Type 0
+CausesOfLoad s tree = FirstCause (IsCrowded tree (IsHeld s)) (NamesCycle (IsBefore tree) s.pending)
+
+-- the tree that comes of enabling or its kin isn't loaded
+pub record LoadsNone (s : State) (verb : InstallVerb) (unit : List ℕ) (r : Refused) : Type 0 where
+  pub tree : Tree
+  pub installs : Installs s.tree verb unit tree
+  pub cause : CausesOfLoad s tree r
+
 -- a command is refused for the first of its causes that holds
 pub data Refuses (s : State) : Command → Refused → Type 0 where
   puts_none : {path text : List ℕ} {r : Refused} → put_file s.tree path text ≡ Err r → Refuses s (PutFile path text) r
@@ -327,7 +420,9 @@ pub data Refuses (s : State) : Command → Refused → Type 0 where
   removes_none : {path : List ℕ} {r : Refused} → remove_at s.tree path ≡ Err r → Refuses s (Remove path) r
   plans_none : {verb : UnitVerb} {asked : List ℕ} {mode : JobMode} {r : Refused} → CausesOf s verb asked mode r → Refuses s (ForUnit verb asked mode) r
   cancels_none : {asked : List ℕ} {r : Refused} → CausesOfCancel s asked r → Refuses s (Cancel asked) r
-  installs_none : {verb : InstallVerb} {unit : List ℕ} {r : Refused} → RefusesInstall s.tree verb unit r → Refuses s (Install verb unit) r
+  reloads_none : {r : Refused} → CausesOfLoad s s.tree r → Refuses s DaemonReload r
+  installs_none : {verb : InstallVerb} {unit : List ℕ} {r : Refused} → FirstCause (RefusesInstall s.tree verb unit) (LoadsNone s verb unit) r
+      → Refuses s (Install verb unit) r
 
 -- the state with these pending jobs of the unit
 abbrev pub with_plan : State → List ℕ → UnitJobs → State
@@ -339,8 +434,9 @@ pub data Changes (s : State) : Command → State → Type 0 where
   links : {path target : List ℕ} {tree : Tree} → put_link s.tree path target ≡ Ok tree → Changes s (PutLink path target) (record s { tree = tree })
   removes : {path : List ℕ} {tree : Tree} → remove_at s.tree path ≡ Ok tree → Changes s (Remove path) (record s { tree = tree })
   reloads : Changes s DaemonReload (record s { loaded = s.tree })
-  plans : {verb : UnitVerb} {asked : List ℕ} {mode : JobMode}
-      → Changes s (ForUnit verb asked mode) (with_plan s (unit_asked s asked) (jobs_planned s verb asked))
+  plans : {verb : UnitVerb} {asked : List ℕ} {mode : JobMode} {demand : Demand} {after : ByUnit UnitJobs} → demand_of verb (active_asked s asked) ≡ Some demand
+      → IsPlan (scene_at s (unit_asked s asked)) (demand, unit_asked s asked) after → Changes s (ForUnit verb asked mode) (record s { pending = after })
+  demands_nothing : {verb : UnitVerb} {asked : List ℕ} {mode : JobMode} → demand_of verb (active_asked s asked) ≡ None → Changes s (ForUnit verb asked mode) s
   cancels : {asked : List ℕ} → Changes s (Cancel asked) (with_plan s (unit_asked s asked) (cancelled (jobs_asked s asked)))
   installs : {verb : InstallVerb} {unit : List ℕ} {tree : Tree} → Installs s.tree verb unit tree
       → Changes s (Install verb unit) (record s { tree = tree; loaded = tree })
@@ -404,14 +500,27 @@ abbrev pub reply_after : Event → (before after : Tree) → Reply
 reply_after (Commanded (Install verb unit)) before after = Relinked (paths_beyond before after) (paths_beyond after before)
 reply_after other before after = Done
 
+-- the state weighs more than a store of so many bytes holds
+pub record IsTooHeavy (size : ℕ) (s : State) : Type 0 where
+  pub units : ℕ
+  pub count : CountsFor s.loaded (IsHeld s) units
+  pub heavy : size < weight_of s.tree s.loaded units
+
+-- a command has no room: what comes of it is too heavy
+abbrev pub HasNoRoom : ℕ → Event → State → Type 0
+HasNoRoom size (Commanded command) u = IsTooHeavy size u
+HasNoRoom size (Happened happening) u = ⊥
+
 -- one step over a store of so many bytes. A refused command, and what happens without effect, leave the state, clock included; an event
 -- that has its effect sets the clock
 pub data Step (size : ℕ) (s : State) : Input → Reply → List Action → State → Type 0 where
   refused : {moment : ℕ} {command : Command} {r : Refused} → Refuses s command r
       → Step size s (record { moment = moment; event = Commanded command }) (Refusal r) [] s
+  crowded_out : {moment : ℕ} {event : Event} {actions : List Action} {u : State} → Takes (moment_of s moment) s event actions u → HasNoRoom size event u
+      → Step size s (record { moment = moment; event = event }) (Refusal no_room) [] s
   idle : {moment : ℕ} {happening : Happening} → HasNoEffect (moment_of s moment) s happening
       → Step size s (record { moment = moment; event = Happened happening }) Done [] s
-  taken : {moment : ℕ} {event : Event} {actions : List Action} {u : State} → Takes (moment_of s moment) s event actions u
+  taken : {moment : ℕ} {event : Event} {actions : List Action} {u : State} → Takes (moment_of s moment) s event actions u → ¬ HasNoRoom size event u
       → Step size s (record { moment = moment; event = event }) (reply_after event s.tree u.tree) actions (record u { clock = moment_of s moment })
 
 -- one step after another

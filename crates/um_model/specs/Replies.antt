@@ -14,7 +14,7 @@ use Rattle.um_model.specs.Units.{Warning, load_state_text}
 use Rattle.um_model.specs.Resolution.{UnitFile}
 use Rattle.um_model.specs.Install.{enabling_text}
 use Rattle.um_model.specs.Jobs.{JobShown, job_kind_text, job_state_text}
-use Rattle.um_model.specs.Machine.{Reply, Done, Shown, Activity, Files, Relinked, EnabledAs, Jobs, Told, Refusal, UnitShown}
+use Rattle.um_model.specs.Machine.{Reply, Done, Shown, Activity, Files, Relinked, EnabledAs, Listed, Jobs, Told, Refusal, UnitShown, UnitListed}
 use Rattle.um_model.specs.declared.refusals.Limit.TheVariants.{Reply as ReplyLimit}
 
 abbrev pub number_data : ℕ → Data
@@ -56,6 +56,10 @@ file_data file = texts_data (file.path ∷ file.text ∷ [])
 abbrev pub relinked_data : (made removed : List (List ℕ)) → Data
 relinked_data made removed = object (member (codes "made") (texts_data made) (member (codes "removed") (texts_data removed) no_members))
 
+-- a known unit: its name, its active state and its sub state
+abbrev pub unit_data : UnitListed → Data
+unit_data u = texts_data (u.unit ∷ active_state_text (active_state_of u.sub) ∷ sub_state_text u.sub ∷ [])
+
 -- a pending job: its unit, what it does, and how far it is
 abbrev pub job_data : JobShown → Data
 job_data j = texts_data (j.unit ∷ job_kind_text j.kind ∷ job_state_text j.state ∷ [])
@@ -75,6 +79,7 @@ reply_data (Activity state) = valued (string (active_state_text state))
 reply_data (Files files) = valued (array (items_of (map file_data files)))
 reply_data (Relinked made removed) = valued (relinked_data made removed)
 reply_data (EnabledAs answer) = valued (string (enabling_text answer))
+reply_data (Listed units) = valued (array (items_of (map unit_data units)))
 reply_data (Jobs jobs) = valued (array (items_of (map job_data jobs)))
 reply_data (Told actions) = valued (array (items_of (map action_data actions)))
 reply_data (Refusal r) = refused_data r

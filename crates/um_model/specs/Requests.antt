@@ -11,7 +11,7 @@ use Rattle.um_model.specs.Bytes.{◌>>=◌}
 use Rattle.um_model.specs.Refusals.{Refused, bad_request, unknown_verb, bad_name}
 use Rattle.um_model.specs.Moments.{moment_limit}
 use Rattle.um_model.specs.Names.{suffix_of, is_unit_name}
-use Rattle.um_model.specs.Machine.{Event, Commanded, Happened, Command, PutFile, PutLink, Remove, DaemonReload, ForUnit, Cancel, Install, ProcessEnded, Tick, Query, Show, IsActive, IsEnabled, Cat, ListJobs}
+use Rattle.um_model.specs.Machine.{Event, Commanded, Happened, Command, PutFile, PutLink, Remove, DaemonReload, ForUnit, Cancel, Install, ProcessEnded, Tick, Query, Show, IsActive, IsEnabled, Cat, ListUnits, ListJobs}
 use Rattle.um_model.specs.declared.commands.JobMode.{JobMode}
 use Rattle.um_model.specs.declared.commands.JobMode.TheVariants.{Replace, Fail}
 use Rattle.um_model.specs.declared.commands.UnitVerb.{UnitVerb}
@@ -200,6 +200,7 @@ row_of verb.Show = row (codes "show") everywhere (codes "unit" ∷ []) [] (about
 row_of verb.IsActive = row (codes "is-active") everywhere (codes "unit" ∷ []) [] (about_unit IsActive)
 row_of verb.IsEnabled = row (codes "is-enabled") everywhere (codes "unit" ∷ []) [] (about_unit IsEnabled)
 row_of verb.Cat = row (codes "cat") everywhere (codes "unit" ∷ []) [] (about_unit Cat)
+row_of verb.ListUnits = row (codes "list-units") everywhere [] [] (plainly (OfQuery ListUnits))
 row_of verb.ListJobs = row (codes "list-jobs") everywhere [] [] (plainly (OfQuery ListJobs))
 row_of verb.Tick = row (codes "tick") in_memory [] [] (plainly (OfEvent (Happened Tick)))
 row_of verb.End = row (codes "end") in_memory (codes "number" ∷ []) (codes "code" ∷ codes "signal" ∷ codes "lost" ∷ []) process_ended
@@ -209,7 +210,7 @@ row_of verb.Actions = row (codes "actions") in_memory [] [] (plainly OfActions)
 abbrev pub verbs : List Verb
 verbs =
     verb.PutFile ∷ verb.PutLink ∷ verb.Remove ∷ verb.DaemonReload ∷ verb.Start ∷ verb.Stop ∷ verb.Restart ∷ verb.TryRestart ∷ verb.Cancel
-    ∷ verb.Enable ∷ verb.Disable ∷ verb.Mask ∷ verb.Unmask ∷ verb.Show ∷ verb.IsActive ∷ verb.IsEnabled ∷ verb.Cat ∷ verb.ListJobs
+    ∷ verb.Enable ∷ verb.Disable ∷ verb.Mask ∷ verb.Unmask ∷ verb.Show ∷ verb.IsActive ∷ verb.IsEnabled ∷ verb.Cat ∷ verb.ListUnits ∷ verb.ListJobs
     ∷ verb.Tick ∷ verb.End ∷ verb.Actions ∷ []
 
 -- ---- a request by its row

@@ -10,6 +10,7 @@ use Rattle.um_model.specs.declared.settings.RestartPolicy.TheVariants.{No}
 use Rattle.um_model.specs.declared.transition.CommandList.{CommandList}
 use Rattle.um_model.specs.declared.transition.CommandList.TheVariants.{OfStart, OfStop}
 use Rattle.um_model.specs.declared.transition.UnitKind.{UnitKind}
+use Rattle.um_model.specs.declared.transition.UnitKind.TheVariants.{Simple, Target}
 
 -- spans are in microseconds; one that is None never ends
 pub record ServiceSettings : Type 0 where
@@ -79,6 +80,11 @@ variable_text v = v.name ++ (61 ∷ v.value)
 abbrev pub environment_texts : ServiceSettings → List (List ℕ)
 environment_texts s = map variable_text s.environment
 
--- until services are served in full, the table acts on the commands of ExecStart= and their environment alone
+-- until services are served in full, each acts as a simple one
+abbrev pub acting_kind : UnitKind → UnitKind
+acting_kind Target = Target
+acting_kind other = Simple
+
+-- and by the commands of ExecStart= and their environment alone
 abbrev pub acting_settings : ServiceSettings → ServiceSettings
-acting_settings s = record (default_settings s.kind) { start = s.start; environment = s.environment }
+acting_settings s = record (default_settings (acting_kind s.kind)) { start = s.start; environment = s.environment }

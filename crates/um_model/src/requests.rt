@@ -25,6 +25,7 @@ pub enum Verb {
     IsActive,
     IsEnabled,
     Cat,
+    ListUnits,
     ListJobs,
     Tick,
     End,

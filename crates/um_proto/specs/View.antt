@@ -1,6 +1,6 @@
 -- Requests of the code as the requests of the definitions.
 use Rattle.std.specs.Prelude.{Bool, Result, Ok, Err}
-use Rattle.um_model.specs.Machine.{Happened, PutFile, PutLink, Remove, DaemonReload, ForUnit, Cancel, Install, ProcessEnded, Tick, Show, IsActive, IsEnabled, Cat, ListJobs}
+use Rattle.um_model.specs.Machine.{Happened, PutFile, PutLink, Remove, DaemonReload, ForUnit, Cancel, Install, ProcessEnded, Tick, Show, IsActive, IsEnabled, Cat, ListUnits, ListJobs}
 use Rattle.um_model.specs.Refusals.{Refused, bad_request, unknown_verb}
 use Rattle.um_model.specs.Requests as model
 use Rattle.um_model.specs.declared.requests.Mode.{Mode}
@@ -42,6 +42,7 @@ asking_of (asking.Show unit) = model.OfUnit (λ u. model.OfQuery (Show u)) unit.
 asking_of (asking.IsActive unit) = model.OfUnit (λ u. model.OfQuery (IsActive u)) unit.now
 asking_of (asking.Cat unit) = model.OfUnit (λ u. model.OfQuery (Cat u)) unit.now
 asking_of (asking.IsEnabled unit) = model.OfUnit (λ u. model.OfQuery (IsEnabled u)) unit.now
+asking_of asking.ListUnits = model.Plainly (model.OfQuery ListUnits)
 asking_of asking.ListJobs = model.Plainly (model.OfQuery ListJobs)
 asking_of asking.Tick = model.Plainly (model.OfEvent (Happened Tick))
 asking_of (asking.ProcessEnded number end) = model.Plainly (model.OfEvent (Happened (ProcessEnded number end)))

@@ -49,6 +49,7 @@ pub enum Asking<'v> {
     IsEnabled {
         unit: &'v str,
     },
+    ListUnits,
     ListJobs,
     Tick,
     ProcessEnded {
@@ -165,6 +166,7 @@ fn asking_with<'v>(verb: Verb, value: &'v Value) -> Option<Asking<'v>>
             let unit = text_at(value, "unit")?;
             Some(Asking::Cat { unit })
         }
+        Verb::ListUnits => Some(Asking::ListUnits),
         Verb::ListJobs => Some(Asking::ListJobs),
         Verb::Tick => Some(Asking::Tick),
         Verb::End => process_ended(value),

@@ -99,6 +99,7 @@ fn asked_by(alloc: Global, asking: Asking) -> Result<Asked, Refusal>
             let unit = unit_named(alloc, unit)?;
             Ok(Asked::Query(Query::IsEnabled { unit }))
         }
+        Asking::ListUnits => Ok(Asked::Query(Query::ListUnits)),
         Asking::ListJobs => Ok(Asked::Query(Query::ListJobs)),
         Asking::Tick => Ok(happened(Happening::Tick)),
         Asking::ProcessEnded { number, end } => {

@@ -5,7 +5,7 @@ ghost use Rattle.um_proto.specs.View.{known_where};
 use um_model::{Mode, Verb};
 
 /// All verbs.
-const VERBS: [Verb; 21] = [
+const VERBS: [Verb; 22] = [
     Verb::PutFile,
     Verb::PutLink,
     Verb::Remove,
@@ -23,6 +23,7 @@ const VERBS: [Verb; 21] = [
     Verb::IsActive,
     Verb::IsEnabled,
     Verb::Cat,
+    Verb::ListUnits,
     Verb::ListJobs,
     Verb::Tick,
     Verb::End,
@@ -95,6 +96,7 @@ pub fn row_of(verb: Verb) -> Row
         Verb::IsActive => Row::of("is-active", Known::Everywhere, &["unit"], &[]),
         Verb::IsEnabled => Row::of("is-enabled", Known::Everywhere, &["unit"], &[]),
         Verb::Cat => Row::of("cat", Known::Everywhere, &["unit"], &[]),
+        Verb::ListUnits => Row::of("list-units", Known::Everywhere, &[], &[]),
         Verb::ListJobs => Row::of("list-jobs", Known::Everywhere, &[], &[]),
         Verb::Tick => Row::of("tick", Known::InMemory, &[], &[]),
         Verb::End => Row::of(

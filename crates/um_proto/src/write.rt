@@ -3,7 +3,7 @@ ghost use Rattle.serde_json.specs.Data.{array};
 ghost use Rattle.serde_json.specs.View.{view, items_of};
 ghost use Rattle.um_model.specs.Replies as model;
 ghost use Rattle.um_resolve.specs.View.{file_of};
-ghost use Rattle.um_state.specs.View.{action_of, job_of, shown_of, reply_of};
+ghost use Rattle.um_state.specs.View.{action_of, job_of, listed_of, shown_of, reply_of};
 ghost use Rattle.um_unit.specs.View.{warning_of};
 ghost use Rattle.um_wire.specs.Refusal.{refused_of};
 
@@ -11,7 +11,7 @@ use serde_json::{Value, json};
 use std::alloc::{AllocError, Global};
 use um_model::{ProcessNumber, Signal};
 use um_resolve::UnitFile;
-use um_state::{Action, JobShown, Reply, UnitShown};
+use um_state::{Action, JobShown, Reply, UnitListed, UnitShown};
 use um_unit::Warning;
 use um_wire::{Limit, Refusal};
 
@@ -176,6 +176,23 @@ fn relinked_value(alloc: Global, made: &[String], removed: &[String]) -> Result<
     json!(in alloc; {"made": made, "removed": removed})
 }
 
+/// A known unit: its name, its active state and its sub state.
+fn unit_value(alloc: Global, unit: &UnitListed) -> Result<Value, AllocError>
+    ensures { IfOk result (λ v. view v ≡ model.unit_data (listed_of unit.now)) }
+{
+    json!(in alloc; [unit.unit.as_str(), unit.sub.active_state().text(), unit.sub.text()])
+}
+
+fn units_value(alloc: Global, units: &[UnitListed]) -> Result<Value, AllocError>
+    ensures { IfOk result (λ v. view v ≡ array (items_of (map model.unit_data (map listed_of units.now)))) }
+{
+    let mut list = Vec::new(alloc);
+    for unit in units {
+        list.push(unit_value(alloc, unit)?)?;
+    }
+    Ok(Value::Array(list))
+}
+
 /// A pending job: its unit, what it does, and how far it is.
 fn job_value(alloc: Global, job: &JobShown) -> Result<Value, AllocError>
     ensures { IfOk result (λ v. view v ≡ model.job_data (job_of job.now)) }
@@ -212,6 +229,10 @@ fn reply_value(alloc: Global, reply: &Reply) -> Result<Value, AllocError>
             json!(in alloc; {"ok": true, "value": value})
         }
         Reply::EnabledAs(answer) => json!(in alloc; {"ok": true, "value": answer.text()}),
+        Reply::Listed(units) => {
+            let value = units_value(alloc, units.as_slice())?;
+            json!(in alloc; {"ok": true, "value": value})
+        }
         Reply::Jobs(jobs) => {
             let value = jobs_value(alloc, jobs.as_slice())?;
             json!(in alloc; {"ok": true, "value": value})

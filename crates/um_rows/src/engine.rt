@@ -53,12 +53,12 @@ fn put_service(rt: &(impl AllocGlobal + Abort)) -> Input {
 }
 
 /// An engine in this state.
-fn engine_in(rt: &impl AllocGlobal, state: State) -> Engine {
-    Engine::of(rt.alloc(), state, SIZE)
+fn engine_in(rt: &(impl AllocGlobal + Abort), state: State) -> Engine {
+    Engine::of(rt.alloc(), state, SIZE).expect(rt, "no engine")
 }
 
 /// An engine that holds nothing.
-fn empty(rt: &impl AllocGlobal) -> Engine {
+fn empty(rt: &(impl AllocGlobal + Abort)) -> Engine {
     engine_in(rt, State::empty(rt.alloc()))
 }
 

@@ -18,9 +18,15 @@ mod first_path;
 #[cfg(test)]
 mod framing;
 #[cfg(test)]
+mod jobs;
+#[cfg(test)]
+mod limits;
+#[cfg(test)]
 mod lines;
 #[cfg(test)]
 mod one_service;
+#[cfg(test)]
+mod plans;
 #[cfg(test)]
 mod proto;
 #[cfg(test)]

@@ -106,14 +106,6 @@ fn the_deadlines_of_the_units_are_told(rt: HostRuntime) {
     is_due(&rt, &timers, "b.service", 60);
 }
 
-/// The name of the unit whose job begins next, where no unit holds anything.
-fn next(alloc: Global, pending: &Pending) -> Option<&str> {
-    match pending.next_job(&Units::new(alloc)) {
-        Some((unit, _)) => Some(unit.as_str()),
-        None => None,
-    }
-}
-
 /// Has a start job of the unit wait.
 fn wait(pending: &mut Pending, alloc: Global, text: &str) -> Result<(), Fail> {
     Ok(pending.set(&name(alloc, text)?, WAITS_TO_START)?)
@@ -127,14 +119,26 @@ fn two_jobs(alloc: Global) -> Result<Pending, Fail> {
     Ok(pending)
 }
 
+/// How many units a state holds anything of.
+fn held(alloc: Global, state: &State) -> Result<usize, Fail> {
+    Ok(state.held(alloc)?.len())
+}
+
 #[test]
-fn the_ready_job_of_the_least_name_begins(rt: HostRuntime) -> Result<(), Fail> {
+fn a_state_holds_units_that_stand_or_have_jobs(rt: HostRuntime) -> Result<(), Fail> {
     let alloc = rt.alloc();
-    assert_eq!(rt; next(alloc, &Pending::new(alloc)), None);
-    let mut pending = two_jobs(alloc)?;
-    assert_eq!(rt; next(alloc, &pending), Some("a.service"));
-    pending.set(&name(alloc, "a.service")?, UnitJobs::NONE)?;
-    assert_eq!(rt; next(alloc, &pending), Some("b.service"));
+    let a = name(alloc, "a.service")?;
+    let b = name(alloc, "b.service")?;
+    let mut state = State::empty(alloc);
+    assert_eq!(rt; held(alloc, &state)?, 0);
+    state.set_unit(&a, starting(7, 90))?;
+    assert_eq!(rt; state.holds(&a), true);
+    assert_eq!(rt; state.holds(&b), false);
+    state.set_jobs(&b, WAITS_TO_START)?;
+    assert_eq!(rt; state.holds(&b), true);
+    assert_eq!(rt; held(alloc, &state)?, 2);
+    state.set_unit(&a, UnitState::DEAD)?;
+    assert_eq!(rt; state.holds(&a), false);
     Ok(())
 }
 

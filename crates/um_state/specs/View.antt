@@ -14,7 +14,7 @@ use Rattle.um_state.specs.declared.input.Input.{Input}
 use Rattle.um_state.specs.declared.input.Query.{Query}
 use Rattle.um_state.specs.declared.input.Query.TheVariants as query
 pub use Rattle.um_service.specs.View.{action_of}
-pub use Rattle.um_state.specs.Shown.{job_of}
+pub use Rattle.um_state.specs.Shown.{job_of, listed_of}
 use Rattle.um_state.specs.declared.reply.UnitShown.{UnitShown}
 use Rattle.um_state.specs.declared.reply.Reply.{Reply}
 use Rattle.um_state.specs.declared.reply.Reply.TheVariants as reply
@@ -45,6 +45,7 @@ query_of (query.Show unit) = model.Show unit
 query_of (query.IsActive unit) = model.IsActive unit
 query_of (query.Cat unit) = model.Cat unit
 query_of (query.IsEnabled unit) = model.IsEnabled unit
+query_of query.ListUnits = model.ListUnits
 query_of query.ListJobs = model.ListJobs
 
 abbrev pub shown_of : UnitShown → model.UnitShown
@@ -63,6 +64,7 @@ reply_of (reply.Activity state) = model.Activity state
 reply_of (reply.Files files) = model.Files (map file_of files.items)
 reply_of (reply.Relinked made removed) = model.Relinked (map string_bytes made.items) (map string_bytes removed.items)
 reply_of (reply.EnabledAs answer) = model.EnabledAs answer
+reply_of (reply.Listed units) = model.Listed (map listed_of units.items)
 reply_of (reply.Jobs jobs) = model.Jobs (map job_of jobs.items)
 reply_of (reply.Told actions) = model.Told (map action_of actions.items)
 reply_of (reply.Refused r) = model.Refusal (refused_of r)

@@ -99,6 +99,8 @@ pub enum Query {
     Cat { unit: UnitName },
     /// How it is enabled in the tree in hand (systemctl(1), `is-enabled`).
     IsEnabled { unit: UnitName },
+    /// The known units (systemctl(1), `list-units`).
+    ListUnits,
     /// The pending jobs (systemctl(1), `list-jobs`).
     ListJobs,
 }

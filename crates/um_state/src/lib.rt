@@ -11,7 +11,7 @@ mod units;
 pub use boot::BootId;
 pub use input::{Command, Event, Happening, Input, Query};
 pub use laws::{pending_jobs_are_told_apart_by_look_ups, units_are_told_apart_by_look_ups};
-pub use reply::{JobShown, Reply, UnitShown};
+pub use reply::{JobShown, Reply, UnitListed, UnitShown};
 pub use state::State;
 pub use um_service::Action;
 pub use units::{Pending, Units};

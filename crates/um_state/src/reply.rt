@@ -1,4 +1,4 @@
-use um_model::{ActiveState, Enabling, JobKind, JobState, LoadState, UnitState};
+use um_model::{ActiveState, Enabling, JobKind, JobState, LoadState, SubState, UnitState};
 use um_name::UnitName;
 use um_resolve::UnitFile;
 use um_service::Action;
@@ -16,6 +16,13 @@ pub struct UnitShown {
     /// None where the unit isn't loaded.
     pub warnings: Vec<Warning>,
     pub state: UnitState,
+}
+
+/// A known unit as `list-units` tells it.
+#[derive(Debug, Drop)]
+pub struct UnitListed {
+    pub unit: UnitName,
+    pub sub: SubState,
 }
 
 /// A pending job as `list-jobs` tells it.
@@ -42,6 +49,8 @@ pub enum Reply {
     },
     /// How a unit is enabled.
     EnabledAs(Enabling),
+    /// The known units in the order of their names.
+    Listed(Vec<UnitListed>),
     /// The pending jobs in the order of the names of their units, of one unit the stop job first.
     Jobs(Vec<JobShown>),
     /// The actions since they were last asked for.

@@ -1,5 +1,5 @@
-ghost use Rattle.std.specs.Prelude.{◌≡◌, string_bytes, IfOk, OnOk, OnErr, IfErr, Ok, Err};
-ghost use Rattle.um_model.specs.Machine.{empty_state};
+ghost use Rattle.std.specs.Prelude.{◌≡◌, ◌↔◌, ℕ, List, Contains, string_bytes, IsTrue, IfOk, OnOk, OnErr, IfErr, Ok, Err};
+ghost use Rattle.um_model.specs.Machine.{IsHeld, empty_state};
 ghost use Rattle.um_model.specs.Service.{with_unit};
 ghost use Rattle.um_model.specs.Jobs.{with_jobs};
 ghost use Rattle.um_model.specs.Tree.{put_file, put_link, remove_at};
@@ -93,6 +93,23 @@ impl State {
         &self.pending
     }
 
+    /// Whether the state holds anything of the unit: how it stands, or a pending job. It takes no memory.
+    pub fn holds(&self, unit: &UnitName) -> bool
+        ensures { IsTrue result ↔ IsHeld (state_of self.now) unit.now }
+    {
+        self.units.holds(unit) || self.pending.holds(unit)
+    }
+
+    /// The units of which the state holds anything; one may stand twice.
+    pub fn held(&self, alloc: Global) -> Result<Vec<UnitName>, AllocError>
+        ensures { IfOk result (λ names. (unit : List ℕ) → Contains names.items unit ↔ IsHeld (state_of self.now) unit) }
+    {
+        let mut names = Vec::new(alloc);
+        self.units.push_names(&mut names)?;
+        self.pending.push_names(&mut names)?;
+        Ok(names)
+    }
+
     /// Puts a file into the tree in hand, with the refusals of `Tree::put`; all is as before then.
     pub fn put_file(&mut self, path: &str, text: &str) -> Result<(), Refusal>
         ensures ok { OnOk result (put_file (state_of self.old).tree path.now text.now ≡ Ok (state_of self.new).tree) }
@@ -156,6 +173,13 @@ impl State {
         ensures err { OnErr result (state_of self.new ≡ state_of self.old) }
     {
         self.pending.set(unit, jobs)
+    }
+
+    /// Sets the pending jobs, in the place of those that were.
+    pub fn set_pending(&mut self, pending: Pending)
+        ensures { state_of self.new ≡ record (state_of self.old) { pending = pending } }
+    {
+        self.pending = pending;
     }
 
     /// Sets the next process number.

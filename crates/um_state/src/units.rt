@@ -1,21 +1,35 @@
 ghost use Rattle.std.specs.Prelude.{◌≡◌, ◌↔◌, ◌++◌, map, is_some, IsTrue, MatchOption, IfOk, OnOk, OnErr};
 ghost use Rattle.std.specs.Coded.{codes};
+ghost use Rattle.std.specs.Cmp.Lexicographic.{slice_cmp};
 ghost use Rattle.std.specs.FinMap as maps;
-ghost use Rattle.um_model.specs.Jobs.{Job, Unordered, IsReady, BeginsNext, AreTidyJobs, job_shown, jobs_shown_of, jobs_shown, jobs_of_unit, with_jobs};
+ghost use Rattle.std.specs.Ordering.{nat_cmp};
+ghost use Rattle.um_model.specs.Jobs.{AreTidyJobs, job_shown, jobs_shown_of, jobs_shown, jobs_of_unit, with_jobs};
 ghost use Rattle.um_model.specs.Machine.{IsOver, IsProcessOf, AreDeadlines};
 ghost use Rattle.um_model.specs.Service.{ByUnit, AreTidyUnits, state_of_unit, with_unit};
 ghost use Rattle.um_model.specs.declared.jobs.UnitJobs as jobs;
 ghost use Rattle.um_model.specs.declared.service.UnitState as unit;
-ghost use Rattle.um_state.specs.Ready.{ready_kind};
 ghost use Rattle.um_state.specs.Shown.{job_of};
 
 use crate::reply::JobShown;
 use std::alloc::{AllocError, Global};
 use std::collections::BTreeMap;
 use std::marker::Model;
-use um_model::{ActiveState, JobKind, JobState, UnitJobs, UnitState};
+use um_model::{JobKind, JobState, UnitJobs, UnitState};
 use um_name::{UnitName, copy_by_name};
 use um_timer::Timers;
+
+/// Adds the names behind the others, ascending.
+fn push_keys<V>(
+    names: &mut Vec<UnitName>,
+    entries: &BTreeMap<UnitName, V>,
+) -> Result<(), AllocError>
+    ensures { OnOk result (names.new.items ≡ names.old.items ++ maps.keys (maps.from_entries {R = slice_cmp nat_cmp} entries.now.entries)) }
+{
+    for (name, _) in entries.iter() {
+        names.push(name.copy()?)?;
+    }
+    Ok(())
+}
 
 /// What the state holds of units, by name: those that differ from a dead unit of which nothing is known.
 #[derive(Drop)]
@@ -61,6 +75,13 @@ impl Units {
         ensures { result ≡ is_some (maps.get self.now unit.now) }
     {
         self.entries.contains_key(unit)
+    }
+
+    /// Adds the names of the units of which it holds anything behind the others.
+    pub(crate) fn push_names(&self, names: &mut Vec<UnitName>) -> Result<(), AllocError>
+        ensures { OnOk result (names.new.items ≡ names.old.items ++ maps.keys self.now) }
+    {
+        push_keys(names, &self.entries)
     }
 
     /// Sets how the unit stands; a dead one of which nothing is known isn't held. Where memory is refused, all is as before.
@@ -116,21 +137,6 @@ impl Units {
             alloc: self.alloc,
             entries: copy_by_name(self.alloc, &self.entries)?,
         })
-    }
-}
-
-/// Which of a unit's jobs is ready in this active state: its stop job where that waits, or its start job where it waits, no stop job
-/// is pending and the unit isn't deactivating.
-fn ready_kind(active: ActiveState, jobs: UnitJobs) -> Option<JobKind>
-    ensures { result ≡ ready_kind active jobs }
-{
-    match (jobs.stop, jobs.start) {
-        (Some(JobState::Waiting), _) => Some(JobKind::Stop),
-        (None, Some(JobState::Waiting)) => match active {
-            ActiveState::Deactivating => None,
-            _ => Some(JobKind::Start),
-        },
-        _ => None,
     }
 }
 
@@ -198,6 +204,20 @@ impl Pending {
         }
     }
 
+    /// Whether a job of the unit is pending. It takes no memory.
+    pub fn holds(&self, unit: &UnitName) -> bool
+        ensures { result ≡ is_some (maps.get self.now unit.now) }
+    {
+        self.entries.contains_key(unit)
+    }
+
+    /// Adds the names of the units of which a job is pending behind the others.
+    pub(crate) fn push_names(&self, names: &mut Vec<UnitName>) -> Result<(), AllocError>
+        ensures { OnOk result (names.new.items ≡ names.old.items ++ maps.keys self.now) }
+    {
+        push_keys(names, &self.entries)
+    }
+
     /// Sets the pending jobs of the unit. Where memory is refused, all is as before.
     pub fn set(&mut self, unit: &UnitName, jobs: UnitJobs) -> Result<(), AllocError>
         ensures ok { OnOk result (self.new ≡ with_jobs self.old unit.now jobs) }
@@ -209,21 +229,6 @@ impl Pending {
             self.entries.remove(unit);
         }
         Ok(())
-    }
-
-    /// The job that begins next where no order of units is read, by its unit and its kind: of those that are ready the one with the least name of its unit, and
-    /// of one unit the stop job first. None only where no job is ready. It takes no memory.
-    pub fn next_job(&self, units: &Units) -> Option<(&UnitName, JobKind)>
-        ensures { MatchOption result
-            ((job : Job) → ¬ IsReady Unordered units.now self.now job)
-            (λ next. BeginsNext Unordered units.now self.now (record { unit = next.0.now; kind = next.1 })) }
-    {
-        for (unit, jobs) in self.entries.iter() {
-            if let Some(kind) = ready_kind(units.get(unit).sub.active_state(), *jobs) {
-                return Some((unit, kind));
-            }
-        }
-        None
     }
 
     /// The pending jobs as they are told: in the order of the names of their units, of one unit the stop job first.

@@ -14,9 +14,10 @@ use Rattle.um_model.specs.Units.{LoadedUnit, Found, Masked, NotFound, BadSetting
 use Rattle.um_model.specs.declared.jobs.UnitJobs.{UnitJobs}
 use Rattle.um_unit.specs.View.{loading_of}
 use Rattle.um_unit.specs.declared.loaded.Loading.TheVariants as loading
+use Rattle.um_wire.specs.Gives.{RefusesBy}
 use Rattle.um_wire.specs.declared.refusal.Refusal.{Refusal}
 use Rattle.um_graph.specs.Graph.{GraphView}
-use Rattle.um_transact.specs.Checks.{BarsBy, CannotStartBy, RefusesBy, is_started}
+use Rattle.um_transact.specs.Checks.{BarsBy, CannotStartBy, is_started}
 use Rattle.um_jobs.specs.Named.{jobs_at}
 use Rattle.um_graph.specs.Named.{name_at}
 use Rattle.um_transact.specs.Situation.{is_loadable_at}

@@ -23,7 +23,7 @@ use Rattle.um_transact.specs.Walk.{Demanded, IsMarked, marks_at}
 use Rattle.um_transact.specs.declared.walk.Marks.{Marks}
 use Rattle.um_graph.proofs.NamedLaws.{IsApart, among_or_apart, got_within, item_at, name_got, name_is, names_once}
 use Rattle.um_jobs.proofs.NamedLaws.{jobs_by_at, jobs_by_none, jobs_by_tidy}
-use Rattle.um_transact.proofs.RowLaws.{or_cases, or_left, or_right}
+use Rattle.std.proofs.lemmas.Bool.{or_cases, or_left, or_right}
 use Rattle.um_transact.proofs.SceneLaws.{demanded_named, named_demanded}
 
 false_if : (b : Bool) → (b ≡ true → ⊥) → b ≡ false

@@ -15,7 +15,9 @@ use Rattle.um_graph.specs.Kinds.{has, bit_of, inverse_bit_of}
 use Rattle.um_graph.specs.declared.row.Neighbour.{Neighbour}
 use Rattle.um_transact.specs.Situation.{IsDemandedBy, IsRequiredBy, IsStartableBy, LeadsAlongBy, LeadsBy, is_loadable_at}
 use Rattle.um_transact.specs.Walk.{Demanded, activity_at, brings, brought, brought_by, conflicts, leans, needs}
-use Rattle.um_transact.proofs.RowLaws.{and_both, and_parts, by_one, contains_flat, flat_contains, or_cases, or_left, or_right, to_one}
+use Rattle.std.proofs.lemmas.Bool.{and_from, and_parts, or_cases, or_left, or_right}
+use Rattle.um_graph.proofs.ListLaws.{contains_flat, flat_contains}
+use Rattle.um_transact.proofs.RowLaws.{by_one, to_one}
 
 active_is : (a : ActiveState) → is_active a ≡ true → a ≡ Active
 active_is Inactive h = cc
@@ -105,7 +107,7 @@ module _ (g : GraphView) (is : IsGraph g) (activity : List ActiveState) where
   finds p q (conflicted {x = x} {y = y} restarts h) =
       let t = (is.mirrored Conflicts x y).1 h in found Restart Stop (inverse_bit_of Conflicts) x y t (or_right (has (bit_of Conflicts) t.neighbour.kinds) (has (inverse_bit_of Conflicts) t.neighbour.kinds) t.kind)
   finds p q (stopped {x = x} {y = y} l) = found_leaning Stop x y l (λ n e b. b)
-  finds p q (restarted {x = x} {y = y} l a) = found_leaning Restart x y l (λ n e b. and_both (leans n) (active n) b (ap is_active (ap (activity_at activity) e ∙ a)))
+  finds p q (restarted {x = x} {y = y} l a) = found_leaning Restart x y l (λ n e b. and_from (leans n) (active n) b (ap is_active (ap (activity_at activity) e ∙ a)))
 
   brought_leads : (p q : Demanded) → LeadsBy g activity p q → Leads p q
   brought_leads p q c =

@@ -1,7 +1,7 @@
 -- The pairs of numbers are the order of the jobs.
 use Rattle.std.proofs.Common.{◌≡◌, ◌≢◌, ◌⊎◌, ◌&&◌, ◌==◌, ◌+◌, ◌*◌, ◌/◌, ◌%◌, ◌<◌, ℕ, zero, suc, Bool, true, false, cond, List, [], ◌∷◌, ◌++◌, length, map, Contains, get_or, Option, Some, None, is_some, slice_index, refl, sym, ap, ◌∙◌, subst, inl, inr, arith}
 use Rattle.std.specs.List.{flat_map}
-use Rattle.std.proofs.lemmas.Bool.{cases_lt}
+use Rattle.std.proofs.lemmas.Bool.{cases_lt, and_from, and_parts}
 use Rattle.std.proofs.lemmas.Bool.Decides.{Decides-eqb}
 use Rattle.std.proofs.lemmas.List.Elements.{Contains-append_left, Contains-append_right, Contains-append_cases, Contains-get_or, All-map}
 use Rattle.um_model.specs.Jobs.{Job, ComesBefore, GoesBefore, starts, stops, stops_then_starts, stops_then_starts_before, of_one_unit, has_job, job_of, jobs_of_unit, no_jobs}
@@ -26,7 +26,7 @@ use Rattle.um_jobs.specs.Named.{jobs_at, jobs_by}
 use Rattle.um_graph.specs.Named.{name_at, Joins}
 use Rattle.um_graph.proofs.NamedLaws.{IsAmong, IsApart, among_or_apart, got_within, name_got, name_is, names_once, not_before}
 use Rattle.um_jobs.proofs.NamedLaws.{jobs_by_at, jobs_by_none}
-use Rattle.um_transact.proofs.RowLaws.{and_both, and_parts, contains_flat, flat_contains}
+use Rattle.um_graph.proofs.ListLaws.{contains_flat, flat_contains}
 use Rattle.um_graph.proofs.StandLaws.{stands_within}
 
 -- ---- the pairs of the rows, one row after another
@@ -226,7 +226,7 @@ module _ (g : GraphView) (is : IsGraph g) (plan : List UnitJobs) where
 
   pair_has : (m n : Node) → Inside m → Inside n → Before (job_named g.names m) (job_named g.names n) → Contains (pair_of plan m n) (number_of m, number_of n)
   pair_has m n h k b = one_has (is_some (job_of m.0 (jobs_at plan m.1)) && is_waiting (job_of n.0 (jobs_at plan n.1))) (number_of m, number_of n)
-      (and_both (is_some (job_of m.0 (jobs_at plan m.1))) (is_waiting (job_of n.0 (jobs_at plan n.1))) (is_some_by (job_of m.0 (jobs_at plan m.1)) (λ e. b.pends (held m h ∙ e)))
+      (and_from (is_some (job_of m.0 (jobs_at plan m.1))) (is_waiting (job_of n.0 (jobs_at plan n.1))) (is_some_by (job_of m.0 (jobs_at plan m.1)) (λ e. b.pends (held m h ∙ e)))
       (ap is_waiting (sym (held n k) ∙ b.waits)))
 
   joined : (x y : ℕ) → Stands g.rows before_bit x y → IsBefore (name_at g.names x) (name_at g.names y)

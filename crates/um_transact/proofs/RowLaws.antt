@@ -1,6 +1,5 @@
 -- What stands in the rows of a graph, and what is found in the row of a unit.
-use Rattle.std.proofs.Common.{◌≡◌, ◌⊎◌, ◌||◌, ◌&&◌, ◌<◌, zero, suc, Bool, true, false, List, [], ◌∷◌, ◌++◌, length, Contains, refl, sym, subst, inl, inr, arith}
-use Rattle.std.specs.List.{flat_map}
+use Rattle.std.proofs.Common.{◌≡◌, ◌<◌, zero, suc, Bool, true, false, List, ◌++◌, length, Contains, refl, subst, inl, inr, arith}
 use Rattle.std.proofs.lemmas.List.Elements.{Contains-append_left, Contains-append_right, Contains-append_cases}
 use Rattle.um_model.specs.Jobs.{is_active}
 use Rattle.um_model.specs.declared.dependencies.Demand.{Demand}
@@ -8,42 +7,10 @@ use Rattle.um_model.specs.declared.dependencies.Demand.TheVariants.{Start, Stop,
 use Rattle.um_model.specs.declared.service.ActiveState.{ActiveState}
 use Rattle.um_graph.specs.Graph.{GraphView, IsGraph, row_of}
 use Rattle.um_graph.specs.declared.row.Neighbour.{Neighbour}
+use Rattle.um_graph.proofs.ListLaws.{flat_contains}
 use Rattle.um_graph.proofs.StandLaws.{neighbour_within}
 use Rattle.um_transact.specs.Situation.{LeadsBy}
 use Rattle.um_transact.specs.Walk.{Demanded, activity_at, brings, brought_by, one_if}
-
-pub contains_flat : {A B : Type 0} (f : A → List B) (xs : List A) (x : A) (y : B) → Contains xs x → Contains (f x) y → Contains (flat_map f xs) y
-contains_flat f [] x y (k, h, e) c = absurd (omega arith)
-contains_flat f (z ∷ xs) x y (zero, h, e) c = Contains-append_left (f z) (flat_map f xs) y (subst (λ w. Contains (f w) y) (sym e) c)
-contains_flat f (z ∷ xs) x y (suc k, h, e) c = Contains-append_right (f z) (flat_map f xs) y (contains_flat f xs x y (k, omega arith, e) c)
-
-pub flat_contains : {A B : Type 0} (f : A → List B) (xs : List A) (y : B) → Contains (flat_map f xs) y → (x : A) × Contains xs x × Contains (f x) y
-flat_contains f [] y (k, h, e) = absurd (omega arith)
-flat_contains f (z ∷ xs) y c = elim (Contains-append_cases (f z) (flat_map f xs) y c) [
-  | inl a ↦ (z, (0, omega arith, refl), a)
-  | inr b ↦ let r = flat_contains f xs y b in (r.0, (suc r.1.0, omega (arith, r.1.1), r.1.2), r.2)
-]
-
--- ---- tests
-pub or_cases : (a b : Bool) → (a || b) ≡ true → (a ≡ true) ⊎ (b ≡ true)
-or_cases true b h = inl refl
-or_cases false b h = inr h
-
-pub or_left : (a b : Bool) → a ≡ true → (a || b) ≡ true
-or_left true b h = refl
-or_left false b h = cc
-
-pub or_right : (a b : Bool) → b ≡ true → (a || b) ≡ true
-or_right true b h = refl
-or_right false b h = h
-
-pub and_both : (a b : Bool) → a ≡ true → b ≡ true → (a && b) ≡ true
-and_both true b h k = k
-and_both false b h k = cc
-
-pub and_parts : (a b : Bool) → (a && b) ≡ true → (a ≡ true) × (b ≡ true)
-and_parts true b h = (refl, h)
-and_parts false b h = cc
 
 -- ---- what is found by one neighbour
 one_cases : (b : Bool) (p q : Demanded) → Contains (one_if b p) q → (b ≡ true) × (p ≡ q)

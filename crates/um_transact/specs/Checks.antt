@@ -69,11 +69,6 @@ pub record DropsBy (g : GraphView) (mode : JobMode) (pending plan : List UnitJob
 
 -- ---- all units
 
--- a check passes where no refusal has a cause, or refuses for one; or it lacks memory
-abbrev pub RefusesBy : {X : Type 0} → (Refused → Type 0) → Result X Refusal → Type 0
-RefusesBy Cause (Ok done) = (r : Refused) → ¬ Cause r
-RefusesBy Cause (Err e) = (e ≢ NoMemory) → Cause (refused_of e)
-
 -- the refusal of the first unit that gives one
 pub record RefusesFirst (Refuses : ℕ → Refused → Type 0) (n : ℕ) (r : Refused) : Type 0 where
   pub unit : ℕ

@@ -4,8 +4,9 @@ ghost use Rattle.std.specs.Prelude.{◌≡◌, ◌↔◌, IsTrue, length};
 ghost use Rattle.um_graph.specs.Graph.{IsGraph};
 ghost use Rattle.um_model.specs.declared.commands.JobMode.TheVariants.{Fail};
 ghost use Rattle.um_transact.specs.Checks as told;
-ghost use Rattle.um_transact.specs.Checks.{BarsBy, CannotStartBy, ChecksBy, ClashesBy, DropsBy, RefusesBy};
+ghost use Rattle.um_transact.specs.Checks.{BarsBy, CannotStartBy, ChecksBy, ClashesBy, DropsBy};
 ghost use Rattle.um_jobs.specs.Named.{jobs_at};
+ghost use Rattle.um_wire.specs.Gives.{RefusesBy};
 
 use crate::demands::marks_of;
 use crate::refusals::{check_start, clash, job_conflict};

@@ -9,5 +9,6 @@ mod plan;
 mod refusals;
 mod walk;
 
+pub use order::check_pending;
 pub use plan::{Plan, build};
-pub use refusals::check_start;
+pub use refusals::{check_start, job_conflict};

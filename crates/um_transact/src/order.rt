@@ -1,10 +1,12 @@
 //! The order of the pending jobs (systemd.unit(5), "Before=, After="): whether they would wait for one another in a circle.
 
 ghost use Rattle.std.specs.Prelude.{◌≡◌, ◌+◌, ◌*◌, ◌/◌, ◌^◌, ◌<◌, ◌≤◌, ◌++◌, IfOk, OnOk, length, map, string_bytes, vec_len};
-ghost use Rattle.um_graph.specs.Graph.{IsGraph, row_of};
+ghost use Rattle.um_graph.specs.Graph.{row_of};
 ghost use Rattle.um_graph.specs.Kinds.{before_bit};
 ghost use Rattle.um_model.specs.Jobs as jobs;
+ghost use Rattle.um_model.specs.Plan.{NamesCycle};
 ghost use Rattle.um_transact.specs.Checks.{OrdersBy};
+ghost use Rattle.um_wire.specs.Gives.{RefusesBy};
 ghost use Rattle.um_transact.specs.Order.{ArePairs, Node, number_of, pair_of, pairs_before, pairs_by, pairs_in};
 ghost use Rattle.um_jobs.specs.Named.{jobs_at, jobs_by};
 ghost use Rattle.um_graph.specs.Named.{Joins, name_at};
@@ -107,11 +109,11 @@ fn push_row(
 /// The order of the jobs, over their numbers. The row of a unit without a job tells nothing.
 fn pairs(alloc: Global, graph: &Graph, plan: &[UnitJobs]) -> Result<Vec<(usize, usize)>, AllocError>
     requires { length plan.now ≤ 2 ^ 62 }
-    ensures { IfOk result (λ pairs. ArePairs graph.now.rows plan.now (length plan.now) pairs.items) }
+    ensures { IfOk result (λ pairs. ArePairs graph.now.rows plan.now (length graph.now.names) pairs.items) }
 {
     let mut pairs = Vec::new(alloc);
-    for unit in 0..plan.len() {
-        if plan[unit].has_job() {
+    for unit in 0..graph.len() {
+        if jobs_of(plan, unit).has_job() {
             push_row(&mut pairs, graph, plan, unit)?;
         }
     }
@@ -139,17 +141,16 @@ fn units_of(alloc: Global, graph: &Graph, cycle: &[usize]) -> Result<Texts, Allo
     Ok(Texts { items })
 }
 
-/// Refuses a plan by which pending jobs would wait for one another in a circle: E9 with the units of one such circle, the least
-/// first.
-pub fn check_order(alloc: Global, graph: &Graph, plan: &[UnitJobs]) -> Result<(), Refusal>
-    requires graph { IsGraph graph.now }
-    requires jobs { length plan.now ≡ length graph.now.names }
-    ensures { OrdersBy (Joins graph.now before_bit) (jobs_by graph.now.names plan.now) result }
+/// Refuses pending jobs, those of the units by number, that would wait for one another in a circle: E9 with the units of one such
+/// circle, the least first. A unit past their end has none.
+pub fn check_pending(alloc: Global, graph: &Graph, pending: &[UnitJobs]) -> Result<(), Refusal>
+    ensures orders { OrdersBy (Joins graph.now before_bit) (jobs_by graph.now.names pending.now) result }
+    ensures refuses { RefusesBy (NamesCycle (Joins graph.now before_bit) (jobs_by graph.now.names pending.now)) result }
 {
-    let Some(nodes) = plan.len().checked_mul(2) else {
+    let Some(nodes) = graph.len().checked_mul(2) else {
         return Err(Refusal::NoMemory);
     };
-    let pairs = pairs(alloc, graph, plan)?;
+    let pairs = pairs(alloc, graph, pending)?;
     match check(alloc, nodes, &pairs)? {
         Order::Numbering(_) => Ok(()),
         Order::Cycle(cycle) => Err(Refusal::OrderingCycle {

@@ -13,7 +13,7 @@ ghost use Rattle.um_wire.specs.declared.refusal.Refusal.TheVariants.{NoMemory};
 
 use crate::checks::{check_bars, check_clashes, check_drops};
 use crate::demands::{demanded, marks_of};
-use crate::order::check_order;
+use crate::order::check_pending;
 use crate::walk::Marks;
 use std::alloc::{AllocError, Global};
 use std::marker::Model;
@@ -40,6 +40,13 @@ impl Plan {
         ensures { result ≡ jobs_at self.now unit }
     {
         jobs_of(&self.jobs, unit)
+    }
+
+    /// The jobs of each unit, in the order of their numbers.
+    pub fn as_slice(&self) -> &[UnitJobs]
+        ensures { result.now ≡ self.now }
+    {
+        self.jobs.as_slice()
     }
 }
 
@@ -132,6 +139,6 @@ pub fn build(
     check_bars(alloc, graph, &marks)?;
     check_clashes(alloc, graph, &marks)?;
     check_drops(alloc, graph, mode, pending, &jobs)?;
-    check_order(alloc, graph, &jobs)?;
+    check_pending(alloc, graph, &jobs)?;
     Ok(Plan { jobs })
 }

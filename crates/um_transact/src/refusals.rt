@@ -4,8 +4,8 @@ ghost use Rattle.std.specs.Prelude.{◌≡◌, IfOk, string_bytes};
 ghost use Rattle.um_model.specs.Machine as machine;
 ghost use Rattle.um_model.specs.Refusals as told;
 ghost use Rattle.um_model.specs.Units as units;
-ghost use Rattle.um_transact.specs.Checks.{RefusesBy};
 ghost use Rattle.um_unit.specs.View.{loading_of, unit_of};
+ghost use Rattle.um_wire.specs.Gives.{RefusesBy};
 ghost use Rattle.um_wire.specs.Refusal.{refused_of};
 ghost use Rattle.um_wire.specs.declared.refusal.Refusal.TheVariants.{NoMemory};
 
@@ -76,7 +76,7 @@ pub fn job_conflict(alloc: Global, unit: &UnitName) -> Refusal
 fn is_served_kind(kind: UnitKind) -> bool
     ensures { result ≡ machine.is_served_kind kind }
 {
-    matches!(kind, UnitKind::Simple)
+    matches!(kind, UnitKind::Simple | UnitKind::Target)
 }
 
 /// Refuses to start a unit that was found and isn't a simple service, or is a template (E6).

@@ -10,6 +10,22 @@ pub enum Entry<'a> {
     Link(&'a str),
 }
 
+impl<'a> Entry<'a> {
+    ghost use Rattle.std.specs.Prelude.{◌≡◌};
+    ghost use Rattle.um_model.specs.Weight.{text_of_entry};
+    ghost use Rattle.um_tree.specs.View.{entry_of};
+
+    /// The text of the file, or the link's target.
+    pub(crate) fn text(self) -> &'a str
+        ensures { result.now ≡ text_of_entry (entry_of self.entry) }
+    {
+        match self {
+            Entry::File(text) => text,
+            Entry::Link(target) => target,
+        }
+    }
+}
+
 /// What stands at a path, as the tree holds it: copies of a tree share its texts.
 #[derive(Drop)]
 pub(crate) enum Stored {

@@ -1,8 +1,9 @@
-ghost use Rattle.std.specs.Prelude.{◌≡◌, Some, Ok, Err, IfErr, IfOk, IsOk, IsTrue, OnErr, OnOk, option_map};
+ghost use Rattle.std.specs.Prelude.{◌≡◌, ◌≤◌, ◌^◌, Some, Ok, Err, IfErr, IfOk, IsOk, IsTrue, OnErr, OnOk, option_map};
 ghost use Rattle.std.specs.FinMap as map;
 ghost use Rattle.std.specs.Map.Iter.{ShowsInOrder};
 ghost use Rattle.um_model.specs.Tree as model;
 ghost use Rattle.um_model.specs.Refusals as told;
+ghost use Rattle.um_model.specs.Weight.{entry_weight, tree_weight};
 ghost use Rattle.um_model.specs.declared.refusals.Limit as limits;
 ghost use Rattle.um_tree.specs.View.{entry_of, path_with_entry, refused_by, stored_entry, tree_of};
 ghost use Rattle.um_wire.specs.Refusal.{refused_of};
@@ -25,6 +26,9 @@ const TEXT_LIMIT: usize = 65_536;
 
 /// A tree has at most so many entries.
 const ENTRY_LIMIT: usize = 4_096;
+
+/// An entry weighs so many bytes beside its path and its text or target.
+const ENTRY_WEIGHT: u64 = 32;
 
 /// A finite map from served paths to files and links (systemd.unit(5), "Unit File Load Path").
 #[derive(Drop)]
@@ -81,6 +85,19 @@ impl Tree {
         ensures tree { model.IsTree self.now }
     {
         self.entries.len()
+    }
+
+    /// What the tree weighs: an upper bound of the bytes that it takes in a snapshot, of each entry 32 beside those of its path and
+    /// of its text or target. It takes no memory.
+    pub fn weight(&self) -> u64
+        ensures weight { result ≡ tree_weight self.now }
+        ensures light { tree_weight self.now ≤ 2 ^ 29 }
+    {
+        let mut weight = 0;
+        for (path, entry) in self.entries() {
+            weight += entry_weight(path, entry);
+        }
+        weight
     }
 
     /// The same tree again. It takes memory for the paths alone: the two share their texts.
@@ -265,6 +282,14 @@ impl Tree {
         self.take_out(path);
         Ok(())
     }
+}
+
+/// What an entry weighs at its path.
+fn entry_weight(path: &str, entry: Entry<'_>) -> u64
+    requires { entry_weight path.now (entry_of entry) ≤ 2 ^ 17 }
+    ensures { result ≡ entry_weight path.now (entry_of entry.entry) }
+{
+    ENTRY_WEIGHT + path.len() as u64 + entry.text().len() as u64
 }
 
 fn is_volatile(path: &str) -> bool

@@ -21,6 +21,9 @@ returns-in-IsEnabled c =
     let enabled = rw c.tree-in-IsEnabled.ensures at c.enabled_as.ensures in
     rw c.in-IsEnabled.is (IfOk-weaker c.enabled_as.result _ _ (λ r is. tells_enabling_so (state_of c.args.state.now) c.in-IsEnabled.unit (reply_of r) is) enabled)
 
+pub returns-in-ListUnits : goal.returns-in-ListUnits
+returns-in-ListUnits c = rw c.in-ListUnits.is c.list_units.ensures
+
 pub returns-in-ListJobs : goal.returns-in-ListJobs
 returns-in-ListJobs c =
     rw c.in-ListJobs.is (IfOk-weaker c.list_jobs.result _ _ (λ r is. lists_jobs_so (state_of c.args.state.now) (reply_of r) is) c.list_jobs.ensures)

@@ -1,5 +1,27 @@
-use Rattle.um_engine.proofs.Causes.{free_to_reload}
+use Rattle.std.proofs.Common.{◌≡◌, ap, subst}
+use Rattle.um_model.specs.Machine.{State}
+use Rattle.um_state.specs.View.{state_of}
+use Rattle.um_engine.specs.Known.{HoldsNoMore}
+use Rattle.um_engine.proofs.KnownLaws.{put_holds_no_more, link_holds_no_more, remove_holds_no_more, waiting_holds_no_more}
 use Rattle.um_engine.proofs.commands.changed.Goals as goal
 
-pub returns-in_ok-reloaded-in-DaemonReload-clause-refused : goal.returns-in_ok-reloaded-in-DaemonReload-clause-refused
-returns-in_ok-reloaded-in-DaemonReload-clause-refused c = rw c.in-DaemonReload.is (λ r. free_to_reload _ r)
+pub done-requires : goal.done-requires
+done-requires c =
+    let u = state_of c.in_ok-changed-in-PutFile.changed in
+    subst (λ (s : State). HoldsNoMore s u) c.state-state.ensures.state
+    (put_holds_no_more (state_of c.state-state.result.now) u _ _ c.in_ok-changed-in-PutFile.ensures.changed)
+
+pub done-requires-in-PutLink : goal.done-requires-in-PutLink
+done-requires-in-PutLink c =
+    let u = state_of c.in_ok-changed-in-PutLink.changed in
+    subst (λ (s : State). HoldsNoMore s u) c.state-state.ensures.state
+    (link_holds_no_more (state_of c.state-state.result.now) u _ _ c.in_ok-changed-in-PutLink.ensures.changed)
+
+pub done-requires-in-Remove : goal.done-requires-in-Remove
+done-requires-in-Remove c =
+    let u = state_of c.in_ok-changed-in-Remove.changed in
+    subst (λ (s : State). HoldsNoMore s u) c.state-state.ensures.state
+    (remove_holds_no_more (state_of c.state-state.result.now) u _ c.in_ok-changed-in-Remove.ensures.changed)
+
+pub done-requires-in-Cancel : goal.done-requires-in-Cancel
+done-requires-in-Cancel c = waiting_holds_no_more c.args.served.now.state _ (state_of c.in_ok-changed-in-Cancel.changed) c.in_ok-changed-in-Cancel.ensures.changed

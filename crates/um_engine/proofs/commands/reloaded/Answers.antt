@@ -1,6 +1,26 @@
-use Rattle.um_engine.proofs.Causes.{reloads_to}
+use Rattle.std.proofs.Common.{◌≡◌, ◌≢◌, rules, sym, subst}
+use Rattle.um_model.specs.Machine as model
+use Rattle.um_model.specs.Refusals.{Refused}
 use Rattle.um_state.specs.View.{state_of}
+use Rattle.um_wire.specs.Refusal.{refused_of}
+use Rattle.um_wire.specs.declared.refusal.Refusal.TheVariants.{NoMemory}
+use Rattle.um_engine.proofs.Causes.{free_to_reload, reloads_to}
 use Rattle.um_engine.proofs.commands.reloaded.Goals as goal
 
-pub returns : goal.returns
-returns c = reloads_to (state_of c.args.state.now) (state_of c.in_ok-changed.changed) (state_of c.reload.new.self) c.in_ok-changed.ensures c.in_ok-reload.ensures.ok
+pub returns-in_err-known-clause-refused : goal.returns-in_err-known-clause-refused
+returns-in_err-known-clause-refused c =
+    let s = state_of c.args.state.now in
+    let step : c.in_err-known.field-0.0 ≢ NoMemory → model.Refuses s model.DaemonReload (refused_of c.in_err-known.field-0.0) =
+    λ differs. model.reloads_none (subst (λ t. model.CausesOfLoad s t (refused_of c.in_err-known.field-0.0)) c.tree.ensures (c.in_err-known.ensures.refused differs)) in
+    search (rules, step)
+
+pub returns-clause-changed : goal.returns-clause-changed
+returns-clause-changed c =
+    let s = state_of c.args.state.now in
+    subst (model.Changes s model.DaemonReload) (sym c.with.ensures.state)
+    (reloads_to s (state_of c.in_ok-changed.changed) (state_of c.reload.new.self) c.in_ok-changed.ensures c.in_ok-reload.ensures.ok)
+
+pub returns-clause-refused : goal.returns-clause-refused
+returns-clause-refused c =
+    let s = state_of c.args.state.now in
+    free_to_reload s (subst (λ t. (r : Refused) → ¬ model.CausesOfLoad s t r) c.tree.ensures c.in_ok-known.ensures.refused)

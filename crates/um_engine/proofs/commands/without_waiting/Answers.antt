@@ -1,10 +1,27 @@
+use Rattle.std.proofs.Common.{◌≡◌, ◌∙◌, sym, ap, subst}
+use Rattle.um_model.specs.Jobs.{cancelled, jobs_of_unit}
+use Rattle.um_model.specs.Machine as model
+use Rattle.um_model.specs.Machine.{State}
+use Rattle.um_model.specs.Units.{load, name_in}
 use Rattle.um_state.specs.View.{state_of}
+use Rattle.um_engine.specs.Known.{KnownView}
+use Rattle.um_engine.specs.Planned.{Loads}
 use Rattle.um_engine.proofs.Causes.{cancels_to}
 use Rattle.um_engine.proofs.commands.without_waiting.Goals as goal
 
 pub returns-clause-changed : goal.returns-clause-changed
 returns-clause-changed c =
-    let unit = rw (c.in_ok-loading.ensures, c.loaded.ensures) at c.name_in-unit.ensures in
-    let jobs = rw (c.get.ensures.jobs, c.pending.ensures, unit) at c.cancelled-jobs.ensures in
-    cancels_to (state_of c.args.state.now) c.args.asked.now (state_of c.in_ok-changed.changed) (state_of c.set_jobs.new.self)
-    c.name_in-unit.result.now c.cancelled-jobs.result c.in_ok-changed.ensures unit jobs c.in_ok-set_jobs.ensures.ok
+    let s : State = c.args.served.now.state in
+    let known : KnownView = c.args.served.now.known in
+    let asked = c.args.asked.now in
+    let unit = c.in_ok-leads.leads.unit in
+    let graph : c.graph.result.now ≡ known.graph = c.graph.ensures ∙ ap (λ (k : KnownView). k.graph) c.known.ensures.known in
+    let tree : c.loaded.result.now ≡ s.loaded = c.loaded.ensures ∙ ap (λ (x : State). x.loaded) c.state-state.ensures.state in
+    let loads : Loads c.graph.result.now c.loaded.result.now =
+    subst (λ g. Loads g c.loaded.result.now) (sym graph) (subst (Loads known.graph) (sym tree) c.known.ensures.knows.made.of.loaded) in
+    let leads : unit ≡ model.unit_asked s asked = c.in_ok-leads.ensures.unit loads ∙ ap (λ t. name_in asked (load t asked)) tree in
+    let pending : c.pending.result.now ≡ s.pending = c.pending.ensures ∙ ap (λ (x : State). x.pending) c.state-state.ensures.state in
+    let jobs : c.cancelled-jobs.result ≡ cancelled (model.jobs_asked s asked) =
+    c.cancelled-jobs.ensures ∙ ap cancelled (c.get.ensures.jobs ∙ (ap (λ p. jobs_of_unit p unit) pending ∙ ap (jobs_of_unit s.pending) leads)) in
+    cancels_to s asked (state_of c.in_ok-changed.changed) (state_of c.set_jobs.new.self) unit c.cancelled-jobs.result
+    (c.in_ok-changed.ensures ∙ c.state-state.ensures.state) leads jobs c.in_ok-set_jobs.ensures.ok

@@ -1,31 +1,45 @@
-use Rattle.std.proofs.Common.{map, arith}
+use Rattle.std.proofs.Common.{map}
+use Rattle.um_engine.proofs.AlongLaws.{known_by}
+use Rattle.um_engine.proofs.Carried.{kept_then}
+use Rattle.um_engine.proofs.ReadyLaws.{begun_drops, begun_keeps, serves_begun}
 use Rattle.um_engine.proofs.Steps.{settled, settles_more}
-use Rattle.um_model.proofs.WaitingLaws.{begun_fewer, begun_no_more}
+use Rattle.um_model.specs.Jobs.{Job}
 use Rattle.um_state.specs.View.{state_of, action_of}
 use Rattle.um_engine.proofs.settling.settle.Goals as goal
 
 pub jobs-smaller : goal.jobs-smaller
 jobs-smaller c =
-    let next = rw c.in-Some.is at c.in_ok-unit.ensures in
-    let (new, happens, is) = rw (c.begins.ensures, c.in_ok-begin_job.ensures) at c.in_ok-carry_out.ensures in
-    begun_fewer c.args.moment (state_of c.jobs.state) (state_of c.carry_out.new.state) new (record { unit = c.in-Some.unit; kind = c.in-Some.kind }) next happens
-    c.args.state.now.pending c.jobs.invariant.1
+    let job : Job = record { unit = c.in-Some.next.name; kind = c.in-Some.next.kind } in
+    let waits = rw c.in-Some.is at c.in_ok-next.ensures.waits in
+    let number = rw c.in-Some.is at c.in_ok-next.ensures.number in
+    begun_drops c.args.graph.now (state_of c.jobs.state) (state_of c.begin_job.new.state) (state_of c.carry.new.state) job (waits (state_of c.jobs.state) c.jobs.invariant.tells)
+    (known_by c.args.graph.now c.in-Some.next.unit c.in-Some.next.name number) c.in_ok-begin_job.ensures c.in_ok-fails.ensures.waits
 
 pub jobs-preserved : goal.jobs-preserved
 jobs-preserved c =
-    let next = rw c.in-Some.is at c.in_ok-unit.ensures in
-    let happened = rw (c.begins.ensures, c.in_ok-begin_job.ensures) at c.in_ok-carry_out.ensures in (
-      λ v after later.
-          c.jobs.invariant.0 v after
-          (settles_more c.args.moment (state_of c.jobs.state) (state_of c.carry_out.new.state) v (map action_of c.jobs.actions.items) (map action_of c.carry_out.new.actions.items) after
-          (record { unit = c.in-Some.unit; kind = c.in-Some.kind }) next happened later),
-      λ unit.
-          let (new, happens, is) = happened in
-          let now = begun_no_more c.args.moment (state_of c.jobs.state) (state_of c.carry_out.new.state) new (record { unit = c.in-Some.unit; kind = c.in-Some.kind }) next happens unit in
-          let before = c.jobs.invariant.1 unit in
-          omega arith,
-    )
+    let job : Job = record { unit = c.in-Some.next.name; kind = c.in-Some.next.kind } in
+    let next = rw c.in-Some.is at c.in_ok-next.ensures.next in
+    let number = rw c.in-Some.is at c.in_ok-next.ensures.number in
+    let known = known_by c.args.graph.now c.in-Some.next.unit c.in-Some.next.name number in
+    record {
+      tells = c.in_ok-tell_anew.ensures (state_of c.jobs.state) c.jobs.invariant.tells number
+          (λ none. kept_then c.in-Some.next.name (state_of c.jobs.state) (state_of c.begin_job.new.state) (state_of c.carry.new.state)
+          (begun_keeps (state_of c.jobs.state) (state_of c.begin_job.new.state) job c.in_ok-begin_job.ensures) (c.in_ok-fails.ensures.others none));
+      whole = λ serves.
+          let (whole, serves_now) = c.jobs.invariant.whole serves in
+          let begun = serves_begun c.args.graph.now (state_of c.jobs.state) (state_of c.begin_job.new.state) job serves_now known c.in_ok-begin_job.ensures in
+          let (carries, serves_on) = c.in_ok-fails.ensures.carries begun known in
+          let carried = rw (c.begins-event.ensures, c.in_ok-begin_job.ensures) at carries in (
+            λ v after later.
+                whole v after
+                (settles_more c.args.moment (state_of c.jobs.state) (state_of c.carry.new.state) v (map action_of c.jobs.actions.items) (map action_of c.carry.new.actions.items) after
+                job (next (state_of c.jobs.state) serves_now c.jobs.invariant.tells) carried later),
+            serves_on,
+          );
+    }
 
 pub returns : goal.returns
-returns c =
-    c.jobs.invariant.0 _ _ (settled c.args.moment (state_of c.jobs.state) (map action_of c.jobs.actions.items) (rw c.in_default.is at c.in_ok-unit.ensures))
+returns c = λ serves.
+    let (whole, serves_now) = c.jobs.invariant.whole serves in
+    let none = rw c.in_default.is at c.in_ok-next.ensures.next in
+    (whole _ _ (settled c.args.moment (state_of c.jobs.state) (map action_of c.jobs.actions.items) (none (state_of c.jobs.state) serves_now c.jobs.invariant.tells)), serves_now)

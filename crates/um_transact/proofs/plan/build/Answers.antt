@@ -54,8 +54,8 @@ returns-in_err-check_drops-clause-refused c =
     λ differs name number. refused_drops g c.len.ensures.graph c.args.activity.now c.args.pending.now c.args.demand c.args.unit known marks c.in_ok-marks.ensures.marks c.args.mode plan each name number able apart _ (refused differs) in
     err_is _ c.from_residual-in_err-check_drops.result c.in_err-check_drops.field-0.0 c.from_residual-in_err-check_drops.ensures.1 step
 
-pub returns-in_err-check_order-clause-refused : goal.returns-in_err-check_order-clause-refused
-returns-in_err-check_order-clause-refused c =
+pub returns-in_err-check_pending-clause-refused : goal.returns-in_err-check_pending-clause-refused
+returns-in_err-check_pending-clause-refused c =
     let g = c.args.graph.now in
     let known : c.args.unit < length g.names = omega arith in
     let marks = c.in_ok-marks.marks.items in
@@ -65,11 +65,11 @@ returns-in_err-check_order-clause-refused c =
     let able = rw c.deref-2.ensures.value at c.in_ok-check_bars.ensures in
     let apart = rw c.deref-3.ensures.value at c.in_ok-check_clashes.ensures in
     let keeps = rw c.deref-4.ensures.value at c.in_ok-check_drops.ensures in
-    let refused = rw c.deref-5.ensures.value at c.in_err-check_order.ensures in
-    let step : c.in_err-check_order.field-0.0 ≢ NoMemory → (name : List ℕ) → IsNumberOf g c.args.unit name
-    → IsRefused (scene_of g c.args.activity.now c.args.pending.now) (c.args.demand, name) c.args.mode (refused_of c.in_err-check_order.field-0.0) =
+    let refused = rw c.deref-5.ensures.value at c.in_err-check_pending.ensures.orders in
+    let step : c.in_err-check_pending.field-0.0 ≢ NoMemory → (name : List ℕ) → IsNumberOf g c.args.unit name
+    → IsRefused (scene_of g c.args.activity.now c.args.pending.now) (c.args.demand, name) c.args.mode (refused_of c.in_err-check_pending.field-0.0) =
     λ differs name number. refused_cycle g c.len.ensures.graph c.args.activity.now c.args.pending.now c.args.demand c.args.unit known marks c.in_ok-marks.ensures.marks c.args.mode plan each name number able apart keeps _ (refused differs) in
-    err_is _ c.from_residual-in_err-check_order.result c.in_err-check_order.field-0.0 c.from_residual-in_err-check_order.ensures.1 step
+    err_is _ c.from_residual-in_err-check_pending.result c.in_err-check_pending.field-0.0 c.from_residual-in_err-check_pending.ensures.1 step
 
 pub returns-clause-accepted : goal.returns-clause-accepted
 returns-clause-accepted c =
@@ -82,5 +82,5 @@ returns-clause-accepted c =
     let able = rw c.deref-2.ensures.value at c.in_ok-check_bars.ensures in
     let apart = rw c.deref-3.ensures.value at c.in_ok-check_clashes.ensures in
     let keeps = rw c.deref-4.ensures.value at c.in_ok-check_drops.ensures in
-    let free = rw c.deref-5.ensures.value at c.in_ok-check_order.ensures in
+    let free = rw c.deref-5.ensures.value at c.in_ok-check_pending.ensures.orders in
     λ name number. accepted g c.len.ensures.graph c.args.activity.now c.args.pending.now c.args.demand c.args.unit known marks c.in_ok-marks.ensures.marks c.args.mode plan each name number able apart keeps free

@@ -9,7 +9,7 @@ abbrev with_settings : ServiceSettings → model.Acting
 with_settings s = record { settings = s; loadable = true }
 
 pub returns-then-is_template : goal.returns-then-is_template
-returns-then-is_template c = c.unloadable.ensures ∙ sym (template_acts (unit_of c.args.found) (sym c.is_template.ensures ∙ c.if-is_template.true))
+returns-then-is_template c = c.unloadable.ensures ∙ sym (template_acts (unit_of c.args.found.now) (sym c.is_template.ensures ∙ c.if-is_template.true))
 
 pub returns : goal.returns
-returns c = ap with_settings c.acting.ensures ∙ sym (loadable_acts (unit_of c.args.found) (sym c.is_template.ensures ∙ c.if-is_template.false))
+returns c = ap with_settings c.in_ok-acting.ensures ∙ sym (loadable_acts (unit_of c.args.found.now) (sym c.is_template.ensures ∙ c.if-is_template.false))

@@ -1,4 +1,4 @@
-use Rattle.std.proofs.Common.{◌≡◌, ◌∙◌, ◌++◌, append-nil, map, flat_map, ap, sym}
+use Rattle.std.proofs.Common.{◌∙◌, ◌++◌, append-nil, map, flat_map, ap, sym}
 use Rattle.um_model.proofs.NameMaps.{entries_kept}
 use Rattle.um_model.specs.Jobs.{jobs_shown, jobs_shown_of}
 use Rattle.um_state.specs.Shown.{job_of}

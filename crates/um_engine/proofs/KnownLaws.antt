@@ -1,0 +1,120 @@
+-- What is known for a state, by what the tests of it tell.
+use Rattle.std.proofs.Common.{◌≡◌, ◌≢◌, ◌⊎◌, ◌↔◌, ◌∙◌, ◌++◌, ◌∷◌, ◌<◌, ◌≤◌, [], ℕ, List, Contains, Option, Some, None, Result, Ok, Err, is_some, unwrap_or, Bool, true, false, true≢false, cond, refl, sym, ap, subst, inl, inr, arith}
+use Rattle.std.specs.FinMap as map
+use Rattle.std.specs.Cmp.Lexicographic.{slice_cmp, nat_list_cmp_total}
+use Rattle.std.specs.Ordering.{nat_cmp, eq_by_cmp}
+use Rattle.std.specs.Prelude.{IfOk, MatchOption, slice_get}
+use Rattle.std.proofs.lemmas.Option.{get_or_from_slice_get}
+use Rattle.um_graph.proofs.NamedLaws.{got_within}
+use Rattle.um_model.specs.Dependencies.{CountsFor, IsKnown, extra}
+use Rattle.um_model.specs.Jobs.{cancelled, has_job, jobs_of_unit, no_jobs, with_jobs}
+use Rattle.um_model.specs.Machine.{State, IsHeld, IsHeldOr, IsTooHeavy, PutFile, PutLink, Remove, Cancel, Changes, puts, links, removes, cancels, unit_asked, with_plan}
+use Rattle.um_model.specs.Reached.{first}
+use Rattle.um_model.specs.Tree.{Tree, has_run, without_run}
+use Rattle.um_model.specs.Service.{ByUnit}
+use Rattle.um_model.specs.Weight.{weight_of}
+use Rattle.um_model.proofs.SceneLaws.{one_count}
+use Rattle.um_model.specs.declared.jobs.UnitJobs.{UnitJobs}
+use Rattle.um_model.proofs.TimersLaws.{same_name}
+use Rattle.um_model.proofs.TreeLaws.{without_run_same}
+use Rattle.um_model.proofs.UnitLaws.{unlike}
+use Rattle.um_engine.specs.Known.{IsHeldWith, IsGraphFor, KnownView, KnowsFor, HoldsNoMore}
+use Rattle.um_engine.specs.Over.{Serves}
+use Rattle.um_engine.proofs.SameUnitsLaws.{KnowsSame, count_by, graph_same}
+
+module _ (s : State) (k : KnownView) (named : Option (List ℕ)) (knows : KnowsFor k s) (made : (x : List ℕ) → Contains k.extra x → IsHeldWith s named x)
+    (known : (x : List ℕ) → named ≡ Some x → Contains k.graph.names x) where
+  held_known : (o : Option (List ℕ)) → named ≡ o → (x : List ℕ) → IsHeldWith s o x → IsKnown s.loaded (Contains k.extra) x
+  held_known None e x held = (knows.made.of.known x).0 (knows.held x held)
+  held_known (Some n) e x (inl held) = (knows.made.of.known x).0 (knows.held x held)
+  held_known (Some n) e x (inr is) = (knows.made.of.known x).0 (known x (e ∙ ap Some (sym is)))
+
+  same_here : KnowsSame s.loaded (Contains k.extra) (IsHeldWith s named)
+  same_here = record { into = λ x e. first (extra (made x e)); back = λ x h. held_known named refl x h }
+
+  -- the graph is exactly that of the units that count
+  pub fits_for : has_run s.loaded ≡ false → IsGraphFor s.loaded (IsHeldWith s named) k.graph
+  fits_for none =
+      graph_same s.loaded (Contains k.extra) (IsHeldWith s named) same_here
+      (subst (λ tree. KnowsSame tree (Contains k.extra) (IsHeldWith s named)) (sym (without_run_same s.loaded none)) same_here) k.graph knows.made
+
+-- what is known for a state serves for it
+pub serves_for : (k : KnownView) (s : State) → KnowsFor k s → Serves k.graph s
+serves_for k s h = record { extra = k.extra; graph = h.made.graph; of = h.made.of; held = h.held }
+
+-- and stays so where the graph serves and the same tree is loaded
+pub knows_still : (k : KnownView) (s u : State) → KnowsFor k s → u.loaded ≡ s.loaded → ((unit : List ℕ) → IsHeld u unit → Contains k.graph.names unit) → KnowsFor k u
+knows_still k s u h same held = record { made = subst (λ tree. IsGraphFor tree (Contains k.extra) k.graph) (sym same) h.made; held = held }
+
+pub knows_less : (k : KnownView) (s u : State) → KnowsFor k s → HoldsNoMore s u → KnowsFor k u
+knows_less k s u h less = knows_still k s u h less.loaded (λ x held. h.held x (less.held x held))
+
+-- a unit that has a number is known
+pub known_by : (names : List (List ℕ)) (o : Option ℕ) (x y : List ℕ) (b : Bool) → b ≡ is_some o → MatchOption o (¬ Contains names x) (λ i. slice_get names i ≡ Some x) → x ≡ y → b ≡ true
+    → Contains names y
+known_by names None x y b e found is t = absurd (true≢false (sym t ∙ e))
+known_by names (Some i) x y b e found is t = (i, got_within names i y (found ∙ ap Some is), get_or_from_slice_get names i y y (found ∙ ap Some is))
+
+-- what is known for a tree is so for the state that loads it
+pub knows_loaded : (k : KnownView) (s u : State) (tree : Tree) → IsGraphFor tree (Contains k.extra) k.graph → ((unit : List ℕ) → IsHeld s unit → Contains k.graph.names unit)
+    → u ≡ record s { tree = tree; loaded = tree } → KnowsFor k u
+knows_loaded k s u tree made held is = subst (KnowsFor k) (sym is) (record { made = made; held = held })
+
+none_left : (b : Bool) (o : Option UnitJobs) → o ≡ None → cond b None o ≡ None
+none_left true o none = refl
+none_left false o none = none
+
+-- of a unit that has no jobs none are held after others are put, unless they are its own
+module _ (pending : ByUnit UnitJobs) (unit : List ℕ) (j : UnitJobs) (x : List ℕ) (none : map.get pending x ≡ None) where
+  removed_none : map.get (map.remove pending unit) x ≡ None
+  removed_none = map.get-remove nat_list_cmp_total pending unit x ∙ none_left (eq_by_cmp (slice_cmp nat_cmp) x unit) (map.get pending x) none
+
+  put_none : (b : Bool) → x ≢ unit → map.get (cond b (map.insert pending unit j) (map.remove pending unit)) x ≡ None
+  put_none true apart =
+      map.get-insert nat_list_cmp_total pending unit j x ∙ (ap (λ b. cond b (Some j) (map.get pending x)) (unlike x unit apart) ∙ none)
+  put_none false apart = removed_none
+
+  with_none : (x ≡ unit → has_job j ≡ false) → map.get (with_jobs pending unit j) x ≡ None
+  with_none own = elim (same_name x unit) as (λ _. map.get (with_jobs pending unit j) x ≡ None) [
+    | inl is ↦ ap (λ b. map.get (cond b (map.insert pending unit j) (map.remove pending unit)) x) (own is) ∙ removed_none
+    | inr apart ↦ put_none (has_job j) apart
+  ]
+
+-- without the waiting jobs of a unit nothing new is held
+pub cancel_holds_no_more : (s : State) (unit : List ℕ) → HoldsNoMore s (with_plan s unit (cancelled (jobs_of_unit s.pending unit)))
+cancel_holds_no_more s unit = record { loaded = refl; held = still }
+  where
+    still : (x : List ℕ) → IsHeld (with_plan s unit (cancelled (jobs_of_unit s.pending unit))) x → IsHeld s x
+    still x (inl h) = inl h
+    still x (inr h) =
+        inr
+        (λ none. h
+        (with_none s.pending unit (cancelled (jobs_of_unit s.pending unit)) x none (λ is.
+        ap (λ o. has_job (cancelled (unwrap_or o no_jobs))) (subst (λ y. map.get s.pending y ≡ None) is none))))
+
+-- commands that leave the loaded tree make the state hold nothing new, but for plans
+pub put_holds_no_more : (s u : State) (path text : List ℕ) → Changes s (PutFile path text) u → HoldsNoMore s u
+put_holds_no_more s _ path text (puts e) = record { loaded = refl; held = λ x h. h }
+
+pub link_holds_no_more : (s u : State) (path target : List ℕ) → Changes s (PutLink path target) u → HoldsNoMore s u
+link_holds_no_more s _ path target (links e) = record { loaded = refl; held = λ x h. h }
+
+pub remove_holds_no_more : (s u : State) (path : List ℕ) → Changes s (Remove path) u → HoldsNoMore s u
+remove_holds_no_more s _ path (removes e) = record { loaded = refl; held = λ x h. h }
+
+pub waiting_holds_no_more : (s : State) (asked : List ℕ) (u : State) → Changes s (Cancel asked) u → HoldsNoMore s u
+waiting_holds_no_more s asked _ cancels = cancel_holds_no_more s (unit_asked s asked)
+
+-- the count for the list of what is held
+pub count_found : {E : Type 0} (s : State) (tree : Tree) (names : List (List ℕ)) → tree ≡ s.loaded → ((x : List ℕ) → Contains names x ↔ IsHeld s x)
+    → (result : Result ℕ E) → IfOk result (λ units. CountsFor tree (Contains names) units) → IfOk result (λ units. CountsFor s.loaded (IsHeld s) units)
+count_found s tree names same held (Ok units) h = count_by s.loaded (Contains names) (IsHeld s) held units (subst (λ t. CountsFor t (Contains names) units) same h)
+count_found s tree names same held (Err e) h = h
+
+-- a state isn't too heavy where its weight by one count isn't
+pub light_by : (size : ℕ) (s : State) (units weight : ℕ) → CountsFor s.loaded (IsHeld s) units → weight ≡ weight_of s.tree s.loaded units → weight ≤ size → ¬ IsTooHeavy size s
+light_by size s units weight counts is fits heavy =
+    let same : heavy.units ≡ units = one_count s.loaded (IsHeld s) heavy.units units heavy.count counts in
+    let over : size < weight_of s.tree s.loaded units = subst (λ n. size < weight_of s.tree s.loaded n) same heavy.heavy in
+    let under : weight_of s.tree s.loaded units ≤ size = subst (λ n. n ≤ size) is fits in
+    omega (arith, over, under)

@@ -1,0 +1,113 @@
+-- What is found of a state by the numbers of a graph's units, and the plan that comes of it.
+use Rattle.std.proofs.Common.{◌≡◌, ◌≢◌, ◌⊎◌, ◌↔◌, ◌∙◌, ◌+◌, ◌<◌, ℕ, suc, List, [], ◌∷◌, ◌++◌, length, drop, get_or, Contains, Option, Some, None, unwrap_or, refl, sym, ap, subst, inl, inr, arith}
+use Rattle.std.specs.FinMap as map
+use Rattle.std.proofs.Math.Seq.{drop-cons}
+use Rattle.std.proofs.lemmas.Bool.{cases_lt}
+use Rattle.std.proofs.lemmas.List.{get_or_append_left, get_or_push}
+use Rattle.std.proofs.lemmas.List.Elements.{Contains-append_left, Contains-push, Contains-push_cases}
+use Rattle.std.proofs.lemmas.Option.{none-some, get_or_from_slice_get, slice_get-get_or}
+use Rattle.std.specs.List.{slice_get}
+use Rattle.um_model.specs.Dependencies.{IsKnown, extra, loadable_in}
+use Rattle.um_model.specs.Jobs.{jobs_of_unit, no_jobs, with_jobs}
+use Rattle.um_model.specs.Machine.{State, IsHeld, IsHeldOr, scene_at}
+use Rattle.um_model.specs.Reached.{first}
+use Rattle.um_model.specs.Service.{ByUnit, active_state_of, state_of_unit}
+use Rattle.um_model.specs.Units.{LoadedUnit}
+use Rattle.um_model.specs.declared.commands.JobMode.{JobMode}
+use Rattle.um_model.specs.declared.dependencies.Demand.{Demand}
+use Rattle.um_model.specs.declared.jobs.UnitJobs.{UnitJobs}
+use Rattle.um_model.specs.declared.service.ActiveState.{ActiveState}
+use Rattle.um_model.specs.Refusals.{Refused}
+use Rattle.um_model.proofs.PlanLaws.{AreAlike}
+use Rattle.um_graph.specs.Graph.{GraphView, IsNumberOf}
+use Rattle.um_jobs.specs.Named.{jobs_at, jobs_by}
+use Rattle.um_transact.specs.Scene.{IsAccepted, IsRefused, scene_of}
+use Rattle.um_transact.proofs.TreeLaws.{alike_tree, accepted_alike, refused_alike}
+use Rattle.um_engine.specs.Known.{IsGraphFor}
+use Rattle.um_engine.specs.Planned.{AreActive, ArePending}
+
+-- ---- lists by number
+
+-- one item more
+pub each_more : {A : Type 0} (none : A) (P : ℕ → A → Type 0) (xs ys : List A) (n : ℕ) (v : A) → length xs ≡ n → ys ≡ xs ++ v ∷ [] → P n v
+    → ((u : ℕ) → u < n → P u (get_or xs u none)) → (u : ℕ) → u < n + 1 → P u (get_or ys u none)
+each_more none P xs ys n v len e here each u h = elim (cases_lt u n) as (λ _. P u (get_or ys u none)) [
+  | inl lower ↦ subst (P u) (sym (ap (λ l. get_or l u none) e ∙ get_or_append_left xs (v ∷ []) none u (omega arith))) (each u lower)
+  | inr past ↦
+      let at : length xs ≡ u = omega arith in
+      let same : n ≡ u = omega arith in
+      subst (P u) (sym (ap (λ l. get_or l u none) e ∙ get_or_push xs v none u at)) (subst (λ k. P k v) same here)
+]
+
+-- a name more
+pub with_named : (Has : List ℕ → Type 0) (names more : List (List ℕ)) (named : List ℕ) → more ≡ names ++ named ∷ [] → ((x : List ℕ) → Contains names x ↔ Has x)
+    → (x : List ℕ) → Contains more x ↔ (Has x ⊎ (x ≡ named))
+with_named Has names more named is each x = (
+  λ c. elim (Contains-push_cases names named x (subst (λ l. Contains l x) is c)) as (λ _. Has x ⊎ (x ≡ named)) [
+    | inl among ↦ inl ((each x).0 among)
+    | inr here ↦ inr (sym here)
+  ],
+  λ h. subst (λ l. Contains l x) (sym is) (elim h as (λ _. Contains (names ++ named ∷ []) x) [
+    | inl has ↦ Contains-append_left names (named ∷ []) x ((each x).1 has)
+    | inr here ↦ subst (Contains (names ++ named ∷ [])) (sym here) (Contains-push names named)
+  ]),
+)
+
+-- the jobs of the units from a number on
+pub jobs_from : (names : List (List ℕ)) (plan : List UnitJobs) (i : ℕ) (x : List ℕ) → length plan ≡ length names → i < length names → slice_get names i ≡ Some x
+    → jobs_by (drop i names) (drop i plan) ≡ with_jobs (jobs_by (drop (suc i) names) (drop (suc i) plan)) x (jobs_at plan i)
+jobs_from names plan i x len h at =
+    ap (λ l. jobs_by l (drop i plan)) (drop-cons names i x h ∙ ap (λ n. n ∷ drop (suc i) names) (get_or_from_slice_get names i x x at))
+    ∙ ap (λ l. jobs_by (x ∷ drop (suc i) names) l) (drop-cons plan i no_jobs (omega (arith, len, h)))
+
+-- ---- the scene of a graph that is exactly that of the units that count
+
+module _ (s : State) (named : List ℕ) (g : GraphView) (exact : IsGraphFor s.loaded (IsHeldOr s named) g) (activity : List ActiveState) (pending : List UnitJobs)
+    (active : AreActive g s activity) (pends : ArePending g s pending) where
+  -- a unit without a number isn't held
+  not_pending : (x : List ℕ) → ((i : ℕ) → ¬ IsNumberOf g i x) → jobs_of_unit s.pending x ≡ no_jobs
+  not_pending x none = by (map.get s.pending x) refl
+    where
+      by : (o : Option UnitJobs) → map.get s.pending x ≡ o → jobs_of_unit s.pending x ≡ no_jobs
+      by None at = ap (λ o. unwrap_or o no_jobs) at
+      by (Some j) at =
+          let held : IsHeld s x = inr (λ e. none-some j (sym e ∙ at)) in
+          let c = (exact.of.known x).1 (first (extra (inl held))) in
+          absurd (none c.0 (slice_get-get_or g.names c.0 x c.1 ∙ ap Some c.2))
+
+  alike : AreAlike (IsKnown s.loaded (IsHeldOr s named)) (scene_of g activity pending) (scene_at s named)
+  alike =
+      let a = alike_tree s.loaded (IsHeldOr s named) g exact.graph exact.of activity pending (λ x. active_state_of (state_of_unit s.units x).sub) s.pending active pends not_pending in
+      record {
+        within = a.within;
+        depends = a.depends;
+        before = a.before;
+        loadable = λ x k.
+            let l = a.loadable x k in (
+              λ h none. let u = l.0 h in none-some u.0 (sym none ∙ u.1),
+              λ there. l.1 (some_there x (loadable_in s.loaded x) refl there),
+            );
+        cannot = a.cannot;
+        activity = a.activity;
+        pending = a.pending;
+      }
+    where
+      some_there : (x : List ℕ) (o : Option LoadedUnit) → loadable_in s.loaded x ≡ o → loadable_in s.loaded x ≢ None → (l : LoadedUnit) × (loadable_in s.loaded x ≡ Some l)
+      some_there x None at there = absurd (there at)
+      some_there x (Some l) at there = (l, at)
+
+  named_known : IsKnown s.loaded (IsHeldOr s named) named
+  named_known = first (extra (inr refl))
+
+  pub accepted_here : (demand : Demand) (mode : JobMode) (after : ByUnit UnitJobs) → IsAccepted (scene_of g activity pending) (demand, named) mode after
+      → IsAccepted (scene_at s named) (demand, named) mode after
+  accepted_here demand mode =
+      accepted_alike (IsKnown s.loaded (IsHeldOr s named)) (demand, named) named_known (scene_of g activity pending) (scene_at s named) alike mode
+
+  pub refused_here : (demand : Demand) (mode : JobMode) (r : Refused) → IsRefused (scene_of g activity pending) (demand, named) mode r
+      → IsRefused (scene_at s named) (demand, named) mode r
+  refused_here demand mode = refused_alike (IsKnown s.loaded (IsHeldOr s named)) (demand, named) named_known (scene_of g activity pending) (scene_at s named) alike mode
+
+-- the unit for which the graph was made is one of its units
+pub has_named : (s : State) (named : List ℕ) (g : GraphView) → IsGraphFor s.loaded (IsHeldOr s named) g → Contains g.names named
+has_named s named g exact = (exact.of.known named).1 (first (extra (inr refl)))

@@ -1,0 +1,24 @@
+use Rattle.std.proofs.Common.{sym}
+use Rattle.um_graph.specs.Graph.{IsNumberOf}
+use Rattle.um_engine.proofs.ReadyLaws.{next_here, still_here, waits_named}
+use Rattle.um_engine.proofs.settling.next_job.Goals as goal
+
+pub returns-in_default-clause-next : goal.returns-in_default-clause-next
+returns-in_default-clause-next c = λ s serves tells. still_here c.args.graph.now s serves c.args.jobs.now tells c.in_default.ensures.least
+
+pub returns-clause-next : goal.returns-clause-next
+returns-clause-next c = λ s serves tells.
+    let number : IsNumberOf c.args.graph.now c.in-Some.unit c.in-Some-name.name.now = sym (rw c.in-Some-name.is at c.name.ensures) in
+    rw c.in_ok-name.ensures
+    (next_here c.args.graph.now s serves c.args.jobs.now tells c.in-Some.unit c.in-Some-name.name.now c.in-Some.kind number c.in-Some.ensures.least)
+
+pub returns-clause-waits : goal.returns-clause-waits
+returns-clause-waits c = λ s tells.
+    let number : IsNumberOf c.args.graph.now c.in-Some.unit c.in-Some-name.name.now = sym (rw c.in-Some-name.is at c.name.ensures) in
+    rw c.in_ok-name.ensures
+    (waits_named c.args.graph.now s c.args.jobs.now tells c.in-Some.unit c.in-Some-name.name.now c.in-Some.kind number c.in-Some.ensures.least.has.waits)
+
+pub returns-clause-number : goal.returns-clause-number
+returns-clause-number c =
+    let number : IsNumberOf c.args.graph.now c.in-Some.unit c.in-Some-name.name.now = sym (rw c.in-Some-name.is at c.name.ensures) in
+    rw c.in_ok-name.ensures number

@@ -1,0 +1,36 @@
+-- When the pending jobs by number are those of the state, and what the state's units tell of deactivating.
+-- Follows no manual page: it turns names into numbers.
+-- Settling stands on this file.
+use Rattle.std.specs.Prelude.{◌≡◌, ℕ, ◌<◌, Bool, true, false, List, length}
+use Rattle.um_model.specs.Jobs.{jobs_of_unit}
+use Rattle.um_model.specs.Machine.{State}
+use Rattle.um_model.specs.Service.{active_state_of, state_of_unit}
+use Rattle.um_model.specs.declared.service.ActiveState.{ActiveState}
+use Rattle.um_model.specs.declared.service.ActiveState.TheVariants.{Deactivating}
+use Rattle.um_graph.specs.Graph.{GraphView, IsGraph, IsNumberOf}
+use Rattle.um_jobs.specs.Jobs.{JobsView, held_at, with_held_at, with_jobs_at}
+use Rattle.um_jobs.specs.Named.{jobs_at}
+
+abbrev pub is_deactivating : ActiveState → Bool
+is_deactivating Deactivating = true
+is_deactivating other = false
+
+-- the unit counts as deactivating
+abbrev pub deactivates : State → List ℕ → Bool
+deactivates s unit = is_deactivating (active_state_of (state_of_unit s.units unit).sub)
+
+-- with what the state tells of the unit of this number and name
+abbrev pub told_of : State → ℕ → List ℕ → JobsView → JobsView
+told_of s i unit v = with_held_at (with_jobs_at v i (jobs_of_unit s.pending unit)) i (deactivates s unit)
+
+-- of the units of the graph with a number below n what is told by number is what the state tells
+pub record TellsBelow (g : GraphView) (s : State) (n : ℕ) (v : JobsView) : Type 0 where
+  pub graph : IsGraph g
+  pub long : length v.units ≡ length g.names
+  pub wide : length v.held ≡ length g.names
+  pub jobs : (i : ℕ) (unit : List ℕ) → i < n → IsNumberOf g i unit → jobs_at v.units i ≡ jobs_of_unit s.pending unit
+  pub held : (i : ℕ) (unit : List ℕ) → i < n → IsNumberOf g i unit → held_at v.held i ≡ deactivates s unit
+
+-- so it is of all of them
+abbrev pub Tells : GraphView → State → JobsView → Type 0
+Tells g s v = TellsBelow g s (length g.names) v

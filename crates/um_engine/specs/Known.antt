@@ -1,0 +1,39 @@
+-- What the engine knows of the units of a tree: the graph, and the units for which it was made.
+-- Follows no manual page: it is how the engine keeps what it knows of units.
+-- Commands and the room that a state takes stand on this file.
+use Rattle.std.specs.Prelude.{◌≡◌, ◌⊎◌, ℕ, List, Contains, Option, Some, None}
+use Rattle.um_model.specs.Dependencies.{IsKnown, CountsFor, KnowsTooMany}
+use Rattle.um_model.specs.Machine.{State, IsHeld, IsHeldOr}
+use Rattle.um_model.specs.Tree.{Tree, without_run}
+use Rattle.um_graph.specs.Graph.{GraphView, IsGraph, IsGraphOf}
+
+-- the units that count beside those that a tree names: those that are held, and one that a command names
+abbrev pub IsHeldWith : State → Option (List ℕ) → List ℕ → Type 0
+IsHeldWith s None = IsHeld s
+IsHeldWith s (Some named) = IsHeldOr s named
+
+-- too many units would be known by the tree, or by it without its entries under `run/`
+abbrev pub IsFull : Tree → (List ℕ → Type 0) → Type 0
+IsFull tree Extra = KnowsTooMany tree Extra ⊎ KnowsTooMany (without_run tree) Extra
+
+-- the graph is exactly that of the tree and these units, and tells for how many units the tree counts; and these aren't too many
+pub record IsGraphFor (tree : Tree) (Extra : List ℕ → Type 0) (g : GraphView) : Type 0 where
+  pub graph : IsGraph g
+  pub of : IsGraphOf tree Extra g
+  pub count : CountsFor tree Extra g.count
+  pub few : ¬ IsFull tree Extra
+
+-- the graph and the units for which it was made
+pub record KnownView : Type 0 where
+  pub graph : GraphView
+  pub extra : List (List ℕ)
+
+-- it was made for the state's loaded tree, and the state holds units of the graph alone
+pub record KnowsFor (k : KnownView) (s : State) : Type 0 where
+  pub made : IsGraphFor s.loaded (Contains k.extra) k.graph
+  pub held : (unit : List ℕ) → IsHeld s unit → Contains k.graph.names unit
+
+-- the later state has the same loaded tree and holds nothing new
+pub record HoldsNoMore (s u : State) : Type 0 where
+  pub loaded : u.loaded ≡ s.loaded
+  pub held : (unit : List ℕ) → IsHeld u unit → IsHeld s unit

@@ -1,0 +1,121 @@
+//! What is known of the units of a tree.
+
+ghost use Rattle.std.specs.Prelude.{◌≡◌, ◌↔◌, ℕ, List, Contains, IfOk, IfErr, IsTrue, Option, Some, option_copied};
+ghost use Rattle.um_engine.specs.Known.{IsFull, IsGraphFor, IsHeldWith, KnowsFor, KnownView};
+ghost use Rattle.um_model.specs.Machine.{IsHeld};
+ghost use Rattle.um_state.specs.View.{state_of};
+ghost use Rattle.um_wire.specs.declared.refusal.Refusal.TheVariants as refusals;
+ghost use Rattle.um_model.specs.declared.refusals.Limit.TheVariants as limits;
+
+use std::alloc::{AllocError, Global};
+use std::marker::Model;
+use um_graph::Graph;
+use um_name::UnitName;
+use um_state::State;
+use um_tree::Tree;
+use um_wire::Refusal;
+
+/// The graph of a tree, and the units beside those of the tree for which it was made.
+#[derive(Drop)]
+pub struct Known {
+    graph: Graph,
+    extra: Vec<UnitName>,
+}
+
+impl Model for Known {
+    ghost Value = { KnownView };
+
+    ghost view = { λ k. record { graph = k.graph; extra = k.extra.items } };
+}
+
+/// The units that the state holds, and the one that is named.
+fn held_with(
+    alloc: Global,
+    state: &State,
+    named: Option<&UnitName>,
+) -> Result<Vec<UnitName>, AllocError>
+    ensures { IfOk result (λ names. (unit : List ℕ) → Contains names.items unit ↔ IsHeldWith (state_of state.now) (option_copied named.entry) unit) }
+{
+    let mut names = state.held(alloc)?;
+    match named {
+        Some(named) => {
+            names.push(named.copy()?)?;
+            Ok(names)
+        }
+        None => Ok(names),
+    }
+}
+
+/// Whether the state holds the unit, or it is the one that is named.
+fn holds_with(state: &State, named: Option<&UnitName>, unit: &UnitName) -> bool
+    ensures { IsTrue result → IsHeldWith (state_of state.now) (option_copied named.entry) unit.now }
+{
+    match named {
+        Some(named) => state.holds(unit) || unit == named,
+        None => state.holds(unit),
+    }
+}
+
+impl Known {
+    /// What is known of the units of the tree, with those that the state holds and one that is named. Refused are too many (E13
+    /// `units`).
+    pub fn of(
+        alloc: Global,
+        tree: &Tree,
+        state: &State,
+        named: Option<&UnitName>,
+    ) -> Result<Known, Refusal>
+        ensures made { IfOk result (λ k. IsGraphFor tree.now (Contains k.extra) k.graph) }
+        ensures extra { IfOk result (λ k. (unit : List ℕ) → Contains k.extra unit ↔ IsHeldWith (state_of state.now) (option_copied named.entry) unit) }
+        ensures few { IfOk result (λ k. ¬ IsFull tree.now (IsHeldWith (state_of state.now) (option_copied named.entry))) }
+        ensures refused { IfErr result (λ e. ¬ (e ≡ refusals.NoMemory) → (e ≡ refusals.TooLarge limits.Units)
+            × IsFull tree.now (IsHeldWith (state_of state.now) (option_copied named.entry))) }
+    {
+        let extra = held_with(alloc, state, named)?;
+        let graph = Graph::of(alloc, tree, extra.as_slice())?;
+        Ok(Known { graph, extra })
+    }
+
+    /// The graph.
+    pub fn graph(&self) -> &Graph
+        ensures { result.now ≡ self.now.graph }
+    {
+        &self.graph
+    }
+
+    /// Whether each unit for which the graph was made is held by the state, or is the one that is named.
+    fn is_made_for(&self, state: &State, named: Option<&UnitName>) -> bool
+        ensures { IsTrue result → (unit : List ℕ) → Contains self.now.extra unit → IsHeldWith (state_of state.now) (option_copied named.entry) unit }
+    {
+        for unit in &self.extra {
+            if !holds_with(state, named, unit) {
+                return false;
+            }
+        }
+        true
+    }
+
+    /// Whether the unit that is named is known.
+    fn knows(&self, named: Option<&UnitName>) -> bool
+        ensures { IsTrue result → (unit : List ℕ) → option_copied named.entry ≡ Some unit → Contains self.now.graph.names unit }
+    {
+        match named {
+            Some(named) => self.graph.number(named).is_some(),
+            None => true,
+        }
+    }
+
+    /// Whether what is known for a state is exactly what counts by its loaded tree, with the units that it holds and the one that
+    /// is named.
+    ///
+    /// Where entries stand under `run/` it never is: without those the tree may lack units that the state holds.
+    pub fn fits(&self, state: &State, named: Option<&UnitName>) -> bool
+        ensures { IsTrue result → KnowsFor self.now (state_of state.now)
+            → IsGraphFor (state_of state.now).loaded (IsHeldWith (state_of state.now) (option_copied named.entry)) self.now.graph }
+    {
+        if state.loaded().has_run() || !self.knows(named) {
+            return false;
+        }
+        self.is_made_for(state, named)
+    }
+}

@@ -1,0 +1,116 @@
+//! A state with what is known of its units.
+
+ghost use Rattle.std.specs.Prelude.{◌≡◌, IfOk, Contains, Some};
+ghost use Rattle.std.specs.Coded.{codes};
+ghost use Rattle.std.specs.FinMap as maps;
+ghost use Rattle.um_model.specs.Tree.{tree_code};
+ghost use Rattle.um_engine.specs.Known.{IsGraphFor, KnowsFor};
+ghost use Rattle.um_engine.specs.Served.{ServedView};
+ghost use Rattle.um_model.specs.Machine.{IsHeld, IsHeldOr, IsCrowded};
+ghost use Rattle.um_state.specs.View.{state_of};
+ghost use Rattle.um_wire.specs.Gives.{RefusesBy};
+
+use crate::known::Known;
+use std::alloc::{AllocError, Global};
+use std::marker::Model;
+use std::rc::Rc;
+use um_model::Moment;
+use um_name::UnitName;
+use um_state::State;
+use um_wire::Refusal;
+
+/// A state and what is known of the units of its loaded tree, all that the state holds among them. States that follow one another
+/// share what is known.
+#[derive(Drop)]
+pub struct Served {
+    state: State,
+    known: Rc<Known>,
+}
+
+impl Model for Served {
+    ghost Value = { ServedView };
+
+    ghost coded = { Prim.hlevel (codes, maps.code, tree_code) };
+
+    ghost view = { λ s. record { state = state_of s.state; known = s.known.value } };
+
+    ghost invariant = { λ s. KnowsFor s.known.value (state_of s.state) };
+}
+
+impl Served {
+    /// The state with what is known of just its units. Refused are too many known units (E13).
+    pub fn of(alloc: Global, state: State) -> Result<Served, Refusal>
+        ensures state { IfOk result (λ s. s.state ≡ state_of state) }
+        ensures refused { RefusesBy (IsCrowded (state_of state).loaded (IsHeld (state_of state))) result }
+    {
+        let known = Known::of(alloc, state.loaded(), &state, None)?;
+        let known = Rc::new(alloc, known)?;
+        Ok(Served { state, known })
+    }
+
+    /// A state with what is known for it.
+    pub fn with(state: State, known: Rc<Known>) -> Served
+        requires { KnowsFor known.value (state_of state) }
+        ensures state { result.state ≡ state_of state }
+        ensures known { result.known ≡ known.value }
+    {
+        Served { state, known }
+    }
+
+    /// The state by itself, and what is known.
+    pub fn into_parts(self) -> (State, Rc<Known>)
+        ensures state { state_of result.0 ≡ self.state }
+        ensures known { result.1.value ≡ self.known }
+        ensures knows { KnowsFor self.known self.state }
+    {
+        let Served { state, known } = self;
+        (state, known)
+    }
+
+    /// The same at that moment.
+    pub fn at(self, moment: Moment) -> Served
+        ensures state { result.state ≡ record self.state { clock = moment } }
+    {
+        let Served { mut state, known } = self;
+        state.set_clock(moment);
+        Served { state, known }
+    }
+
+    /// The state.
+    pub fn state(&self) -> &State
+        ensures state { state_of result.now ≡ self.now.state }
+        ensures knows { KnowsFor self.now.known self.now.state }
+    {
+        &self.state
+    }
+
+    /// What is known of the units.
+    pub fn known(&self) -> &Known
+        ensures known { result.now ≡ self.now.known }
+        ensures knows { KnowsFor self.now.known self.now.state }
+    {
+        &self.known
+    }
+
+    /// What is known, again.
+    pub fn share_known(&self) -> Result<Rc<Known>, AllocError>
+        ensures known { IfOk result (λ k. k.value ≡ self.now.known) }
+        ensures knows { KnowsFor self.now.known self.now.state }
+    {
+        self.known.clone()
+    }
+
+    /// What is known of the units and of the one that a command names: the same again where that fits. Refused are too many known
+    /// units (E13).
+    pub fn known_with(&self, alloc: Global, named: &UnitName) -> Result<Rc<Known>, Refusal>
+        ensures made { IfOk result (λ k. IsGraphFor self.now.state.loaded (Contains k.value.extra) k.value.graph) }
+        ensures known { IfOk result (λ k. IsGraphFor self.now.state.loaded (IsHeldOr self.now.state named.now) k.value.graph) }
+        ensures refused { RefusesBy (IsCrowded self.now.state.loaded (IsHeldOr self.now.state named.now)) result }
+    {
+        if self.known.fits(&self.state, Some(named)) {
+            return Ok(self.known.clone()?);
+        }
+        let known = Known::of(alloc, self.state.loaded(), &self.state, Some(named))?;
+        Ok(Rc::new(alloc, known)?)
+    }
+}

@@ -1,0 +1,11 @@
+use Rattle.std.specs.BTreeMap.{IsOrdered}
+use Rattle.std.specs.Cmp.Lexicographic.{slice_cmp}
+use Rattle.std.specs.Ordering.{nat_cmp}
+use Rattle.um_graph.specs.Known.{IsUnderWay}
+use Rattle.um_graph.proofs.known.Known.all.Given as goal
+
+abbrev pub invariant-loop : goal.invariant-loop
+invariant-loop l = record {
+  whole : IsUnderWay l.tree l.extra l.known.loaded l.known.left.items l.known.told.items;
+  ordered : IsOrdered (slice_cmp nat_cmp) l.known.loaded;
+}

@@ -1,0 +1,282 @@
+-- No pending jobs wait for one another in a circle: after any inputs the order of the loaded tree has no cycle among them.
+use Rattle.std.proofs.Common.{ℕ, ◌≡◌, ◌∙◌, Bool, true, false, true≢false, cond, is_some, List, [], ◌∷◌, Option, Some, None, unwrap_or, refl, sym, ap, subst, inl, inr}
+use Rattle.std.proofs.lemmas.Option.{none-some}
+use Rattle.std.specs.FinMap as map
+use Rattle.um_model.specs.Dependencies.{IsKnown, Precedes, Mentions, extra}
+use Rattle.um_model.specs.Jobs.{Job, jobs, no_jobs, jobs_of_unit, with_jobs, job_of, unless_waiting, cancelled, without_start, GoesBefore, starts, stops, stops_then_starts, stops_then_starts_before, of_one_unit, ComesBefore, IsPending, IsWaiting, with_running, unless_running, start_left, jobs_left}
+use Rattle.um_model.specs.Live.{IsFree}
+use Rattle.um_model.specs.Machine.{State, empty_state, Command, Happening, Event, Input, Reply, IsHeldOr, IsBefore, changed, TakesAlong, Becomes, Carries, change_of, begins, begun, Settles, unit_asked, jobs_asked, scene_at, CausesOfLoad, Refuses, Changes, Fires, Follows, Takes, end_of, moment_of, Step, Run}
+use Rattle.um_model.specs.Order.{IsCycle}
+use Rattle.um_model.specs.Plan.{Counts, restarted, started, stopped, left, Demands, IsPlan, units_of}
+use Rattle.um_model.specs.Reached.{first, next}
+use Rattle.um_model.specs.Refusals.{Refused, at_first, at_second, ordering_cycle}
+use Rattle.um_model.specs.Service.{Action, ByUnit, state_of_unit}
+use Rattle.um_model.specs.Timers.{Timers}
+use Rattle.um_model.specs.Tree.{Tree}
+use Rattle.um_model.specs.declared.dependencies.Demand.{Demand}
+use Rattle.um_model.specs.declared.dependencies.Demand.TheVariants.{Start, Stop, Restart}
+use Rattle.um_model.specs.declared.jobs.JobKind.{JobKind}
+use Rattle.um_model.specs.declared.jobs.JobKind.TheVariants as job
+use Rattle.um_model.specs.declared.jobs.JobState.{JobState}
+use Rattle.um_model.specs.declared.jobs.JobState.TheVariants.{Waiting, Running}
+use Rattle.um_model.specs.declared.jobs.UnitJobs.{UnitJobs}
+use Rattle.um_model.specs.declared.transition.Change.{Change}
+use Rattle.um_model.specs.declared.transition.StartJob.{StartJob}
+use Rattle.um_model.specs.declared.transition.StartJob.TheVariants.{Stays, Ends, Fails}
+use Rattle.um_model.specs.declared.transition.UnitEvent.{UnitEvent}
+use Rattle.um_model.specs.declared.transition.UnitEvent.TheVariants.{DeadlinePasses}
+use Rattle.um_model.proofs.AlongLaws.{taken_along_or_not}
+use Rattle.um_model.proofs.CycleLaws.{fewer_free, held, least_unit_first}
+use Rattle.um_model.proofs.OrderLaws.{cycle_weaker}
+use Rattle.um_model.proofs.OwnNameLaws.{precedes_anyhow}
+use Rattle.um_model.proofs.PlanLaws.{AreAlike, demands_same}
+use Rattle.um_model.proofs.PlannedLaws.{counts_some, free_of_causes}
+use Rattle.um_model.proofs.SceneLaws.{finite_scene}
+use Rattle.um_model.proofs.TimersLaws.{same_name}
+use Rattle.um_model.proofs.UnitLaws.{jobs_here, jobs_apart}
+
+-- ---- fewer jobs of a unit
+
+-- a job that waits waited, and none comes anew
+record ComesOf (o p : Option JobState) : Type 0 where
+  waits : p ≡ Some Waiting → o ≡ Some Waiting
+  none : o ≡ None → p ≡ None
+
+-- so with both jobs of a unit
+abbrev HasFewer : UnitJobs → UnitJobs → Type 0
+HasFewer j k = (kind : JobKind) → ComesOf (job_of kind j) (job_of kind k)
+
+stays : (o : Option JobState) → ComesOf o o
+stays o = record { waits = λ e. e; none = λ e. e }
+
+goes_away : (o : Option JobState) → ComesOf o None
+goes_away o = record { waits = λ e. absurd (none-some Waiting e); none = λ e. refl }
+
+comes_to_run : (o : Option JobState) → o ≡ Some Waiting → ComesOf o (Some Running)
+comes_to_run o is = record { waits = λ e. is; none = λ e. absurd (none-some Waiting (sym e ∙ is)) }
+
+comes_further : (o p q : Option JobState) → ComesOf o p → ComesOf p q → ComesOf o q
+comes_further o p q f g = record { waits = λ e. f.waits (g.waits e); none = λ e. g.none (f.none e) }
+
+both_fewer : (stop start stop' start' : Option JobState) → ComesOf stop stop' → ComesOf start start' → HasFewer (jobs stop start) (jobs stop' start')
+both_fewer stop start stop' start' f g job.Stop = f
+both_fewer stop start stop' start' f g job.Start = g
+
+no_longer_runs : (o : Option JobState) → ComesOf o (unless_running o)
+no_longer_runs None = stays None
+no_longer_runs (Some Waiting) = stays (Some Waiting)
+no_longer_runs (Some Running) = goes_away (Some Running)
+
+no_longer_waits : (o : Option JobState) → ComesOf o (unless_waiting o)
+no_longer_waits None = stays None
+no_longer_waits (Some Waiting) = goes_away (Some Waiting)
+no_longer_waits (Some Running) = stays (Some Running)
+
+start_left_fewer : (start : StartJob) (o : Option JobState) → ComesOf o (start_left start o)
+start_left_fewer Stays o = stays o
+start_left_fewer Ends o = no_longer_runs o
+start_left_fewer Fails o = no_longer_runs o
+
+stop_left_fewer : (ends : Bool) (o : Option JobState) → ComesOf o (cond ends (unless_running o) o)
+stop_left_fewer true o = no_longer_runs o
+stop_left_fewer false o = stays o
+
+left_fewer : (start : StartJob) (stop_ends : Bool) (j : UnitJobs) → HasFewer j (jobs_left start stop_ends j)
+left_fewer start stop_ends j = both_fewer j.stop j.start _ _ (stop_left_fewer stop_ends j.stop) (start_left_fewer start j.start)
+
+cancelled_fewer : (j : UnitJobs) → HasFewer j (cancelled j)
+cancelled_fewer j = both_fewer j.stop j.start _ _ (no_longer_waits j.stop) (no_longer_waits j.start)
+
+without_start_fewer : (j : UnitJobs) → HasFewer j (without_start j)
+without_start_fewer j = both_fewer j.stop j.start _ _ (stays j.stop) (goes_away j.start)
+
+running_fewer : (kind : JobKind) (j : UnitJobs) → job_of kind j ≡ Some Waiting → HasFewer j (with_running kind j)
+running_fewer job.Stop j is = both_fewer j.stop j.start _ _ (comes_to_run j.stop is) (stays j.start)
+running_fewer job.Start j is = both_fewer j.stop j.start _ _ (stays j.stop) (comes_to_run j.start is)
+
+-- ---- fewer jobs of all units
+
+-- by the same loaded tree, and so with the jobs of each unit
+record HasLess (s u : State) : Type 0 where
+  loaded : u.loaded ≡ s.loaded
+  fewer : (unit : List ℕ) → HasFewer (jobs_of_unit s.pending unit) (jobs_of_unit u.pending unit)
+
+same_less : (s : State) → HasLess s s
+same_less s = record { loaded = refl; fewer = λ unit kind. stays (job_of kind (jobs_of_unit s.pending unit)) }
+
+less_trans : (s u v : State) → HasLess s u → HasLess u v → HasLess s v
+less_trans s u v f g = record {
+  loaded = g.loaded ∙ f.loaded;
+  fewer = λ unit kind. comes_further (job_of kind (jobs_of_unit s.pending unit)) (job_of kind (jobs_of_unit u.pending unit)) (job_of kind (jobs_of_unit v.pending unit)) (f.fewer unit kind) (g.fewer unit kind);
+}
+
+-- no cycle comes by what leaves fewer jobs
+less_free : (s u : State) → HasLess s u → IsFree s → IsFree u
+less_free s u less free =
+    subst (λ tree. (cycle : List Job) → ¬ IsCycle (ComesBefore (IsBefore tree) u.pending) cycle) (sym less.loaded)
+    (fewer_free (IsBefore s.loaded) s.pending u.pending (λ j e. (less.fewer j.unit j.kind).waits e) (λ j is none. is ((less.fewer j.unit j.kind).none none)) free)
+
+-- fewer jobs of one unit
+fewer_at : (pending : ByUnit UnitJobs) (unit : List ℕ) (k : UnitJobs) → HasFewer (jobs_of_unit pending unit) k
+    → (other : List ℕ) → HasFewer (jobs_of_unit pending other) (jobs_of_unit (with_jobs pending unit k) other)
+fewer_at pending unit k fewer other = elim (same_name other unit) as (λ _. HasFewer (jobs_of_unit pending other) (jobs_of_unit (with_jobs pending unit k) other)) [
+  | inl same ↦ subst (λ q. HasFewer (jobs_of_unit pending q) (jobs_of_unit (with_jobs pending unit k) q)) (sym same)
+      (subst (HasFewer (jobs_of_unit pending unit)) (sym (jobs_here pending unit k)) fewer)
+  | inr apart ↦ subst (HasFewer (jobs_of_unit pending other)) (sym (jobs_apart pending unit k other apart)) (λ kind. stays (job_of kind (jobs_of_unit pending other)))
+]
+
+changed_less : (s : State) (unit : List ℕ) (c : Change) → HasLess s (changed s unit c)
+changed_less s unit c = record { loaded = refl; fewer = fewer_at s.pending unit _ (left_fewer c.start c.stop_ends (jobs_of_unit s.pending unit)) }
+
+begun_less : (s : State) (j : Job) → IsWaiting s.pending j → HasLess s (begun s j)
+begun_less s j waits = record { loaded = refl; fewer = fewer_at s.pending j.unit _ (running_fewer j.kind (jobs_of_unit s.pending j.unit) waits) }
+
+along_less : (s : State) (failed : List ℕ) (v : State) → TakesAlong s failed v → HasLess s v
+along_less s failed v a = record { loaded = ap (λ (x : State). x.loaded) a.rest; fewer = fewer }
+  where
+    fewer : (unit : List ℕ) → HasFewer (jobs_of_unit s.pending unit) (jobs_of_unit v.pending unit)
+    fewer unit kind =
+        let j = jobs_of_unit s.pending unit in
+        elim (taken_along_or_not s failed unit) as (λ _. ComesOf (job_of kind j) (job_of kind (jobs_of_unit v.pending unit))) [
+          | inl taken ↦ subst (λ k. ComesOf (job_of kind j) (job_of kind k)) (sym (a.starts unit taken)) (without_start_fewer j kind)
+          | inr isnt ↦ subst (λ k. ComesOf (job_of kind j) (job_of kind k)) (sym (a.other_jobs unit isnt)) (stays (job_of kind j))
+        ]
+
+becomes_less : (s : State) (unit : List ℕ) (c : Change) (v : State) → Becomes s unit c v → HasLess s v
+becomes_less s unit c v (Becomes.alone isnt) = changed_less s unit c
+becomes_less s unit c v (Becomes.along is a) = less_trans s (changed s unit c) v (changed_less s unit c) (along_less (changed s unit c) unit v a)
+
+settles_less : (t : ℕ) (s : State) (actions : List Action) (v : State) → Settles t s actions v → HasLess s v
+settles_less t s actions v (Settles.rests none) = same_less s
+settles_less t s actions v (Settles.begins_next {u = u} {more = more} j n h k) =
+    less_trans s (begun s j) v (begun_less s j n.has.waits)
+    (less_trans (begun s j) u v (becomes_less (begun s j) j.unit (change_of t (begun s j) j.unit (begins j.kind)) u h.state) (settles_less t u more v k))
+
+carried_less : (t : ℕ) (unit : List ℕ) (event : UnitEvent) (s : State) (early late : List Action) (u v : State) → Carries t unit event s early u → Settles t u late v → HasLess s v
+carried_less t unit event s early late u v h k =
+    less_trans s u v (becomes_less s unit (change_of t s unit event) u h.state) (settles_less t u late v k)
+
+fires_less : (t : ℕ) (timers : Timers) (s : State) (actions : List Action) (v : State) → Fires t timers s actions v → HasLess s v
+fires_less t timers s actions v (Fires.none_due none) = same_less s
+fires_less t timers s actions v (Fires.fires {u = u} {v = p} {first = x} {next = y} {more = z} d n least due is h k l) =
+    less_trans s p v (carried_less t n DeadlinePasses s x y u p h k) (fires_less t (map.remove timers n) p z v l)
+fires_less t timers s actions v (Fires.passes {more = z} d n least due isnt l) = fires_less t (map.remove timers n) s z v l
+
+follows_less : (t : ℕ) (s : State) (happening : Happening) (actions : List Action) (v : State) → Follows t s happening actions v → HasLess s v
+follows_less t s happening actions v (Follows.ends {number = number} {end = end} {first = x} {more = y} {u = u} unit is h k) =
+    carried_less t unit (end_of (state_of_unit s.units unit) number end) s x y u v h k
+follows_less t s happening actions v (Follows.ticks timers are h) = fires_less t timers s actions v h
+
+-- ---- a plan
+
+module _ (s : State) (named : List ℕ) where
+  -- known while the plan for the named unit is made
+  abbrev Known : List ℕ → Type 0
+  Known = IsKnown s.loaded (IsHeldOr s named)
+
+  same_scene : AreAlike Known (scene_at s named) (scene_at s named)
+  same_scene = record {
+    within = λ kind x y d. (next d.known (Mentions.owner d.gives), next d.known (Mentions.other d.gives));
+    depends = λ kind x y. (λ d. d, λ d. d);
+    before = λ x y. (λ b. b, λ b. b);
+    loadable = λ x known. (λ l. l, λ l. l);
+    cannot = λ x known r. (λ c. c, λ c. c);
+    activity = λ x known. refl;
+    pending = λ x. refl;
+  }
+
+  demanded_known : (demand d : Demand) (unit : List ℕ) → Demands (scene_at s named) (demand, named) (d, unit) → Known unit
+  demanded_known demand d unit h =
+      (demands_same Known (demand, named) (first (extra (inr refl))) (scene_at s named) (scene_at s named) same_scene (d, unit) h).0
+
+  module _ (demand : Demand) (after : ByUnit UnitJobs) (plan : IsPlan (scene_at s named) (demand, named) after) where
+    -- a unit of which a job is pending after the plan had one, or something is demanded of it
+    counted_known : (j : Job) → IsPending after j → (counted : Option Demand) → Counts (scene_at s named) (demand, named) j.unit counted → Known j.unit
+    counted_known j pends _ (restarted r) = demanded_known demand Restart j.unit r
+    counted_known j pends _ (started nr d) = demanded_known demand Start j.unit d
+    counted_known j pends _ (stopped nr ns d) = demanded_known demand Stop j.unit d
+    counted_known j pends _ (left nr ns np) =
+        let pended : IsPending s.pending j = λ none. pends (ap (job_of j.kind) (plan.jobs j.unit None (left nr ns np)) ∙ none) in
+        first (extra (inl (inr (λ none. true≢false (sym (held s.pending j pended) ∙ ap is_some none)))))
+
+    pending_known : (j : Job) → IsPending after j → Known j.unit
+    pending_known j pends =
+        let scene = finite_scene s named in
+        let c = counts_some (scene_at s named) scene.0 scene.1 (demand, named) j.unit in
+        counted_known j pends c.0 c.1
+
+    goes_by_known : (j k : Job) → Known j.unit → Known k.unit → GoesBefore (IsBefore s.loaded) j k → GoesBefore (Precedes s.loaded (IsHeldOr s named)) j k
+    goes_by_known _ _ known too (starts {x = x} {y = y} b) = starts (precedes_anyhow s.loaded _ (IsHeldOr s named) x y known too b)
+    goes_by_known _ _ known too (stops {x = x} {y = y} b) = stops (precedes_anyhow s.loaded _ (IsHeldOr s named) x y too known b)
+    goes_by_known _ _ known too (stops_then_starts {x = x} {y = y} b) = stops_then_starts (precedes_anyhow s.loaded _ (IsHeldOr s named) x y known too b)
+    goes_by_known _ _ known too (stops_then_starts_before {x = x} {y = y} b) = stops_then_starts_before (precedes_anyhow s.loaded _ (IsHeldOr s named) x y too known b)
+    goes_by_known _ _ known too of_one_unit = of_one_unit
+
+    comes_by_known : (j k : Job) → ComesBefore (IsBefore s.loaded) after j k → ComesBefore (Precedes s.loaded (IsHeldOr s named)) after j k
+    comes_by_known j k c =
+        let pends : IsPending after k = λ none. none-some Waiting (sym none ∙ c.waits) in
+        record { pends = c.pends; waits = c.waits; goes = goes_by_known j k (pending_known j c.pends) (pending_known k pends) c.goes }
+
+    -- jobs of a plan that have no cycle in the order by which it was made have none
+    plan_free : ((cycle : List Job) → ¬ IsCycle (ComesBefore (Precedes s.loaded (IsHeldOr s named)) after) cycle)
+        → (cycle : List Job) → ¬ IsCycle (ComesBefore (IsBefore s.loaded) after) cycle
+    plan_free free cycle c = free cycle (cycle_weaker _ _ comes_by_known cycle c)
+
+-- ---- a command
+
+-- a tree that isn't refused leaves the pending jobs without a cycle
+loads_free : (s : State) (tree : Tree) → ((r : Refused) → ¬ CausesOfLoad s tree r) → (cycle : List Job) → ¬ IsCycle (ComesBefore (IsBefore tree) s.pending) cycle
+loads_free s tree none cycle c =
+    let turned = least_unit_first (ComesBefore (IsBefore tree) s.pending) cycle c in
+    none (ordering_cycle (units_of turned.0)) (at_second (λ r crowded. none r (at_first crowded))
+    (record { cycle = turned.0; closed = turned.1; least = turned.2; refusal = refl }))
+
+changes_free : (s : State) (command : Command) (u : State) → ((r : Refused) → ¬ Refuses s command r) → Changes s command u → IsFree s → IsFree u
+changes_free s command u none (Changes.puts e) free = free
+changes_free s command u none (Changes.links e) free = free
+changes_free s command u none (Changes.removes e) free = free
+changes_free s command u none Changes.reloads free = loads_free s s.tree (λ r c. none r (Refuses.reloads_none c))
+changes_free s command u none (Changes.installs {tree = tree} h) free =
+    loads_free s tree (λ r c. none r (Refuses.installs_none (at_second (λ q refuses. none q (Refuses.installs_none (at_first refuses))) (record { tree = tree; installs = h; cause = c }))))
+changes_free s command u none (Changes.cancels {asked = asked}) free =
+    less_free s u (record { loaded = refl; fewer = fewer_at s.pending (unit_asked s asked) _ (cancelled_fewer (jobs_asked s asked)) }) free
+changes_free s command u none (Changes.demands_nothing is) free = free
+changes_free s command u none (Changes.plans {verb = verb} {asked = asked} {mode = mode} {demand = demand} {after = after} is plan) free =
+    plan_free s (unit_asked s asked) demand after plan (free_of_causes (scene_at s (unit_asked s asked)) (demand, unit_asked s asked) mode after
+    (λ r c. none r (Refuses.plans_none (at_second (λ q crowded. none q (Refuses.plans_none (at_first crowded)))
+    (at_second (λ q missing. none q (Refuses.plans_none (at_second (λ x crowded. none x (Refuses.plans_none (at_first crowded))) (at_first missing))))
+    (record { demand = demand; demanded = is; after = after; plan = plan; cause = c }))))))
+
+-- ---- a run
+
+takes_free : (t : ℕ) (s : State) (event : Event) (actions : List Action) (v : State) → Takes t s event actions v → IsFree s → IsFree v
+takes_free t s event actions v (Takes.obeys {command = command} {u = u} none h k) free =
+    less_free u v (settles_less t u actions v k) (changes_free s command u none h free)
+takes_free t s event actions v (Takes.meets {happening = happening} effect h) free = less_free s v (follows_less t s happening actions v h) free
+
+step_free : (size : ℕ) (s : State) (input : Input) (reply : Reply) (actions : List Action) (t : State) → Step size s input reply actions t → IsFree s → IsFree t
+step_free size s input reply actions t (Step.refused e) free = free
+step_free size s input reply actions t (Step.crowded_out h heavy) free = free
+step_free size s input reply actions t (Step.idle e) free = free
+step_free size s input reply actions t (Step.taken {moment = moment} {event = event} {u = u} h light) free = takes_free (moment_of s moment) s event actions u h free
+
+run_free : (size : ℕ) (s t : State) (inputs : List Input) → Run size s inputs t → IsFree s → IsFree t
+run_free size s t inputs Run.rests free = free
+run_free size s t (i ∷ inputs) (Run.goes {t = v} reply actions step run) free = run_free size v t inputs run (step_free size s i reply actions v step free)
+
+none_waits : (kind : JobKind) → job_of kind no_jobs ≡ Some Waiting → ⊥
+none_waits job.Stop e = none-some Waiting e
+none_waits job.Start e = none-some Waiting e
+
+-- of the empty state no job is pending
+none_comes : (j k : Job) → ¬ ComesBefore (IsBefore empty_state.loaded) empty_state.pending j k
+none_comes j k c = none_waits k.kind (sym (ap (λ o. job_of k.kind (unwrap_or o no_jobs)) (map.get-empty _ k.unit)) ∙ c.waits)
+
+empty_free : IsFree empty_state
+empty_free [] c = c
+empty_free (j ∷ []) c = none_comes j j c
+empty_free (j ∷ (k ∷ ks)) c = none_comes j k c.0
+
+-- after any inputs the pending jobs have no cycle
+pub no_cycle_after : (size : ℕ) (inputs : List Input) (t : State) → Run size empty_state inputs t → IsFree t
+no_cycle_after size inputs t run = run_free size empty_state t inputs run empty_free

@@ -1,0 +1,8 @@
+use Rattle.std.proofs.Common.{◌≡◌, map, take}
+use Rattle.serde_json.specs.View.{view}
+use Rattle.um_model.specs.Replies.{unit_data}
+use Rattle.um_state.specs.View.{listed_of}
+use Rattle.um_proto.proofs.write.units_value.Given as goal
+
+abbrev pub invariant-loop-unit : goal.invariant-loop-unit
+invariant-loop-unit l = map view l.list.items ≡ map unit_data (map listed_of (take l.unit-index l.units))

@@ -1,0 +1,36 @@
+-- Of which units a state holds something, by the names that its maps have.
+use Rattle.std.proofs.Common.{ℕ, ◌≡◌, ◌≢◌, ◌∙◌, ◌↔◌, ◌⊎◌, ◌++◌, true, List, Option, Some, None, is_some, refl, sym, ap, inl, inr, true≢false}
+use Rattle.std.specs.Prelude.{Contains}
+use Rattle.std.specs.Cmp.{eq_by_cmp_equiv}
+use Rattle.std.specs.Cmp.Lexicographic.{nat_list_cmp_total}
+use Rattle.std.specs.FinMap as map
+use Rattle.std.proofs.lemmas.List.Elements.{Contains-append_left, Contains-append_right, Contains-append_cases}
+use Rattle.std.proofs.lemmas.Map.Views.{list_any-from_Contains}
+use Rattle.um_model.proofs.AmongLaws.{contains_among}
+use Rattle.um_model.proofs.TimersLaws.{among_keys}
+use Rattle.um_model.specs.Service.{ByUnit}
+
+some_there : {A : Type 0} (o : Option A) → o ≢ None → is_some o ≡ true
+some_there None h = absurd (h refl)
+some_there (Some x) h = refl
+
+key_there : {A : Type 0} (m : ByUnit A) (unit : List ℕ) → Contains (map.keys m) unit → map.get m unit ≢ None
+key_there m unit key = λ none.
+    let some : is_some (map.get m unit) ≡ true = map.contains_key-keys m unit ∙ list_any-from_Contains (eq_by_cmp_equiv nat_list_cmp_total) unit (map.keys m) key in
+    true≢false (sym some ∙ ap is_some none)
+
+there_key : {A : Type 0} (m : ByUnit A) (unit : List ℕ) → map.get m unit ≢ None → Contains (map.keys m) unit
+there_key m unit there = contains_among (map.keys m) unit (among_keys m unit (some_there (map.get m unit) there))
+
+-- the names of two maps are those that one of them holds
+pub keys_held : {A B : Type 0} (m : ByUnit A) (n : ByUnit B) (unit : List ℕ) → Contains (map.keys m ++ map.keys n) unit ↔ ((map.get m unit ≢ None) ⊎ (map.get n unit ≢ None))
+keys_held m n unit = (
+  λ key. elim (Contains-append_cases (map.keys m) (map.keys n) unit key) as (λ _. (map.get m unit ≢ None) ⊎ (map.get n unit ≢ None)) [
+    | inl one ↦ inl (key_there m unit one)
+    | inr other ↦ inr (key_there n unit other)
+  ],
+  λ held. elim held as (λ _. Contains (map.keys m ++ map.keys n) unit) [
+    | inl one ↦ Contains-append_left (map.keys m) (map.keys n) unit (there_key m unit one)
+    | inr other ↦ Contains-append_right (map.keys m) (map.keys n) unit (there_key n unit other)
+  ],
+)

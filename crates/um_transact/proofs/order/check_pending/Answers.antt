@@ -1,0 +1,34 @@
+use Rattle.std.proofs.Common.{◌≡◌, ◌*◌, length, refl, sym, arith, subst}
+use Rattle.um_graph.specs.Kinds.{before_bit}
+use Rattle.um_graph.specs.Named.{Joins}
+use Rattle.um_jobs.specs.Named.{jobs_by}
+use Rattle.um_model.specs.Order.{IsLeastFirstCycle, Precedes}
+use Rattle.um_order.specs.Certificate.{IsCertificate}
+use Rattle.um_transact.specs.Order.{ArePairs}
+use Rattle.um_transact.proofs.PairLaws.{numbered, cycle_named}
+use Rattle.um_transact.proofs.order.check_pending.Goals as goal
+
+pub returns-in-Numbering-clause-orders : goal.returns-in-Numbering-clause-orders
+returns-in-Numbering-clause-orders c =
+    let g = c.args.graph.now in
+    let plan = c.args.pending.now in
+    let pairs = rw (sym c.deref.ensures.value) at c.in_ok-pairs.ensures in
+    let twice : c.in-Some.nodes ≡ length g.names * 2 = omega arith in
+    let told = subst (IsCertificate c.in-Some.nodes c.deref.result.now) c.in-Numbering.is c.in_ok-check.ensures in
+    numbered g c.len.ensures.graph plan c.in-Some.nodes c.deref.result.now twice pairs c.in-Numbering.field-0.items told
+
+pub returns-in-Numbering-clause-refuses : goal.returns-in-Numbering-clause-refuses
+returns-in-Numbering-clause-refuses c = λ r names. returns-in-Numbering-clause-orders c names.cycle names.closed
+
+pub returns-clause-orders : goal.returns-clause-orders
+returns-clause-orders c = λ differs.
+    let g = c.args.graph.now in
+    let plan = c.args.pending.now in
+    let pairs = rw (sym c.deref.ensures.value) at c.in_ok-pairs.ensures in
+    let twice : c.in-Some.nodes ≡ length g.names * 2 = omega arith in
+    let told = subst (IsCertificate c.in-Some.nodes c.deref.result.now) c.in-Cycle.is c.in_ok-check.ensures in
+    cycle_named g c.len.ensures.graph plan c.in-Some.nodes c.deref.result.now twice pairs c.deref-in-Cycle.result.now _ _
+    (subst (IsLeastFirstCycle (Precedes c.in-Some.nodes c.deref.result.now)) (sym c.deref-in-Cycle.ensures.value) told) c.in_ok-units_of-in-Cycle.ensures refl
+
+pub returns-clause-refuses : goal.returns-clause-refuses
+returns-clause-refuses c = returns-clause-orders c

@@ -1,0 +1,13 @@
+use Rattle.std.proofs.Common.{◌≡◌, ◌+◌, ◌≤◌, ◌^◌, true}
+use Rattle.std.specs.List.{sum_by, list_all}
+use Rattle.um_model.specs.Tree.{is_fit_entry}
+use Rattle.um_model.proofs.WeightLaws.{weight_by_entry}
+use Rattle.um_tree.proofs.tree.Tree.weight.Given as goal
+
+-- what is weighed and the weight of the rest are the weight of all, which isn't much; and each entry of the rest may stand at its path
+abbrev pub invariant-loop-path : goal.invariant-loop-path
+invariant-loop-path l = record {
+  whole : l.weight + sum_by weight_by_entry l.path-iterator ≡ sum_by weight_by_entry l.initial.path-iterator;
+  light : sum_by weight_by_entry l.initial.path-iterator ≤ 2 ^ 29;
+  fit : list_all (λ e. is_fit_entry e.0 e.1) l.path-iterator ≡ true;
+}
