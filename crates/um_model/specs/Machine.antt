@@ -375,13 +375,14 @@ pub record IsCrowded (tree : Tree) (Extra : List ℕ → Type 0) (r : Refused) :
   pub many : KnowsTooMany tree Extra ⊎ KnowsTooMany (without_run tree) Extra
   pub refusal : r ≡ too_large Units
 
--- what is demanded has a plan, and that is refused
+-- what is demanded has a plan, and that is refused, or more units would be known with its jobs than may be
 pub record HasNoPlan (s : State) (verb : UnitVerb) (asked : List ℕ) (mode : JobMode) (r : Refused) : Type 0 where
   pub demand : Demand
   pub demanded : demand_of verb (active_asked s asked) ≡ Some demand
   pub after : ByUnit UnitJobs
   pub plan : IsPlan (scene_at s (unit_asked s asked)) (demand, unit_asked s asked) after
-  pub cause : CausesOfPlan (scene_at s (unit_asked s asked)) (demand, unit_asked s asked) mode after r
+  pub cause : FirstCause (CausesOfPlan (scene_at s (unit_asked s asked)) (demand, unit_asked s asked) mode after)
+      (IsCrowded s.loaded (IsHeld (record s { pending = after }))) r
 
 -- the causes in the order in which they are looked at
 abbrev pub CausesOf : State → UnitVerb → List ℕ → JobMode → Refused → Type 0
