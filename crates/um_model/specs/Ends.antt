@@ -6,7 +6,7 @@ use Rattle.um_model.specs.Settings.{ServiceSettings, has_dash}
 use Rattle.um_model.specs.declared.service.End.{End}
 use Rattle.um_model.specs.declared.service.End.TheVariants.{Code, Signal, Lost}
 use Rattle.um_model.specs.declared.service.SubState.{SubState}
-use Rattle.um_model.specs.declared.service.SubState.TheVariants.{Start, Stop, StopSigterm, StopSigkill}
+use Rattle.um_model.specs.declared.service.SubState.TheVariants.{Start, Stop, StopSigterm, StopSigkill, Failed}
 use Rattle.um_model.specs.declared.service.UnitResult.{UnitResult}
 use Rattle.um_model.specs.declared.service.UnitResult.TheVariants as result
 use Rattle.um_model.specs.declared.service.UnitState.{UnitState}
@@ -30,6 +30,14 @@ is_stopping Stop = true
 is_stopping StopSigterm = true
 is_stopping StopSigkill = true
 is_stopping other = false
+
+abbrev pub is_starting : SubState → Bool
+is_starting Start = true
+is_starting other = false
+
+abbrev pub is_failed : SubState → Bool
+is_failed Failed = true
+is_failed other = false
 
 -- the signals that ask a service to end: hang-up, interrupt, a broken pipe, terminate
 abbrev pub asks_to_end : ℕ → Bool

@@ -1,23 +1,17 @@
 -- What it is that the machine is never stuck: pending jobs don't wait for one another in a circle, and one waits for a live process.
 -- Follows systemctl(1), "list-jobs": a job is pending until its unit has started or stopped.
 -- The law of runs in proofs/LiveLaws depends on this file.
-use Rattle.std.specs.Prelude.{◌≡◌, ℕ, Bool, true, false, ◌||◌, List}
+use Rattle.std.specs.Prelude.{◌≡◌, ℕ, Bool, true, false, ◌||◌}
 use Rattle.um_model.specs.Service.{state_of_unit}
-use Rattle.um_model.specs.Ends.{is_stopping}
+use Rattle.um_model.specs.Ends.{is_starting, is_stopping}
 use Rattle.um_model.specs.Transitions.{HasNumber}
-use Rattle.um_model.specs.Jobs.{Job, IsPending, ComesBefore}
+use Rattle.um_model.specs.Jobs.{Job, IsPending}
+use Rattle.um_model.specs.Plan.{AreFree}
 use Rattle.um_model.specs.Machine.{State, IsBefore}
-use Rattle.um_model.specs.Order.{IsCycle}
-use Rattle.um_model.specs.declared.service.SubState.{SubState}
-use Rattle.um_model.specs.declared.service.SubState.TheVariants.{Start}
 
 -- the pending jobs don't wait for one another in a circle
 abbrev pub IsFree : State → Type 0
-IsFree s = (cycle : List Job) → ¬ IsCycle (ComesBefore (IsBefore s.loaded) s.pending) cycle
-
-abbrev pub is_starting : SubState → Bool
-is_starting Start = true
-is_starting other = false
+IsFree s = AreFree (IsBefore s.loaded) s.pending
 
 -- a pending job whose unit is in start or in a stop state, where this is the number of a live process
 pub record WaitsFor (s : State) (job : Job) (number : ℕ) : Type 0 where

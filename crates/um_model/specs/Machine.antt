@@ -1,21 +1,23 @@
 -- The machine: its state, what comes in, what is answered, one step, and a run.
 -- The rules of single inputs follow systemctl(1); the machine itself is this project's own.
 -- The engine, the keeper, the manager and the program stand on this file.
-use Rattle.std.specs.Prelude.{◌≡◌, ◌≢◌, ◌⊎◌, ◌↔◌, ⊤, ℕ, ◌+◌, ◌<◌, ◌≤◌, max, Bool, true, false, ◌||◌, if◌then◌else◌, List, [], ◌∷◌, ◌++◌, Option, Some, None, Result, Ok, Err, codes, map as each, AllPairs, Contains}
+use Rattle.std.specs.Prelude.{◌≡◌, ◌≢◌, ◌⊎◌, ◌↔◌, ⊤, ℕ, ◌+◌, ◌<◌, ◌≤◌, max, Bool, true, false, not, ◌||◌, if◌then◌else◌, List, [], ◌∷◌, ◌++◌, Option, Some, None, Result, Ok, Err, codes, map as each, AllPairs, Contains}
 use Rattle.std.specs.FinMap as map
 use Rattle.um_model.specs.Least.{IsLeast, IsNamedBefore}
 use Rattle.um_model.specs.Refusals.{Refused, not_found, masked, bad_setting, not_loaded, no_such_job, no_room, too_large, FirstCause}
 use Rattle.um_model.specs.Names.{is_template}
 use Rattle.um_model.specs.Tree.{Tree, put_file, put_link, remove_at, without_run}
-use Rattle.um_model.specs.Settings.{ServiceSettings, default_settings, acting_settings}
+use Rattle.um_model.specs.Settings.{ServiceSettings, default_settings}
 use Rattle.um_model.specs.Resolution.{UnitFile, Resolution, AtFile, AtNoFile, AtMask, Nowhere, files_at, resolution_of}
 use Rattle.um_model.specs.Units.{LoadedUnit, Loading, Found, Masked, NotFound, BadSetting, load, name_in, Warning}
 use Rattle.um_model.specs.Dependencies.{IsKnown, KnowsTooMany, CountsFor, Depends, Precedes, loadable_in}
 use Rattle.um_model.specs.Install.{Installs, RefusesInstall, paths_beyond, IsEnabledAs}
-use Rattle.um_model.specs.Service.{ByUnit, AreTidyUnits, state_of_unit, with_unit, active_state_of, is_number, Action}
+use Rattle.um_model.specs.Service.{ByUnit, AreTidyUnits, state_of_unit, with_unit, active_state_of, is_dead, is_number, Action}
+use Rattle.um_model.specs.Ends.{is_failed, is_starting, may_be_asked}
 use Rattle.um_model.specs.Transitions.{transition, AreActions, HasNumber, spawned}
-use Rattle.um_model.specs.Jobs.{Job, jobs_of_unit, with_jobs, AreTidyJobs, is_active, cancelled, JobShown, jobs_shown, jobs_left, without_start, with_running, IsReady, BeginsNext}
-use Rattle.um_model.specs.Plan.{Scene, IsPlan, CausesOfPlan, NamesCycle}
+use Rattle.um_model.specs.Jobs.{Job, jobs, no_jobs, jobs_of_unit, with_jobs, AreTidyJobs, is_active, cancelled, JobShown, jobs_shown, jobs_left, without_start, with_running, ComesBefore, IsReady, BeginsNext}
+use Rattle.um_model.specs.Order.{IsCycle}
+use Rattle.um_model.specs.Plan.{Scene, IsPlan, CausesOfPlan, NamesCycle, AreFree}
 use Rattle.um_model.specs.Reached.{Reached}
 use Rattle.um_model.specs.Timers.{Timers, IsDueFirst}
 use Rattle.um_model.specs.Weight.{weight_of}
@@ -36,6 +38,7 @@ use Rattle.um_model.specs.declared.service.ActiveState.{ActiveState}
 use Rattle.um_model.specs.declared.service.End.{End}
 use Rattle.um_model.specs.declared.refusals.Limit.TheVariants.{Units}
 use Rattle.um_model.specs.declared.service.SubState.{SubState}
+use Rattle.um_model.specs.declared.service.SubState.TheVariants.{Dead, Failed, AutoRestart}
 use Rattle.um_model.specs.declared.service.UnitResult.TheVariants.{Dependency}
 use Rattle.um_model.specs.declared.service.UnitState.{UnitState}
 use Rattle.um_model.specs.declared.transition.Around.{Around}
@@ -43,9 +46,8 @@ use Rattle.um_model.specs.declared.transition.Change.{Change}
 use Rattle.um_model.specs.declared.transition.StartJob.{StartJob}
 use Rattle.um_model.specs.declared.transition.StartJob.TheVariants.{Fails}
 use Rattle.um_model.specs.declared.transition.UnitEvent.{UnitEvent}
-use Rattle.um_model.specs.declared.transition.UnitEvent.TheVariants.{StartBegins, StopBegins, MainEnds, ControlEnds, DeadlinePasses}
-use Rattle.um_model.specs.declared.transition.UnitKind.{UnitKind}
-use Rattle.um_model.specs.declared.transition.UnitKind.TheVariants.{Simple, Target}
+use Rattle.um_model.specs.declared.transition.UnitEvent.TheVariants.{StartBegins, StopBegins, BoundStop, Executed, MainEnds, ControlEnds, DeadlinePasses, Reset}
+use Rattle.um_model.specs.declared.transition.UnitKind.TheVariants.{Simple}
 use Rattle.um_model.specs.declared.units.LoadState.{LoadState}
 use Rattle.um_model.specs.declared.units.LoadState.TheVariants as load_state
 
@@ -81,6 +83,8 @@ pub data Command : Type 0 where
   ForUnit : (verb : UnitVerb) (unit : List ℕ) (mode : JobMode) → Command
   -- drop the waiting jobs of a unit
   Cancel : (unit : List ℕ) → Command
+  -- forget that a unit failed, or of all units that they did
+  ResetFailed : (unit : Option (List ℕ)) → Command
   -- enable a unit, disable, mask or unmask it, and load the tree that comes of it
   Install : (verb : InstallVerb) (unit : List ℕ) → Command
 
@@ -88,8 +92,12 @@ pub data Command : Type 0 where
 pub data Happening : Type 0 where
   -- the process of this number ended
   ProcessEnded : (number : ℕ) (end : End) → Happening
+  -- the program of the process of this number runs
+  ProcessExecuted : (number : ℕ) → Happening
   -- time has passed
   Tick : Happening
+  -- the machine was booted, and the boot has this id
+  Booted : (boot : List ℕ) → Happening
 
 -- what comes in
 pub data Event : Type 0 where
@@ -105,8 +113,9 @@ pub record Input : Type 0 where
 pub data Query : Type 0 where
   -- how a unit stands
   Show : (unit : List ℕ) → Query
-  -- its active state
+  -- its active state: asked whether it is active, and whether it failed
   IsActive : (unit : List ℕ) → Query
+  IsFailed : (unit : List ℕ) → Query
   -- its files in the tree in hand
   Cat : (unit : List ℕ) → Query
   -- how it is enabled in the tree in hand
@@ -193,6 +202,7 @@ unit_listed s unit = record { unit = unit; sub = (state_of_unit s.units unit).su
 pub data IsReplyTo (s : State) : Query → Reply → Type 0 where
   shows : {asked : List ℕ} → IsReplyTo s (Show asked) (Shown (shown_of asked (load s.loaded asked) (state_asked s asked)))
   tells_activity : {asked : List ℕ} → IsReplyTo s (IsActive asked) (Activity (active_state_of (state_asked s asked).sub))
+  tells_failure : {asked : List ℕ} → IsReplyTo s (IsFailed asked) (Activity (active_state_of (state_asked s asked).sub))
   tells_files : {asked : List ℕ} → IsReplyTo s (Cat asked) (files_told s.tree asked (resolution_of s.tree asked))
   tells_enabling : {asked : List ℕ} {answer : Enabling} → IsEnabledAs s.tree asked answer → IsReplyTo s (IsEnabled asked) (EnabledAs answer)
   lists_units : {names : List (List ℕ)} → AreKnownUnits s names → IsReplyTo s ListUnits (Listed (each (unit_listed s) names))
@@ -211,7 +221,7 @@ acting_unloadable = record { settings = default_settings Simple; loadable = fals
 
 -- how a unit acts, by what was found of it
 abbrev pub acting_of : Loading → Acting
-acting_of (Found l) = if is_template l.name then acting_unloadable else record { settings = acting_settings l.settings.service; loadable = true }
+acting_of (Found l) = if is_template l.name then acting_unloadable else record { settings = l.settings.service; loadable = true }
 acting_of other = acting_unloadable
 
 -- how a unit acts by this tree
@@ -282,10 +292,41 @@ pub data Becomes (s : State) (unit : List ℕ) (c : Change) : State → Type 0 w
   alone : fails_start c.start (jobs_of_unit s.pending unit).start ≡ false → Becomes s unit c (changed s unit c)
   along : {s' : State} → fails_start c.start (jobs_of_unit s.pending unit).start ≡ true → TakesAlong (changed s unit c) unit s' → Becomes s unit c s'
 
--- what happens to a unit at the moment t is carried out
+-- what happens to a unit at the moment t is carried out, for that unit by itself
 pub record Carries (t : ℕ) (unit : List ℕ) (event : UnitEvent) (s : State) (actions : List Action) (s' : State) : Type 0 where
   pub state : Becomes s unit (change_of t s unit event) s'
   pub asked : AreActions (acting_in s.loaded unit).settings (around t s unit) (change_of t s unit event).unit (change_of t s unit event).order actions
+
+-- ---- the units that fall with one
+
+-- so a unit came to rest: it is dead or failed, and wasn't the same before
+abbrev pub comes_to_rest : (before after : SubState) → Bool
+comes_to_rest before Dead = not (is_dead before)
+comes_to_rest before Failed = not (is_failed before)
+comes_to_rest before other = false
+
+-- the unit came to rest from one state to the other, and the other unit is bound to it
+pub record FallsWith (s u : State) (unit other : List ℕ) : Type 0 where
+  pub rests : comes_to_rest (state_of_unit s.units unit).sub (state_of_unit u.units unit).sub ≡ true
+  pub bound : Depends s.loaded (λ x. ⊤) BindsTo other unit
+
+-- the units that fall with it, by name
+pub record AreFalling (s u : State) (unit : List ℕ) (names : List (List ℕ)) : Type 0 where
+  pub each : (other : List ℕ) → Contains names other ↔ FallsWith s u unit other
+  pub sorted : AllPairs IsNamedBefore names
+
+-- these units are told to stop at once, one after another; where one comes to rest by that, those bound to it come first
+pub data FallDown (t : ℕ) : List (List ℕ) → State → List Action → State → Type 0 where
+  all_told : {s : State} → FallDown t [] s [] s
+  told_next : {unit : List ℕ} {units falling : List (List ℕ)} {s u v : State} {first more : List Action} → Carries t unit BoundStop s first u
+      → AreFalling s u unit falling → FallDown t (falling ++ units) u more v → FallDown t (unit ∷ units) s (first ++ more) v
+
+-- what happens to a unit at the moment t is carried out, with all units that fall with it
+pub data Happens (t : ℕ) (unit : List ℕ) (event : UnitEvent) (s : State) : List Action → State → Type 0 where
+  happens : {falling : List (List ℕ)} {u v : State} {first more : List Action} → Carries t unit event s first u → AreFalling s u unit falling
+      → FallDown t falling u more v → Happens t unit event s (first ++ more) v
+
+-- ---- jobs begin
 
 -- what a job that begins is for its unit
 abbrev pub begins : JobKind → UnitEvent
@@ -304,15 +345,9 @@ IsStill s = (j : Job) → ¬ IsReady (IsBefore s.loaded) s.units s.pending j
 pub data Settles (t : ℕ) : State → List Action → State → Type 0 where
   rests : {s : State} → IsStill s → Settles t s [] s
   begins_next : {s u v : State} {first more : List Action} (j : Job) → BeginsNext (IsBefore s.loaded) s.units s.pending j
-      → Carries t j.unit (begins j.kind) (begun s j) first u → Settles t u more v → Settles t s (first ++ more) v
+      → Happens t j.unit (begins j.kind) (begun s j) first u → Settles t u more v → Settles t s (first ++ more) v
 
 -- ---- what a command does
-
--- of the kinds of units simple services and targets are served
-abbrev pub is_served_kind : UnitKind → Bool
-is_served_kind Simple = true
-is_served_kind Target = true
-is_served_kind other = false
 
 abbrev pub is_found : Loading → Bool
 is_found NotFound = false
@@ -323,9 +358,7 @@ pub data CannotStart (asked : List ℕ) : Loading → Refused → Type 0 where
   isnt_found : CannotStart asked NotFound (not_found asked)
   is_masked : {unit : List ℕ} → CannotStart asked (Masked unit) (masked unit)
   has_bad_setting : {unit reason : List ℕ} → CannotStart asked (BadSetting unit reason) (bad_setting unit reason)
-  is_of_another_kind : {l : LoadedUnit} → is_served_kind l.settings.service.kind ≡ false → CannotStart asked (Found l) (bad_setting l.name (codes "type"))
-  is_a_template : {l : LoadedUnit} → is_served_kind l.settings.service.kind ≡ true → is_template l.name ≡ true
-      → CannotStart asked (Found l) (bad_setting l.name (codes "template"))
+  is_a_template : {l : LoadedUnit} → is_template l.name ≡ true → CannotStart asked (Found l) (bad_setting l.name (codes "template"))
 
 abbrev pub active_asked : State → List ℕ → ActiveState
 active_asked s asked = active_state_of (state_asked s asked).sub
@@ -421,6 +454,7 @@ pub data Refuses (s : State) : Command → Refused → Type 0 where
   removes_none : {path : List ℕ} {r : Refused} → remove_at s.tree path ≡ Err r → Refuses s (Remove path) r
   plans_none : {verb : UnitVerb} {asked : List ℕ} {mode : JobMode} {r : Refused} → CausesOf s verb asked mode r → Refuses s (ForUnit verb asked mode) r
   cancels_none : {asked : List ℕ} {r : Refused} → CausesOfCancel s asked r → Refuses s (Cancel asked) r
+  resets_none : {asked : List ℕ} {r : Refused} → IsMissing s asked r → Refuses s (ResetFailed (Some asked)) r
   reloads_none : {r : Refused} → CausesOfLoad s s.tree r → Refuses s DaemonReload r
   installs_none : {verb : InstallVerb} {unit : List ℕ} {r : Refused} → FirstCause (RefusesInstall s.tree verb unit) (LoadsNone s verb unit) r
       → Refuses s (Install verb unit) r
@@ -429,7 +463,7 @@ pub data Refuses (s : State) : Command → Refused → Type 0 where
 abbrev pub with_plan : State → List ℕ → UnitJobs → State
 with_plan s unit jobs = record s { pending = with_jobs s.pending unit jobs }
 
--- what a command that isn't refused does to the state, before any job begins
+-- what a command that isn't refused changes of the state, before any job begins
 pub data Changes (s : State) : Command → State → Type 0 where
   puts : {path text : List ℕ} {tree : Tree} → put_file s.tree path text ≡ Ok tree → Changes s (PutFile path text) (record s { tree = tree })
   links : {path target : List ℕ} {tree : Tree} → put_link s.tree path target ≡ Ok tree → Changes s (PutLink path target) (record s { tree = tree })
@@ -441,6 +475,23 @@ pub data Changes (s : State) : Command → State → Type 0 where
   cancels : {asked : List ℕ} → Changes s (Cancel asked) (with_plan s (unit_asked s asked) (cancelled (jobs_asked s asked)))
   installs : {verb : InstallVerb} {unit : List ℕ} {tree : Tree} → Installs s.tree verb unit tree
       → Changes s (Install verb unit) (record s { tree = tree; loaded = tree })
+
+-- the units of which a failure is forgotten: the one that is asked for, or all of which it is held how they stand, by name
+abbrev pub units_reset : State → Option (List ℕ) → List (List ℕ)
+units_reset s (Some asked) = unit_asked s asked ∷ []
+units_reset s None = each (λ e. e.0) (map.entries s.units)
+
+-- of these units the failures are forgotten, one after another
+pub data AreReset (t : ℕ) : List (List ℕ) → State → List Action → State → Type 0 where
+  all_reset : {s : State} → AreReset t [] s [] s
+  reset_next : {unit : List ℕ} {units : List (List ℕ)} {s u v : State} {first more : List Action} → Happens t unit Reset s first u
+      → AreReset t units u more v → AreReset t (unit ∷ units) s (first ++ more) v
+
+-- what a command that isn't refused does at the moment t, before any job begins, and what is asked of processes by that
+pub data Does (t : ℕ) (s : State) : Command → List Action → State → Type 0 where
+  changes : {command : Command} {u : State} → Changes s command u → Does t s command [] u
+  resets : {asked : Option (List ℕ)} {actions : List Action} {u : State} → AreReset t (units_reset s asked) s actions u
+      → Does t s (ResetFailed asked) actions u
 
 -- ---- what follows from what happens
 
@@ -460,25 +511,62 @@ end_of u number end = if is_number number u.main then MainEnds end else ControlE
 abbrev pub AreDeadlines : ByUnit UnitState → Timers → Type 0
 AreDeadlines units timers = (unit : List ℕ) → map.get timers unit ≡ (state_of_unit units unit).deadline
 
+-- the state with a start of the unit as its one job
+abbrev pub with_start_alone : State → List ℕ → State
+with_start_alone s unit = with_plan s unit (jobs None (Some Waiting))
+
+-- an automatic restart puts a start of the unit, unless a job of it is pending or the pending jobs would then wait for one another in a circle
+pub data Restarts (s : State) (unit : List ℕ) : State → Type 0 where
+  puts : jobs_of_unit s.pending unit ≡ no_jobs → AreFree (IsBefore s.loaded) (with_start_alone s unit).pending
+      → Restarts s unit (with_start_alone s unit)
+  has_a_job : jobs_of_unit s.pending unit ≢ no_jobs → Restarts s unit s
+  closes_a_circle : (cycle : List Job) → jobs_of_unit s.pending unit ≡ no_jobs
+      → IsCycle (ComesBefore (IsBefore s.loaded) (with_start_alone s unit).pending) cycle → Restarts s unit s
+
+abbrev pub awaits_restart : SubState → Bool
+awaits_restart AutoRestart = true
+awaits_restart other = false
+
+-- what comes of a deadline of the unit that is there: where it waits for that, its restart
+pub data ComesDue (t : ℕ) (s : State) (unit : List ℕ) : List Action → State → Type 0 where
+  restarts : {u : State} → awaits_restart (state_of_unit s.units unit).sub ≡ true → Restarts s unit u → ComesDue t s unit [] u
+  passes : {actions : List Action} {u : State} → awaits_restart (state_of_unit s.units unit).sub ≡ false
+      → Happens t unit DeadlinePasses s actions u → ComesDue t s unit actions u
+
 -- of these deadlines those up to the moment t fire, earliest first; one that is gone or changed by then doesn't
 pub data Fires (t : ℕ) : Timers → State → List Action → State → Type 0 where
   none_due : {timers : Timers} {s : State} → ((deadline : ℕ) (unit : List ℕ) → map.get timers unit ≡ Some deadline → t < deadline) → Fires t timers s [] s
   fires : {timers : Timers} {s u v w : State} {first next more : List Action} (deadline : ℕ) (unit : List ℕ) → IsDueFirst timers deadline unit → deadline ≤ t
-      → (state_of_unit s.units unit).deadline ≡ Some deadline → Carries t unit DeadlinePasses s first u → Settles t u next v
+      → (state_of_unit s.units unit).deadline ≡ Some deadline → ComesDue t s unit first u → Settles t u next v
       → Fires t (map.remove timers unit) v more w → Fires t timers s (first ++ (next ++ more)) w
   passes : {timers : Timers} {s w : State} {more : List Action} (deadline : ℕ) (unit : List ℕ) → IsDueFirst timers deadline unit → deadline ≤ t
       → (state_of_unit s.units unit).deadline ≢ Some deadline → Fires t (map.remove timers unit) s more w → Fires t timers s more w
 
+-- the unit waits for the report that the program of its main process runs, and that process has this number
+pub record AwaitsReport (s : State) (number : ℕ) (unit : List ℕ) : Type 0 where
+  pub starts : is_starting (state_of_unit s.units unit).sub ≡ true
+  pub kind : may_be_asked (acting_in s.loaded unit).settings.kind ≡ true
+  pub main : (state_of_unit s.units unit).main ≡ Some number
+
+-- the state after a boot with this id: nothing is held of any unit, and what stood under `run/` is gone; process numbers go on
+abbrev pub booted : List ℕ → State → State
+booted boot s = record s { tree = without_run s.tree; loaded = without_run s.loaded; boot = boot; units = map.empty; pending = map.empty }
+
 -- what happens at the moment t has its effect, and jobs begin where it made them ready
 pub data Follows (t : ℕ) (s : State) : Happening → List Action → State → Type 0 where
   ends : {number : ℕ} {end : End} {first more : List Action} {u v : State} (unit : List ℕ) → IsProcessOf s.units number unit
-      → Carries t unit (end_of (state_of_unit s.units unit) number end) s first u → Settles t u more v → Follows t s (ProcessEnded number end) (first ++ more) v
+      → Happens t unit (end_of (state_of_unit s.units unit) number end) s first u → Settles t u more v → Follows t s (ProcessEnded number end) (first ++ more) v
+  reports : {number : ℕ} {first more : List Action} {u v : State} (unit : List ℕ) → IsProcessOf s.units number unit → AwaitsReport s number unit
+      → Happens t unit Executed s first u → Settles t u more v → Follows t s (ProcessExecuted number) (first ++ more) v
   ticks : {actions : List Action} {v : State} (timers : Timers) → AreDeadlines s.units timers → Fires t timers s actions v → Follows t s Tick actions v
+  boots : {boot : List ℕ} → Follows t s (Booted boot) [] (booted boot s)
 
--- without effect: the end of a process that isn't live, and a tick that changes nothing
+-- without effect: the end of a process that isn't live, a report for which no unit waits, a tick that changes nothing, the boot that is known
 pub data HasNoEffect (t : ℕ) (s : State) : Happening → Type 0 where
   is_over : {number : ℕ} {end : End} → IsOver s.units number → HasNoEffect t s (ProcessEnded number end)
+  isnt_awaited : {number : ℕ} → ((unit : List ℕ) → IsProcessOf s.units number unit → ¬ AwaitsReport s number unit) → HasNoEffect t s (ProcessExecuted number)
   is_idle : Follows t s Tick [] s → HasNoEffect t s Tick
+  is_known : {boot : List ℕ} → boot ≡ s.boot → HasNoEffect t s (Booted boot)
 
 -- an event without effect: a command that isn't refused has one always
 abbrev pub LacksEffect : ℕ → State → Event → Type 0
@@ -491,8 +579,8 @@ moment_of s moment = max s.clock moment
 
 -- an event has its effect at the moment t: a command that isn't refused changes the state and jobs begin; what happens has what follows
 pub data Takes (t : ℕ) (s : State) : Event → List Action → State → Type 0 where
-  obeys : {command : Command} {actions : List Action} {u v : State} → ((r : Refused) → ¬ Refuses s command r) → Changes s command u
-      → Settles t u actions v → Takes t s (Commanded command) actions v
+  obeys : {command : Command} {first more : List Action} {u v : State} → ((r : Refused) → ¬ Refuses s command r) → Does t s command first u
+      → Settles t u more v → Takes t s (Commanded command) (first ++ more) v
   meets : {happening : Happening} {actions : List Action} {v : State} → ¬ HasNoEffect t s happening → Follows t s happening actions v
       → Takes t s (Happened happening) actions v
 

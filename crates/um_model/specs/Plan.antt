@@ -107,6 +107,10 @@ BeginsWithLeast (x ∷ xs) = All (λ y. ¬ IsNamedBefore y x) xs
 abbrev pub units_of : List Job → List (List ℕ)
 units_of cycle = each (λ (j : Job). j.unit) cycle
 
+-- no pending jobs wait for one another in a circle
+abbrev pub AreFree : (List ℕ → List ℕ → Type 0) → ByUnit UnitJobs → Type 0
+AreFree IsBefore pending = (cycle : List Job) → ¬ IsCycle (ComesBefore IsBefore pending) cycle
+
 -- E9: the pending jobs would wait for one another in a circle; its units, from the least one on
 pub record NamesCycle (IsBefore : List ℕ → List ℕ → Type 0) (pending : ByUnit UnitJobs) (r : Refused) : Type 0 where
   pub cycle : List Job

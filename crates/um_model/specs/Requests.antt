@@ -11,7 +11,7 @@ use Rattle.um_model.specs.Bytes.{◌>>=◌}
 use Rattle.um_model.specs.Refusals.{Refused, bad_request, unknown_verb, bad_name}
 use Rattle.um_model.specs.Moments.{moment_limit}
 use Rattle.um_model.specs.Names.{suffix_of, is_unit_name}
-use Rattle.um_model.specs.Machine.{Event, Commanded, Happened, Command, PutFile, PutLink, Remove, DaemonReload, ForUnit, Cancel, Install, ProcessEnded, Tick, Query, Show, IsActive, IsEnabled, Cat, ListUnits, ListJobs}
+use Rattle.um_model.specs.Machine.{Event, Commanded, Happened, Command, PutFile, PutLink, Remove, DaemonReload, ForUnit, Cancel, ResetFailed, Install, ProcessEnded, ProcessExecuted, Tick, Query, Show, IsActive, IsFailed, IsEnabled, Cat, ListUnits, ListJobs}
 use Rattle.um_model.specs.declared.commands.JobMode.{JobMode}
 use Rattle.um_model.specs.declared.commands.JobMode.TheVariants.{Replace, Fail}
 use Rattle.um_model.specs.declared.commands.UnitVerb.{UnitVerb}
@@ -144,6 +144,15 @@ for_unit verb d = do
   mode ← job_mode_at d
   of_unit (λ unit. command (ForUnit verb unit mode)) d
 
+-- failures are forgotten, of all units where none is told
+abbrev pub reset_told : Option Data → Data → Option Asking
+reset_told None d = plainly (command (ResetFailed None)) d
+reset_told (Some unit) d = of_unit (λ unit. command (ResetFailed (Some unit))) d
+
+-- the same by the object's field
+unfoldable pub reset_failed : Data → Option Asking
+reset_failed d = reset_told (get (codes "unit") d) d
+
 -- enabling the unit, or its kin
 abbrev pub install : InstallVerb → Data → Option Asking
 install verb = of_unit (λ unit. command (Install verb unit))
@@ -158,6 +167,12 @@ process_ended d = do
   number ← number_at (codes "number") (2 ^ 64 - 1) d
   end ← end_at d
   plainly (OfEvent (Happened (ProcessEnded number end))) d
+
+-- the program of the process of this number runs
+unfoldable pub process_executed : Data → Option Asking
+process_executed d = do
+  number ← number_at (codes "number") (2 ^ 64 - 1) d
+  plainly (OfEvent (Happened (ProcessExecuted number))) d
 
 -- ---- the table
 
@@ -192,26 +207,29 @@ row_of verb.Stop = row (codes "stop") everywhere (codes "unit" ∷ []) (codes "m
 row_of verb.Restart = row (codes "restart") everywhere (codes "unit" ∷ []) (codes "mode" ∷ []) (for_unit Restart)
 row_of verb.TryRestart = row (codes "try-restart") everywhere (codes "unit" ∷ []) (codes "mode" ∷ []) (for_unit TryRestart)
 row_of verb.Cancel = row (codes "cancel") everywhere (codes "unit" ∷ []) [] (of_unit (λ unit. command (Cancel unit)))
+row_of verb.ResetFailed = row (codes "reset-failed") everywhere [] (codes "unit" ∷ []) reset_failed
 row_of verb.Enable = row (codes "enable") everywhere (codes "unit" ∷ []) [] (install Enable)
 row_of verb.Disable = row (codes "disable") everywhere (codes "unit" ∷ []) [] (install Disable)
 row_of verb.Mask = row (codes "mask") everywhere (codes "unit" ∷ []) [] (install Mask)
 row_of verb.Unmask = row (codes "unmask") everywhere (codes "unit" ∷ []) [] (install Unmask)
 row_of verb.Show = row (codes "show") everywhere (codes "unit" ∷ []) [] (about_unit Show)
 row_of verb.IsActive = row (codes "is-active") everywhere (codes "unit" ∷ []) [] (about_unit IsActive)
+row_of verb.IsFailed = row (codes "is-failed") everywhere (codes "unit" ∷ []) [] (about_unit IsFailed)
 row_of verb.IsEnabled = row (codes "is-enabled") everywhere (codes "unit" ∷ []) [] (about_unit IsEnabled)
 row_of verb.Cat = row (codes "cat") everywhere (codes "unit" ∷ []) [] (about_unit Cat)
 row_of verb.ListUnits = row (codes "list-units") everywhere [] [] (plainly (OfQuery ListUnits))
 row_of verb.ListJobs = row (codes "list-jobs") everywhere [] [] (plainly (OfQuery ListJobs))
 row_of verb.Tick = row (codes "tick") in_memory [] [] (plainly (OfEvent (Happened Tick)))
 row_of verb.End = row (codes "end") in_memory (codes "number" ∷ []) (codes "code" ∷ codes "signal" ∷ codes "lost" ∷ []) process_ended
+row_of verb.Executed = row (codes "executed") in_memory (codes "number" ∷ []) [] process_executed
 row_of verb.Actions = row (codes "actions") in_memory [] [] (plainly OfActions)
 
 -- all verbs
 abbrev pub verbs : List Verb
 verbs =
     verb.PutFile ∷ verb.PutLink ∷ verb.Remove ∷ verb.DaemonReload ∷ verb.Start ∷ verb.Stop ∷ verb.Restart ∷ verb.TryRestart ∷ verb.Cancel
-    ∷ verb.Enable ∷ verb.Disable ∷ verb.Mask ∷ verb.Unmask ∷ verb.Show ∷ verb.IsActive ∷ verb.IsEnabled ∷ verb.Cat ∷ verb.ListUnits ∷ verb.ListJobs
-    ∷ verb.Tick ∷ verb.End ∷ verb.Actions ∷ []
+    ∷ verb.ResetFailed ∷ verb.Enable ∷ verb.Disable ∷ verb.Mask ∷ verb.Unmask ∷ verb.Show ∷ verb.IsActive ∷ verb.IsFailed ∷ verb.IsEnabled ∷ verb.Cat ∷ verb.ListUnits ∷ verb.ListJobs
+    ∷ verb.Tick ∷ verb.End ∷ verb.Executed ∷ verb.Actions ∷ []
 
 -- ---- a request by its row
 

@@ -33,7 +33,7 @@ pub record ServiceSettings : Type 0 where
 abbrev pub no_end : End → Bool
 no_end end = false
 
--- a unit of this kind that the service table acts on as if nothing were set: starts aren't limited yet
+-- the settings of a unit of this kind where nothing is set
 abbrev pub default_settings : UnitKind → ServiceSettings
 default_settings kind = record {
   kind = kind;
@@ -45,7 +45,7 @@ default_settings kind = record {
   restart_delay = Some 100000;
   timeout_start = Some 90000000;
   timeout_stop = Some 90000000;
-  limit_interval = Some 0;
+  limit_interval = Some 10000000;
   limit_burst = 5;
   success = no_end;
   prevents_restart = no_end;
@@ -79,12 +79,3 @@ variable_text v = v.name ++ (61 ∷ v.value)
 
 abbrev pub environment_texts : ServiceSettings → List (List ℕ)
 environment_texts s = map variable_text s.environment
-
--- until services are served in full, each acts as a simple one
-abbrev pub acting_kind : UnitKind → UnitKind
-acting_kind Target = Target
-acting_kind other = Simple
-
--- and by the commands of ExecStart= and their environment alone
-abbrev pub acting_settings : ServiceSettings → ServiceSettings
-acting_settings s = record (default_settings (acting_kind s.kind)) { start = s.start; environment = s.environment }

@@ -6,10 +6,12 @@ use Rattle.um_model.specs.Moments.{process_limit}
 use Rattle.um_model.specs.Words.{Command}
 use Rattle.um_model.specs.Substitution.{Variable, AreSubstituted}
 use Rattle.um_model.specs.Limit.{counted}
-use Rattle.um_model.specs.Service.{Action, SpawnProcess, SendSignal}
+use Rattle.um_model.specs.Service.{Action, SpawnProcess, SendSignal, active_state_of}
 use Rattle.um_model.specs.Settings.{ServiceSettings, commands_in, has_place, has_dash, environment_texts}
 use Rattle.um_model.specs.Ends.{is_clean, is_told, unclean_result, or_later, is_restart_wanted}
 use Rattle.um_model.specs.declared.limit.Counted.{Counted}
+use Rattle.um_model.specs.declared.service.ActiveState.{ActiveState}
+use Rattle.um_model.specs.declared.service.ActiveState.TheVariants.{Activating, Active as IsActive}
 use Rattle.um_model.specs.declared.service.End.{End}
 use Rattle.um_model.specs.declared.service.Signal as sent
 use Rattle.um_model.specs.declared.service.Signal.TheVariants.{Term, Kill}
@@ -27,7 +29,7 @@ use Rattle.um_model.specs.declared.transition.Order.TheVariants.{Nothing, Spawn,
 use Rattle.um_model.specs.declared.transition.Process.TheVariants.{Main, Control}
 use Rattle.um_model.specs.declared.transition.StartJob.TheVariants.{Stays, Ends, Fails}
 use Rattle.um_model.specs.declared.transition.UnitEvent.{UnitEvent}
-use Rattle.um_model.specs.declared.transition.UnitEvent.TheVariants.{StartBegins, StopBegins, BoundStop, Executed, MainEnds, ControlEnds, DeadlinePasses}
+use Rattle.um_model.specs.declared.transition.UnitEvent.TheVariants.{StartBegins, StopBegins, BoundStop, Executed, MainEnds, ControlEnds, DeadlinePasses, Reset}
 use Rattle.um_model.specs.declared.transition.UnitKind.{UnitKind}
 use Rattle.um_model.specs.declared.transition.UnitKind.TheVariants.{Simple, Exec, Oneshot, Target}
 
@@ -204,6 +206,14 @@ asked u = record u { asked = true }
 abbrev pub dies : UnitState → Change
 dies u = stop_ends (just (record u { sub = Dead; deadline = None }))
 
+abbrev pub unless_failed : SubState → SubState
+unless_failed Failed = Dead
+unless_failed other = other
+
+-- that it failed is forgotten, and how often it was started
+abbrev pub forgiven : UnitState → UnitState
+forgiven u = record u { sub = unless_failed u.sub; result = result.Success; window = None }
+
 -- ---- the table
 
 -- the event as it should be: the unit to be started is loadable; the process ended cleanly, or an ExecStop= command as its `-` allows
@@ -216,6 +226,7 @@ is_well s c u other = true
 -- the rows: what follows in this sub state from this event, which is well or not; by the last one the unit stays as it is
 abbrev pub row : ServiceSettings → Around → UnitState → SubState → UnitEvent → Bool → Change
 row s c u sub StartBegins false = start_fails (just (record u { result = result.NotLoaded }))
+row s c u sub Reset well = just (forgiven u)
 row s c u Running StartBegins well = start_ends (just u)
 row s c u Exited StartBegins well = start_ends (just u)
 row s c u Active StartBegins well = start_ends (just u)
@@ -250,9 +261,15 @@ row s c u StopSigterm DeadlinePasses well = kills s c (timed_out u)
 row s c u StopSigkill DeadlinePasses well = rests_for_good (timed_out u)
 row s c u sub event well = just u
 
--- the table: a bound stop is as a stop job that begins
+-- active or activating
+abbrev pub is_going : ActiveState → Bool
+is_going IsActive = true
+is_going Activating = true
+is_going other = false
+
+-- the table: a bound stop is as a stop job that begins, where the unit is active or activating
 abbrev pub transition : ServiceSettings → Around → UnitState → UnitEvent → Change
-transition s c u BoundStop = row s c u u.sub StopBegins true
+transition s c u BoundStop = if is_going (active_state_of u.sub) then row s c u u.sub StopBegins true else just u
 transition s c u event = row s c u u.sub event (is_well s c u event)
 
 -- ---- what is asked, as actions

@@ -42,6 +42,8 @@ pub enum UnitEvent {
     ControlEnds(End),
     /// The moment of its deadline is there.
     DeadlinePasses,
+    /// Its failure is to be forgotten (systemctl(1), "reset-failed").
+    Reset,
 }
 
 /// What stands around a unit as something happens to it.
