@@ -86,7 +86,7 @@ fn show(alloc: Global, state: &State, asked: &UnitName) -> Result<Reply, AllocEr
 }
 
 /// The active state of that unit.
-fn is_active(alloc: Global, state: &State, asked: &UnitName) -> Result<Reply, AllocError>
+fn activity(alloc: Global, state: &State, asked: &UnitName) -> Result<Reply, AllocError>
     ensures { IfOk result (λ reply. reply_of reply ≡ model.Activity (active_state_of (model.state_asked (state_of state.now) asked.now).sub)) }
 {
     let loading = load(alloc, state.loaded(), asked)?;
@@ -131,7 +131,7 @@ pub fn reply_to(alloc: Global, state: &State, query: &Query) -> Result<Reply, Al
 {
     match query {
         Query::Show { unit } => show(alloc, state, unit),
-        Query::IsActive { unit } => is_active(alloc, state, unit),
+        Query::IsActive { unit } | Query::IsFailed { unit } => activity(alloc, state, unit),
         Query::Cat { unit } => cat(alloc, state.tree(), unit),
         Query::IsEnabled { unit } => enabled_as(alloc, state.tree(), unit),
         Query::ListUnits => list_units(alloc, state),

@@ -11,10 +11,11 @@ use crate::along::take_along;
 use std::alloc::{AllocError, Global};
 use um_graph::Graph;
 use um_jobs::{is_waiting, jobs_left};
-use um_model::{Around, JobState, Moment, StartJob, UnitEvent};
+use um_model::{Around, JobState, Moment, StartJob, UnitEvent, UnitKind};
 use um_name::UnitName;
 use um_service::Service;
 use um_state::{Action, State};
+use um_unit::ServiceSettings;
 
 /// Whether a start job of the unit runs, and is failed.
 fn fails_start(start: StartJob, job: Option<JobState>) -> bool
@@ -39,7 +40,8 @@ fn change(
     ensures waits { OnOk result (NoMoreWait (state_of state.new).pending (state_of state.old).pending) }
     ensures others { OnOk result (KeepsOthers unit.now (state_of state.old) (state_of state.new)) }
 {
-    let acting = Acting::in_graph(alloc, graph, unit)?;
+    let defaults = ServiceSettings::new(alloc, UnitKind::Simple);
+    let acting = Acting::in_graph(graph, unit, &defaults);
     let jobs = state.pending().get(unit);
     let around = Around {
         moment,
@@ -48,7 +50,7 @@ fn change(
         stop_waits: is_waiting(jobs.stop),
     };
     let mut service = Service::of(state.units().get(unit));
-    let mut asked = service.on(alloc, event, &acting.settings, around)?;
+    let mut asked = service.on(alloc, event, acting.settings, around)?;
     state.set_unit(unit, service.unit())?;
     state.set_jobs(unit, jobs_left(asked.start, asked.stop_ends, jobs))?;
     state.set_next(asked.next);
@@ -56,7 +58,7 @@ fn change(
     Ok(fails_start(asked.start, jobs.start))
 }
 
-/// Carries out what happens to a unit of the graph at the moment; what is asked of its processes comes behind the other actions. Where
+/// Carries out what happens to a unit of the graph at the moment, for that unit by itself; what is asked of its processes comes behind the other actions. Where
 /// its start fails, that takes along the starts that need it. Told is whether it failed: else nothing is changed of the other units.
 /// Where memory is refused the state is of no use.
 pub fn carry(
@@ -79,22 +81,4 @@ pub fn carry(
         take_along(alloc, graph, state, unit)?;
     }
     Ok(fails)
-}
-
-/// Carries out what happens to a unit of the graph, as `carry` does.
-pub fn carry_out(
-    alloc: Global,
-    graph: &Graph,
-    state: &mut State,
-    actions: &mut Vec<Action>,
-    moment: Moment,
-    unit: &UnitName,
-    event: UnitEvent,
-) -> Result<(), AllocError>
-    ensures { OnOk result (Serves graph.now (state_of state.old) → Contains graph.now.names unit.now
-        → CarriesTo moment unit.now event (state_of state.old) (map action_of actions.old.items) (state_of state.new) (map action_of actions.new.items)
-        × Serves graph.now (state_of state.new)) }
-{
-    carry(alloc, graph, state, actions, moment, unit, event)?;
-    Ok(())
 }

@@ -1,6 +1,6 @@
 //! What a command does, and why it is refused.
 
-ghost use Rattle.std.specs.Prelude.{◌≡◌, Err, false, IfOk, IfErr};
+ghost use Rattle.std.specs.Prelude.{◌≡◌, Err, [], false, map, IfOk, IfErr};
 ghost use Rattle.um_engine.specs.Known.{HoldsNoMore};
 ghost use Rattle.um_model.specs.Machine.{has_waiting};
 ghost use Rattle.um_model.specs.Install.{paths_beyond};
@@ -8,7 +8,7 @@ ghost use Rattle.um_model.specs.Machine as model;
 ghost use Rattle.um_model.specs.Refusals as told;
 ghost use Rattle.um_model.specs.Tree.{put_file, put_link, remove_at};
 ghost use Rattle.um_model.specs.Units as units;
-ghost use Rattle.um_state.specs.View.{state_of, command_of, reply_of};
+ghost use Rattle.um_state.specs.View.{state_of, command_of, reply_of, action_of};
 ghost use Rattle.um_wire.specs.Gives.{RefusesBy};
 ghost use Rattle.um_wire.specs.Refusal.{refused_of};
 ghost use Rattle.um_wire.specs.declared.refusal.Refusal.TheVariants.{NoMemory};
@@ -18,13 +18,14 @@ use crate::loading::known_of_loaded;
 use crate::missing::check_missing;
 use crate::names::{Asked, text_of};
 use crate::planning::planned;
+use crate::resetting::without_failures;
 use crate::served::Served;
 use std::alloc::{AllocError, Global};
 use std::rc::Rc;
 use um_install::{Installed, install};
-use um_model::{InstallVerb, UnitJobs};
+use um_model::{InstallVerb, Moment, UnitJobs};
 use um_name::UnitName;
-use um_state::{Command, Reply, State};
+use um_state::{Action, Command, Reply, State};
 use um_tree::Tree;
 use um_wire::Refusal;
 
@@ -141,23 +142,35 @@ fn without_path(alloc: Global, state: &State, path: &str) -> Result<State, Refus
     Ok(changed)
 }
 
-/// A state as a command changed it, before any job begins, and what is answered.
+/// A state as a command left it, before any job begins, what is answered, and what is asked of processes.
 #[derive(Drop)]
 pub struct Outcome {
     pub served: Served,
     pub reply: Reply,
+    pub actions: Vec<Action>,
+}
+
+/// Nothing is answered.
+fn silent(served: Served, actions: Vec<Action>) -> Outcome
+    ensures state { result.served.state ≡ served.state }
+    ensures reply { reply_of result.reply ≡ model.Done }
+    ensures actions { result.actions.items ≡ actions.items }
+{
+    Outcome {
+        served,
+        reply: Reply::Done,
+        actions,
+    }
 }
 
 /// The state as a command left its loaded tree, with nothing new that it holds: what is known stays, and nothing is answered.
-fn done(served: &Served, state: State) -> Result<Outcome, AllocError>
+fn kept(alloc: Global, served: &Served, state: State) -> Result<Outcome, AllocError>
     requires { HoldsNoMore served.now.state (state_of state) }
     ensures state { IfOk result (λ o. o.served.state ≡ state_of state) }
     ensures reply { IfOk result (λ o. reply_of o.reply ≡ model.Done) }
+    ensures actions { IfOk result (λ o. o.actions.items ≡ []) }
 {
-    Ok(Outcome {
-        served: Served::with(state, served.share_known()?),
-        reply: Reply::Done,
-    })
+    Ok(silent(Served::with(state, served.share_known()?), Vec::new(alloc)))
 }
 
 /// The state with its tree in hand loaded. Refused are too many known units (E13), and pending jobs in a circle (E9).
@@ -194,6 +207,7 @@ fn installed(
     ensures changed { IfOk result (λ o. model.Changes (state_of state.now) (model.Install verb unit.now) o.served.state) }
     ensures reply { IfOk result (λ o. reply_of o.reply
         ≡ model.Relinked (paths_beyond (state_of state.now).tree o.served.state.tree) (paths_beyond o.served.state.tree (state_of state.now).tree)) }
+    ensures actions { IfOk result (λ o. o.actions.items ≡ []) }
     ensures refused { RefusesBy (model.Refuses (state_of state.now) (model.Install verb unit.now)) result }
 {
     let Installed {
@@ -204,48 +218,48 @@ fn installed(
     Ok(Outcome {
         served: with_tree(alloc, state, tree)?,
         reply: Reply::Relinked { made, removed },
+        actions: Vec::new(alloc),
     })
 }
 
-/// Nothing is answered.
-fn silent(served: Served) -> Outcome
-    ensures state { result.served.state ≡ served.state }
-    ensures reply { reply_of result.reply ≡ model.Done }
-{
-    Outcome {
-        served,
-        reply: Reply::Done,
-    }
-}
-
-/// The state as a command changes it; or the command is refused.
-pub fn changed(alloc: Global, served: &Served, command: &Command) -> Result<Outcome, Refusal>
-    ensures changed { IfOk result (λ c. model.Changes served.now.state (command_of command.now) c.served.state) }
-    ensures reply { IfOk result (λ c. reply_of c.reply
-        ≡ model.reply_after (model.Commanded (command_of command.now)) served.now.state.tree c.served.state.tree) }
+/// The state as a command leaves it at the moment, before any job begins; or the command is refused.
+pub fn done(
+    alloc: Global,
+    served: &Served,
+    moment: Moment,
+    command: &Command,
+) -> Result<Outcome, Refusal>
+    ensures does { IfOk result (λ o. model.Does moment served.now.state (command_of command.now) (map action_of o.actions.items) o.served.state) }
+    ensures reply { IfOk result (λ o. reply_of o.reply
+        ≡ model.reply_after (model.Commanded (command_of command.now)) served.now.state.tree o.served.state.tree) }
     ensures refused { RefusesBy (model.Refuses served.now.state (command_of command.now)) result }
 {
     let state = served.state();
     match command {
         Command::PutFile { path, text } => {
             let changed = with_file(alloc, state, path.as_str(), text.as_str())?;
-            Ok(done(served, changed)?)
+            Ok(kept(alloc, served, changed)?)
         }
         Command::PutLink { path, target } => {
             let changed = with_link(alloc, state, path.as_str(), target.as_str())?;
-            Ok(done(served, changed)?)
+            Ok(kept(alloc, served, changed)?)
         }
         Command::Remove { path } => {
             let changed = without_path(alloc, state, path.as_str())?;
-            Ok(done(served, changed)?)
+            Ok(kept(alloc, served, changed)?)
         }
-        Command::DaemonReload => Ok(silent(reloaded(alloc, state)?)),
+        Command::DaemonReload => Ok(silent(reloaded(alloc, state)?, Vec::new(alloc))),
         Command::ForUnit { verb, unit, mode } => {
-            Ok(silent(planned(alloc, served, *verb, unit, *mode)?))
+            let planned = planned(alloc, served, *verb, unit, *mode)?;
+            Ok(silent(planned, Vec::new(alloc)))
         }
         Command::Cancel { unit } => {
             let changed = without_waiting(alloc, served, unit)?;
-            Ok(done(served, changed)?)
+            Ok(kept(alloc, served, changed)?)
+        }
+        Command::ResetFailed { unit } => {
+            let (reset, actions) = without_failures(alloc, served, moment, unit)?;
+            Ok(silent(reset, actions))
         }
         Command::Install { verb, unit } => installed(alloc, state, *verb, unit),
     }

@@ -1,15 +1,15 @@
 ghost use Rattle.std.specs.Prelude.{◌≡◌, ◌↔◌, [], false, is_some, map, IfOk, IfErr};
-ghost use Rattle.um_engine.specs.Engine.{state_in, size_in, has_effect_in, state_at, state_after, reply_in, actions_in, state_before, MetBy};
+ghost use Rattle.um_engine.specs.Engine.{state_in, size_in, has_effect_in, state_at, state_after, reply_in, actions_in, state_before, SettlesTo};
 ghost use Rattle.um_engine.specs.Planned.{Declines};
 ghost use Rattle.um_model.specs.Machine as model;
 ghost use Rattle.um_model.specs.Machine.{Step, Takes, LacksEffect, moment_of, IsCrowded, IsHeld, IsTooHeavy};
-ghost use Rattle.um_state.specs.View.{state_of, input_of, query_of, reply_of, action_of, command_of, happening_of};
+ghost use Rattle.um_state.specs.View.{state_of, input_of, query_of, reply_of, action_of, command_of};
 ghost use Rattle.um_wire.specs.Gives.{RefusesBy};
 ghost use Rattle.um_wire.specs.Refusal.{refused_of};
 ghost use Rattle.um_wire.specs.declared.refusal.Refusal.TheVariants.{NoMemory};
 
 use crate::answer::reply_to;
-use crate::commands::{Outcome, changed};
+use crate::commands::{Outcome, done};
 use crate::happenings::met;
 use crate::room::check_room;
 use crate::served::Served;
@@ -17,7 +17,7 @@ use crate::settling::settle;
 use std::alloc::{AllocError, Global};
 use std::mem;
 use um_model::Moment;
-use um_state::{Action, Command, Event, Happening, Input, Query, Reply, State};
+use um_state::{Action, Command, Event, Input, Query, Reply, State};
 use um_wire::Refusal;
 
 /// The manager's state, what is known of its units, and the size of its store.
@@ -67,8 +67,8 @@ impl Next {
         }
     }
 
-    /// Whether the step changes anything: the end of a process that isn't live and a tick at which nothing happens don't, and need
-    /// no record.
+    /// Whether the step changes anything: the end of a process that isn't live, a report for which no unit waits, a tick at which
+    /// nothing happens and the boot that is known don't, and need no record.
     pub fn has_effect(&self) -> bool
         ensures { result ≡ has_effect_in self.now }
     {
@@ -114,34 +114,19 @@ impl Engine {
         ensures room { IfOk result (λ o. ¬ IsTooHeavy (size_in self.now) o.served.state) }
         ensures refused { IfErr result (λ e. ¬ (e ≡ NoMemory) → Declines (size_in self.now) moment (state_in self.now) (command_of command.now) (refused_of e)) }
     {
-        let outcome = changed(self.alloc, &self.served, command)?;
-        let Outcome { served, reply } = outcome;
-        let (served, actions) = settle_all(self.alloc, served, moment)?;
+        let outcome = done(self.alloc, &self.served, moment, command)?;
+        let Outcome {
+            served,
+            reply,
+            actions,
+        } = outcome;
+        let (served, actions) = settle_all(self.alloc, served, actions, moment)?;
         check_room(self.alloc, &served, self.size)?;
         Ok(Settled {
             served,
             reply,
             actions,
         })
-    }
-
-    /// What comes of what happens at the moment: the state after it, but for its clock, and what is asked of processes; no state
-    /// where it has no effect.
-    fn followed(
-        &self,
-        moment: Moment,
-        happening: &Happening,
-    ) -> Result<(Option<Served>, Vec<Action>), AllocError>
-        ensures { IfOk result (λ f. MetBy moment (state_in self.now) (happening_of happening.now) f.0 (map action_of f.1.items)) }
-    {
-        let served = &self.served;
-        let graph = served.known().graph();
-        let (after, actions) = met(self.alloc, graph, served.state(), moment, happening)?;
-        let Some(state) = after else {
-            return Ok((None, actions));
-        };
-        let known = served.share_known()?;
-        Ok((Some(Served::with(state, known)), actions))
     }
 
     /// The step that the input is. It is refused as the machine refuses it, or for want of memory; nothing has changed then.
@@ -166,7 +151,7 @@ impl Engine {
                 Ok(Next::at(moment, Some(served), reply, actions))
             }
             Event::Happened(happening) => {
-                let (served, actions) = self.followed(moment, happening)?;
+                let (served, actions) = met(self.alloc, &self.served, moment, happening)?;
                 Ok(Next::at(moment, served, Reply::Done, actions))
             }
         }
@@ -217,16 +202,16 @@ impl Engine {
     }
 }
 
-/// The state in which jobs begin at the moment until none is ready, and what is asked of processes.
+/// The state in which jobs begin at the moment until none is ready, and what is asked of processes, behind the other actions.
 fn settle_all(
     alloc: Global,
     served: Served,
+    mut actions: Vec<Action>,
     moment: Moment,
 ) -> Result<(Served, Vec<Action>), AllocError>
-    ensures { IfOk result (λ r. model.Settles moment served.state (map action_of r.1.items) r.0.state) }
+    ensures { IfOk result (λ r. SettlesTo moment served.state (map action_of actions.items) r.0.state (map action_of r.1.items)) }
 {
     let (mut state, known) = served.into_parts();
-    let mut actions = Vec::new(alloc);
     settle(alloc, known.graph(), &mut state, &mut actions, moment)?;
     Ok((Served::with(state, known), actions))
 }

@@ -1,18 +1,24 @@
 //! What follows from what happens.
 
-ghost use Rattle.std.specs.Prelude.{◌≡◌, ◌↔◌, [], map, IsTrue, IfOk, IfSome, MatchOption};
-ghost use Rattle.um_engine.specs.Engine.{Met, IsSame};
+ghost use Rattle.std.specs.Bool.{Decides};
+ghost use Rattle.std.specs.Prelude.{◌≡◌, ◌↔◌, ℕ, [], Contains, map, option_map, IsTrue, IfOk, IfSome, MatchOption};
+ghost use Rattle.um_engine.specs.Engine.{Met, MetBy, IsSame};
 ghost use Rattle.um_engine.specs.Over.{Serves};
 ghost use Rattle.um_model.specs.Machine as model;
 ghost use Rattle.um_state.specs.View.{state_of, happening_of, action_of};
 
-use crate::carrying::carry_out;
+use crate::acting::Acting;
+use crate::falling::happen;
+use crate::served::Served;
 use crate::settling::{fire, settle};
 use std::alloc::{AllocError, Global};
 use um_graph::Graph;
-use um_model::{End, Moment, UnitEvent, UnitState};
+use um_model::{End, Moment, ProcessNumber, SubState, UnitEvent, UnitKind, UnitState};
 use um_name::UnitName;
-use um_state::{Action, Happening, State, Units};
+use um_service::may_be_asked;
+use um_state::{Action, BootId, Happening, State, Units};
+use um_unit::ServiceSettings;
+use um_wire::Refusal;
 
 /// What the end of a process is for its unit.
 fn end_of(state: UnitState, number: u64, end: End) -> UnitEvent
@@ -50,6 +56,25 @@ fn is_idle(state: &State, after: &State, actions: &[Action]) -> bool
     actions.is_empty() && is_same(state, after)
 }
 
+/// What comes of what happens: the state after it, if it has an effect, and what is asked of processes.
+type Outcome = (Option<State>, Vec<Action>);
+
+/// The state after something happened to a unit of the graph, and jobs began where that made them ready.
+fn after_happening(
+    alloc: Global,
+    graph: &Graph,
+    state: &State,
+    moment: Moment,
+    unit: &UnitName,
+    event: UnitEvent,
+) -> Result<Outcome, AllocError> {
+    let mut actions = Vec::new(alloc);
+    let mut after = state.copy()?;
+    happen(alloc, graph, &mut after, &mut actions, moment, unit, event)?;
+    settle(alloc, graph, &mut after, &mut actions, moment)?;
+    Ok((Some(after), actions))
+}
+
 /// The state after the end of a process; none where no live process has the number.
 fn after_end(
     alloc: Global,
@@ -58,19 +83,62 @@ fn after_end(
     moment: Moment,
     number: u64,
     end: End,
-) -> Result<(Option<State>, Vec<Action>), AllocError>
+) -> Result<Outcome, AllocError>
     ensures met { IfOk result (λ met. Serves graph.now (state_of state.now) → Met moment (state_of state.now) (model.ProcessEnded number end) met.0 (map action_of met.1.items)) }
     ensures serves { IfOk result (λ met. Serves graph.now (state_of state.now) → IfSome met.0 (λ after. Serves graph.now (state_of after))) }
 {
-    let mut actions = Vec::new(alloc);
     let Some(unit) = process(state.units(), number)? else {
-        return Ok((None, actions));
+        return Ok((None, Vec::new(alloc)));
     };
-    let mut after = state.copy()?;
-    let event = end_of(after.units().get(&unit), number, end);
-    carry_out(alloc, graph, &mut after, &mut actions, moment, &unit, event)?;
-    settle(alloc, graph, &mut after, &mut actions, moment)?;
-    Ok((Some(after), actions))
+    let event = end_of(state.units().get(&unit), number, end);
+    after_happening(alloc, graph, state, moment, &unit, event)
+}
+
+fn is_starting(sub: SubState) -> bool
+    ensures { result ≡ is_starting sub }
+{
+    matches!(sub, SubState::Start)
+}
+
+/// Whether the process is there and has the number.
+fn is_number(number: u64, process: Option<ProcessNumber>) -> bool
+    ensures { result ≡ is_number number process }
+{
+    match process {
+        Some(process) => process.get() == number,
+        None => false,
+    }
+}
+
+/// Whether the unit, one of the graph, waits for the report that the program of its main process runs, and that process has the
+/// number.
+fn awaits_report(alloc: Global, graph: &Graph, state: &State, number: u64, unit: &UnitName) -> bool
+    ensures { Serves graph.now (state_of state.now) → Contains graph.now.names unit.now → Decides result (model.AwaitsReport (state_of state.now) number unit.now) }
+{
+    let stands = state.units().get(unit);
+    let defaults = ServiceSettings::new(alloc, UnitKind::Simple);
+    let acting = Acting::in_graph(graph, unit, &defaults);
+    is_starting(stands.sub) && may_be_asked(acting.settings.kind) && is_number(number, stands.main)
+}
+
+/// The state after the report that the program of a process runs; none where no unit waits for it.
+fn after_report(
+    alloc: Global,
+    graph: &Graph,
+    state: &State,
+    moment: Moment,
+    number: u64,
+) -> Result<Outcome, AllocError>
+    ensures met { IfOk result (λ met. Serves graph.now (state_of state.now) → Met moment (state_of state.now) (model.ProcessExecuted number) met.0 (map action_of met.1.items)) }
+    ensures serves { IfOk result (λ met. Serves graph.now (state_of state.now) → IfSome met.0 (λ after. Serves graph.now (state_of after))) }
+{
+    let Some(unit) = process(state.units(), number)? else {
+        return Ok((None, Vec::new(alloc)));
+    };
+    if !awaits_report(alloc, graph, state, number, &unit) {
+        return Ok((None, Vec::new(alloc)));
+    }
+    after_happening(alloc, graph, state, moment, &unit, UnitEvent::Executed)
 }
 
 /// The state after a tick; none where it changed nothing and asked for nothing.
@@ -79,7 +147,7 @@ fn after_tick(
     graph: &Graph,
     state: &State,
     moment: Moment,
-) -> Result<(Option<State>, Vec<Action>), AllocError>
+) -> Result<Outcome, AllocError>
     ensures met { IfOk result (λ met. Serves graph.now (state_of state.now) → Met moment (state_of state.now) model.Tick met.0 (map action_of met.1.items)) }
     ensures serves { IfOk result (λ met. Serves graph.now (state_of state.now) → IfSome met.0 (λ after. Serves graph.now (state_of after))) }
 {
@@ -92,21 +160,56 @@ fn after_tick(
     Ok((Some(after), actions))
 }
 
+/// The state after a boot with this id, with what is known anew of its units: what stood under `run/` is gone. None where that is the
+/// boot that is known.
+fn after_boot(alloc: Global, served: &Served, boot: &BootId) -> Result<Option<Served>, AllocError>
+    ensures { IfOk result (λ after. (t : ℕ) → MetBy t served.now.state (model.Booted boot.now) after []) }
+{
+    let state = served.state();
+    if boot.as_str() == state.boot().as_str() {
+        return Ok(None);
+    }
+    let mut after = state.copy()?;
+    after.begin_boot(alloc, boot.copy()?);
+    match Served::of(alloc, after) {
+        Ok(served) => Ok(Some(served)),
+        Err(Refusal::NoMemory) => Err(AllocError),
+        Err(_) => unreachable!(),
+    }
+}
+
+/// The state after it, if there is one, with what is known as it was.
+fn with_known(
+    served: &Served,
+    (after, actions): Outcome,
+) -> Result<(Option<Served>, Vec<Action>), AllocError> {
+    match after {
+        Some(state) => Ok((Some(Served::with(state, served.share_known()?)), actions)),
+        None => Ok((None, actions)),
+    }
+}
+
 /// The state after what happens at the moment, but for its clock, and what is asked of processes; no state where it has no effect.
 pub fn met(
     alloc: Global,
-    graph: &Graph,
-    state: &State,
+    served: &Served,
     moment: Moment,
     happening: &Happening,
-) -> Result<(Option<State>, Vec<Action>), AllocError>
-    ensures met { IfOk result (λ met. Serves graph.now (state_of state.now) → Met moment (state_of state.now) (happening_of happening.now) met.0 (map action_of met.1.items)) }
-    ensures serves { IfOk result (λ met. Serves graph.now (state_of state.now) → IfSome met.0 (λ after. Serves graph.now (state_of after))) }
+) -> Result<(Option<Served>, Vec<Action>), AllocError>
+    ensures { IfOk result (λ met. MetBy moment served.now.state (happening_of happening.now) met.0 (map action_of met.1.items)) }
 {
+    let graph = served.known().graph();
+    let state = served.state();
     match happening {
-        Happening::ProcessEnded { number, end } => {
-            after_end(alloc, graph, state, moment, *number, *end)
-        },
-        Happening::Tick => after_tick(alloc, graph, state, moment),
+        Happening::ProcessEnded { number, end } => with_known(
+            served,
+            after_end(alloc, graph, state, moment, *number, *end)?,
+        ),
+        Happening::ProcessExecuted { number } => with_known(
+            served,
+            after_report(alloc, graph, state, moment, *number)?,
+        ),
+        Happening::Tick => with_known(served, after_tick(alloc, graph, state, moment)?),
+        Happening::Booted { boot } => Ok((after_boot(alloc, served, boot)?, Vec::new(alloc))),
     }
 }

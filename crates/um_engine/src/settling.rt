@@ -1,6 +1,6 @@
-ghost use Rattle.std.specs.Prelude.{◌≡◌, false, map, IfOk, IfSome, OnOk, MatchOption};
+ghost use Rattle.std.specs.Prelude.{◌≡◌, false, map, Contains, IfOk, IfSome, OnOk, MatchOption};
 ghost use Rattle.um_engine.specs.Carrying.{KeepsOthers};
-ghost use Rattle.um_engine.specs.Engine.{SettlesTo, FiresOneTo, FiresTo, IsDue, NoneIsDue};
+ghost use Rattle.um_engine.specs.Engine.{SettlesTo, ComesDueTo, FiresOneTo, FiresTo, IsDue, NoneIsDue};
 ghost use Rattle.um_engine.specs.Filled.{Tells, is_deactivating, told_of};
 ghost use Rattle.um_engine.specs.Over.{Serves};
 ghost use Rattle.um_graph.specs.Graph.{IsNumberOf};
@@ -10,12 +10,13 @@ ghost use Rattle.um_model.specs.Machine.{begun, IsBefore, IsStill};
 ghost use Rattle.um_model.specs.Service.{active_state_of};
 ghost use Rattle.um_state.specs.View.{state_of, action_of};
 
-use crate::carrying::{carry, carry_out};
+use crate::falling::happen;
 use crate::jobs::begins;
+use crate::restarting::restart;
 use std::alloc::{AllocError, Global};
 use um_graph::Graph;
 use um_jobs::{Jobs, with_running};
-use um_model::{ActiveState, Deadline, JobKind, Moment, UnitEvent, UnitState};
+use um_model::{ActiveState, Deadline, JobKind, Moment, SubState, UnitEvent, UnitState};
 use um_name::UnitName;
 use um_state::{Action, State};
 use um_timer::Timers;
@@ -83,19 +84,19 @@ fn begin_job(state: &mut State, next: &NextJob) -> Result<(), AllocError>
     state.set_jobs(&next.name, with_running(next.kind, jobs))
 }
 
-/// Tells anew what the state holds of units, after a job of one of them began: of that one, or of all where its start failed.
+/// Tells anew what the state holds of units, after a job of one of them began: of that one, or of all where others may have changed.
 fn tell_anew(
     alloc: Global,
     graph: &Graph,
     jobs: &mut Jobs,
     state: &State,
     next: &NextJob,
-    fails: bool,
+    spreads: bool,
 ) -> Result<(), AllocError>
     ensures { OnOk result ((before : model.State) → Tells graph.now before jobs.old → IsNumberOf graph.now next.now.unit next.now.name
-        → (fails ≡ false → KeepsOthers next.now.name before (state_of state.now)) → Tells graph.now (state_of state.now) jobs.new) }
+        → (spreads ≡ false → KeepsOthers next.now.name before (state_of state.now)) → Tells graph.now (state_of state.now) jobs.new) }
 {
-    if fails {
+    if spreads {
         *jobs = jobs_in(alloc, graph, state)?;
     } else {
         tell(jobs, state, next.unit, &next.name);
@@ -119,8 +120,8 @@ pub fn settle(
     'jobs: while let Some(next) = next_job(graph, &jobs)? {
         begin_job(state, &next)?;
         let event = begins(next.kind);
-        let fails = carry(alloc, graph, state, actions, moment, &next.name, event)?;
-        tell_anew(alloc, graph, &mut jobs, state, &next, fails)?;
+        let spreads = happen(alloc, graph, state, actions, moment, &next.name, event)?;
+        tell_anew(alloc, graph, &mut jobs, state, &next, spreads)?;
     }
     Ok(())
 }
@@ -146,6 +147,33 @@ fn next_due(timers: &Timers, moment: Moment) -> Result<Option<Due>, AllocError>
     Ok(Some(Due { deadline, unit }))
 }
 
+fn awaits_restart(sub: SubState) -> bool
+    ensures { result ≡ model.awaits_restart sub }
+{
+    matches!(sub, SubState::AutoRestart)
+}
+
+/// What comes of a deadline of the unit that is there: where it waits for that, its restart.
+fn come_due(
+    alloc: Global,
+    graph: &Graph,
+    state: &mut State,
+    actions: &mut Vec<Action>,
+    moment: Moment,
+    unit: &UnitName,
+) -> Result<(), AllocError>
+    ensures { OnOk result (Serves graph.now (state_of state.old) → Contains graph.now.names unit.now
+        → ComesDueTo moment (state_of state.old) unit.now (map action_of actions.old.items) (state_of state.new) (map action_of actions.new.items)
+        × Serves graph.now (state_of state.new)) }
+{
+    if awaits_restart(state.units().get(unit).sub) {
+        return restart(alloc, graph, state, unit);
+    }
+    let event = UnitEvent::DeadlinePasses;
+    happen(alloc, graph, state, actions, moment, unit, event)?;
+    Ok(())
+}
+
 /// Fires one deadline, if it still stands, and lets jobs begin.
 fn fire_one(
     alloc: Global,
@@ -162,8 +190,7 @@ fn fire_one(
     if state.units().get(&due.unit).deadline != Some(due.deadline) {
         return Ok(());
     }
-    let event = UnitEvent::DeadlinePasses;
-    carry_out(alloc, graph, state, actions, moment, &due.unit, event)?;
+    come_due(alloc, graph, state, actions, moment, &due.unit)?;
     settle(alloc, graph, state, actions, moment)?;
     Ok(())
 }

@@ -1,6 +1,6 @@
 -- Requests of the code as the requests of the definitions.
-use Rattle.std.specs.Prelude.{Bool, Result, Ok, Err}
-use Rattle.um_model.specs.Machine.{Happened, PutFile, PutLink, Remove, DaemonReload, ForUnit, Cancel, Install, ProcessEnded, Tick, Show, IsActive, IsEnabled, Cat, ListUnits, ListJobs}
+use Rattle.std.specs.Prelude.{Bool, Option, Some, None, Result, Ok, Err}
+use Rattle.um_model.specs.Machine.{Happened, PutFile, PutLink, Remove, DaemonReload, ForUnit, Cancel, ResetFailed, Install, ProcessEnded, ProcessExecuted, Tick, Show, IsActive, IsFailed, IsEnabled, Cat, ListUnits, ListJobs}
 use Rattle.um_model.specs.Refusals.{Refused, bad_request, unknown_verb}
 use Rattle.um_model.specs.Requests as model
 use Rattle.um_model.specs.declared.requests.Mode.{Mode}
@@ -37,15 +37,19 @@ asking_of (asking.Remove path) = model.Plainly (model.command (Remove path.now))
 asking_of asking.DaemonReload = model.Plainly (model.command DaemonReload)
 asking_of (asking.ForUnit verb unit mode) = model.OfUnit (λ u. model.command (ForUnit verb u mode)) unit.now
 asking_of (asking.Cancel unit) = model.OfUnit (λ u. model.command (Cancel u)) unit.now
+asking_of (asking.ResetFailed None) = model.Plainly (model.command (ResetFailed None))
+asking_of (asking.ResetFailed (Some unit)) = model.OfUnit (λ u. model.command (ResetFailed (Some u))) unit.now
 asking_of (asking.Install verb unit) = model.OfUnit (λ u. model.command (Install verb u)) unit.now
 asking_of (asking.Show unit) = model.OfUnit (λ u. model.OfQuery (Show u)) unit.now
 asking_of (asking.IsActive unit) = model.OfUnit (λ u. model.OfQuery (IsActive u)) unit.now
+asking_of (asking.IsFailed unit) = model.OfUnit (λ u. model.OfQuery (IsFailed u)) unit.now
 asking_of (asking.Cat unit) = model.OfUnit (λ u. model.OfQuery (Cat u)) unit.now
 asking_of (asking.IsEnabled unit) = model.OfUnit (λ u. model.OfQuery (IsEnabled u)) unit.now
 asking_of asking.ListUnits = model.Plainly (model.OfQuery ListUnits)
 asking_of asking.ListJobs = model.Plainly (model.OfQuery ListJobs)
 asking_of asking.Tick = model.Plainly (model.OfEvent (Happened Tick))
 asking_of (asking.ProcessEnded number end) = model.Plainly (model.OfEvent (Happened (ProcessEnded number end)))
+asking_of (asking.ProcessExecuted number) = model.Plainly (model.OfEvent (Happened (ProcessExecuted number)))
 asking_of asking.Actions = model.Plainly model.OfActions
 
 -- the request that a draft is, once its unit is named

@@ -33,6 +33,9 @@ pub enum Asking<'v> {
     Cancel {
         unit: &'v str,
     },
+    ResetFailed {
+        unit: Option<&'v str>,
+    },
     Install {
         verb: InstallVerb,
         unit: &'v str,
@@ -41,6 +44,9 @@ pub enum Asking<'v> {
         unit: &'v str,
     },
     IsActive {
+        unit: &'v str,
+    },
+    IsFailed {
         unit: &'v str,
     },
     Cat {
@@ -55,6 +61,9 @@ pub enum Asking<'v> {
     ProcessEnded {
         number: u64,
         end: End,
+    },
+    ProcessExecuted {
+        number: u64,
     },
     Actions,
 }
@@ -128,6 +137,26 @@ fn process_ended<'v>(value: &'v Value) -> Option<Asking<'v>>
     Some(Asking::ProcessEnded { number, end })
 }
 
+#[tactic(auto, unfolding(um_model::specs::Requests::process_executed))]
+fn process_executed<'v>(value: &'v Value) -> Option<Asking<'v>>
+    ensures { option_map asking_of result ≡ model.process_executed (view value.now) }
+{
+    let number = number_at(value, "number", u64::MAX)?;
+    Some(Asking::ProcessExecuted { number })
+}
+
+/// That failures are forgotten: of all units where none is told.
+#[tactic(auto, unfolding(um_model::specs::Requests::reset_failed, um_model::specs::Requests::of_unit))]
+fn reset_failed<'v>(value: &'v Value) -> Option<Asking<'v>>
+    ensures { option_map asking_of result ≡ model.reset_failed (view value.now) }
+{
+    if value.get("unit").is_none() {
+        return Some(Asking::ResetFailed { unit: None });
+    }
+    let unit = text_at(value, "unit")?;
+    Some(Asking::ResetFailed { unit: Some(unit) })
+}
+
 /// What a verb asks for with its fields.
 #[tactic(auto, unfolding(um_model::specs::Requests::of_unit))]
 fn asking_with<'v>(verb: Verb, value: &'v Value) -> Option<Asking<'v>>
@@ -146,6 +175,7 @@ fn asking_with<'v>(verb: Verb, value: &'v Value) -> Option<Asking<'v>>
             let unit = text_at(value, "unit")?;
             Some(Asking::Cancel { unit })
         }
+        Verb::ResetFailed => reset_failed(value),
         Verb::Enable => install(InstallVerb::Enable, value),
         Verb::Disable => install(InstallVerb::Disable, value),
         Verb::Mask => install(InstallVerb::Mask, value),
@@ -157,6 +187,10 @@ fn asking_with<'v>(verb: Verb, value: &'v Value) -> Option<Asking<'v>>
         Verb::IsActive => {
             let unit = text_at(value, "unit")?;
             Some(Asking::IsActive { unit })
+        }
+        Verb::IsFailed => {
+            let unit = text_at(value, "unit")?;
+            Some(Asking::IsFailed { unit })
         }
         Verb::IsEnabled => {
             let unit = text_at(value, "unit")?;
@@ -170,6 +204,7 @@ fn asking_with<'v>(verb: Verb, value: &'v Value) -> Option<Asking<'v>>
         Verb::ListJobs => Some(Asking::ListJobs),
         Verb::Tick => Some(Asking::Tick),
         Verb::End => process_ended(value),
+        Verb::Executed => process_executed(value),
         Verb::Actions => Some(Asking::Actions),
     }
 }

@@ -79,6 +79,11 @@ fn asked_by(alloc: Global, asking: Asking) -> Result<Asked, Refusal>
             let unit = unit_named(alloc, unit)?;
             Ok(commanded(Command::Cancel { unit }))
         }
+        Asking::ResetFailed { unit: None } => Ok(commanded(Command::ResetFailed { unit: None })),
+        Asking::ResetFailed { unit: Some(unit) } => {
+            let unit = Some(unit_named(alloc, unit)?);
+            Ok(commanded(Command::ResetFailed { unit }))
+        }
         Asking::Install { verb, unit } => {
             let unit = unit_named(alloc, unit)?;
             Ok(commanded(Command::Install { verb, unit }))
@@ -90,6 +95,10 @@ fn asked_by(alloc: Global, asking: Asking) -> Result<Asked, Refusal>
         Asking::IsActive { unit } => {
             let unit = unit_named(alloc, unit)?;
             Ok(Asked::Query(Query::IsActive { unit }))
+        }
+        Asking::IsFailed { unit } => {
+            let unit = unit_named(alloc, unit)?;
+            Ok(Asked::Query(Query::IsFailed { unit }))
         }
         Asking::Cat { unit } => {
             let unit = unit_named(alloc, unit)?;
@@ -105,6 +114,7 @@ fn asked_by(alloc: Global, asking: Asking) -> Result<Asked, Refusal>
         Asking::ProcessEnded { number, end } => {
             Ok(happened(Happening::ProcessEnded { number, end }))
         }
+        Asking::ProcessExecuted { number } => Ok(happened(Happening::ProcessExecuted { number })),
         Asking::Actions => Ok(Asked::Actions),
     }
 }

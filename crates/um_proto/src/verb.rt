@@ -5,7 +5,7 @@ ghost use Rattle.um_proto.specs.View.{known_where};
 use um_model::{Mode, Verb};
 
 /// All verbs.
-const VERBS: [Verb; 22] = [
+const VERBS: [Verb; 25] = [
     Verb::PutFile,
     Verb::PutLink,
     Verb::Remove,
@@ -15,18 +15,21 @@ const VERBS: [Verb; 22] = [
     Verb::Restart,
     Verb::TryRestart,
     Verb::Cancel,
+    Verb::ResetFailed,
     Verb::Enable,
     Verb::Disable,
     Verb::Mask,
     Verb::Unmask,
     Verb::Show,
     Verb::IsActive,
+    Verb::IsFailed,
     Verb::IsEnabled,
     Verb::Cat,
     Verb::ListUnits,
     Verb::ListJobs,
     Verb::Tick,
     Verb::End,
+    Verb::Executed,
     Verb::Actions,
 ];
 
@@ -88,12 +91,14 @@ pub fn row_of(verb: Verb) -> Row
         Verb::Restart => Row::of("restart", Known::Everywhere, &["unit"], &["mode"]),
         Verb::TryRestart => Row::of("try-restart", Known::Everywhere, &["unit"], &["mode"]),
         Verb::Cancel => Row::of("cancel", Known::Everywhere, &["unit"], &[]),
+        Verb::ResetFailed => Row::of("reset-failed", Known::Everywhere, &[], &["unit"]),
         Verb::Enable => Row::of("enable", Known::Everywhere, &["unit"], &[]),
         Verb::Disable => Row::of("disable", Known::Everywhere, &["unit"], &[]),
         Verb::Mask => Row::of("mask", Known::Everywhere, &["unit"], &[]),
         Verb::Unmask => Row::of("unmask", Known::Everywhere, &["unit"], &[]),
         Verb::Show => Row::of("show", Known::Everywhere, &["unit"], &[]),
         Verb::IsActive => Row::of("is-active", Known::Everywhere, &["unit"], &[]),
+        Verb::IsFailed => Row::of("is-failed", Known::Everywhere, &["unit"], &[]),
         Verb::IsEnabled => Row::of("is-enabled", Known::Everywhere, &["unit"], &[]),
         Verb::Cat => Row::of("cat", Known::Everywhere, &["unit"], &[]),
         Verb::ListUnits => Row::of("list-units", Known::Everywhere, &[], &[]),
@@ -105,6 +110,7 @@ pub fn row_of(verb: Verb) -> Row
             &["number"],
             &["code", "signal", "lost"],
         ),
+        Verb::Executed => Row::of("executed", Known::InMemory, &["number"], &[]),
         Verb::Actions => Row::of("actions", Known::InMemory, &[], &[]),
     }
 }

@@ -39,7 +39,7 @@ fn asks_to_end(signal: u8) -> bool
 }
 
 /// Whether a unit of this kind may end by a signal that asks it to.
-fn may_be_asked(kind: UnitKind) -> bool
+pub fn may_be_asked(kind: UnitKind) -> bool
     ensures { result ≡ may_be_asked kind }
 {
     match kind {

@@ -1,7 +1,7 @@
 //! How a unit stops.
 
 ghost use Rattle.std.specs.Prelude.{◌≡◌, ℕ};
-ghost use Rattle.um_model.specs.Transitions.{stop_command, winds_down, next_stop, exits, asked, dies, kills};
+ghost use Rattle.um_model.specs.Transitions.{stop_command, winds_down, next_stop, exits, asked, dies, kills, unless_failed, forgiven};
 ghost use Rattle.um_unit.specs.ServiceView.{service_settings_of};
 
 use crate::change::{asking, deadline_after, just, stop_ends};
@@ -88,6 +88,27 @@ pub fn dies(unit: UnitState) -> Change
         deadline: None,
         ..unit
     }))
+}
+
+fn unless_failed(sub: SubState) -> SubState
+    ensures { result ≡ unless_failed sub }
+{
+    match sub {
+        SubState::Failed => SubState::Dead,
+        other => other,
+    }
+}
+
+/// That the unit failed is forgotten, and how often it was started (systemctl(1), `reset-failed`).
+pub fn forgiven(unit: UnitState) -> UnitState
+    ensures { result ≡ forgiven unit }
+{
+    UnitState {
+        sub: unless_failed(unit.sub),
+        result: UnitResult::Success,
+        window: None,
+        ..unit
+    }
 }
 
 /// The unit's live processes are killed.

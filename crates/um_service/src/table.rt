@@ -1,7 +1,8 @@
 //! The service table.
 
 ghost use Rattle.std.specs.Prelude.{◌≡◌};
-ghost use Rattle.um_model.specs.Transitions.{noted, without_main, without_control, timed_out, is_well, row, transition};
+ghost use Rattle.um_model.specs.Service.{active_state_of};
+ghost use Rattle.um_model.specs.Transitions.{noted, without_main, without_control, timed_out, is_well, is_going, row, transition};
 ghost use Rattle.um_unit.specs.ServiceView.{service_settings_of};
 
 use crate::change::{just, start_ends, start_fails, stop_ends};
@@ -9,9 +10,10 @@ use crate::ends::{is_clean, is_told, or_later, unclean_result};
 use crate::rest::{rests, rests_for_good, rests_unless_live, terminates};
 use crate::settings::has_dash;
 use crate::start::{executed, start_goes_on, starts};
-use crate::stop::{asked, dies, exits, kills, next_stop, winds_down};
+use crate::stop::{asked, dies, exits, forgiven, kills, next_stop, winds_down};
 use um_model::{
-    Around, Change, CommandList, End, Process, SubState, UnitEvent, UnitResult, UnitState,
+    ActiveState, Around, Change, CommandList, End, Process, SubState, UnitEvent, UnitResult,
+    UnitState,
 };
 use um_unit::ServiceSettings;
 
@@ -79,7 +81,8 @@ fn is_well(settings: &ServiceSettings, around: &Around, unit: &UnitState, event:
         UnitEvent::StopBegins
         | UnitEvent::BoundStop
         | UnitEvent::Executed
-        | UnitEvent::DeadlinePasses => true,
+        | UnitEvent::DeadlinePasses
+        | UnitEvent::Reset => true,
     }
 }
 
@@ -96,12 +99,15 @@ fn row(
     use SubState::{
         Active, AutoRestart, Dead, Exited, Failed, Running, Start, Stop, StopSigkill, StopSigterm,
     };
-    use UnitEvent::{ControlEnds, DeadlinePasses, Executed, MainEnds, StartBegins, StopBegins};
+    use UnitEvent::{
+        ControlEnds, DeadlinePasses, Executed, MainEnds, Reset, StartBegins, StopBegins,
+    };
     match (unit.sub, event, well) {
         (_, StartBegins, false) => start_fails(just(UnitState {
             result: UnitResult::NotLoaded,
             ..unit
         })),
+        (_, Reset, _) => just(forgiven(unit)),
         (Running | Exited | Active, StartBegins, _) => start_ends(just(unit)),
         (Dead | Failed | AutoRestart, StartBegins, _) => starts(settings, around, unit),
         (Start, Executed, _) => executed(settings.kind, unit),
@@ -166,7 +172,17 @@ fn row(
     }
 }
 
-/// What follows from the event. A bound stop is as a stop job that begins.
+/// Whether a unit that has come so far is active or activating.
+fn is_going(sub: SubState) -> bool
+    ensures { result ≡ is_going (active_state_of sub) }
+{
+    matches!(
+        sub.active_state(),
+        ActiveState::Active | ActiveState::Activating
+    )
+}
+
+/// What follows from the event. A bound stop is as a stop job that begins, where the unit is active or activating.
 pub fn transition(
     settings: &ServiceSettings,
     around: Around,
@@ -176,7 +192,10 @@ pub fn transition(
     ensures { result ≡ transition (service_settings_of settings.now) around unit event }
 {
     match event {
-        UnitEvent::BoundStop => row(settings, around, unit, UnitEvent::StopBegins, true),
+        UnitEvent::BoundStop if is_going(unit.sub) => {
+            row(settings, around, unit, UnitEvent::StopBegins, true)
+        }
+        UnitEvent::BoundStop => just(unit),
         _ => {
             let well = is_well(settings, &around, &unit, event);
             row(settings, around, unit, event, well)

@@ -27,11 +27,14 @@ command_of (command.Remove path) = model.Remove (string_bytes path)
 command_of command.DaemonReload = model.DaemonReload
 command_of (command.ForUnit verb unit mode) = model.ForUnit verb unit mode
 command_of (command.Cancel unit) = model.Cancel unit
+command_of (command.ResetFailed unit) = model.ResetFailed unit
 command_of (command.Install verb unit) = model.Install verb unit
 
 abbrev pub happening_of : Happening → model.Happening
 happening_of (happening.ProcessEnded number end) = model.ProcessEnded number end
+happening_of (happening.ProcessExecuted number) = model.ProcessExecuted number
 happening_of happening.Tick = model.Tick
+happening_of (happening.Booted boot) = model.Booted boot
 
 abbrev pub event_of : Event → model.Event
 event_of (event.Commanded command) = model.Commanded (command_of command)
@@ -43,6 +46,7 @@ input_of i = record { moment = i.moment; event = event_of i.event }
 abbrev pub query_of : Query → model.Query
 query_of (query.Show unit) = model.Show unit
 query_of (query.IsActive unit) = model.IsActive unit
+query_of (query.IsFailed unit) = model.IsFailed unit
 query_of (query.Cat unit) = model.Cat unit
 query_of (query.IsEnabled unit) = model.IsEnabled unit
 query_of query.ListUnits = model.ListUnits

@@ -1,6 +1,7 @@
 ghost use Rattle.std.specs.Prelude.{◌≡◌};
 ghost use Rattle.um_model.specs.Machine as model;
 
+use crate::boot::BootId;
 use um_model::{End, InstallVerb, JobMode, Moment, UnitVerb};
 use um_name::UnitName;
 
@@ -33,6 +34,10 @@ pub enum Command {
     Cancel {
         unit: UnitName,
     },
+    /// Forget that the unit failed, or of all units that they did (systemctl(1), `reset-failed`).
+    ResetFailed {
+        unit: Option<UnitName>,
+    },
     /// Enable the unit, disable, mask or unmask it (systemctl(1)), and load the tree that comes of it.
     Install {
         verb: InstallVerb,
@@ -45,8 +50,12 @@ pub enum Command {
 pub enum Happening {
     /// The process of this number ended. A number that no live process has is no fault: it has no effect.
     ProcessEnded { number: u64, end: End },
+    /// The program of the process of this number runs. Where no unit waits for that it has no effect.
+    ProcessExecuted { number: u64 },
     /// Time has passed.
     Tick,
+    /// The machine was booted. The id of the boot that the state knows has no effect.
+    Booted { boot: BootId },
 }
 
 /// What comes in.
@@ -95,6 +104,8 @@ pub enum Query {
     Show { unit: UnitName },
     /// Its active state (systemctl(1), `is-active`).
     IsActive { unit: UnitName },
+    /// The same, asked whether it failed (systemctl(1), `is-failed`).
+    IsFailed { unit: UnitName },
     /// Its files in the tree in hand (systemctl(1), `cat`).
     Cat { unit: UnitName },
     /// How it is enabled in the tree in hand (systemctl(1), `is-enabled`).

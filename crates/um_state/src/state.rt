@@ -1,5 +1,5 @@
 ghost use Rattle.std.specs.Prelude.{◌≡◌, ◌↔◌, ℕ, List, Contains, string_bytes, IsTrue, IfOk, OnOk, OnErr, IfErr, Ok, Err};
-ghost use Rattle.um_model.specs.Machine.{IsHeld, empty_state};
+ghost use Rattle.um_model.specs.Machine.{IsHeld, booted, empty_state};
 ghost use Rattle.um_model.specs.Service.{with_unit};
 ghost use Rattle.um_model.specs.Jobs.{with_jobs};
 ghost use Rattle.um_model.specs.Tree.{put_file, put_link, remove_at};
@@ -194,6 +194,17 @@ impl State {
         ensures { state_of self.new ≡ record (state_of self.old) { clock = clock } }
     {
         self.clock = clock;
+    }
+
+    /// Another boot begins: nothing is held of any unit, and what stood under `run/` is gone from both trees. It takes no memory.
+    pub fn begin_boot(&mut self, alloc: Global, boot: BootId)
+        ensures { state_of self.new ≡ booted boot (state_of self.old) }
+    {
+        self.tree.clear_run();
+        self.loaded.clear_run();
+        self.boot = boot;
+        self.units = Units::new(alloc);
+        self.pending = Pending::new(alloc);
     }
 
     /// The same state again.

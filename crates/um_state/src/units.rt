@@ -84,6 +84,15 @@ impl Units {
         push_keys(names, &self.entries)
     }
 
+    /// The units of which it holds anything, by name.
+    pub fn names(&self) -> Result<Vec<UnitName>, AllocError>
+        ensures { IfOk result (λ names. names.items ≡ maps.keys self.now) }
+    {
+        let mut names = Vec::new(self.alloc);
+        self.push_names(&mut names)?;
+        Ok(names)
+    }
+
     /// Sets how the unit stands; a dead one of which nothing is known isn't held. Where memory is refused, all is as before.
     pub fn set(&mut self, unit: &UnitName, state: UnitState) -> Result<(), AllocError>
         ensures ok { OnOk result (self.new ≡ with_unit self.old unit.now state) }

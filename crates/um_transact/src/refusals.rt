@@ -10,7 +10,6 @@ ghost use Rattle.um_wire.specs.Refusal.{refused_of};
 ghost use Rattle.um_wire.specs.declared.refusal.Refusal.TheVariants.{NoMemory};
 
 use std::alloc::{AllocError, Global};
-use um_model::UnitKind;
 use um_name::UnitName;
 use um_unit::{LoadedUnit, Loading};
 use um_wire::Refusal;
@@ -72,28 +71,17 @@ pub fn job_conflict(alloc: Global, unit: &UnitName) -> Refusal
     }
 }
 
-/// Of the kinds of units simple services are served.
-fn is_served_kind(kind: UnitKind) -> bool
-    ensures { result ≡ machine.is_served_kind kind }
-{
-    matches!(kind, UnitKind::Simple | UnitKind::Target)
-}
-
-/// Refuses to start a unit that was found and isn't a simple service, or is a template (E6).
+/// Refuses to start a unit that was found and is a template (E6).
 fn check_found(alloc: Global, asked: &UnitName, found: &LoadedUnit) -> Result<(), Refusal>
     ensures { RefusesBy (machine.CannotStart asked.now (units.Found (unit_of found.now))) result }
 {
-    if !is_served_kind(found.settings.service.kind) {
-        return Err(bad_setting(alloc, &found.name, "type"));
-    }
     if found.name.is_template() {
         return Err(bad_setting(alloc, &found.name, "template"));
     }
     Ok(())
 }
 
-/// Refuses to start a unit that isn't found (E4), is masked (E5), has a refused setting, isn't a simple service or is a template
-/// (E6); or memory lacks for what the refusal tells (E15). The unit is the one that the name leads to.
+/// Refuses to start a unit that isn't found (E4), is masked (E5), has a refused setting or is a template (E6); or memory lacks for what the refusal tells (E15). The unit is the one that the name leads to.
 pub fn check_start(alloc: Global, asked: &UnitName, loading: &Loading) -> Result<(), Refusal>
     ensures { RefusesBy (machine.CannotStart asked.now (loading_of loading.now)) result }
 {
