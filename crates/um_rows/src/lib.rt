@@ -4,6 +4,10 @@
 #[cfg(test)]
 mod answers;
 #[cfg(test)]
+mod bindings;
+#[cfg(test)]
+mod boots;
+#[cfg(test)]
 mod commands;
 #[cfg(test)]
 mod continuations;
@@ -32,9 +36,13 @@ mod proto;
 #[cfg(test)]
 mod refusals;
 #[cfg(test)]
+mod restarts;
+#[cfg(test)]
 mod script;
 #[cfg(test)]
 mod service;
+#[cfg(test)]
+mod services;
 #[cfg(test)]
 mod session;
 #[cfg(test)]
