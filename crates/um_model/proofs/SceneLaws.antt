@@ -4,7 +4,7 @@ use Rattle.std.proofs.lemmas.Option.{none-some}
 use Rattle.std.specs.FinMap as map
 use Rattle.um_model.specs.Dependencies.{loadable_in, IsKnown, KnowsSoMany, CountsFor, Depends, owner, other}
 use Rattle.um_model.specs.Least.{IsNamedBefore}
-use Rattle.um_model.specs.Machine.{State, IsHeld, IsHeldOr, AreKnownUnits, scene_at, is_served_kind, CannotStart, isnt_found, is_masked, has_bad_setting, is_of_another_kind, is_a_template}
+use Rattle.um_model.specs.Machine.{State, IsHeld, IsHeldOr, AreKnownUnits, scene_at, CannotStart, isnt_found, is_masked, has_bad_setting, is_a_template}
 use Rattle.um_model.specs.Names.{is_template}
 use Rattle.um_model.specs.Reached.{next}
 use Rattle.um_model.specs.Refusals.{Refused}
@@ -23,16 +23,14 @@ use Rattle.um_model.proofs.TimersLaws.{among_keys, names_one_way, same_name}
 -- ---- a unit can't be started for one reason or none
 
 found_starts : (asked : List ℕ) (l : LoadedUnit) → OneOrNone (CannotStart asked (Found l))
-found_starts asked l = by_tests (is_served_kind l.settings.service.kind) (is_template l.name) refl refl
+found_starts asked l = by_test (is_template l.name) refl
   where
-    none : is_served_kind l.settings.service.kind ≡ true → is_template l.name ≡ false → (r : Refused) → ¬ (CannotStart asked (Found l) r)
-    none served single r (is_of_another_kind apart) = true≢false (sym served ∙ apart)
-    none served single r (is_a_template too template) = true≢false (sym template ∙ single)
+    none : is_template l.name ≡ false → (r : Refused) → ¬ (CannotStart asked (Found l) r)
+    none single r (is_a_template template) = true≢false (sym template ∙ single)
 
-    by_tests : (served template : Bool) → is_served_kind l.settings.service.kind ≡ served → is_template l.name ≡ template → OneOrNone (CannotStart asked (Found l))
-    by_tests false template e f = inl (_, is_of_another_kind e)
-    by_tests true true e f = inl (_, is_a_template e f)
-    by_tests true false e f = inr (none e f)
+    by_test : (template : Bool) → is_template l.name ≡ template → OneOrNone (CannotStart asked (Found l))
+    by_test true e = inl (_, is_a_template e)
+    by_test false e = inr (none e)
 
 -- a unit of which this was found can't be started, or can
 pub can_start : (asked : List ℕ) (found : Loading) → OneOrNone (CannotStart asked found)
@@ -46,10 +44,7 @@ pub one_hindrance : (asked : List ℕ) (found : Loading) (r q : Refused) → Can
 one_hindrance asked found r q isnt_found isnt_found = refl
 one_hindrance asked found r q is_masked is_masked = refl
 one_hindrance asked found r q has_bad_setting has_bad_setting = refl
-one_hindrance asked found r q (is_of_another_kind e) (is_of_another_kind f) = refl
-one_hindrance asked found r q (is_of_another_kind e) (is_a_template f g) = absurd (true≢false (sym f ∙ e))
-one_hindrance asked found r q (is_a_template f g) (is_of_another_kind e) = absurd (true≢false (sym f ∙ e))
-one_hindrance asked found r q (is_a_template f g) (is_a_template h k) = refl
+one_hindrance asked found r q (is_a_template e) (is_a_template f) = refl
 
 -- ---- which units count
 
