@@ -138,11 +138,16 @@ one_sorted (x ∷ xs) (y ∷ ys) s t there back =
     back_later : (z : List ℕ) → Among ys z → Among xs z
     back_later z later = behind xs z x (subst (λ a. IsNamedBefore a z) (sym firsts) (first_before y ys t z later)) (back z (inr later))
 
+-- sorted lists of just the names that have a property are the same
+pub one_list_by_name : (Has : List ℕ → Type 0) (xs ys : List (List ℕ)) → ((z : List ℕ) → Contains xs z ↔ Has z) → ((z : List ℕ) → Contains ys z ↔ Has z)
+    → AllPairs IsNamedBefore xs → AllPairs IsNamedBefore ys → xs ≡ ys
+one_list_by_name Has xs ys h k s t =
+    one_sorted xs ys s t (λ z there. among_contained ys z ((k z).1 ((h z).0 (contains_among xs z there))))
+    (λ z there. among_contained xs z ((h z).1 ((k z).0 (contains_among ys z there))))
+
 -- the known units are one list
 pub one_list_of_known : (s : State) (xs ys : List (List ℕ)) → AreKnownUnits s xs → AreKnownUnits s ys → xs ≡ ys
-one_list_of_known s xs ys h k =
-    one_sorted xs ys h.sorted k.sorted (λ z there. among_contained ys z ((k.each z).1 ((h.each z).0 (contains_among xs z there))))
-    (λ z there. among_contained xs z ((h.each z).1 ((k.each z).0 (contains_among ys z there))))
+one_list_of_known s xs ys h k = one_list_by_name (IsKnown s.loaded (IsHeld s)) xs ys h.each k.each h.sorted k.sorted
 
 -- just one number of units is known
 one_number : (tree : Tree) (Extra : List ℕ → Type 0) (n m : ℕ) → KnowsSoMany tree Extra n → KnowsSoMany tree Extra m → n ≡ m
