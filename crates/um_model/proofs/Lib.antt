@@ -13,6 +13,7 @@ pub mod CausesLaws
 pub mod MachineLaws
 pub mod UnitLaws
 pub mod FitLaws
+pub mod FallLaws
 pub mod FreeLaws
 pub mod LiveLaws
 pub mod NumbersLaws
