@@ -24,7 +24,7 @@ use Rattle.um_model.proofs.UnitLaws.{same_tidy}
 
 -- ---- whatever else is known, two units are
 
-abbrev Everything : List ℕ → Type 0
+abbrev pub Everything : List ℕ → Type 0
 Everything unit = Unit {0}
 
 -- the two units alone
@@ -42,7 +42,7 @@ before_or_not tree x y =
     (precedes_or_not tree (These x y) (x ∷ y ∷ []) (these_listed x y) x y)
 
 -- one unit depends on another in this kind, or not
-depends_by_all : (tree : Tree) (kind : DependencyKind) (x y : List ℕ) → IsDecided (Depends tree Everything kind x y)
+pub depends_by_all : (tree : Tree) (kind : DependencyKind) (x y : List ℕ) → IsDecided (Depends tree Everything kind x y)
 depends_by_all tree kind x y =
     decided_as (depends_anyhow tree (These x y) Everything kind x y (first (extra tt)) (first (extra tt)))
     (depends_anyhow tree Everything (These x y) kind x y (first (extra (inl refl))) (first (extra (inr (inl refl)))))

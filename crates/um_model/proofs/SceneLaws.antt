@@ -101,13 +101,13 @@ finite_scene s named =
 -- ---- known units are listed and counted in one way
 
 -- the first of a sorted list is before all others
-first_before : (x : List ℕ) (xs : List (List ℕ)) → AllPairs IsNamedBefore (x ∷ xs) → (z : List ℕ) → Among xs z → IsNamedBefore x z
+pub first_before : (x : List ℕ) (xs : List (List ℕ)) → AllPairs IsNamedBefore (x ∷ xs) → (z : List ℕ) → Among xs z → IsNamedBefore x z
 first_before x xs sorted z later = by_place (contains_among xs z later)
   where
     by_place : Contains xs z → IsNamedBefore x z
     by_place (k, few, at) = subst (IsNamedBefore x) at (sorted 0 (suc k) z (omega arith) (omega arith))
 
-others_sorted : (x : List ℕ) (xs : List (List ℕ)) → AllPairs IsNamedBefore (x ∷ xs) → AllPairs IsNamedBefore xs
+pub others_sorted : (x : List ℕ) (xs : List (List ℕ)) → AllPairs IsNamedBefore (x ∷ xs) → AllPairs IsNamedBefore xs
 others_sorted x xs sorted i j d less few = sorted (suc i) (suc j) d (omega arith) (omega arith)
 
 -- sorted lists of the same names are the same
