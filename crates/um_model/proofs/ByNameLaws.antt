@@ -1,5 +1,5 @@
 -- Names can be listed in their order, each once.
-use Rattle.std.proofs.Common.{ℕ, suc, ◌≡◌, List, [], ◌∷◌, All, AllPairs, refl, sym, subst, inl, inr, arith}
+use Rattle.std.proofs.Common.{ℕ, ◌≡◌, ◌∙◌, List, [], ◌∷◌, All, AllPairs, sym, subst, inl, inr, arith}
 use Rattle.std.proofs.lemmas.List.Kept.{AllPairs-cons}
 use Rattle.um_model.specs.Least.{IsNamedBefore}
 use Rattle.um_model.proofs.AmongLaws.{IsListOf, list_of}
@@ -27,10 +27,7 @@ there_already : (name first : List ℕ) (names : List (List ℕ)) → name ≡ f
 there_already name first names same sorted = record { has = λ z is. inr is; all = all; sorted = sorted }
   where
     all : (z : List ℕ) → Among (name ∷ first ∷ names) z → Among (first ∷ names) z
-    all z (inl is) = inl (λ i. same_here z is i)
-      where
-        same_here : (z : List ℕ) → z ≡ name → z ≡ first
-        same_here z is = subst (λ n. z ≡ n) same is
+    all z (inl is) = inl (is ∙ same)
     all z (inr later) = later
 
 -- the name stands behind the first one

@@ -1,10 +1,10 @@
 -- What falls with a unit is listed, and telling it to stop ends: a unit that was active or activating isn't after it, and no other is changed.
 use Rattle.std.proofs.Common.{ℕ, zero, suc, ◌+◌, ◌<◌, ◌≤◌, ◌≡◌, ◌≢◌, ◌∙◌, ◌&&◌, not, Bool, true, false, true≢false, cond, List, [], ◌∷◌, ◌++◌, Option, Some, None, is_some, unwrap_or, refl, sym, ap, subst, inl, inr, arith}
 use Rattle.std.specs.FinMap as map
-use Rattle.um_model.specs.Ends.{is_failed, is_restart_wanted}
+use Rattle.um_model.specs.Ends.{is_restart_wanted}
 use Rattle.um_model.specs.Jobs.{jobs_of_unit}
 use Rattle.um_model.specs.Machine.{State, fails_start, Becomes, alone, along, TakesAlong, Carries, change_of, changed, acting_in, around, comes_to_rest, FallsWith, AreFalling, FallDown, all_told, told_next, Happens}
-use Rattle.um_model.specs.Service.{Action, ByUnit, active_state_of, dead_unit, is_dead, state_of_unit}
+use Rattle.um_model.specs.Service.{Action, ByUnit, active_state_of, dead_unit, state_of_unit}
 use Rattle.um_model.specs.Settings.{ServiceSettings, has_place}
 use Rattle.um_model.specs.Transitions.{transition, row, rests, rests_for_good, resting, awaits_restart, terminates, stop_command, winds_down, has_number, is_live, is_going, just}
 use Rattle.um_model.specs.Transitions as table
@@ -16,7 +16,6 @@ use Rattle.um_model.specs.declared.service.UnitResult.TheVariants.{Success, Reso
 use Rattle.um_model.specs.declared.service.UnitState.{UnitState}
 use Rattle.um_model.specs.declared.transition.Around.{Around}
 use Rattle.um_model.specs.declared.transition.Change.{Change}
-use Rattle.um_model.specs.declared.transition.CommandList.TheVariants.{OfStop}
 use Rattle.um_model.specs.declared.transition.UnitEvent.{UnitEvent}
 use Rattle.um_model.specs.declared.transition.UnitEvent.TheVariants.{StopBegins, BoundStop}
 use Rattle.um_model.proofs.AlongLaws.{depends_by_all, taken_along_or_not}
@@ -54,20 +53,20 @@ a_carrying t unit event s =
 
 -- ---- a bound stop
 
--- the unit is active or activating
-abbrev Goes : SubState → Bool
-Goes sub = is_going (active_state_of sub)
+-- a unit in this sub state is active or activating
+abbrev goes_at : SubState → Bool
+goes_at sub = is_going (active_state_of sub)
 
 -- a unit that was told to stop isn't active or activating
 abbrev IsDown : Change → Type 0
-IsDown c = Goes c.unit.sub ≡ false
+IsDown c = goes_at c.unit.sub ≡ false
 
 either_down : (b : Bool) (x y : Change) → IsDown x → IsDown y → IsDown (cond b x y)
 either_down true x y h k = h
 either_down false x y h k = k
 
 module _ (s : ServiceSettings) (c : Around) where
-  resting_down : (r : UnitResult) → Goes (resting r) ≡ false
+  resting_down : (r : UnitResult) → goes_at (resting r) ≡ false
   resting_down Success = refl
   resting_down other = refl
 
@@ -77,7 +76,7 @@ module _ (s : ServiceSettings) (c : Around) where
 
   rests_down : (u : UnitState) → u.asked ≡ true → IsDown (rests s c u)
   rests_down u is =
-      ap (λ b. Goes (cond b (awaits_restart s c u) (rests_for_good u)).unit.sub) (unasked u.asked c.stop_waits (is_restart_wanted s u) is) ∙ resting_down u.result
+      ap (λ b. goes_at (cond b (awaits_restart s c u) (rests_for_good u)).unit.sub) (unasked u.asked c.stop_waits (is_restart_wanted s u) is) ∙ resting_down u.result
 
   terminates_down : (u : UnitState) → u.asked ≡ true → IsDown (terminates s c u)
   terminates_down u is = either_down (is_live u) _ (rests s c u) refl (rests_down u is)
@@ -90,7 +89,7 @@ module _ (s : ServiceSettings) (c : Around) where
   winds_down_down : (u : UnitState) → u.asked ≡ true → IsDown (winds_down s c u)
   winds_down_down u is = either_down (has_place s.stop 0) (stop_command s c u 0) (terminates s c u) (stop_command_down u 0 is) (terminates_down u is)
 
-  stop_down : (u : UnitState) (sub : SubState) → Goes sub ≡ true → IsDown (row s c u sub StopBegins true)
+  stop_down : (u : UnitState) (sub : SubState) → goes_at sub ≡ true → IsDown (row s c u sub StopBegins true)
   stop_down u Start goes = terminates_down (table.asked u) refl
   stop_down u Running goes = winds_down_down (table.asked u) refl
   stop_down u Exited goes = winds_down_down (table.asked u) refl
@@ -104,14 +103,14 @@ module _ (s : ServiceSettings) (c : Around) where
 
   -- after a bound stop no unit is active or activating
   bound_stop_down : (u : UnitState) → IsDown (transition s c u BoundStop)
-  bound_stop_down u = by_test (Goes u.sub) refl
+  bound_stop_down u = by_test (goes_at u.sub) refl
     where
-      by_test : (b : Bool) → Goes u.sub ≡ b → IsDown (cond b (row s c u u.sub StopBegins true) (just u))
+      by_test : (b : Bool) → goes_at u.sub ≡ b → IsDown (cond b (row s c u u.sub StopBegins true) (just u))
       by_test true goes = stop_down u u.sub goes
       by_test false goes = goes
 
   -- and one that wasn't before stays as it is
-  bound_stop_leaves : (u : UnitState) → Goes u.sub ≡ false → transition s c u BoundStop ≡ just u
+  bound_stop_leaves : (u : UnitState) → goes_at u.sub ≡ false → transition s c u BoundStop ≡ just u
   bound_stop_leaves u goes = ap (λ b. cond b (row s c u u.sub StopBegins true) (just u)) goes
 
 -- ---- sub states after a change of a unit
@@ -136,8 +135,8 @@ sub_apart s unit c v h other apart = becomes_subs s unit c v h other ∙ ap (λ 
 
 -- ---- the units that are active or activating
 
-abbrev GoesIn : ByUnit UnitState → List ℕ → Bool
-GoesIn units unit = Goes (state_of_unit units unit).sub
+abbrev goes_in : ByUnit UnitState → List ℕ → Bool
+goes_in units unit = goes_at (state_of_unit units unit).sub
 
 abbrev one_if : Bool → ℕ
 one_if true = 1
@@ -146,11 +145,11 @@ one_if false = 0
 -- how many of these units are
 abbrev going : List (List ℕ) → ByUnit UnitState → ℕ
 going [] units = 0
-going (unit ∷ others) units = one_if (GoesIn units unit) + going others units
+going (unit ∷ others) units = one_if (goes_in units unit) + going others units
 
 -- no other unit is
 abbrev NoMoreGo : ByUnit UnitState → ByUnit UnitState → Type 0
-NoMoreGo later earlier = (unit : List ℕ) → GoesIn later unit ≡ true → GoesIn earlier unit ≡ true
+NoMoreGo later earlier = (unit : List ℕ) → goes_in later unit ≡ true → goes_in earlier unit ≡ true
 
 no_more_by : (b c : Bool) → (b ≡ true → c ≡ true) → one_if b ≤ one_if c
 no_more_by true true there = omega arith
@@ -160,30 +159,30 @@ no_more_by false c there = omega arith
 no_more_go : (names : List (List ℕ)) (later earlier : ByUnit UnitState) → NoMoreGo later earlier → going names later ≤ going names earlier
 no_more_go [] later earlier none = omega arith
 no_more_go (unit ∷ others) later earlier none =
-    let here = no_more_by (GoesIn later unit) (GoesIn earlier unit) (none unit) in
+    let here = no_more_by (goes_in later unit) (goes_in earlier unit) (none unit) in
     let rest = no_more_go others later earlier none in
     omega arith
 
 fewer_go : (names : List (List ℕ)) (later earlier : ByUnit UnitState) (unit : List ℕ) → Among names unit → NoMoreGo later earlier
-    → GoesIn earlier unit ≡ true → GoesIn later unit ≡ false → going names later < going names earlier
+    → goes_in earlier unit ≡ true → goes_in later unit ≡ false → going names later < going names earlier
 fewer_go [] later earlier unit none less was isnt = absurd none
 fewer_go (first ∷ others) later earlier unit (inl is) less was isnt =
-    let one : one_if (GoesIn earlier first) ≡ 1 = ap (λ u. one_if (GoesIn earlier u)) (sym is) ∙ ap one_if was in
-    let none : one_if (GoesIn later first) ≡ 0 = ap (λ u. one_if (GoesIn later u)) (sym is) ∙ ap one_if isnt in
+    let one : one_if (goes_in earlier first) ≡ 1 = ap (λ u. one_if (goes_in earlier u)) (sym is) ∙ ap one_if was in
+    let none : one_if (goes_in later first) ≡ 0 = ap (λ u. one_if (goes_in later u)) (sym is) ∙ ap one_if isnt in
     let rest = no_more_go others later earlier less in
     omega arith
 fewer_go (first ∷ others) later earlier unit (inr there) less was isnt =
-    let here = no_more_by (GoesIn later first) (GoesIn earlier first) (less first) in
+    let here = no_more_by (goes_in later first) (goes_in earlier first) (less first) in
     let rest = fewer_go others later earlier unit there less was isnt in
     omega arith
 
 -- such a unit is held
-goes_held : (units : ByUnit UnitState) (unit : List ℕ) → GoesIn units unit ≡ true → Among (map.keys units) unit
+goes_held : (units : ByUnit UnitState) (unit : List ℕ) → goes_in units unit ≡ true → Among (map.keys units) unit
 goes_held units unit goes = among_keys units unit (by_entry (map.get units unit) refl)
   where
     by_entry : (o : Option UnitState) → map.get units unit ≡ o → is_some o ≡ true
     by_entry (Some u) e = refl
-    by_entry None e = absurd (true≢false (sym goes ∙ ap (λ o. Goes (unwrap_or o dead_unit).sub) e))
+    by_entry None e = absurd (true≢false (sym goes ∙ ap (λ o. goes_at (unwrap_or o dead_unit).sub) e))
 
 -- ---- the units that fall with one
 
@@ -191,7 +190,7 @@ falls_or_not : (s u : State) (unit other : List ℕ) → IsDecided (FallsWith s 
 falls_or_not s u unit other =
     decided_as (λ h. record { rests = h.0; goes = h.1.0; bound = h.1.1 }) (λ f. (f.rests, (f.goes, f.bound)))
     (both_decided (passes_or_not (comes_to_rest (state_of_unit s.units unit).sub (state_of_unit u.units unit).sub) true)
-    (both_decided (passes_or_not (GoesIn u.units other) true) (depends_by_all s.loaded BindsTo other unit)))
+    (both_decided (passes_or_not (goes_in u.units other) true) (depends_by_all s.loaded BindsTo other unit)))
 
 -- they are listed
 pub a_falling : (s u : State) (unit : List ℕ) → (names : List (List ℕ)) × AreFalling s u unit names
@@ -223,19 +222,19 @@ module _ (t : ℕ) (unit : List ℕ) (s : State) (actions : List Action) (u : St
   told_subs : (c : Change) → change_of t s unit BoundStop ≡ c → (state_of_unit u.units unit).sub ≡ c.unit.sub
   told_subs c same = sub_here s unit (change_of t s unit BoundStop) u told.state ∙ ap (λ (x : Change). x.unit.sub) same
 
-  told_down : GoesIn u.units unit ≡ false
+  told_down : goes_in u.units unit ≡ false
   told_down =
-      ap Goes (told_subs (change_of t s unit BoundStop) refl) ∙ bound_stop_down (acting_in s.loaded unit).settings (around t s unit) (state_of_unit s.units unit)
+      ap goes_at (told_subs (change_of t s unit BoundStop) refl) ∙ bound_stop_down (acting_in s.loaded unit).settings (around t s unit) (state_of_unit s.units unit)
 
   -- no other unit is active or activating after it
   told_no_more : NoMoreGo u.units s.units
-  told_no_more other goes = elim (same_name other unit) as (λ _. GoesIn s.units other ≡ true) [
-    | inl same ↦ absurd (true≢false (sym goes ∙ (ap (GoesIn u.units) same ∙ told_down)))
-    | inr apart ↦ ap Goes (sym (sub_apart s unit (change_of t s unit BoundStop) u told.state other apart)) ∙ goes
+  told_no_more other goes = elim (same_name other unit) as (λ _. goes_in s.units other ≡ true) [
+    | inl same ↦ absurd (true≢false (sym goes ∙ (ap (goes_in u.units) same ∙ told_down)))
+    | inr apart ↦ ap goes_at (sym (sub_apart s unit (change_of t s unit BoundStop) u told.state other apart)) ∙ goes
   ]
 
   -- where it wasn't active or activating, none falls with it
-  told_alone : GoesIn s.units unit ≡ false → (names : List (List ℕ)) → AreFalling s u unit names → names ≡ []
+  told_alone : goes_in s.units unit ≡ false → (names : List (List ℕ)) → AreFalling s u unit names → names ≡ []
   told_alone down names are =
       none_fall s u unit names are
       (ap (comes_to_rest (state_of_unit s.units unit).sub)
@@ -244,7 +243,7 @@ module _ (t : ℕ) (unit : List ℕ) (s : State) (actions : List Action) (u : St
 
 -- these names have all units that are active or activating
 abbrev HaveGoing : List (List ℕ) → State → Type 0
-HaveGoing names s = (unit : List ℕ) → GoesIn s.units unit ≡ true → Among names unit
+HaveGoing names s = (unit : List ℕ) → goes_in s.units unit ≡ true → Among names unit
 
 -- where fewer units are active or activating the telling ends; then it ends for a list of units
 module _ (t : ℕ) (names : List (List ℕ)) (bound : ℕ)
@@ -259,7 +258,7 @@ module _ (t : ℕ) (names : List (List ℕ)) (bound : ℕ)
       with_falling : (falling : List (List ℕ)) → AreFalling s u unit falling → HasOutcome (FallDown t (falling ++ units) u) → HasOutcome (FallDown t (unit ∷ units) s)
       with_falling falling are later = (first ++ later.0, later.1, told_next told are later.2)
 
-      told_by : (goes : Bool) → GoesIn s.units unit ≡ goes → (falling : List (List ℕ)) → AreFalling s u unit falling → HasOutcome (FallDown t (unit ∷ units) s)
+      told_by : (goes : Bool) → goes_in s.units unit ≡ goes → (falling : List (List ℕ)) → AreFalling s u unit falling → HasOutcome (FallDown t (unit ∷ units) s)
       told_by true goes falling are =
           let less = fewer_go names u.units s.units unit (have unit goes) (told_no_more t unit s first u told) goes (told_down t unit s first u told) in
           with_falling falling are (deeper (falling ++ units) u have_then (omega (arith, less, few)))
@@ -272,7 +271,7 @@ module _ (t : ℕ) (names : List (List ℕ)) (bound : ℕ)
     told_first =
         let now = a_carrying t unit BoundStop s in
         let falling = a_falling s now.1 unit in
-        told_by now.0 now.1 now.2 (GoesIn s.units unit) refl falling.0 falling.1
+        told_by now.0 now.1 now.2 (goes_in s.units unit) refl falling.0 falling.1
 
   told_one_by_one : (units : List (List ℕ)) (s : State) → HaveGoing names s → going names s.units ≤ bound → HasOutcome (FallDown t units s)
   told_one_by_one [] s have few = ([], s, all_told)

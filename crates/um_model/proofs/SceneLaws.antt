@@ -1,8 +1,8 @@
 -- What a plan for a unit is made from is finite; and the known units are listed and counted in one way.
-use Rattle.std.proofs.Common.{◌≡◌, ◌≢◌, ◌∙◌, ◌↔◌, ℕ, suc, ◌+◌, ◌<◌, ◌≤◌, max, Bool, true, false, true≢false, List, [], ◌∷◌, ◌++◌, length, AllPairs, Contains, Option, Some, None, is_some, refl, sym, ap, subst, inl, inr, arith}
+use Rattle.std.proofs.Common.{◌≡◌, ◌≢◌, ◌∙◌, ◌↔◌, ℕ, suc, max, Bool, true, false, true≢false, List, [], ◌∷◌, ◌++◌, AllPairs, Contains, Option, Some, None, is_some, refl, sym, ap, subst, inl, inr, arith}
 use Rattle.std.proofs.lemmas.Option.{none-some}
 use Rattle.std.specs.FinMap as map
-use Rattle.um_model.specs.Dependencies.{loadable_in, IsKnown, KnowsSoMany, CountsFor, Depends, owner, other}
+use Rattle.um_model.specs.Dependencies.{loadable_in, IsKnown, KnowsSoMany, CountsFor, owner, other}
 use Rattle.um_model.specs.Least.{IsNamedBefore}
 use Rattle.um_model.specs.Machine.{State, IsHeld, IsHeldOr, AreKnownUnits, scene_at, CannotStart, isnt_found, is_masked, has_bad_setting, is_a_template}
 use Rattle.um_model.specs.Names.{is_template}
@@ -11,7 +11,6 @@ use Rattle.um_model.specs.Refusals.{Refused}
 use Rattle.um_model.specs.Service.{ByUnit}
 use Rattle.um_model.specs.Tree.{Tree, without_run}
 use Rattle.um_model.specs.Units.{LoadedUnit, Loading, Found, Masked, NotFound, BadSetting, load}
-use Rattle.um_model.specs.declared.dependencies.DependencyKind.{DependencyKind}
 use Rattle.um_model.proofs.AmongLaws.{among_contained, among_left, among_right, contains_among, either_decided, IsListOf, list_of}
 use Rattle.um_model.proofs.CausesLaws.{OneOrNone}
 use Rattle.um_model.proofs.KnownLaws.{depends_or_not, known_list, precedes_or_not}

@@ -8,7 +8,7 @@ use Rattle.std.proofs.lemmas.Bool.{cases_lt}
 use Rattle.std.proofs.lemmas.Map.Lookups.{exact_bytes}
 use Rattle.std.proofs.lemmas.Map.Views.{tells_apart}
 use Rattle.std.proofs.lemmas.Option.{none-some}
-use Rattle.um_model.specs.Service.{Action, ByUnit, active_state_of, dead_unit, state_of_unit}
+use Rattle.um_model.specs.Service.{ByUnit, active_state_of, dead_unit, state_of_unit}
 use Rattle.um_model.specs.Jobs.{Job, no_jobs, stop_job, start_job, jobs_of_unit, state_of_job, ComesBefore, IsReady, IsToldBefore, by_name, stop_first, BeginsNext}
 use Rattle.um_model.specs.Order.{IsCycle}
 use Rattle.um_model.specs.Plan.{AreFree}
