@@ -64,3 +64,5 @@ pub mod WeightLaws
 pub mod GivenMaps
 pub mod CrowdedLaws
 pub mod FewLaws
+pub mod LightLaws
+pub mod FinishedLaws
