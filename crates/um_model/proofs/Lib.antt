@@ -65,3 +65,6 @@ pub mod SceneLaws
 pub mod WeightLaws
 pub mod GivenMaps
 pub mod CrowdedLaws
+pub mod FewLaws
+pub mod LightLaws
+pub mod FinishedLaws
