@@ -1,9 +1,10 @@
 -- A start job that goes on leaves its unit in start, and a stop job that goes on leaves it in a stop state: row by row of the table.
 use Rattle.std.proofs.Common.{ℕ, ◌≡◌, ◌∙◌, ◌+◌, ◌&&◌, Bool, true, false, true≢false, not, cond, Option, Some, None, refl, sym, ap, subst}
 use Rattle.um_model.specs.Limit.{counted}
+use Rattle.um_model.specs.Service.{active_state_of}
 use Rattle.um_model.specs.Settings.{ServiceSettings, has_place}
 use Rattle.um_model.specs.Ends.{is_clean, is_stopping, is_restart_wanted}
-use Rattle.um_model.specs.Transitions.{deadline_after, has_number, is_live, just, asking, start_ends, start_fails, stop_ends, rests_for_good, awaits_restart, rests, terminates, stop_command, winds_down, next_stop, lacks_number, start_command, start_simple, start_of, starts_if, starts, exits, next_command, next_start, start_goes_on, executed, rests_unless_live, noted, without_main, without_control, timed_out, asked, is_well, row, transition}
+use Rattle.um_model.specs.Transitions.{deadline_after, has_number, is_live, just, asking, start_ends, start_fails, stop_ends, rests_for_good, awaits_restart, rests, terminates, stop_command, winds_down, next_stop, lacks_number, start_command, start_simple, start_of, starts_if, starts, exits, next_command, next_start, start_goes_on, executed, rests_unless_live, noted, without_main, without_control, timed_out, asked, unless_failed, is_well, row, is_going, transition}
 use Rattle.um_model.specs.declared.limit.Counted.{Counted}
 use Rattle.um_model.specs.declared.service.End.{End}
 use Rattle.um_model.specs.declared.service.Signal.TheVariants.{Term}
@@ -18,7 +19,7 @@ use Rattle.um_model.specs.declared.transition.Order.TheVariants.{Spawn, Signal}
 use Rattle.um_model.specs.declared.transition.Process.TheVariants.{Main, Control}
 use Rattle.um_model.specs.declared.transition.StartJob.TheVariants.{Stays, Ends, Fails}
 use Rattle.um_model.specs.declared.transition.UnitEvent.{UnitEvent}
-use Rattle.um_model.specs.declared.transition.UnitEvent.TheVariants.{StartBegins, StopBegins, BoundStop, Executed, MainEnds, ControlEnds, DeadlinePasses}
+use Rattle.um_model.specs.declared.transition.UnitEvent.TheVariants.{StartBegins, StopBegins, BoundStop, Executed, MainEnds, ControlEnds, DeadlinePasses, Reset}
 use Rattle.um_model.specs.declared.transition.UnitKind.{UnitKind}
 use Rattle.um_model.specs.declared.transition.UnitKind.TheVariants.{Simple, Exec, Oneshot, Target}
 
@@ -138,19 +139,22 @@ module _ (s : ServiceSettings) (c : Around) where
   in_start (MainEnds e) false u is = failed (rests s c (without_main s u e))
   in_start (ControlEnds e) well u is = λ h. is
   in_start DeadlinePasses well u is = failed (terminates s c (record u { result = result.Timeout }))
+  in_start Reset well u is = λ e. ap unless_failed is
 
   start_row : (event : UnitEvent) (well : Bool) (u : UnitState) → u.sub ≡ Start → StartFits (row s c u u.sub event well)
   start_row event well u is = subst (λ x. StartFits (row s c u x event well)) (sym is) (in_start event well u is)
 
   -- whatever happens to a unit in start
   pub start_fits : (u : UnitState) (event : UnitEvent) → u.sub ≡ Start → StartFits (transition s c u event)
-  start_fits u BoundStop is = start_row StopBegins true u is
+  start_fits u BoundStop is =
+      by_cond StartFits (is_going (active_state_of u.sub)) (row s c u u.sub StopBegins true) (just u) (λ e. start_row StopBegins true u is) (λ e h. is)
   start_fits u StartBegins is = start_row StartBegins c.loadable u is
   start_fits u StopBegins is = start_row StopBegins true u is
   start_fits u Executed is = start_row Executed true u is
   start_fits u (MainEnds e) is = start_row (MainEnds e) (is_well s c u (MainEnds e)) u is
   start_fits u (ControlEnds e) is = start_row (ControlEnds e) (is_well s c u (ControlEnds e)) u is
   start_fits u DeadlinePasses is = start_row DeadlinePasses true u is
+  start_fits u Reset is = start_row Reset true u is
 
   -- ---- stop jobs
 
@@ -206,6 +210,7 @@ module _ (s : ServiceSettings) (c : Around) where
   in_stop (MainEnds e) well u is = λ h. ap is_stopping (main_sub u e ∙ is)
   in_stop DeadlinePasses well u is = terminates_fits (timed_out u)
   in_stop StartBegins false u is = λ e. ap is_stopping is
+  in_stop Reset well u is = λ e. ap (λ x. is_stopping (unless_failed x)) is
   in_stop event well u is = λ e. ap is_stopping is
 
   in_stop_sigterm : (event : UnitEvent) (well : Bool) (u : UnitState) → u.sub ≡ StopSigterm → StopFits (row s c u StopSigterm event well)
@@ -213,6 +218,7 @@ module _ (s : ServiceSettings) (c : Around) where
   in_stop_sigterm (ControlEnds e) well u is = control_stops StopSigterm u e is refl
   in_stop_sigterm DeadlinePasses well u is = λ e. refl
   in_stop_sigterm StartBegins false u is = λ e. ap is_stopping is
+  in_stop_sigterm Reset well u is = λ e. ap (λ x. is_stopping (unless_failed x)) is
   in_stop_sigterm event well u is = λ e. ap is_stopping is
 
   in_stop_sigkill : (event : UnitEvent) (well : Bool) (u : UnitState) → u.sub ≡ StopSigkill → StopFits (row s c u StopSigkill event well)
@@ -220,6 +226,7 @@ module _ (s : ServiceSettings) (c : Around) where
   in_stop_sigkill (ControlEnds e) well u is = control_stops StopSigkill u e is refl
   in_stop_sigkill DeadlinePasses well u is = λ e. absurd (true≢false e)
   in_stop_sigkill StartBegins false u is = λ e. ap is_stopping is
+  in_stop_sigkill Reset well u is = λ e. ap (λ x. is_stopping (unless_failed x)) is
   in_stop_sigkill event well u is = λ e. ap is_stopping is
 
   stop_row : (sub : SubState) (event : UnitEvent) (well : Bool) (u : UnitState) → u.sub ≡ sub → is_stopping sub ≡ true → StopFits (row s c u sub event well)
@@ -230,10 +237,12 @@ module _ (s : ServiceSettings) (c : Around) where
 
   -- whatever happens to a unit in a stop state
   pub stop_fits : (u : UnitState) (event : UnitEvent) → is_stopping u.sub ≡ true → StopFits (transition s c u event)
-  stop_fits u BoundStop down = stop_row u.sub StopBegins true u refl down
+  stop_fits u BoundStop down =
+      by_cond StopFits (is_going (active_state_of u.sub)) (row s c u u.sub StopBegins true) (just u) (λ e. stop_row u.sub StopBegins true u refl down) (λ e h. down)
   stop_fits u StartBegins down = stop_row u.sub StartBegins c.loadable u refl down
   stop_fits u StopBegins down = stop_row u.sub StopBegins true u refl down
   stop_fits u Executed down = stop_row u.sub Executed true u refl down
   stop_fits u (MainEnds e) down = stop_row u.sub (MainEnds e) (is_well s c u (MainEnds e)) u refl down
   stop_fits u (ControlEnds e) down = stop_row u.sub (ControlEnds e) (is_well s c u (ControlEnds e)) u refl down
   stop_fits u DeadlinePasses down = stop_row u.sub DeadlinePasses true u refl down
+  stop_fits u Reset down = stop_row u.sub Reset true u refl down

@@ -5,9 +5,9 @@ use Rattle.std.specs.FinMap as map
 use Rattle.um_model.specs.Dependencies.{IsKnown, Precedes, Mentions, extra}
 use Rattle.um_model.specs.Jobs.{Job, jobs, no_jobs, jobs_of_unit, with_jobs, job_of, unless_waiting, cancelled, without_start, GoesBefore, starts, stops, stops_then_starts, stops_then_starts_before, of_one_unit, ComesBefore, IsPending, IsWaiting, with_running, unless_running, start_left, jobs_left}
 use Rattle.um_model.specs.Live.{IsFree}
-use Rattle.um_model.specs.Machine.{State, empty_state, Command, Happening, Event, Input, Reply, IsHeldOr, IsBefore, changed, TakesAlong, Becomes, Carries, change_of, begins, begun, Settles, unit_asked, jobs_asked, scene_at, CausesOfLoad, Refuses, Changes, Fires, Follows, Takes, end_of, moment_of, Step, Run}
+use Rattle.um_model.specs.Machine.{State, empty_state, Command, Happening, Event, Input, Reply, IsHeldOr, IsBefore, changed, TakesAlong, Becomes, Carries, change_of, begins, begun, Happens, AreReset, Settles, unit_asked, jobs_asked, scene_at, CausesOfLoad, Refuses, Changes, Does, units_reset, Restarts, has_a_job, closes_a_circle, ComesDue, Fires, booted, Follows, Takes, end_of, moment_of, Step, Run}
 use Rattle.um_model.specs.Order.{IsCycle}
-use Rattle.um_model.specs.Plan.{Counts, restarted, started, stopped, left, Demands, IsPlan, units_of}
+use Rattle.um_model.specs.Plan.{AreFree, Counts, restarted, started, stopped, left, Demands, IsPlan, units_of}
 use Rattle.um_model.specs.Reached.{first, next}
 use Rattle.um_model.specs.Refusals.{Refused, at_first, at_second, ordering_cycle}
 use Rattle.um_model.specs.Service.{Action, ByUnit, state_of_unit}
@@ -24,9 +24,10 @@ use Rattle.um_model.specs.declared.transition.Change.{Change}
 use Rattle.um_model.specs.declared.transition.StartJob.{StartJob}
 use Rattle.um_model.specs.declared.transition.StartJob.TheVariants.{Stays, Ends, Fails}
 use Rattle.um_model.specs.declared.transition.UnitEvent.{UnitEvent}
-use Rattle.um_model.specs.declared.transition.UnitEvent.TheVariants.{DeadlinePasses}
+use Rattle.um_model.specs.declared.transition.UnitEvent.TheVariants.{Executed, DeadlinePasses}
 use Rattle.um_model.proofs.AlongLaws.{taken_along_or_not}
 use Rattle.um_model.proofs.CycleLaws.{fewer_free, held, least_unit_first}
+use Rattle.um_model.proofs.FallLaws.{over_happening, over_resets}
 use Rattle.um_model.proofs.OrderLaws.{cycle_weaker}
 use Rattle.um_model.proofs.OwnNameLaws.{precedes_anyhow}
 use Rattle.um_model.proofs.PlanLaws.{AreAlike, demands_same}
@@ -146,26 +147,42 @@ becomes_less : (s : State) (unit : List ℕ) (c : Change) (v : State) → Become
 becomes_less s unit c v (Becomes.alone isnt) = changed_less s unit c
 becomes_less s unit c v (Becomes.along is a) = less_trans s (changed s unit c) v (changed_less s unit c) (along_less (changed s unit c) unit v a)
 
+carried_less : (t : ℕ) (unit : List ℕ) (event : UnitEvent) (s : State) (actions : List Action) (v : State) → Carries t unit event s actions v → HasLess s v
+carried_less t unit event s actions v h = becomes_less s unit (change_of t s unit event) v h.state
+
+happens_less : (t : ℕ) (unit : List ℕ) (event : UnitEvent) (s : State) (actions : List Action) (v : State) → Happens t unit event s actions v → HasLess s v
+happens_less t = over_happening t (λ s actions v. HasLess s v) same_less (λ s u v first more. less_trans s u v) (carried_less t)
+
+resets_less : (t : ℕ) (units : List (List ℕ)) (s : State) (actions : List Action) (v : State) → AreReset t units s actions v → HasLess s v
+resets_less t = over_resets t (λ s actions v. HasLess s v) same_less (λ s u v first more. less_trans s u v) (carried_less t)
+
 settles_less : (t : ℕ) (s : State) (actions : List Action) (v : State) → Settles t s actions v → HasLess s v
 settles_less t s actions v (Settles.rests none) = same_less s
-settles_less t s actions v (Settles.begins_next {u = u} {more = more} j n h k) =
+settles_less t s actions v (Settles.begins_next {u = u} {first = x} {more = y} j n h k) =
     less_trans s (begun s j) v (begun_less s j n.has.waits)
-    (less_trans (begun s j) u v (becomes_less (begun s j) j.unit (change_of t (begun s j) j.unit (begins j.kind)) u h.state) (settles_less t u more v k))
+    (less_trans (begun s j) u v (happens_less t j.unit (begins j.kind) (begun s j) x u h) (settles_less t u y v k))
 
-carried_less : (t : ℕ) (unit : List ℕ) (event : UnitEvent) (s : State) (early late : List Action) (u v : State) → Carries t unit event s early u → Settles t u late v → HasLess s v
-carried_less t unit event s early late u v h k =
-    less_trans s u v (becomes_less s unit (change_of t s unit event) u h.state) (settles_less t u late v k)
+-- what happens to a unit, and the jobs that begin by that
+happened_less : (t : ℕ) (unit : List ℕ) (event : UnitEvent) (s : State) (early late : List Action) (u v : State) → Happens t unit event s early u → Settles t u late v → HasLess s v
+happened_less t unit event s early late u v h k = less_trans s u v (happens_less t unit event s early u h) (settles_less t u late v k)
 
-fires_less : (t : ℕ) (timers : Timers) (s : State) (actions : List Action) (v : State) → Fires t timers s actions v → HasLess s v
-fires_less t timers s actions v (Fires.none_due none) = same_less s
-fires_less t timers s actions v (Fires.fires {u = u} {v = p} {first = x} {next = y} {more = z} d n least due is h k l) =
-    less_trans s p v (carried_less t n DeadlinePasses s x y u p h k) (fires_less t (map.remove timers n) p z v l)
-fires_less t timers s actions v (Fires.passes {more = z} d n least due isnt l) = fires_less t (map.remove timers n) s z v l
+-- ---- what comes of deadlines
 
-follows_less : (t : ℕ) (s : State) (happening : Happening) (actions : List Action) (v : State) → Follows t s happening actions v → HasLess s v
-follows_less t s happening actions v (Follows.ends {number = number} {end = end} {first = x} {more = y} {u = u} unit is h k) =
-    carried_less t unit (end_of (state_of_unit s.units unit) number end) s x y u v h k
-follows_less t s happening actions v (Follows.ticks timers are h) = fires_less t timers s actions v h
+-- an automatic restart puts a start only where no cycle comes by it
+restarts_free : (s : State) (unit : List ℕ) (v : State) → Restarts s unit v → IsFree s → IsFree v
+restarts_free s unit v (Restarts.puts none stays_free) free = stays_free
+restarts_free s unit v (has_a_job one) free = free
+restarts_free s unit v (closes_a_circle cycle none closed) free = free
+
+due_free : (t : ℕ) (s : State) (unit : List ℕ) (actions : List Action) (v : State) → ComesDue t s unit actions v → IsFree s → IsFree v
+due_free t s unit actions v (ComesDue.restarts is again) free = restarts_free s unit v again free
+due_free t s unit actions v (ComesDue.passes isnt h) free = less_free s v (happens_less t unit DeadlinePasses s actions v h) free
+
+fires_free : (t : ℕ) (timers : Timers) (s : State) (actions : List Action) (v : State) → Fires t timers s actions v → IsFree s → IsFree v
+fires_free t timers s actions v (Fires.none_due none) free = free
+fires_free t timers s actions v (Fires.fires {u = u} {v = p} {first = x} {next = y} {more = z} d n least due is h k l) free =
+    fires_free t (map.remove timers n) p z v l (less_free u p (settles_less t u y p k) (due_free t s n x u h free))
+fires_free t timers s actions v (Fires.passes {more = z} d n least due isnt l) free = fires_free t (map.remove timers n) s z v l free
 
 -- ---- a plan
 
@@ -245,14 +262,41 @@ changes_free s command u none (Changes.plans {verb = verb} {asked = asked} {mode
     plan_free s (unit_asked s asked) demand after plan (free_of_causes (scene_at s (unit_asked s asked)) (demand, unit_asked s asked) mode after
     (λ r c. none r (Refuses.plans_none (at_second (λ q crowded. none q (Refuses.plans_none (at_first crowded)))
     (at_second (λ q missing. none q (Refuses.plans_none (at_second (λ x crowded. none x (Refuses.plans_none (at_first crowded))) (at_first missing))))
-    (record { demand = demand; demanded = is; after = after; plan = plan; cause = c }))))))
+    (record { demand = demand; demanded = is; after = after; plan = plan; cause = at_first c }))))))
+
+does_free : (t : ℕ) (s : State) (command : Command) (actions : List Action) (u : State) → ((r : Refused) → ¬ Refuses s command r) → Does t s command actions u → IsFree s → IsFree u
+does_free t s command actions u none (Does.changes h) free = changes_free s command u none h free
+does_free t s command actions u none (Does.resets {asked = asked} h) free = less_free s u (resets_less t (units_reset s asked) s actions u h) free
+
+-- ---- no jobs
+
+none_waits : (kind : JobKind) → job_of kind no_jobs ≡ Some Waiting → ⊥
+none_waits job.Stop e = none-some Waiting e
+none_waits job.Start e = none-some Waiting e
+
+none_comes : (Before : List ℕ → List ℕ → Type 0) (j k : Job) → ¬ ComesBefore Before map.empty j k
+none_comes Before j k c = none_waits k.kind (sym (ap (λ o. job_of k.kind (unwrap_or o no_jobs)) (map.get-empty _ k.unit)) ∙ c.waits)
+
+-- where no job is pending there is no cycle, whatever the order
+none_free : (Before : List ℕ → List ℕ → Type 0) → AreFree Before map.empty
+none_free Before [] c = c
+none_free Before (j ∷ []) c = none_comes Before j j c
+none_free Before (j ∷ (k ∷ ks)) c = none_comes Before j k c.0
 
 -- ---- a run
 
+follows_free : (t : ℕ) (s : State) (happening : Happening) (actions : List Action) (v : State) → Follows t s happening actions v → IsFree s → IsFree v
+follows_free t s happening actions v (Follows.ends {number = number} {end = end} {first = x} {more = y} {u = u} unit is h k) free =
+    less_free s v (happened_less t unit (end_of (state_of_unit s.units unit) number end) s x y u v h k) free
+follows_free t s happening actions v (Follows.reports {first = x} {more = y} {u = u} unit is awaits h k) free =
+    less_free s v (happened_less t unit Executed s x y u v h k) free
+follows_free t s happening actions v (Follows.ticks timers are h) free = fires_free t timers s actions v h free
+follows_free t s happening actions v (Follows.boots {boot = boot}) free = none_free (IsBefore (booted boot s).loaded)
+
 takes_free : (t : ℕ) (s : State) (event : Event) (actions : List Action) (v : State) → Takes t s event actions v → IsFree s → IsFree v
-takes_free t s event actions v (Takes.obeys {command = command} {u = u} none h k) free =
-    less_free u v (settles_less t u actions v k) (changes_free s command u none h free)
-takes_free t s event actions v (Takes.meets {happening = happening} effect h) free = less_free s v (follows_less t s happening actions v h) free
+takes_free t s event actions v (Takes.obeys {command = command} {first = x} {more = y} {u = u} none h k) free =
+    less_free u v (settles_less t u y v k) (does_free t s command x u none h free)
+takes_free t s event actions v (Takes.meets {happening = happening} effect h) free = follows_free t s happening actions v h free
 
 step_free : (size : ℕ) (s : State) (input : Input) (reply : Reply) (actions : List Action) (t : State) → Step size s input reply actions t → IsFree s → IsFree t
 step_free size s input reply actions t (Step.refused e) free = free
@@ -264,19 +308,6 @@ run_free : (size : ℕ) (s t : State) (inputs : List Input) → Run size s input
 run_free size s t inputs Run.rests free = free
 run_free size s t (i ∷ inputs) (Run.goes {t = v} reply actions step run) free = run_free size v t inputs run (step_free size s i reply actions v step free)
 
-none_waits : (kind : JobKind) → job_of kind no_jobs ≡ Some Waiting → ⊥
-none_waits job.Stop e = none-some Waiting e
-none_waits job.Start e = none-some Waiting e
-
--- of the empty state no job is pending
-none_comes : (j k : Job) → ¬ ComesBefore (IsBefore empty_state.loaded) empty_state.pending j k
-none_comes j k c = none_waits k.kind (sym (ap (λ o. job_of k.kind (unwrap_or o no_jobs)) (map.get-empty _ k.unit)) ∙ c.waits)
-
-empty_free : IsFree empty_state
-empty_free [] c = c
-empty_free (j ∷ []) c = none_comes j j c
-empty_free (j ∷ (k ∷ ks)) c = none_comes j k c.0
-
 -- after any inputs the pending jobs have no cycle
 pub no_cycle_after : (size : ℕ) (inputs : List Input) (t : State) → Run size empty_state inputs t → IsFree t
-no_cycle_after size inputs t run = run_free size empty_state t inputs run empty_free
+no_cycle_after size inputs t run = run_free size empty_state t inputs run (none_free (IsBefore empty_state.loaded))

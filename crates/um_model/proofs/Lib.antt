@@ -13,6 +13,8 @@ pub mod CausesLaws
 pub mod MachineLaws
 pub mod UnitLaws
 pub mod FitLaws
+pub mod FallLaws
+pub mod FallTotal
 pub mod FreeLaws
 pub mod LiveLaws
 pub mod NumbersLaws
@@ -30,6 +32,7 @@ pub mod FirstByName
 pub mod ScanLaws
 pub mod DeadlinesLaws
 pub mod KeepsLaws
+pub mod ByNameLaws
 pub mod BytesLaws
 pub mod TransitionLaws
 pub mod StoreLaws
@@ -62,3 +65,6 @@ pub mod SceneLaws
 pub mod WeightLaws
 pub mod GivenMaps
 pub mod CrowdedLaws
+pub mod FewLaws
+pub mod LightLaws
+pub mod FinishedLaws

@@ -3,13 +3,13 @@ use Rattle.std.proofs.Common.{ℕ, ◌≡◌, ◌≢◌, ◌⊎◌, ◌∙◌, �
 use Rattle.std.specs.FinMap as map
 use Rattle.um_model.specs.Service.{Action, ByUnit, active_state_of, dead_unit, state_of_unit}
 use Rattle.um_model.specs.Settings.{ServiceSettings}
-use Rattle.um_model.specs.Ends.{is_stopping}
+use Rattle.um_model.specs.Ends.{is_starting, is_stopping}
 use Rattle.um_model.specs.Transitions.{transition, HasItsProcess, has_its_process, HasNumber}
 use Rattle.um_model.specs.Jobs.{Job, stop_job, start_job, job_of, jobs, no_jobs, jobs_of_unit, is_active, is_up, started_anew, started, stopped, restarted, jobs_after, unless_waiting, cancelled, without_start, state_of_job, IsPending, IsWaiting, of_one_unit, ComesBefore, IsReady, with_running, unless_running, start_left, jobs_left}
 use Rattle.um_model.specs.Timers.{Timers}
-use Rattle.um_model.specs.Machine.{State, empty_state, Command, Happening, Event, Input, Reply, IsBefore, with_result_dependency, TakesAlong, Becomes, Carries, change_of, changed, acting_in, around, begins, begun, IsStill, Settles, begins_next, unit_asked, with_plan, jobs_asked, scene_at, Changes, puts, links, removes, reloads, plans, demands_nothing, cancels, installs, end_of, Fires, none_due, fires, passes, Follows, ends, ticks, Takes, obeys, meets, moment_of, Step, refused, crowded_out, idle, taken, Run, goes}
+use Rattle.um_model.specs.Machine.{State, empty_state, Command, Happening, Event, Input, Reply, IsBefore, with_result_dependency, TakesAlong, Becomes, Carries, change_of, changed, acting_in, around, begins, begun, IsStill, FallDown, Happens, AreReset, Settles, begins_next, unit_asked, with_plan, jobs_asked, scene_at, Changes, puts, links, removes, reloads, plans, demands_nothing, cancels, installs, Does, units_reset, end_of, Restarts, has_a_job, closes_a_circle, ComesDue, Fires, booted, Follows, ends, reports, ticks, boots, Takes, obeys, meets, moment_of, Step, refused, crowded_out, idle, taken, Run, goes}
 use Rattle.um_model.specs.Plan.{IsPlan, jobs_for, verb_of}
-use Rattle.um_model.specs.Live.{IsFree, is_starting, WaitsFor, IsNotStuck}
+use Rattle.um_model.specs.Live.{IsFree, WaitsFor, IsNotStuck}
 use Rattle.um_model.specs.declared.commands.UnitVerb.{UnitVerb}
 use Rattle.um_model.specs.declared.commands.UnitVerb.TheVariants as verbs
 use Rattle.um_model.specs.declared.dependencies.Demand.{Demand}
@@ -28,9 +28,10 @@ use Rattle.um_model.specs.declared.transition.Change.{Change}
 use Rattle.um_model.specs.declared.transition.StartJob.{StartJob}
 use Rattle.um_model.specs.declared.transition.StartJob.TheVariants.{Stays, Ends, Fails}
 use Rattle.um_model.specs.declared.transition.UnitEvent.{UnitEvent}
-use Rattle.um_model.specs.declared.transition.UnitEvent.TheVariants.{StartBegins, StopBegins, DeadlinePasses}
+use Rattle.um_model.specs.declared.transition.UnitEvent.TheVariants.{StartBegins, StopBegins, Executed, DeadlinePasses}
 use Rattle.um_model.proofs.AlongLaws.{before_or_not, taken_along_or_not}
 use Rattle.um_model.proofs.CycleLaws.{a_first_job}
+use Rattle.um_model.proofs.FallLaws.{over_falls, over_happening, over_resets}
 use Rattle.um_model.proofs.FreeLaws.{no_cycle_after}
 use Rattle.um_model.proofs.PlannedLaws.{counts_some}
 use Rattle.um_model.proofs.SceneLaws.{finite_scene}
@@ -199,6 +200,15 @@ changed_fits s command u (cancels {asked = asked}) fits =
 changed_fits s command u (demands_nothing none) fits = fits
 changed_fits s command u (plans {asked = asked} {demand = demand} {after = after} is plan) fits = plan_fits s (unit_asked s asked) demand after plan fits
 
+-- so does an automatic restart
+restart_keeps : (j : UnitJobs) → j ≡ no_jobs → KeepsRunning j (jobs None (Some Waiting))
+restart_keeps j is = record { starting = λ e. absurd (waits_runs e); stopping = λ e. absurd (none_runs e) }
+
+restarted_fits : (s : State) (unit : List ℕ) (v : State) → Restarts s unit v → AllFit s → AllFit v
+restarted_fits s unit v (Restarts.puts none free) fits = planned_fits s unit (jobs None (Some Waiting)) (restart_keeps (jobs_of_unit s.pending unit) none) fits
+restarted_fits s unit v (has_a_job one) fits = fits
+restarted_fits s unit v (closes_a_circle cycle none closed) fits = fits
+
 -- what a failed start takes along leaves all fitting
 along_fits : (s : State) (failed : List ℕ) (v : State) → TakesAlong s failed v → AllFit s → AllFit v
 along_fits s failed v a fits unit =
@@ -233,6 +243,27 @@ not_down sub.Failed up = refl
 not_down sub.AutoRestart up = refl
 not_down sub.Active up = refl
 
+-- ---- nothing held
+
+no_unit : (unit : List ℕ) → state_of_unit map.empty unit ≡ dead_unit
+no_unit unit = ap (λ o. unwrap_or o dead_unit) (map.get-empty _ unit)
+
+no_job : (unit : List ℕ) → jobs_of_unit map.empty unit ≡ no_jobs
+no_job unit = ap (λ o. unwrap_or o no_jobs) (map.get-empty _ unit)
+
+nothing_fits : (unit : List ℕ) → Fits (state_of_unit map.empty unit) (jobs_of_unit map.empty unit)
+nothing_fits unit = subst₂ Fits (sym (no_unit unit)) (sym (no_job unit))
+    (record { held = refl; starting = λ e. absurd (none_runs e); stopping = λ e. absurd (none_runs e); apart = λ e. refl })
+
+none_waits : (kind : JobKind) → job_of kind no_jobs ≡ Some Waiting → ⊥
+none_waits job.Stop e = cc
+none_waits job.Start e = cc
+
+nothing_ready : (Before : List ℕ → List ℕ → Type 0) (units : ByUnit UnitState) (j : Job) → ¬ IsReady Before units map.empty j
+nothing_ready Before units j ready = none_waits j.kind (sym (ap (job_of j.kind) (no_job j.unit)) ∙ ready.waits)
+
+-- ---- a run
+
 -- the table keeps the process of a unit
 module _ (keeps : (s : ServiceSettings) (c : Around) (u : UnitState) (e : UnitEvent) → HasItsProcess u → HasItsProcess (transition s c u e).unit) where
   -- what happens to a unit leaves all fitting
@@ -245,6 +276,19 @@ module _ (keeps : (s : ServiceSettings) (c : Around) (u : UnitState) (e : UnitEv
       (λ e. start_fits settings (around t s unit) u event ((fits unit).starting e))
       (λ e. stop_fits settings (around t s unit) u event ((fits unit).stopping e))
       (fits unit).apart))
+
+  abbrev LeavesFitting : State → List Action → State → Type 0
+  LeavesFitting s actions v = AllFit s → AllFit v
+
+  -- so do all units that fall with it, and resets
+  fallen_fits : (t : ℕ) (units : List (List ℕ)) (s : State) (actions : List Action) (v : State) → FallDown t units s actions v → LeavesFitting s actions v
+  fallen_fits t = over_falls t LeavesFitting (λ s fits. fits) (λ s u v first more f g fits. g (f fits)) (carried_fits t)
+
+  happened_fits : (t : ℕ) (unit : List ℕ) (event : UnitEvent) (s : State) (actions : List Action) (v : State) → Happens t unit event s actions v → LeavesFitting s actions v
+  happened_fits t = over_happening t LeavesFitting (λ s fits. fits) (λ s u v first more f g fits. g (f fits)) (carried_fits t)
+
+  reset_fits : (t : ℕ) (units : List (List ℕ)) (s : State) (actions : List Action) (v : State) → AreReset t units s actions v → LeavesFitting s actions v
+  reset_fits t = over_resets t LeavesFitting (λ s fits. fits) (λ s u v first more f g fits. g (f fits)) (carried_fits t)
 
   begun_here : (s : State) (j : Job) → jobs_of_unit (begun s j).pending j.unit ≡ with_running j.kind (jobs_of_unit s.pending j.unit)
   begun_here s j = jobs_here s.pending j.unit (with_running j.kind (jobs_of_unit s.pending j.unit))
@@ -278,21 +322,34 @@ module _ (keeps : (s : ServiceSettings) (c : Around) (u : UnitState) (e : UnitEv
   -- where jobs have begun until none is ready
   settled_fits : (t : ℕ) (s : State) (actions : List Action) (v : State) → Settles t s actions v → AllFit s → AllFit v × IsStill v
   settled_fits t s actions v (Settles.rests none) fits = (fits, none)
-  settled_fits t s actions v (begins_next {u = u} {first = first} {more = more} j n h k) fits = settled_fits t u more v k (beginning_fits t j s first u n.has h fits)
+  settled_fits t s actions v (begins_next {u = w} {more = late} j n (Happens.happens {falling = falling} {u = u} {first = first} {more = more} carries falls later) k) fits =
+      settled_fits t w late v k (fallen_fits t falling u more w later (beginning_fits t j s first u n.has carries fits))
+
+  due_fits : (t : ℕ) (s : State) (unit : List ℕ) (actions : List Action) (v : State) → ComesDue t s unit actions v → AllFit s → AllFit v
+  due_fits t s unit actions v (ComesDue.restarts is again) fits = restarted_fits s unit v again fits
+  due_fits t s unit actions v (ComesDue.passes isnt h) fits = happened_fits t unit DeadlinePasses s actions v h fits
 
   fired_fits : (t : ℕ) (timers : Timers) (s : State) (actions : List Action) (v : State) → Fires t timers s actions v → AllFit s × IsStill s → AllFit v × IsStill v
-  fired_fits t timers s actions v (none_due none) calm = calm
-  fired_fits t timers s actions v (fires {u = u} {v = p} {first = x} {next = y} {more = z} d n first due is h k l) calm =
-      fired_fits t (map.remove timers n) p z v l (settled_fits t u y p k (carried_fits t n DeadlinePasses s x u h calm.0))
-  fired_fits t timers s actions v (passes {more = z} d n first due isnt l) calm = fired_fits t (map.remove timers n) s z v l calm
+  fired_fits t timers s actions v (Fires.none_due none) calm = calm
+  fired_fits t timers s actions v (Fires.fires {u = u} {v = p} {first = x} {next = y} {more = z} d n first due is h k l) calm =
+      fired_fits t (map.remove timers n) p z v l (settled_fits t u y p k (due_fits t s n x u h calm.0))
+  fired_fits t timers s actions v (Fires.passes {more = z} d n first due isnt l) calm = fired_fits t (map.remove timers n) s z v l calm
 
   followed_fits : (t : ℕ) (s : State) (happening : Happening) (actions : List Action) (v : State) → Follows t s happening actions v → AllFit s × IsStill s → AllFit v × IsStill v
   followed_fits t s happening actions v (ends {number = number} {end = end} {first = first} {more = more} {u = u} unit is h k) calm =
-      settled_fits t u more v k (carried_fits t unit (end_of (state_of_unit s.units unit) number end) s first u h calm.0)
+      settled_fits t u more v k (happened_fits t unit (end_of (state_of_unit s.units unit) number end) s first u h calm.0)
+  followed_fits t s happening actions v (reports {first = first} {more = more} {u = u} unit is awaits h k) calm =
+      settled_fits t u more v k (happened_fits t unit Executed s first u h calm.0)
   followed_fits t s happening actions v (ticks timers are h) calm = fired_fits t timers s actions v h calm
+  followed_fits t s happening actions v (boots {boot = boot}) calm = (nothing_fits, nothing_ready (IsBefore (booted boot s).loaded) map.empty)
+
+  does_fit : (t : ℕ) (s : State) (command : Command) (actions : List Action) (u : State) → Does t s command actions u → AllFit s → AllFit u
+  does_fit t s command actions u (Does.changes h) fits = changed_fits s command u h fits
+  does_fit t s command actions u (Does.resets {asked = asked} h) fits = reset_fits t (units_reset s asked) s actions u h fits
 
   taken_fits : (t : ℕ) (s : State) (event : Event) (actions : List Action) (v : State) → Takes t s event actions v → AllFit s × IsStill s → AllFit v × IsStill v
-  taken_fits t s event actions v (obeys {command = command} {u = u} free h k) calm = settled_fits t u actions v k (changed_fits s command u h calm.0)
+  taken_fits t s event actions v (obeys {command = command} {first = first} {more = more} {u = u} free h k) calm =
+      settled_fits t u more v k (does_fit t s command first u h calm.0)
   taken_fits t s event actions v (meets {happening = happening} effect h) calm = followed_fits t s happening actions v h calm
 
   step_fits : (size : ℕ) (s : State) (input : Input) (reply : Reply) (actions : List Action) (t : State) → Step size s input reply actions t → AllFit s × IsStill s → AllFit t × IsStill t
@@ -304,25 +361,6 @@ module _ (keeps : (s : ServiceSettings) (c : Around) (u : UnitState) (e : UnitEv
   run_fits : (size : ℕ) (s t : State) (inputs : List Input) → Run size s inputs t → AllFit s × IsStill s → AllFit t × IsStill t
   run_fits size s t inputs Run.rests calm = calm
   run_fits size s t (i ∷ inputs) (goes {t = v} reply actions step run) calm = run_fits size v t inputs run (step_fits size s i reply actions v step calm)
-
--- ---- the empty state
-
-no_unit : (unit : List ℕ) → state_of_unit map.empty unit ≡ dead_unit
-no_unit unit = ap (λ o. unwrap_or o dead_unit) (map.get-empty _ unit)
-
-no_job : (unit : List ℕ) → jobs_of_unit map.empty unit ≡ no_jobs
-no_job unit = ap (λ o. unwrap_or o no_jobs) (map.get-empty _ unit)
-
-empty_fits : AllFit empty_state
-empty_fits unit = subst₂ Fits (sym (no_unit unit)) (sym (no_job unit))
-    (record { held = refl; starting = λ e. absurd (none_runs e); stopping = λ e. absurd (none_runs e); apart = λ e. refl })
-
-none_waits : (kind : JobKind) → job_of kind no_jobs ≡ Some Waiting → ⊥
-none_waits job.Stop e = cc
-none_waits job.Start e = cc
-
-empty_still : IsStill empty_state
-empty_still j ready = none_waits j.kind (sym (ap (job_of j.kind) (no_job j.unit)) ∙ ready.waits)
 
 -- ---- not stuck
 
@@ -411,5 +449,5 @@ module _ (s : State) (fits : AllFit s) (still : IsStill s) where
 -- after any inputs the machine isn't stuck
 pub never_stuck : (size : ℕ) (inputs : List Input) (t : State) → Run size empty_state inputs t → IsNotStuck t
 never_stuck size inputs t run =
-    let calm = run_fits keeps_process size empty_state t inputs run (empty_fits, empty_still) in
+    let calm = run_fits keeps_process size empty_state t inputs run (nothing_fits, nothing_ready (IsBefore empty_state.loaded) map.empty) in
     fitting_not_stuck t calm.0 calm.1 (no_cycle_after size inputs t run)

@@ -1,11 +1,11 @@
 -- A step has one outcome, but for the cycle that a refusal names; a run has one end, and runs join.
-use Rattle.std.proofs.Common.{ℕ, ◌≡◌, ◌≢◌, ◌⊎◌, ◌∙◌, List, [], ◌∷◌, ◌++◌, map as each, None, Some, refl, sym, ap, subst, inl, inr, true≢false, arith}
+use Rattle.std.proofs.Common.{ℕ, ◌≡◌, ◌≢◌, ◌⊎◌, ◌∙◌, List, [], ◌∷◌, ◌++◌, map as each, Option, Some, refl, sym, ap, subst, inl, inr, true≢false, arith}
 use Rattle.std.proofs.lemmas.Option.{none-some, same_Some}
 use Rattle.std.specs.FinMap as map
 use Rattle.std.specs.FinMap.{slice_cmp-IsAntisymmetric, nat_cmp-IsAntisymmetric}
 use Rattle.std.specs.Cmp.Lexicographic.{nat_list_cmp_total}
 use Rattle.um_model.specs.Alike.{NamesACycle, AlikeBut, the_same, both_name, IsSameOutcome}
-use Rattle.um_model.specs.Refusals.{Refused, FirstCause, at_first, at_second, no_room, ordering_cycle}
+use Rattle.um_model.specs.Refusals.{Refused, FirstCause, at_first, at_second}
 use Rattle.um_model.specs.Tree.{Tree, put_file, put_link, remove_at}
 use Rattle.um_model.specs.Least.{IsNamedBefore}
 use Rattle.um_model.specs.Service.{Action, ByUnit, state_of_unit}
@@ -13,7 +13,7 @@ use Rattle.um_model.specs.Jobs.{Job, IsReady, IsToldBefore, by_name, stop_first,
 use Rattle.um_model.specs.Plan.{IsPlan, CausesOfPlan, NamesCycle, units_of}
 use Rattle.um_model.specs.Timers.{Timers}
 use Rattle.um_model.specs.Transitions.{HasNumber}
-use Rattle.um_model.specs.Machine.{State, Command, Happening, ProcessEnded, Tick, Event, Input, Reply, EnabledAs, Listed, Refusal, Query, IsReplyTo, shows, tells_activity, tells_files, tells_enabling, unit_listed, lists_units, lists_jobs, Becomes, alone, along, Carries, change_of, acting_in, around, begins, begun, IsBefore, Settles, begins_next, IsProcessOf, AreDeadlines, end_of, Fires, none_due, fires, passes, IsHeld, IsHeldOr, scene_at, IsCrowded, IsNotThere, IsMissing, HasNoPlan, HasNoneWaiting, CausesOfCancel, CausesOf, CausesOfLoad, LoadsNone, active_asked, demand_of, unit_asked, Refuses, puts_none, links_none, removes_none, plans_none, cancels_none, reloads_none, installs_none, Changes, puts, links, removes, reloads, plans, demands_nothing, cancels, installs, Follows, ends, ticks, HasNoEffect, is_over, is_idle, Takes, obeys, meets, HasNoRoom, moment_of, Step, refused, crowded_out, idle, taken, reply_after, Run, goes}
+use Rattle.um_model.specs.Machine.{State, Command, ResetFailed, Happening, ProcessEnded, ProcessExecuted, Tick, Booted, Event, Input, Reply, EnabledAs, Listed, Refusal, Query, IsReplyTo, shows, tells_activity, tells_failure, tells_files, tells_enabling, unit_listed, lists_units, lists_jobs, Becomes, alone, along, Carries, change_of, acting_in, around, FallsWith, AreFalling, FallDown, all_told, told_next, Happens, happens, begins, begun, IsBefore, Settles, begins_next, IsProcessOf, AreDeadlines, end_of, Restarts, has_a_job, closes_a_circle, ComesDue, restarts, Fires, none_due, fires, AwaitsReport, IsHeld, IsHeldOr, scene_at, IsCrowded, IsNotThere, IsMissing, HasNoPlan, HasNoneWaiting, CausesOfCancel, CausesOf, CausesOfLoad, LoadsNone, active_asked, demand_of, unit_asked, Refuses, puts_none, links_none, removes_none, plans_none, cancels_none, resets_none, reloads_none, installs_none, Changes, puts, links, removes, reloads, plans, demands_nothing, cancels, installs, units_reset, AreReset, all_reset, reset_next, Does, changes, resets, Follows, ends, reports, ticks, boots, HasNoEffect, is_over, isnt_awaited, is_idle, is_known, Takes, obeys, meets, HasNoRoom, moment_of, Step, refused, crowded_out, idle, taken, reply_after, Run, goes}
 use Rattle.um_model.specs.declared.commands.JobMode.{JobMode}
 use Rattle.um_model.specs.declared.commands.UnitVerb.{UnitVerb}
 use Rattle.um_model.specs.declared.dependencies.Demand.{Demand}
@@ -25,14 +25,14 @@ use Rattle.um_model.specs.declared.service.End.{End}
 use Rattle.um_model.specs.declared.service.UnitState.{UnitState}
 use Rattle.um_model.specs.declared.transition.Change.{Change}
 use Rattle.um_model.specs.declared.transition.UnitEvent.{UnitEvent}
-use Rattle.um_model.specs.declared.transition.UnitEvent.TheVariants.{DeadlinePasses}
+use Rattle.um_model.specs.declared.transition.UnitEvent.TheVariants.{BoundStop, Executed, DeadlinePasses, Reset}
 use Rattle.um_model.proofs.AlongLaws.{one_along}
 use Rattle.um_model.proofs.InstallLaws.{one_install, one_install_refusal, one_enabling}
 use Rattle.um_model.proofs.CausesLaws.{same_ok, same_err, one_first}
 use Rattle.um_model.proofs.LeastLaws.{one_least}
 use Rattle.um_model.proofs.PlannedLaws.{one_plan}
 use Rattle.um_model.proofs.PlannedLaws as planned
-use Rattle.um_model.proofs.SceneLaws.{finite_scene, one_list_of_known}
+use Rattle.um_model.proofs.SceneLaws.{finite_scene, one_list_by_name, one_list_of_known}
 use Rattle.um_model.proofs.TransitionLaws.{same_actions}
 use Rattle.um_model.proofs.TimersLaws.{one_due_first, same_name, names_one_way}
 
@@ -52,7 +52,7 @@ first_but A B one other r q (at_second none h) (at_second neither k) = other r q
 names_a_cycle : (Before : List ℕ → List ℕ → Type 0) (pending : ByUnit UnitJobs) (r : Refused) → NamesCycle Before pending r → NamesACycle r
 names_a_cycle Before pending r h = (units_of h.cycle, h.refusal)
 
--- ---- what happens to a unit, and which jobs begin
+-- ---- what happens to a unit
 
 -- a change of a unit has one end
 pub one_becomes : (s : State) (unit : List ℕ) (c : Change) (v w : State) → Becomes s unit c v → Becomes s unit c w → v ≡ w
@@ -68,6 +68,36 @@ one_carried t unit event s a b v w h k = (
   same_actions (acting_in s.loaded unit).settings (around t s unit) (change_of t s unit event).unit (change_of t s unit event).order a b h.asked k.asked,
   one_becomes s unit (change_of t s unit event) v w h.state k.state,
 )
+
+-- ---- the units that fall with one
+
+-- they are one list
+pub one_falling : (s u : State) (unit : List ℕ) (xs ys : List (List ℕ)) → AreFalling s u unit xs → AreFalling s u unit ys → xs ≡ ys
+one_falling s u unit xs ys h k = one_list_by_name (FallsWith s u unit) xs ys h.each k.each h.sorted k.sorted
+
+-- they are told to stop to one end, with one list of actions
+pub one_fall : (t : ℕ) (units : List (List ℕ)) (s : State) (a b : List Action) (v w : State)
+    → FallDown t units s a v → FallDown t units s b w → (a ≡ b) × (v ≡ w)
+one_fall t units s a b v w all_told all_told = (refl, refl)
+one_fall t (unit ∷ units) s a b v w (told_next {falling = falling} {u = u} {first = first} {more = more} h are k)
+    (told_next {falling = others} {u = x} {first = other} {more = rest} g too l) =
+    let both = one_carried t unit BoundStop s first other u x h g in
+    let same = one_falling s u unit others falling (subst (λ y. AreFalling s y unit others) (sym both.1) too) are in
+    let later = one_fall t (falling ++ units) u more rest v w k
+    (subst (λ y. FallDown t (y ++ units) u rest w) same (subst (λ y. FallDown t (others ++ units) y rest w) (sym both.1) l)) in
+    (ap (λ q. q ++ more) both.0 ∙ ap (λ q. other ++ q) later.0, later.1)
+
+-- and so what happens to a unit has one end, with all that fall with it
+pub one_happened : (t : ℕ) (unit : List ℕ) (event : UnitEvent) (s : State) (a b : List Action) (v w : State)
+    → Happens t unit event s a v → Happens t unit event s b w → (a ≡ b) × (v ≡ w)
+one_happened t unit event s a b v w (happens {falling = falling} {u = u} {first = first} {more = more} h are k)
+    (happens {falling = others} {u = x} {first = other} {more = rest} g too l) =
+    let both = one_carried t unit event s first other u x h g in
+    let same = one_falling s u unit others falling (subst (λ y. AreFalling s y unit others) (sym both.1) too) are in
+    let later = one_fall t falling u more rest v w k (subst (λ y. FallDown t y u rest w) same (subst (λ y. FallDown t others y rest w) (sym both.1) l)) in
+    (ap (λ q. q ++ more) both.0 ∙ ap (λ q. other ++ q) later.0, later.1)
+
+-- ---- which jobs begin
 
 -- of two jobs not each is told before the other
 pub told_one_way : (j k : Job) → IsToldBefore j k → IsToldBefore k j → ⊥
@@ -103,7 +133,7 @@ one_settled t s a b v w (Settles.rests none) (begins_next j n h k) = absurd (non
 one_settled t s a b v w (begins_next j n h k) (Settles.rests none) = absurd (none j n.has)
 one_settled t s a b v w (begins_next {u = u} {first = first} {more = more} j n h k) (begins_next {u = x} {first = other} {more = others} i m g l) =
     let same : i ≡ j = one_next (IsBefore s.loaded) s.units s.pending i j m n in
-    let both = one_carried t j.unit (begins j.kind) (begun s j) first other u x h (subst (λ (q : Job). Carries t q.unit (begins q.kind) (begun s q) other x) same g) in
+    let both = one_happened t j.unit (begins j.kind) (begun s j) first other u x h (subst (λ (q : Job). Happens t q.unit (begins q.kind) (begun s q) other x) same g) in
     let later = one_settled t u more others v w k (subst (λ q. Settles t q others w) (sym both.1) l) in
     (ap (λ q. q ++ more) both.0 ∙ ap (λ q. other ++ q) later.0, later.1)
 
@@ -116,26 +146,45 @@ pub one_deadlines : (units : ByUnit UnitState) (a b : Timers) → AreDeadlines u
 one_deadlines units a b h k =
     map.same_map nat_list_cmp_total (slice_cmp-IsAntisymmetric nat_cmp-IsAntisymmetric) a b (λ unit. h unit ∙ sym (k unit))
 
+-- an automatic restart puts one job or none
+pub one_restart : (s : State) (unit : List ℕ) (v w : State) → Restarts s unit v → Restarts s unit w → v ≡ w
+one_restart s unit v w (Restarts.puts none free) (Restarts.puts too also) = refl
+one_restart s unit v w (Restarts.puts none free) (has_a_job some) = absurd (some none)
+one_restart s unit v w (Restarts.puts none free) (closes_a_circle cycle too closed) = absurd (free cycle closed)
+one_restart s unit v w (has_a_job some) (Restarts.puts none free) = absurd (some none)
+one_restart s unit v w (has_a_job some) (has_a_job too) = refl
+one_restart s unit v w (has_a_job some) (closes_a_circle cycle none closed) = refl
+one_restart s unit v w (closes_a_circle cycle none closed) (Restarts.puts too free) = absurd (free cycle closed)
+one_restart s unit v w (closes_a_circle cycle none closed) (has_a_job some) = refl
+one_restart s unit v w (closes_a_circle cycle none closed) (closes_a_circle other too also) = refl
+
+-- what comes of a deadline has one end, with one list of actions
+pub one_come_due : (t : ℕ) (s : State) (unit : List ℕ) (a b : List Action) (v w : State) → ComesDue t s unit a v → ComesDue t s unit b w → (a ≡ b) × (v ≡ w)
+one_come_due t s unit a b v w (restarts is h) (restarts too k) = (refl, one_restart s unit v w h k)
+one_come_due t s unit a b v w (restarts is h) (ComesDue.passes isnt k) = absurd (true≢false (sym is ∙ isnt))
+one_come_due t s unit a b v w (ComesDue.passes isnt h) (restarts is k) = absurd (true≢false (sym is ∙ isnt))
+one_come_due t s unit a b v w (ComesDue.passes isnt h) (ComesDue.passes too k) = one_happened t unit DeadlinePasses s a b v w h k
+
 -- a tick has one end, with one list of actions
 pub one_fired : (t : ℕ) (timers : Timers) (s : State) (a b : List Action) (v w : State) → Fires t timers s a v → Fires t timers s b w → (a ≡ b) × (v ≡ w)
 one_fired t timers s a b v w (none_due none) (none_due too) = (refl, refl)
 one_fired t timers s a b v w (none_due none) (fires d n first due is h k l) = absurd (let late = none d n first.has in omega arith)
-one_fired t timers s a b v w (none_due none) (passes d n first due isnt l) = absurd (let late = none d n first.has in omega arith)
+one_fired t timers s a b v w (none_due none) (Fires.passes d n first due isnt l) = absurd (let late = none d n first.has in omega arith)
 one_fired t timers s a b v w (fires d n first due is h k l) (none_due none) = absurd (let late = none d n first.has in omega arith)
-one_fired t timers s a b v w (passes d n first due isnt l) (none_due none) = absurd (let late = none d n first.has in omega arith)
+one_fired t timers s a b v w (Fires.passes d n first due isnt l) (none_due none) = absurd (let late = none d n first.has in omega arith)
 one_fired t timers s a b v w (fires {u = u} {v = p} {first = x} {next = y} {more = z} d n first due is h k l) (fires {u = u'} {v = p'} {first = x'} {next = y'} {more = z'} e o too late was g m q) =
     let same = one_due_first timers e d o n too first in
-    let happened = one_carried t n DeadlinePasses s x x' u u' h (subst (λ i. Carries t i DeadlinePasses s x' u') same.1 g) in
+    let happened = one_come_due t s n x x' u u' h (subst (λ i. ComesDue t s i x' u') same.1 g) in
     let settled = one_settled t u y y' p p' k (subst (λ i. Settles t i y' p') (sym happened.1) m) in
     let fired = one_fired t (map.remove timers n) p z z' v w l (subst (λ i. Fires t (map.remove timers n) i z' w) (sym settled.1) (subst (λ i. Fires t (map.remove timers i) p' z' w) same.1 q)) in
     (ap (λ i. i ++ (y ++ z)) happened.0 ∙ (ap (λ i. x' ++ (i ++ z)) settled.0 ∙ ap (λ i. x' ++ (y' ++ i)) fired.0), fired.1)
-one_fired t timers s a b v w (fires d n first due is h k l) (passes e o too late wasnt q) =
+one_fired t timers s a b v w (fires d n first due is h k l) (Fires.passes e o too late wasnt q) =
     let same = one_due_first timers e d o n too first in
     absurd (wasnt (ap (λ i. (state_of_unit s.units i).deadline) same.1 ∙ (is ∙ ap Some (sym same.0))))
-one_fired t timers s a b v w (passes d n first due isnt l) (fires e o too late was g m q) =
+one_fired t timers s a b v w (Fires.passes d n first due isnt l) (fires e o too late was g m q) =
     let same = one_due_first timers d e n o first too in
     absurd (isnt (ap (λ i. (state_of_unit s.units i).deadline) same.1 ∙ (was ∙ ap Some (sym same.0))))
-one_fired t timers s a b v w (passes d n first due isnt l) (passes e o too late wasnt q) =
+one_fired t timers s a b v w (Fires.passes d n first due isnt l) (Fires.passes e o too late wasnt q) =
     let same = one_due_first timers e d o n too first in
     one_fired t (map.remove timers n) s a b v w l (subst (λ i. Fires t (map.remove timers i) s b w) same.1 q)
 
@@ -159,19 +208,28 @@ module _ (s : State) (verb : UnitVerb) (asked : List ℕ) where
             (subst (λ x. IsPlan (scene_at s (unit_asked s asked)) (x, unit_asked s asked) v) (sym same) k),
       )
 
+  -- a plan is refused for one cause, but for the cycle that it names
+  plan_in_one_way : (demand : Demand) (mode : JobMode) (after : ByUnit UnitJobs)
+      → AreOneBut (CausesOfPlan (scene_at s (unit_asked s asked)) (demand, unit_asked s asked) mode after)
+  plan_in_one_way demand mode after r q h k =
+      let finite = finite_scene s (unit_asked s asked) in
+      by_cause (planned.one_cause (scene_at s (unit_asked s asked)) finite.0 finite.1 (demand, unit_asked s asked) mode after r q h k)
+    where
+      by_cause : (r ≡ q) ⊎ (NamesCycle (scene_at s (unit_asked s asked)).IsBefore after r × NamesCycle (scene_at s (unit_asked s asked)).IsBefore after q)
+          → (r ≡ q) ⊎ (NamesACycle r × NamesACycle q)
+      by_cause (inl is) = inl is
+      by_cause (inr both) = inr (names_a_cycle _ after r both.0, names_a_cycle _ after q both.1)
+
+  -- the causes of a plan, and that too many units would be known with it
+  abbrev CausesWith : JobMode → Demand → ByUnit UnitJobs → Refused → Type 0
+  CausesWith mode demand after =
+      FirstCause (CausesOfPlan (scene_at s (unit_asked s asked)) (demand, unit_asked s asked) mode after) (IsCrowded s.loaded (IsHeld (record s { pending = after })))
+
   refused_in_one_way : (mode : JobMode) → AreOneBut (HasNoPlan s verb asked mode)
   refused_in_one_way mode r q h k =
       let same = one_planned_map h.demand k.demand h.after k.after h.demanded k.demanded h.plan k.plan in
-      let finite = finite_scene s (unit_asked s asked) in
-      by_cause
-      (planned.one_cause (scene_at s (unit_asked s asked)) finite.0 finite.1 (h.demand, unit_asked s asked) mode h.after r q h.cause
-      (subst (λ x. CausesOfPlan (scene_at s (unit_asked s asked)) (h.demand, unit_asked s asked) mode x q) (sym same.1)
-      (subst (λ x. CausesOfPlan (scene_at s (unit_asked s asked)) (x, unit_asked s asked) mode k.after q) (sym same.0) k.cause)))
-    where
-      by_cause : (r ≡ q) ⊎ (NamesCycle (scene_at s (unit_asked s asked)).IsBefore h.after r × NamesCycle (scene_at s (unit_asked s asked)).IsBefore h.after q)
-          → (r ≡ q) ⊎ (NamesACycle r × NamesACycle q)
-      by_cause (inl is) = inl is
-      by_cause (inr both) = inr (names_a_cycle _ h.after r both.0, names_a_cycle _ h.after q both.1)
+      first_but _ _ (plan_in_one_way h.demand mode h.after) (one_crowded s.loaded (IsHeld (record s { pending = h.after }))) r q h.cause
+      (subst (λ x. CausesWith mode h.demand x q) (sym same.1) (subst (λ x. CausesWith mode x k.after q) (sym same.0) k.cause))
 
 one_planned : (s : State) (verb : UnitVerb) (asked : List ℕ) (mode : JobMode) → AreOneBut (CausesOf s verb asked mode)
 one_planned s verb asked mode =
@@ -196,6 +254,7 @@ one_refusal s command r q (links_none {path = path} {target = target} e) (links_
 one_refusal s command r q (removes_none {path = path} e) (removes_none f) = inl (same_err (remove_at s.tree path) r q e f)
 one_refusal s command r q (plans_none {verb = verb} {asked = asked} {mode = mode} h) (plans_none k) = one_planned s verb asked mode r q h k
 one_refusal s command r q (cancels_none {asked = asked} h) (cancels_none k) = inl (one_cancelled s asked r q h k)
+one_refusal s command r q (resets_none h) (resets_none k) = inl (h.refusal ∙ sym k.refusal)
 one_refusal s command r q (reloads_none h) (reloads_none k) = one_loaded s s.tree r q h k
 one_refusal s command r q (installs_none {verb = verb} {unit = unit} h) (installs_none k) =
     first_but _ _ (λ x y g l. inl (one_install_refusal s.tree verb unit x y g l)) (one_unloaded s verb unit) r q h k
@@ -218,10 +277,31 @@ one_change s command u v cancels cancels = refl
 one_change s command u v (installs {verb = verb} {unit = unit} {tree = tree} h) (installs {tree = other} k) =
     ap (λ (x : Tree). record s { tree = x; loaded = x }) (one_install s.tree verb unit tree other h k)
 
+-- failures are forgotten to one end, with one list of actions
+pub one_reset : (t : ℕ) (units : List (List ℕ)) (s : State) (a b : List Action) (v w : State)
+    → AreReset t units s a v → AreReset t units s b w → (a ≡ b) × (v ≡ w)
+one_reset t units s a b v w all_reset all_reset = (refl, refl)
+one_reset t (unit ∷ units) s a b v w (reset_next {u = u} {first = first} {more = more} h k) (reset_next {u = x} {first = other} {more = rest} g l) =
+    let both = one_happened t unit Reset s first other u x h g in
+    let later = one_reset t units u more rest v w k (subst (λ y. AreReset t units y rest w) (sym both.1) l) in
+    (ap (λ q. q ++ more) both.0 ∙ ap (λ q. other ++ q) later.0, later.1)
+
+-- to forget failures changes nothing by itself
+no_change : (s : State) (asked : Option (List ℕ)) (u : State) → ¬ Changes s (ResetFailed asked) u
+no_change s asked u h = elim h [ ]
+
+-- a command does one thing, with one list of actions
+pub one_done : (t : ℕ) (s : State) (command : Command) (a b : List Action) (v w : State) → Does t s command a v → Does t s command b w → (a ≡ b) × (v ≡ w)
+one_done t s command a b v w (changes h) (changes k) = (refl, one_change s command v w h k)
+one_done t s command a b v w (changes h) (resets {asked = asked} k) = absurd (no_change s asked v h)
+one_done t s command a b v w (resets {asked = asked} h) (changes k) = absurd (no_change s asked w k)
+one_done t s command a b v w (resets {asked = asked} h) (resets k) = one_reset t (units_reset s asked) s a b v w h k
+
 -- a query has one reply
 pub one_reply_to : (s : State) (query : Query) (r q : Reply) → IsReplyTo s query r → IsReplyTo s query q → r ≡ q
 one_reply_to s query r q shows shows = refl
 one_reply_to s query r q tells_activity tells_activity = refl
+one_reply_to s query r q tells_failure tells_failure = refl
 one_reply_to s query r q tells_files tells_files = refl
 one_reply_to s query r q (tells_enabling {asked = asked} {answer = a} h) (tells_enabling {answer = b} k) = ap EnabledAs (one_enabling s.tree asked a b h k)
 one_reply_to s query r q (lists_units {names = xs} h) (lists_units {names = ys} k) = ap (λ names. Listed (each (unit_listed s) names)) (one_list_of_known s xs ys h k)
@@ -234,10 +314,17 @@ pub one_followed : (t : ℕ) (s : State) (happening : Happening) (a b : List Act
     → Follows t s happening a v → Follows t s happening b w → (a ≡ b) × (v ≡ w)
 one_followed t s happening a b v w (ends {number = number} {end = end} {first = first} {more = more} {u = u} unit is h k) (ends {first = other} {more = others} {u = x} unit' is' h' k') =
     let same = one_process s.units number unit' unit is' is in
-    let both = one_carried t unit (end_of (state_of_unit s.units unit) number end) s first other u x h
-    (subst (λ i. Carries t i (end_of (state_of_unit s.units i) number end) s other x) same h') in
+    let both = one_happened t unit (end_of (state_of_unit s.units unit) number end) s first other u x h
+    (subst (λ i. Happens t i (end_of (state_of_unit s.units i) number end) s other x) same h') in
     let later = one_settled t u more others v w k (subst (λ i. Settles t i others w) (sym both.1) k') in
     (ap (λ q. q ++ more) both.0 ∙ ap (λ q. other ++ q) later.0, later.1)
+one_followed t s happening a b v w (reports {number = number} {first = first} {more = more} {u = u} unit is awaits h k)
+    (reports {first = other} {more = others} {u = x} unit' is' awaits' h' k') =
+    let same = one_process s.units number unit' unit is' is in
+    let both = one_happened t unit Executed s first other u x h (subst (λ i. Happens t i Executed s other x) same h') in
+    let later = one_settled t u more others v w k (subst (λ i. Settles t i others w) (sym both.1) k') in
+    (ap (λ q. q ++ more) both.0 ∙ ap (λ q. other ++ q) later.0, later.1)
+one_followed t s happening a b v w boots boots = (refl, refl)
 one_followed t s happening a b v w (ticks timers are h) (ticks others too k) =
     let same = one_deadlines s.units others timers too are in
     one_fired t timers s a b v w h (subst (λ i. Fires t i s b w) same k)
@@ -250,10 +337,21 @@ tick_has_effect t s actions v follows differs (is_idle quiet) = differs (one_fol
 pub end_has_effect : (t : ℕ) (s : State) (number : ℕ) (end : End) (unit : List ℕ) → HasNumber (state_of_unit s.units unit) number → ¬ HasNoEffect t s (ProcessEnded number end)
 end_has_effect t s number end unit live (is_over none) = none unit live
 
+-- a report for which a unit waits has an effect
+pub report_has_effect : (t : ℕ) (s : State) (number : ℕ) (unit : List ℕ) → IsProcessOf s.units number unit → AwaitsReport s number unit
+    → ¬ HasNoEffect t s (ProcessExecuted number)
+report_has_effect t s number unit is awaits (isnt_awaited none) = none unit is awaits
+
+-- a boot with another id has an effect
+pub boot_has_effect : (t : ℕ) (s : State) (boot : List ℕ) → boot ≢ s.boot → ¬ HasNoEffect t s (Booted boot)
+boot_has_effect t s boot other (is_known same) = other same
+
 -- an event has one effect, with one list of actions
 pub one_taken : (t : ℕ) (s : State) (event : Event) (a b : List Action) (v w : State) → Takes t s event a v → Takes t s event b w → (a ≡ b) × (v ≡ w)
-one_taken t s event a b v w (obeys {command = command} {u = u} free h k) (obeys {u = x} also g l) =
-    one_settled t u a b v w k (subst (λ i. Settles t i b w) (one_change s command x u g h) l)
+one_taken t s event a b v w (obeys {command = command} {first = first} {more = more} {u = u} free h k) (obeys {first = other} {more = rest} {u = x} also g l) =
+    let done = one_done t s command first other u x h g in
+    let later = one_settled t u more rest v w k (subst (λ i. Settles t i rest w) (sym done.1) l) in
+    (ap (λ q. q ++ more) done.0 ∙ ap (λ q. other ++ q) later.0, later.1)
 one_taken t s event a b v w (meets {happening = happening} effect h) (meets also k) = one_followed t s happening a b v w h k
 
 alike_refusals : (r q : Refused) → (r ≡ q) ⊎ (NamesACycle r × NamesACycle q) → AlikeBut (Refusal r) (Refusal q)

@@ -6,7 +6,7 @@ use Rattle.um_model.specs.Service.{Action, SpawnProcess, SendSignal, state_of_un
 use Rattle.um_model.specs.Settings.{ServiceSettings}
 use Rattle.um_model.specs.Timers.{Timers}
 use Rattle.um_model.specs.Transitions.{AreActions, nothing, spawn, signals, spawned, live_numbers}
-use Rattle.um_model.specs.Machine.{State, Command, Happening, Event, Input, Reply, Carries, Becomes, alone, along, change_of, acting_in, around, begins, begun, Settles, begins_next, Changes, puts, links, removes, reloads, plans, demands_nothing, cancels, installs, end_of, Fires, none_due, fires, passes, Follows, ends, ticks, Takes, obeys, meets, moment_of, Step, refused, crowded_out, idle, taken, Run, goes}
+use Rattle.um_model.specs.Machine.{State, Command, Happening, Event, Input, Reply, Carries, Becomes, alone, along, change_of, acting_in, around, begins, begun, Happens, AreReset, Settles, begins_next, Changes, puts, links, removes, reloads, plans, demands_nothing, cancels, installs, Does, units_reset, end_of, Restarts, has_a_job, closes_a_circle, ComesDue, Fires, Follows, ends, reports, ticks, boots, Takes, obeys, meets, moment_of, Step, refused, crowded_out, idle, taken, Run, goes}
 use Rattle.um_model.specs.Numbers.{started_numbers, actions_in, AreNew}
 use Rattle.um_model.specs.declared.service.Signal as sent
 use Rattle.um_model.specs.declared.service.UnitState.{UnitState}
@@ -14,7 +14,8 @@ use Rattle.um_model.specs.declared.transition.Around.{Around}
 use Rattle.um_model.specs.declared.transition.Change.{Change}
 use Rattle.um_model.specs.declared.transition.Order.{Order}
 use Rattle.um_model.specs.declared.transition.UnitEvent.{UnitEvent}
-use Rattle.um_model.specs.declared.transition.UnitEvent.TheVariants.{DeadlinePasses}
+use Rattle.um_model.specs.declared.transition.UnitEvent.TheVariants.{Executed, DeadlinePasses}
+use Rattle.um_model.proofs.FallLaws.{over_happening, over_resets}
 
 -- the numbers from one on, each one more than that before it, up to the next one
 pub data CountsUp : ℕ → List ℕ → ℕ → Type 0 where
@@ -84,19 +85,38 @@ carried_counts t unit event s actions v h =
     subst (CountsUp s.next (started_numbers actions)) (sym (next_after s unit (change_of t s unit event) v h.state))
     (asked_count (acting_in s.loaded unit).settings (around t s unit) (change_of t s unit event).unit (change_of t s unit event).order actions h.asked)
 
+happens_counts : (t : ℕ) (unit : List ℕ) (event : UnitEvent) (s : State) (actions : List Action) (v : State) → Happens t unit event s actions v → Counts s actions v
+happens_counts t = over_happening t Counts (λ s. no_more) (λ s u v first more. both_count s u v first more) (carried_counts t)
+
+reset_counts : (t : ℕ) (units : List (List ℕ)) (s : State) (actions : List Action) (v : State) → AreReset t units s actions v → Counts s actions v
+reset_counts t = over_resets t Counts (λ s. no_more) (λ s u v first more. both_count s u v first more) (carried_counts t)
+
 settled_counts : (t : ℕ) (s : State) (actions : List Action) (v : State) → Settles t s actions v → Counts s actions v
 settled_counts t s actions v (Settles.rests none) = no_more
 settled_counts t s actions v (begins_next {u = u} {first = first} {more = more} j n h k) =
-    both_count s u v first more (carried_counts t j.unit (begins j.kind) (begun s j) first u h) (settled_counts t u more v k)
+    both_count s u v first more (happens_counts t j.unit (begins j.kind) (begun s j) first u h) (settled_counts t u more v k)
+
+-- what happens to a unit, and the jobs that begin by that
+happened_counts : (t : ℕ) (unit : List ℕ) (event : UnitEvent) (s u v : State) (first more : List Action) → Happens t unit event s first u → Settles t u more v → Counts s (first ++ more) v
+happened_counts t unit event s u v first more h k = both_count s u v first more (happens_counts t unit event s first u h) (settled_counts t u more v k)
+
+restarted_counts : (s : State) (unit : List ℕ) (v : State) → Restarts s unit v → Counts s [] v
+restarted_counts s unit v (Restarts.puts none free) = no_more
+restarted_counts s unit v (has_a_job one) = no_more
+restarted_counts s unit v (closes_a_circle cycle none closed) = no_more
+
+due_counts : (t : ℕ) (s : State) (unit : List ℕ) (actions : List Action) (v : State) → ComesDue t s unit actions v → Counts s actions v
+due_counts t s unit actions v (ComesDue.restarts is again) = restarted_counts s unit v again
+due_counts t s unit actions v (ComesDue.passes isnt h) = happens_counts t unit DeadlinePasses s actions v h
 
 fired_counts : (t : ℕ) (timers : Timers) (s : State) (actions : List Action) (v : State) → Fires t timers s actions v → Counts s actions v
-fired_counts t timers s actions v (none_due none) = no_more
-fired_counts t timers s actions v (fires {u = u} {v = p} {first = x} {next = y} {more = z} d n first due is h k l) =
-    both_count s u v x (y ++ z) (carried_counts t n DeadlinePasses s x u h)
+fired_counts t timers s actions v (Fires.none_due none) = no_more
+fired_counts t timers s actions v (Fires.fires {u = u} {v = p} {first = x} {next = y} {more = z} d n first due is h k l) =
+    both_count s u v x (y ++ z) (due_counts t s n x u h)
     (both_count u p v y z (settled_counts t u y p k) (fired_counts t (maps.remove timers n) p z v l))
-fired_counts t timers s actions v (passes {more = z} d n first due isnt l) = fired_counts t (maps.remove timers n) s z v l
+fired_counts t timers s actions v (Fires.passes {more = z} d n first due isnt l) = fired_counts t (maps.remove timers n) s z v l
 
--- a command starts nothing by itself
+-- what a command changes starts nothing by itself
 same_next : (s : State) (command : Command) (u : State) → Changes s command u → u.next ≡ s.next
 same_next s command u (puts e) = refl
 same_next s command u (links e) = refl
@@ -107,14 +127,20 @@ same_next s command u (demands_nothing none) = refl
 same_next s command u cancels = refl
 same_next s command u (installs h) = refl
 
+done_counts : (t : ℕ) (s : State) (command : Command) (actions : List Action) (u : State) → Does t s command actions u → Counts s actions u
+done_counts t s command actions u (Does.changes h) = subst (CountsUp s.next []) (sym (same_next s command u h)) no_more
+done_counts t s command actions u (Does.resets {asked = asked} h) = reset_counts t (units_reset s asked) s actions u h
+
 followed_counts : (t : ℕ) (s : State) (happening : Happening) (actions : List Action) (v : State) → Follows t s happening actions v → Counts s actions v
 followed_counts t s happening actions v (ends {number = number} {end = end} {first = first} {more = more} {u = u} unit is h k) =
-    both_count s u v first more (carried_counts t unit (end_of (state_of_unit s.units unit) number end) s first u h) (settled_counts t u more v k)
+    happened_counts t unit (end_of (state_of_unit s.units unit) number end) s u v first more h k
+followed_counts t s happening actions v (reports {first = first} {more = more} {u = u} unit is awaits h k) = happened_counts t unit Executed s u v first more h k
 followed_counts t s happening actions v (ticks timers are h) = fired_counts t timers s actions v h
+followed_counts t s happening actions v boots = no_more
 
 taken_counts : (t : ℕ) (s : State) (event : Event) (actions : List Action) (v : State) → Takes t s event actions v → Counts s actions v
-taken_counts t s event actions v (obeys {command = command} {u = u} free changes h) =
-    subst (λ n. CountsUp n (started_numbers actions) v.next) (same_next s command u changes) (settled_counts t u actions v h)
+taken_counts t s event actions v (obeys {command = command} {first = first} {more = more} {u = u} free does h) =
+    both_count s u v first more (done_counts t s command first u does) (settled_counts t u more v h)
 taken_counts t s event actions v (meets {happening = happening} effect h) = followed_counts t s happening actions v h
 
 step_counts : (size : ℕ) (s : State) (input : Input) (reply : Reply) (actions : List Action) (t : State) → Step size s input reply actions t → Counts s actions t

@@ -1,17 +1,16 @@
 -- What a plan for a unit is made from is finite; and the known units are listed and counted in one way.
-use Rattle.std.proofs.Common.{◌≡◌, ◌≢◌, ◌∙◌, ◌↔◌, ℕ, suc, ◌+◌, ◌<◌, ◌≤◌, max, Bool, true, false, true≢false, List, [], ◌∷◌, ◌++◌, length, AllPairs, Contains, Option, Some, None, is_some, refl, sym, ap, subst, inl, inr, arith}
+use Rattle.std.proofs.Common.{◌≡◌, ◌≢◌, ◌∙◌, ◌↔◌, ℕ, suc, max, Bool, true, false, true≢false, List, [], ◌∷◌, ◌++◌, AllPairs, Contains, Option, Some, None, is_some, refl, sym, ap, subst, inl, inr, arith}
 use Rattle.std.proofs.lemmas.Option.{none-some}
 use Rattle.std.specs.FinMap as map
-use Rattle.um_model.specs.Dependencies.{loadable_in, IsKnown, KnowsSoMany, CountsFor, Depends, owner, other}
+use Rattle.um_model.specs.Dependencies.{loadable_in, IsKnown, KnowsSoMany, CountsFor, owner, other}
 use Rattle.um_model.specs.Least.{IsNamedBefore}
-use Rattle.um_model.specs.Machine.{State, IsHeld, IsHeldOr, AreKnownUnits, scene_at, is_served_kind, CannotStart, isnt_found, is_masked, has_bad_setting, is_of_another_kind, is_a_template}
+use Rattle.um_model.specs.Machine.{State, IsHeld, IsHeldOr, AreKnownUnits, scene_at, CannotStart, isnt_found, is_masked, has_bad_setting, is_a_template}
 use Rattle.um_model.specs.Names.{is_template}
 use Rattle.um_model.specs.Reached.{next}
 use Rattle.um_model.specs.Refusals.{Refused}
 use Rattle.um_model.specs.Service.{ByUnit}
 use Rattle.um_model.specs.Tree.{Tree, without_run}
 use Rattle.um_model.specs.Units.{LoadedUnit, Loading, Found, Masked, NotFound, BadSetting, load}
-use Rattle.um_model.specs.declared.dependencies.DependencyKind.{DependencyKind}
 use Rattle.um_model.proofs.AmongLaws.{among_contained, among_left, among_right, contains_among, either_decided, IsListOf, list_of}
 use Rattle.um_model.proofs.CausesLaws.{OneOrNone}
 use Rattle.um_model.proofs.KnownLaws.{depends_or_not, known_list, precedes_or_not}
@@ -23,16 +22,14 @@ use Rattle.um_model.proofs.TimersLaws.{among_keys, names_one_way, same_name}
 -- ---- a unit can't be started for one reason or none
 
 found_starts : (asked : List ℕ) (l : LoadedUnit) → OneOrNone (CannotStart asked (Found l))
-found_starts asked l = by_tests (is_served_kind l.settings.service.kind) (is_template l.name) refl refl
+found_starts asked l = by_test (is_template l.name) refl
   where
-    none : is_served_kind l.settings.service.kind ≡ true → is_template l.name ≡ false → (r : Refused) → ¬ (CannotStart asked (Found l) r)
-    none served single r (is_of_another_kind apart) = true≢false (sym served ∙ apart)
-    none served single r (is_a_template too template) = true≢false (sym template ∙ single)
+    none : is_template l.name ≡ false → (r : Refused) → ¬ (CannotStart asked (Found l) r)
+    none single r (is_a_template template) = true≢false (sym template ∙ single)
 
-    by_tests : (served template : Bool) → is_served_kind l.settings.service.kind ≡ served → is_template l.name ≡ template → OneOrNone (CannotStart asked (Found l))
-    by_tests false template e f = inl (_, is_of_another_kind e)
-    by_tests true true e f = inl (_, is_a_template e f)
-    by_tests true false e f = inr (none e f)
+    by_test : (template : Bool) → is_template l.name ≡ template → OneOrNone (CannotStart asked (Found l))
+    by_test true e = inl (_, is_a_template e)
+    by_test false e = inr (none e)
 
 -- a unit of which this was found can't be started, or can
 pub can_start : (asked : List ℕ) (found : Loading) → OneOrNone (CannotStart asked found)
@@ -46,10 +43,7 @@ pub one_hindrance : (asked : List ℕ) (found : Loading) (r q : Refused) → Can
 one_hindrance asked found r q isnt_found isnt_found = refl
 one_hindrance asked found r q is_masked is_masked = refl
 one_hindrance asked found r q has_bad_setting has_bad_setting = refl
-one_hindrance asked found r q (is_of_another_kind e) (is_of_another_kind f) = refl
-one_hindrance asked found r q (is_of_another_kind e) (is_a_template f g) = absurd (true≢false (sym f ∙ e))
-one_hindrance asked found r q (is_a_template f g) (is_of_another_kind e) = absurd (true≢false (sym f ∙ e))
-one_hindrance asked found r q (is_a_template f g) (is_a_template h k) = refl
+one_hindrance asked found r q (is_a_template e) (is_a_template f) = refl
 
 -- ---- which units count
 
@@ -106,13 +100,13 @@ finite_scene s named =
 -- ---- known units are listed and counted in one way
 
 -- the first of a sorted list is before all others
-first_before : (x : List ℕ) (xs : List (List ℕ)) → AllPairs IsNamedBefore (x ∷ xs) → (z : List ℕ) → Among xs z → IsNamedBefore x z
+pub first_before : (x : List ℕ) (xs : List (List ℕ)) → AllPairs IsNamedBefore (x ∷ xs) → (z : List ℕ) → Among xs z → IsNamedBefore x z
 first_before x xs sorted z later = by_place (contains_among xs z later)
   where
     by_place : Contains xs z → IsNamedBefore x z
     by_place (k, few, at) = subst (IsNamedBefore x) at (sorted 0 (suc k) z (omega arith) (omega arith))
 
-others_sorted : (x : List ℕ) (xs : List (List ℕ)) → AllPairs IsNamedBefore (x ∷ xs) → AllPairs IsNamedBefore xs
+pub others_sorted : (x : List ℕ) (xs : List (List ℕ)) → AllPairs IsNamedBefore (x ∷ xs) → AllPairs IsNamedBefore xs
 others_sorted x xs sorted i j d less few = sorted (suc i) (suc j) d (omega arith) (omega arith)
 
 -- sorted lists of the same names are the same
@@ -143,11 +137,16 @@ one_sorted (x ∷ xs) (y ∷ ys) s t there back =
     back_later : (z : List ℕ) → Among ys z → Among xs z
     back_later z later = behind xs z x (subst (λ a. IsNamedBefore a z) (sym firsts) (first_before y ys t z later)) (back z (inr later))
 
+-- sorted lists of just the names that have a property are the same
+pub one_list_by_name : (Has : List ℕ → Type 0) (xs ys : List (List ℕ)) → ((z : List ℕ) → Contains xs z ↔ Has z) → ((z : List ℕ) → Contains ys z ↔ Has z)
+    → AllPairs IsNamedBefore xs → AllPairs IsNamedBefore ys → xs ≡ ys
+one_list_by_name Has xs ys h k s t =
+    one_sorted xs ys s t (λ z there. among_contained ys z ((k z).1 ((h z).0 (contains_among xs z there))))
+    (λ z there. among_contained xs z ((h z).1 ((k z).0 (contains_among ys z there))))
+
 -- the known units are one list
 pub one_list_of_known : (s : State) (xs ys : List (List ℕ)) → AreKnownUnits s xs → AreKnownUnits s ys → xs ≡ ys
-one_list_of_known s xs ys h k =
-    one_sorted xs ys h.sorted k.sorted (λ z there. among_contained ys z ((k.each z).1 ((h.each z).0 (contains_among xs z there))))
-    (λ z there. among_contained xs z ((h.each z).1 ((k.each z).0 (contains_among ys z there))))
+one_list_of_known s xs ys h k = one_list_by_name (IsKnown s.loaded (IsHeld s)) xs ys h.each k.each h.sorted k.sorted
 
 -- just one number of units is known
 one_number : (tree : Tree) (Extra : List ℕ → Type 0) (n m : ℕ) → KnowsSoMany tree Extra n → KnowsSoMany tree Extra m → n ≡ m

@@ -5,10 +5,10 @@ use Rattle.um_model.specs.Moments.{process_limit}
 use Rattle.um_model.specs.Words.{Command}
 use Rattle.um_model.specs.Substitution.{Variable, AreSubstituted}
 use Rattle.um_model.specs.Limit.{counted}
-use Rattle.um_model.specs.Service.{Action, SpawnProcess, SendSignal}
+use Rattle.um_model.specs.Service.{Action, SpawnProcess, SendSignal, active_state_of}
 use Rattle.um_model.specs.Settings.{ServiceSettings, environment_texts, commands_in, has_place}
 use Rattle.um_model.specs.Ends.{is_clean, is_restart_wanted}
-use Rattle.um_model.specs.Transitions.{deadline_after, has_number, is_live, just, asking, start_ends, start_fails, stop_ends, resting, rests_for_good, awaits_restart, rests, terminates, stop_command, winds_down, next_stop, lacks_number, start_command, start_simple, start_of, starts_if, starts, exits, next_start, start_goes_on, executed, rests_unless_live, noted, without_main, without_control, timed_out, asked, is_well, row, transition, AreStarted, no_command, substituted, as_written, AreActions, nothing, spawn, signals, spawned, live_numbers, has_its_process, HasItsProcess, HasNumber}
+use Rattle.um_model.specs.Transitions.{deadline_after, has_number, is_live, just, asking, start_ends, start_fails, stop_ends, resting, rests_for_good, awaits_restart, rests, terminates, stop_command, winds_down, next_stop, lacks_number, start_command, start_simple, start_of, starts_if, starts, exits, next_start, start_goes_on, executed, rests_unless_live, noted, without_main, without_control, timed_out, asked, unless_failed, forgiven, is_well, row, is_going, transition, AreStarted, no_command, substituted, as_written, AreActions, nothing, spawn, signals, spawned, live_numbers, has_its_process, HasItsProcess, HasNumber}
 use Rattle.um_model.specs.declared.limit.Counted.{Counted}
 use Rattle.um_model.specs.declared.service.End.{End}
 use Rattle.um_model.specs.declared.service.Signal as signal
@@ -26,7 +26,7 @@ use Rattle.um_model.specs.declared.transition.Order.{Order}
 use Rattle.um_model.specs.declared.transition.Order.TheVariants.{Nothing, Spawn, Signal}
 use Rattle.um_model.specs.declared.transition.Process.TheVariants.{Main, Control}
 use Rattle.um_model.specs.declared.transition.UnitEvent.{UnitEvent}
-use Rattle.um_model.specs.declared.transition.UnitEvent.TheVariants.{StartBegins, StopBegins, BoundStop, Executed, MainEnds, ControlEnds, DeadlinePasses}
+use Rattle.um_model.specs.declared.transition.UnitEvent.TheVariants.{StartBegins, StopBegins, BoundStop, Executed, MainEnds, ControlEnds, DeadlinePasses, Reset}
 use Rattle.um_model.specs.declared.transition.UnitKind.{UnitKind}
 use Rattle.um_model.specs.declared.transition.UnitKind.TheVariants.{Simple, Exec, Oneshot, Target}
 use Rattle.um_model.proofs.SubstitutionLaws.{same_substituted, have_substituted}
@@ -69,6 +69,10 @@ noted_control w e false = refl
 
 held_with_main : (sub : SubState) → sub ≡ Start → (v : UnitState) → is_some v.main ≡ true → has_its_process sub v ≡ true
 held_with_main sub is v h = subst (λ x. has_its_process x v ≡ true) (sym is) h
+
+held_unless_failed : (sub : SubState) (w : UnitState) → has_its_process sub w ≡ true → has_its_process (unless_failed sub) w ≡ true
+held_unless_failed Failed w h = refl
+held_unless_failed _ w h = h
 
 -- Known: the numbers that the unit had
 module _ (s : ServiceSettings) (c : Around) (Known : ℕ → Type 0) (Held : Type 0) where
@@ -225,6 +229,8 @@ module _ (s : ServiceSettings) (c : Around) (Known : ℕ → Type 0) (Held : Typ
   row_good : (sub : SubState) (event : UnitEvent) (well : Bool) (u : UnitState) → u.sub ≡ sub → Old u → (Held → HasItsProcess u) → Good (row s c u sub event well)
   row_good sub StartBegins false u is old h = failed (just (record u { result = result.NotLoaded }))
       (just_good (record u { result = result.NotLoaded }) old (λ q. same_held u.sub u (record u { result = result.NotLoaded }) refl refl (h q)))
+  row_good sub Reset well u is old h =
+      just_good (forgiven u) old (λ q. same_held (unless_failed u.sub) u (forgiven u) refl refl (held_unless_failed u.sub u (h q)))
   row_good Running StartBegins true u is old h = started (just u) (just_good u old h)
   row_good Exited StartBegins true u is old h = started (just u) (just_good u old h)
   row_good Active StartBegins true u is old h = started (just u) (just_good u old h)
@@ -264,13 +270,15 @@ module _ (s : ServiceSettings) (c : Around) (Known : ℕ → Type 0) (Held : Typ
   row_good sub event well u is old h = just_good u old h
 
   transition_good : (u : UnitState) (e : UnitEvent) → Old u → (Held → HasItsProcess u) → Good (transition s c u e)
-  transition_good u BoundStop old h = row_good u.sub StopBegins true u refl old h
+  transition_good u BoundStop old h = by_cond Good (is_going (active_state_of u.sub)) (row s c u u.sub StopBegins true) (just u)
+      (λ e. row_good u.sub StopBegins true u refl old h) (λ e. just_good u old h)
   transition_good u StartBegins old h = row_good u.sub StartBegins (is_well s c u StartBegins) u refl old h
   transition_good u StopBegins old h = row_good u.sub StopBegins true u refl old h
   transition_good u Executed old h = row_good u.sub Executed true u refl old h
   transition_good u (MainEnds e) old h = row_good u.sub (MainEnds e) (is_well s c u (MainEnds e)) u refl old h
   transition_good u (ControlEnds e) old h = row_good u.sub (ControlEnds e) (is_well s c u (ControlEnds e)) u refl old h
   transition_good u DeadlinePasses old h = row_good u.sub DeadlinePasses true u refl old h
+  transition_good u Reset old h = row_good u.sub Reset true u refl old h
 
 -- a unit that starts, runs or stops keeps a live process
 pub keeps_process : (s : ServiceSettings) (c : Around) (u : UnitState) (e : UnitEvent) → HasItsProcess u → HasItsProcess (transition s c u e).unit

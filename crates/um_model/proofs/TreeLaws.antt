@@ -130,6 +130,22 @@ pub without_run_same : (tree : Tree) → has_run tree ≡ false → without_run 
 unfolding without_run
 without_run_same tree h = map.same_entries_map (without_run tree) tree (entries-retain_keys tree (λ path. not (is_volatile path)) ∙ all_kept (map.entries tree) h)
 
+-- and one that came out of a boot does so too
+none_kept : (es : List (List ℕ × Entry)) → list_any (λ e. is_volatile e.0) (where_key (slice_cmp nat_cmp) (λ path. not (is_volatile path)) es) ≡ false
+none_kept [] = refl
+none_kept (e ∷ es) = by (is_volatile e.0) refl (none_kept es)
+  where
+    by : (b : Bool) → is_volatile e.0 ≡ b → list_any (λ e. is_volatile e.0) (where_key (slice_cmp nat_cmp) (λ path. not (is_volatile path)) es) ≡ false
+        → list_any (λ e. is_volatile e.0) (cond (not b) (e ∷ where_key (slice_cmp nat_cmp) (λ path. not (is_volatile path)) es) (where_key (slice_cmp nat_cmp) (λ path. not (is_volatile path)) es)) ≡ false
+    by true t rest = rest
+    by false t rest = ap (λ b. b || list_any (λ e. is_volatile e.0) (where_key (slice_cmp nat_cmp) (λ path. not (is_volatile path)) es)) t ∙ rest
+
+pub without_run_twice : (tree : Tree) → without_run (without_run tree) ≡ without_run tree
+unfolding without_run
+without_run_twice tree =
+    without_run_same (without_run tree)
+    (ap (list_any (λ e. is_volatile e.0)) (entries-retain_keys tree (λ path. not (is_volatile path))) ∙ none_kept (map.entries tree))
+
 -- the tree with no entry
 pub empty_is : IsTree map.empty
 empty_is = record {

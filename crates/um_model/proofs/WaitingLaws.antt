@@ -9,7 +9,7 @@ use Rattle.std.proofs.lemmas.Map.Lookups.{exact_bytes}
 use Rattle.std.proofs.lemmas.Map.Views.{tells_apart}
 use Rattle.um_model.proofs.UnitLaws.{jobs_here, jobs_apart}
 use Rattle.um_model.specs.Jobs.{Job, job_of, jobs_of_unit, no_jobs, with_jobs, with_running, unless_running, start_left, jobs_left, BeginsNext}
-use Rattle.um_model.specs.Machine.{State, Carries, Becomes, alone, along, TakesAlong, begins, begun, changed, change_of, IsBefore}
+use Rattle.um_model.specs.Machine.{State, Carries, Becomes, alone, along, TakesAlong, FallDown, Happens, begins, begun, changed, change_of, IsBefore}
 use Rattle.um_model.specs.Service.{ByUnit, Action}
 use Rattle.um_model.specs.declared.jobs.JobKind.{JobKind}
 use Rattle.um_model.specs.declared.jobs.JobKind.TheVariants.{Stop, Start}
@@ -17,8 +17,10 @@ use Rattle.um_model.specs.declared.jobs.JobState.{JobState}
 use Rattle.um_model.specs.declared.jobs.JobState.TheVariants.{Waiting, Running}
 use Rattle.um_model.specs.declared.jobs.UnitJobs.{UnitJobs}
 use Rattle.um_model.specs.declared.transition.Change.{Change}
+use Rattle.um_model.specs.declared.transition.UnitEvent.{UnitEvent}
 use Rattle.um_model.specs.declared.transition.StartJob.{StartJob}
 use Rattle.um_model.specs.declared.transition.StartJob.TheVariants.{Stays, Ends, Fails}
+use Rattle.um_model.proofs.FallLaws.{over_falls}
 use Rattle.um_model.proofs.TimersLaws.{same_name}
 
 abbrev pub waits : Option JobState → ℕ
@@ -111,8 +113,43 @@ becomes_no_more : (s : State) (unit : List ℕ) (c : Change) (v : State) → Bec
 becomes_no_more s unit c v (alone holds) other = omega arith
 becomes_no_more s unit c v (along fails h) other = along_no_more (changed s unit c) unit v h other
 
+as_many : (pending : ByUnit UnitJobs) → NoMoreWait pending pending
+as_many pending unit = omega arith
+
+then_no_more : (first next last : ByUnit UnitJobs) → NoMoreWait next first → NoMoreWait last next → NoMoreWait last first
+then_no_more first next last none still_none unit =
+    let early = none unit in
+    let late = still_none unit in
+    omega arith
+
+changed_no_more : (s : State) (unit : List ℕ) (c : Change) → NoMoreWait (changed s unit c).pending s.pending
+changed_no_more s unit c other =
+    let left = jobs_left c.start c.stop_ends (jobs_of_unit s.pending unit) in
+    elim (same_name other unit) as (λ _. waits_in (jobs_of_unit (with_jobs s.pending unit left) other) ≤ waits_in (jobs_of_unit s.pending other)) [
+      | inl same ↦ subst (λ x. waits_in (jobs_of_unit (with_jobs s.pending unit left) x) ≤ waits_in (jobs_of_unit s.pending x)) (sym same)
+          (subst (λ k. waits_in k ≤ waits_in (jobs_of_unit s.pending unit)) (sym (jobs_here s.pending unit left)) (left_waits c.start c.stop_ends (jobs_of_unit s.pending unit)))
+      | inr apart ↦ subst (λ k. waits_in k ≤ waits_in (jobs_of_unit s.pending other)) (sym (jobs_apart s.pending unit left other apart)) (as_many s.pending other)
+    ]
+
+carried_no_more : (t : ℕ) (unit : List ℕ) (event : UnitEvent) (s : State) (actions : List Action) (v : State) → Carries t unit event s actions v → NoMoreWait v.pending s.pending
+carried_no_more t unit event s actions v h =
+    let c = change_of t s unit event in
+    then_no_more s.pending (changed s unit c).pending v.pending (changed_no_more s unit c) (becomes_no_more s unit c v h.state)
+
+-- nor where units are told to stop at once
+fallen_no_more : (t : ℕ) (units : List (List ℕ)) (s : State) (actions : List Action) (v : State) → FallDown t units s actions v → NoMoreWait v.pending s.pending
+fallen_no_more t =
+    over_falls t (λ s actions v. NoMoreWait v.pending s.pending) (λ s. as_many s.pending) (λ s u v first more. then_no_more s.pending u.pending v.pending) (carried_no_more t)
+
+-- nor after what happens to a unit, beyond that unit's own jobs
+happens_no_more : (t : ℕ) (unit : List ℕ) (event : UnitEvent) (s : State) (actions : List Action) (v : State) → Happens t unit event s actions v
+    → NoMoreWait v.pending (changed s unit (change_of t s unit event)).pending
+happens_no_more t unit event s actions v (Happens.happens {falling = falling} {u = u} {more = more} carries falls later) =
+    let c = change_of t s unit event in
+    then_no_more (changed s unit c).pending u.pending v.pending (becomes_no_more s unit c u carries.state) (fallen_no_more t falling u more v later)
+
 -- a job begins: one fewer waits
-module _ (t : ℕ) (s u : State) (new : List Action) (j : Job) (next : BeginsNext (IsBefore s.loaded) s.units s.pending j) (happens : Carries t j.unit (begins j.kind) (begun s j) new u) where
+module _ (t : ℕ) (s u : State) (new : List Action) (j : Job) (next : BeginsNext (IsBefore s.loaded) s.units s.pending j) (happens : Happens t j.unit (begins j.kind) (begun s j) new u) where
   now_left : UnitJobs
   now_left = jobs_left (change_of t (begun s j) j.unit (begins j.kind)).start (change_of t (begun s j) j.unit (begins j.kind)).stop_ends (jobs_of_unit (begun s j).pending j.unit)
 
@@ -122,7 +159,7 @@ module _ (t : ℕ) (s u : State) (new : List Action) (j : Job) (next : BeginsNex
 
   no_more_later : NoMoreWait u.pending at_first
   unfolding at_first now_left
-  no_more_later = becomes_no_more (begun s j) j.unit (change_of t (begun s j) j.unit (begins j.kind)) u happens.state
+  no_more_later = happens_no_more t j.unit (begins j.kind) (begun s j) new u happens
 
   here : jobs_of_unit at_first j.unit ≡ now_left
   unfolding at_first

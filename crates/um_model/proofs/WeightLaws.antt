@@ -1,16 +1,19 @@
 -- What a tree weighs is bounded: a path is short, and so is what stands at it.
-use Rattle.std.proofs.Common.{◌≡◌, ℕ, ◌+◌, ◌*◌, ◌≤◌, ◌^◌, nat_le, Bool, true, false, not, ◌&&◌, List, [], ◌∷◌, ◌++◌, length, codes, Option, Some, None, is_some, sym, ap, ◌∙◌, refl, subst, map as each, length-append, lit≤, arith}
+use Rattle.std.proofs.Common.{◌≡◌, ℕ, ◌+◌, ◌*◌, ◌≤◌, ◌^◌, nat_le, Bool, true, false, not, cond, ◌&&◌, List, [], ◌∷◌, ◌++◌, length, codes, Option, Some, None, is_some, sym, ap, ◌∙◌, refl, subst, map as each, length-append, lit≤, arith}
+use Rattle.std.specs.Cmp.Lexicographic.{slice_cmp}
 use Rattle.std.specs.FinMap as map
+use Rattle.std.specs.FinMap.Entries.{where_key}
 use Rattle.std.specs.List.{sum, sum_by, list_all}
+use Rattle.std.specs.Ordering.{nat_cmp}
 use Rattle.std.specs.Str.{bytes_eq}
 use Rattle.std.proofs.lemmas.Bool.{and_parts, leb-true}
 use Rattle.std.proofs.lemmas.List.Sums.{sum-map, sum_by-cons}
 use Rattle.um_model.specs.Names.{is_unit_name, is_template, name_limit, suffix_of, stem_of, is_stem}
-use Rattle.um_model.specs.Tree.{layer_text, Place, Unit, DropIn, Wants, Requires, place_text, PathParts, IsPathOf, path_parts, path_text, is_plain_name, is_drop_in_name, is_drop_in_byte, is_fit_place, drop_in_limit, Entry, File, Link, Tree, IsTree, is_fit_entry, is_fit_target, may_lead_to, target_limit, text_limit, entry_limit}
+use Rattle.um_model.specs.Tree.{layer_text, Place, Unit, DropIn, Wants, Requires, place_text, PathParts, IsPathOf, path_parts, path_text, is_plain_name, is_drop_in_name, is_drop_in_byte, is_fit_place, drop_in_limit, Entry, File, Link, Tree, IsTree, is_fit_entry, is_fit_target, may_lead_to, target_limit, text_limit, entry_limit, is_volatile, without_run}
 use Rattle.um_model.specs.declared.tree.Layer.{Layer}
 use Rattle.um_model.specs.declared.tree.Layer.TheVariants.{Etc, Run, Lib}
 use Rattle.um_model.specs.Weight.{text_of_entry, entry_weight, tree_weight}
-use Rattle.um_model.proofs.TreeLaws.{entries-fit, path_of_parts, fit-name}
+use Rattle.um_model.proofs.TreeLaws.{entries-fit, entries-retain_keys, path_of_parts, fit-name}
 
 short_name : (text : List ℕ) → is_unit_name text ≡ true → length text ≤ 255
 unfolding is_unit_name
@@ -96,3 +99,24 @@ tree_light tree is =
     let few = is.few in
     let long : map.len tree ≡ length (map.entries tree) = map.len-entries tree in
     omega arith
+
+-- the entries that a test of their paths keeps weigh no more than all
+kept_light : (p : List ℕ → Bool) (es : List (List ℕ × Entry)) → sum_by weight_by_entry (where_key (slice_cmp nat_cmp) p es) ≤ sum_by weight_by_entry es
+kept_light p [] = lit≤ tt
+kept_light p (e ∷ es) = by (p e.0) (kept_light p es)
+  where
+    by : (b : Bool) → sum_by weight_by_entry (where_key (slice_cmp nat_cmp) p es) ≤ sum_by weight_by_entry es
+        → sum_by weight_by_entry (cond b (e ∷ where_key (slice_cmp nat_cmp) p es) (where_key (slice_cmp nat_cmp) p es)) ≤ sum_by weight_by_entry (e ∷ es)
+    by true rest = omega (arith, sum_by-cons weight_by_entry e es, sum_by-cons weight_by_entry e (where_key (slice_cmp nat_cmp) p es))
+    by false rest = omega (arith, sum_by-cons weight_by_entry e es)
+
+-- so the tree that comes out of a boot
+pub without_run_light : (tree : Tree) → tree_weight (without_run tree) ≤ tree_weight tree
+unfolding without_run
+without_run_light tree =
+    let p : List ℕ → Bool = λ path. not (is_volatile path) in
+    let less = kept_light p (map.entries tree) in
+    let kept = ap (sum_by weight_by_entry) (entries-retain_keys tree p) in
+    let before = sum-map weight_by_entry (map.entries tree) in
+    let after = sum-map weight_by_entry (map.entries (map.retain_keys tree p)) in
+    omega (arith, less, kept, before, after)

@@ -31,6 +31,8 @@ pub mod Plan
 pub mod Weight
 pub mod Machine
 pub mod Live
+pub mod Finished
+pub mod Few
 pub mod Numbers
 pub mod Requests
 pub mod Replies

@@ -228,8 +228,8 @@ row_of verb.Actions = row (codes "actions") in_memory [] [] (plainly OfActions)
 abbrev pub verbs : List Verb
 verbs =
     verb.PutFile ∷ verb.PutLink ∷ verb.Remove ∷ verb.DaemonReload ∷ verb.Start ∷ verb.Stop ∷ verb.Restart ∷ verb.TryRestart ∷ verb.Cancel
-    ∷ verb.ResetFailed ∷ verb.Enable ∷ verb.Disable ∷ verb.Mask ∷ verb.Unmask ∷ verb.Show ∷ verb.IsActive ∷ verb.IsFailed ∷ verb.IsEnabled ∷ verb.Cat ∷ verb.ListUnits ∷ verb.ListJobs
-    ∷ verb.Tick ∷ verb.End ∷ verb.Executed ∷ verb.Actions ∷ []
+    ∷ verb.ResetFailed ∷ verb.Enable ∷ verb.Disable ∷ verb.Mask ∷ verb.Unmask ∷ verb.Show ∷ verb.IsActive ∷ verb.IsFailed ∷ verb.IsEnabled
+    ∷ verb.Cat ∷ verb.ListUnits ∷ verb.ListJobs ∷ verb.Tick ∷ verb.End ∷ verb.Executed ∷ verb.Actions ∷ []
 
 -- ---- a request by its row
 
