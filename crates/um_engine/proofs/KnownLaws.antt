@@ -6,13 +6,15 @@ use Rattle.std.specs.Ordering.{nat_cmp, eq_by_cmp}
 use Rattle.std.specs.Prelude.{IfOk, MatchOption, slice_get}
 use Rattle.std.proofs.lemmas.Option.{get_or_from_slice_get}
 use Rattle.um_graph.proofs.NamedLaws.{got_within}
-use Rattle.um_model.specs.Dependencies.{CountsFor, IsKnown, extra}
+use Rattle.um_model.specs.Dependencies.{CountsFor, IsKnown, KnowsTooMany, extra}
+use Rattle.um_model.specs.Few.{IsFew}
 use Rattle.um_model.specs.Jobs.{cancelled, has_job, jobs_of_unit, no_jobs, with_jobs}
 use Rattle.um_model.specs.Machine.{State, IsHeld, IsHeldOr, IsTooHeavy, PutFile, PutLink, Remove, Cancel, Changes, puts, links, removes, cancels, unit_asked, with_plan}
 use Rattle.um_model.specs.Reached.{first}
 use Rattle.um_model.specs.Tree.{Tree, has_run, without_run}
 use Rattle.um_model.specs.Service.{ByUnit}
 use Rattle.um_model.specs.Weight.{weight_of}
+use Rattle.um_model.proofs.KnownLaws.{more_known}
 use Rattle.um_model.proofs.SceneLaws.{one_count}
 use Rattle.um_model.specs.declared.jobs.UnitJobs.{UnitJobs}
 use Rattle.um_model.proofs.TimersLaws.{same_name}
@@ -45,6 +47,17 @@ serves_for k s h = record { extra = k.extra; graph = h.made.graph; of = h.made.o
 -- and stays so where the graph serves and the same tree is loaded
 pub knows_still : (k : KnownView) (s u : State) → KnowsFor k s → u.loaded ≡ s.loaded → ((unit : List ℕ) → IsHeld u unit → Contains k.graph.names unit) → KnowsFor k u
 knows_still k s u h same held = record { made = subst (λ tree. IsGraphFor tree (Contains k.extra) k.graph) (sym same) h.made; held = held }
+
+-- where no entry stands under `run/`, no more units are known for the state than may be
+pub few_known : (k : KnownView) (s : State) → KnowsFor k s → has_run s.loaded ≡ false → IsFew s
+few_known k s knows none r crowded = knows.made.few (inl (by_tree crowded.many))
+  where
+    more : KnowsTooMany s.loaded (IsHeld s) → KnowsTooMany s.loaded (Contains k.extra)
+    more = more_known s.loaded (IsHeld s) (Contains k.extra) (λ x is. (knows.made.of.known x).0 (knows.held x is))
+
+    by_tree : KnowsTooMany s.loaded (IsHeld s) ⊎ KnowsTooMany (without_run s.loaded) (IsHeld s) → KnowsTooMany s.loaded (Contains k.extra)
+    by_tree (inl many) = more many
+    by_tree (inr many) = more (subst (λ tree. KnowsTooMany tree (IsHeld s)) (without_run_same s.loaded none) many)
 
 pub knows_less : (k : KnownView) (s u : State) → KnowsFor k s → HoldsNoMore s u → KnowsFor k u
 knows_less k s u h less = knows_still k s u h less.loaded (λ x held. h.held x (less.held x held))
