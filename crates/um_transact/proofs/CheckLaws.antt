@@ -32,12 +32,8 @@ pub none_named : (names : List (List ℕ)) (u : ℕ) → slice_get names u ≡ N
 none_named names u e = sym (unwrap_or-slice_get names u []) ∙ ap (λ o. unwrap_or o []) e
 
 -- ---- why a unit can't be started
-pub of_another_kind : (asked : List ℕ) (l : LoadedUnit) (r : Refused) → machine.is_served_kind l.settings.service.kind ≡ false → r ≡ bad_setting l.name (codes "type") → CannotStart asked (Found l) r
-of_another_kind asked l r kind is = subst (CannotStart asked (Found l)) (sym is) (machine.is_of_another_kind kind)
-
-pub a_template : (asked : List ℕ) (l : LoadedUnit) (r : Refused) → machine.is_served_kind l.settings.service.kind ≡ true → is_template l.name ≡ true
-    → r ≡ bad_setting l.name (codes "template") → CannotStart asked (Found l) r
-a_template asked l r kind template is = subst (CannotStart asked (Found l)) (sym is) (machine.is_a_template kind template)
+pub a_template : (asked : List ℕ) (l : LoadedUnit) (r : Refused) → is_template l.name ≡ true → r ≡ bad_setting l.name (codes "template") → CannotStart asked (Found l) r
+a_template asked l r template is = subst (CannotStart asked (Found l)) (sym is) (machine.is_a_template template)
 
 pub nowhere : (asked : List ℕ) (r : Refused) → r ≡ not_found asked → CannotStart asked NotFound r
 nowhere asked r is = subst (CannotStart asked NotFound) (sym is) machine.isnt_found
