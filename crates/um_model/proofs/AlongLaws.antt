@@ -1,17 +1,16 @@
 -- What a failed start takes along is decided, and so one state is left after it.
-use Rattle.std.proofs.Common.{◌≡◌, ◌⊎◌, ◌∙◌, ℕ, List, [], ◌∷◌, Some, refl, sym, inl, inr}
+use Rattle.std.proofs.Common.{◌≡◌, ◌∙◌, ℕ, List, [], ◌∷◌, Some, refl, sym, inl, inr}
 use Rattle.std.proofs.lemmas.Option.{none-some}
 use Rattle.std.specs.FinMap as map
 use Rattle.um_model.specs.Dependencies.{Depends, extra}
 use Rattle.um_model.specs.Jobs.{jobs_of_unit, no_jobs, start_job}
 use Rattle.um_model.specs.Machine.{State, IsBefore, NeedsStart, IsTakenAlong, TakesAlong}
 use Rattle.um_model.specs.Reached.{first, next}
-use Rattle.um_model.specs.Service.{ByUnit, dead_unit, state_of_unit}
+use Rattle.um_model.specs.Service.{dead_unit, state_of_unit}
 use Rattle.um_model.specs.Tree.{Tree}
 use Rattle.um_model.specs.declared.dependencies.DependencyKind.{DependencyKind}
 use Rattle.um_model.specs.declared.dependencies.DependencyKind.TheVariants.{Requires, BindsTo}
 use Rattle.um_model.specs.declared.jobs.JobState.TheVariants.{Waiting}
-use Rattle.um_model.specs.declared.jobs.UnitJobs.{UnitJobs}
 use Rattle.um_model.proofs.AmongLaws.{both_decided, either_decided, decided_as, IsListOf}
 use Rattle.um_model.proofs.CycleLaws.{held}
 use Rattle.um_model.proofs.KnownLaws.{depends_or_not, precedes_or_not}
@@ -24,7 +23,7 @@ use Rattle.um_model.proofs.UnitLaws.{same_tidy}
 
 -- ---- whatever else is known, two units are
 
-abbrev Everything : List ℕ → Type 0
+abbrev pub Everything : List ℕ → Type 0
 Everything unit = Unit {0}
 
 -- the two units alone
@@ -42,7 +41,7 @@ before_or_not tree x y =
     (precedes_or_not tree (These x y) (x ∷ y ∷ []) (these_listed x y) x y)
 
 -- one unit depends on another in this kind, or not
-depends_by_all : (tree : Tree) (kind : DependencyKind) (x y : List ℕ) → IsDecided (Depends tree Everything kind x y)
+pub depends_by_all : (tree : Tree) (kind : DependencyKind) (x y : List ℕ) → IsDecided (Depends tree Everything kind x y)
 depends_by_all tree kind x y =
     decided_as (depends_anyhow tree (These x y) Everything kind x y (first (extra tt)) (first (extra tt)))
     (depends_anyhow tree Everything (These x y) kind x y (first (extra (inl refl))) (first (extra (inr (inl refl)))))

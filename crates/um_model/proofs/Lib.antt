@@ -14,6 +14,7 @@ pub mod MachineLaws
 pub mod UnitLaws
 pub mod FitLaws
 pub mod FallLaws
+pub mod FallTotal
 pub mod FreeLaws
 pub mod LiveLaws
 pub mod NumbersLaws
@@ -31,6 +32,7 @@ pub mod FirstByName
 pub mod ScanLaws
 pub mod DeadlinesLaws
 pub mod KeepsLaws
+pub mod ByNameLaws
 pub mod BytesLaws
 pub mod TransitionLaws
 pub mod StoreLaws

@@ -154,7 +154,7 @@ module _ {A : Type 0} (same_value : (a b : A) → IsDecided (a ≡ b)) where
     | inr apart ↦ inr (λ is. apart (ap map.entries is))
   ]
 
-same_jobs : (a b : UnitJobs) → IsDecided (a ≡ b)
+pub same_jobs : (a b : UnitJobs) → IsDecided (a ≡ b)
 same_jobs a b = by_parts (same_option same_job_state a.stop b.stop) (same_option same_job_state a.start b.start)
   where
     by_parts : IsDecided (a.stop ≡ b.stop) → IsDecided (a.start ≡ b.start) → IsDecided (a ≡ b)

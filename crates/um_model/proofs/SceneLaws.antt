@@ -1,8 +1,8 @@
 -- What a plan for a unit is made from is finite; and the known units are listed and counted in one way.
-use Rattle.std.proofs.Common.{◌≡◌, ◌≢◌, ◌∙◌, ◌↔◌, ℕ, suc, ◌+◌, ◌<◌, ◌≤◌, max, Bool, true, false, true≢false, List, [], ◌∷◌, ◌++◌, length, AllPairs, Contains, Option, Some, None, is_some, refl, sym, ap, subst, inl, inr, arith}
+use Rattle.std.proofs.Common.{◌≡◌, ◌≢◌, ◌∙◌, ◌↔◌, ℕ, suc, max, Bool, true, false, true≢false, List, [], ◌∷◌, ◌++◌, AllPairs, Contains, Option, Some, None, is_some, refl, sym, ap, subst, inl, inr, arith}
 use Rattle.std.proofs.lemmas.Option.{none-some}
 use Rattle.std.specs.FinMap as map
-use Rattle.um_model.specs.Dependencies.{loadable_in, IsKnown, KnowsSoMany, CountsFor, Depends, owner, other}
+use Rattle.um_model.specs.Dependencies.{loadable_in, IsKnown, KnowsSoMany, CountsFor, owner, other}
 use Rattle.um_model.specs.Least.{IsNamedBefore}
 use Rattle.um_model.specs.Machine.{State, IsHeld, IsHeldOr, AreKnownUnits, scene_at, CannotStart, isnt_found, is_masked, has_bad_setting, is_a_template}
 use Rattle.um_model.specs.Names.{is_template}
@@ -11,7 +11,6 @@ use Rattle.um_model.specs.Refusals.{Refused}
 use Rattle.um_model.specs.Service.{ByUnit}
 use Rattle.um_model.specs.Tree.{Tree, without_run}
 use Rattle.um_model.specs.Units.{LoadedUnit, Loading, Found, Masked, NotFound, BadSetting, load}
-use Rattle.um_model.specs.declared.dependencies.DependencyKind.{DependencyKind}
 use Rattle.um_model.proofs.AmongLaws.{among_contained, among_left, among_right, contains_among, either_decided, IsListOf, list_of}
 use Rattle.um_model.proofs.CausesLaws.{OneOrNone}
 use Rattle.um_model.proofs.KnownLaws.{depends_or_not, known_list, precedes_or_not}
@@ -101,13 +100,13 @@ finite_scene s named =
 -- ---- known units are listed and counted in one way
 
 -- the first of a sorted list is before all others
-first_before : (x : List ℕ) (xs : List (List ℕ)) → AllPairs IsNamedBefore (x ∷ xs) → (z : List ℕ) → Among xs z → IsNamedBefore x z
+pub first_before : (x : List ℕ) (xs : List (List ℕ)) → AllPairs IsNamedBefore (x ∷ xs) → (z : List ℕ) → Among xs z → IsNamedBefore x z
 first_before x xs sorted z later = by_place (contains_among xs z later)
   where
     by_place : Contains xs z → IsNamedBefore x z
     by_place (k, few, at) = subst (IsNamedBefore x) at (sorted 0 (suc k) z (omega arith) (omega arith))
 
-others_sorted : (x : List ℕ) (xs : List (List ℕ)) → AllPairs IsNamedBefore (x ∷ xs) → AllPairs IsNamedBefore xs
+pub others_sorted : (x : List ℕ) (xs : List (List ℕ)) → AllPairs IsNamedBefore (x ∷ xs) → AllPairs IsNamedBefore xs
 others_sorted x xs sorted i j d less few = sorted (suc i) (suc j) d (omega arith) (omega arith)
 
 -- sorted lists of the same names are the same

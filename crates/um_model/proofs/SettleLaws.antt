@@ -8,10 +8,12 @@ use Rattle.std.proofs.lemmas.Bool.{cases_lt}
 use Rattle.std.proofs.lemmas.Map.Lookups.{exact_bytes}
 use Rattle.std.proofs.lemmas.Map.Views.{tells_apart}
 use Rattle.std.proofs.lemmas.Option.{none-some}
-use Rattle.um_model.specs.Service.{Action, ByUnit, active_state_of, dead_unit, state_of_unit}
-use Rattle.um_model.specs.Jobs.{Job, stop_job, start_job, jobs_of_unit, state_of_job, ComesBefore, IsReady, IsToldBefore, by_name, stop_first, BeginsNext}
+use Rattle.um_model.specs.Service.{ByUnit, active_state_of, dead_unit, state_of_unit}
+use Rattle.um_model.specs.Jobs.{Job, no_jobs, stop_job, start_job, jobs_of_unit, state_of_job, ComesBefore, IsReady, IsToldBefore, by_name, stop_first, BeginsNext}
+use Rattle.um_model.specs.Order.{IsCycle}
+use Rattle.um_model.specs.Plan.{AreFree}
 use Rattle.um_model.specs.Timers.{Timers, IsDueFirst}
-use Rattle.um_model.specs.Machine.{State, fails_start, Becomes, alone, along, Carries, change_of, changed, acting_in, around, begins, begun, IsBefore, IsStill, Settles, begins_next, AreDeadlines, Fires, none_due, fires, passes}
+use Rattle.um_model.specs.Machine.{State, begins, begun, IsBefore, IsStill, Settles, begins_next, AreReset, all_reset, reset_next, AreDeadlines, with_start_alone, Restarts, puts, has_a_job, closes_a_circle, awaits_restart, ComesDue, restarts, Fires, none_due, fires}
 use Rattle.um_model.specs.declared.jobs.JobKind.{JobKind}
 use Rattle.um_model.specs.declared.jobs.JobKind.TheVariants.{Stop, Start}
 use Rattle.um_model.specs.declared.jobs.JobState.TheVariants.{Waiting}
@@ -19,19 +21,16 @@ use Rattle.um_model.specs.declared.jobs.UnitJobs.{UnitJobs}
 use Rattle.um_model.specs.declared.service.ActiveState.{ActiveState}
 use Rattle.um_model.specs.declared.service.ActiveState.TheVariants.{Inactive, Activating, Active, Deactivating, Failed}
 use Rattle.um_model.specs.declared.service.UnitState.{UnitState}
-use Rattle.um_model.specs.declared.transition.Change.{Change}
-use Rattle.um_model.specs.declared.transition.UnitEvent.{UnitEvent}
-use Rattle.um_model.specs.declared.transition.UnitEvent.TheVariants.{DeadlinePasses}
+use Rattle.um_model.specs.declared.transition.UnitEvent.TheVariants.{DeadlinePasses, Reset}
 use Rattle.um_model.proofs.AlongLaws.{before_or_not}
-use Rattle.um_model.proofs.AlongTotal.{an_along}
 use Rattle.um_model.proofs.AmongLaws.{any_decided, both_decided, decided_as, not_decided}
-use Rattle.um_model.proofs.CycleLaws.{among_pending, comes_or_not, jobs_of}
+use Rattle.um_model.proofs.CycleLaws.{among_pending, comes_or_not, jobs_cycle_or_none, jobs_of}
 use Rattle.um_model.proofs.DeadlinesLaws.{with_deadline, get_with, or_else}
+use Rattle.um_model.proofs.FallTotal.{HasOutcome, a_happening}
 use Rattle.um_model.proofs.LeastLaws.{IsDecided, a_least}
 use Rattle.um_model.proofs.MachineLaws.{same_job}
-use Rattle.um_model.proofs.SameUnits.{same_job_state}
+use Rattle.um_model.proofs.SameUnits.{same_job_state, same_jobs}
 use Rattle.um_model.proofs.TimersLaws.{same_name, same_number, same_option, one_named_first, named_trans, first_timer, first_is_late, fewer_timers}
-use Rattle.um_model.proofs.TransitionLaws.{have_actions}
 use Rattle.um_model.proofs.WaitingLaws.{NoMoreWait, waiting, begun_fewer, begun_no_more}
 
 -- ---- a job is ready or not
@@ -101,34 +100,12 @@ still_or_next s =
 
 -- ---- settling ends
 
--- some outcome, with its actions
-abbrev pub HasOutcome : (List Action → State → Type 0) → Type 0
-HasOutcome Is = (actions : List Action) × (v : State) × Is actions v
-
--- a change of a unit has its state
-a_becoming : (s : State) (unit : List ℕ) (c : Change) → (v : State) × Becomes s unit c v
-a_becoming s unit c = by_test (fails_start c.start (jobs_of_unit s.pending unit).start) refl
-  where
-    by_test : (fails : Bool) → fails_start c.start (jobs_of_unit s.pending unit).start ≡ fails → (v : State) × Becomes s unit c v
-    by_test false e = (changed s unit c, alone e)
-    by_test true e =
-        let taken = an_along (changed s unit c) unit in
-        (taken.0, along e taken.1)
-
--- what happens to a unit is carried out
-pub a_carrying : (t : ℕ) (unit : List ℕ) (event : UnitEvent) (s : State) → HasOutcome (Carries t unit event s)
-a_carrying t unit event s =
-    let c = change_of t s unit event in
-    let asked = have_actions (acting_in s.loaded unit).settings (around t s unit) c.unit c.order in
-    let then = a_becoming s unit c in
-    (asked.0, then.0, record { state = then.1; asked = asked.1 })
-
 -- a job begins, and then the others
 settles_by : (t : ℕ) (first : ByUnit UnitJobs) (s : State) → NoMoreWait s.pending first
     → ((u : State) → NoMoreWait u.pending first → waiting (map.keys first) u.pending < waiting (map.keys first) s.pending → HasOutcome (Settles t u))
     → (j : Job) → BeginsNext (IsBefore s.loaded) s.units s.pending j → HasOutcome (Settles t s)
 settles_by t first s none later j next =
-    let now = a_carrying t j.unit (begins j.kind) (begun s j) in
+    let now = a_happening t j.unit (begins j.kind) (begun s j) in
     let no_more = begun_no_more t s now.1 now.0 j next now.2 in
     let more = later now.1 (λ unit. let a = no_more unit in let b = none unit in omega arith) (begun_fewer t s now.1 now.0 j next now.2 first none) in
     (now.0 ++ more.0, more.1, begins_next j next now.2 more.2)
@@ -152,18 +129,44 @@ a_settling t s = settles_within (waiting (map.keys s.pending) s.pending) t s.pen
 
 -- ---- firing ends
 
+-- a start of the unit is put, or none is
+a_restart : (s : State) (unit : List ℕ) → (u : State) × Restarts s unit u
+a_restart s unit = by_jobs (same_jobs (jobs_of_unit s.pending unit) no_jobs)
+  where
+    by_circle : jobs_of_unit s.pending unit ≡ no_jobs
+        → ((cycle : List Job) × IsCycle (ComesBefore (IsBefore s.loaded) (with_start_alone s unit).pending) cycle) ⊎ AreFree (IsBefore s.loaded) (with_start_alone s unit).pending
+        → (u : State) × Restarts s unit u
+    by_circle none (inl (cycle, closed)) = (s, closes_a_circle cycle none closed)
+    by_circle none (inr free) = (with_start_alone s unit, puts none free)
+
+    by_jobs : IsDecided (jobs_of_unit s.pending unit ≡ no_jobs) → (u : State) × Restarts s unit u
+    by_jobs (inl none) = by_circle none (jobs_cycle_or_none (IsBefore s.loaded) (before_or_not s.loaded) (with_start_alone s unit).pending)
+    by_jobs (inr some) = (s, has_a_job some)
+
+-- what comes of a deadline is carried out
+a_due : (t : ℕ) (s : State) (unit : List ℕ) → HasOutcome (ComesDue t s unit)
+a_due t s unit = by_test (awaits_restart (state_of_unit s.units unit).sub) refl
+  where
+    by_test : (awaits : Bool) → awaits_restart (state_of_unit s.units unit).sub ≡ awaits → HasOutcome (ComesDue t s unit)
+    by_test true e =
+        let now = a_restart s unit in
+        ([], now.0, restarts e now.1)
+    by_test false e =
+        let now = a_happening t unit DeadlinePasses s in
+        (now.0, now.1, ComesDue.passes e now.2)
+
 -- a timer that is due fires, or has changed by now, and then the others
 fires_by : (t : ℕ) (timers : Timers) (s : State) → ((later : Timers) (u : State) → map.len later < map.len timers → HasOutcome (Fires t later u))
     → (deadline : ℕ) (unit : List ℕ) → IsDueFirst timers deadline unit → deadline ≤ t → HasOutcome (Fires t timers s)
 fires_by t timers s later deadline unit due low = elim (same_option same_number (state_of_unit s.units unit).deadline (Some deadline)) as (λ _. HasOutcome (Fires t timers s)) [
   | inl stands ↦
-      let now = a_carrying t unit DeadlinePasses s in
+      let now = a_due t s unit in
       let next = a_settling t now.1 in
       let more = later (map.remove timers unit) next.1 fewer in
       (now.0 ++ (next.0 ++ more.0), more.1, fires deadline unit due low stands now.2 next.2 more.2)
   | inr gone ↦
       let more = later (map.remove timers unit) s fewer in
-      (more.0, more.1, passes deadline unit due low gone more.2)
+      (more.0, more.1, Fires.passes deadline unit due low gone more.2)
 ]
   where
     fewer : map.len (map.remove timers unit) < map.len timers
@@ -186,6 +189,16 @@ fires_within (suc n) t timers s few = fires_or t timers s (λ later u less. fire
 -- of the timers those that are due fire
 pub a_firing : (t : ℕ) (timers : Timers) (s : State) → HasOutcome (Fires t timers s)
 a_firing t timers s = fires_within (map.len timers) t timers s (omega arith)
+
+-- ---- failures are forgotten
+
+-- of these units, one after another
+pub a_reset : (t : ℕ) (units : List (List ℕ)) (s : State) → HasOutcome (AreReset t units s)
+a_reset t [] s = ([], s, all_reset)
+a_reset t (unit ∷ units) s =
+    let now = a_happening t unit Reset s in
+    let more = a_reset t units now.1 in
+    (now.0 ++ more.0, more.1, reset_next now.2 more.2)
 
 -- ---- the deadlines of units are a map
 

@@ -1,5 +1,5 @@
 -- Each state and input has a step: a command is refused or changes the state, and what happens has an effect or none.
-use Rattle.std.proofs.Common.{ℕ, ◌≡◌, ◌≢◌, ◌⊎◌, ◌∙◌, Bool, true, false, true≢false, List, [], ◌∷◌, Option, Some, None, Result, Ok, Err, refl, sym, ap, subst, inl, inr}
+use Rattle.std.proofs.Common.{ℕ, ◌≡◌, ◌≢◌, ◌⊎◌, ◌∙◌, Bool, true, false, true≢false, List, [], ◌∷◌, ◌++◌, Option, Some, None, Result, Ok, Err, refl, sym, ap, subst, inl, inr}
 use Rattle.std.proofs.lemmas.Option.{none-some, same_Some}
 use Rattle.std.specs.FinMap as map
 use Rattle.um_model.specs.Least.{IsNamedBefore}
@@ -9,8 +9,9 @@ use Rattle.um_model.specs.Install.{Installs, RefusesInstall}
 use Rattle.um_model.specs.Units.{load}
 use Rattle.um_model.specs.Service.{Action, ByUnit, state_of_unit}
 use Rattle.um_model.specs.Plan.{IsPlan, CausesOfPlan}
+use Rattle.um_model.specs.Ends.{is_starting, may_be_asked}
 use Rattle.um_model.specs.Transitions.{HasNumber}
-use Rattle.um_model.specs.Machine.{State, Command, PutFile, PutLink, Remove, DaemonReload, ForUnit, Cancel, Install, Happening, ProcessEnded, Tick, Event, Commanded, Happened, Input, Reply, Done, Refusal, IsHeld, IsHeldOr, IsBefore, IsProcessOf, IsOver, end_of, Follows, ends, ticks, HasNoEffect, is_over, is_idle, is_found, active_asked, demand_of, wants_it_there, jobs_asked, unit_asked, scene_at, IsCrowded, IsNotThere, IsMissing, HasNoPlan, has_waiting, HasNoneWaiting, CausesOfCancel, CausesOf, CausesOfLoad, Refuses, puts_none, links_none, removes_none, plans_none, cancels_none, reloads_none, installs_none, Changes, puts, links, removes, reloads, plans, demands_nothing, cancels, installs, Takes, obeys, meets, moment_of, HasNoRoom, Step, refused, crowded_out, idle, taken}
+use Rattle.um_model.specs.Machine.{State, Command, PutFile, PutLink, Remove, DaemonReload, ForUnit, Cancel, ResetFailed, Install, Happening, ProcessEnded, ProcessExecuted, Tick, Booted, Event, Commanded, Happened, Input, Reply, Done, Refusal, IsHeld, IsHeldOr, IsBefore, IsProcessOf, IsOver, end_of, acting_in, AwaitsReport, booted, Follows, ends, reports, ticks, boots, HasNoEffect, is_over, isnt_awaited, is_idle, is_known, is_found, active_asked, demand_of, wants_it_there, jobs_asked, unit_asked, scene_at, IsCrowded, IsNotThere, IsMissing, HasNoPlan, has_waiting, HasNoneWaiting, CausesOfCancel, CausesOf, CausesOfLoad, Refuses, puts_none, links_none, removes_none, plans_none, cancels_none, resets_none, reloads_none, installs_none, Changes, puts, links, removes, reloads, plans, demands_nothing, cancels, installs, units_reset, Does, changes, resets, Takes, obeys, meets, moment_of, HasNoRoom, Step, refused, crowded_out, idle, taken}
 use Rattle.um_model.specs.declared.commands.JobMode.{JobMode}
 use Rattle.um_model.specs.declared.commands.UnitVerb.{UnitVerb}
 use Rattle.um_model.specs.declared.dependencies.Demand.{Demand}
@@ -18,18 +19,21 @@ use Rattle.um_model.specs.declared.install.InstallVerb.{InstallVerb}
 use Rattle.um_model.specs.declared.jobs.UnitJobs.{UnitJobs}
 use Rattle.um_model.specs.declared.service.End.{End}
 use Rattle.um_model.specs.declared.service.UnitState.{UnitState}
+use Rattle.um_model.specs.declared.transition.UnitEvent.TheVariants.{Executed}
 use Rattle.um_model.proofs.AlongLaws.{before_or_not}
+use Rattle.um_model.proofs.AmongLaws.{both_decided, decided_as, passes_or_not}
 use Rattle.um_model.proofs.CausesLaws.{OneOrNone, first_or_none}
 use Rattle.um_model.proofs.CrowdedLaws.{crowded_or_none, heavy_or_not}
+use Rattle.um_model.proofs.FallTotal.{HasOutcome, a_happening}
 use Rattle.um_model.proofs.InstallLaws.{an_install, one_install}
 use Rattle.um_model.proofs.KeepsLaws.{fires_keeps, same_state, Keeps}
 use Rattle.um_model.proofs.LeastLaws.{IsDecided, a_least}
-use Rattle.um_model.proofs.MachineLaws.{tick_has_effect, end_has_effect}
+use Rattle.um_model.proofs.MachineLaws.{one_process, tick_has_effect, end_has_effect, report_has_effect, boot_has_effect}
 use Rattle.um_model.proofs.PlannedLaws.{IsFinite, a_plan, cause_or_none, cycle_or_no_refusal, one_plan}
 use Rattle.um_model.proofs.SameUnits.{same_units, same_pending}
 use Rattle.um_model.proofs.ScanLaws.{held_with_number}
 use Rattle.um_model.proofs.SceneLaws.{finite_scene, held_list, held_or_list}
-use Rattle.um_model.proofs.SettleLaws.{HasOutcome, a_carrying, a_settling, a_firing, a_deadline_map}
+use Rattle.um_model.proofs.SettleLaws.{a_settling, a_firing, a_reset, a_deadline_map}
 use Rattle.um_model.proofs.TimersLaws.{same_name, same_number, same_option, one_named_first, named_trans, among_keys}
 
 -- ---- why a command for a unit is refused, if it is
@@ -204,16 +208,43 @@ install_becomes s verb unit = by_tree (an_install s.tree verb unit)
     by_tree : ((r : Refused) × RefusesInstall s.tree verb unit r) ⊎ (((r : Refused) → ¬ (RefusesInstall s.tree verb unit r)) × ((tree : Tree) × Installs s.tree verb unit tree))
         → Becomes s (Install verb unit)
     by_tree (inl found) = inl (found.0, installs_none (at_first found.1))
-    by_tree (inr changes) = by_load changes.1.0 changes.1.1 changes.0 (load_or_none s changes.1.0)
+    by_tree (inr made) = by_load made.1.0 made.1.1 made.0 (load_or_none s made.1.0)
 
-command_becomes : (s : State) (command : Command) → Becomes s command
-command_becomes s (PutFile path text) = put_becomes s path text (put_file s.tree path text) refl
-command_becomes s (PutLink path target) = link_becomes s path target (put_link s.tree path target) refl
-command_becomes s (Remove path) = removal_becomes s path (remove_at s.tree path) refl
-command_becomes s DaemonReload = reload_becomes s (load_or_none s s.tree)
-command_becomes s (ForUnit verb asked mode) = plan_becomes s verb asked mode (planned_or_not s verb asked mode)
-command_becomes s (Cancel asked) = cancel_becomes s asked (first_or_none _ _ (missing_or_not s asked) (waits_or_not s asked))
-command_becomes s (Install verb unit) = install_becomes s verb unit
+-- ---- a command is refused or obeyed
+
+-- it is refused, or does what it does at the moment t
+abbrev IsAnswered : ℕ → State → Command → Type 0
+IsAnswered t s command = ((r : Refused) × Refuses s command r) ⊎ (((r : Refused) → ¬ (Refuses s command r)) × HasOutcome (Does t s command))
+
+by_change : (t : ℕ) (s : State) (command : Command) → Becomes s command → IsAnswered t s command
+by_change t s command (inl found) = inl found
+by_change t s command (inr changed) = inr (changed.0, ([], changed.1.0, changes changed.1.1))
+
+reset_done : (t : ℕ) (s : State) (asked : Option (List ℕ)) → HasOutcome (Does t s (ResetFailed asked))
+reset_done t s asked =
+    let done = a_reset t (units_reset s asked) s in
+    (done.0, done.1, resets done.2)
+
+reset_one : (t : ℕ) (s : State) (asked : List ℕ) → OneOrNone (IsMissing s asked) → IsAnswered t s (ResetFailed (Some asked))
+reset_one t s asked (inl found) = inl (found.0, resets_none found.1)
+reset_one t s asked (inr none) = inr (free, reset_done t s (Some asked))
+  where
+    free : (r : Refused) → ¬ (Refuses s (ResetFailed (Some asked)) r)
+    free r (resets_none h) = none r h
+
+reset_all : (t : ℕ) (s : State) → IsAnswered t s (ResetFailed None)
+reset_all t s = inr (λ r h. elim h [ ], reset_done t s None)
+
+command_answered : (t : ℕ) (s : State) (command : Command) → IsAnswered t s command
+command_answered t s (PutFile path text) = by_change t s _ (put_becomes s path text (put_file s.tree path text) refl)
+command_answered t s (PutLink path target) = by_change t s _ (link_becomes s path target (put_link s.tree path target) refl)
+command_answered t s (Remove path) = by_change t s _ (removal_becomes s path (remove_at s.tree path) refl)
+command_answered t s DaemonReload = by_change t s _ (reload_becomes s (load_or_none s s.tree))
+command_answered t s (ForUnit verb asked mode) = by_change t s _ (plan_becomes s verb asked mode (planned_or_not s verb asked mode))
+command_answered t s (Cancel asked) = by_change t s _ (cancel_becomes s asked (first_or_none _ _ (missing_or_not s asked) (waits_or_not s asked)))
+command_answered t s (ResetFailed None) = reset_all t s
+command_answered t s (ResetFailed (Some asked)) = reset_one t s asked (missing_or_not s asked)
+command_answered t s (Install verb unit) = by_change t s _ (install_becomes s verb unit)
 
 -- ---- what happens has an effect or none
 
@@ -247,10 +278,36 @@ an_end : (t : ℕ) (s : State) (number : ℕ) (end : End) → HasEffect t s (Pro
 an_end t s number end = elim (process_or_over s.units number) as (λ _. HasEffect t s (ProcessEnded number end)) [
   | inl over ↦ inl (is_over over)
   | inr found ↦
-      let now = a_carrying t found.0 (end_of (state_of_unit s.units found.0) number end) s in
+      let now = a_happening t found.0 (end_of (state_of_unit s.units found.0) number end) s in
       let more = a_settling t now.1 in
       inr (end_has_effect t s number end found.0 found.1.has, (_, more.1, ends found.0 found.1 now.2 more.2))
 ]
+
+-- a unit waits for the report or not
+awaits_or_not : (s : State) (number : ℕ) (unit : List ℕ) → IsDecided (AwaitsReport s number unit)
+awaits_or_not s number unit =
+    decided_as (λ h. record { starts = h.0; kind = h.1.0; main = h.1.1 }) (λ a. (a.starts, (a.kind, a.main)))
+    (both_decided (passes_or_not (is_starting (state_of_unit s.units unit).sub) true)
+    (both_decided (passes_or_not (may_be_asked (acting_in s.loaded unit).settings.kind) true) (same_option same_number (state_of_unit s.units unit).main (Some number))))
+
+a_report : (t : ℕ) (s : State) (number : ℕ) → HasEffect t s (ProcessExecuted number)
+a_report t s number = by_process (process_or_over s.units number)
+  where
+    by_unit : (unit : List ℕ) → IsProcessOf s.units number unit → IsDecided (AwaitsReport s number unit) → HasEffect t s (ProcessExecuted number)
+    by_unit unit is (inl awaits) =
+        let now = a_happening t unit Executed s in
+        let more = a_settling t now.1 in
+        inr (report_has_effect t s number unit is awaits, (_, more.1, reports unit is awaits now.2 more.2))
+    by_unit unit is (inr none) =
+        inl (isnt_awaited (λ other too awaits. none (subst (AwaitsReport s number) (one_process s.units number other unit too is) awaits)))
+
+    by_process : IsOver s.units number ⊎ ((unit : List ℕ) × IsProcessOf s.units number unit) → HasEffect t s (ProcessExecuted number)
+    by_process (inl over) = inl (isnt_awaited (λ unit is awaits. over unit is.has))
+    by_process (inr (unit, is)) = by_unit unit is (awaits_or_not s number unit)
+
+a_boot : (t : ℕ) (s : State) (boot : List ℕ) → IsDecided (boot ≡ s.boot) → HasEffect t s (Booted boot)
+a_boot t s boot (inl known) = inl (is_known known)
+a_boot t s boot (inr other) = inr (boot_has_effect t s boot other, ([], booted boot s, boots))
 
 same_or_not : (s v : State) → Keeps s v → IsDecided (v ≡ s)
 same_or_not s v keeps = by_parts (same_units v.units s.units) (same_pending v.pending s.pending) (same_number v.next s.next)
@@ -276,7 +333,9 @@ a_tick t s =
 
 happening_has_effect : (t : ℕ) (s : State) (happening : Happening) → HasEffect t s happening
 happening_has_effect t s (ProcessEnded number end) = an_end t s number end
+happening_has_effect t s (ProcessExecuted number) = a_report t s number
 happening_has_effect t s Tick = a_tick t s
+happening_has_effect t s (Booted boot) = a_boot t s boot (same_name boot s.boot)
 
 -- ---- a step
 
@@ -291,11 +350,11 @@ taken_or_not : (size : ℕ) (s : State) (moment : ℕ) (event : Event) (actions 
 taken_or_not size s moment event actions u takes (inl heavy) = (Refusal no_room, [], s, crowded_out takes heavy)
 taken_or_not size s moment event actions u takes (inr light) = (_, actions, _, taken takes light)
 
-command_steps : (size : ℕ) (s : State) (moment : ℕ) (command : Command) → Becomes s command → HasStep size s moment (Commanded command)
+command_steps : (size : ℕ) (s : State) (moment : ℕ) (command : Command) → IsAnswered (moment_of s moment) s command → HasStep size s moment (Commanded command)
 command_steps size s moment command (inl found) = (Refusal found.0, [], s, refused found.1)
-command_steps size s moment command (inr changes) =
-    let settled = a_settling (moment_of s moment) changes.1.0 in
-    taken_or_not size s moment (Commanded command) settled.0 settled.1 (obeys changes.0 changes.1.1 settled.2) (room_or_not size (Commanded command) settled.1)
+command_steps size s moment command (inr (free, (first, u, done))) =
+    let settled = a_settling (moment_of s moment) u in
+    taken_or_not size s moment (Commanded command) (first ++ settled.0) settled.1 (obeys free done settled.2) (room_or_not size (Commanded command) settled.1)
 
 happening_steps : (size : ℕ) (s : State) (moment : ℕ) (happening : Happening) → HasEffect (moment_of s moment) s happening → HasStep size s moment (Happened happening)
 happening_steps size s moment happening (inl none) = (Done, [], s, idle none)
@@ -303,7 +362,7 @@ happening_steps size s moment happening (inr effect) =
     taken_or_not size s moment (Happened happening) effect.1.0 effect.1.1 (meets effect.0 effect.1.2) (room_or_not size (Happened happening) effect.1.1)
 
 event_steps : (size : ℕ) (s : State) (moment : ℕ) (event : Event) → HasStep size s moment event
-event_steps size s moment (Commanded command) = command_steps size s moment command (command_becomes s command)
+event_steps size s moment (Commanded command) = command_steps size s moment command (command_answered (moment_of s moment) s command)
 event_steps size s moment (Happened happening) = happening_steps size s moment happening (happening_has_effect (moment_of s moment) s happening)
 
 -- each state and input has a step
