@@ -72,7 +72,7 @@ unit_none units unit u x none apart = by_test (holds_nothing u)
     by_test true = removed_none units unit u x none
     by_test false = inserted_none units unit u x none apart
 
-none_there : {A : Type 0} (o : Option A) → ¬ (o ≢ None) → o ≡ None
+pub none_there : {A : Type 0} (o : Option A) → ¬ (o ≢ None) → o ≡ None
 none_there None h = refl
 none_there (Some a) h = absurd (h (λ none. none-some a (sym none)))
 
