@@ -14,7 +14,7 @@ use Rattle.um_model.specs.Dependencies.{IsKnown, KnowsTooMany, CountsFor, Depend
 use Rattle.um_model.specs.Install.{Installs, RefusesInstall, paths_beyond, IsEnabledAs}
 use Rattle.um_model.specs.Service.{ByUnit, AreTidyUnits, state_of_unit, with_unit, active_state_of, is_dead, is_number, Action}
 use Rattle.um_model.specs.Ends.{is_failed, is_starting, may_be_asked}
-use Rattle.um_model.specs.Transitions.{transition, AreActions, HasNumber, spawned}
+use Rattle.um_model.specs.Transitions.{transition, AreActions, HasNumber, spawned, is_going}
 use Rattle.um_model.specs.Jobs.{Job, jobs, no_jobs, jobs_of_unit, with_jobs, AreTidyJobs, is_active, cancelled, JobShown, jobs_shown, jobs_left, without_start, with_running, ComesBefore, IsReady, BeginsNext}
 use Rattle.um_model.specs.Order.{IsCycle}
 use Rattle.um_model.specs.Plan.{Scene, IsPlan, CausesOfPlan, NamesCycle, AreFree}
@@ -305,9 +305,10 @@ comes_to_rest before Dead = not (is_dead before)
 comes_to_rest before Failed = not (is_failed before)
 comes_to_rest before other = false
 
--- the unit came to rest from one state to the other, and the other unit is bound to it
+-- the unit came to rest from one state to the other, and the other unit, which is active or activating, is bound to it
 pub record FallsWith (s u : State) (unit other : List ℕ) : Type 0 where
   pub rests : comes_to_rest (state_of_unit s.units unit).sub (state_of_unit u.units unit).sub ≡ true
+  pub goes : is_going (active_state_of (state_of_unit u.units other).sub) ≡ true
   pub bound : Depends s.loaded (λ x. ⊤) BindsTo other unit
 
 -- the units that fall with it, by name
