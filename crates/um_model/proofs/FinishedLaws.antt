@@ -1,13 +1,13 @@
 -- A finished job isn't repeated: a unit at rest stays so until a command puts a start of it.
-use Rattle.std.proofs.Common.{ℕ, ◌≡◌, ◌≢◌, ◌∙◌, ◌+◌, ◌||◌, ◌&&◌, Bool, true, false, true≢false, not, cond, List, [], ◌∷◌, ◌++◌, Option, Some, None, unwrap_or, refl, sym, ap, subst, inl, inr}
+use Rattle.std.proofs.Common.{ℕ, ◌≡◌, ◌≢◌, ◌∙◌, ◌+◌, ◌||◌, ◌&&◌, Bool, true, false, true≢false, not, cond, List, [], ◌∷◌, ◌++◌, Some, None, unwrap_or, refl, sym, ap, subst, inl, inr}
 use Rattle.std.proofs.lemmas.Option.{none-some}
 use Rattle.std.specs.Cmp.Lexicographic.{slice_cmp}
 use Rattle.std.specs.FinMap as map
 use Rattle.std.specs.Ordering.{nat_cmp}
 use Rattle.um_model.specs.Ends.{is_clean, is_restart_wanted}
-use Rattle.um_model.specs.Finished.{is_exited, has_finished, Finishes, is_down_or_done, IsAtRest, PutsStart, now, later}
-use Rattle.um_model.specs.Jobs.{Job, job_of, jobs, no_jobs, jobs_of_unit, IsWaiting}
-use Rattle.um_model.specs.Machine.{State, Command, Happening, Event, Commanded, Input, Reply, TakesAlong, Becomes, Carries, change_of, changed, acting_in, around, begins, begun, FallDown, all_told, told_next, Happens, AreReset, all_reset, reset_next, Settles, unit_asked, jobs_asked, Changes, Does, units_reset, end_of, with_start_alone, awaits_restart, Restarts, has_a_job, closes_a_circle, ComesDue, Fires, booted, Follows, Takes, moment_of, Step, Run}
+use Rattle.um_model.specs.Finished.{is_exited, Finishes, is_down_or_done, IsAtRest, PutsStart, now, later}
+use Rattle.um_model.specs.Jobs.{job_of, jobs, no_jobs, jobs_of_unit}
+use Rattle.um_model.specs.Machine.{State, Command, Happening, Event, Commanded, Input, Reply, TakesAlong, Becomes, Carries, change_of, changed, acting_in, around, begins, begun, FallDown, all_told, told_next, Happens, AreReset, all_reset, reset_next, Settles, unit_asked, jobs_asked, Changes, Does, units_reset, end_of, awaits_restart, Restarts, has_a_job, closes_a_circle, ComesDue, Fires, booted, Follows, Takes, moment_of, Step, Run}
 use Rattle.um_model.specs.Service.{Action, active_state_of, dead_unit, is_dead, is_number, is_success, state_of_unit}
 use Rattle.um_model.specs.Settings.{ServiceSettings, has_place}
 use Rattle.um_model.specs.Timers.{Timers}
@@ -33,7 +33,7 @@ use Rattle.um_model.specs.declared.transition.UnitEvent.{UnitEvent}
 use Rattle.um_model.specs.declared.transition.UnitEvent.TheVariants.{StartBegins, StopBegins, BoundStop, Executed, MainEnds, ControlEnds, DeadlinePasses, Reset}
 use Rattle.um_model.proofs.AlongLaws.{taken_along_or_not}
 use Rattle.um_model.proofs.FewLaws.{none_there}
-use Rattle.um_model.proofs.FreeLaws.{HasLess, cancelled_fewer, fewer_at, begun_less, carried_less}
+use Rattle.um_model.proofs.FreeLaws.{cancelled_fewer, fewer_at, begun_less, carried_less}
 use Rattle.um_model.proofs.TimersLaws.{same_name}
 use Rattle.um_model.proofs.TransitionLaws.{by_cond}
 use Rattle.um_model.proofs.UnitLaws.{state_here, state_apart, jobs_apart}

@@ -7,7 +7,7 @@ use Rattle.um_model.specs.Machine.{State, Happening, Happened, Reply, Done, IsHe
 use Rattle.um_model.specs.Reached.{first}
 use Rattle.um_model.specs.Service.{Action, state_of_unit}
 use Rattle.um_model.specs.Tree.{Tree, without_run}
-use Rattle.um_model.specs.Weight.{tree_weight, weight_of}
+use Rattle.um_model.specs.Weight.{tree_weight}
 use Rattle.um_model.specs.declared.transition.UnitEvent.TheVariants.{Executed}
 use Rattle.um_model.proofs.AmongLaws.{contains_among, among_contained}
 use Rattle.um_model.proofs.FewLaws.{same_no_more, happened_no_more, fires_no_more, number_held, booted_none}
