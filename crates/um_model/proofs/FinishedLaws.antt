@@ -7,7 +7,8 @@ use Rattle.std.specs.Ordering.{nat_cmp}
 use Rattle.um_model.specs.Ends.{is_clean, is_restart_wanted}
 use Rattle.um_model.specs.Finished.{is_exited, Finishes, is_down_or_done, IsAtRest, PutsStart, now, later}
 use Rattle.um_model.specs.Jobs.{job_of, jobs, no_jobs, jobs_of_unit}
-use Rattle.um_model.specs.Machine.{State, Command, Happening, Event, Commanded, Input, Reply, TakesAlong, Becomes, Carries, change_of, changed, acting_in, around, begins, begun, FallDown, all_told, told_next, Happens, AreReset, all_reset, reset_next, Settles, unit_asked, jobs_asked, Changes, Does, units_reset, end_of, awaits_restart, Restarts, has_a_job, closes_a_circle, ComesDue, Fires, booted, Follows, Takes, moment_of, Step, Run}
+use Rattle.um_model.specs.Machine.{State, Command, Happening, Event, Commanded, Input, Reply, TakesAlong, Becomes, Carries, change_of, changed, acting_in, around, begins, begun, FallDown, all_told, told_next, Happens, AreReset, all_reset, reset_next, Settles, unit_asked, jobs_asked, Refuses, Changes, Does, units_reset, end_of, awaits_restart, Restarts, has_a_job, closes_a_circle, ComesDue, Fires, booted, Follows, Takes, moment_of, Step, Run}
+use Rattle.um_model.specs.Refusals.{Refused}
 use Rattle.um_model.specs.Service.{Action, active_state_of, dead_unit, is_dead, is_number, is_success, state_of_unit}
 use Rattle.um_model.specs.Settings.{ServiceSettings, has_place}
 use Rattle.um_model.specs.Timers.{Timers}
@@ -291,27 +292,28 @@ module _ (x : List ℕ) where
     abbrev PutsNone : State → ℕ → Command → Type 0
     PutsNone s moment command = ¬ PutsStart size x s (record { moment = moment; event = Commanded command } ∷ [])
 
-    changes_rest : (s : State) (moment : ℕ) (command : Command) (u : State) → PutsNone s moment command → Changes s command u → AtRest s → AtRest u
-    changes_rest s moment command u none (Changes.puts e) rest = record { none = rest.none; rests = rest.rests }
-    changes_rest s moment command u none (Changes.links e) rest = record { none = rest.none; rests = rest.rests }
-    changes_rest s moment command u none (Changes.removes e) rest = record { none = rest.none; rests = rest.rests }
-    changes_rest s moment command u none Changes.reloads rest = record { none = rest.none; rests = rest.rests }
-    changes_rest s moment command u none (Changes.installs h) rest = record { none = rest.none; rests = rest.rests }
-    changes_rest s moment command u none (Changes.cancels {asked = asked}) rest =
+    changes_rest : (s : State) (moment : ℕ) (command : Command) (u : State) → PutsNone s moment command → ((r : Refused) → ¬ Refuses s command r)
+        → Changes s command u → AtRest s → AtRest u
+    changes_rest s moment command u none isnt (Changes.puts e) rest = record { none = rest.none; rests = rest.rests }
+    changes_rest s moment command u none isnt (Changes.links e) rest = record { none = rest.none; rests = rest.rests }
+    changes_rest s moment command u none isnt (Changes.removes e) rest = record { none = rest.none; rests = rest.rests }
+    changes_rest s moment command u none isnt Changes.reloads rest = record { none = rest.none; rests = rest.rests }
+    changes_rest s moment command u none isnt (Changes.installs h) rest = record { none = rest.none; rests = rest.rests }
+    changes_rest s moment command u none isnt (Changes.cancels {asked = asked}) rest =
         record { none = (fewer_at s.pending (unit_asked s asked) _ (cancelled_fewer (jobs_asked s asked)) x job.Start).none rest.none; rests = rest.rests }
-    changes_rest s moment command u none (Changes.demands_nothing is) rest = rest
-    changes_rest s moment command u none (Changes.plans {after = after} is plan) rest =
-        record { none = none_there (jobs_of_unit after x).start (λ puts. none (now (Changes.plans is plan) puts)); rests = rest.rests }
+    changes_rest s moment command u none isnt (Changes.demands_nothing is) rest = rest
+    changes_rest s moment command u none isnt (Changes.plans {after = after} is plan) rest =
+        record { none = none_there (jobs_of_unit after x).start (λ puts. none (now isnt (Changes.plans is plan) puts)); rests = rest.rests }
 
-    does_rest : (t : ℕ) (s : State) (moment : ℕ) (command : Command) (actions : List Action) (u : State) → PutsNone s moment command → Does t s command actions u
-        → AtRest s → AtRest u
-    does_rest t s moment command actions u none (Does.changes h) rest = changes_rest s moment command u none h rest
-    does_rest t s moment command actions u none (Does.resets {asked = asked} h) rest = resets_rest t (units_reset s asked) s actions u h rest
+    does_rest : (t : ℕ) (s : State) (moment : ℕ) (command : Command) (actions : List Action) (u : State) → PutsNone s moment command
+        → ((r : Refused) → ¬ Refuses s command r) → Does t s command actions u → AtRest s → AtRest u
+    does_rest t s moment command actions u none isnt (Does.changes h) rest = changes_rest s moment command u none isnt h rest
+    does_rest t s moment command actions u none isnt (Does.resets {asked = asked} h) rest = resets_rest t (units_reset s asked) s actions u h rest
 
     takes_rest : (t : ℕ) (s : State) (moment : ℕ) (event : Event) (actions : List Action) (v : State) → ¬ PutsStart size x s (record { moment = moment; event = event } ∷ [])
         → Takes t s event actions v → AtRest s → AtRest v
     takes_rest t s moment event actions v none (Takes.obeys {command = command} {first = first} {more = more} {u = u} isnt h k) rest =
-        settles_rest t u more v k (does_rest t s moment command first u none h rest)
+        settles_rest t u more v k (does_rest t s moment command first u none isnt h rest)
     takes_rest t s moment event actions v none (Takes.meets {happening = happening} effect h) rest = follows_rest t s happening actions v h rest
 
     -- a unit at rest stays so over a step that puts no start of it
@@ -326,7 +328,7 @@ module _ (x : List ℕ) where
 
     -- what puts a start does so whatever comes later
     puts_anyhow : (s : State) (inputs more : List Input) → PutsStart size x s inputs → PutsStart size x s (inputs ++ more)
-    puts_anyhow s inputs more (now h puts) = now h puts
+    puts_anyhow s inputs more (now isnt h puts) = now isnt h puts
     puts_anyhow s (i ∷ inputs) more (later {t = t} reply actions step puts) = later reply actions step (puts_anyhow t inputs more puts)
 
     -- and over a run of such steps
