@@ -212,10 +212,16 @@ changes_few s command u none (Changes.demands_nothing is) few = few
 changes_few s command u none (Changes.plans {demand = demand} {after = after} is plan) few = λ r crowded.
     none r (Refuses.plans_none (at_second (λ q full. none q (Refuses.plans_none (at_first full)))
     (at_second (λ q missing. none q (Refuses.plans_none (at_second (λ x full. none x (Refuses.plans_none (at_first full))) (at_first missing))))
-    (record { demand = demand; demanded = is; after = after; plan = plan; cause = at_second (λ q c. none q (Refuses.plans_none
-    (at_second (λ x full. none x (Refuses.plans_none (at_first full)))
-    (at_second (λ x missing. none x (Refuses.plans_none (at_second (λ y full. none y (Refuses.plans_none (at_first full))) (at_first missing))))
-    (record { demand = demand; demanded = is; after = after; plan = plan; cause = at_first c }))))) crowded }))))
+    (record {
+      demand = demand;
+      demanded = is;
+      after = after;
+      plan = plan;
+      cause = at_second (λ q c. none q (Refuses.plans_none
+          (at_second (λ x full. none x (Refuses.plans_none (at_first full)))
+          (at_second (λ x missing. none x (Refuses.plans_none (at_second (λ y full. none y (Refuses.plans_none (at_first full))) (at_first missing))))
+          (record { demand = demand; demanded = is; after = after; plan = plan; cause = at_first c }))))) crowded;
+    }))))
 
 takes_few : (t : ℕ) (s : State) (event : Event) (actions : List Action) (v : State) → Takes t s event actions v → IsFew s → IsFew v
 takes_few t s event actions v (Takes.obeys {command = command} {u = u} none h k) few =
