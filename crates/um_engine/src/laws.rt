@@ -1,5 +1,6 @@
 ghost use Rattle.std.specs.Prelude.{◌≡◌, ◌↔◌, ◌++◌, ℕ, List};
 ghost use Rattle.um_model.specs.Alike.{IsSameOutcome};
+ghost use Rattle.um_model.specs.Few.{IsFew};
 ghost use Rattle.um_model.specs.Live.{IsFree, IsNotStuck};
 ghost use Rattle.um_model.specs.Machine.{State, Input, Reply, Step, Run, empty_state};
 ghost use Rattle.um_model.specs.Numbers.{AreNew, started_numbers, actions_in};
@@ -37,6 +38,12 @@ pub fn the_pending_jobs_have_no_cycle()
 /// stop state and has a live process.
 pub fn the_machine_is_never_stuck()
     ensures { (size : ℕ) (inputs : List Input) (t : State) → Run size empty_state inputs t → IsNotStuck t }
+{}
+
+/// After a run from the empty state no more units are known than may be, by the loaded tree and by it without its entries under
+/// `run/`.
+pub fn no_more_units_are_known_than_may_be()
+    ensures { (size : ℕ) (inputs : List Input) (t : State) → Run size empty_state inputs t → IsFew t }
 {}
 
 /// The numbers of the processes that a step starts are new: the next number never falls, and each number started is at least the one

@@ -245,7 +245,7 @@ changes_free s command u none (Changes.plans {verb = verb} {asked = asked} {mode
     plan_free s (unit_asked s asked) demand after plan (free_of_causes (scene_at s (unit_asked s asked)) (demand, unit_asked s asked) mode after
     (λ r c. none r (Refuses.plans_none (at_second (λ q crowded. none q (Refuses.plans_none (at_first crowded)))
     (at_second (λ q missing. none q (Refuses.plans_none (at_second (λ x crowded. none x (Refuses.plans_none (at_first crowded))) (at_first missing))))
-    (record { demand = demand; demanded = is; after = after; plan = plan; cause = c }))))))
+    (record { demand = demand; demanded = is; after = after; plan = plan; cause = at_first c }))))))
 
 -- ---- a run
 

@@ -62,3 +62,4 @@ pub mod SceneLaws
 pub mod WeightLaws
 pub mod GivenMaps
 pub mod CrowdedLaws
+pub mod FewLaws

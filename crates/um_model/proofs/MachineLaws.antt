@@ -1,11 +1,11 @@
 -- A step has one outcome, but for the cycle that a refusal names; a run has one end, and runs join.
-use Rattle.std.proofs.Common.{ℕ, ◌≡◌, ◌≢◌, ◌⊎◌, ◌∙◌, List, [], ◌∷◌, ◌++◌, map as each, None, Some, refl, sym, ap, subst, inl, inr, true≢false, arith}
+use Rattle.std.proofs.Common.{ℕ, ◌≡◌, ◌≢◌, ◌⊎◌, ◌∙◌, List, [], ◌∷◌, ◌++◌, map as each, Some, refl, sym, ap, subst, inl, inr, true≢false, arith}
 use Rattle.std.proofs.lemmas.Option.{none-some, same_Some}
 use Rattle.std.specs.FinMap as map
 use Rattle.std.specs.FinMap.{slice_cmp-IsAntisymmetric, nat_cmp-IsAntisymmetric}
 use Rattle.std.specs.Cmp.Lexicographic.{nat_list_cmp_total}
 use Rattle.um_model.specs.Alike.{NamesACycle, AlikeBut, the_same, both_name, IsSameOutcome}
-use Rattle.um_model.specs.Refusals.{Refused, FirstCause, at_first, at_second, no_room, ordering_cycle}
+use Rattle.um_model.specs.Refusals.{Refused, FirstCause, at_first, at_second}
 use Rattle.um_model.specs.Tree.{Tree, put_file, put_link, remove_at}
 use Rattle.um_model.specs.Least.{IsNamedBefore}
 use Rattle.um_model.specs.Service.{Action, ByUnit, state_of_unit}
@@ -159,19 +159,28 @@ module _ (s : State) (verb : UnitVerb) (asked : List ℕ) where
             (subst (λ x. IsPlan (scene_at s (unit_asked s asked)) (x, unit_asked s asked) v) (sym same) k),
       )
 
+  -- a plan is refused for one cause, but for the cycle that it names
+  plan_in_one_way : (demand : Demand) (mode : JobMode) (after : ByUnit UnitJobs)
+      → AreOneBut (CausesOfPlan (scene_at s (unit_asked s asked)) (demand, unit_asked s asked) mode after)
+  plan_in_one_way demand mode after r q h k =
+      let finite = finite_scene s (unit_asked s asked) in
+      by_cause (planned.one_cause (scene_at s (unit_asked s asked)) finite.0 finite.1 (demand, unit_asked s asked) mode after r q h k)
+    where
+      by_cause : (r ≡ q) ⊎ (NamesCycle (scene_at s (unit_asked s asked)).IsBefore after r × NamesCycle (scene_at s (unit_asked s asked)).IsBefore after q)
+          → (r ≡ q) ⊎ (NamesACycle r × NamesACycle q)
+      by_cause (inl is) = inl is
+      by_cause (inr both) = inr (names_a_cycle _ after r both.0, names_a_cycle _ after q both.1)
+
+  -- the causes of a plan, and that too many units would be known with it
+  abbrev CausesWith : JobMode → Demand → ByUnit UnitJobs → Refused → Type 0
+  CausesWith mode demand after =
+      FirstCause (CausesOfPlan (scene_at s (unit_asked s asked)) (demand, unit_asked s asked) mode after) (IsCrowded s.loaded (IsHeld (record s { pending = after })))
+
   refused_in_one_way : (mode : JobMode) → AreOneBut (HasNoPlan s verb asked mode)
   refused_in_one_way mode r q h k =
       let same = one_planned_map h.demand k.demand h.after k.after h.demanded k.demanded h.plan k.plan in
-      let finite = finite_scene s (unit_asked s asked) in
-      by_cause
-      (planned.one_cause (scene_at s (unit_asked s asked)) finite.0 finite.1 (h.demand, unit_asked s asked) mode h.after r q h.cause
-      (subst (λ x. CausesOfPlan (scene_at s (unit_asked s asked)) (h.demand, unit_asked s asked) mode x q) (sym same.1)
-      (subst (λ x. CausesOfPlan (scene_at s (unit_asked s asked)) (x, unit_asked s asked) mode k.after q) (sym same.0) k.cause)))
-    where
-      by_cause : (r ≡ q) ⊎ (NamesCycle (scene_at s (unit_asked s asked)).IsBefore h.after r × NamesCycle (scene_at s (unit_asked s asked)).IsBefore h.after q)
-          → (r ≡ q) ⊎ (NamesACycle r × NamesACycle q)
-      by_cause (inl is) = inl is
-      by_cause (inr both) = inr (names_a_cycle _ h.after r both.0, names_a_cycle _ h.after q both.1)
+      first_but _ _ (plan_in_one_way h.demand mode h.after) (one_crowded s.loaded (IsHeld (record s { pending = h.after }))) r q h.cause
+      (subst (λ x. CausesWith mode h.demand x q) (sym same.1) (subst (λ x. CausesWith mode x k.after q) (sym same.0) k.cause))
 
 one_planned : (s : State) (verb : UnitVerb) (asked : List ℕ) (mode : JobMode) → AreOneBut (CausesOf s verb asked mode)
 one_planned s verb asked mode =

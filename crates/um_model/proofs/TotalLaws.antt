@@ -3,14 +3,14 @@ use Rattle.std.proofs.Common.{ℕ, ◌≡◌, ◌≢◌, ◌⊎◌, ◌∙◌, B
 use Rattle.std.proofs.lemmas.Option.{none-some, same_Some}
 use Rattle.std.specs.FinMap as map
 use Rattle.um_model.specs.Least.{IsNamedBefore}
-use Rattle.um_model.specs.Refusals.{Refused, at_first, at_second, no_room, no_such_job, not_loaded}
+use Rattle.um_model.specs.Refusals.{Refused, FirstCause, at_first, at_second, no_room, no_such_job, not_loaded}
 use Rattle.um_model.specs.Tree.{Tree, put_file, put_link, remove_at}
 use Rattle.um_model.specs.Install.{Installs, RefusesInstall}
 use Rattle.um_model.specs.Units.{load}
 use Rattle.um_model.specs.Service.{Action, ByUnit, state_of_unit}
 use Rattle.um_model.specs.Plan.{IsPlan, CausesOfPlan}
 use Rattle.um_model.specs.Transitions.{HasNumber}
-use Rattle.um_model.specs.Machine.{State, Command, PutFile, PutLink, Remove, DaemonReload, ForUnit, Cancel, Install, Happening, ProcessEnded, Tick, Event, Commanded, Happened, Input, Reply, Done, Refusal, IsHeld, IsHeldOr, IsBefore, IsProcessOf, IsOver, end_of, Follows, ends, ticks, HasNoEffect, is_over, is_idle, is_found, active_asked, demand_of, wants_it_there, jobs_asked, unit_asked, scene_at, IsNotThere, IsMissing, HasNoPlan, has_waiting, HasNoneWaiting, CausesOfCancel, CausesOf, CausesOfLoad, Refuses, puts_none, links_none, removes_none, plans_none, cancels_none, reloads_none, installs_none, Changes, puts, links, removes, reloads, plans, demands_nothing, cancels, installs, Takes, obeys, meets, moment_of, HasNoRoom, Step, refused, crowded_out, idle, taken}
+use Rattle.um_model.specs.Machine.{State, Command, PutFile, PutLink, Remove, DaemonReload, ForUnit, Cancel, Install, Happening, ProcessEnded, Tick, Event, Commanded, Happened, Input, Reply, Done, Refusal, IsHeld, IsHeldOr, IsBefore, IsProcessOf, IsOver, end_of, Follows, ends, ticks, HasNoEffect, is_over, is_idle, is_found, active_asked, demand_of, wants_it_there, jobs_asked, unit_asked, scene_at, IsCrowded, IsNotThere, IsMissing, HasNoPlan, has_waiting, HasNoneWaiting, CausesOfCancel, CausesOf, CausesOfLoad, Refuses, puts_none, links_none, removes_none, plans_none, cancels_none, reloads_none, installs_none, Changes, puts, links, removes, reloads, plans, demands_nothing, cancels, installs, Takes, obeys, meets, moment_of, HasNoRoom, Step, refused, crowded_out, idle, taken}
 use Rattle.um_model.specs.declared.commands.JobMode.{JobMode}
 use Rattle.um_model.specs.declared.commands.UnitVerb.{UnitVerb}
 use Rattle.um_model.specs.declared.dependencies.Demand.{Demand}
@@ -66,27 +66,38 @@ module _ (s : State) (verb : UnitVerb) (asked : List ℕ) (mode : JobMode) where
         by_scene : (units : List (List ℕ)) × IsFinite (scene_at s named) units → (after : ByUnit UnitJobs) × IsPlan (scene_at s named) (demand, named) after
         by_scene (units, finite) = a_plan (scene_at s named) units finite (demand, named)
 
+    -- the causes for which this plan is refused: its own, and that too many units would be known with it
+    abbrev CausesWith : Demand → ByUnit UnitJobs → Refused → Type 0
+    CausesWith d after = FirstCause (CausesOfPlan (scene_at s named) (d, named) mode after) (IsCrowded s.loaded (IsHeld (record s { pending = after })))
+
     -- where nothing refuses this plan, no other is refused
-    none_refused : (after : ByUnit UnitJobs) → IsPlan (scene_at s named) (demand, named) after → ((r : Refused) → ¬ (CausesOfPlan (scene_at s named) (demand, named) mode after r))
+    none_refused : (after : ByUnit UnitJobs) → IsPlan (scene_at s named) (demand, named) after → ((r : Refused) → ¬ (CausesWith demand after r))
         → (r : Refused) → ¬ (HasNoPlan s verb asked mode r)
     none_refused after plan free r h =
         let same = same_Some h.demand demand (sym h.demanded ∙ demanded) in
         let other = subst (λ d. IsPlan (scene_at s named) (d, named) h.after) same h.plan in
-        let cause = subst (λ d. CausesOfPlan (scene_at s named) (d, named) mode h.after r) same h.cause in
+        let cause = subst (λ d. CausesWith d h.after r) same h.cause in
         let finite = finite_scene s named in
-        free r (subst (λ p. CausesOfPlan (scene_at s named) (demand, named) mode p r) (one_plan (scene_at s named) finite.0 finite.1 (demand, named) h.after after other plan) cause)
+        free r (subst (λ p. CausesWith demand p r) (one_plan (scene_at s named) finite.0 finite.1 (demand, named) h.after after other plan) cause)
+
+    -- one of those causes is there, or none
+    plan_cause_or_none : (after : ByUnit UnitJobs) → OneOrNone (CausesWith demand after)
+    plan_cause_or_none after =
+        let finite = finite_scene s named in
+        let held = held_list (record s { pending = after }) in
+        first_or_none _ _ (cause_or_none (scene_at s named) finite.0 finite.1 (demand, named) mode after)
+        (crowded_or_none (IsHeld (record s { pending = after })) held.0 held.1 s.loaded)
 
     plan_refused_or_not : OneOrNone (HasNoPlan s verb asked mode)
-    plan_refused_or_not = by_cause a_plan_made (finite_scene s named)
+    plan_refused_or_not = by_plan a_plan_made
       where
-        by_refusal : (after : ByUnit UnitJobs) → IsPlan (scene_at s named) (demand, named) after → OneOrNone (CausesOfPlan (scene_at s named) (demand, named) mode after)
+        by_refusal : (after : ByUnit UnitJobs) → IsPlan (scene_at s named) (demand, named) after → OneOrNone (CausesWith demand after)
             → OneOrNone (HasNoPlan s verb asked mode)
         by_refusal after plan (inl found) = inl (found.0, record { demand = demand; demanded = demanded; after = after; plan = plan; cause = found.1 })
         by_refusal after plan (inr free) = inr (none_refused after plan free)
 
-        by_cause : (after : ByUnit UnitJobs) × IsPlan (scene_at s named) (demand, named) after → (units : List (List ℕ)) × IsFinite (scene_at s named) units
-            → OneOrNone (HasNoPlan s verb asked mode)
-        by_cause (after, plan) (units, finite) = by_refusal after plan (cause_or_none (scene_at s named) units finite (demand, named) mode after)
+        by_plan : (after : ByUnit UnitJobs) × IsPlan (scene_at s named) (demand, named) after → OneOrNone (HasNoPlan s verb asked mode)
+        by_plan (after, plan) = by_refusal after plan (plan_cause_or_none after)
 
   -- one cause refuses what is demanded, or none does
   plan_or_none : OneOrNone (HasNoPlan s verb asked mode)

@@ -31,6 +31,7 @@ pub mod Plan
 pub mod Weight
 pub mod Machine
 pub mod Live
+pub mod Few
 pub mod Numbers
 pub mod Requests
 pub mod Replies
