@@ -1,14 +1,14 @@
 -- What commands are refused for, and what they change, from what the calls below tell.
-use Rattle.std.proofs.Common.{◌≡◌, ◌≢◌, ◌∙◌, ℕ, List, Option, Some, None, true, false, Result, Ok, Err, codes, sym, ap, subst}
+use Rattle.std.proofs.Common.{◌≡◌, ◌≢◌, ◌∙◌, ℕ, List, Some, None, false, Result, Ok, Err, sym, ap, subst}
 use Rattle.um_model.specs.Jobs.{cancelled, jobs_of_unit}
 use Rattle.um_model.specs.Machine as model
-use Rattle.um_model.specs.Machine.{State, IsCrowded, IsHeldOr, IsNotThere, IsMissing, HasNoneWaiting, HasNoPlan, Refuses, puts_none, links_none, removes_none, plans_none, cancels_none, reloads_none, installs_none, scene_at, active_asked, demand_of, demands_nothing, Changes, puts, links, removes, reloads, plans, cancels, installs}
-use Rattle.um_model.specs.Names.{is_template}
-use Rattle.um_model.specs.Refusals.{Refused, not_found, masked, bad_setting, no_such_job, unless_refused, FirstCause, at_first, at_second}
+use Rattle.um_model.specs.Machine.{State, IsCrowded, IsHeld, IsHeldOr, IsNotThere, IsMissing, HasNoneWaiting, HasNoPlan, Refuses, puts_none, links_none, removes_none, plans_none, cancels_none, reloads_none, installs_none, scene_at, active_asked, demand_of, demands_nothing, Changes, puts, links, removes, reloads, plans, cancels, installs}
+use Rattle.um_model.specs.Few.{IsFew}
+use Rattle.um_model.specs.Refusals.{Refused, no_such_job, unless_refused, FirstCause, at_first, at_second}
 use Rattle.std.specs.FinMap as map
 use Rattle.um_model.specs.Tree.{Tree, File, Link, put_cause, link_cause, remove_cause, put_file, put_link, remove_at}
-use Rattle.um_model.specs.Units.{LoadedUnit, Found, Masked, NotFound, BadSetting, load}
 use Rattle.um_model.specs.Install.{Installs, RefusesInstall}
+use Rattle.um_model.specs.Service.{ByUnit}
 use Rattle.um_model.specs.declared.commands.JobMode.{JobMode}
 use Rattle.um_model.specs.declared.commands.UnitVerb.{UnitVerb}
 use Rattle.um_model.specs.declared.install.InstallVerb.{InstallVerb}
@@ -21,7 +21,6 @@ use Rattle.um_model.proofs.PlannedLaws.{one_plan}
 use Rattle.um_model.proofs.SceneLaws.{finite_scene}
 use Rattle.um_transact.specs.Scene.{IsRefused}
 use Rattle.std.proofs.lemmas.Option.{none-some, same_Some}
-use Rattle.um_wire.specs.Gives.{RefusesBy}
 use Rattle.um_wire.specs.Refusal.{refused_of}
 use Rattle.um_wire.specs.declared.refusal.Refusal.{Refusal}
 use Rattle.um_wire.specs.declared.refusal.Refusal.TheVariants.{NoMemory}
@@ -113,7 +112,20 @@ module _ (s : State) (verb : UnitVerb) (asked : List ℕ) (mode : JobMode) where
   pub by_plan : (r : Refused) (demand : Demand) → ((q : Refused) → ¬ Crowds q) → ((q : Refused) → ¬ IsNotThere s verb asked q)
       → demand_of verb (active_asked s asked) ≡ Some demand → IsRefused (scene_at s (model.unit_asked s asked)) (demand, model.unit_asked s asked) mode r → Refuses s (model.ForUnit verb asked mode) r
   by_plan r demand few there demanded h =
-      plans_none (at_second few (at_second there (record { demand = demand; demanded = demanded; after = h.after; plan = h.plan; cause = h.cause })))
+      plans_none (at_second few (at_second there (record { demand = demand; demanded = demanded; after = h.after; plan = h.plan; cause = at_first h.cause })))
+
+  -- too many units would be known with the plan
+  pub by_fullness : (r : Refused) (demand : Demand) (u : State) → ((q : Refused) → ¬ Crowds q) → ((q : Refused) → ¬ IsNotThere s verb asked q)
+      → demand_of verb (active_asked s asked) ≡ Some demand → HasPlan s (demand, model.unit_asked s asked) mode u → IsCrowded u.loaded (IsHeld u) r
+      → Refuses s (model.ForUnit verb asked mode) r
+  by_fullness r demand u few there demanded planned h =
+      plans_none (at_second few (at_second there (record {
+        demand = demand;
+        demanded = demanded;
+        after = u.pending;
+        plan = planned.accepted.plan;
+        cause = at_second planned.accepted.unrefused (subst (λ (x : State). IsCrowded x.loaded (IsHeld x) r) planned.rest h);
+      })))
 
   free_by : ((q : Refused) → ¬ Crowds q) → ((q : Refused) → ¬ IsNotThere s verb asked q) → ((q : Refused) → ¬ HasNoPlan s verb asked mode q)
       → (r : Refused) → ¬ Refuses s (model.ForUnit verb asked mode) r
@@ -125,19 +137,29 @@ module _ (s : State) (verb : UnitVerb) (asked : List ℕ) (mode : JobMode) where
       → (r : Refused) → ¬ Refuses s (model.ForUnit verb asked mode) r
   free_to_rest few there nothing = free_by few there (λ q h. none-some h.demand (sym nothing ∙ h.demanded))
 
+  -- the causes for which a plan is refused: its own, and that too many units would be known with it
+  abbrev CausesWith : Demand → ByUnit UnitJobs → Refused → Type 0
+  CausesWith demand after =
+      FirstCause (CausesOfPlan (scene_at s (model.unit_asked s asked)) (demand, model.unit_asked s asked) mode after)
+      (IsCrowded s.loaded (IsHeld (record s { pending = after })))
+
   pub free_to_plan : (demand : Demand) (u : State) → ((q : Refused) → ¬ Crowds q) → ((q : Refused) → ¬ IsNotThere s verb asked q) → demand_of verb (active_asked s asked) ≡ Some demand
-      → HasPlan s (demand, model.unit_asked s asked) mode u → (r : Refused) → ¬ Refuses s (model.ForUnit verb asked mode) r
-  free_to_plan demand u few there demanded planned = free_by few there (λ q h. unrefused q h)
+      → HasPlan s (demand, model.unit_asked s asked) mode u → IsFew u → (r : Refused) → ¬ Refuses s (model.ForUnit verb asked mode) r
+  free_to_plan demand u few there demanded planned fits = free_by few there (λ q h. unrefused q h)
     where
+      by_cause : (q : Refused) → ¬ CausesWith demand u.pending q
+      by_cause q (at_first c) = planned.accepted.unrefused q c
+      by_cause q (at_second none h) = fits q (subst (λ (x : State). IsCrowded x.loaded (IsHeld x) q) (sym planned.rest) h)
+
       unrefused : (q : Refused) → ¬ HasNoPlan s verb asked mode q
       unrefused q h =
           let named = model.unit_asked s asked in
           let finite = finite_scene s named in
           let same = same_Some h.demand demand (sym h.demanded ∙ demanded) in
           let plan = subst (λ d. IsPlan (scene_at s named) (d, named) h.after) same h.plan in
-          let cause = subst (λ d. CausesOfPlan (scene_at s named) (d, named) mode h.after q) same h.cause in
-          planned.accepted.unrefused q
-          (subst (λ p. CausesOfPlan (scene_at s named) (demand, named) mode p q)
+          let cause = subst (λ d. CausesWith d h.after q) same h.cause in
+          by_cause q
+          (subst (λ p. CausesWith demand p q)
           (one_plan (scene_at s named) finite.0 finite.1 (demand, named) h.after u.pending plan planned.accepted.plan) cause)
 
   pub plans_to : (demand : Demand) (u : State) → demand_of verb (active_asked s asked) ≡ Some demand → HasPlan s (demand, model.unit_asked s asked) mode u

@@ -1,19 +1,22 @@
 -- A command for a unit: why it is refused and what it changes, by the name that was found for it.
-use Rattle.std.proofs.Common.{◌≡◌, ◌≢◌, ◌∙◌, ℕ, List, Contains, Option, Some, None, Result, Ok, Err, unwrap_or, refl, sym, ap, subst, inl, inr}
+use Rattle.std.proofs.Common.{◌≡◌, ◌≢◌, ◌⊎◌, ◌∙◌, ℕ, List, Contains, Option, Some, None, Result, Ok, Err, unwrap_or, refl, sym, ap, subst, inl, inr}
 use Rattle.std.specs.Result.{IsErrAnd}
 use Rattle.std.specs.FinMap as map
 use Rattle.std.proofs.lemmas.Option.{get_or_from_slice_get}
-use Rattle.um_model.specs.Dependencies.{extra}
+use Rattle.um_model.specs.Dependencies.{KnowsTooMany, extra}
+use Rattle.um_model.specs.Few.{IsFew}
 use Rattle.um_model.specs.Jobs.{no_jobs}
 use Rattle.um_model.specs.Machine as model
 use Rattle.um_model.specs.Machine.{State, IsCrowded, IsHeld, IsHeldOr, IsNotThere, Refuses, Changes, active_asked, demand_of, scene_at}
 use Rattle.um_model.specs.Reached.{first}
 use Rattle.um_model.specs.Refusals.{Refused}
 use Rattle.um_model.specs.Service.{active_state_of, state_of_unit}
+use Rattle.um_model.specs.Tree.{Tree, without_run}
 use Rattle.um_model.specs.declared.commands.JobMode.{JobMode}
 use Rattle.um_model.specs.declared.commands.UnitVerb.{UnitVerb}
 use Rattle.um_model.specs.declared.dependencies.Demand.{Demand}
 use Rattle.um_model.specs.declared.jobs.UnitJobs.{UnitJobs}
+use Rattle.um_model.proofs.KnownLaws.{more_known}
 use Rattle.um_graph.specs.Graph.{GraphView}
 use Rattle.um_graph.proofs.NamedLaws.{among_or_apart, name_got}
 use Rattle.um_jobs.specs.Named.{jobs_by}
@@ -26,7 +29,7 @@ use Rattle.um_wire.specs.declared.refusal.Refusal.TheVariants.{NoMemory}
 use Rattle.um_engine.specs.Demanded.{Obeys, IsDeclined, HoldsWithin}
 use Rattle.um_engine.specs.Known.{IsGraphFor, KnownView, KnowsFor}
 use Rattle.um_engine.specs.Planned.{HasPlan}
-use Rattle.um_engine.proofs.Causes.{by_crowd, by_absence, by_plan, free_to_plan, free_to_rest, plans_to, rests_so}
+use Rattle.um_engine.proofs.Causes.{by_crowd, by_absence, by_plan, by_fullness, free_to_plan, free_to_rest, plans_to, rests_so}
 
 -- a call that gives on the refusal of another is refused for its cause
 pub refuses_on : {X : Type 0} (Cause : Refused → Type 0) (result : Result X Refusal) (e : Refusal) → IsErrAnd result (λ f. f ≡ e) → (e ≢ NoMemory → Cause (refused_of e))
@@ -66,6 +69,20 @@ knows_after k s u demand unit mode made obeys held =
     same_loaded None is = ap (λ (x : State). x.loaded) is
     same_loaded (Some d) has = ap (λ (x : State). x.loaded) has.rest
 
+-- ---- too many known units
+
+-- where too many are known by what the state holds, too many are with a unit that is named
+crowded_with : (s : State) (named : List ℕ) (r : Refused) → IsCrowded s.loaded (IsHeld s) r → IsCrowded s.loaded (IsHeldOr s named) r
+crowded_with s named r h = record { many = by_tree h.many; refusal = h.refusal }
+  where
+    more : (tree : Tree) → KnowsTooMany tree (IsHeld s) → KnowsTooMany tree (IsHeldOr s named)
+    more tree = more_known tree (IsHeld s) (IsHeldOr s named) (λ x is. first (extra (inl is)))
+
+    by_tree : KnowsTooMany s.loaded (IsHeld s) ⊎ KnowsTooMany (without_run s.loaded) (IsHeld s)
+        → KnowsTooMany s.loaded (IsHeldOr s named) ⊎ KnowsTooMany (without_run s.loaded) (IsHeldOr s named)
+    by_tree (inl many) = inl (more s.loaded many)
+    by_tree (inr many) = inr (more (without_run s.loaded) many)
+
 -- ---- why the command is refused and what it changes
 
 module _ (s : State) (verb : UnitVerb) (asked : List ℕ) (mode : JobMode) (unit : List ℕ) (same : unit ≡ model.unit_asked s asked) where
@@ -88,12 +105,28 @@ module _ (s : State) (verb : UnitVerb) (asked : List ℕ) (mode : JobMode) (unit
   refused_declined r (Some d) is few there h =
       by_plan s verb asked mode r d (few_asked few) there (demanded_asked (Some d) is) (subst (λ x. IsRefused (scene_at s x) (d, x) mode r) same h)
 
-  pub free_obeyed : (u : State) (demand : Option Demand) → demand ≡ demand_of verb (active_state_of (state_of_unit s.units unit).sub)
+  -- too many units would be known with what was planned
+  pub refused_full : (r : Refused) (u : State) (demand : Option Demand) → demand ≡ demand_of verb (active_state_of (state_of_unit s.units unit).sub)
       → ((q : Refused) → ¬ IsCrowded s.loaded (IsHeldOr s unit) q) → ((q : Refused) → ¬ IsNotThere s verb asked q) → Obeys s demand unit mode u
+      → IsCrowded u.loaded (IsHeld u) r → Refuses s (model.ForUnit verb asked mode) r
+  refused_full r u None is few there same_state h =
+      absurd (few r (crowded_with s unit r (subst (λ (x : State). IsCrowded x.loaded (IsHeld x) r) same_state h)))
+  refused_full r u (Some d) is few there planned h =
+      by_fullness s verb asked mode r d u (few_asked few) there (demanded_asked (Some d) is) (subst (λ x. HasPlan s (d, x) mode u) same planned) h
+
+  pub free_obeyed : (u : State) (demand : Option Demand) → demand ≡ demand_of verb (active_state_of (state_of_unit s.units unit).sub)
+      → ((q : Refused) → ¬ IsCrowded s.loaded (IsHeldOr s unit) q) → ((q : Refused) → ¬ IsNotThere s verb asked q) → Obeys s demand unit mode u → IsFew u
       → (r : Refused) → ¬ Refuses s (model.ForUnit verb asked mode) r
-  free_obeyed u None is few there h = free_to_rest s verb asked mode (few_asked few) there (demanded_asked None is)
-  free_obeyed u (Some d) is few there h =
-      free_to_plan s verb asked mode d u (few_asked few) there (demanded_asked (Some d) is) (subst (λ x. HasPlan s (d, x) mode u) same h)
+  free_obeyed u None is few there h fits = free_to_rest s verb asked mode (few_asked few) there (demanded_asked None is)
+  free_obeyed u (Some d) is few there h fits =
+      free_to_plan s verb asked mode d u (few_asked few) there (demanded_asked (Some d) is) (subst (λ x. HasPlan s (d, x) mode u) same h) fits
+
+  -- the call is refused where too many units would be known with what was planned
+  pub refuses_after : {X : Type 0} (u : State) (demand : Option Demand) → demand ≡ demand_of verb (active_state_of (state_of_unit s.units unit).sub)
+      → ((q : Refused) → ¬ IsCrowded s.loaded (IsHeldOr s unit) q) → ((q : Refused) → ¬ IsNotThere s verb asked q) → Obeys s demand unit mode u
+      → (result : Result X Refusal) → RefusesBy (IsCrowded u.loaded (IsHeld u)) result → RefusesBy (Refuses s (model.ForUnit verb asked mode)) result
+  refuses_after u demand is few there obeys (Ok done) fits = free_obeyed u demand is few there obeys fits
+  refuses_after u demand is few there obeys (Err e) full = λ differs. refused_full (refused_of e) u demand is few there obeys (full differs)
 
   pub changes_obeyed : (u : State) (demand : Option Demand) → demand ≡ demand_of verb (active_state_of (state_of_unit s.units unit).sub) → Obeys s demand unit mode u
       → Changes s (model.ForUnit verb asked mode) u

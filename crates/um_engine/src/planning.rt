@@ -18,10 +18,12 @@ ghost use Rattle.um_wire.specs.Refusal.{refused_of};
 ghost use Rattle.um_wire.specs.declared.refusal.Refusal.TheVariants.{NoMemory};
 
 use crate::jobs::demand_of;
+use crate::known::Known;
 use crate::missing::check_missing;
 use crate::names::Asked;
 use crate::served::Served;
 use std::alloc::{AllocError, Global};
+use std::rc::Rc;
 use um_graph::Graph;
 use um_model::{ActiveState, Demand, JobMode, UnitJobs, UnitVerb};
 use um_name::UnitName;
@@ -202,8 +204,23 @@ fn check_there(
     check_missing(alloc, state, asked, is_found)
 }
 
+/// The state after a plan, with what is known of its units. Refused are too many known units (E13).
+///
+/// All units of the plan are known already; but those that only entries under `run/` name aren't by the tree without these, until
+/// the state holds them.
+fn served_after(alloc: Global, changed: State, known: Rc<Known>) -> Result<Served, Refusal>
+    requires { KnowsFor known.value (state_of changed) }
+    ensures state { IfOk result (λ u. u.state ≡ state_of changed) }
+    ensures refused { RefusesBy (model.IsCrowded (state_of changed).loaded (model.IsHeld (state_of changed))) result }
+{
+    if changed.loaded().has_run() {
+        return Served::of(alloc, changed);
+    }
+    Ok(Served::with(changed, known))
+}
+
 /// The state with the plan of a command for a unit. Refused are, in this order, too many known units (E13), one that isn't there
-/// (E7), and what `build` refuses.
+/// (E7), what `build` refuses, and too many known units with the plan (E13).
 pub fn planned(
     alloc: Global,
     served: &Served,
@@ -220,5 +237,5 @@ pub fn planned(
     check_there(alloc, state, verb, asked, is_found)?;
     let demand = demand_for(state, verb, &unit);
     let changed = demanded_or_same(alloc, known.graph(), state, demand, &unit, mode)?;
-    Ok(Served::with(changed, known))
+    served_after(alloc, changed, known)
 }

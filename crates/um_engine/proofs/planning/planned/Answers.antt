@@ -1,4 +1,5 @@
 use Rattle.std.proofs.Common.{rules, ◌≡◌, ◌≢◌, sym, subst}
+use Rattle.std.proofs.lemmas.Result.{IfOk-weaker}
 use Rattle.um_model.specs.Machine as model
 use Rattle.um_model.specs.Machine.{State}
 use Rattle.um_model.specs.Refusals.{Refused}
@@ -8,7 +9,7 @@ use Rattle.um_state.specs.View.{state_of}
 use Rattle.um_wire.specs.Refusal.{refused_of}
 use Rattle.um_wire.specs.declared.refusal.Refusal.TheVariants.{NoMemory}
 use Rattle.um_engine.specs.Demanded.{HoldsWithin, IsDeclined, Obeys}
-use Rattle.um_engine.proofs.PlannedLaws.{refuses_on, knows_after, refused_crowded, refused_absent, refused_declined, free_obeyed, changes_obeyed}
+use Rattle.um_engine.proofs.PlannedLaws.{refuses_on, knows_after, refused_crowded, refused_absent, refused_declined, refuses_after, changes_obeyed}
 use Rattle.um_engine.proofs.planning.planned.Goals as goal
 
 pub returns-in_err-known-clause-refused : goal.returns-in_err-known-clause-refused
@@ -47,8 +48,8 @@ returns-in_err-changed-clause-refused c =
     (subst (λ (x : State). IsDeclined x c.demand_for-demand.result unit c.args.mode (refused_of e)) c.state-state.ensures.state (c.in_err-changed.ensures.refused differs)) in
     refuses_on (model.Refuses s (model.ForUnit c.args.verb c.args.asked.now c.args.mode)) c.from_residual-in_err-changed.result e c.from_residual-in_err-changed.ensures.1 step
 
-pub with-requires : goal.with-requires
-with-requires c =
+pub served_after-requires : goal.served_after-requires
+served_after-requires c =
     let s = c.args.served.now.state in
     let unit = c.in_ok-unit.field-0.unit in
     let k = c.in_ok-known.known.value in
@@ -69,8 +70,9 @@ returns-clause-changed c =
     let u = state_of c.in_ok-changed.changed in
     let obeys : Obeys s c.demand_for-demand.result unit c.args.mode u =
     subst (λ (x : State). Obeys x c.demand_for-demand.result unit c.args.mode u) c.state-state.ensures.state c.in_ok-changed.ensures.obeyed in
-    subst (model.Changes s (model.ForUnit c.args.verb c.args.asked.now c.args.mode)) (sym c.with.ensures.state)
-    (changes_obeyed s c.args.verb c.args.asked.now c.args.mode unit same u c.demand_for-demand.result is obeys)
+    IfOk-weaker c.served_after.result (λ v. v.state ≡ u) (λ v. model.Changes s (model.ForUnit c.args.verb c.args.asked.now c.args.mode) v.state)
+    (λ v is_state. subst (model.Changes s (model.ForUnit c.args.verb c.args.asked.now c.args.mode)) (sym is_state)
+    (changes_obeyed s c.args.verb c.args.asked.now c.args.mode unit same u c.demand_for-demand.result is obeys)) c.served_after.ensures.state
 
 pub returns-clause-refused : goal.returns-clause-refused
 returns-clause-refused c =
@@ -84,4 +86,5 @@ returns-clause-refused c =
     let u = state_of c.in_ok-changed.changed in
     let obeys : Obeys s c.demand_for-demand.result unit c.args.mode u =
     subst (λ (x : State). Obeys x c.demand_for-demand.result unit c.args.mode u) c.state-state.ensures.state c.in_ok-changed.ensures.obeyed in
-    free_obeyed s c.args.verb c.args.asked.now c.args.mode unit same u c.demand_for-demand.result is c.in_ok-known.ensures.refused there obeys
+    refuses_after s c.args.verb c.args.asked.now c.args.mode unit same u c.demand_for-demand.result is c.in_ok-known.ensures.refused there obeys
+    c.served_after.result c.served_after.ensures.refused
