@@ -1,14 +1,12 @@
 -- What commands are refused for, and what they change, from what the calls below tell.
-use Rattle.std.proofs.Common.{◌≡◌, ◌≢◌, ◌∙◌, ℕ, List, Option, Some, None, true, false, Result, Ok, Err, codes, sym, ap, subst}
+use Rattle.std.proofs.Common.{◌≡◌, ◌≢◌, ◌∙◌, ℕ, List, Some, None, false, Result, Ok, Err, sym, ap, subst}
 use Rattle.um_model.specs.Jobs.{cancelled, jobs_of_unit}
 use Rattle.um_model.specs.Machine as model
 use Rattle.um_model.specs.Machine.{State, IsCrowded, IsHeld, IsHeldOr, IsNotThere, IsMissing, HasNoneWaiting, HasNoPlan, Refuses, puts_none, links_none, removes_none, plans_none, cancels_none, reloads_none, installs_none, scene_at, active_asked, demand_of, demands_nothing, Changes, puts, links, removes, reloads, plans, cancels, installs}
 use Rattle.um_model.specs.Few.{IsFew}
-use Rattle.um_model.specs.Names.{is_template}
-use Rattle.um_model.specs.Refusals.{Refused, not_found, masked, bad_setting, no_such_job, unless_refused, FirstCause, at_first, at_second}
+use Rattle.um_model.specs.Refusals.{Refused, no_such_job, unless_refused, FirstCause, at_first, at_second}
 use Rattle.std.specs.FinMap as map
 use Rattle.um_model.specs.Tree.{Tree, File, Link, put_cause, link_cause, remove_cause, put_file, put_link, remove_at}
-use Rattle.um_model.specs.Units.{LoadedUnit, Found, Masked, NotFound, BadSetting, load}
 use Rattle.um_model.specs.Install.{Installs, RefusesInstall}
 use Rattle.um_model.specs.Service.{ByUnit}
 use Rattle.um_model.specs.declared.commands.JobMode.{JobMode}
@@ -23,7 +21,6 @@ use Rattle.um_model.proofs.PlannedLaws.{one_plan}
 use Rattle.um_model.proofs.SceneLaws.{finite_scene}
 use Rattle.um_transact.specs.Scene.{IsRefused}
 use Rattle.std.proofs.lemmas.Option.{none-some, same_Some}
-use Rattle.um_wire.specs.Gives.{RefusesBy}
 use Rattle.um_wire.specs.Refusal.{refused_of}
 use Rattle.um_wire.specs.declared.refusal.Refusal.{Refusal}
 use Rattle.um_wire.specs.declared.refusal.Refusal.TheVariants.{NoMemory}

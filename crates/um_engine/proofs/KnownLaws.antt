@@ -1,26 +1,19 @@
 -- What is known for a state, by what the tests of it tell.
-use Rattle.std.proofs.Common.{◌≡◌, ◌≢◌, ◌⊎◌, ◌↔◌, ◌∙◌, ◌++◌, ◌∷◌, ◌<◌, ◌≤◌, [], ℕ, List, Contains, Option, Some, None, Result, Ok, Err, is_some, unwrap_or, Bool, true, false, true≢false, cond, refl, sym, ap, subst, inl, inr, arith}
-use Rattle.std.specs.FinMap as map
-use Rattle.std.specs.Cmp.Lexicographic.{slice_cmp, nat_list_cmp_total}
-use Rattle.std.specs.Ordering.{nat_cmp, eq_by_cmp}
+use Rattle.std.proofs.Common.{◌≡◌, ◌⊎◌, ◌↔◌, ◌∙◌, ◌<◌, ◌≤◌, ℕ, List, Contains, Option, Some, None, Result, Ok, Err, is_some, Bool, true, false, true≢false, refl, sym, ap, subst, inl, inr, arith}
 use Rattle.std.specs.Prelude.{IfOk, MatchOption, slice_get}
 use Rattle.std.proofs.lemmas.Option.{get_or_from_slice_get}
 use Rattle.um_graph.proofs.NamedLaws.{got_within}
 use Rattle.um_model.specs.Dependencies.{CountsFor, IsKnown, KnowsTooMany, extra}
-use Rattle.um_model.specs.Few.{IsFew}
-use Rattle.um_model.specs.Jobs.{cancelled, has_job, jobs_of_unit, no_jobs, with_jobs}
-use Rattle.um_model.specs.Machine.{State, IsHeld, IsHeldOr, IsTooHeavy, PutFile, PutLink, Remove, Cancel, Changes, puts, links, removes, cancels, unit_asked, with_plan}
+use Rattle.um_model.specs.Few.{IsFew, HoldsNoMore}
+use Rattle.um_model.specs.Machine.{State, IsHeld, IsTooHeavy, PutFile, PutLink, Remove, Cancel, Changes, puts, links, removes, cancels, unit_asked}
 use Rattle.um_model.specs.Reached.{first}
 use Rattle.um_model.specs.Tree.{Tree, has_run, without_run}
-use Rattle.um_model.specs.Service.{ByUnit}
 use Rattle.um_model.specs.Weight.{weight_of}
+use Rattle.um_model.proofs.FewLaws.{cancel_no_more}
 use Rattle.um_model.proofs.KnownLaws.{more_known}
 use Rattle.um_model.proofs.SceneLaws.{one_count}
-use Rattle.um_model.specs.declared.jobs.UnitJobs.{UnitJobs}
-use Rattle.um_model.proofs.TimersLaws.{same_name}
 use Rattle.um_model.proofs.TreeLaws.{without_run_same}
-use Rattle.um_model.proofs.UnitLaws.{unlike}
-use Rattle.um_engine.specs.Known.{IsHeldWith, IsGraphFor, KnownView, KnowsFor, HoldsNoMore}
+use Rattle.um_engine.specs.Known.{IsHeldWith, IsGraphFor, KnownView, KnowsFor}
 use Rattle.um_engine.specs.Over.{Serves}
 use Rattle.um_engine.proofs.SameUnitsLaws.{KnowsSame, count_by, graph_same}
 
@@ -73,38 +66,6 @@ pub knows_loaded : (k : KnownView) (s u : State) (tree : Tree) → IsGraphFor tr
     → u ≡ record s { tree = tree; loaded = tree } → KnowsFor k u
 knows_loaded k s u tree made held is = subst (KnowsFor k) (sym is) (record { made = made; held = held })
 
-none_left : (b : Bool) (o : Option UnitJobs) → o ≡ None → cond b None o ≡ None
-none_left true o none = refl
-none_left false o none = none
-
--- of a unit that has no jobs none are held after others are put, unless they are its own
-module _ (pending : ByUnit UnitJobs) (unit : List ℕ) (j : UnitJobs) (x : List ℕ) (none : map.get pending x ≡ None) where
-  removed_none : map.get (map.remove pending unit) x ≡ None
-  removed_none = map.get-remove nat_list_cmp_total pending unit x ∙ none_left (eq_by_cmp (slice_cmp nat_cmp) x unit) (map.get pending x) none
-
-  put_none : (b : Bool) → x ≢ unit → map.get (cond b (map.insert pending unit j) (map.remove pending unit)) x ≡ None
-  put_none true apart =
-      map.get-insert nat_list_cmp_total pending unit j x ∙ (ap (λ b. cond b (Some j) (map.get pending x)) (unlike x unit apart) ∙ none)
-  put_none false apart = removed_none
-
-  with_none : (x ≡ unit → has_job j ≡ false) → map.get (with_jobs pending unit j) x ≡ None
-  with_none own = elim (same_name x unit) as (λ _. map.get (with_jobs pending unit j) x ≡ None) [
-    | inl is ↦ ap (λ b. map.get (cond b (map.insert pending unit j) (map.remove pending unit)) x) (own is) ∙ removed_none
-    | inr apart ↦ put_none (has_job j) apart
-  ]
-
--- without the waiting jobs of a unit nothing new is held
-pub cancel_holds_no_more : (s : State) (unit : List ℕ) → HoldsNoMore s (with_plan s unit (cancelled (jobs_of_unit s.pending unit)))
-cancel_holds_no_more s unit = record { loaded = refl; held = still }
-  where
-    still : (x : List ℕ) → IsHeld (with_plan s unit (cancelled (jobs_of_unit s.pending unit))) x → IsHeld s x
-    still x (inl h) = inl h
-    still x (inr h) =
-        inr
-        (λ none. h
-        (with_none s.pending unit (cancelled (jobs_of_unit s.pending unit)) x none (λ is.
-        ap (λ o. has_job (cancelled (unwrap_or o no_jobs))) (subst (λ y. map.get s.pending y ≡ None) is none))))
-
 -- commands that leave the loaded tree make the state hold nothing new, but for plans
 pub put_holds_no_more : (s u : State) (path text : List ℕ) → Changes s (PutFile path text) u → HoldsNoMore s u
 put_holds_no_more s _ path text (puts e) = record { loaded = refl; held = λ x h. h }
@@ -116,7 +77,7 @@ pub remove_holds_no_more : (s u : State) (path : List ℕ) → Changes s (Remove
 remove_holds_no_more s _ path (removes e) = record { loaded = refl; held = λ x h. h }
 
 pub waiting_holds_no_more : (s : State) (asked : List ℕ) (u : State) → Changes s (Cancel asked) u → HoldsNoMore s u
-waiting_holds_no_more s asked _ cancels = cancel_holds_no_more s (unit_asked s asked)
+waiting_holds_no_more s asked _ cancels = cancel_no_more s (unit_asked s asked)
 
 -- the count for the list of what is held
 pub count_found : {E : Type 0} (s : State) (tree : Tree) (names : List (List ℕ)) → tree ≡ s.loaded → ((x : List ℕ) → Contains names x ↔ IsHeld s x)

@@ -9,7 +9,8 @@ use Rattle.um_model.specs.Transitions.{AreActions}
 use Rattle.um_model.specs.declared.transition.UnitEvent.{UnitEvent}
 
 -- the unit is changed, and whether its start fails is told
-pub record ChangesTo (t : ℕ) (unit : List ℕ) (event : UnitEvent) (s : State) (before : List Action) (fails : Bool) (s' : State) (after : List Action) : Type 0 where
+pub record ChangesTo (t : ℕ) (unit : List ℕ) (event : UnitEvent) (s : State) (before : List Action) (fails : Bool) (s' : State)
+    (after : List Action) : Type 0 where
   pub new : List Action
   pub state : s' ≡ changed s unit (change_of t s unit event)
   pub fails_so : fails ≡ fails_start (change_of t s unit event).start (jobs_of_unit s.pending unit).start

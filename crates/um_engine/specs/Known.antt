@@ -1,8 +1,8 @@
 -- What the engine knows of the units of a tree: the graph, and the units for which it was made.
 -- Follows no manual page: it is how the engine keeps what it knows of units.
 -- Commands and the room that a state takes stand on this file.
-use Rattle.std.specs.Prelude.{◌≡◌, ◌⊎◌, ℕ, List, Contains, Option, Some, None}
-use Rattle.um_model.specs.Dependencies.{IsKnown, CountsFor, KnowsTooMany}
+use Rattle.std.specs.Prelude.{◌⊎◌, ℕ, List, Contains, Option, Some, None}
+use Rattle.um_model.specs.Dependencies.{CountsFor, KnowsTooMany}
 use Rattle.um_model.specs.Machine.{State, IsHeld, IsHeldOr}
 use Rattle.um_model.specs.Tree.{Tree, without_run}
 use Rattle.um_graph.specs.Graph.{GraphView, IsGraph, IsGraphOf}
@@ -32,8 +32,3 @@ pub record KnownView : Type 0 where
 pub record KnowsFor (k : KnownView) (s : State) : Type 0 where
   pub made : IsGraphFor s.loaded (Contains k.extra) k.graph
   pub held : (unit : List ℕ) → IsHeld s unit → Contains k.graph.names unit
-
--- the later state has the same loaded tree and holds nothing new
-pub record HoldsNoMore (s u : State) : Type 0 where
-  pub loaded : u.loaded ≡ s.loaded
-  pub held : (unit : List ℕ) → IsHeld u unit → IsHeld s unit

@@ -1,7 +1,7 @@
 //! What a command does, and why it is refused.
 
 ghost use Rattle.std.specs.Prelude.{◌≡◌, Err, [], false, map, IfOk, IfErr};
-ghost use Rattle.um_engine.specs.Known.{HoldsNoMore};
+ghost use Rattle.um_model.specs.Few.{HoldsNoMore};
 ghost use Rattle.um_model.specs.Machine.{has_waiting};
 ghost use Rattle.um_model.specs.Install.{paths_beyond};
 ghost use Rattle.um_model.specs.Machine as model;

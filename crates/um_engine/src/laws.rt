@@ -1,8 +1,10 @@
-ghost use Rattle.std.specs.Prelude.{◌≡◌, ◌↔◌, ◌++◌, ℕ, List};
+ghost use Rattle.std.specs.Prelude.{◌≡◌, ◌↔◌, ◌++◌, ℕ, List, None};
 ghost use Rattle.um_model.specs.Alike.{IsSameOutcome};
 ghost use Rattle.um_model.specs.Few.{IsFew};
-ghost use Rattle.um_model.specs.Live.{IsFree, IsNotStuck};
-ghost use Rattle.um_model.specs.Machine.{State, Input, Reply, Step, Run, empty_state};
+ghost use Rattle.um_model.specs.Finished.{Finishes, IsAtRest, PutsStart};
+ghost use Rattle.um_model.specs.Jobs.{jobs_of_unit};
+ghost use Rattle.um_model.specs.Live.{IsFree, IsNotStuck, WeighsNoMore};
+ghost use Rattle.um_model.specs.Machine.{State, Happening, Happened, Input, Reply, Done, Step, Run, empty_state};
 ghost use Rattle.um_model.specs.Numbers.{AreNew, started_numbers, actions_in};
 ghost use Rattle.um_model.specs.Service.{Action};
 
@@ -44,6 +46,20 @@ pub fn the_machine_is_never_stuck()
 /// `run/`.
 pub fn no_more_units_are_known_than_may_be()
     ensures { (size : ℕ) (inputs : List Input) (t : State) → Run size empty_state inputs t → IsFew t }
+{}
+
+/// What happens is never refused, and never raises the weight of the state.
+pub fn what_happens_never_raises_the_weight()
+    ensures { (size : ℕ) (s : State) (moment : ℕ) (happening : Happening) (reply : Reply) (actions : List Action) (t : State)
+        → Step size s (record { moment = moment; event = Happened happening }) reply actions t → (reply ≡ Done) × WeighsNoMore t s }
+{}
+
+/// A finished job isn't repeated: where a oneshot finished in a step and no start of it is pending after that, it is at rest after
+/// each further run in which no command puts a start of it.
+pub fn a_finished_job_is_not_repeated()
+    ensures { (size : ℕ) (s t u : State) (unit : List ℕ) (input : Input) (inputs : List Input) (reply : Reply) (actions : List Action)
+        → Step size s input reply actions t → Finishes s t unit → (jobs_of_unit t.pending unit).start ≡ None → Run size t inputs u
+        → ¬ PutsStart size unit t inputs → IsAtRest u unit }
 {}
 
 /// The numbers of the processes that a step starts are new: the next number never falls, and each number started is at least the one

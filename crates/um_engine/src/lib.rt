@@ -26,6 +26,8 @@ mod settling;
 
 pub use engine::{Back, Engine, Next};
 pub use laws::{
-    a_run_has_one_end, a_step_has_one_outcome, each_input_has_a_step, no_number_is_started_twice,
+    a_finished_job_is_not_repeated, a_run_has_one_end, a_step_has_one_outcome,
+    each_input_has_a_step, no_more_units_are_known_than_may_be, no_number_is_started_twice,
     numbers_rise, runs_join, the_machine_is_never_stuck, the_pending_jobs_have_no_cycle,
+    what_happens_never_raises_the_weight,
 };

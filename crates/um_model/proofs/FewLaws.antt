@@ -72,7 +72,7 @@ unit_none units unit u x none apart = by_test (holds_nothing u)
     by_test true = removed_none units unit u x none
     by_test false = inserted_none units unit u x none apart
 
-none_there : {A : Type 0} (o : Option A) → ¬ (o ≢ None) → o ≡ None
+pub none_there : {A : Type 0} (o : Option A) → ¬ (o ≢ None) → o ≡ None
 none_there None h = refl
 none_there (Some a) h = absurd (h (λ none. none-some a (sym none)))
 
@@ -251,7 +251,7 @@ settles_no_more t s actions v (Settles.begins_next {u = u} {first = x} {more = y
     (settles_no_more t u y v k)
 
 -- what happens to a unit, and the jobs that begin by that
-happened_no_more : (t : ℕ) (unit : List ℕ) (event : UnitEvent) (s : State) (early late : List Action) (u v : State) → MayHappen s unit event
+pub happened_no_more : (t : ℕ) (unit : List ℕ) (event : UnitEvent) (s : State) (early late : List Action) (u v : State) → MayHappen s unit event
     → Happens t unit event s early u → Settles t u late v → HoldsNoMore s v
 happened_no_more t unit event s early late u v may h k = no_more_trans s u v (happens_no_more t unit event s early u may h) (settles_no_more t u late v k)
 
@@ -275,14 +275,15 @@ due_no_more : (t : ℕ) (s : State) (unit : List ℕ) (actions : List Action) (v
 due_no_more t s unit actions v is (ComesDue.restarts awaits again) = restarts_no_more s unit v is again
 due_no_more t s unit actions v is (ComesDue.passes isnt h) = happens_no_more t unit DeadlinePasses s actions v (inl is) h
 
-fires_no_more : (t : ℕ) (timers : Timers) (s : State) (actions : List Action) (v : State) → Fires t timers s actions v → HoldsNoMore s v
+pub fires_no_more : (t : ℕ) (timers : Timers) (s : State) (actions : List Action) (v : State) → Fires t timers s actions v → HoldsNoMore s v
 fires_no_more t timers s actions v (Fires.none_due none) = same_no_more s
 fires_no_more t timers s actions v (Fires.fires {u = u} {v = p} {first = x} {next = y} {more = z} d n least due is h k l) =
     no_more_trans s u v (due_no_more t s n x u (deadline_held s n d is) h)
     (no_more_trans u p v (settles_no_more t u y p k) (fires_no_more t (map.remove timers n) p z v l))
 fires_no_more t timers s actions v (Fires.passes {more = z} d n least due isnt l) = fires_no_more t (map.remove timers n) s z v l
 
-number_held : (s : State) (number : ℕ) (unit : List ℕ) → IsProcessOf s.units number unit → IsHeld s unit
+-- the unit of a live process is held
+pub number_held : (s : State) (number : ℕ) (unit : List ℕ) → IsProcessOf s.units number unit → IsHeld s unit
 number_held s number unit is = inl (there (map.get s.units unit) (held_with_number s.units unit number is.has))
 
 -- without the waiting jobs of a unit nothing new is held
@@ -326,10 +327,16 @@ changes_few s command u none (Changes.demands_nothing is) few = few
 changes_few s command u none (Changes.plans {demand = demand} {after = after} is plan) few = λ r crowded.
     none r (Refuses.plans_none (at_second (λ q full. none q (Refuses.plans_none (at_first full)))
     (at_second (λ q missing. none q (Refuses.plans_none (at_second (λ x full. none x (Refuses.plans_none (at_first full))) (at_first missing))))
-    (record { demand = demand; demanded = is; after = after; plan = plan; cause = at_second (λ q c. none q (Refuses.plans_none
-    (at_second (λ x full. none x (Refuses.plans_none (at_first full)))
-    (at_second (λ x missing. none x (Refuses.plans_none (at_second (λ y full. none y (Refuses.plans_none (at_first full))) (at_first missing))))
-    (record { demand = demand; demanded = is; after = after; plan = plan; cause = at_first c }))))) crowded }))))
+    (record {
+      demand = demand;
+      demanded = is;
+      after = after;
+      plan = plan;
+      cause = at_second (λ q c. none q (Refuses.plans_none
+          (at_second (λ x full. none x (Refuses.plans_none (at_first full)))
+          (at_second (λ x missing. none x (Refuses.plans_none (at_second (λ y full. none y (Refuses.plans_none (at_first full))) (at_first missing))))
+          (record { demand = demand; demanded = is; after = after; plan = plan; cause = at_first c }))))) crowded;
+    }))))
 
 does_few : (t : ℕ) (s : State) (command : Command) (actions : List Action) (u : State) → ((r : Refused) → ¬ Refuses s command r) → Does t s command actions u → IsFew s → IsFew u
 does_few t s command actions u none (Does.changes h) few = changes_few s command u none h few
@@ -353,7 +360,7 @@ booted_few boot s few r crowded = few r (record { many = inr (by_tree crowded.ma
     by_tree (inr k) = fewer (without_run s.loaded) (subst (λ tree. KnowsTooMany tree (IsHeld (booted boot s))) (without_run_twice s.loaded) k)
 
 -- what happens makes the state hold nothing new, or it is a boot
-pub follows_no_more : (t : ℕ) (s : State) (happening : Happening) (actions : List Action) (v : State) → Follows t s happening actions v
+follows_no_more : (t : ℕ) (s : State) (happening : Happening) (actions : List Action) (v : State) → Follows t s happening actions v
     → HoldsNoMore s v ⊎ ((boot : List ℕ) × (v ≡ booted boot s))
 follows_no_more t s happening actions v (Follows.ends {number = number} {end = end} {first = x} {more = y} {u = u} unit is h k) =
     inl (happened_no_more t unit (end_of (state_of_unit s.units unit) number end) s x y u v (inl (number_held s number unit is)) h k)

@@ -1,1 +1,353 @@
--- A finished job isn't repeated.
+-- A finished job isn't repeated: a unit at rest stays so until a command puts a start of it.
+use Rattle.std.proofs.Common.{ℕ, ◌≡◌, ◌≢◌, ◌∙◌, ◌+◌, ◌||◌, ◌&&◌, Bool, true, false, true≢false, not, cond, List, [], ◌∷◌, ◌++◌, Some, None, unwrap_or, refl, sym, ap, subst, inl, inr}
+use Rattle.std.proofs.lemmas.Option.{none-some}
+use Rattle.std.specs.Cmp.Lexicographic.{slice_cmp}
+use Rattle.std.specs.FinMap as map
+use Rattle.std.specs.Ordering.{nat_cmp}
+use Rattle.um_model.specs.Ends.{is_clean, is_restart_wanted}
+use Rattle.um_model.specs.Finished.{is_exited, Finishes, is_down_or_done, IsAtRest, PutsStart, now, later}
+use Rattle.um_model.specs.Jobs.{job_of, jobs, no_jobs, jobs_of_unit}
+use Rattle.um_model.specs.Machine.{State, Command, Happening, Event, Commanded, Input, Reply, TakesAlong, Becomes, Carries, change_of, changed, acting_in, around, begins, begun, FallDown, all_told, told_next, Happens, AreReset, all_reset, reset_next, Settles, unit_asked, jobs_asked, Refuses, Changes, Does, units_reset, end_of, awaits_restart, Restarts, has_a_job, closes_a_circle, ComesDue, Fires, booted, Follows, Takes, moment_of, Step, Run}
+use Rattle.um_model.specs.Refusals.{Refused}
+use Rattle.um_model.specs.Service.{Action, active_state_of, dead_unit, is_dead, is_number, is_success, state_of_unit}
+use Rattle.um_model.specs.Settings.{ServiceSettings, has_place}
+use Rattle.um_model.specs.Timers.{Timers}
+use Rattle.um_model.specs.Transitions as table
+use Rattle.um_model.specs.Transitions.{deadline_after, has_number, is_live, just, asking, resting, rests_for_good, rests, terminates, stop_command, winds_down, next_stop, rests_unless_live, noted, without_main, without_control, timed_out, asked, unless_failed, is_well, row, is_going, transition}
+use Rattle.um_model.specs.declared.jobs.JobKind.{JobKind}
+use Rattle.um_model.specs.declared.jobs.JobKind.TheVariants as job
+use Rattle.um_model.specs.declared.jobs.JobState.TheVariants.{Waiting}
+use Rattle.um_model.specs.declared.jobs.UnitJobs.{UnitJobs}
+use Rattle.um_model.specs.declared.service.End.{End}
+use Rattle.um_model.specs.declared.service.Signal.TheVariants.{Term}
+use Rattle.um_model.specs.declared.service.SubState.{SubState}
+use Rattle.um_model.specs.declared.service.SubState.TheVariants.{Dead, Start, Running, Exited, Stop, StopSigterm, StopSigkill, Failed, AutoRestart, Active}
+use Rattle.um_model.specs.declared.service.UnitResult.{UnitResult}
+use Rattle.um_model.specs.declared.service.UnitResult.TheVariants as result
+use Rattle.um_model.specs.declared.service.UnitState.{UnitState}
+use Rattle.um_model.specs.declared.transition.Around.{Around}
+use Rattle.um_model.specs.declared.transition.Change.{Change}
+use Rattle.um_model.specs.declared.transition.CommandList.TheVariants.{OfStop}
+use Rattle.um_model.specs.declared.transition.Order.TheVariants.{Spawn, Signal}
+use Rattle.um_model.specs.declared.transition.Process.TheVariants.{Main, Control}
+use Rattle.um_model.specs.declared.transition.UnitEvent.{UnitEvent}
+use Rattle.um_model.specs.declared.transition.UnitEvent.TheVariants.{StartBegins, StopBegins, BoundStop, Executed, MainEnds, ControlEnds, DeadlinePasses, Reset}
+use Rattle.um_model.proofs.AlongLaws.{taken_along_or_not}
+use Rattle.um_model.proofs.FewLaws.{none_there}
+use Rattle.um_model.proofs.FreeLaws.{cancelled_fewer, fewer_at, begun_less, carried_less}
+use Rattle.um_model.proofs.TimersLaws.{same_name}
+use Rattle.um_model.proofs.TransitionLaws.{by_cond}
+use Rattle.um_model.proofs.UnitLaws.{state_here, state_apart, jobs_apart}
+
+-- ---- one unit
+
+-- it is down or done
+abbrev Rests : UnitState → Type 0
+Rests u = is_down_or_done u.sub u.asked ≡ true
+
+resting_rests : (r : UnitResult) (asked : Bool) → is_down_or_done (resting r) asked ≡ true
+resting_rests result.Success asked = refl
+resting_rests result.ExitCode asked = refl
+resting_rests result.Signal asked = refl
+resting_rests result.Timeout asked = refl
+resting_rests result.Lost asked = refl
+resting_rests result.StartLimitHit asked = refl
+resting_rests result.Dependency asked = refl
+resting_rests result.NotLoaded asked = refl
+resting_rests result.Resources asked = refl
+
+forgiven_rests : (sub : SubState) (asked : Bool) → is_down_or_done sub asked ≡ true → is_down_or_done (unless_failed sub) asked ≡ true
+forgiven_rests Failed asked h = refl
+forgiven_rests _ asked h = h
+
+noted_asked : (w : UnitState) (e : End) (clean : Bool) → (noted w e clean).asked ≡ w.asked
+noted_asked w e true = refl
+noted_asked w e false = refl
+
+noted_rests : (w : UnitState) (e : End) (clean : Bool) → Rests w → Rests (noted w e clean)
+noted_rests w e true h = h
+noted_rests w e false h = h
+
+-- what follows for a unit that is told to stop leaves it down or told to stop
+module _ (s : ServiceSettings) (c : Around) where
+  abbrev Leaves : Change → Type 0
+  Leaves v = Rests v.unit
+
+  rests_rests : (w : UnitState) → w.asked ≡ true → Leaves (rests s c w)
+  rests_rests w is =
+      subst (λ b. Leaves (cond (not b && not c.stop_waits && is_restart_wanted s w) (table.awaits_restart s c w) (rests_for_good w))) (sym is)
+      (resting_rests w.result w.asked)
+
+  terminates_rests : (w : UnitState) → w.asked ≡ true → Leaves (terminates s c w)
+  terminates_rests w is =
+      by_cond Leaves (is_live w) (asking (Signal Term) (just (record w { sub = StopSigterm; deadline = deadline_after c.moment s.timeout_stop }))) (rests s c w)
+      (λ e. is) (λ e. rests_rests w is)
+
+  stop_command_rests : (w : UnitState) (i : ℕ) → w.asked ≡ true → Leaves (stop_command s c w i)
+  stop_command_rests w i is =
+      by_cond Leaves (has_number c)
+      (asking (Spawn OfStop i) (just (record w { sub = Stop; control = Some c.next; index = i; deadline = deadline_after c.moment s.timeout_stop })))
+      (terminates s c (record w { result = result.Resources; index = i }))
+      (λ e. is) (λ e. terminates_rests (record w { result = result.Resources; index = i }) is)
+
+  winds_down_rests : (w : UnitState) → w.asked ≡ true → Leaves (winds_down s c w)
+  winds_down_rests w is = by_cond Leaves (has_place s.stop 0) (stop_command s c w 0) (terminates s c w) (λ e. stop_command_rests w 0 is) (λ e. terminates_rests w is)
+
+  next_stop_rests : (w : UnitState) → w.asked ≡ true → Leaves (next_stop s c w)
+  next_stop_rests w is =
+      by_cond Leaves (has_place s.stop (w.index + 1)) (stop_command s c w (w.index + 1)) (terminates s c w)
+      (λ e. stop_command_rests w (w.index + 1) is) (λ e. terminates_rests w is)
+
+  unless_live_rests : (w : UnitState) → Rests w → w.asked ≡ true → Leaves (rests_unless_live s c w)
+  unless_live_rests w h is = by_cond Leaves (is_live w) (just w) (rests s c w) (λ e. h) (λ e. rests_rests w is)
+
+  main_asked : (u : UnitState) (e : End) → u.asked ≡ true → (without_main s u e).asked ≡ true
+  main_asked u e is = noted_asked (record u { main = None; last = Some e }) e (is_clean s u Main e) ∙ is
+
+  control_asked : (u : UnitState) (e : End) → u.asked ≡ true → (without_control s u e).asked ≡ true
+  control_asked u e is = noted_asked (record u { control = None }) e (is_clean s u Control e) ∙ is
+
+  main_rests : (u : UnitState) (e : End) → Rests u → Rests (without_main s u e)
+  main_rests u e h = noted_rests (record u { main = None; last = Some e }) e (is_clean s u Main e) h
+
+  control_rests : (u : UnitState) (e : End) → Rests u → Rests (without_control s u e)
+  control_rests u e h = noted_rests (record u { control = None }) e (is_clean s u Control e) h
+
+  -- in this sub state the unit is down or done
+  there : (sub : SubState) (u : UnitState) → u.sub ≡ sub → is_down_or_done sub u.asked ≡ true → Rests u
+  there sub u is h = subst (λ x. is_down_or_done x u.asked ≡ true) (sym is) h
+
+  row_rests : (sub : SubState) (event : UnitEvent) (well : Bool) (u : UnitState) → u.sub ≡ sub → is_down_or_done sub u.asked ≡ true → event ≢ StartBegins
+      → Leaves (row s c u sub event well)
+  row_rests sub StartBegins well u is h isnt = absurd (isnt refl)
+  row_rests sub Reset well u is h isnt = forgiven_rests u.sub u.asked (there sub u is h)
+  row_rests Start event well u is h isnt = absurd (true≢false (sym h))
+  row_rests Running event well u is h isnt = absurd (true≢false (sym h))
+  row_rests AutoRestart event well u is h isnt = absurd (true≢false (sym h))
+  row_rests Active event well u is h isnt = absurd (true≢false (sym h))
+  row_rests Exited StopBegins well u is h isnt = winds_down_rests (asked u) refl
+  row_rests Stop StopBegins well u is h isnt = there Stop (asked u) is refl
+  row_rests StopSigterm StopBegins well u is h isnt = there StopSigterm (asked u) is refl
+  row_rests StopSigkill StopBegins well u is h isnt = there StopSigkill (asked u) is refl
+  row_rests Stop (ControlEnds e) true u is h isnt = next_stop_rests (record u { control = None }) h
+  row_rests Stop (ControlEnds e) false u is h isnt = terminates_rests (without_control s u e) (control_asked u e h)
+  row_rests Stop (MainEnds e) well u is h isnt = main_rests u e (there Stop u is h)
+  row_rests Stop DeadlinePasses well u is h isnt = terminates_rests (timed_out u) h
+  row_rests StopSigterm (MainEnds e) well u is h isnt = unless_live_rests (without_main s u e) (main_rests u e (there StopSigterm u is h)) (main_asked u e h)
+  row_rests StopSigterm (ControlEnds e) well u is h isnt = unless_live_rests (without_control s u e) (control_rests u e (there StopSigterm u is h)) (control_asked u e h)
+  row_rests StopSigkill (MainEnds e) well u is h isnt = unless_live_rests (without_main s u e) (main_rests u e (there StopSigkill u is h)) (main_asked u e h)
+  row_rests StopSigkill (ControlEnds e) well u is h isnt = unless_live_rests (without_control s u e) (control_rests u e (there StopSigkill u is h)) (control_asked u e h)
+  row_rests StopSigterm DeadlinePasses well u is h isnt = h
+  row_rests StopSigkill DeadlinePasses well u is h isnt = resting_rests (timed_out u).result u.asked
+  row_rests sub event well u is h isnt = there sub u is h
+
+  stop_apart : StopBegins ≡ StartBegins → ⊥
+  stop_apart e = cc
+
+  -- whatever happens to a unit that is down or done, but that its start begins, leaves it so
+  transition_rests : (u : UnitState) (event : UnitEvent) → event ≢ StartBegins → Rests u → Leaves (transition s c u event)
+  transition_rests u BoundStop isnt h =
+      by_cond Leaves (is_going (active_state_of u.sub)) (row s c u u.sub StopBegins true) (just u) (λ e. row_rests u.sub StopBegins true u refl h stop_apart) (λ e. h)
+  transition_rests u StartBegins isnt h = absurd (isnt refl)
+  transition_rests u StopBegins isnt h = row_rests u.sub StopBegins true u refl h isnt
+  transition_rests u Executed isnt h = row_rests u.sub Executed true u refl h isnt
+  transition_rests u (MainEnds e) isnt h = row_rests u.sub (MainEnds e) (is_well s c u (MainEnds e)) u refl h isnt
+  transition_rests u (ControlEnds e) isnt h = row_rests u.sub (ControlEnds e) (is_well s c u (ControlEnds e)) u refl h isnt
+  transition_rests u DeadlinePasses isnt h = row_rests u.sub DeadlinePasses true u refl h isnt
+  transition_rests u Reset isnt h = row_rests u.sub Reset true u refl h isnt
+
+-- ---- the state
+
+-- x: the unit at rest
+module _ (x : List ℕ) where
+  abbrev AtRest : State → Type 0
+  AtRest s = IsAtRest s x
+
+  -- what happens to the unit isn't that its start begins
+  abbrev IsOther : List ℕ → UnitEvent → Type 0
+  IsOther unit event = x ≡ unit → event ≢ StartBegins
+
+  changed_rests : (s : State) (unit : List ℕ) (c : Change) → (x ≡ unit → Rests c.unit) → Rests (state_of_unit s.units x) → Rests (state_of_unit (changed s unit c).units x)
+  changed_rests s unit c own h = elim (same_name x unit) as (λ _. Rests (state_of_unit (changed s unit c).units x)) [
+    | inl same ↦ subst (λ q. Rests (state_of_unit (changed s unit c).units q)) (sym same) (subst Rests (sym (state_here s.units unit c.unit)) (own same))
+    | inr apart ↦ subst Rests (sym (state_apart s.units unit c.unit x apart)) h
+  ]
+
+  along_rests : (s : State) (failed : List ℕ) (v : State) → TakesAlong s failed v → Rests (state_of_unit s.units x) → Rests (state_of_unit v.units x)
+  along_rests s failed v a h = elim (taken_along_or_not s failed x) as (λ _. Rests (state_of_unit v.units x)) [
+    | inl taken ↦ subst Rests (sym (a.results x taken)) h
+    | inr isnt ↦ subst Rests (sym (a.other_units x isnt)) h
+  ]
+
+  becomes_rests : (s : State) (unit : List ℕ) (c : Change) (v : State) → (x ≡ unit → Rests c.unit) → Becomes s unit c v → Rests (state_of_unit s.units x)
+      → Rests (state_of_unit v.units x)
+  becomes_rests s unit c v own (Becomes.alone isnt) h = changed_rests s unit c own h
+  becomes_rests s unit c v own (Becomes.along fails a) h = along_rests (changed s unit c) unit v a (changed_rests s unit c own h)
+
+  carried_rests : (t : ℕ) (unit : List ℕ) (event : UnitEvent) (s : State) (actions : List Action) (v : State) → IsOther unit event → Carries t unit event s actions v
+      → AtRest s → AtRest v
+  carried_rests t unit event s actions v other h rest = record {
+    none = ((carried_less t unit event s actions v h).fewer x job.Start).none rest.none;
+    rests = becomes_rests s unit (change_of t s unit event) v own h.state rest.rests;
+  }
+    where
+      own : x ≡ unit → Rests (change_of t s unit event).unit
+      own same =
+          transition_rests (acting_in s.loaded unit).settings (around t s unit) (state_of_unit s.units unit) event (other same)
+          (subst (λ q. Rests (state_of_unit s.units q)) same rest.rests)
+
+  bound_apart : BoundStop ≡ StartBegins → ⊥
+  bound_apart e = cc
+
+  falls_rest : (t : ℕ) (units : List (List ℕ)) (s : State) (actions : List Action) (v : State) → FallDown t units s actions v → AtRest s → AtRest v
+  falls_rest t units s actions v all_told rest = rest
+  falls_rest t (unit ∷ units) s actions v (told_next {falling = falling} {u = u} {first = first} {more = more} h among k) rest =
+      falls_rest t (falling ++ units) u more v k (carried_rests t unit BoundStop s first u (λ same. bound_apart) h rest)
+
+  happens_rest : (t : ℕ) (unit : List ℕ) (event : UnitEvent) (s : State) (actions : List Action) (v : State) → IsOther unit event → Happens t unit event s actions v
+      → AtRest s → AtRest v
+  happens_rest t unit event s actions v other (Happens.happens {falling = falling} {u = u} {first = first} {more = more} h among k) rest =
+      falls_rest t falling u more v k (carried_rests t unit event s first u other h rest)
+
+  reset_apart : Reset ≡ StartBegins → ⊥
+  reset_apart e = cc
+
+  resets_rest : (t : ℕ) (units : List (List ℕ)) (s : State) (actions : List Action) (v : State) → AreReset t units s actions v → AtRest s → AtRest v
+  resets_rest t units s actions v all_reset rest = rest
+  resets_rest t (unit ∷ units) s actions v (reset_next {u = u} {first = first} {more = more} h k) rest =
+      resets_rest t units u more v k (happens_rest t unit Reset s first u (λ same. reset_apart) h rest)
+
+  -- a job that begins isn't a start of a unit of which none is pending
+  begins_other : (kind : JobKind) (j : UnitJobs) → job_of kind j ≡ Some Waiting → j.start ≡ None → begins kind ≢ StartBegins
+  begins_other job.Start j waits none = absurd (none-some Waiting (sym none ∙ waits))
+  begins_other job.Stop j waits none = λ e. cc
+
+  settles_rest : (t : ℕ) (s : State) (actions : List Action) (v : State) → Settles t s actions v → AtRest s → AtRest v
+  settles_rest t s actions v (Settles.rests still) rest = rest
+  settles_rest t s actions v (Settles.begins_next {u = u} {first = first} {more = more} j n h k) rest =
+      settles_rest t u more v k (happens_rest t j.unit (begins j.kind) (begun s j) first u other h begun_rest)
+    where
+      other : IsOther j.unit (begins j.kind)
+      other same = begins_other j.kind (jobs_of_unit s.pending j.unit) n.has.waits (subst (λ q. (jobs_of_unit s.pending q).start ≡ None) same rest.none)
+
+      begun_rest : AtRest (begun s j)
+      begun_rest = record { none = ((begun_less s j n.has.waits).fewer x job.Start).none rest.none; rests = rest.rests }
+
+  -- ---- what comes of deadlines
+
+  waits_apart : (sub : SubState) (asked : Bool) → awaits_restart sub ≡ true → is_down_or_done sub asked ≡ true → ⊥
+  waits_apart AutoRestart asked awaits h = true≢false (sym h)
+  waits_apart _ asked awaits h = true≢false (sym awaits)
+
+  restarts_rest : (s : State) (unit : List ℕ) (v : State) → awaits_restart (state_of_unit s.units unit).sub ≡ true → Restarts s unit v → AtRest s → AtRest v
+  restarts_rest s unit v awaits (has_a_job one) rest = rest
+  restarts_rest s unit v awaits (closes_a_circle cycle none closed) rest = rest
+  restarts_rest s unit v awaits (Restarts.puts none free) rest =
+      record { none = ap (λ j. j.start) (jobs_apart s.pending unit (jobs None (Some Waiting)) x apart) ∙ rest.none; rests = rest.rests }
+    where
+      apart : x ≢ unit
+      apart same =
+          waits_apart (state_of_unit s.units x).sub (state_of_unit s.units x).asked (subst (λ q. awaits_restart (state_of_unit s.units q).sub ≡ true) (sym same) awaits)
+          rest.rests
+
+  deadline_apart : DeadlinePasses ≡ StartBegins → ⊥
+  deadline_apart e = cc
+
+  due_rest : (t : ℕ) (s : State) (unit : List ℕ) (actions : List Action) (v : State) → ComesDue t s unit actions v → AtRest s → AtRest v
+  due_rest t s unit actions v (ComesDue.restarts awaits again) rest = restarts_rest s unit v awaits again rest
+  due_rest t s unit actions v (ComesDue.passes isnt h) rest = happens_rest t unit DeadlinePasses s actions v (λ same. deadline_apart) h rest
+
+  fires_rest : (t : ℕ) (timers : Timers) (s : State) (actions : List Action) (v : State) → Fires t timers s actions v → AtRest s → AtRest v
+  fires_rest t timers s actions v (Fires.none_due none) rest = rest
+  fires_rest t timers s actions v (Fires.fires {u = u} {v = p} {first = first} {next = next} {more = more} d n least due is h k l) rest =
+      fires_rest t (map.remove timers n) p more v l (settles_rest t u next p k (due_rest t s n first u h rest))
+  fires_rest t timers s actions v (Fires.passes {more = more} d n least due isnt l) rest = fires_rest t (map.remove timers n) s more v l rest
+
+  -- ---- a step
+
+  end_apart : (b : Bool) (e : End) → cond b (MainEnds e) (ControlEnds e) ≢ StartBegins
+  end_apart true e = λ is. cc
+  end_apart false e = λ is. cc
+
+  executed_apart : Executed ≡ StartBegins → ⊥
+  executed_apart e = cc
+
+  booted_rest : (boot : List ℕ) (s : State) → AtRest (booted boot s)
+  booted_rest boot s = record {
+    none = ap (λ o. (unwrap_or o no_jobs).start) (map.get-empty (slice_cmp nat_cmp) x);
+    rests = ap (λ o. is_down_or_done (unwrap_or o dead_unit).sub (unwrap_or o dead_unit).asked) (map.get-empty (slice_cmp nat_cmp) x);
+  }
+
+  follows_rest : (t : ℕ) (s : State) (happening : Happening) (actions : List Action) (v : State) → Follows t s happening actions v → AtRest s → AtRest v
+  follows_rest t s happening actions v (Follows.ends {number = number} {end = end} {first = first} {more = more} {u = u} unit is h k) rest =
+      settles_rest t u more v k
+      (happens_rest t unit (end_of (state_of_unit s.units unit) number end) s first u (λ same. end_apart (is_number number (state_of_unit s.units unit).main) end) h rest)
+  follows_rest t s happening actions v (Follows.reports {first = first} {more = more} {u = u} unit is awaits h k) rest =
+      settles_rest t u more v k (happens_rest t unit Executed s first u (λ same. executed_apart) h rest)
+  follows_rest t s happening actions v (Follows.ticks timers are h) rest = fires_rest t timers s actions v h rest
+  follows_rest t s happening actions v (Follows.boots {boot = boot}) rest = booted_rest boot s
+
+  module _ (size : ℕ) where
+    -- the command puts no start of the unit
+    abbrev PutsNone : State → ℕ → Command → Type 0
+    PutsNone s moment command = ¬ PutsStart size x s (record { moment = moment; event = Commanded command } ∷ [])
+
+    changes_rest : (s : State) (moment : ℕ) (command : Command) (u : State) → PutsNone s moment command → ((r : Refused) → ¬ Refuses s command r)
+        → Changes s command u → AtRest s → AtRest u
+    changes_rest s moment command u none isnt (Changes.puts e) rest = record { none = rest.none; rests = rest.rests }
+    changes_rest s moment command u none isnt (Changes.links e) rest = record { none = rest.none; rests = rest.rests }
+    changes_rest s moment command u none isnt (Changes.removes e) rest = record { none = rest.none; rests = rest.rests }
+    changes_rest s moment command u none isnt Changes.reloads rest = record { none = rest.none; rests = rest.rests }
+    changes_rest s moment command u none isnt (Changes.installs h) rest = record { none = rest.none; rests = rest.rests }
+    changes_rest s moment command u none isnt (Changes.cancels {asked = asked}) rest =
+        record { none = (fewer_at s.pending (unit_asked s asked) _ (cancelled_fewer (jobs_asked s asked)) x job.Start).none rest.none; rests = rest.rests }
+    changes_rest s moment command u none isnt (Changes.demands_nothing is) rest = rest
+    changes_rest s moment command u none isnt (Changes.plans {after = after} is plan) rest =
+        record { none = none_there (jobs_of_unit after x).start (λ puts. none (now isnt (Changes.plans is plan) puts)); rests = rest.rests }
+
+    does_rest : (t : ℕ) (s : State) (moment : ℕ) (command : Command) (actions : List Action) (u : State) → PutsNone s moment command
+        → ((r : Refused) → ¬ Refuses s command r) → Does t s command actions u → AtRest s → AtRest u
+    does_rest t s moment command actions u none isnt (Does.changes h) rest = changes_rest s moment command u none isnt h rest
+    does_rest t s moment command actions u none isnt (Does.resets {asked = asked} h) rest = resets_rest t (units_reset s asked) s actions u h rest
+
+    takes_rest : (t : ℕ) (s : State) (moment : ℕ) (event : Event) (actions : List Action) (v : State) → ¬ PutsStart size x s (record { moment = moment; event = event } ∷ [])
+        → Takes t s event actions v → AtRest s → AtRest v
+    takes_rest t s moment event actions v none (Takes.obeys {command = command} {first = first} {more = more} {u = u} isnt h k) rest =
+        settles_rest t u more v k (does_rest t s moment command first u none isnt h rest)
+    takes_rest t s moment event actions v none (Takes.meets {happening = happening} effect h) rest = follows_rest t s happening actions v h rest
+
+    -- a unit at rest stays so over a step that puts no start of it
+    pub step_rests : (s : State) (input : Input) (reply : Reply) (actions : List Action) (t : State) → Step size s input reply actions t
+        → ¬ PutsStart size x s (input ∷ []) → IsAtRest s x → IsAtRest t x
+    step_rests s input reply actions t (Step.refused e) none rest = rest
+    step_rests s input reply actions t (Step.crowded_out h heavy) none rest = rest
+    step_rests s input reply actions t (Step.idle e) none rest = rest
+    step_rests s input reply actions t (Step.taken {moment = moment} {event = event} {u = u} h light) none rest =
+        let r = takes_rest (moment_of s moment) s moment event actions u none h rest in
+        record { none = r.none; rests = r.rests }
+
+    -- what puts a start does so whatever comes later
+    puts_anyhow : (s : State) (inputs more : List Input) → PutsStart size x s inputs → PutsStart size x s (inputs ++ more)
+    puts_anyhow s inputs more (now isnt h puts) = now isnt h puts
+    puts_anyhow s (i ∷ inputs) more (later {t = t} reply actions step puts) = later reply actions step (puts_anyhow t inputs more puts)
+
+    -- and over a run of such steps
+    pub run_rests : (s t : State) (inputs : List Input) → Run size s inputs t → ¬ PutsStart size x s inputs → IsAtRest s x → IsAtRest t x
+    run_rests s t inputs Run.rests none rest = rest
+    run_rests s t (i ∷ inputs) (Run.goes {t = v} reply actions step run) none rest =
+        run_rests v t inputs run (λ puts. none (later reply actions step puts))
+        (step_rests s i reply actions v step (λ puts. none (puts_anyhow s (i ∷ []) inputs puts)) rest)
+
+finished_rests : (sub : SubState) (well asked : Bool) → (is_exited sub || is_dead sub && well) ≡ true → is_down_or_done sub asked ≡ true
+finished_rests Dead well asked h = refl
+finished_rests Exited well asked h = refl
+finished_rests Failed well asked h = refl
+finished_rests _ well asked h = absurd (true≢false (sym h))
+
+-- a oneshot that finished, and of which no start is pending, stays at rest over all inputs that put no start of it
+pub not_repeated : (size : ℕ) (s t u : State) (unit : List ℕ) (input : Input) (inputs : List Input) (reply : Reply) (actions : List Action)
+    → Step size s input reply actions t → Finishes s t unit → (jobs_of_unit t.pending unit).start ≡ None → Run size t inputs u → ¬ PutsStart size unit t inputs
+    → IsAtRest u unit
+not_repeated size s t u unit input inputs reply actions step finishes none run puts =
+    let o = state_of_unit t.units unit in
+    run_rests unit size t u inputs run puts (record { none = none; rests = finished_rests o.sub (is_success o.result) o.asked finishes.finished })

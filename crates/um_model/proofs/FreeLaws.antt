@@ -39,12 +39,12 @@ use Rattle.um_model.proofs.UnitLaws.{jobs_here, jobs_apart}
 -- ---- fewer jobs of a unit
 
 -- a job that waits waited, and none comes anew
-record ComesOf (o p : Option JobState) : Type 0 where
-  waits : p ≡ Some Waiting → o ≡ Some Waiting
-  none : o ≡ None → p ≡ None
+pub record ComesOf (o p : Option JobState) : Type 0 where
+  pub waits : p ≡ Some Waiting → o ≡ Some Waiting
+  pub none : o ≡ None → p ≡ None
 
 -- so with both jobs of a unit
-abbrev HasFewer : UnitJobs → UnitJobs → Type 0
+abbrev pub HasFewer : UnitJobs → UnitJobs → Type 0
 HasFewer j k = (kind : JobKind) → ComesOf (job_of kind j) (job_of kind k)
 
 stays : (o : Option JobState) → ComesOf o o
@@ -85,7 +85,7 @@ stop_left_fewer false o = stays o
 left_fewer : (start : StartJob) (stop_ends : Bool) (j : UnitJobs) → HasFewer j (jobs_left start stop_ends j)
 left_fewer start stop_ends j = both_fewer j.stop j.start _ _ (stop_left_fewer stop_ends j.stop) (start_left_fewer start j.start)
 
-cancelled_fewer : (j : UnitJobs) → HasFewer j (cancelled j)
+pub cancelled_fewer : (j : UnitJobs) → HasFewer j (cancelled j)
 cancelled_fewer j = both_fewer j.stop j.start _ _ (no_longer_waits j.stop) (no_longer_waits j.start)
 
 without_start_fewer : (j : UnitJobs) → HasFewer j (without_start j)
@@ -98,9 +98,9 @@ running_fewer job.Start j is = both_fewer j.stop j.start _ _ (stays j.stop) (com
 -- ---- fewer jobs of all units
 
 -- by the same loaded tree, and so with the jobs of each unit
-record HasLess (s u : State) : Type 0 where
-  loaded : u.loaded ≡ s.loaded
-  fewer : (unit : List ℕ) → HasFewer (jobs_of_unit s.pending unit) (jobs_of_unit u.pending unit)
+pub record HasLess (s u : State) : Type 0 where
+  pub loaded : u.loaded ≡ s.loaded
+  pub fewer : (unit : List ℕ) → HasFewer (jobs_of_unit s.pending unit) (jobs_of_unit u.pending unit)
 
 same_less : (s : State) → HasLess s s
 same_less s = record { loaded = refl; fewer = λ unit kind. stays (job_of kind (jobs_of_unit s.pending unit)) }
@@ -118,7 +118,7 @@ less_free s u less free =
     (fewer_free (IsBefore s.loaded) s.pending u.pending (λ j e. (less.fewer j.unit j.kind).waits e) (λ j is none. is ((less.fewer j.unit j.kind).none none)) free)
 
 -- fewer jobs of one unit
-fewer_at : (pending : ByUnit UnitJobs) (unit : List ℕ) (k : UnitJobs) → HasFewer (jobs_of_unit pending unit) k
+pub fewer_at : (pending : ByUnit UnitJobs) (unit : List ℕ) (k : UnitJobs) → HasFewer (jobs_of_unit pending unit) k
     → (other : List ℕ) → HasFewer (jobs_of_unit pending other) (jobs_of_unit (with_jobs pending unit k) other)
 fewer_at pending unit k fewer other = elim (same_name other unit) as (λ _. HasFewer (jobs_of_unit pending other) (jobs_of_unit (with_jobs pending unit k) other)) [
   | inl same ↦ subst (λ q. HasFewer (jobs_of_unit pending q) (jobs_of_unit (with_jobs pending unit k) q)) (sym same)
@@ -129,7 +129,7 @@ fewer_at pending unit k fewer other = elim (same_name other unit) as (λ _. HasF
 changed_less : (s : State) (unit : List ℕ) (c : Change) → HasLess s (changed s unit c)
 changed_less s unit c = record { loaded = refl; fewer = fewer_at s.pending unit _ (left_fewer c.start c.stop_ends (jobs_of_unit s.pending unit)) }
 
-begun_less : (s : State) (j : Job) → IsWaiting s.pending j → HasLess s (begun s j)
+pub begun_less : (s : State) (j : Job) → IsWaiting s.pending j → HasLess s (begun s j)
 begun_less s j waits = record { loaded = refl; fewer = fewer_at s.pending j.unit _ (running_fewer j.kind (jobs_of_unit s.pending j.unit) waits) }
 
 along_less : (s : State) (failed : List ℕ) (v : State) → TakesAlong s failed v → HasLess s v
@@ -147,7 +147,7 @@ becomes_less : (s : State) (unit : List ℕ) (c : Change) (v : State) → Become
 becomes_less s unit c v (Becomes.alone isnt) = changed_less s unit c
 becomes_less s unit c v (Becomes.along is a) = less_trans s (changed s unit c) v (changed_less s unit c) (along_less (changed s unit c) unit v a)
 
-carried_less : (t : ℕ) (unit : List ℕ) (event : UnitEvent) (s : State) (actions : List Action) (v : State) → Carries t unit event s actions v → HasLess s v
+pub carried_less : (t : ℕ) (unit : List ℕ) (event : UnitEvent) (s : State) (actions : List Action) (v : State) → Carries t unit event s actions v → HasLess s v
 carried_less t unit event s actions v h = becomes_less s unit (change_of t s unit event) v h.state
 
 happens_less : (t : ℕ) (unit : List ℕ) (event : UnitEvent) (s : State) (actions : List Action) (v : State) → Happens t unit event s actions v → HasLess s v

@@ -1,15 +1,17 @@
 -- What happens never raises the weight of the state, and is never refused.
-use Rattle.std.proofs.Common.{ℕ, ◌≡◌, ◌∙◌, ◌+◌, ◌*◌, ◌≤◌, max, List, length, refl, sym, ap, subst, inl, inr, arith}
-use Rattle.um_model.specs.Dependencies.{IsKnown, KnowsSoMany, CountsFor, extra}
+use Rattle.std.proofs.Common.{ℕ, ◌≡◌, ◌∙◌, ◌+◌, ◌*◌, ◌≤◌, List, refl, subst, inl, arith}
+use Rattle.um_model.specs.Dependencies.{KnowsSoMany, CountsFor, extra}
 use Rattle.um_model.specs.Few.{HoldsNoMore}
 use Rattle.um_model.specs.Live.{WeighsNoMore}
-use Rattle.um_model.specs.Machine.{State, Happening, Happened, Reply, Done, IsHeld, booted, Follows, Takes, moment_of, Step}
+use Rattle.um_model.specs.Machine.{State, Happening, Happened, Reply, Done, IsHeld, booted, Follows, Takes, end_of, moment_of, Step}
 use Rattle.um_model.specs.Reached.{first}
-use Rattle.um_model.specs.Service.{Action}
+use Rattle.um_model.specs.Service.{Action, state_of_unit}
 use Rattle.um_model.specs.Tree.{Tree, without_run}
+use Rattle.um_model.specs.Weight.{tree_weight}
+use Rattle.um_model.specs.declared.transition.UnitEvent.TheVariants.{Executed}
 use Rattle.um_model.proofs.AmongLaws.{contains_among, among_contained}
-use Rattle.um_model.proofs.FewLaws.{same_no_more, booted_none, follows_no_more}
-
+use Rattle.um_model.proofs.FewLaws.{same_no_more, happened_no_more, fires_no_more, number_held, booted_none}
+use Rattle.um_model.proofs.KeepsLaws.{happens_keeps, settles_keeps, fires_keeps}
 use Rattle.um_model.proofs.KnownLaws.{known_grows}
 use Rattle.um_model.proofs.OnceLaws.{no_more}
 use Rattle.um_model.proofs.TreeLaws.{without_run_twice}
@@ -44,3 +46,51 @@ module _ (Fewer Extra : List ℕ → Type 0) (within : (x : List ℕ) → Fewer 
       omega (arith, held, lasting, most, least)
 
 -- ---- and no more is weighed
+
+lighter : (a b c d m n : ℕ) → a ≤ b → c ≤ d → m ≤ n → 256 + a + c + 2048 * m ≤ 256 + b + d + 2048 * n
+lighter a b c d m n e f g = omega arith
+
+-- with the same tree a state that holds nothing new weighs no more
+no_more_light : (s t : State) → HoldsNoMore s t → t.tree ≡ s.tree → WeighsNoMore t s
+no_more_light s t less same m n h k =
+    let by_loaded = subst (λ tree. CountsFor tree (IsHeld t) m) less.loaded h in
+    let few = fewer_counted (IsHeld t) (IsHeld s) less.held s.loaded m n by_loaded k in
+    lighter (tree_weight t.tree) (tree_weight s.tree) (tree_weight t.loaded) (tree_weight s.loaded) m n
+    (subst (λ tree. tree_weight t.tree ≤ tree_weight tree) same (omega arith)) (subst (λ tree. tree_weight t.loaded ≤ tree_weight tree) less.loaded (omega arith)) few
+
+-- so does one after a boot
+booted_light : (boot : List ℕ) (s : State) → WeighsNoMore (booted boot s) s
+booted_light boot s m n h k =
+    lighter (tree_weight (without_run s.tree)) (tree_weight s.tree) (tree_weight (without_run s.loaded)) (tree_weight s.loaded) m n (without_run_light s.tree) (without_run_light s.loaded)
+    (fewer_after_boot (IsHeld (booted boot s)) (IsHeld s) (λ x is. absurd (booted_none boot s x is)) s.loaded m n h k)
+
+-- and one after whatever happens
+follows_light : (t : ℕ) (s : State) (happening : Happening) (actions : List Action) (v : State) → Follows t s happening actions v → WeighsNoMore v s
+follows_light t s happening actions v (Follows.ends {number = number} {end = end} {first = x} {more = y} {u = u} unit is h k) =
+    let event = end_of (state_of_unit s.units unit) number end in
+    no_more_light s v (happened_no_more t unit event s x y u v (inl (number_held s number unit is)) h k) ((settles_keeps t u y v k).tree ∙ (happens_keeps t unit event s x u h).tree)
+follows_light t s happening actions v (Follows.reports {number = number} {first = x} {more = y} {u = u} unit is awaits h k) =
+    no_more_light s v (happened_no_more t unit Executed s x y u v (inl (number_held s number unit is)) h k)
+    ((settles_keeps t u y v k).tree ∙ (happens_keeps t unit Executed s x u h).tree)
+follows_light t s happening actions v (Follows.ticks timers are h) = no_more_light s v (fires_no_more t timers s actions v h) (fires_keeps t timers s actions v h).tree
+follows_light t s happening actions v (Follows.boots {boot = boot}) = booted_light boot s
+
+same_light : (s : State) → WeighsNoMore s s
+same_light s = no_more_light s s (same_no_more s) refl
+
+takes_light : (t : ℕ) (s : State) (happening : Happening) (actions : List Action) (v : State) → Takes t s (Happened happening) actions v → WeighsNoMore v s
+takes_light t s happening actions v (Takes.meets effect h) = follows_light t s happening actions v h
+
+-- after a step in which something happens the state weighs no more than before it
+pub happening_light : (size : ℕ) (s : State) (moment : ℕ) (happening : Happening) (reply : Reply) (actions : List Action) (t : State)
+    → Step size s (record { moment = moment; event = Happened happening }) reply actions t → WeighsNoMore t s
+happening_light size s moment happening reply actions t (Step.crowded_out h heavy) = same_light s
+happening_light size s moment happening reply actions t (Step.idle e) = same_light s
+happening_light size s moment happening reply actions t (Step.taken {u = u} h light) = takes_light (moment_of s moment) s happening actions u h
+
+-- and what happens is never refused
+pub happening_done : (size : ℕ) (s : State) (moment : ℕ) (happening : Happening) (reply : Reply) (actions : List Action) (t : State)
+    → Step size s (record { moment = moment; event = Happened happening }) reply actions t → reply ≡ Done
+happening_done size s moment happening reply actions t (Step.crowded_out h heavy) = absurd heavy
+happening_done size s moment happening reply actions t (Step.idle e) = refl
+happening_done size s moment happening reply actions t (Step.taken h light) = refl

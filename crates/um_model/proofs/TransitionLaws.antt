@@ -31,7 +31,7 @@ use Rattle.um_model.specs.declared.transition.UnitKind.{UnitKind}
 use Rattle.um_model.specs.declared.transition.UnitKind.TheVariants.{Simple, Exec, Oneshot, Target}
 use Rattle.um_model.proofs.SubstitutionLaws.{same_substituted, have_substituted}
 
-by_cond : (P : Change → Type 0) (b : Bool) (x y : Change) → (b ≡ true → P x) → (b ≡ false → P y) → P (cond b x y)
+pub by_cond : (P : Change → Type 0) (b : Bool) (x y : Change) → (b ≡ true → P x) → (b ≡ false → P y) → P (cond b x y)
 by_cond P true x y f g = f refl
 by_cond P false x y f g = g refl
 

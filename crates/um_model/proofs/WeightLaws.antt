@@ -1,18 +1,17 @@
 -- What a tree weighs is bounded: a path is short, and so is what stands at it.
-use Rattle.std.proofs.Common.{◌≡◌, ℕ, ◌+◌, ◌*◌, ◌≤◌, ◌^◌, nat_le, Bool, true, false, not, cond, ◌&&◌, List, [], ◌∷◌, ◌++◌, length, codes, Option, Some, None, is_some, sym, ap, ◌∙◌, refl, subst, map as each, length-append, lit≤, arith}
+use Rattle.std.proofs.Common.{◌≡◌, ℕ, ◌+◌, ◌*◌, ◌≤◌, ◌^◌, nat_le, Bool, true, false, not, cond, ◌&&◌, List, [], ◌∷◌, ◌++◌, length, codes, Option, Some, None, is_some, ap, ◌∙◌, refl, length-append, lit≤, arith}
 use Rattle.std.specs.Cmp.Lexicographic.{slice_cmp}
 use Rattle.std.specs.FinMap as map
 use Rattle.std.specs.FinMap.Entries.{where_key}
-use Rattle.std.specs.List.{sum, sum_by, list_all}
+use Rattle.std.specs.List.{sum_by, list_all}
 use Rattle.std.specs.Ordering.{nat_cmp}
-use Rattle.std.specs.Str.{bytes_eq}
 use Rattle.std.proofs.lemmas.Bool.{and_parts, leb-true}
 use Rattle.std.proofs.lemmas.List.Sums.{sum-map, sum_by-cons}
 use Rattle.um_model.specs.Names.{is_unit_name, is_template, name_limit, suffix_of, stem_of, is_stem}
-use Rattle.um_model.specs.Tree.{layer_text, Place, Unit, DropIn, Wants, Requires, place_text, PathParts, IsPathOf, path_parts, path_text, is_plain_name, is_drop_in_name, is_drop_in_byte, is_fit_place, drop_in_limit, Entry, File, Link, Tree, IsTree, is_fit_entry, is_fit_target, may_lead_to, target_limit, text_limit, entry_limit, is_volatile, without_run}
+use Rattle.um_model.specs.Tree.{layer_text, Place, Unit, DropIn, Wants, Requires, place_text, PathParts, IsPathOf, path_parts, is_plain_name, is_drop_in_name, is_drop_in_byte, is_fit_place, drop_in_limit, Entry, File, Link, Tree, IsTree, is_fit_entry, is_fit_target, may_lead_to, target_limit, text_limit, is_volatile, without_run}
 use Rattle.um_model.specs.declared.tree.Layer.{Layer}
 use Rattle.um_model.specs.declared.tree.Layer.TheVariants.{Etc, Run, Lib}
-use Rattle.um_model.specs.Weight.{text_of_entry, entry_weight, tree_weight}
+use Rattle.um_model.specs.Weight.{entry_weight, tree_weight}
 use Rattle.um_model.proofs.TreeLaws.{entries-fit, entries-retain_keys, path_of_parts, fit-name}
 
 short_name : (text : List ℕ) → is_unit_name text ≡ true → length text ≤ 255

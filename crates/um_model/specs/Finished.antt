@@ -5,11 +5,12 @@ use Rattle.std.specs.Prelude.{◌≡◌, ◌≢◌, ℕ, Bool, true, false, ◌|
 use Rattle.um_model.specs.Ends.{is_starting, is_stopping}
 use Rattle.um_model.specs.Service.{Action, is_dead, is_success, state_of_unit}
 use Rattle.um_model.specs.Jobs.{jobs_of_unit}
-use Rattle.um_model.specs.Machine.{State, Input, Commanded, ForUnit, Reply, Changes, Step, acting_in}
+use Rattle.um_model.specs.Refusals.{Refused}
+use Rattle.um_model.specs.Machine.{State, Input, Commanded, ForUnit, Reply, Changes, Refuses, Step, acting_in}
 use Rattle.um_model.specs.declared.commands.JobMode.{JobMode}
 use Rattle.um_model.specs.declared.commands.UnitVerb.{UnitVerb}
 use Rattle.um_model.specs.declared.service.SubState.{SubState}
-use Rattle.um_model.specs.declared.service.SubState.TheVariants.{Dead, Start, Running, Exited, Stop, StopSigterm, StopSigkill, Failed, AutoRestart, Active}
+use Rattle.um_model.specs.declared.service.SubState.TheVariants.{Dead, Exited, Stop, StopSigterm, StopSigkill, Failed}
 use Rattle.um_model.specs.declared.service.UnitState.{UnitState}
 use Rattle.um_model.specs.declared.transition.UnitKind.TheVariants.{Oneshot}
 
@@ -42,9 +43,10 @@ pub record IsAtRest (s : State) (unit : List ℕ) : Type 0 where
   pub none : (jobs_of_unit s.pending unit).start ≡ None
   pub rests : is_down_or_done (state_of_unit s.units unit).sub (state_of_unit s.units unit).asked ≡ true
 
--- a command in the list, which is taken from this state on, puts a start of the unit
+-- a command in the list, which is taken from this state on, isn't refused and puts a start of the unit
 pub data PutsStart (size : ℕ) (unit : List ℕ) : State → List Input → Type 0 where
-  now : {s u : State} {moment : ℕ} {verb : UnitVerb} {asked : List ℕ} {mode : JobMode} {inputs : List Input} → Changes s (ForUnit verb asked mode) u
-      → (jobs_of_unit u.pending unit).start ≢ None → PutsStart size unit s (record { moment = moment; event = Commanded (ForUnit verb asked mode) } ∷ inputs)
+  now : {s u : State} {moment : ℕ} {verb : UnitVerb} {asked : List ℕ} {mode : JobMode} {inputs : List Input}
+      → ((r : Refused) → ¬ Refuses s (ForUnit verb asked mode) r) → Changes s (ForUnit verb asked mode) u → (jobs_of_unit u.pending unit).start ≢ None
+      → PutsStart size unit s (record { moment = moment; event = Commanded (ForUnit verb asked mode) } ∷ inputs)
   later : {s t : State} {input : Input} {inputs : List Input} (reply : Reply) (actions : List Action) → Step size s input reply actions t
       → PutsStart size unit t inputs → PutsStart size unit s (input ∷ inputs)

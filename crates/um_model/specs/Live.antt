@@ -2,7 +2,7 @@
 -- and that a state weighs no more than another, so that the store has room for it.
 -- Follows systemctl(1), "list-jobs": a job is pending until its unit has started or stopped.
 -- The laws in proofs/LiveLaws and proofs/LightLaws depend on this file.
-use Rattle.std.specs.Prelude.{◌≡◌, ℕ, ◌≤◌, Bool, true, false, ◌||◌}
+use Rattle.std.specs.Prelude.{◌≡◌, ℕ, ◌≤◌, true, ◌||◌}
 use Rattle.um_model.specs.Service.{state_of_unit}
 use Rattle.um_model.specs.Ends.{is_starting, is_stopping}
 use Rattle.um_model.specs.Transitions.{HasNumber}

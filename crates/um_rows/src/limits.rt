@@ -60,3 +60,44 @@ fn one_unit_more_is_not_loaded(rt: HostRuntime) -> Result<(), Fail> {
         ],
     )
 }
+
+/// Asserts that the start of b.service is answered so where `lib/a.service` wants so many units. Under `run/` a.service is masked,
+/// and c.service, which is there alone, is wanted by b.service.
+fn starts_b(rt: &(impl AllocGlobal + Abort), count: usize, wanted: &str) -> Result<(), Fail> {
+    let put = wanting(rt.alloc(), count)?;
+    play(
+        rt,
+        &[
+            (put.as_str(), DONE),
+            (
+                r#"{"verb":"put-file","path":"lib/b.service","text":"[Service]\nExecStart=/bin/sleep 9\n"}"#,
+                DONE,
+            ),
+            (
+                r#"{"verb":"put-link","path":"run/a.service","target":"/dev/null"}"#,
+                DONE,
+            ),
+            (
+                r#"{"verb":"put-file","path":"run/b.service.d/c.conf","text":"[Unit]\nWants=c.service\n"}"#,
+                DONE,
+            ),
+            (
+                r#"{"verb":"put-file","path":"run/c.service","text":"[Service]\nExecStart=/bin/sleep 9\n"}"#,
+                DONE,
+            ),
+            (RELOAD, DONE),
+            (r#"{"verb":"start","unit":"b"}"#, wanted),
+        ],
+    )
+}
+
+#[test]
+fn a_plan_makes_as_many_units_known_as_may_be(rt: HostRuntime) -> Result<(), Fail> {
+    // without `run/` these are a.service, b.service, shutdown.target and 1,020 more, and from the start on c.service
+    starts_b(&rt, 1_020, DONE)
+}
+
+#[test]
+fn a_plan_that_makes_one_more_known_is_refused(rt: HostRuntime) -> Result<(), Fail> {
+    starts_b(&rt, 1_021, r#"{"detail":["units"],"error":13,"ok":false}"#)
+}

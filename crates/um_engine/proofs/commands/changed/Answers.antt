@@ -1,7 +1,7 @@
-use Rattle.std.proofs.Common.{◌≡◌, ap, subst}
+use Rattle.std.proofs.Common.{subst}
 use Rattle.um_model.specs.Machine.{State}
 use Rattle.um_state.specs.View.{state_of}
-use Rattle.um_engine.specs.Known.{HoldsNoMore}
+use Rattle.um_model.specs.Few.{HoldsNoMore}
 use Rattle.um_engine.proofs.KnownLaws.{put_holds_no_more, link_holds_no_more, remove_holds_no_more, waiting_holds_no_more}
 use Rattle.um_engine.proofs.commands.changed.Goals as goal
 
