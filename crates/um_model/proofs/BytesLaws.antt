@@ -14,7 +14,7 @@ use Rattle.std.proofs.lemmas.List.Concat.{flat_map-cons}
 use Rattle.std.proofs.lemmas.Nat.{be_bytes_4, be_bytes_8}
 use Rattle.byteorder.specs.Endian.{big_number, big_bytes}
 use Rattle.byteorder.specs.Numbers.{big_number-reads_back, big_from-lt, length-bytes_high_first}
-use Rattle.um_model.specs.Bytes.{Reading, Spelling, IsBytes, IsCanonical, nothing_left, ◌>>=◌, byte_at, number_at, is_between, FitBetween, between_at, in_table, pair_spelling, pair_at, as_at, only_at, tag_at, truth_tag, truth_of, truth_spelling, truth_at, FitText, text_spelling, front_text, text_at, option_spelling, option_at, many_at, list_spelling, list_at, FitList, marked_at, choice_at, just_at, ByText, ascends, are_keys, FitMap, map_spelling, map_at}
+use Rattle.um_model.specs.Bytes.{Reading, Spelling, IsBytes, IsCanonical, nothing_left, ◌>>=◌, byte_at, number_at, is_between, FitBetween, between_at, in_table, pair_spelling, pair_at, as_at, only_at, tag_at, truth_tag, truth_of, truth_spelling, truth_at, FitText, text_spelling, front_text, text_at, option_spelling, option_at, many_at, list_spelling, list_at, FitList, marked_at, choice_at, arm_in, just_at, none_at, ByText, ascends, are_keys, FitMap, map_spelling, map_at}
 
 -- ---- bytes
 
@@ -321,6 +321,46 @@ arm_is {A} {B} {reading = reading} law to P bytes v rest h e holds =
 -- the same of an arm without fields
 pub just_is : {B : Type 0} (b : B) (P : B → List ℕ → Type 0) (bytes : List ℕ) (v : B) (rest : List ℕ) → just_at b bytes ≡ Some (v, rest) → P b bytes → P v rest
 just_is {B} b P bytes v rest e holds = subst (λ (x : B × List ℕ). P x.0 x.1) (some_is (b, bytes) (v, rest) e) holds
+
+-- what an arm reads is a value of the tag, spelled so behind it
+pub record Tells {A : Type 0} (tag : A → ℕ) (fields : Spelling A) (fits : A → Type 0) (n : ℕ) (arm : Reading A) : Type 0 where
+  pub is : (bytes : List ℕ) (v : A) (rest : List ℕ) → IsBytes bytes → arm bytes ≡ Some (v, rest) → (n ≡ tag v) × (bytes ≡ fields v ++ rest) × fits v
+
+-- each arm of a table does so for its place, counted from the first
+abbrev pub AllTell : {A : Type 0} → (A → ℕ) → Spelling A → (A → Type 0) → ℕ → List (Reading A) → Type 0
+AllTell tag fields fits first [] = ⊤
+AllTell tag fields fits first (arm ∷ table) = Tells tag fields fits first arm × AllTell tag fields fits (suc first) table
+
+module _ {A : Type 0} {tag : A → ℕ} {fields : Spelling A} {fits : A → Type 0} where
+  pub tells : {F : Type 0} {fits_f : F → Type 0} {spelling : Spelling F} {reading : Reading F} (n : ℕ) (to : F → A) → IsCanonical fits_f spelling reading
+      → ((f : F) → fits_f f → (n ≡ tag (to f)) × (fields (to f) ≡ spelling f) × fits (to f)) → Tells tag fields fits n (as_at to reading)
+  tells {spelling = spelling} n to law arm = record {
+    is = λ bytes v rest h e.
+        arm_is law to (λ w r. (n ≡ tag w) × (bytes ≡ fields w ++ r) × fits w) bytes v rest h e
+        (λ f r at fit. ((arm f fit).0, at ∙ ap (λ (w : List ℕ). w ++ r) (sym (arm f fit).1), (arm f fit).2));
+  }
+
+  pub tells_just : (n : ℕ) (a : A) → n ≡ tag a → fields a ≡ [] → fits a → Tells tag fields fits n (just_at a)
+  tells_just n a at bare fit = record {
+    is = λ bytes v rest h e. just_is a (λ w r. (n ≡ tag w) × (bytes ≡ fields w ++ r) × fits w) bytes v rest e (at, ap (λ (w : List ℕ). w ++ bytes) (sym bare), fit);
+  }
+
+  pub tells_none : (n : ℕ) → Tells tag fields fits n none_at
+  tells_none n = record { is = λ bytes v rest h e. absurd (none_some (v, rest) e) }
+
+  all_tell : (first : ℕ) (table : List (Reading A)) → AllTell tag fields fits first table → (n : ℕ) → Tells tag fields fits (n + first) (arm_in table n)
+  all_tell first [] all n = tells_none (n + first)
+  all_tell first (arm ∷ table) all zero = subst (λ (m : ℕ). Tells tag fields fits m arm) (omega arith) all.0
+  all_tell first (arm ∷ table) all (suc n) = subst (λ (m : ℕ). Tells tag fields fits m (arm_in table n)) (omega arith) (all_tell (suc first) table all.1 n)
+
+  -- a choice with fields, by a table of its arms
+  pub canonical_arms : (table : List (Reading A)) → AllTell tag fields fits 0 table → ((v : A) (rest : List ℕ) → fits v → arm_in table (tag v) (fields v ++ rest) ≡ Some (v, rest))
+      → IsCanonical fits (λ v. tag v ∷ fields v) (choice_at (arm_in table))
+  canonical_arms table all again = canonical_choice tag fields (arm_in table) takes again where
+    takes : (n : ℕ) (bytes : List ℕ) (v : A) (rest : List ℕ) → IsBytes bytes → arm_in table n bytes ≡ Some (v, rest) → (n ≡ tag v) × (bytes ≡ fields v ++ rest) × fits v
+    takes n bytes v rest h e =
+        let t = (all_tell 0 table all n).is bytes v rest h e in
+        (omega (arith, t.0), t.1, t.2)
 
 -- the tags of the choices of a table are the numbers from the first on
 abbrev pub AreTags : {A : Type 0} → (A → ℕ) → ℕ → List A → Type 0

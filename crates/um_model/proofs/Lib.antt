@@ -31,6 +31,7 @@ pub mod ScanLaws
 pub mod DeadlinesLaws
 pub mod KeepsLaws
 pub mod BytesLaws
+pub mod SpellingsLaws
 pub mod TransitionLaws
 pub mod StoreLaws
 pub mod LogLaws

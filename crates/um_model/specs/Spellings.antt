@@ -124,9 +124,13 @@ end_fields end.Lost = []
 abbrev pub end_spelling : Spelling End
 end_spelling e = end_tag e ∷ end_fields e
 
--- behind 0 a code, behind 1 a signal, behind 2 nothing
+-- the ends by their tags: a code, a signal, or neither
+abbrev pub end_arms : List (Reading End)
+end_arms = as_at end.Code byte_at ∷ as_at end.Signal byte_at ∷ just_at end.Lost ∷ []
+
+-- a tag, and what stands behind it
 abbrev pub end_at : Reading End
-end_at = choice_at (arm_in (as_at end.Code byte_at ∷ as_at end.Signal byte_at ∷ just_at end.Lost ∷ []))
+end_at = choice_at (arm_in end_arms)
 
 -- the code or signal is a byte
 abbrev pub FitEnd : End → Type 0
