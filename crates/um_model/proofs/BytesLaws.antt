@@ -437,7 +437,7 @@ lower Equal h = absurd h
 lower Greater h = absurd h
 
 -- a key below one that is below all is below all
-lower_all : {A : Type 0} (x y : List ℕ) (es : List (List ℕ × A)) → slice_cmp nat_cmp x y ≡ Less → T (below_all (slice_cmp nat_cmp) y es) → T (below_all (slice_cmp nat_cmp) x es)
+pub lower_all : {A : Type 0} (x y : List ℕ) (es : List (List ℕ × A)) → slice_cmp nat_cmp x y ≡ Less → T (below_all (slice_cmp nat_cmp) y es) → T (below_all (slice_cmp nat_cmp) x es)
 lower_all x y [] low h = tt
 lower_all x y (e ∷ es) low h =
     let next : slice_cmp nat_cmp y e.0 ≡ Less = lower _ (left_holds _ _ h) in

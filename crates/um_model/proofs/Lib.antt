@@ -32,6 +32,9 @@ pub mod DeadlinesLaws
 pub mod KeepsLaws
 pub mod BytesLaws
 pub mod SpellingsLaws
+pub mod EntriesLaws
+pub mod PendingSpellingsLaws
+pub mod StateSpellingsLaws
 pub mod TransitionLaws
 pub mod StoreLaws
 pub mod LogLaws

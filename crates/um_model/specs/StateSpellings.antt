@@ -24,14 +24,27 @@ use Rattle.um_model.specs.declared.service.UnitState.{UnitState}
 
 -- ---- a tree: a map from paths to files and links
 
--- a tag, and the text of a file or the target of a link
-abbrev pub entry_spelling : Spelling Entry
-entry_spelling (File text) = 0 ∷ text_spelling text
-entry_spelling (Link target) = 1 ∷ text_spelling target
+-- the tag of an entry
+abbrev pub entry_tag : Entry → ℕ
+entry_tag (File text) = 0
+entry_tag (Link target) = 1
 
--- behind 0 the text of a file, behind 1 the target of a link
+-- the text of a file, or the target of a link
+abbrev pub entry_fields : Spelling Entry
+entry_fields (File text) = text_spelling text
+entry_fields (Link target) = text_spelling target
+
+-- the tag, and what stands behind it
+abbrev pub entry_spelling : Spelling Entry
+entry_spelling e = entry_tag e ∷ entry_fields e
+
+-- the entries by their tags
+abbrev pub entry_arms : List (Reading Entry)
+entry_arms = as_at File text_at ∷ as_at Link text_at ∷ []
+
+-- a tag, and what stands behind it
 abbrev pub entry_at : Reading Entry
-entry_at = choice_at (arm_in (as_at File text_at ∷ as_at Link text_at ∷ []))
+entry_at = choice_at (arm_in entry_arms)
 
 -- an entry that has bytes: its text or target has some
 abbrev pub FitEntry : Entry → Type 0
@@ -162,6 +175,10 @@ is_boot id = nat_le (length id) boot_limit
 abbrev pub boot_at : Reading (List ℕ)
 boot_at = only_at is_boot text_at
 
+-- a boot's id that has bytes: it is a text, and no longer than that
+abbrev pub FitBoot : List ℕ → Type 0
+FitBoot id = FitText id × (is_boot id ≡ true)
+
 -- a window began, up to the clock
 abbrev pub has_begun : ℕ → Option Counted → Bool
 has_begun clock None = true
@@ -199,7 +216,7 @@ state_at =
 pub record FitState (s : State) : Type 0 where
   pub tree : FitTree s.tree
   pub loaded : FitTree s.loaded
-  pub boot : FitText s.boot × (is_boot s.boot ≡ true)
+  pub boot : FitBoot s.boot
   pub clock : FitMoment s.clock
   pub next : FitNext s.next
   pub units : FitUnits s.units
