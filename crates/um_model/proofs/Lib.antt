@@ -35,6 +35,7 @@ pub mod SpellingsLaws
 pub mod EntriesLaws
 pub mod PendingSpellingsLaws
 pub mod StateSpellingsLaws
+pub mod InputSpellingsLaws
 pub mod TransitionLaws
 pub mod StoreLaws
 pub mod LogLaws

@@ -12,11 +12,10 @@ use Rattle.std.proofs.lemmas.Map.Views.{tells_apart}
 use Rattle.um_model.specs.Service.{ByUnit}
 use Rattle.um_model.specs.Jobs.{AreTidyJobs, JobShown, jobs, no_jobs, has_job, jobs_of_unit, job_shown, jobs_shown_of, jobs_shown}
 use Rattle.um_model.specs.Spellings.{kind_tag}
-use Rattle.um_model.specs.Names.{is_unit_name}
 use Rattle.um_model.specs.StateSpellings.{job_of_fields, job_spelling, job_at, FitJob, pending_spelling, pending_at, FitPending, is_job_before, is_before_next, jobs_ascend, with_job, pending_of}
 use Rattle.um_model.specs.Bytes.{IsCanonical, FitList}
-use Rattle.um_model.proofs.SpellingsLaws.{canonical_kind, canonical_job_state}
-use Rattle.um_model.proofs.BytesLaws.{canonical_form, canonical_only, canonical_pair, canonical_list, canonical_text,  left_holds, right_holds, both_hold, lower, lower_all}
+use Rattle.um_model.proofs.SpellingsLaws.{canonical_unit_name, canonical_kind, canonical_job_state}
+use Rattle.um_model.proofs.BytesLaws.{canonical_form, canonical_only, canonical_pair, canonical_list,  left_holds, right_holds, both_hold, lower, lower_all}
 use Rattle.um_model.proofs.EntriesLaws.{below_none, below_put, both_true, left_true, right_true, from_each}
 use Rattle.um_model.proofs.UnitLaws.{not_jobless, no_job_held, tidy_empty, tidy_inserted}
 use Rattle.um_model.specs.declared.jobs.JobKind.{JobKind}
@@ -193,7 +192,7 @@ map_ascends pending tidy = told_ascend (map.entries pending) (map.entries_sorted
 pub canonical_job : IsCanonical FitJob job_spelling job_at
 canonical_job =
     canonical_form job_of_fields (λ j. (j.unit, (j.kind, j.state))) (λ f h. (h.0, refl)) (λ j h. ((h, (tt, tt)), refl))
-    (canonical_pair (canonical_only is_unit_name canonical_text) (canonical_pair canonical_kind canonical_job_state))
+    (canonical_pair canonical_unit_name (canonical_pair canonical_kind canonical_job_state))
 
 pub canonical_pending : IsCanonical FitPending pending_spelling pending_at
 canonical_pending =

@@ -1,12 +1,13 @@
 -- The laws of the bytes of what the state holds of a unit.
 use Rattle.std.proofs.Common.{◌≡◌, ℕ, ◌-◌, ◌<◌, ◌^◌, ◌++◌, ◌∷◌, [], List, Option, Some, None, refl, ap, arith}
 use Rattle.std.specs.Prelude.{⊤, IfSome}
-use Rattle.um_model.specs.Bytes.{Reading, IsCanonical, in_table, arm_in}
-use Rattle.um_model.proofs.BytesLaws.{canonical8, canonical32, canonical_pair, canonical_form, canonical_as, canonical_option, canonical_table, canonical_between, canonical_truth, AllTell, tells, tells_just, canonical_arms}
+use Rattle.um_model.specs.Bytes.{Reading, IsCanonical, in_table, arm_in, text_spelling}
+use Rattle.um_model.specs.Names.{is_unit_name}
+use Rattle.um_model.proofs.BytesLaws.{canonical8, canonical32, canonical_pair, canonical_form, canonical_as, canonical_option, canonical_table, canonical_between, canonical_truth, canonical_text, canonical_only, AllTell, tells, tells_just, canonical_arms}
 use Rattle.um_model.specs.Moments.{moment_limit, deadline_limit, process_limit}
 use Rattle.um_model.specs.Spellings.{sub_tag, sub_states, sub_spelling, sub_at, result_tag, results, result_spelling, result_at, kind_tag, kinds, kind_spelling, kind_at, job_state_tag, job_states, job_state_spelling, job_state_at}
 use Rattle.um_model.specs.Spellings.{end_tag, end_fields, end_arms, end_spelling, end_at, FitEnd, moment_at, FitMoment, deadline_at, FitDeadline, process_at, FitProcess, next_at, FitNext}
-use Rattle.um_model.specs.Spellings.{counted_spelling, counted_of, counted_at, FitCounted, unit_spelling, UnitFields, unit_of, unit_at, FitUnit}
+use Rattle.um_model.specs.Spellings.{unit_name_at, FitUnitName, counted_spelling, counted_of, counted_at, FitCounted, unit_spelling, UnitFields, unit_of, unit_at, FitUnit}
 use Rattle.byteorder.specs.Endian.{big_bytes}
 use Rattle.um_model.specs.declared.jobs.JobKind.{JobKind}
 use Rattle.um_model.specs.declared.jobs.JobKind.TheVariants as kind
@@ -92,7 +93,10 @@ canonical_process = canonical_between 1 (process_limit - 1) (omega arith)
 pub canonical_next : IsCanonical FitNext (big_bytes 8) next_at
 canonical_next = canonical_between 1 process_limit (omega arith)
 
--- ---- a start window, and a unit
+-- ---- the name of a unit, a start window, and a unit
+
+pub canonical_unit_name : IsCanonical FitUnitName text_spelling unit_name_at
+canonical_unit_name = canonical_only is_unit_name canonical_text
 
 pub canonical_counted : IsCanonical FitCounted counted_spelling counted_at
 canonical_counted = canonical_as counted_of (λ c. (c.began, c.count)) (λ f. refl) (λ c. refl) (canonical_pair canonical_moment canonical32)

@@ -43,6 +43,7 @@ pub mod Disk
 pub mod Bytes
 pub mod Spellings
 pub mod StateSpellings
+pub mod InputSpellings
 pub mod Store
 pub mod Finds
 pub mod Sessions

@@ -1,10 +1,11 @@
--- Canonical bytes of what the state holds of a unit: choices, ends, moments, process numbers, start windows, and the unit.
+-- Canonical bytes of what the state holds of a unit: choices, ends, moments, process numbers, names, start windows, and the unit.
 -- No manual page has this: it is the project's own format (docs/FORMATS.md, "Canonical bytes").
 -- The bytes of states and inputs, and the code that reads and writes them stand on this file.
-use Rattle.std.specs.Prelude.{ℕ, ◌-◌, ◌<◌, ◌^◌, ⊤, Bool, List, [], ◌∷◌, ◌++◌, Option, IfSome}
+use Rattle.std.specs.Prelude.{◌≡◌, ℕ, ◌-◌, ◌<◌, ◌^◌, ⊤, Bool, true, List, [], ◌∷◌, ◌++◌, Option, IfSome}
 use Rattle.byteorder.specs.Endian.{big_bytes}
-use Rattle.um_model.specs.Bytes.{Spelling, Reading, byte_at, number_at, between_at, FitBetween, pair_at, as_at, tag_at, in_table, choice_at, arm_in, just_at}
-use Rattle.um_model.specs.Bytes.{truth_spelling, truth_at, option_spelling, option_at}
+use Rattle.um_model.specs.Bytes.{Spelling, Reading, byte_at, number_at, between_at, FitBetween, pair_at, as_at, only_at, tag_at, in_table, choice_at, arm_in, just_at}
+use Rattle.um_model.specs.Bytes.{truth_spelling, truth_at, option_spelling, option_at, FitText, text_at}
+use Rattle.um_model.specs.Names.{is_unit_name}
 use Rattle.um_model.specs.Moments.{moment_limit, deadline_limit, process_limit}
 use Rattle.um_model.specs.declared.jobs.JobKind.{JobKind}
 use Rattle.um_model.specs.declared.jobs.JobKind.TheVariants as kind
@@ -171,6 +172,16 @@ next_at = between_at 1 process_limit
 -- the same as a statement
 abbrev pub FitNext : ℕ → Type 0
 FitNext = FitBetween 1 process_limit
+
+-- ---- the name of a unit
+
+-- a text that is a unit name
+abbrev pub unit_name_at : Reading (List ℕ)
+unit_name_at = only_at is_unit_name text_at
+
+-- the same as a statement
+abbrev pub FitUnitName : List ℕ → Type 0
+FitUnitName name = FitText name × (is_unit_name name ≡ true)
 
 -- ---- the starts that a window counted: the moment of the first one, and how many
 

@@ -14,7 +14,7 @@ use Rattle.um_model.specs.Tree.{Tree, Entry, File, Link, IsTree, is_fit_entry, e
 use Rattle.um_model.specs.Service.{ByUnit, AreTidyUnits, holds_nothing}
 use Rattle.um_model.specs.Jobs.{AreTidyJobs, JobShown, jobs, jobs_of_unit, jobs_shown}
 use Rattle.um_model.specs.Machine.{State, boot_limit}
-use Rattle.um_model.specs.Spellings.{kind_tag, kind_spelling, kind_at, job_state_spelling, job_state_at, moment_at, FitMoment, next_at, FitNext, unit_spelling, unit_at, FitUnit}
+use Rattle.um_model.specs.Spellings.{kind_tag, kind_spelling, kind_at, job_state_spelling, job_state_at, moment_at, FitMoment, next_at, FitNext, unit_name_at, FitUnitName, unit_spelling, unit_at, FitUnit}
 use Rattle.um_model.specs.declared.jobs.JobKind.{JobKind}
 use Rattle.um_model.specs.declared.jobs.JobKind.TheVariants as kind
 use Rattle.um_model.specs.declared.jobs.JobState.{JobState}
@@ -101,10 +101,6 @@ job_spelling j = text_spelling j.unit ++ (kind_spelling j.kind ++ job_state_spel
 abbrev pub job_of_fields : List ℕ × (JobKind × JobState) → JobShown
 job_of_fields (unit, (kind, state)) = record { unit = unit; kind = kind; state = state }
 
--- a text that is a unit name
-abbrev pub unit_name_at : Reading (List ℕ)
-unit_name_at = only_at is_unit_name text_at
-
 -- the name of a unit, what the job does, and how far it is
 abbrev pub job_at : Reading JobShown
 job_at = as_at job_of_fields (pair_at unit_name_at (pair_at kind_at job_state_at))
@@ -143,7 +139,7 @@ pending_at = as_at pending_of (only_at jobs_ascend (list_at job_at))
 
 -- a job that has bytes: its unit is a unit name
 abbrev pub FitJob : JobShown → Type 0
-FitJob j = FitText j.unit × (is_unit_name j.unit ≡ true)
+FitJob j = FitUnitName j.unit
 
 -- pending jobs that have bytes: each has some, and a unit without a job stands for none
 pub record FitPending (pending : ByUnit UnitJobs) : Type 0 where
