@@ -36,6 +36,7 @@ pub mod EntriesLaws
 pub mod PendingSpellingsLaws
 pub mod StateSpellingsLaws
 pub mod InputSpellingsLaws
+pub mod SpellingRows
 pub mod TransitionLaws
 pub mod StoreLaws
 pub mod LogLaws
