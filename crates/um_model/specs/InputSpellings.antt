@@ -3,8 +3,10 @@
 -- The code that reads and writes inputs, and the log of the store stand on this file.
 use Rattle.std.specs.Prelude.{ℕ, ◌<◌, ◌^◌, ⊤, List, [], ◌∷◌, ◌++◌}
 use Rattle.byteorder.specs.Endian.{big_bytes}
-use Rattle.um_model.specs.Bytes.{Spelling, Reading, number_at, pair_at, as_at, marked_at, tag_at, in_table, choice_at, arm_in, just_at, none_at, FitText, text_spelling, text_at}
-use Rattle.um_model.specs.Machine.{Command, PutFile, PutLink, Remove, DaemonReload, ForUnit, Cancel, Install, Happening, ProcessEnded, Tick, Event, Commanded, Happened, Input}
+use Rattle.um_model.specs.Bytes.{Spelling, Reading, number_at, pair_at, as_at, marked_at, tag_at, in_table, choice_at, arm_in, just_at, none_at}
+use Rattle.um_model.specs.Bytes.{FitText, text_spelling, text_at}
+use Rattle.um_model.specs.Machine.{Command, PutFile, PutLink, Remove, DaemonReload, ForUnit, Cancel, Install, Happening, ProcessEnded, Tick, Event}
+use Rattle.um_model.specs.Machine.{Commanded, Happened, Input}
 use Rattle.um_model.specs.Spellings.{moment_at, FitMoment, unit_name_at, FitUnitName, end_spelling, end_at, FitEnd}
 use Rattle.um_model.specs.declared.commands.JobMode.{JobMode}
 use Rattle.um_model.specs.declared.commands.JobMode.TheVariants as mode

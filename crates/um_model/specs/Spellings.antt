@@ -3,7 +3,8 @@
 -- The bytes of states and inputs, and the code that reads and writes them stand on this file.
 use Rattle.std.specs.Prelude.{◌≡◌, ℕ, ◌-◌, ◌<◌, ◌^◌, ⊤, Bool, true, List, [], ◌∷◌, ◌++◌, Option, IfSome}
 use Rattle.byteorder.specs.Endian.{big_bytes}
-use Rattle.um_model.specs.Bytes.{Spelling, Reading, byte_at, number_at, between_at, FitBetween, pair_at, as_at, only_at, tag_at, in_table, choice_at, arm_in, just_at}
+use Rattle.um_model.specs.Bytes.{Spelling, Reading, byte_at, number_at, between_at, FitBetween, pair_at, as_at, only_at, tag_at, in_table, choice_at}
+use Rattle.um_model.specs.Bytes.{arm_in, just_at}
 use Rattle.um_model.specs.Bytes.{truth_spelling, truth_at, option_spelling, option_at, FitText, text_at}
 use Rattle.um_model.specs.Names.{is_unit_name}
 use Rattle.um_model.specs.Moments.{moment_limit, deadline_limit, process_limit}

@@ -14,7 +14,8 @@ use Rattle.um_model.specs.Tree.{Tree, Entry, File, Link, IsTree, is_fit_entry, e
 use Rattle.um_model.specs.Service.{ByUnit, AreTidyUnits, holds_nothing}
 use Rattle.um_model.specs.Jobs.{AreTidyJobs, JobShown, jobs, jobs_of_unit, jobs_shown}
 use Rattle.um_model.specs.Machine.{State, boot_limit}
-use Rattle.um_model.specs.Spellings.{kind_tag, kind_spelling, kind_at, job_state_spelling, job_state_at, moment_at, FitMoment, next_at, FitNext, unit_name_at, FitUnitName, unit_spelling, unit_at, FitUnit}
+use Rattle.um_model.specs.Spellings.{kind_tag, kind_spelling, kind_at, job_state_spelling, job_state_at, moment_at, FitMoment, next_at, FitNext}
+use Rattle.um_model.specs.Spellings.{unit_name_at, FitUnitName, unit_spelling, unit_at, FitUnit}
 use Rattle.um_model.specs.declared.jobs.JobKind.{JobKind}
 use Rattle.um_model.specs.declared.jobs.JobKind.TheVariants as kind
 use Rattle.um_model.specs.declared.jobs.JobState.{JobState}
