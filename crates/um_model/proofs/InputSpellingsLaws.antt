@@ -49,12 +49,52 @@ installs : (v : InstallVerb) → Tells input_tag input_fields FitInput (event_ta
 installs v = arm _ _ canonical_unit_name (λ unit fit. (refl, refl, fit))
 
 all_arms : AllTell input_tag input_fields FitInput 0 input_arms
-all_arms =
-    (tells_none 0, (arm 1 _ (canonical_pair canonical_text canonical_text) (λ f fit. (refl, refl, fit)), (arm 2 _ (canonical_pair canonical_text canonical_text) (λ f fit. (refl, refl, fit)),
-    (arm 3 _ canonical_text (λ f fit. (refl, refl, fit)), (arm 4 _ canonical_nothing (λ f fit. (refl, refl, tt)),
-    (for_unit verb.Start, (for_unit verb.Stop, (for_unit verb.Restart, (for_unit verb.TryRestart, (arm 9 _ canonical_unit_name (λ f fit. (refl, refl, fit)), (tells_none 10,
-    (installs install.Enable, (installs install.Disable, (installs install.Mask, (installs install.Unmask,
-    (arm 15 _ (canonical_pair canonical64 canonical_end) (λ f fit. (refl, refl, fit)), (tells_none 16, (arm 17 _ canonical_nothing (λ f fit. (refl, refl, tt)), tt))))))))))))))))))
+all_arms = (
+  tells_none 0,
+  (
+    arm 1 _ (canonical_pair canonical_text canonical_text) (λ f fit. (refl, refl, fit)),
+    (
+      arm 2 _ (canonical_pair canonical_text canonical_text) (λ f fit. (refl, refl, fit)),
+      (
+        arm 3 _ canonical_text (λ f fit. (refl, refl, fit)),
+        (
+          arm 4 _ canonical_nothing (λ f fit. (refl, refl, tt)),
+          (
+            for_unit verb.Start,
+            (
+              for_unit verb.Stop,
+              (
+                for_unit verb.Restart,
+                (
+                  for_unit verb.TryRestart,
+                  (
+                    arm 9 _ canonical_unit_name (λ f fit. (refl, refl, fit)),
+                    (
+                      tells_none 10,
+                      (
+                        installs install.Enable,
+                        (
+                          installs install.Disable,
+                          (
+                            installs install.Mask,
+                            (
+                              installs install.Unmask,
+                              (arm 15 _ (canonical_pair canonical64 canonical_end) (λ f fit. (refl, refl, fit)), (tells_none 16, (arm 17 _ canonical_nothing (λ f fit. (refl, refl, tt)), tt))),
+                            ),
+                          ),
+                        ),
+                      ),
+                    ),
+                  ),
+                ),
+              ),
+            ),
+          ),
+        ),
+      ),
+    ),
+  ),
+)
 
 -- ---- the law
 

@@ -15,7 +15,7 @@ use Rattle.um_model.specs.Spellings.{kind_tag}
 use Rattle.um_model.specs.StateSpellings.{job_of_fields, job_spelling, job_at, FitJob, pending_spelling, pending_at, FitPending, is_job_before, is_before_next, jobs_ascend, with_job, pending_of}
 use Rattle.um_model.specs.Bytes.{IsCanonical, FitList}
 use Rattle.um_model.proofs.SpellingsLaws.{canonical_unit_name, canonical_kind, canonical_job_state}
-use Rattle.um_model.proofs.BytesLaws.{canonical_form, canonical_only, canonical_pair, canonical_list,  left_holds, right_holds, both_hold, lower, lower_all}
+use Rattle.um_model.proofs.BytesLaws.{canonical_form, canonical_only, canonical_pair, canonical_list, left_holds, right_holds, both_hold, lower, lower_all}
 use Rattle.um_model.proofs.EntriesLaws.{below_none, below_put, both_true, left_true, right_true, from_each}
 use Rattle.um_model.proofs.UnitLaws.{not_jobless, no_job_held, tidy_empty, tidy_inserted}
 use Rattle.um_model.specs.declared.jobs.JobKind.{JobKind}
@@ -98,7 +98,7 @@ module _ (j : JobShown) (unit : List ℕ) (es : Entries) (sorted : T (below_all 
   more_behind_start start Less e k is h = in_front j.unit j.kind j.state ((unit, jobs None (Some start)) ∷ es) (below_less e (jobs None (Some start)))
   more_behind_start start Equal e Stop is h =
       subst (λ (k : JobKind). told (with_more (record { unit = j.unit; kind = k; state = j.state }) ((unit, jobs None (Some start)) ∷ es))
-          ≡ record { unit = j.unit; kind = k; state = j.state } ∷ told ((unit, jobs None (Some start)) ∷ es))
+      ≡ record { unit = j.unit; kind = k; state = j.state } ∷ told ((unit, jobs None (Some start)) ∷ es))
       (sym is) (beside j.unit j.state start unit es e (tells_apart exact_bytes j.unit unit (ap is_eq e)))
   more_behind_start start Equal e Start is h = absurd cc
   more_behind_start start Greater e k is h = absurd cc
