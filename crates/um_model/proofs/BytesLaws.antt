@@ -367,14 +367,14 @@ abbrev pub AreTags : {A : Type 0} → (A → ℕ) → ℕ → List A → Type 0
 AreTags tag first [] = ⊤
 AreTags tag first (a ∷ table) = (tag a ≡ first) × AreTags tag (suc first) table
 
-table_back : {A : Type 0} (tag : A → ℕ) (first : ℕ) (table : List A) → AreTags tag first table → (n : ℕ) (a : A) → in_table table n ≡ Some a → tag a ≡ n + first
-table_back tag first [] tags n a e = absurd (none_some a e)
-table_back tag first (x ∷ table) tags zero a e = omega (arith, ap tag (sym (some_is x a e)) ∙ tags.0)
-table_back tag first (x ∷ table) tags (suc n) a e = omega (arith, table_back tag (suc first) table tags.1 n a e)
+place_is : {A : Type 0} (tag : A → ℕ) (first : ℕ) (table : List A) → AreTags tag first table → (n : ℕ) (a : A) → in_table table n ≡ Some a → tag a ≡ n + first
+place_is tag first [] tags n a e = absurd (none_some a e)
+place_is tag first (x ∷ table) tags zero a e = omega (arith, ap tag (sym (some_is x a e)) ∙ tags.0)
+place_is tag first (x ∷ table) tags (suc n) a e = omega (arith, place_is tag (suc first) table tags.1 n a e)
 
-pub canonical_table : {A : Type 0} (tag : A → ℕ) (table : List A) → AreTags tag 0 table → ((a : A) → in_table table (tag a) ≡ Some a)
-    → IsCanonical (λ (a : A). ⊤) (λ a. tag a ∷ []) (tag_at (in_table table))
-canonical_table tag table tags again = canonical_tag tag (in_table table) again (λ n a e. omega (arith, table_back tag 0 table tags n a e))
+-- the choice at a place has that tag
+pub table_back : {A : Type 0} (tag : A → ℕ) (table : List A) → AreTags tag 0 table → (n : ℕ) (a : A) → in_table table n ≡ Some a → tag a ≡ n
+table_back tag table tags n a e = omega (arith, place_is tag 0 table tags n a e)
 
 pub truth_again : (b : Bool) → truth_of (truth_tag b) ≡ Some b
 truth_again true = refl

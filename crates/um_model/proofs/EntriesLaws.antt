@@ -1,7 +1,7 @@
 -- What holds of each entry of a map by texts holds of each of its values, and back; and where an entry is put.
-use Rattle.std.proofs.Common.{◌≡◌, ℕ, Bool, true, false, cond, ◌&&◌, List, [], ◌∷◌, Option, Some, None, refl, sym, ap, subst, ◌∙◌, Ordering, Less, Equal, Greater, T, is_eq}
+use Rattle.std.proofs.Common.{◌≡◌, ℕ, Bool, true, false, cond, ◌&&◌, List, [], ◌∷◌, Some, None, refl, sym, ap, ◌∙◌, T, is_eq}
 use Rattle.std.specs.List.{list_all}
-use Rattle.std.specs.Ordering.{nat_cmp, eq_by_cmp, is_lt}
+use Rattle.std.specs.Ordering.{nat_cmp, eq_by_cmp}
 use Rattle.std.specs.Cmp.{tied_itself}
 use Rattle.std.specs.Cmp.Lexicographic.{slice_cmp, nat_list_cmp_total}
 use Rattle.std.specs.FinMap as map
@@ -9,7 +9,7 @@ use Rattle.std.specs.FinMap.Entries.{below_all, put, find, by_order}
 use Rattle.std.proofs.lemmas.Map.Lookups.{exact_bytes}
 use Rattle.std.proofs.lemmas.Map.Views.{tells_apart}
 use Rattle.um_model.specs.Bytes.{ByText}
-use Rattle.um_model.proofs.BytesLaws.{some_is, none_some, is_true, left_holds, right_holds, lower}
+use Rattle.um_model.proofs.BytesLaws.{some_is, none_some, left_holds, right_holds, lower}
 
 pub both_true : (a b : Bool) → a ≡ true → b ≡ true → (a && b) ≡ true
 both_true true b p q = q

@@ -1,18 +1,18 @@
 -- The list of the pending jobs in the bytes and their map in the state tell the same.
-use Rattle.std.proofs.Common.{◌≡◌, ◌≢◌, ℕ, Bool, true, false, cond, ◌&&◌, ◌||◌, List, [], ◌∷◌, ◌++◌, Option, Some, None, is_some, unwrap_or, refl, sym, ap, subst, ◌∙◌, Ordering, Less, Equal, Greater, T, is_eq}
+use Rattle.std.proofs.Common.{◌≡◌, ℕ, Bool, true, false, ◌||◌, List, [], ◌∷◌, ◌++◌, Option, Some, None, is_some, unwrap_or, refl, sym, ap, subst, ◌∙◌, Ordering, Less, Equal, Greater, T, is_eq}
 use Rattle.std.specs.List.{list_all, flat_map}
 use Rattle.std.specs.Ordering.{nat_cmp, is_lt, ordering_then}
 use Rattle.std.specs.Cmp.{tied_itself}
 use Rattle.std.specs.Cmp.Lexicographic.{slice_cmp, nat_list_cmp_total}
 use Rattle.std.specs.FinMap as map
-use Rattle.std.specs.FinMap.Entries.{below_all, put, find, by_order}
+use Rattle.std.specs.FinMap.Entries.{below_all, put, find}
 use Rattle.std.proofs.lemmas.List.{nil_from_length}
 use Rattle.std.proofs.lemmas.Map.Lookups.{exact_bytes}
 use Rattle.std.proofs.lemmas.Map.Views.{tells_apart}
 use Rattle.um_model.specs.Service.{ByUnit}
 use Rattle.um_model.specs.Jobs.{AreTidyJobs, JobShown, jobs, no_jobs, has_job, jobs_of_unit, job_shown, jobs_shown_of, jobs_shown}
 use Rattle.um_model.specs.Spellings.{kind_tag}
-use Rattle.um_model.specs.StateSpellings.{job_of_fields, job_spelling, job_at, FitJob, pending_spelling, pending_at, FitPending, is_job_before, is_before_next, jobs_ascend, with_job, pending_of}
+use Rattle.um_model.specs.StateSpellings.{job_of_fields, job_spelling, job_at, FitJob, pending_spelling, pending_at, FitPending, is_before_next, jobs_ascend, with_job, pending_of}
 use Rattle.um_model.specs.Bytes.{IsCanonical, FitList}
 use Rattle.um_model.proofs.SpellingsLaws.{canonical_unit_name, canonical_kind, canonical_job_state}
 use Rattle.um_model.proofs.BytesLaws.{canonical_form, canonical_only, canonical_pair, canonical_list, left_holds, right_holds, both_hold, lower, lower_all}

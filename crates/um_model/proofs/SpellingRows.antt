@@ -1,12 +1,11 @@
 -- Two rows of the format, worked out: the empty state, and a tick.
-use Rattle.std.proofs.Common.{◌≡◌, ℕ, List, [], ◌∷◌, length, Option, Some, refl, sym, ◌∙◌}
+use Rattle.std.proofs.Common.{◌≡◌, [], ◌∷◌, refl, sym, ◌∙◌}
 use Rattle.std.proofs.lemmas.List.{nil_from_length}
 use Rattle.std.specs.Cmp.Lexicographic.{slice_cmp}
 use Rattle.std.specs.FinMap as map
 use Rattle.std.specs.Ordering.{nat_cmp}
-use Rattle.um_model.specs.InputSpellings.{input_spelling, input_at}
+use Rattle.um_model.specs.InputSpellings.{input_spelling}
 use Rattle.um_model.specs.Machine.{Happened, Tick, empty_state}
-use Rattle.um_model.specs.Service.{ByUnit}
 use Rattle.um_model.specs.StateSpellings.{state_spelling}
 use Rattle.um_model.specs.Tree.{Entry}
 use Rattle.um_model.specs.declared.jobs.UnitJobs.{UnitJobs}

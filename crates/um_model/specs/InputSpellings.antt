@@ -14,7 +14,6 @@ use Rattle.um_model.specs.declared.commands.UnitVerb.{UnitVerb}
 use Rattle.um_model.specs.declared.commands.UnitVerb.TheVariants as verb
 use Rattle.um_model.specs.declared.install.InstallVerb.{InstallVerb}
 use Rattle.um_model.specs.declared.install.InstallVerb.TheVariants as install
-use Rattle.um_model.specs.declared.service.End.{End}
 
 -- ---- what becomes of jobs in the way
 
