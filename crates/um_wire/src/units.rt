@@ -9,6 +9,7 @@ ghost use Rattle.um_model.specs.declared.jobs.JobKind as kind;
 ghost use Rattle.um_model.specs.declared.jobs.JobState as job_state;
 ghost use Rattle.um_model.specs.declared.service.End as end;
 ghost use Rattle.um_model.specs.declared.service.UnitResult as result;
+ghost use Rattle.um_model.specs.declared.service.UnitState as unit;
 
 use crate::canon::Canon;
 use crate::choices::{Tagged, get_tag, put_tag};
@@ -292,4 +293,73 @@ impl Canon for Counted {
     }
 
     ghost canonical = { canonical_counted };
+}
+
+/// The fields of a unit, in the order of their bytes.
+type Fields = (
+    SubState,
+    (
+        UnitResult,
+        (
+            Option<ProcessNumber>,
+            (
+                Option<ProcessNumber>,
+                (
+                    u32,
+                    (Option<Deadline>, (Option<Counted>, (bool, Option<End>))),
+                ),
+            ),
+        ),
+    ),
+);
+
+impl Canon for UnitState {
+    ghost Value = { unit.UnitState };
+
+    ghost value = { λ u. u };
+
+    ghost fits = { FitUnit };
+
+    ghost spelling = { unit_spelling };
+
+    ghost reading = { unit_at };
+
+    fn put(&self, out: &mut Vec<u8>) -> Result<(), AllocError> {
+        self.sub.put(out)?;
+        self.result.put(out)?;
+        self.main.put(out)?;
+        self.control.put(out)?;
+        self.index.put(out)?;
+        self.deadline.put(out)?;
+        self.window.put(out)?;
+        self.asked.put(out)?;
+        self.last.put(out)?;
+        Ok(())
+    }
+
+    fn get(alloc: Global, bytes: &[u8]) -> Result<Option<(UnitState, usize)>, AllocError> {
+        match Fields::get(alloc, bytes)? {
+            Some((fields, n)) => {
+                let (
+                    sub,
+                    (result, (main, (control, (index, (deadline, (window, (asked, last))))))),
+                ) = fields;
+                let unit = UnitState {
+                    sub,
+                    result,
+                    main,
+                    control,
+                    index,
+                    deadline,
+                    window,
+                    asked,
+                    last,
+                };
+                Ok(Some((unit, n)))
+            }
+            None => Ok(None),
+        }
+    }
+
+    ghost canonical = { canonical_unit };
 }
