@@ -1,22 +1,21 @@
 //! What the state holds of one unit: choices by their tags, how a process ended, a start window, and the unit.
-ghost use Rattle.std.specs.Prelude.{⊤};
 ghost use Rattle.um_model.specs.Bytes.{in_table};
-ghost use Rattle.um_model.specs.Spellings.{FitCounted, FitEnd, FitUnit, counted_at, counted_spelling, end_at, end_spelling, job_state_at, job_state_spelling, job_state_tag, job_states, kind_at, kind_spelling, kind_tag, kinds, result_at, result_spelling, result_tag, results, sub_at, sub_spelling, sub_states, sub_tag, unit_at, unit_spelling};
-ghost use Rattle.um_model.proofs.SpellingsLaws.{canonical_counted, canonical_end, canonical_job_state, canonical_kind, canonical_result, canonical_sub, canonical_unit, job_state_again, job_state_back, kind_again, kind_back, result_again, result_back, sub_again, sub_back};
+ghost use Rattle.um_model.specs.InputSpellings.{mode_tag, modes};
+ghost use Rattle.um_model.specs.Spellings.{FitCounted, FitEnd, FitUnit, counted_at, counted_spelling, end_at, end_spelling, unit_at, unit_spelling};
+ghost use Rattle.um_model.specs.Spellings.{job_state_tag, job_states, kind_tag, kinds, result_tag, results, sub_states, sub_tag};
+ghost use Rattle.um_model.proofs.InputSpellingsLaws.{mode_again, mode_back};
+ghost use Rattle.um_model.proofs.SpellingsLaws.{canonical_counted, canonical_end, canonical_unit};
+ghost use Rattle.um_model.proofs.SpellingsLaws.{job_state_again, job_state_back, kind_again, kind_back, result_again, result_back, sub_again, sub_back};
 ghost use Rattle.um_model.specs.declared.limit.Counted as counted;
-ghost use Rattle.um_model.specs.declared.service.SubState as sub;
-ghost use Rattle.um_model.specs.declared.jobs.JobKind as kind;
-ghost use Rattle.um_model.specs.declared.jobs.JobState as job_state;
 ghost use Rattle.um_model.specs.declared.service.End as end;
-ghost use Rattle.um_model.specs.declared.service.UnitResult as result;
 ghost use Rattle.um_model.specs.declared.service.UnitState as unit;
 
 use crate::canon::Canon;
-use crate::choices::{Tagged, get_tag, put_tag};
+use crate::choices::Tagged;
 use std::alloc::{AllocError, Global};
 use um_model::{
-    Counted, Deadline, End, JobKind, JobState, Moment, ProcessNumber, SubState, UnitResult,
-    UnitState,
+    Counted, Deadline, End, JobKind, JobMode, JobState, Moment, ProcessNumber, SubState,
+    UnitResult, UnitState,
 };
 
 impl Tagged for SubState {
@@ -60,28 +59,6 @@ impl Tagged for SubState {
     ghost back = { sub_back };
 }
 
-impl Canon for SubState {
-    ghost Value = { sub.SubState };
-
-    ghost value = { λ s. s };
-
-    ghost fits = { λ _. ⊤ };
-
-    ghost spelling = { sub_spelling };
-
-    ghost reading = { sub_at };
-
-    fn put(&self, out: &mut Vec<u8>) -> Result<(), AllocError> {
-        put_tag(self, out)
-    }
-
-    fn get(_alloc: Global, bytes: &[u8]) -> Result<Option<(SubState, usize)>, AllocError> {
-        Ok(get_tag(bytes))
-    }
-
-    ghost canonical = { canonical_sub };
-}
-
 impl Tagged for UnitResult {
     ghost tag_of = { result_tag };
 
@@ -121,28 +98,6 @@ impl Tagged for UnitResult {
     ghost back = { result_back };
 }
 
-impl Canon for UnitResult {
-    ghost Value = { result.UnitResult };
-
-    ghost value = { λ a. a };
-
-    ghost fits = { λ _. ⊤ };
-
-    ghost spelling = { result_spelling };
-
-    ghost reading = { result_at };
-
-    fn put(&self, out: &mut Vec<u8>) -> Result<(), AllocError> {
-        put_tag(self, out)
-    }
-
-    fn get(_alloc: Global, bytes: &[u8]) -> Result<Option<(UnitResult, usize)>, AllocError> {
-        Ok(get_tag(bytes))
-    }
-
-    ghost canonical = { canonical_result };
-}
-
 impl Tagged for JobKind {
     ghost tag_of = { kind_tag };
 
@@ -166,28 +121,6 @@ impl Tagged for JobKind {
     ghost again = { kind_again };
 
     ghost back = { kind_back };
-}
-
-impl Canon for JobKind {
-    ghost Value = { kind.JobKind };
-
-    ghost value = { λ a. a };
-
-    ghost fits = { λ _. ⊤ };
-
-    ghost spelling = { kind_spelling };
-
-    ghost reading = { kind_at };
-
-    fn put(&self, out: &mut Vec<u8>) -> Result<(), AllocError> {
-        put_tag(self, out)
-    }
-
-    fn get(_alloc: Global, bytes: &[u8]) -> Result<Option<(JobKind, usize)>, AllocError> {
-        Ok(get_tag(bytes))
-    }
-
-    ghost canonical = { canonical_kind };
 }
 
 impl Tagged for JobState {
@@ -215,26 +148,29 @@ impl Tagged for JobState {
     ghost back = { job_state_back };
 }
 
-impl Canon for JobState {
-    ghost Value = { job_state.JobState };
+impl Tagged for JobMode {
+    ghost tag_of = { mode_tag };
 
-    ghost value = { λ a. a };
+    ghost with_tag = { in_table modes };
 
-    ghost fits = { λ _. ⊤ };
-
-    ghost spelling = { job_state_spelling };
-
-    ghost reading = { job_state_at };
-
-    fn put(&self, out: &mut Vec<u8>) -> Result<(), AllocError> {
-        put_tag(self, out)
+    fn tag(&self) -> u8 {
+        match self {
+            JobMode::Replace => 0,
+            JobMode::Fail => 1,
+        }
     }
 
-    fn get(_alloc: Global, bytes: &[u8]) -> Result<Option<(JobState, usize)>, AllocError> {
-        Ok(get_tag(bytes))
+    fn from_tag(tag: u8) -> Option<JobMode> {
+        match tag {
+            0 => Some(JobMode::Replace),
+            1 => Some(JobMode::Fail),
+            _ => None,
+        }
     }
 
-    ghost canonical = { canonical_job_state };
+    ghost again = { mode_again };
+
+    ghost back = { mode_back };
 }
 
 impl Canon for End {
