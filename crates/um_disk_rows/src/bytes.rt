@@ -2,6 +2,10 @@
 use crate::answers::same;
 use std::collections::BTreeMap;
 use std::process::Abort;
+use um_model::{
+    Counted, Deadline, End, JobKind, JobMode, JobState, Moment, NextNumber, ProcessNumber,
+    SubState, UnitResult, UnitState,
+};
 use um_wire::{Canon, get_tag, put_tag, read_whole, spell};
 
 /// Asserts that the value is spelled by these bytes.
@@ -150,4 +154,115 @@ fn the_keys_of_a_map_strictly_ascend(rt: HostRuntime) {
     is_not_read::<BTreeMap<String, u8>>(&rt, TWICE);
     is_not_read::<BTreeMap<String, u8>>(&rt, SHORT);
     is_not_read::<BTreeMap<String, u8>>(&rt, &[]);
+}
+
+#[test]
+fn a_sub_state_is_its_tag(rt: HostRuntime) {
+    is_spelled(&rt, &SubState::Dead, &[0]);
+    is_spelled(&rt, &SubState::Start, &[1]);
+    is_spelled(&rt, &SubState::Running, &[2]);
+    is_spelled(&rt, &SubState::Exited, &[3]);
+    is_spelled(&rt, &SubState::Stop, &[4]);
+    is_spelled(&rt, &SubState::StopSigterm, &[5]);
+    is_spelled(&rt, &SubState::StopSigkill, &[6]);
+    is_spelled(&rt, &SubState::Failed, &[7]);
+    is_spelled(&rt, &SubState::AutoRestart, &[8]);
+    is_spelled(&rt, &SubState::Active, &[9]);
+    is_not_read::<SubState>(&rt, &[10]);
+    is_not_read::<SubState>(&rt, &[]);
+}
+
+#[test]
+fn a_result_is_its_tag(rt: HostRuntime) {
+    is_spelled(&rt, &UnitResult::Success, &[0]);
+    is_spelled(&rt, &UnitResult::ExitCode, &[1]);
+    is_spelled(&rt, &UnitResult::Signal, &[2]);
+    is_spelled(&rt, &UnitResult::Timeout, &[3]);
+    is_spelled(&rt, &UnitResult::Lost, &[4]);
+    is_spelled(&rt, &UnitResult::StartLimitHit, &[5]);
+    is_spelled(&rt, &UnitResult::Dependency, &[6]);
+    is_spelled(&rt, &UnitResult::NotLoaded, &[7]);
+    is_spelled(&rt, &UnitResult::Resources, &[8]);
+    is_not_read::<UnitResult>(&rt, &[9]);
+}
+
+#[test]
+fn jobs_and_modes_are_their_tags(rt: HostRuntime) {
+    is_spelled(&rt, &JobKind::Stop, &[0]);
+    is_spelled(&rt, &JobKind::Start, &[1]);
+    is_not_read::<JobKind>(&rt, &[2]);
+    is_spelled(&rt, &JobState::Waiting, &[0]);
+    is_spelled(&rt, &JobState::Running, &[1]);
+    is_not_read::<JobState>(&rt, &[2]);
+    is_spelled(&rt, &JobMode::Replace, &[0]);
+    is_spelled(&rt, &JobMode::Fail, &[1]);
+    is_not_read::<JobMode>(&rt, &[2]);
+}
+
+#[test]
+fn an_end_is_a_tag_and_its_byte(rt: HostRuntime) {
+    is_spelled(&rt, &End::Code(203), &[0, 203]);
+    is_spelled(&rt, &End::Signal(9), &[1, 9]);
+    is_spelled(&rt, &End::Lost, &[2]);
+    is_not_read::<End>(&rt, &[3, 0]);
+    is_not_read::<End>(&rt, &[0]);
+    is_not_read::<End>(&rt, &[1]);
+    is_not_read::<End>(&rt, &[]);
+}
+
+#[test]
+fn moments_and_numbers_stay_within_their_bounds(rt: HostRuntime) {
+    is_read::<Moment>(&rt, &[0, 0, 0, 0, 0, 16, 200, 224]);
+    is_read::<Moment>(&rt, &[64, 0, 0, 0, 0, 0, 0, 0]);
+    is_not_read::<Moment>(&rt, &[64, 0, 0, 0, 0, 0, 0, 1]);
+    is_read::<Deadline>(&rt, &[128, 0, 0, 0, 0, 0, 0, 0]);
+    is_not_read::<Deadline>(&rt, &[128, 0, 0, 0, 0, 0, 0, 1]);
+    is_read::<ProcessNumber>(&rt, &[0, 0, 0, 0, 0, 0, 0, 1]);
+    is_read::<ProcessNumber>(&rt, &[127, 255, 255, 255, 255, 255, 255, 255]);
+    is_not_read::<ProcessNumber>(&rt, &[0, 0, 0, 0, 0, 0, 0, 0]);
+    is_not_read::<ProcessNumber>(&rt, &[128, 0, 0, 0, 0, 0, 0, 0]);
+    is_spelled(&rt, &NextNumber::FIRST, &[0, 0, 0, 0, 0, 0, 0, 1]);
+    is_read::<NextNumber>(&rt, &[128, 0, 0, 0, 0, 0, 0, 0]);
+    is_not_read::<NextNumber>(&rt, &[0, 0, 0, 0, 0, 0, 0, 0]);
+    is_not_read::<NextNumber>(&rt, &[128, 0, 0, 0, 0, 0, 0, 1]);
+    is_not_read::<NextNumber>(&rt, &[0, 0, 0, 0, 0, 0, 1]);
+}
+
+#[test]
+fn a_window_is_a_moment_and_a_count(rt: HostRuntime) {
+    let began = Moment::new(1_100_000).expect(&rt, "no moment");
+    let window = Counted { began, count: 258 };
+    is_spelled(&rt, &window, &[0, 0, 0, 0, 0, 16, 200, 224, 0, 0, 1, 2]);
+    is_not_read::<Counted>(&rt, &[64, 0, 0, 0, 0, 0, 0, 1, 0, 0, 1, 2]);
+    is_not_read::<Counted>(&rt, &[0, 0, 0, 0, 0, 16, 200, 224, 0, 0, 1]);
+}
+
+/// The bytes of a unit of which everything is known: auto-restart, timeout, processes 5 and 6, command 2, a deadline at 7, a
+/// window of 3 starts since 1, a stop asked for, ended by signal 15.
+const UNIT: &[u8] = &[
+    8, 3, 1, 0, 0, 0, 0, 0, 0, 0, 5, 1, 0, 0, 0, 0, 0, 0, 0, 6, 0, 0, 0, 2, 1, 0, 0, 0, 0, 0, 0, 0,
+    7, 1, 0, 0, 0, 0, 0, 0, 0, 1, 0, 0, 0, 3, 1, 1, 1, 15,
+];
+
+#[test]
+fn a_unit_is_its_fields_in_order(rt: HostRuntime) {
+    is_spelled(&rt, &UnitState::DEAD, &[0, 0, 0, 0, 0, 0, 0, 0, 0, 0, 0, 0]);
+    let began = Moment::new(1).expect(&rt, "no moment");
+    let unit = UnitState {
+        sub: SubState::AutoRestart,
+        result: UnitResult::Timeout,
+        main: ProcessNumber::new(5),
+        control: ProcessNumber::new(6),
+        index: 2,
+        deadline: Deadline::new(7),
+        window: Some(Counted { began, count: 3 }),
+        asked: true,
+        last: Some(End::Signal(15)),
+    };
+    is_spelled(&rt, &unit, UNIT);
+    is_not_read::<UnitState>(&rt, &UNIT[..UNIT.len() - 1]);
+    is_not_read::<UnitState>(&rt, &[10, 0, 0, 0, 0, 0, 0, 0, 0, 0, 0, 0]);
+    is_not_read::<UnitState>(&rt, &[0, 9, 0, 0, 0, 0, 0, 0, 0, 0, 0, 0]);
+    is_not_read::<UnitState>(&rt, &[0, 0, 2, 0, 0, 0, 0, 0, 0, 0, 0, 0]);
+    is_not_read::<UnitState>(&rt, &[0, 0, 0, 0, 0, 0, 0, 0, 0, 0, 2, 0]);
 }

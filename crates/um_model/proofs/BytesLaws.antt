@@ -1,5 +1,5 @@
 -- The law of each kind of value that has bytes, and what follows from it.
-use Rattle.std.proofs.Common.{◌≡◌, ℕ, zero, suc, ◌^◌, ◌<◌, ◌≤◌, Bool, true, false, cond, ◌&&◌, ltb, Ordering, Less, Equal, Greater, List, [], ◌∷◌, ◌++◌, length, take, drop, Option, Some, None, option_map, refl, sym, ap, subst, ◌∙◌, append_assoc, arith, inl, inr}
+use Rattle.std.proofs.Common.{◌≡◌, ℕ, zero, suc, ◌^◌, ◌<◌, ◌≤◌, ◌+◌, Bool, true, false, cond, ◌&&◌, ltb, Ordering, Less, Equal, Greater, List, [], ◌∷◌, ◌++◌, length, take, drop, Option, Some, None, option_map, refl, sym, ap, subst, ◌∙◌, append_assoc, arith, inl, inr}
 use Rattle.std.specs.Prelude.{IfSome, ⊤, T, ◌↔◌}
 use Rattle.std.specs.List.{flat_map, AllByRecursion}
 use Rattle.std.specs.Int.{w32, w64, from_be_bytes}
@@ -8,13 +8,13 @@ use Rattle.std.specs.Ordering.{is_lt, nat_cmp}
 use Rattle.std.specs.Cmp.Lexicographic.{slice_cmp, nat_list_cmp_total}
 use Rattle.std.specs.FinMap.Entries.{below_all}
 use Rattle.std.specs.FinMap as map
-use Rattle.std.proofs.lemmas.Bool.{cases_lt, ltb-false, le-ltb}
+use Rattle.std.proofs.lemmas.Bool.{cases_lt, ltb-false, le-ltb, leb-true, le-leb}
 use Rattle.std.proofs.lemmas.List.{append-nil, take_at, drop_at, take-append-drop, length-append, length-take, get_or-take, get_or_past}
 use Rattle.std.proofs.lemmas.List.Concat.{flat_map-cons}
 use Rattle.std.proofs.lemmas.Nat.{be_bytes_4, be_bytes_8}
 use Rattle.byteorder.specs.Endian.{big_number, big_bytes}
 use Rattle.byteorder.specs.Numbers.{big_number-reads_back, big_from-lt, length-bytes_high_first}
-use Rattle.um_model.specs.Bytes.{Reading, Spelling, IsBytes, IsCanonical, nothing_left, ◌>>=◌, byte_at, number_at, pair_spelling, pair_at, as_at, only_at, tag_at, truth_tag, truth_of, truth_spelling, truth_at, FitText, text_spelling, front_text, text_at, option_spelling, option_at, many_at, list_spelling, list_at, FitList, marked_at, choice_at, just_at, ByText, ascends, are_keys, FitMap, map_spelling, map_at}
+use Rattle.um_model.specs.Bytes.{Reading, Spelling, IsBytes, IsCanonical, nothing_left, ◌>>=◌, byte_at, number_at, is_between, FitBetween, between_at, in_table, pair_spelling, pair_at, as_at, only_at, tag_at, truth_tag, truth_of, truth_spelling, truth_at, FitText, text_spelling, front_text, text_at, option_spelling, option_at, many_at, list_spelling, list_at, FitList, marked_at, choice_at, arm_in, just_at, none_at, ByText, ascends, are_keys, FitMap, map_spelling, map_at}
 
 -- ---- bytes
 
@@ -58,6 +58,18 @@ guard_none false x y e = (refl, e)
 pub guard_some : {A : Type 0} (b : Bool) (x : Option A) (y : A) → cond b x None ≡ Some y → (b ≡ true) × (x ≡ Some y)
 guard_some true x y e = (refl, e)
 guard_some false x y e = absurd cc
+
+pub is_true : (b : Bool) → T b → b ≡ true
+is_true true h = refl
+is_true false h = absurd h
+
+pub left_holds : (a b : Bool) → T (a && b) → T a
+left_holds true b h = tt
+left_holds false b h = h
+
+pub right_holds : (a b : Bool) → T (a && b) → T b
+right_holds true b h = h
+right_holds false b h = absurd h
 
 -- ---- whole numbers
 
@@ -142,6 +154,30 @@ module _ {A B : Type 0} {fits_a : A → Type 0} {spelling_a : Spelling A} {readi
         ap (pair_at reading_a reading_b) (append_assoc (spelling_a v.0) (spelling_b v.1) rest) ∙ rw (first.again v.0 (spelling_b v.1 ++ rest) h.0, second.again v.1 rest h.1) refl
 
 -- ---- another form, a test, a mark, a choice, an option, a list
+
+module _ {A B : Type 0} {fits_a : A → Type 0} {fits_b : B → Type 0} {spelling : Spelling A} {reading : Reading A} where
+  -- another form, in which a value is told back only where it fits, on either side
+  pub canonical_form : (to : A → B) (from : B → A) → ((a : A) → fits_a a → fits_b (to a) × (from (to a) ≡ a)) → ((b : B) → fits_b b → fits_a (from b) × (to (from b) ≡ b))
+      → IsCanonical fits_a spelling reading → IsCanonical fits_b (λ b. spelling (from b)) (as_at to reading)
+  canonical_form to from back forth law = record { takes = form_takes; again = form_again } where
+    form_takes : (bytes : List ℕ) (v : B) (rest : List ℕ) → IsBytes bytes → as_at to reading bytes ≡ Some (v, rest) → (bytes ≡ spelling (from v) ++ rest) × fits_b v
+    form_takes bytes v rest h e =
+        let a = bind_some (reading bytes) (λ a. Some (to a.0, a.1)) (v, rest) e in
+        let t = law.takes bytes a.0.0 a.0.1 h a.1 in
+        let b = back a.0.0 t.1 in
+        let made : B × List ℕ = (to a.0.0, a.0.1) in
+        subst (λ (x : B × List ℕ). (bytes ≡ spelling (from x.0) ++ x.1) × fits_b x.0) (some_is made (v, rest) a.2) (t.0 ∙ ap (λ (y : A). spelling y ++ a.0.1) (sym b.1), b.0)
+
+    form_again : (v : B) (rest : List ℕ) → fits_b v → as_at to reading (spelling (from v) ++ rest) ≡ Some (v, rest)
+    form_again v rest h = rw (law.again (from v) rest (forth v h).0) (ap (λ (b : B). some (b, rest)) (forth v h).1)
+
+module _ {A : Type 0} {fits_a fits_b : A → Type 0} {spelling : Spelling A} {reading : Reading A} where
+  -- the same values fit, said in other words
+  pub canonical_fits : ((a : A) → fits_a a → fits_b a) → ((a : A) → fits_b a → fits_a a) → IsCanonical fits_a spelling reading → IsCanonical fits_b spelling reading
+  canonical_fits to from law = record {
+    takes = λ bytes v rest h e. ((law.takes bytes v rest h e).0, to v (law.takes bytes v rest h e).1);
+    again = λ v rest h. law.again v rest (from v h);
+  }
 
 module _ {A B : Type 0} {fits : A → Type 0} {spelling : Spelling A} {reading : Reading A} where
   -- those that fit in another form, which tells the same
@@ -286,6 +322,60 @@ arm_is {A} {B} {reading = reading} law to P bytes v rest h e holds =
 pub just_is : {B : Type 0} (b : B) (P : B → List ℕ → Type 0) (bytes : List ℕ) (v : B) (rest : List ℕ) → just_at b bytes ≡ Some (v, rest) → P b bytes → P v rest
 just_is {B} b P bytes v rest e holds = subst (λ (x : B × List ℕ). P x.0 x.1) (some_is (b, bytes) (v, rest) e) holds
 
+-- what an arm reads is a value of the tag, spelled so behind it
+pub record Tells {A : Type 0} (tag : A → ℕ) (fields : Spelling A) (fits : A → Type 0) (n : ℕ) (arm : Reading A) : Type 0 where
+  pub is : (bytes : List ℕ) (v : A) (rest : List ℕ) → IsBytes bytes → arm bytes ≡ Some (v, rest) → (n ≡ tag v) × (bytes ≡ fields v ++ rest) × fits v
+
+-- each arm of a table does so for its place, counted from the first
+abbrev pub AllTell : {A : Type 0} → (A → ℕ) → Spelling A → (A → Type 0) → ℕ → List (Reading A) → Type 0
+AllTell tag fields fits first [] = ⊤
+AllTell tag fields fits first (arm ∷ table) = Tells tag fields fits first arm × AllTell tag fields fits (suc first) table
+
+module _ {A : Type 0} {tag : A → ℕ} {fields : Spelling A} {fits : A → Type 0} where
+  pub tells : {F : Type 0} {fits_f : F → Type 0} {spelling : Spelling F} {reading : Reading F} (n : ℕ) (to : F → A) → IsCanonical fits_f spelling reading
+      → ((f : F) → fits_f f → (n ≡ tag (to f)) × (fields (to f) ≡ spelling f) × fits (to f)) → Tells tag fields fits n (as_at to reading)
+  tells {spelling = spelling} n to law arm = record {
+    is = λ bytes v rest h e.
+        arm_is law to (λ w r. (n ≡ tag w) × (bytes ≡ fields w ++ r) × fits w) bytes v rest h e
+        (λ f r at fit. ((arm f fit).0, at ∙ ap (λ (w : List ℕ). w ++ r) (sym (arm f fit).1), (arm f fit).2));
+  }
+
+  pub tells_just : (n : ℕ) (a : A) → n ≡ tag a → fields a ≡ [] → fits a → Tells tag fields fits n (just_at a)
+  tells_just n a at bare fit = record {
+    is = λ bytes v rest h e. just_is a (λ w r. (n ≡ tag w) × (bytes ≡ fields w ++ r) × fits w) bytes v rest e (at, ap (λ (w : List ℕ). w ++ bytes) (sym bare), fit);
+  }
+
+  pub tells_none : (n : ℕ) → Tells tag fields fits n none_at
+  tells_none n = record { is = λ bytes v rest h e. absurd (none_some (v, rest) e) }
+
+  all_tell : (first : ℕ) (table : List (Reading A)) → AllTell tag fields fits first table → (n : ℕ) → Tells tag fields fits (n + first) (arm_in table n)
+  all_tell first [] all n = tells_none (n + first)
+  all_tell first (arm ∷ table) all zero = subst (λ (m : ℕ). Tells tag fields fits m arm) (omega arith) all.0
+  all_tell first (arm ∷ table) all (suc n) = subst (λ (m : ℕ). Tells tag fields fits m (arm_in table n)) (omega arith) (all_tell (suc first) table all.1 n)
+
+  -- a choice with fields, by a table of its arms
+  pub canonical_arms : (table : List (Reading A)) → AllTell tag fields fits 0 table → ((v : A) (rest : List ℕ) → fits v → arm_in table (tag v) (fields v ++ rest) ≡ Some (v, rest))
+      → IsCanonical fits (λ v. tag v ∷ fields v) (choice_at (arm_in table))
+  canonical_arms table all again = canonical_choice tag fields (arm_in table) takes again where
+    takes : (n : ℕ) (bytes : List ℕ) (v : A) (rest : List ℕ) → IsBytes bytes → arm_in table n bytes ≡ Some (v, rest) → (n ≡ tag v) × (bytes ≡ fields v ++ rest) × fits v
+    takes n bytes v rest h e =
+        let t = (all_tell 0 table all n).is bytes v rest h e in
+        (omega (arith, t.0), t.1, t.2)
+
+-- the tags of the choices of a table are the numbers from the first on
+abbrev pub AreTags : {A : Type 0} → (A → ℕ) → ℕ → List A → Type 0
+AreTags tag first [] = ⊤
+AreTags tag first (a ∷ table) = (tag a ≡ first) × AreTags tag (suc first) table
+
+place_is : {A : Type 0} (tag : A → ℕ) (first : ℕ) (table : List A) → AreTags tag first table → (n : ℕ) (a : A) → in_table table n ≡ Some a → tag a ≡ n + first
+place_is tag first [] tags n a e = absurd (none_some a e)
+place_is tag first (x ∷ table) tags zero a e = omega (arith, ap tag (sym (some_is x a e)) ∙ tags.0)
+place_is tag first (x ∷ table) tags (suc n) a e = omega (arith, place_is tag (suc first) table tags.1 n a e)
+
+-- the choice at a place has that tag
+pub table_back : {A : Type 0} (tag : A → ℕ) (table : List A) → AreTags tag 0 table → (n : ℕ) (a : A) → in_table table n ≡ Some a → tag a ≡ n
+table_back tag table tags n a e = omega (arith, place_is tag 0 table tags n a e)
+
 pub truth_again : (b : Bool) → truth_of (truth_tag b) ≡ Some b
 truth_again true = refl
 truth_again false = refl
@@ -297,6 +387,15 @@ truth_back (suc (suc n)) b e = absurd cc
 
 pub canonical_truth : IsCanonical (λ (b : Bool). ⊤) truth_spelling truth_at
 canonical_truth = canonical_tag truth_tag truth_of truth_again truth_back
+
+-- ---- numbers from the first to the last
+
+between : (first last n : ℕ) → is_between first last n ≡ true → FitBetween first last n
+between first last n e = (leb-true first n (is_true _ (left_holds _ _ (subst T (sym e) tt))), leb-true n last (is_true _ (right_holds _ _ (subst T (sym e) tt))))
+
+pub canonical_between : (first last : ℕ) → last < 2 ^ 64 → IsCanonical (FitBetween first last) (big_bytes 8) (between_at first last)
+canonical_between first last small =
+    canonical_fits (λ n h. between first last n h.1) (λ n h. (omega (arith, small, h.1), rw (le-leb first n h.0, le-leb n last h.1) refl)) (canonical_only (is_between first last) canonical64)
 
 -- ---- texts
 
@@ -328,18 +427,6 @@ canonical_text = record { takes = text_takes; again = text_again } where
 
 -- ---- maps
 
-pub is_true : (b : Bool) → T b → b ≡ true
-is_true true h = refl
-is_true false h = absurd h
-
-pub left_holds : (a b : Bool) → T (a && b) → T a
-left_holds true b h = tt
-left_holds false b h = h
-
-pub right_holds : (a b : Bool) → T (a && b) → T b
-right_holds true b h = h
-right_holds false b h = absurd h
-
 pub both_hold : (a b : Bool) → T a → T b → T (a && b)
 both_hold true b p q = q
 both_hold false b p q = p
@@ -350,7 +437,7 @@ lower Equal h = absurd h
 lower Greater h = absurd h
 
 -- a key below one that is below all is below all
-lower_all : {A : Type 0} (x y : List ℕ) (es : List (List ℕ × A)) → slice_cmp nat_cmp x y ≡ Less → T (below_all (slice_cmp nat_cmp) y es) → T (below_all (slice_cmp nat_cmp) x es)
+pub lower_all : {A : Type 0} (x y : List ℕ) (es : List (List ℕ × A)) → slice_cmp nat_cmp x y ≡ Less → T (below_all (slice_cmp nat_cmp) y es) → T (below_all (slice_cmp nat_cmp) x es)
 lower_all x y [] low h = tt
 lower_all x y (e ∷ es) low h =
     let next : slice_cmp nat_cmp y e.0 ≡ Less = lower _ (left_holds _ _ h) in

@@ -34,6 +34,12 @@ pub mod DeadlinesLaws
 pub mod KeepsLaws
 pub mod ByNameLaws
 pub mod BytesLaws
+pub mod SpellingsLaws
+pub mod EntriesLaws
+pub mod PendingSpellingsLaws
+pub mod StateSpellingsLaws
+pub mod InputSpellingsLaws
+pub mod SpellingRows
 pub mod TransitionLaws
 pub mod StoreLaws
 pub mod LogLaws

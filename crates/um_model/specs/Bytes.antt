@@ -1,7 +1,7 @@
 -- Canonical bytes: how each kind of value is spelled, and how a value is read at the front of bytes.
 -- No manual page has this: it is the project's own format (docs/FORMATS.md, "Canonical bytes").
 -- The bytes of inputs and states, slots and the log stand on this file.
-use Rattle.std.specs.Prelude.{◌≡◌, ℕ, zero, suc, ◌<◌, ◌^◌, nat_lt, Bool, true, false, ◌&&◌, List, [], ◌∷◌, ◌++◌, length, take, drop}
+use Rattle.std.specs.Prelude.{◌≡◌, ℕ, zero, suc, ◌<◌, ◌≤◌, ◌^◌, nat_lt, nat_le, Bool, true, false, ◌&&◌, List, [], ◌∷◌, ◌++◌, length, take, drop}
 use Rattle.std.specs.Prelude.{slice_index, Option, Some, None, if◌then◌else◌}
 use Rattle.std.specs.List.{flat_map, list_all, AllByRecursion}
 use Rattle.std.specs.Str.{is_utf8}
@@ -55,6 +55,14 @@ byte_at (b ∷ rest) = Some (b, rest)
 abbrev pub number_at : ℕ → Reading ℕ
 number_at width bytes = if nat_lt (length bytes) width then None else Some (big_number width bytes, drop width bytes)
 
+-- from the first number to the last
+abbrev pub is_between : ℕ → ℕ → ℕ → Bool
+is_between first last n = nat_le first n && nat_le n last
+
+-- the same as a statement
+abbrev pub FitBetween : ℕ → ℕ → ℕ → Type 0
+FitBetween first last n = (first ≤ n) × (n ≤ last)
+
 -- ---- one behind the other
 
 -- the first value, and the second behind it
@@ -80,7 +88,17 @@ as_at to one bytes = one bytes >>= λ a. Some (to a.0, a.1)
 abbrev pub only_at : {A : Type 0} → (A → Bool) → Reading A → Reading A
 only_at test one bytes = one bytes >>= λ a. if test a.0 then Some a else None
 
+-- a number of eight bytes from the first to the last
+abbrev pub between_at : ℕ → ℕ → Reading ℕ
+between_at first last = only_at (is_between first last) (number_at 8)
+
 -- ---- a choice, told by its tag
+
+-- the choice at this place of a table, from 0
+abbrev pub in_table : {A : Type 0} → List A → ℕ → Option A
+in_table [] tag = None
+in_table (a ∷ table) zero = Some a
+in_table (a ∷ table) (suc tag) = in_table table tag
 
 -- a choice without fields
 abbrev pub tag_at : {A : Type 0} → (ℕ → Option A) → Reading A
@@ -99,6 +117,12 @@ just_at a bytes = Some (a, bytes)
 -- the arm of a tag that no choice has
 abbrev pub none_at : {A : Type 0} → Reading A
 none_at bytes = None
+
+-- the arm at this place of a table, from 0; behind its end there is none
+abbrev pub arm_in : {A : Type 0} → List (Reading A) → ℕ → Reading A
+arm_in [] tag = none_at
+arm_in (arm ∷ table) zero = arm
+arm_in (arm ∷ table) (suc tag) = arm_in table tag
 
 -- ---- truth: 0 or 1
 

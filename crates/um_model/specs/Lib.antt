@@ -42,6 +42,9 @@ pub mod Timers
 pub mod Specifiers
 pub mod Disk
 pub mod Bytes
+pub mod Spellings
+pub mod StateSpellings
+pub mod InputSpellings
 pub mod Store
 pub mod Finds
 pub mod Sessions

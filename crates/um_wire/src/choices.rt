@@ -2,7 +2,7 @@
 ghost use Rattle.std.specs.Prelude.{◌≡◌, ◌≤◌, ◌++◌, ◌∷◌, [], ℕ, Bool, Option, Some, length, drop, IfSome, OnOk, OnErr, ⊤};
 ghost use Rattle.std.specs.Option.{option_map};
 ghost use Rattle.um_model.specs.Bytes.{IsInFront, tag_at, truth_at, truth_of, truth_spelling, truth_tag};
-ghost use Rattle.um_model.proofs.BytesLaws.{canonical_truth, truth_again, truth_back};
+ghost use Rattle.um_model.proofs.BytesLaws.{canonical_tag, truth_again, truth_back};
 
 use crate::canon::Canon;
 use std::alloc::{AllocError, Global};
@@ -76,24 +76,25 @@ impl Tagged for bool {
     ghost back = { truth_back };
 }
 
-impl Canon for bool {
-    ghost Value = { Bool };
+/// The tag alone.
+impl<T: Tagged> Canon for T {
+    ghost Value = { T };
 
-    ghost value = { λ b. b };
+    ghost value = { λ a. a };
 
     ghost fits = { λ _. ⊤ };
 
-    ghost spelling = { truth_spelling };
+    ghost spelling = { λ a. T.tag_of a ∷ [] };
 
-    ghost reading = { truth_at };
+    ghost reading = { tag_at T.with_tag };
 
     fn put(&self, out: &mut Vec<u8>) -> Result<(), AllocError> {
         put_tag(self, out)
     }
 
-    fn get(_alloc: Global, bytes: &[u8]) -> Result<Option<(bool, usize)>, AllocError> {
+    fn get(_alloc: Global, bytes: &[u8]) -> Result<Option<(T, usize)>, AllocError> {
         Ok(get_tag(bytes))
     }
 
-    ghost canonical = { canonical_truth };
+    ghost canonical = { canonical_tag T.tag_of T.with_tag T.again T.back };
 }

@@ -8,9 +8,11 @@ mod laws;
 mod lists;
 mod made;
 mod maps;
+mod moments;
 mod numbers;
 mod refusal;
 mod texts;
+mod units;
 mod whole;
 
 pub use canon::Canon;

@@ -1,0 +1,129 @@
+-- The law of the bytes of inputs.
+use Rattle.std.proofs.Common.{◌≡◌, ℕ, List, [], ◌++◌, Some, refl, ap}
+use Rattle.std.specs.Prelude.{⊤}
+use Rattle.byteorder.specs.Endian.{big_bytes}
+use Rattle.um_model.specs.Bytes.{Reading, Spelling, IsCanonical, in_table, arm_in}
+use Rattle.um_model.specs.Machine.{PutFile, PutLink, Remove, DaemonReload, ForUnit, Cancel, Install, ProcessEnded, Tick, Event, Commanded, Happened, Input}
+use Rattle.um_model.specs.InputSpellings.{mode_tag, modes, mode_spelling, mode_at, event_tag, event_fields, input_spelling, comes_at, for_unit_at, install_at, nothing_at, input_arms, input_at, FitEvent, FitInput}
+use Rattle.um_model.proofs.BytesLaws.{just_is, Tells, AllTell, tells, tells_none, canonical_arms, canonical_marked, canonical_tag, table_back, canonical_pair, canonical_text, canonical64}
+use Rattle.um_model.proofs.SpellingsLaws.{canonical_moment, canonical_unit_name, canonical_end}
+use Rattle.um_model.specs.declared.commands.JobMode.{JobMode}
+use Rattle.um_model.specs.declared.commands.JobMode.TheVariants as mode
+use Rattle.um_model.specs.declared.commands.UnitVerb.{UnitVerb}
+use Rattle.um_model.specs.declared.commands.UnitVerb.TheVariants as verb
+use Rattle.um_model.specs.declared.install.InstallVerb.{InstallVerb}
+use Rattle.um_model.specs.declared.install.InstallVerb.TheVariants as install
+
+-- ---- the modes
+
+pub mode_again : (m : JobMode) → in_table modes (mode_tag m) ≡ Some m
+mode_again mode.Replace = refl
+mode_again mode.Fail = refl
+
+pub mode_back : (n : ℕ) (m : JobMode) → in_table modes n ≡ Some m → mode_tag m ≡ n
+mode_back = table_back mode_tag modes (refl, (refl, tt))
+
+pub canonical_mode : IsCanonical (λ m. ⊤) mode_spelling mode_at
+canonical_mode = canonical_tag mode_tag (in_table modes) mode_again mode_back
+
+-- ---- the arms of an input
+
+-- no fields
+canonical_nothing : IsCanonical (λ (n : ⊤). ⊤) (λ n. []) nothing_at
+canonical_nothing = record { takes = λ bytes v rest h e. just_is tt (λ w r. (bytes ≡ [] ++ r) × ⊤) bytes v rest e (refl, tt); again = λ v rest h. refl }
+
+abbrev input_tag : Input → ℕ
+input_tag i = event_tag i.event
+
+abbrev input_fields : Spelling Input
+input_fields i = big_bytes 8 i.moment ++ event_fields i.event
+
+-- an arm of an input: a moment, and its fields
+arm : {A : Type 0} {fits : A → Type 0} {spelling : Spelling A} {reading : Reading A} (n : ℕ) (to : A → Event) → IsCanonical fits spelling reading
+    → ((f : A) → fits f → (n ≡ event_tag (to f)) × (event_fields (to f) ≡ spelling f) × FitEvent (to f)) → Tells input_tag input_fields FitInput n (comes_at to reading)
+arm n to law is =
+    tells n (λ f. record { moment = f.0; event = to f.1 }) (canonical_pair canonical_moment law)
+    (λ f fit. ((is f.1 fit.1).0, ap (λ (w : List ℕ). big_bytes 8 f.0 ++ w) (is f.1 fit.1).1, record { moment = fit.0; event = (is f.1 fit.1).2 }))
+
+for_unit : (v : UnitVerb) → Tells input_tag input_fields FitInput (event_tag (Commanded (ForUnit v [] mode.Replace))) (for_unit_at v)
+for_unit v = arm _ _ (canonical_pair canonical_unit_name canonical_mode) (λ f fit. (refl, refl, fit.0))
+
+installs : (v : InstallVerb) → Tells input_tag input_fields FitInput (event_tag (Commanded (Install v []))) (install_at v)
+installs v = arm _ _ canonical_unit_name (λ unit fit. (refl, refl, fit))
+
+all_arms : AllTell input_tag input_fields FitInput 0 input_arms
+all_arms = (
+  tells_none 0,
+  (
+    arm 1 _ (canonical_pair canonical_text canonical_text) (λ f fit. (refl, refl, fit)),
+    (
+      arm 2 _ (canonical_pair canonical_text canonical_text) (λ f fit. (refl, refl, fit)),
+      (
+        arm 3 _ canonical_text (λ f fit. (refl, refl, fit)),
+        (
+          arm 4 _ canonical_nothing (λ f fit. (refl, refl, tt)),
+          (
+            for_unit verb.Start,
+            (
+              for_unit verb.Stop,
+              (
+                for_unit verb.Restart,
+                (
+                  for_unit verb.TryRestart,
+                  (
+                    arm 9 _ canonical_unit_name (λ f fit. (refl, refl, fit)),
+                    (
+                      tells_none 10,
+                      (
+                        installs install.Enable,
+                        (
+                          installs install.Disable,
+                          (
+                            installs install.Mask,
+                            (
+                              installs install.Unmask,
+                              (arm 15 _ (canonical_pair canonical64 canonical_end) (λ f fit. (refl, refl, fit)), (tells_none 16, (arm 17 _ canonical_nothing (λ f fit. (refl, refl, tt)), tt))),
+                            ),
+                          ),
+                        ),
+                      ),
+                    ),
+                  ),
+                ),
+              ),
+            ),
+          ),
+        ),
+      ),
+    ),
+  ),
+)
+
+-- ---- the law
+
+-- what is spelled behind a moment is read again in its arm
+reads : {A : Type 0} {fits : A → Type 0} {spelling : Spelling A} {reading : Reading A} (to : A → Event) (law : IsCanonical fits spelling reading) (t : ℕ) (f : A) (rest : List ℕ) → FitInput (record { moment = t; event = to f }) → fits f
+    → comes_at to reading ((big_bytes 8 t ++ spelling f) ++ rest) ≡ Some (record { moment = t; event = to f }, rest)
+reads {spelling = spelling} to law t f rest h fit = rw ((canonical_pair canonical_moment law).again (t, f) rest (h.moment, fit)) refl
+
+arms_again : (i : Input) (rest : List ℕ) → FitInput i → arm_in input_arms (input_tag i) (input_fields i ++ rest) ≡ Some (i, rest)
+arms_again i rest h = by i.event i.moment h where
+  by : (e : Event) (t : ℕ) → FitInput (record { moment = t; event = e }) → arm_in input_arms (event_tag e) ((big_bytes 8 t ++ event_fields e) ++ rest) ≡ Some (record { moment = t; event = e }, rest)
+  by (Commanded (PutFile path text)) t h = reads _ (canonical_pair canonical_text canonical_text) t (path, text) rest h h.event
+  by (Commanded (PutLink path target)) t h = reads _ (canonical_pair canonical_text canonical_text) t (path, target) rest h h.event
+  by (Commanded (Remove path)) t h = reads _ canonical_text t path rest h h.event
+  by (Commanded DaemonReload) t h = reads _ canonical_nothing t tt rest h tt
+  by (Commanded (ForUnit verb.Start unit mode)) t h = reads _ (canonical_pair canonical_unit_name canonical_mode) t (unit, mode) rest h (h.event, tt)
+  by (Commanded (ForUnit verb.Stop unit mode)) t h = reads _ (canonical_pair canonical_unit_name canonical_mode) t (unit, mode) rest h (h.event, tt)
+  by (Commanded (ForUnit verb.Restart unit mode)) t h = reads _ (canonical_pair canonical_unit_name canonical_mode) t (unit, mode) rest h (h.event, tt)
+  by (Commanded (ForUnit verb.TryRestart unit mode)) t h = reads _ (canonical_pair canonical_unit_name canonical_mode) t (unit, mode) rest h (h.event, tt)
+  by (Commanded (Cancel unit)) t h = reads _ canonical_unit_name t unit rest h h.event
+  by (Commanded (Install install.Enable unit)) t h = reads _ canonical_unit_name t unit rest h h.event
+  by (Commanded (Install install.Disable unit)) t h = reads _ canonical_unit_name t unit rest h h.event
+  by (Commanded (Install install.Mask unit)) t h = reads _ canonical_unit_name t unit rest h h.event
+  by (Commanded (Install install.Unmask unit)) t h = reads _ canonical_unit_name t unit rest h h.event
+  by (Happened (ProcessEnded number end)) t h = reads _ (canonical_pair canonical64 canonical_end) t (number, end) rest h h.event
+  by (Happened Tick) t h = reads _ canonical_nothing t tt rest h tt
+
+pub canonical_input : IsCanonical FitInput input_spelling input_at
+canonical_input = canonical_marked 1 (canonical_arms input_arms all_arms arms_again)

@@ -1,0 +1,125 @@
+-- The laws of the bytes of what the state holds of a unit.
+use Rattle.std.proofs.Common.{◌≡◌, ℕ, ◌-◌, ◌++◌, List, Some, refl, arith}
+use Rattle.std.specs.Prelude.{⊤}
+use Rattle.um_model.specs.Bytes.{IsCanonical, in_table, arm_in, text_spelling}
+use Rattle.um_model.specs.Names.{is_unit_name}
+use Rattle.um_model.proofs.BytesLaws.{canonical8, canonical32, canonical_pair, canonical_form, canonical_as, canonical_option, canonical_tag, table_back, canonical_between, canonical_truth, canonical_text, canonical_only, AllTell, tells, tells_just, canonical_arms}
+use Rattle.um_model.specs.Moments.{moment_limit, deadline_limit, process_limit}
+use Rattle.um_model.specs.Spellings.{sub_tag, sub_states, sub_spelling, sub_at, result_tag, results, result_spelling, result_at, kind_tag, kinds, kind_spelling, kind_at, job_state_tag, job_states, job_state_spelling, job_state_at}
+use Rattle.um_model.specs.Spellings.{end_tag, end_fields, end_arms, end_spelling, end_at, FitEnd, moment_at, FitMoment, deadline_at, FitDeadline, process_at, FitProcess, next_at, FitNext}
+use Rattle.um_model.specs.Spellings.{unit_name_at, FitUnitName, counted_spelling, counted_of, counted_at, FitCounted, unit_spelling, UnitFields, unit_of, unit_at, FitUnit}
+use Rattle.byteorder.specs.Endian.{big_bytes}
+use Rattle.um_model.specs.declared.jobs.JobKind.{JobKind}
+use Rattle.um_model.specs.declared.jobs.JobKind.TheVariants as kind
+use Rattle.um_model.specs.declared.jobs.JobState.{JobState}
+use Rattle.um_model.specs.declared.jobs.JobState.TheVariants.{Waiting, Running}
+use Rattle.um_model.specs.declared.service.End.{End}
+use Rattle.um_model.specs.declared.service.End.TheVariants as end
+use Rattle.um_model.specs.declared.service.SubState.{SubState}
+use Rattle.um_model.specs.declared.service.SubState.TheVariants as sub
+use Rattle.um_model.specs.declared.service.UnitResult.{UnitResult}
+use Rattle.um_model.specs.declared.service.UnitResult.TheVariants as result
+use Rattle.um_model.specs.declared.service.UnitState.{UnitState}
+
+-- ---- choices without fields
+
+pub sub_again : (s : SubState) → in_table sub_states (sub_tag s) ≡ Some s
+sub_again sub.Dead = refl
+sub_again sub.Start = refl
+sub_again sub.Running = refl
+sub_again sub.Exited = refl
+sub_again sub.Stop = refl
+sub_again sub.StopSigterm = refl
+sub_again sub.StopSigkill = refl
+sub_again sub.Failed = refl
+sub_again sub.AutoRestart = refl
+sub_again sub.Active = refl
+
+pub sub_back : (n : ℕ) (a : SubState) → in_table sub_states n ≡ Some a → sub_tag a ≡ n
+sub_back = table_back sub_tag sub_states (refl, (refl, (refl, (refl, (refl, (refl, (refl, (refl, (refl, (refl, tt))))))))))
+
+pub canonical_sub : IsCanonical (λ s. ⊤) sub_spelling sub_at
+canonical_sub = canonical_tag sub_tag (in_table sub_states) sub_again sub_back
+
+pub result_again : (r : UnitResult) → in_table results (result_tag r) ≡ Some r
+result_again result.Success = refl
+result_again result.ExitCode = refl
+result_again result.Signal = refl
+result_again result.Timeout = refl
+result_again result.Lost = refl
+result_again result.StartLimitHit = refl
+result_again result.Dependency = refl
+result_again result.NotLoaded = refl
+result_again result.Resources = refl
+
+pub result_back : (n : ℕ) (a : UnitResult) → in_table results n ≡ Some a → result_tag a ≡ n
+result_back = table_back result_tag results (refl, (refl, (refl, (refl, (refl, (refl, (refl, (refl, (refl, tt)))))))))
+
+pub canonical_result : IsCanonical (λ r. ⊤) result_spelling result_at
+canonical_result = canonical_tag result_tag (in_table results) result_again result_back
+
+pub kind_again : (k : JobKind) → in_table kinds (kind_tag k) ≡ Some k
+kind_again kind.Stop = refl
+kind_again kind.Start = refl
+
+pub kind_back : (n : ℕ) (a : JobKind) → in_table kinds n ≡ Some a → kind_tag a ≡ n
+kind_back = table_back kind_tag kinds (refl, (refl, tt))
+
+pub canonical_kind : IsCanonical (λ k. ⊤) kind_spelling kind_at
+canonical_kind = canonical_tag kind_tag (in_table kinds) kind_again kind_back
+
+pub job_state_again : (s : JobState) → in_table job_states (job_state_tag s) ≡ Some s
+job_state_again Waiting = refl
+job_state_again Running = refl
+
+pub job_state_back : (n : ℕ) (a : JobState) → in_table job_states n ≡ Some a → job_state_tag a ≡ n
+job_state_back = table_back job_state_tag job_states (refl, (refl, tt))
+
+pub canonical_job_state : IsCanonical (λ s. ⊤) job_state_spelling job_state_at
+canonical_job_state = canonical_tag job_state_tag (in_table job_states) job_state_again job_state_back
+
+-- ---- an end
+
+pub canonical_end : IsCanonical FitEnd end_spelling end_at
+canonical_end = canonical_arms end_arms all again where
+  all : AllTell end_tag end_fields FitEnd 0 end_arms
+  all = (tells 0 end.Code canonical8 (λ n fit. (refl, refl, fit)), (tells 1 end.Signal canonical8 (λ n fit. (refl, refl, fit)), (tells_just 2 end.Lost refl refl tt, tt)))
+
+  again : (e : End) (rest : List ℕ) → FitEnd e → arm_in end_arms (end_tag e) (end_fields e ++ rest) ≡ Some (e, rest)
+  again (end.Code code) rest h = refl
+  again (end.Signal number) rest h = refl
+  again end.Lost rest h = refl
+
+-- ---- moments and process numbers
+
+pub canonical_moment : IsCanonical FitMoment (big_bytes 8) moment_at
+canonical_moment = canonical_between 0 moment_limit (omega arith)
+
+pub canonical_deadline : IsCanonical FitDeadline (big_bytes 8) deadline_at
+canonical_deadline = canonical_between 0 deadline_limit (omega arith)
+
+pub canonical_process : IsCanonical FitProcess (big_bytes 8) process_at
+canonical_process = canonical_between 1 (process_limit - 1) (omega arith)
+
+pub canonical_next : IsCanonical FitNext (big_bytes 8) next_at
+canonical_next = canonical_between 1 process_limit (omega arith)
+
+-- ---- the name of a unit, a start window, and a unit
+
+pub canonical_unit_name : IsCanonical FitUnitName text_spelling unit_name_at
+canonical_unit_name = canonical_only is_unit_name canonical_text
+
+pub canonical_counted : IsCanonical FitCounted counted_spelling counted_at
+canonical_counted = canonical_as counted_of (λ c. (c.began, c.count)) (λ f. refl) (λ c. refl) (canonical_pair canonical_moment canonical32)
+
+abbrev fields : UnitState → UnitFields
+fields u = (u.sub, (u.result, (u.main, (u.control, (u.index, (u.deadline, (u.window, (u.asked, u.last))))))))
+
+pub canonical_unit : IsCanonical FitUnit unit_spelling unit_at
+canonical_unit =
+    canonical_form unit_of fields
+    (λ f h. (record { main = h.1.1.0; control = h.1.1.1.0; index = h.1.1.1.1.0; deadline = h.1.1.1.1.1.0; window = h.1.1.1.1.1.1.0; last = h.1.1.1.1.1.1.1.1 }, refl))
+    (λ u h. ((tt, (tt, (h.main, (h.control, (h.index, (h.deadline, (h.window, (tt, h.last)))))))), refl))
+    (canonical_pair canonical_sub (canonical_pair canonical_result (canonical_pair (canonical_option canonical_process) (canonical_pair (canonical_option canonical_process)
+    (canonical_pair canonical32 (canonical_pair (canonical_option canonical_deadline) (canonical_pair (canonical_option canonical_counted)
+    (canonical_pair canonical_truth (canonical_option canonical_end)))))))))

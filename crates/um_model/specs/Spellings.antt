@@ -1,0 +1,245 @@
+-- Canonical bytes of what the state holds of a unit: choices, ends, moments, process numbers, names, start windows, and the unit.
+-- No manual page has this: it is the project's own format (docs/FORMATS.md, "Canonical bytes").
+-- The bytes of states and inputs, and the code that reads and writes them stand on this file.
+use Rattle.std.specs.Prelude.{◌≡◌, ℕ, ◌-◌, ◌<◌, ◌^◌, ⊤, Bool, true, List, [], ◌∷◌, ◌++◌, Option, IfSome}
+use Rattle.byteorder.specs.Endian.{big_bytes}
+use Rattle.um_model.specs.Bytes.{Spelling, Reading, byte_at, number_at, between_at, FitBetween, pair_at, as_at, only_at, tag_at, in_table, choice_at}
+use Rattle.um_model.specs.Bytes.{arm_in, just_at}
+use Rattle.um_model.specs.Bytes.{truth_spelling, truth_at, option_spelling, option_at, FitText, text_at}
+use Rattle.um_model.specs.Names.{is_unit_name}
+use Rattle.um_model.specs.Moments.{moment_limit, deadline_limit, process_limit}
+use Rattle.um_model.specs.declared.jobs.JobKind.{JobKind}
+use Rattle.um_model.specs.declared.jobs.JobKind.TheVariants as kind
+use Rattle.um_model.specs.declared.jobs.JobState.{JobState}
+use Rattle.um_model.specs.declared.jobs.JobState.TheVariants.{Waiting, Running}
+use Rattle.um_model.specs.declared.limit.Counted.{Counted}
+use Rattle.um_model.specs.declared.service.End.{End}
+use Rattle.um_model.specs.declared.service.End.TheVariants as end
+use Rattle.um_model.specs.declared.service.SubState.{SubState}
+use Rattle.um_model.specs.declared.service.SubState.TheVariants as sub
+use Rattle.um_model.specs.declared.service.UnitResult.{UnitResult}
+use Rattle.um_model.specs.declared.service.UnitResult.TheVariants as result
+use Rattle.um_model.specs.declared.service.UnitState.{UnitState}
+
+-- ---- choices without fields: each is its tag, by which it stands in a table
+
+-- the tag of a sub state
+abbrev pub sub_tag : SubState → ℕ
+sub_tag sub.Dead = 0
+sub_tag sub.Start = 1
+sub_tag sub.Running = 2
+sub_tag sub.Exited = 3
+sub_tag sub.Stop = 4
+sub_tag sub.StopSigterm = 5
+sub_tag sub.StopSigkill = 6
+sub_tag sub.Failed = 7
+sub_tag sub.AutoRestart = 8
+sub_tag sub.Active = 9
+
+-- the sub states by their tags
+abbrev pub sub_states : List SubState
+sub_states = sub.Dead ∷ sub.Start ∷ sub.Running ∷ sub.Exited ∷ sub.Stop ∷ sub.StopSigterm ∷ sub.StopSigkill ∷ sub.Failed ∷ sub.AutoRestart ∷ sub.Active ∷ []
+
+-- the tag alone
+abbrev pub sub_spelling : Spelling SubState
+sub_spelling s = sub_tag s ∷ []
+
+-- the sub state of the tag in front
+abbrev pub sub_at : Reading SubState
+sub_at = tag_at (in_table sub_states)
+
+-- the tag of a result
+abbrev pub result_tag : UnitResult → ℕ
+result_tag result.Success = 0
+result_tag result.ExitCode = 1
+result_tag result.Signal = 2
+result_tag result.Timeout = 3
+result_tag result.Lost = 4
+result_tag result.StartLimitHit = 5
+result_tag result.Dependency = 6
+result_tag result.NotLoaded = 7
+result_tag result.Resources = 8
+
+-- the results by their tags
+abbrev pub results : List UnitResult
+results =
+    result.Success ∷ result.ExitCode ∷ result.Signal ∷ result.Timeout ∷ result.Lost ∷ result.StartLimitHit ∷ result.Dependency ∷ result.NotLoaded
+    ∷ result.Resources ∷ []
+
+-- the tag alone
+abbrev pub result_spelling : Spelling UnitResult
+result_spelling r = result_tag r ∷ []
+
+-- the result of the tag in front
+abbrev pub result_at : Reading UnitResult
+result_at = tag_at (in_table results)
+
+-- the tag of what a job does
+abbrev pub kind_tag : JobKind → ℕ
+kind_tag kind.Stop = 0
+kind_tag kind.Start = 1
+
+-- what jobs do, by their tags
+abbrev pub kinds : List JobKind
+kinds = kind.Stop ∷ kind.Start ∷ []
+
+-- the tag alone
+abbrev pub kind_spelling : Spelling JobKind
+kind_spelling k = kind_tag k ∷ []
+
+-- what a job with the tag in front does
+abbrev pub kind_at : Reading JobKind
+kind_at = tag_at (in_table kinds)
+
+-- the tag of how far a job is
+abbrev pub job_state_tag : JobState → ℕ
+job_state_tag Waiting = 0
+job_state_tag Running = 1
+
+-- how far jobs are, by their tags
+abbrev pub job_states : List JobState
+job_states = Waiting ∷ Running ∷ []
+
+-- the tag alone
+abbrev pub job_state_spelling : Spelling JobState
+job_state_spelling s = job_state_tag s ∷ []
+
+-- how far a job with the tag in front is
+abbrev pub job_state_at : Reading JobState
+job_state_at = tag_at (in_table job_states)
+
+-- ---- an end: its tag, and the code or signal, which is any byte
+
+-- the tag of an end
+abbrev pub end_tag : End → ℕ
+end_tag (end.Code code) = 0
+end_tag (end.Signal number) = 1
+end_tag end.Lost = 2
+
+-- what stands behind it
+abbrev pub end_fields : Spelling End
+end_fields (end.Code code) = code ∷ []
+end_fields (end.Signal number) = number ∷ []
+end_fields end.Lost = []
+
+-- the tag, and what stands behind it
+abbrev pub end_spelling : Spelling End
+end_spelling e = end_tag e ∷ end_fields e
+
+-- the ends by their tags: a code, a signal, or neither
+abbrev pub end_arms : List (Reading End)
+end_arms = as_at end.Code byte_at ∷ as_at end.Signal byte_at ∷ just_at end.Lost ∷ []
+
+-- a tag, and what stands behind it
+abbrev pub end_at : Reading End
+end_at = choice_at (arm_in end_arms)
+
+-- the code or signal is a byte
+abbrev pub FitEnd : End → Type 0
+FitEnd (end.Code code) = code < 2 ^ 8
+FitEnd (end.Signal number) = number < 2 ^ 8
+FitEnd end.Lost = ⊤
+
+-- ---- moments and process numbers: eight bytes, within their bounds
+
+-- a moment is at most its limit
+abbrev pub moment_at : Reading ℕ
+moment_at = between_at 0 moment_limit
+
+-- the same as a statement
+abbrev pub FitMoment : ℕ → Type 0
+FitMoment = FitBetween 0 moment_limit
+
+-- a deadline is at most its limit
+abbrev pub deadline_at : Reading ℕ
+deadline_at = between_at 0 deadline_limit
+
+-- the same as a statement
+abbrev pub FitDeadline : ℕ → Type 0
+FitDeadline = FitBetween 0 deadline_limit
+
+-- a process has one of the numbers from 1 to below the limit
+abbrev pub process_at : Reading ℕ
+process_at = between_at 1 (process_limit - 1)
+
+-- the same as a statement
+abbrev pub FitProcess : ℕ → Type 0
+FitProcess = FitBetween 1 (process_limit - 1)
+
+-- the next number may be the limit, where no process is left to start
+abbrev pub next_at : Reading ℕ
+next_at = between_at 1 process_limit
+
+-- the same as a statement
+abbrev pub FitNext : ℕ → Type 0
+FitNext = FitBetween 1 process_limit
+
+-- ---- the name of a unit
+
+-- a text that is a unit name
+abbrev pub unit_name_at : Reading (List ℕ)
+unit_name_at = only_at is_unit_name text_at
+
+-- the same as a statement
+abbrev pub FitUnitName : List ℕ → Type 0
+FitUnitName name = FitText name × (is_unit_name name ≡ true)
+
+-- ---- the starts that a window counted: the moment of the first one, and how many
+
+-- the moment in eight bytes, the count in four
+abbrev pub counted_spelling : Spelling Counted
+counted_spelling c = big_bytes 8 c.began ++ big_bytes 4 c.count
+
+-- the window of its two fields
+abbrev pub counted_of : ℕ × ℕ → Counted
+counted_of (began, count) = record { began = began; count = count }
+
+-- a moment, and a count
+abbrev pub counted_at : Reading Counted
+counted_at = as_at counted_of (pair_at moment_at (number_at 4))
+
+-- a window that has bytes: its moment has some, and so has its count
+abbrev pub FitCounted : Counted → Type 0
+FitCounted c = FitMoment c.began × (c.count < 2 ^ 32)
+
+-- ---- a unit: its fields in order
+
+-- each field behind the one before
+abbrev pub unit_spelling : Spelling UnitState
+unit_spelling u =
+    sub_spelling u.sub ++ (result_spelling u.result ++ (option_spelling (big_bytes 8) u.main ++ (option_spelling (big_bytes 8) u.control
+    ++ (big_bytes 4 u.index ++ (option_spelling (big_bytes 8) u.deadline ++ (option_spelling counted_spelling u.window
+    ++ (truth_spelling u.asked ++ option_spelling end_spelling u.last)))))))
+
+-- the fields alone
+abbrev pub UnitFields : Type 0
+UnitFields = SubState × (UnitResult × (Option ℕ × (Option ℕ × (ℕ × (Option ℕ × (Option Counted × (Bool × Option End)))))))
+
+-- the unit of its fields
+abbrev pub unit_of : UnitFields → UnitState
+unit_of (sub, (result, (main, (control, (index, (deadline, (window, (asked, last)))))))) = record {
+  sub = sub;
+  result = result;
+  main = main;
+  control = control;
+  index = index;
+  deadline = deadline;
+  window = window;
+  asked = asked;
+  last = last;
+}
+
+-- each field behind the one before
+abbrev pub unit_at : Reading UnitState
+unit_at =
+    as_at unit_of (pair_at sub_at (pair_at result_at (pair_at (option_at process_at) (pair_at (option_at process_at) (pair_at (number_at 4)
+    (pair_at (option_at deadline_at) (pair_at (option_at counted_at) (pair_at truth_at (option_at end_at)))))))))
+
+-- a unit that has bytes: what stands in its fields has some
+pub record FitUnit (u : UnitState) : Type 0 where
+  pub main : IfSome u.main FitProcess
+  pub control : IfSome u.control FitProcess
+  pub index : u.index < 2 ^ 32
+  pub deadline : IfSome u.deadline FitDeadline
+  pub window : IfSome u.window FitCounted
+  pub last : IfSome u.last FitEnd
