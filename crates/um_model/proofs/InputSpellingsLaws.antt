@@ -3,9 +3,10 @@ use Rattle.std.proofs.Common.{◌≡◌, ℕ, List, [], ◌++◌, Some, refl, ap
 use Rattle.std.specs.Prelude.{⊤}
 use Rattle.byteorder.specs.Endian.{big_bytes}
 use Rattle.um_model.specs.Bytes.{Reading, Spelling, IsCanonical, in_table, arm_in}
-use Rattle.um_model.specs.Machine.{PutFile, PutLink, Remove, DaemonReload, ForUnit, Cancel, Install, ProcessEnded, Tick, Event, Commanded, Happened, Input}
+use Rattle.um_model.specs.Machine.{PutFile, PutLink, Remove, DaemonReload, ForUnit, Cancel, ResetFailed, Install, ProcessEnded, ProcessExecuted, Tick, Booted, Event, Commanded, Happened, Input}
 use Rattle.um_model.specs.InputSpellings.{mode_tag, modes, mode_spelling, mode_at, event_tag, event_fields, input_spelling, comes_at, for_unit_at, install_at, nothing_at, input_arms, input_at, FitEvent, FitInput}
-use Rattle.um_model.proofs.BytesLaws.{just_is, Tells, AllTell, tells, tells_none, canonical_arms, canonical_marked, canonical_tag, table_back, canonical_pair, canonical_text, canonical64}
+use Rattle.um_model.proofs.BytesLaws.{just_is, Tells, AllTell, tells, tells_none, canonical_arms, canonical_marked, canonical_tag, table_back, canonical_pair, canonical_text, canonical64, canonical_option}
+use Rattle.um_model.proofs.StateSpellingsLaws.{canonical_boot}
 use Rattle.um_model.proofs.SpellingsLaws.{canonical_moment, canonical_unit_name, canonical_end}
 use Rattle.um_model.specs.declared.commands.JobMode.{JobMode}
 use Rattle.um_model.specs.declared.commands.JobMode.TheVariants as mode
@@ -73,7 +74,7 @@ all_arms = (
                   (
                     arm 9 _ canonical_unit_name (λ f fit. (refl, refl, fit)),
                     (
-                      tells_none 10,
+                      arm 10 _ (canonical_option canonical_unit_name) (λ f fit. (refl, refl, fit)),
                       (
                         installs install.Enable,
                         (
@@ -82,7 +83,7 @@ all_arms = (
                             installs install.Mask,
                             (
                               installs install.Unmask,
-                              (arm 15 _ (canonical_pair canonical64 canonical_end) (λ f fit. (refl, refl, fit)), (tells_none 16, (arm 17 _ canonical_nothing (λ f fit. (refl, refl, tt)), tt))),
+                              (arm 15 _ (canonical_pair canonical64 canonical_end) (λ f fit. (refl, refl, fit)), (arm 16 _ canonical64 (λ f fit. (refl, refl, fit)), (arm 17 _ canonical_nothing (λ f fit. (refl, refl, tt)), (arm 18 _ canonical_boot (λ f fit. (refl, refl, fit)), tt)))),
                             ),
                           ),
                         ),
@@ -118,12 +119,15 @@ arms_again i rest h = by i.event i.moment h where
   by (Commanded (ForUnit verb.Restart unit mode)) t h = reads _ (canonical_pair canonical_unit_name canonical_mode) t (unit, mode) rest h (h.event, tt)
   by (Commanded (ForUnit verb.TryRestart unit mode)) t h = reads _ (canonical_pair canonical_unit_name canonical_mode) t (unit, mode) rest h (h.event, tt)
   by (Commanded (Cancel unit)) t h = reads _ canonical_unit_name t unit rest h h.event
+  by (Commanded (ResetFailed unit)) t h = reads _ (canonical_option canonical_unit_name) t unit rest h h.event
   by (Commanded (Install install.Enable unit)) t h = reads _ canonical_unit_name t unit rest h h.event
   by (Commanded (Install install.Disable unit)) t h = reads _ canonical_unit_name t unit rest h h.event
   by (Commanded (Install install.Mask unit)) t h = reads _ canonical_unit_name t unit rest h h.event
   by (Commanded (Install install.Unmask unit)) t h = reads _ canonical_unit_name t unit rest h h.event
   by (Happened (ProcessEnded number end)) t h = reads _ (canonical_pair canonical64 canonical_end) t (number, end) rest h h.event
+  by (Happened (ProcessExecuted number)) t h = reads _ canonical64 t number rest h h.event
   by (Happened Tick) t h = reads _ canonical_nothing t tt rest h tt
+  by (Happened (Booted boot)) t h = reads _ canonical_boot t boot rest h h.event
 
 pub canonical_input : IsCanonical FitInput input_spelling input_at
 canonical_input = canonical_marked 1 (canonical_arms input_arms all_arms arms_again)

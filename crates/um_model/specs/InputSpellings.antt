@@ -1,12 +1,13 @@
 -- Canonical bytes of what comes in: commands and happenings, each with its moment.
 -- No manual page has this: it is the project's own format (docs/FORMATS.md, "Canonical bytes").
 -- The code that reads and writes inputs, and the log of the store stand on this file.
-use Rattle.std.specs.Prelude.{ℕ, ◌<◌, ◌^◌, ⊤, List, [], ◌∷◌, ◌++◌}
+use Rattle.std.specs.Prelude.{ℕ, ◌<◌, ◌^◌, ⊤, List, [], ◌∷◌, ◌++◌, IfSome}
 use Rattle.byteorder.specs.Endian.{big_bytes}
 use Rattle.um_model.specs.Bytes.{Spelling, Reading, number_at, pair_at, as_at, marked_at, tag_at, in_table, choice_at, arm_in, just_at, none_at}
-use Rattle.um_model.specs.Bytes.{FitText, text_spelling, text_at}
-use Rattle.um_model.specs.Machine.{Command, PutFile, PutLink, Remove, DaemonReload, ForUnit, Cancel, Install, Happening, ProcessEnded, Tick, Event}
+use Rattle.um_model.specs.Bytes.{FitText, text_spelling, text_at, option_spelling, option_at}
+use Rattle.um_model.specs.Machine.{Command, PutFile, PutLink, Remove, DaemonReload, ForUnit, Cancel, ResetFailed, Install, Happening, ProcessEnded, ProcessExecuted, Tick, Booted, Event}
 use Rattle.um_model.specs.Machine.{Commanded, Happened, Input}
+use Rattle.um_model.specs.StateSpellings.{boot_at, FitBoot}
 use Rattle.um_model.specs.Spellings.{moment_at, FitMoment, unit_name_at, FitUnitName, end_spelling, end_at, FitEnd}
 use Rattle.um_model.specs.declared.commands.JobMode.{JobMode}
 use Rattle.um_model.specs.declared.commands.JobMode.TheVariants as mode
@@ -58,12 +59,15 @@ command_tag (Remove path) = 3
 command_tag DaemonReload = 4
 command_tag (ForUnit verb unit mode) = verb_tag verb
 command_tag (Cancel unit) = 9
+command_tag (ResetFailed unit) = 10
 command_tag (Install verb unit) = install_tag verb
 
 -- the tag of what happens
 abbrev pub happening_tag : Happening → ℕ
 happening_tag (ProcessEnded number end) = 15
+happening_tag (ProcessExecuted number) = 16
 happening_tag Tick = 17
+happening_tag (Booted boot) = 18
 
 -- the tag of what comes in
 abbrev pub event_tag : Event → ℕ
@@ -80,12 +84,15 @@ command_fields (Remove path) = text_spelling path
 command_fields DaemonReload = []
 command_fields (ForUnit verb unit mode) = text_spelling unit ++ mode_spelling mode
 command_fields (Cancel unit) = text_spelling unit
+command_fields (ResetFailed unit) = option_spelling text_spelling unit
 command_fields (Install verb unit) = text_spelling unit
 
--- the fields of what happens: a number and an end
+-- the fields of what happens: a number, an end, and a boot's id
 abbrev pub happening_fields : Spelling Happening
 happening_fields (ProcessEnded number end) = big_bytes 8 number ++ end_spelling end
+happening_fields (ProcessExecuted number) = big_bytes 8 number
 happening_fields Tick = []
+happening_fields (Booted boot) = text_spelling boot
 
 -- the fields of what comes in
 abbrev pub event_fields : Spelling Event
@@ -118,7 +125,7 @@ install_at verb = comes_at (λ unit. Commanded (Install verb unit)) unit_name_at
 abbrev pub nothing_at : Reading ⊤
 nothing_at = just_at tt
 
--- what comes in, by its tag; none has 0, 10 or 16
+-- what comes in, by its tag; none has 0
 abbrev pub input_arms : List (Reading Input)
 input_arms =
     none_at
@@ -131,14 +138,15 @@ input_arms =
     ∷ for_unit_at verb.Restart
     ∷ for_unit_at verb.TryRestart
     ∷ comes_at (λ unit. Commanded (Cancel unit)) unit_name_at
-    ∷ none_at
+    ∷ comes_at (λ unit. Commanded (ResetFailed unit)) (option_at unit_name_at)
     ∷ install_at install.Enable
     ∷ install_at install.Disable
     ∷ install_at install.Mask
     ∷ install_at install.Unmask
     ∷ comes_at (λ f. Happened (ProcessEnded f.0 f.1)) (pair_at (number_at 8) end_at)
-    ∷ none_at
+    ∷ comes_at (λ number. Happened (ProcessExecuted number)) (number_at 8)
     ∷ comes_at (λ nothing. Happened Tick) nothing_at
+    ∷ comes_at (λ boot. Happened (Booted boot)) boot_at
     ∷ []
 
 -- a 1, and what comes in behind its tag
@@ -153,12 +161,15 @@ FitCommand (Remove path) = FitText path
 FitCommand DaemonReload = ⊤
 FitCommand (ForUnit verb unit mode) = FitUnitName unit
 FitCommand (Cancel unit) = FitUnitName unit
+FitCommand (ResetFailed unit) = IfSome unit FitUnitName
 FitCommand (Install verb unit) = FitUnitName unit
 
 -- what happens that has bytes: the number is any that eight bytes hold
 abbrev pub FitHappening : Happening → Type 0
 FitHappening (ProcessEnded number end) = (number < 2 ^ 64) × FitEnd end
+FitHappening (ProcessExecuted number) = number < 2 ^ 64
 FitHappening Tick = ⊤
+FitHappening (Booted boot) = FitBoot boot
 
 -- what comes in and has bytes
 abbrev pub FitEvent : Event → Type 0

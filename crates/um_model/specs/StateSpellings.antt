@@ -12,6 +12,7 @@ use Rattle.um_model.specs.Bytes.{FitList, list_spelling, list_at, FitMap, map_sp
 use Rattle.um_model.specs.Names.{is_unit_name}
 use Rattle.um_model.specs.Tree.{Tree, Entry, File, Link, IsTree, is_fit_entry, entry_limit}
 use Rattle.um_model.specs.Service.{ByUnit, AreTidyUnits, holds_nothing}
+use Rattle.um_model.specs.Transitions.{live_numbers}
 use Rattle.um_model.specs.Jobs.{AreTidyJobs, JobShown, jobs, jobs_of_unit, jobs_shown}
 use Rattle.um_model.specs.Machine.{State, boot_limit}
 use Rattle.um_model.specs.Spellings.{kind_tag, kind_spelling, kind_at, job_state_spelling, job_state_at, moment_at, FitMoment, next_at, FitNext}
@@ -185,14 +186,9 @@ has_begun clock (Some c) = nat_le c.began clock
 abbrev pub have_begun : ℕ → ByUnit UnitState → Bool
 have_begun clock units = list_all (λ e. has_begun clock e.1.window) (map.entries units)
 
--- the number, where there is one
-abbrev pub numbers_in : Option ℕ → List ℕ
-numbers_in None = []
-numbers_in (Some number) = number ∷ []
-
--- the numbers of the live processes
-abbrev pub live_numbers : ByUnit UnitState → List ℕ
-live_numbers units = flat_map (λ e. numbers_in e.1.main ++ numbers_in e.1.control) (map.entries units)
+-- the numbers of the live processes of all units
+abbrev pub numbers_in : ByUnit UnitState → List ℕ
+numbers_in units = flat_map (λ e. live_numbers e.1) (map.entries units)
 
 -- no number stands twice
 abbrev pub are_distinct : List ℕ → Bool
@@ -201,7 +197,7 @@ are_distinct (n ∷ more) = list_all (λ m. not (m == n)) more && are_distinct m
 
 -- the clock is past the begin of each window, and the live numbers are distinct and below the next one
 abbrev pub is_sound : State → Bool
-is_sound s = have_begun s.clock s.units && list_all (λ n. nat_lt n s.next) (live_numbers s.units) && are_distinct (live_numbers s.units)
+is_sound s = have_begun s.clock s.units && list_all (λ n. nat_lt n s.next) (numbers_in s.units) && are_distinct (numbers_in s.units)
 
 -- a 1, and each field behind the one before, where they fit together
 abbrev pub state_at : Reading State
