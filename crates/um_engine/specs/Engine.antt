@@ -5,7 +5,6 @@ use Rattle.um_model.specs.Machine as model
 use Rattle.um_model.specs.Service.{Action, state_of_unit}
 use Rattle.um_model.specs.Timers.{Timers, IsDueFirst}
 use Rattle.um_model.specs.declared.transition.UnitEvent.{UnitEvent}
-use Rattle.um_model.specs.declared.transition.UnitEvent.TheVariants.{DeadlinePasses}
 use Rattle.um_unit.specs.ServiceView.{service_settings_of}
 use Rattle.um_state.specs.View.{state_of, reply_of, action_of}
 use Rattle.um_state.specs.declared.state.State.{State}
@@ -61,15 +60,31 @@ acting_of a = record { settings = service_settings_of a.settings; loadable = a.l
 abbrev pub CarriesTo : ℕ → List ℕ → UnitEvent → model.State → List Action → model.State → List Action → Type 0
 CarriesTo t unit event s before s' after = (new : List Action) × model.Carries t unit event s new s' × (after ≡ before ++ new)
 
+-- the same with all units that fall with it
+abbrev pub HappensTo : ℕ → List ℕ → UnitEvent → model.State → List Action → model.State → List Action → Type 0
+HappensTo t unit event s before s' after = (new : List Action) × model.Happens t unit event s new s' × (after ≡ before ++ new)
+
+-- these units are told to stop at once
+abbrev pub FallsTo : ℕ → List (List ℕ) → model.State → List Action → model.State → List Action → Type 0
+FallsTo t units s before s' after = (new : List Action) × model.FallDown t units s new s' × (after ≡ before ++ new)
+
+-- of these units the failures are forgotten
+abbrev pub ResetsTo : ℕ → List (List ℕ) → model.State → List Action → model.State → List Action → Type 0
+ResetsTo t units s before s' after = (new : List Action) × model.AreReset t units s new s' × (after ≡ before ++ new)
+
 -- jobs begin until none is ready
 abbrev pub SettlesTo : ℕ → model.State → List Action → model.State → List Action → Type 0
 SettlesTo t s before s' after = (new : List Action) × model.Settles t s new s' × (after ≡ before ++ new)
+
+-- a deadline of the unit is there
+abbrev pub ComesDueTo : ℕ → model.State → List ℕ → List Action → model.State → List Action → Type 0
+ComesDueTo t s unit before s' after = (new : List Action) × model.ComesDue t s unit new s' × (after ≡ before ++ new)
 
 -- a deadline fires where it still stands
 pub data FiresOneTo (t deadline : ℕ) (unit : List ℕ) (s : model.State) (before : List Action) : model.State → List Action → Type 0 where
   passed : (state_of_unit s.units unit).deadline ≢ Some deadline → FiresOneTo t deadline unit s before s before
   fired : {u v : model.State} {after : List Action} (first next : List Action) → (state_of_unit s.units unit).deadline ≡ Some deadline
-      → model.Carries t unit DeadlinePasses s first u → model.Settles t u next v → after ≡ before ++ (first ++ next)
+      → model.ComesDue t s unit first u → model.Settles t u next v → after ≡ before ++ (first ++ next)
       → FiresOneTo t deadline unit s before v after
 
 -- these deadlines fire
@@ -87,9 +102,14 @@ IsDue t timers deadline unit = IsDueFirst timers deadline unit × (deadline ≤ 
 abbrev pub NoneIsDue : ℕ → Timers → Type 0
 NoneIsDue t timers = (deadline : ℕ) (unit : List ℕ) → finite.get timers unit ≡ Some deadline → t < deadline
 
--- what happens has what follows
-abbrev pub FollowsTo : ℕ → model.State → model.Happening → List Action → model.State → List Action → Type 0
-FollowsTo t s happening before s' after = (new : List Action) × model.Follows t s happening new s' × (after ≡ before ++ new)
+-- something happens to a unit, and jobs begin
+pub record FollowsUpon (t : ℕ) (s : model.State) (unit : List ℕ) (event : UnitEvent) (actions : List Action) (v : model.State) : Type 0 where
+  pub between : model.State
+  pub first : List Action
+  pub more : List Action
+  pub happens : model.Happens t unit event s first between
+  pub settles : model.Settles t between more v
+  pub all : actions ≡ first ++ more
 
 -- the same units, jobs and next number
 pub record IsSame (s v : model.State) : Type 0 where

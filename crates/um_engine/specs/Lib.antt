@@ -2,6 +2,7 @@ pub mod Along
 pub mod Carrying
 pub mod Demanded
 pub mod Engine
+pub mod Falling
 pub mod Filled
 pub mod Known
 pub mod Over

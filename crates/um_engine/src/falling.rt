@@ -1,19 +1,21 @@
 //! What happens to a unit, with the units that fall with it: those that are bound to one that comes to rest are told to stop at once
 //! (systemd.unit(5), "BindsTo=").
 
-ghost use Rattle.std.specs.Prelude.{◌≡◌, false, map, Contains, IfOk, OnOk};
+ghost use Rattle.std.specs.Prelude.{◌≡◌, ◌++◌, ℕ, List, [], false, map, Contains, IfOk, OnOk};
 ghost use Rattle.um_engine.specs.Carrying.{KeepsOthers};
-ghost use Rattle.um_engine.specs.Engine.{HappensTo};
+ghost use Rattle.um_engine.specs.Engine.{CarriesTo, FallsTo, HappensTo};
 ghost use Rattle.um_engine.specs.Falling as falls;
-ghost use Rattle.um_engine.specs.Falling.{CarriesOn};
+ghost use Rattle.um_engine.specs.Falling.{AddsFalling, AreNamed, falling_from, goes, sub_of};
 ghost use Rattle.um_engine.specs.Over.{Serves};
-ghost use Rattle.um_graph.specs.Graph.{row_of};
+ghost use Rattle.um_graph.specs.Graph.{IsNumberOf};
 ghost use Rattle.um_model.proofs.WaitingLaws.{NoMoreWait};
 ghost use Rattle.um_model.specs.Machine as model;
+ghost use Rattle.um_model.specs.declared.transition.UnitEvent.TheVariants.{BoundStop};
 ghost use Rattle.um_state.specs.View.{state_of, action_of};
 
 use crate::carrying::carry;
 use std::alloc::{AllocError, Global};
+use std::collections::VecDeque;
 use um_graph::{Graph, Neighbour};
 use um_model::{ActiveState, DependencyKind, Moment, SubState, UnitEvent};
 use um_name::UnitName;
@@ -51,7 +53,7 @@ fn is_bound(row: &[Neighbour], unit: usize) -> bool
 
 /// Whether the unit with this number is active or activating.
 fn is_going(graph: &Graph, state: &State, unit: usize) -> bool
-    ensures { result ≡ falls.is_going_at graph.now (state_of state.now) unit }
+    ensures { (name : List ℕ) → IsNumberOf graph.now unit name → result ≡ goes (state_of state.now) name }
 {
     match graph.name(unit) {
         Some(name) => matches!(
@@ -62,35 +64,34 @@ fn is_going(graph: &Graph, state: &State, unit: usize) -> bool
     }
 }
 
-/// Adds the units that are bound to the one of the row and are active or activating: the last by name comes first, since the last one
-/// in the list is told next.
+/// Puts the units that are bound to the one of the row and are active or activating before the others in the list, by name.
 fn push_bound(
     graph: &Graph,
     state: &State,
-    list: &mut Vec<usize>,
+    list: &mut VecDeque<usize>,
     row: &[Neighbour],
 ) -> Result<(), AllocError>
-    ensures { OnOk result (list.new.items ≡ falls.with_bound graph.now (state_of state.now) row.now list.old.items) }
+    ensures { OnOk result (list.new.items ≡ falling_from (state_of state.now) row.now 0 graph.now.names ++ list.old.items) }
 {
     let mut unit = graph.len();
     while unit > 0 {
         unit -= 1;
         if is_bound(row, unit) && is_going(graph, state, unit) {
-            list.push(unit)?;
+            list.push_front(unit)?;
         }
     }
     Ok(())
 }
 
-/// Adds the units that fall with this one, where it came to rest.
+/// Puts the units that fall with this one, where it came to rest, before the others in the list.
 fn push_falling(
     graph: &Graph,
     state: &State,
-    list: &mut Vec<usize>,
+    list: &mut VecDeque<usize>,
     unit: &UnitName,
     before: SubState,
 ) -> Result<(), AllocError>
-    ensures { OnOk result (list.new.items ≡ falls.with_falling graph.now (state_of state.now) unit.now before list.old.items) }
+    ensures { OnOk result (AddsFalling graph.now (state_of state.now) before unit.now list.old.items list.new.items) }
 {
     if !comes_to_rest(before, state.units().get(unit).sub) {
         return Ok(());
@@ -101,33 +102,48 @@ fn push_falling(
     push_bound(graph, state, list, graph.neighbours(number))
 }
 
-/// Carries out what happens to a unit of the graph by itself, and adds the units that fall with it. Told is whether its start failed.
+/// Carries out what happens to a unit of the graph by itself, and puts the units that fall with it before the others in the list. Told
+/// is whether its start failed.
 fn carry_on(
     alloc: Global,
     graph: &Graph,
     state: &mut State,
     actions: &mut Vec<Action>,
-    list: &mut Vec<usize>,
+    list: &mut VecDeque<usize>,
     moment: Moment,
     unit: &UnitName,
     event: UnitEvent,
-) -> Result<bool, AllocError> {
+) -> Result<bool, AllocError>
+    ensures carries { OnOk result (Serves graph.now (state_of state.old) → Contains graph.now.names unit.now
+        → CarriesTo moment unit.now event (state_of state.old) (map action_of actions.old.items) (state_of state.new) (map action_of actions.new.items)
+        × Serves graph.now (state_of state.new)) }
+    ensures adds { OnOk result (AddsFalling graph.now (state_of state.new) (sub_of (state_of state.old) unit.now) unit.now list.old.items list.new.items) }
+    ensures waits { OnOk result (NoMoreWait (state_of state.new).pending (state_of state.old).pending) }
+    ensures others { IfOk result (λ fails. fails ≡ false → KeepsOthers unit.now (state_of state.old) (state_of state.new)) }
+{
     let before = state.units().get(unit).sub;
     let fails = carry(alloc, graph, state, actions, moment, unit, event)?;
     push_falling(graph, state, list, unit, before)?;
     Ok(fails)
 }
 
-/// Tells the unit with this number to stop at once, and adds those that fall with it.
+/// Tells the unit with this number to stop at once, and puts those that fall with it before the others in the list.
 fn fall_next(
     alloc: Global,
     graph: &Graph,
     state: &mut State,
     actions: &mut Vec<Action>,
-    list: &mut Vec<usize>,
+    list: &mut VecDeque<usize>,
     moment: Moment,
     unit: usize,
-) -> Result<(), AllocError> {
+) -> Result<(), AllocError>
+    ensures carries { OnOk result ((name : List ℕ) → IsNumberOf graph.now unit name → Serves graph.now (state_of state.old)
+        → CarriesTo moment name BoundStop (state_of state.old) (map action_of actions.old.items) (state_of state.new) (map action_of actions.new.items)
+        × Serves graph.now (state_of state.new)) }
+    ensures adds { OnOk result ((name : List ℕ) → IsNumberOf graph.now unit name
+        → AddsFalling graph.now (state_of state.new) (sub_of (state_of state.old) name) name list.old.items list.new.items) }
+    ensures waits { OnOk result (NoMoreWait (state_of state.new).pending (state_of state.old).pending) }
+{
     let Some(name) = graph.name(unit) else {
         return Ok(());
     };
@@ -136,17 +152,23 @@ fn fall_next(
     Ok(())
 }
 
-/// Tells the units of the list to stop at once, the last one first; where one comes to rest by that, those that are bound to it come
-/// next, by name.
+/// Tells the units of the list to stop at once, one after another; where one comes to rest by that, those that are bound to it come
+/// first, by name.
 fn fall_all(
     alloc: Global,
     graph: &Graph,
     state: &mut State,
     actions: &mut Vec<Action>,
-    list: &mut Vec<usize>,
+    list: &mut VecDeque<usize>,
     moment: Moment,
-) -> Result<(), AllocError> {
-    'units: while let Some(unit) = list.pop() {
+) -> Result<(), AllocError>
+    ensures falls { OnOk result ((names : List (List ℕ)) → AreNamed graph.now list.old.items names → Serves graph.now (state_of state.old)
+        → FallsTo moment names (state_of state.old) (map action_of actions.old.items) (state_of state.new) (map action_of actions.new.items)
+        × Serves graph.now (state_of state.new)) }
+    ensures waits { OnOk result (NoMoreWait (state_of state.new).pending (state_of state.old).pending) }
+    ensures none { OnOk result (list.old.items ≡ [] → state_of state.new ≡ state_of state.old) }
+{
+    'units: while let Some(unit) = list.pop_front() {
         fall_next(alloc, graph, state, actions, list, moment, unit)?;
     }
     Ok(())
@@ -169,7 +191,7 @@ pub fn happen(
     ensures waits { OnOk result (NoMoreWait (state_of state.new).pending (state_of state.old).pending) }
     ensures others { IfOk result (λ spreads. spreads ≡ false → KeepsOthers unit.now (state_of state.old) (state_of state.new)) }
 {
-    let mut list = Vec::new(alloc);
+    let mut list = VecDeque::new(alloc);
     let fails = carry_on(alloc, graph, state, actions, &mut list, moment, unit, event)?;
     let spreads = fails || !list.is_empty();
     fall_all(alloc, graph, state, actions, &mut list, moment)?;

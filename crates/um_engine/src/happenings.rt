@@ -1,10 +1,13 @@
 //! What follows from what happens.
 
 ghost use Rattle.std.specs.Bool.{Decides};
-ghost use Rattle.std.specs.Prelude.{◌≡◌, ◌↔◌, ℕ, [], Contains, map, option_map, IsTrue, IfOk, IfSome, MatchOption};
-ghost use Rattle.um_engine.specs.Engine.{Met, MetBy, IsSame};
+ghost use Rattle.std.specs.Prelude.{◌≡◌, ◌↔◌, ℕ, List, [], Contains, map, option_map, IsTrue, IfOk, IfSome, MatchOption};
+ghost use Rattle.um_engine.specs.Engine.{FollowsUpon, Met, MetBy, IsSame};
+ghost use Rattle.um_engine.specs.Known.{KnowsFor};
 ghost use Rattle.um_engine.specs.Over.{Serves};
+ghost use Rattle.um_model.specs.Ends.{is_starting};
 ghost use Rattle.um_model.specs.Machine as model;
+ghost use Rattle.um_model.specs.Service.{is_number};
 ghost use Rattle.um_state.specs.View.{state_of, happening_of, action_of};
 
 use crate::acting::Acting;
@@ -56,10 +59,7 @@ fn is_idle(state: &State, after: &State, actions: &[Action]) -> bool
     actions.is_empty() && is_same(state, after)
 }
 
-/// What comes of what happens: the state after it, if it has an effect, and what is asked of processes.
-type Outcome = (Option<State>, Vec<Action>);
-
-/// The state after something happened to a unit of the graph, and jobs began where that made them ready.
+/// The state after something happened to a unit of the graph, and jobs began where that made them ready; and what is asked of processes.
 fn after_happening(
     alloc: Global,
     graph: &Graph,
@@ -67,12 +67,15 @@ fn after_happening(
     moment: Moment,
     unit: &UnitName,
     event: UnitEvent,
-) -> Result<Outcome, AllocError> {
+) -> Result<(State, Vec<Action>), AllocError>
+    ensures { IfOk result (λ r. Serves graph.now (state_of state.now) → Contains graph.now.names unit.now
+        → FollowsUpon moment (state_of state.now) unit.now event (map action_of r.1.items) (state_of r.0) × Serves graph.now (state_of r.0)) }
+{
     let mut actions = Vec::new(alloc);
     let mut after = state.copy()?;
     happen(alloc, graph, &mut after, &mut actions, moment, unit, event)?;
     settle(alloc, graph, &mut after, &mut actions, moment)?;
-    Ok((Some(after), actions))
+    Ok((after, actions))
 }
 
 /// The state after the end of a process; none where no live process has the number.
@@ -83,7 +86,7 @@ fn after_end(
     moment: Moment,
     number: u64,
     end: End,
-) -> Result<Outcome, AllocError>
+) -> Result<(Option<State>, Vec<Action>), AllocError>
     ensures met { IfOk result (λ met. Serves graph.now (state_of state.now) → Met moment (state_of state.now) (model.ProcessEnded number end) met.0 (map action_of met.1.items)) }
     ensures serves { IfOk result (λ met. Serves graph.now (state_of state.now) → IfSome met.0 (λ after. Serves graph.now (state_of after))) }
 {
@@ -91,7 +94,8 @@ fn after_end(
         return Ok((None, Vec::new(alloc)));
     };
     let event = end_of(state.units().get(&unit), number, end);
-    after_happening(alloc, graph, state, moment, &unit, event)
+    let (after, actions) = after_happening(alloc, graph, state, moment, &unit, event)?;
+    Ok((Some(after), actions))
 }
 
 fn is_starting(sub: SubState) -> bool
@@ -128,7 +132,7 @@ fn after_report(
     state: &State,
     moment: Moment,
     number: u64,
-) -> Result<Outcome, AllocError>
+) -> Result<(Option<State>, Vec<Action>), AllocError>
     ensures met { IfOk result (λ met. Serves graph.now (state_of state.now) → Met moment (state_of state.now) (model.ProcessExecuted number) met.0 (map action_of met.1.items)) }
     ensures serves { IfOk result (λ met. Serves graph.now (state_of state.now) → IfSome met.0 (λ after. Serves graph.now (state_of after))) }
 {
@@ -138,7 +142,9 @@ fn after_report(
     if !awaits_report(alloc, graph, state, number, &unit) {
         return Ok((None, Vec::new(alloc)));
     }
-    after_happening(alloc, graph, state, moment, &unit, UnitEvent::Executed)
+    let event = UnitEvent::Executed;
+    let (after, actions) = after_happening(alloc, graph, state, moment, &unit, event)?;
+    Ok((Some(after), actions))
 }
 
 /// The state after a tick; none where it changed nothing and asked for nothing.
@@ -147,7 +153,7 @@ fn after_tick(
     graph: &Graph,
     state: &State,
     moment: Moment,
-) -> Result<Outcome, AllocError>
+) -> Result<(Option<State>, Vec<Action>), AllocError>
     ensures met { IfOk result (λ met. Serves graph.now (state_of state.now) → Met moment (state_of state.now) model.Tick met.0 (map action_of met.1.items)) }
     ensures serves { IfOk result (λ met. Serves graph.now (state_of state.now) → IfSome met.0 (λ after. Serves graph.now (state_of after))) }
 {
@@ -178,14 +184,39 @@ fn after_boot(alloc: Global, served: &Served, boot: &BootId) -> Result<Option<Se
     }
 }
 
-/// The state after it, if there is one, with what is known as it was.
-fn with_known(
-    served: &Served,
-    (after, actions): Outcome,
-) -> Result<(Option<Served>, Vec<Action>), AllocError> {
+/// The state, if there is one, with what is known as it was.
+fn with_known(served: &Served, after: Option<State>) -> Result<Option<Served>, AllocError>
+    requires { IfSome after (λ state. KnowsFor served.now.known (state_of state)) }
+    ensures { IfOk result (λ known. option_map (λ s. s.state) known ≡ option_map state_of after) }
+{
     match after {
-        Some(state) => Ok((Some(Served::with(state, served.share_known()?)), actions)),
-        None => Ok((None, actions)),
+        Some(state) => Ok(Some(Served::with(state, served.share_known()?))),
+        None => Ok(None),
+    }
+}
+
+/// The state after what happens in the time of one boot, but for its clock, and what is asked of processes; no state where it has no
+/// effect.
+fn met_in_boot(
+    alloc: Global,
+    graph: &Graph,
+    state: &State,
+    moment: Moment,
+    happening: &Happening,
+) -> Result<(Option<State>, Vec<Action>), AllocError>
+    requires { (boot : List ℕ) → ¬ (happening_of happening.now ≡ model.Booted boot) }
+    ensures met { IfOk result (λ met. Serves graph.now (state_of state.now) → Met moment (state_of state.now) (happening_of happening.now) met.0 (map action_of met.1.items)) }
+    ensures serves { IfOk result (λ met. Serves graph.now (state_of state.now) → IfSome met.0 (λ after. Serves graph.now (state_of after))) }
+{
+    match happening {
+        Happening::ProcessEnded { number, end } => {
+            after_end(alloc, graph, state, moment, *number, *end)
+        }
+        Happening::ProcessExecuted { number } => {
+            after_report(alloc, graph, state, moment, *number)
+        }
+        Happening::Tick => after_tick(alloc, graph, state, moment),
+        Happening::Booted { .. } => unreachable!(),
     }
 }
 
@@ -198,18 +229,10 @@ pub fn met(
 ) -> Result<(Option<Served>, Vec<Action>), AllocError>
     ensures { IfOk result (λ met. MetBy moment served.now.state (happening_of happening.now) met.0 (map action_of met.1.items)) }
 {
-    let graph = served.known().graph();
-    let state = served.state();
-    match happening {
-        Happening::ProcessEnded { number, end } => with_known(
-            served,
-            after_end(alloc, graph, state, moment, *number, *end)?,
-        ),
-        Happening::ProcessExecuted { number } => with_known(
-            served,
-            after_report(alloc, graph, state, moment, *number)?,
-        ),
-        Happening::Tick => with_known(served, after_tick(alloc, graph, state, moment)?),
-        Happening::Booted { boot } => Ok((after_boot(alloc, served, boot)?, Vec::new(alloc))),
+    if let Happening::Booted { boot } = happening {
+        return Ok((after_boot(alloc, served, boot)?, Vec::new(alloc)));
     }
+    let graph = served.known().graph();
+    let (after, actions) = met_in_boot(alloc, graph, served.state(), moment, happening)?;
+    Ok((with_known(served, after)?, actions))
 }
