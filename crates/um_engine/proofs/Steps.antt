@@ -8,7 +8,7 @@ use Rattle.std.specs.Cmp.Lexicographic.{slice_cmp}
 use Rattle.std.specs.Ordering.{nat_cmp}
 use Rattle.std.proofs.lemmas.Option.{none-some}
 use Rattle.um_model.specs.Timers.{Timers}
-use Rattle.um_engine.specs.Engine.{CarriesTo, SettlesTo, FiresOneTo, passed, fired, FiresFrom, IsDue, NoneIsDue}
+use Rattle.um_engine.specs.Engine.{HappensTo, SettlesTo, FiresOneTo, passed, fired, FiresFrom, IsDue, NoneIsDue}
 
 -- where no job is ready, all has settled
 pub settled : (t : ℕ) (s : State) (before : List Action) → IsStill s → SettlesTo t s before s before
@@ -16,7 +16,7 @@ settled t s before none = ([], rests none, sym (append-nil before))
 
 -- a job begins, and then the others
 pub settles_more : (t : ℕ) (s u v : State) (before between after : List Action) (j : Job) → BeginsNext (IsBefore s.loaded) s.units s.pending j
-    → CarriesTo t j.unit (begins j.kind) (begun s j) before u between → SettlesTo t u between v after → SettlesTo t s before v after
+    → HappensTo t j.unit (begins j.kind) (begun s j) before u between → SettlesTo t u between v after → SettlesTo t s before v after
 settles_more t s u v before between after j next (first, happens, is) (more, settles, all) =
     (first ++ more, begins_next j next happens settles, all ∙ (ap (λ l. l ++ more) is ∙ append_assoc before first more))
 

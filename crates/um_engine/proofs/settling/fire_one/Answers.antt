@@ -14,7 +14,7 @@ pub returns : goal.returns
 returns c = λ serves.
     let stands : (state_of_unit (state_of c.args.state.now).units c.args.due.now.unit).deadline ≡ Some c.args.due.now.deadline = search rules in
     let known = deadline_known c.args.graph.now (state_of c.args.state.now) c.args.due.now.unit c.args.due.now.deadline serves stands in
-    let (carries, serves_then) = c.in_ok-carry_out.ensures serves known in
+    let (carries, serves_then) = c.in_ok-come_due.ensures serves known in
     let (first, happens, is) = carries in
     let (settled, serves_on) = c.in_ok-settle.ensures serves_then in
     let (next, settles, all) = settled in
