@@ -1,4 +1,4 @@
-use Rattle.std.proofs.Common.{◌≡◌, ◌≢◌, true≢false, Contains, rules, sym}
+use Rattle.std.proofs.Common.{◌≢◌, Contains, rules}
 use Rattle.um_model.specs.Machine.{IsBefore}
 use Rattle.um_model.specs.Plan.{NamesCycle}
 use Rattle.um_state.specs.View.{state_of}

@@ -1,4 +1,4 @@
-use Rattle.std.proofs.Common.{◌∙◌, ap, sym, rules, true, false, ◌≡◌}
+use Rattle.std.proofs.Common.{sym, rules, false, ◌≡◌}
 use Rattle.um_model.specs.Jobs.{has_job}
 use Rattle.um_state.specs.View.{state_of}
 use Rattle.um_engine.proofs.RestartLaws.{restarts_not, restarts_so, restarts_none, serves_put}
