@@ -7,7 +7,7 @@ use Rattle.std.proofs.lemmas.Option.{none-some, slice_get-get_or}
 use Rattle.um_model.specs.Dependencies.{IsKnown, Precedes, extra}
 use Rattle.um_model.specs.Jobs.{Job, ComesBefore, GoesBefore, starts, stops, stops_then_starts, stops_then_starts_before, of_one_unit, IsPending, jobs_of_unit, job_of, no_jobs}
 use Rattle.um_model.specs.Machine.{State, IsHeld, IsBefore, IsCrowded, CausesOfLoad}
-use Rattle.um_model.specs.Plan.{NamesCycle}
+use Rattle.um_model.specs.Plan.{AreFree, NamesCycle}
 use Rattle.um_model.specs.Reached.{first}
 use Rattle.um_model.specs.Refusals.{Refused, at_first, at_second, too_large}
 use Rattle.um_model.specs.Service.{ByUnit}
@@ -105,6 +105,12 @@ module _ (s : State) (tree : Tree) (Extra : List ℕ → Type 0) (g : GraphView)
   pub circle_by_number : (r : Refused) → NamesCycle (IsBefore tree) s.pending r → NamesCycle (Joins g before_bit) (jobs_by g.names pending) r
   circle_by_number =
       cycle_too (IsBefore tree) (Joins g before_bit) (Contains g.names) joins_back s.pending (jobs_by g.names pending) (λ x. sym (same_jobs x)) by_number_held
+
+  -- what is free of circles by number is by name
+  pub free_of_state : AreFree (Joins g before_bit) (jobs_by g.names pending) → AreFree (IsBefore tree) s.pending
+  free_of_state free cycle closed =
+      let back = comes_too (IsBefore tree) (Joins g before_bit) (Contains g.names) joins_back s.pending (jobs_by g.names pending) (λ x. sym (same_jobs x)) by_number_held in
+      free cycle (cycle_weaker (ComesBefore (IsBefore tree) s.pending) (ComesBefore (Joins g before_bit) (jobs_by g.names pending)) back cycle closed)
 
 -- the causes for which a tree isn't loaded, and that there is none
 module _ (s : State) (tree : Tree) where

@@ -1,14 +1,15 @@
 -- One step more of settling and of firing, with the actions before and after.
-use Rattle.std.proofs.Common.{◌≡◌, ℕ, List, [], ◌++◌, sym, ap, ◌∙◌, append_assoc, append-nil}
+use Rattle.std.proofs.Common.{◌≡◌, ℕ, true, false, List, [], ◌++◌, Some, sym, ap, ◌∙◌, append_assoc, append-nil}
 use Rattle.std.specs.FinMap as map
 use Rattle.um_model.specs.Jobs.{Job, BeginsNext}
-use Rattle.um_model.specs.Machine.{State, begun, begins, IsBefore, IsStill, rests, begins_next, none_due, fires, passes}
-use Rattle.um_model.specs.Service.{Action}
+use Rattle.um_model.specs.Machine.{State, begun, begins, IsBefore, IsStill, Restarts, ComesDue, awaits_restart, restarts, rests, begins_next, none_due, fires, passes}
+use Rattle.um_model.specs.Service.{Action, state_of_unit}
+use Rattle.um_model.specs.declared.transition.UnitEvent.TheVariants.{DeadlinePasses}
 use Rattle.std.specs.Cmp.Lexicographic.{slice_cmp}
 use Rattle.std.specs.Ordering.{nat_cmp}
 use Rattle.std.proofs.lemmas.Option.{none-some}
 use Rattle.um_model.specs.Timers.{Timers}
-use Rattle.um_engine.specs.Engine.{CarriesTo, SettlesTo, FiresOneTo, passed, fired, FiresFrom, IsDue, NoneIsDue}
+use Rattle.um_engine.specs.Engine.{HappensTo, SettlesTo, ComesDueTo, FiresOneTo, passed, fired, FiresFrom, IsDue, NoneIsDue}
 
 -- where no job is ready, all has settled
 pub settled : (t : ℕ) (s : State) (before : List Action) → IsStill s → SettlesTo t s before s before
@@ -16,9 +17,25 @@ settled t s before none = ([], rests none, sym (append-nil before))
 
 -- a job begins, and then the others
 pub settles_more : (t : ℕ) (s u v : State) (before between after : List Action) (j : Job) → BeginsNext (IsBefore s.loaded) s.units s.pending j
-    → CarriesTo t j.unit (begins j.kind) (begun s j) before u between → SettlesTo t u between v after → SettlesTo t s before v after
-settles_more t s u v before between after j next (first, happens, is) (more, settles, all) =
-    (first ++ more, begins_next j next happens settles, all ∙ (ap (λ l. l ++ more) is ∙ append_assoc before first more))
+    → HappensTo t j.unit (begins j.kind) (begun s j) before u between → SettlesTo t u between v after → SettlesTo t s before v after
+settles_more t s u v before between after j next (first, happened, is) (more, settles, all) =
+    (first ++ more, begins_next j next happened settles, all ∙ (ap (λ l. l ++ more) is ∙ append_assoc before first more))
+
+-- a deadline is there for which the unit waits to be restarted
+pub due_restarts : (t : ℕ) (s u : State) (unit : List ℕ) (before : List Action) → awaits_restart (state_of_unit s.units unit).sub ≡ true → Restarts s unit u
+    → ComesDueTo t s unit before u before
+due_restarts t s u unit before awaits put = ([], restarts awaits put, sym (append-nil before))
+
+-- or another one
+pub due_passes : (t : ℕ) (s u : State) (unit : List ℕ) (before after : List Action) → awaits_restart (state_of_unit s.units unit).sub ≡ false
+    → HappensTo t unit DeadlinePasses s before u after → ComesDueTo t s unit before u after
+due_passes t s u unit before after none (new, happened, is) = (new, ComesDue.passes none happened, is)
+
+-- a deadline that stands fires, and jobs begin
+pub fires_one : (t deadline : ℕ) (unit : List ℕ) (s u v : State) (before between after : List Action) → (state_of_unit s.units unit).deadline ≡ Some deadline
+    → ComesDueTo t s unit before u between → SettlesTo t u between v after → FiresOneTo t deadline unit s before v after
+fires_one t deadline unit s u v before between after stands (first, due, is) (next, settles, all) =
+    fired first next stands due settles (all ∙ (ap (λ l. l ++ next) is ∙ append_assoc before first next))
 
 -- where no deadline is due, none fires
 pub none_fires : (t : ℕ) (timers : Timers) (s : State) (before : List Action) → NoneIsDue t timers → FiresFrom t timers s before s before

@@ -1,10 +1,11 @@
 //! Automatic restarts (systemd.service(5), "Restart=").
 
-ghost use Rattle.std.specs.Prelude.{◌≡◌, Contains, IfOk, OnOk};
-ghost use Rattle.std.specs.Bool.{Decides};
+ghost use Rattle.std.specs.Prelude.{◌≡◌, true, false, List, Contains, IfOk, OnOk};
 ghost use Rattle.um_engine.specs.Over.{Serves};
+ghost use Rattle.um_model.specs.Jobs.{ComesBefore, Job};
 ghost use Rattle.um_model.specs.Machine as model;
 ghost use Rattle.um_model.specs.Machine.{IsBefore};
+ghost use Rattle.um_model.specs.Order.{IsCycle};
 ghost use Rattle.um_model.specs.Plan.{AreFree};
 ghost use Rattle.um_state.specs.View.{state_of};
 
@@ -25,7 +26,9 @@ const START_ALONE: UnitJobs = UnitJobs {
 
 /// Whether no pending jobs wait for one another in a circle.
 fn are_free(alloc: Global, graph: &Graph, state: &State) -> Result<bool, AllocError>
-    ensures { IfOk result (λ free. Serves graph.now (state_of state.now) → Decides free (AreFree (IsBefore (state_of state.now).loaded) (state_of state.now).pending)) }
+    ensures free { IfOk result (λ free. Serves graph.now (state_of state.now) → free ≡ true → AreFree (IsBefore (state_of state.now).loaded) (state_of state.now).pending) }
+    ensures circle { IfOk result (λ free. Serves graph.now (state_of state.now) → free ≡ false
+        → (cycle : List Job) × IsCycle (ComesBefore (IsBefore (state_of state.now).loaded) (state_of state.now).pending) cycle) }
 {
     let pending = pending_by_number(alloc, graph, state)?;
     match check_pending(alloc, graph, &pending) {

@@ -167,7 +167,8 @@ fn come_due(
         × Serves graph.now (state_of state.new)) }
 {
     if awaits_restart(state.units().get(unit).sub) {
-        return restart(alloc, graph, state, unit);
+        restart(alloc, graph, state, unit)?;
+        return Ok(());
     }
     let event = UnitEvent::DeadlinePasses;
     happen(alloc, graph, state, actions, moment, unit, event)?;

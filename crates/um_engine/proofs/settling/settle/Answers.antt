@@ -12,8 +12,8 @@ jobs-smaller c =
     let job : Job = record { unit = c.in-Some.next.name; kind = c.in-Some.next.kind } in
     let waits = rw c.in-Some.is at c.in_ok-next.ensures.waits in
     let number = rw c.in-Some.is at c.in_ok-next.ensures.number in
-    begun_drops c.args.graph.now (state_of c.jobs.state) (state_of c.begin_job.new.state) (state_of c.carry.new.state) job (waits (state_of c.jobs.state) c.jobs.invariant.tells)
-    (known_by c.args.graph.now c.in-Some.next.unit c.in-Some.next.name number) c.in_ok-begin_job.ensures c.in_ok-fails.ensures.waits
+    begun_drops c.args.graph.now (state_of c.jobs.state) (state_of c.begin_job.new.state) (state_of c.happen.new.state) job (waits (state_of c.jobs.state) c.jobs.invariant.tells)
+    (known_by c.args.graph.now c.in-Some.next.unit c.in-Some.next.name number) c.in_ok-begin_job.ensures c.in_ok-spreads.ensures.waits
 
 pub jobs-preserved : goal.jobs-preserved
 jobs-preserved c =
@@ -23,16 +23,16 @@ jobs-preserved c =
     let known = known_by c.args.graph.now c.in-Some.next.unit c.in-Some.next.name number in
     record {
       tells = c.in_ok-tell_anew.ensures (state_of c.jobs.state) c.jobs.invariant.tells number
-          (λ none. kept_then c.in-Some.next.name (state_of c.jobs.state) (state_of c.begin_job.new.state) (state_of c.carry.new.state)
-          (begun_keeps (state_of c.jobs.state) (state_of c.begin_job.new.state) job c.in_ok-begin_job.ensures) (c.in_ok-fails.ensures.others none));
+          (λ none. kept_then c.in-Some.next.name (state_of c.jobs.state) (state_of c.begin_job.new.state) (state_of c.happen.new.state)
+          (begun_keeps (state_of c.jobs.state) (state_of c.begin_job.new.state) job c.in_ok-begin_job.ensures) (c.in_ok-spreads.ensures.others none));
       whole = λ serves.
           let (whole, serves_now) = c.jobs.invariant.whole serves in
           let begun = serves_begun c.args.graph.now (state_of c.jobs.state) (state_of c.begin_job.new.state) job serves_now known c.in_ok-begin_job.ensures in
-          let (carries, serves_on) = c.in_ok-fails.ensures.carries begun known in
+          let (carries, serves_on) = c.in_ok-spreads.ensures.happens begun known in
           let carried = rw (c.begins-event.ensures, c.in_ok-begin_job.ensures) at carries in (
             λ v after later.
                 whole v after
-                (settles_more c.args.moment (state_of c.jobs.state) (state_of c.carry.new.state) v (map action_of c.jobs.actions.items) (map action_of c.carry.new.actions.items) after
+                (settles_more c.args.moment (state_of c.jobs.state) (state_of c.happen.new.state) v (map action_of c.jobs.actions.items) (map action_of c.happen.new.actions.items) after
                 job (next (state_of c.jobs.state) serves_now c.jobs.invariant.tells) carried later),
             serves_on,
           );

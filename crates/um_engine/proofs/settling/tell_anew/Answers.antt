@@ -2,6 +2,6 @@ use Rattle.um_state.specs.View.{state_of}
 use Rattle.um_engine.proofs.ReadyLaws.{told_anew}
 use Rattle.um_engine.proofs.settling.tell_anew.Goals as goal
 
-pub returns-else-fails : goal.returns-else-fails
-returns-else-fails c = λ before tells number keeps.
-    told_anew c.args.graph.now before (state_of c.args.state.now) c.args.jobs.now c.tell.new.jobs c.args.next.now.unit c.args.next.now.name tells number (keeps c.if-fails.false) c.tell.ensures
+pub returns-else-spreads : goal.returns-else-spreads
+returns-else-spreads c = λ before tells number keeps.
+    told_anew c.args.graph.now before (state_of c.args.state.now) c.args.jobs.now c.tell.new.jobs c.args.next.now.unit c.args.next.now.name tells number (keeps c.if-spreads.false) c.tell.ensures
