@@ -1,7 +1,7 @@
 -- Demands in two situations that correspond, unit for unit: what is demanded in the one is what is demanded in the other.
 use Rattle.std.proofs.Common.{◌≡◌, ◌↔◌, refl, sym, ap, subst}
 use Rattle.um_model.specs.Reached.{Reached, first, next}
-use Rattle.um_model.specs.Demands.{IsStarting, LeansOn, requires, binds, is_part, Brings, required, bound, conflicting, conflicted, stopped, restarted}
+use Rattle.um_model.specs.Demands.{LeansOn, requires, binds, is_part, Brings, required, bound, conflicting, conflicted, stopped, restarted}
 use Rattle.um_model.specs.Demands.{IsRequired, IsStartable, BringsAlong, needed, wanted, IsDemanded}
 use Rattle.um_model.specs.declared.dependencies.Demand.{Demand}
 use Rattle.um_model.specs.declared.dependencies.Demand.TheVariants.{Start, Stop, Restart}

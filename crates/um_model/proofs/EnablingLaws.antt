@@ -19,7 +19,6 @@ use Rattle.um_model.specs.Tree.{Tree, Link, PathParts, Place, Unit, Wants, Requi
 use Rattle.um_model.specs.Units.{LoadedUnit, Loading, Found, load, name_in, InstallSettings, Masked, NotFound, BadSetting}
 use Rattle.um_model.specs.declared.install.Enabling.{Enabling}
 use Rattle.um_model.specs.declared.install.Enabling.TheVariants as enabling
-use Rattle.um_model.specs.declared.install.InstallVerb.{InstallVerb}
 use Rattle.um_model.specs.declared.install.InstallVerb.TheVariants as verbs
 use Rattle.um_model.specs.declared.tree.Layer.{Layer}
 use Rattle.um_model.specs.declared.tree.Layer.TheVariants.{Etc, Run, Lib}

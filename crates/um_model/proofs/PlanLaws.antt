@@ -1,11 +1,11 @@
 -- Scenes that say the same of the units that are known: what is demanded in the one is what is demanded in the other, a plan of the one
 -- is a plan of the other, and both are refused for the same causes.
-use Rattle.std.proofs.Common.{◌≡◌, ◌↔◌, ◌∙◌, ℕ, List, Option, Some, None, refl, sym, ap, subst}
+use Rattle.std.proofs.Common.{◌≡◌, ◌↔◌, ◌∙◌, ℕ, List, Option, Some, refl, sym, subst}
 use Rattle.um_model.specs.Jobs.{Job, ComesBefore, DropsOne, GoesBefore, starts, stops, stops_then_starts, stops_then_starts_before, of_one_unit, jobs_of_unit}
 use Rattle.um_model.specs.Least.{IsLeast, IsNamedBefore}
 use Rattle.um_model.specs.Order.{IsCycle}
-use Rattle.um_model.specs.Plan.{BeginsWithLeast, CausesOfPlan, Clashes, Counts, Demands, IsBarred, IsPlan, IsStarted, NamesBarred, NamesClash, NamesCycle, NamesDrop, Scene}
-use Rattle.um_model.specs.Plan.{jobs_for, restarted, started, stopped, left, units_of}
+use Rattle.um_model.specs.Plan.{CausesOfPlan, Clashes, Counts, Demands, IsBarred, IsPlan, IsStarted, NamesBarred, NamesClash, NamesCycle, NamesDrop, Scene}
+use Rattle.um_model.specs.Plan.{jobs_for, restarted, started, stopped, left}
 use Rattle.um_model.specs.Refusals.{Refused, FirstCause, at_first, at_second}
 use Rattle.um_model.specs.Service.{ByUnit}
 use Rattle.um_model.specs.declared.commands.JobMode.{JobMode}

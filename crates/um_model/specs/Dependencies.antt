@@ -6,7 +6,7 @@ use Rattle.std.specs.Str.{bytes_eq}
 use Rattle.std.specs.FinMap as map
 use Rattle.um_model.specs.Reached.{Reached}
 use Rattle.um_model.specs.Names.{is_template, suffix_of}
-use Rattle.um_model.specs.Tree.{Tree, Entry, Link, PathParts, Place, Unit, DropIn, Wants, Requires, path_parts, without_run}
+use Rattle.um_model.specs.Tree.{Tree, Entry, Link, PathParts, Unit, Wants, Requires, path_parts, without_run}
 use Rattle.um_model.specs.Units as units
 use Rattle.um_model.specs.Units.{LoadedUnit, Loading, Found, load, unit_named}
 use Rattle.um_model.specs.declared.dependencies.DependencyKind.{DependencyKind}

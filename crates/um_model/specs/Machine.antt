@@ -1,7 +1,7 @@
 -- The machine: its state, what comes in, what is answered, one step, and a run.
 -- The rules of single inputs follow systemctl(1); the machine itself is this project's own.
 -- The engine, the keeper, the manager and the program stand on this file.
-use Rattle.std.specs.Prelude.{◌≡◌, ◌≢◌, ◌⊎◌, ◌↔◌, ⊤, ℕ, ◌+◌, ◌<◌, ◌≤◌, max, Bool, true, false, not, ◌||◌, if◌then◌else◌, List, [], ◌∷◌, ◌++◌, Option, Some, None, Result, Ok, Err, codes, map as each, AllPairs, Contains}
+use Rattle.std.specs.Prelude.{◌≡◌, ◌≢◌, ◌⊎◌, ◌↔◌, ⊤, ℕ, ◌+◌, ◌<◌, ◌≤◌, max, Bool, true, false, not, ◌||◌, if◌then◌else◌, List, [], ◌∷◌, ◌++◌, Option, Some, None, Ok, Err, codes, map as each, AllPairs, Contains}
 use Rattle.std.specs.FinMap as map
 use Rattle.um_model.specs.Least.{IsLeast, IsNamedBefore}
 use Rattle.um_model.specs.Refusals.{Refused, not_found, masked, bad_setting, not_loaded, no_such_job, no_room, too_large, FirstCause}

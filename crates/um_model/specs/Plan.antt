@@ -1,7 +1,7 @@
 -- What a transaction makes of the pending jobs, and why it is refused.
 -- Follows systemctl(1), "start", "stop", "restart" and "--job-mode=".
 -- The machine stands on this file.
-use Rattle.std.specs.Prelude.{◌≡◌, ℕ, ⊤, Bool, true, List, [], ◌∷◌, map as each, All, Option, Some, None}
+use Rattle.std.specs.Prelude.{◌≡◌, ℕ, ⊤, List, [], ◌∷◌, map as each, All, Option, Some, None}
 use Rattle.um_model.specs.Least.{IsLeast, IsNamedBefore}
 use Rattle.um_model.specs.Refusals.{Refused, FirstCause, clash, job_conflict, ordering_cycle}
 use Rattle.um_model.specs.Order.{IsCycle}

@@ -10,7 +10,6 @@ use Rattle.um_model.specs.declared.settings.RestartPolicy.TheVariants.{No}
 use Rattle.um_model.specs.declared.transition.CommandList.{CommandList}
 use Rattle.um_model.specs.declared.transition.CommandList.TheVariants.{OfStart, OfStop}
 use Rattle.um_model.specs.declared.transition.UnitKind.{UnitKind}
-use Rattle.um_model.specs.declared.transition.UnitKind.TheVariants.{Simple, Target}
 
 -- spans are in microseconds; one that is None never ends
 pub record ServiceSettings : Type 0 where
