@@ -176,7 +176,7 @@ abbrev pub is_hex_digit : ℕ → Bool
 is_hex_digit b = is_digit b || (nat_le 97 b && nat_le b 102)
 
 -- what follows a `\` is an `x` and two hexadecimal digits, and gives their byte; anything else is ill escaped
-abbrev pub escape_front : List ℕ → Front
+abbrev pub escape_front : List ℕ → Front ℕ
 escape_front [] = Unreadable
 escape_front (x ∷ []) = Unreadable
 escape_front (x ∷ high ∷ []) = Unreadable
@@ -186,7 +186,7 @@ escape_front (x ∷ high ∷ low ∷ rest) =
     else Unreadable
 
 -- `-` becomes `/`, an escape its byte, and any other byte stays
-abbrev pub unescape_front : ℕ → List ℕ → Front
+abbrev pub unescape_front : ℕ → List ℕ → Front ℕ
 unescape_front b bs = if b == 45 then Gives (47 ∷ []) 1 else (if b == 92 then escape_front bs else Gives (b ∷ []) 1)
 
 -- the text stands for these bytes

@@ -5,7 +5,8 @@ use Rattle.std.specs.Prelude.{ℕ, Bool, ◌&&◌, ◌==◌, if◌then◌else◌
 use Rattle.std.specs.List.{list_all, before_first, after_first, position_or_len}
 use Rattle.um_model.specs.Names.{is_instance_byte}
 use Rattle.um_model.specs.Specifiers.{expanded_of}
-use Rattle.um_model.specs.Words.{Command, words_of, commands_read, is_executable_word}
+use Rattle.um_model.specs.Commands.{Command, commands_read, is_executable_word}
+use Rattle.um_model.specs.Words.{words_of}
 use Rattle.um_model.specs.Substitution.{Variable, is_variable_name}
 use Rattle.um_model.specs.declared.warnings.WarningKind.{WarningKind}
 use Rattle.um_model.specs.declared.warnings.WarningKind.TheVariants.{UnreadableValue, UnreadableSpecifier}

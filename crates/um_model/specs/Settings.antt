@@ -2,7 +2,7 @@
 -- Follows systemd.service(5) and, for the start limit, systemd.unit(5).
 -- Units, clean ends, the service table and the machine stand on this file.
 use Rattle.std.specs.Prelude.{ℕ, ◌^◌, ◌&&◌, Bool, false, List, [], ◌∷◌, ◌++◌, length, map, nat_lt, Option, Some, None, slice_get}
-use Rattle.um_model.specs.Words.{Command}
+use Rattle.um_model.specs.Commands.{Command}
 use Rattle.um_model.specs.Substitution.{Variable}
 use Rattle.um_model.specs.declared.service.End.{End}
 use Rattle.um_model.specs.declared.settings.RestartPolicy.{RestartPolicy}

@@ -6,7 +6,7 @@ use Rattle.std.specs.List.{after_last}
 use Rattle.std.specs.Str.{IsUtf8, is_utf8}
 use Rattle.um_model.specs.Ascii.{is_letter}
 use Rattle.um_model.specs.Names.{stem_of, prefix_of, instance_of, unescape_front, StandsForBytes}
-use Rattle.um_model.specs.Pieces.{Front, Unreadable, Gives, StandsForText, reading}
+use Rattle.um_model.specs.Pieces.{Front, Gives, front_of, StandsForText, reading}
 
 -- the instance of a name; empty where it has none
 abbrev pub instance_or_empty : List ℕ → List ℕ
@@ -29,20 +29,15 @@ specified name unescaped letter =
     else (if letter == 106 then Some (after_last (λ b. b == 45) (prefix_of name))
     else None)))))
 
--- two bytes are read, if they stand for something
-abbrev pub two_bytes_for : Option (List ℕ) → Front
-two_bytes_for None = Unreadable
-two_bytes_for (Some text) = Gives text 2
-
 -- what follows a `%`: another `%` is one, a letter what it stands for; before anything else the `%` stays
-abbrev pub percent_front : List ℕ → Option (List ℕ) → List ℕ → Front
+abbrev pub percent_front : List ℕ → Option (List ℕ) → List ℕ → Front ℕ
 percent_front name unescaped [] = Gives (37 ∷ []) 1
 percent_front name unescaped (b ∷ bs) =
     if b == 37 then Gives (37 ∷ []) 2
-    else (if is_letter b then two_bytes_for (specified name unescaped b) else Gives (37 ∷ []) 1)
+    else (if is_letter b then front_of (specified name unescaped b) 2 else Gives (37 ∷ []) 1)
 
 -- any byte but a `%` stays
-abbrev pub specifier_front : List ℕ → Option (List ℕ) → ℕ → List ℕ → Front
+abbrev pub specifier_front : List ℕ → Option (List ℕ) → ℕ → List ℕ → Front ℕ
 specifier_front name unescaped b bs = if b == 37 then percent_front name unescaped bs else Gives (b ∷ []) 1
 
 -- the text stands for another one in the files of the unit of that name

@@ -54,17 +54,17 @@ braced_name [] = None
 braced_name (b ∷ bs) = if b == 123 then closed_name bs else None
 
 -- `${NAME}` stands for the value; a `$` before anything else stands for itself
-abbrev pub variable_front : List Variable → Option (List ℕ) → Front
+abbrev pub variable_front : List Variable → Option (List ℕ) → Front ℕ
 variable_front environment None = Gives (36 ∷ []) 1
 variable_front environment (Some name) = Gives (value_of environment name) (length name + 3)
 
 -- a `$`, by what follows it; `$$` stands for one
-abbrev pub dollar_front : List Variable → List ℕ → Front
+abbrev pub dollar_front : List Variable → List ℕ → Front ℕ
 dollar_front environment bs =
     if first_passes (λ b. b == 36) bs then Gives (36 ∷ []) 2 else variable_front environment (braced_name bs)
 
 -- any other byte stands for itself
-abbrev pub piece_front : List Variable → ℕ → List ℕ → Front
+abbrev pub piece_front : List Variable → ℕ → List ℕ → Front ℕ
 piece_front environment b bs = if b == 36 then dollar_front environment bs else Gives (b ∷ []) 1
 
 -- a word becomes these words: the value's where it is `$NAME` whole, else one, piece by piece

@@ -15,7 +15,7 @@ use Rattle.um_model.specs.Readings.{Reading, read_in, warning_in, text_reading, 
 use Rattle.um_model.specs.Readings.{first_warning, names_said, value_reading, instance_in}
 use Rattle.um_model.specs.Settings.{ServiceSettings}
 use Rattle.um_model.specs.Values.{boolean_of, number_of, span_of, exits_of, policy_named}
-use Rattle.um_model.specs.Words.{Command}
+use Rattle.um_model.specs.Commands.{Command}
 use Rattle.um_model.specs.Substitution.{Variable}
 use Rattle.um_model.specs.declared.service.End.{End}
 use Rattle.um_model.specs.declared.settings.RestartPolicy.{RestartPolicy}

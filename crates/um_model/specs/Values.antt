@@ -1,14 +1,15 @@
 -- What the values of settings mean: truth values, numbers, time spans, sets of exits, and when a service is started again.
 -- Follows systemd.syntax(7) in truth values, systemd.time(7), "Parsing Time Spans", and systemd.service(5) in `Restart=` and `SuccessExitStatus=`.
 -- Settings and the service table stand on this file.
-use Rattle.std.specs.Prelude.{◌≡◌, ℕ, zero, suc, ◌+◌, ◌-◌, ◌*◌, ◌<◌, ◌≤◌, Bool, true, false, not, ◌&&◌, ◌==◌, nat_le, nat_lt}
-use Rattle.std.specs.Prelude.{List, [], ◌∷◌, length, drop, map, filter, take_while, codes, Option, Some, None, option_map, find, is_some, if◌then◌else◌}
+use Rattle.std.specs.Prelude.{◌≡◌, ℕ, ◌+◌, ◌-◌, ◌*◌, ◌≤◌, Bool, true, false, not, ◌&&◌, ◌==◌, nat_le, nat_lt}
+use Rattle.std.specs.Prelude.{List, [], ◌∷◌, length, drop, map, filter, take_while, codes, Option, Some, None, option_map, option_and_then, find, is_some, sum, if◌then◌else◌}
 use Rattle.std.specs.List.{list_any, list_all, slice_split}
 use Rattle.std.specs.Char.{to_ascii_lowercase}
 use Rattle.std.specs.Str.{bytes_eq}
 use Rattle.um_model.specs.Moments.{span_limit}
 use Rattle.um_model.specs.Ascii.{is_space, is_digit, is_letter}
-use Rattle.um_model.specs.Text.{trim_start, is_empty}
+use Rattle.um_model.specs.Pieces.{Front, Gives, front_of, StandsForText, reading}
+use Rattle.um_model.specs.Text.{trim_start, is_blank}
 use Rattle.um_model.specs.declared.service.End.{End}
 use Rattle.um_model.specs.declared.service.End.TheVariants.{Code, Signal, Lost}
 use Rattle.um_model.specs.declared.settings.RestartPolicy.{RestartPolicy}
@@ -91,23 +92,25 @@ unit_of text = take_while is_letter (past_digits text)
 abbrev pub past_part : List ℕ → List ℕ
 past_part text = drop (length (unit_of text)) (past_digits text)
 
--- a number and a unit say so many microseconds
-pub record IsTime (digits unit : List ℕ) (n : ℕ) : Type 0 where
-  pub some : 0 < length digits
-  pub size : ℕ
-  pub unit_is : unit_size unit ≡ Some size
-  pub value : n ≡ decimal digits * size
+-- the microseconds that a number and a unit say
+abbrev pub time_of : List ℕ → List ℕ → Option ℕ
+time_of digits unit = if nat_lt 0 (length digits) then option_map (λ size. decimal digits * size) (unit_size unit) else None
+
+-- a piece of a text of times: whitespace, or a part
+abbrev pub time_front : ℕ → List ℕ → Front ℕ
+time_front b bs =
+    let text = b ∷ bs in
+    if is_space b then Gives [] 1
+    else front_of (option_map (λ n. n ∷ []) (time_of (digits_of text) (unit_of text))) (length text - length (past_part text))
 
 -- the text is a sequence of parts, with whitespace between them as one likes; together they are so many microseconds
-pub data AddUpTo : List ℕ → ℕ → Type 0 where
-  nothing : AddUpTo [] 0
-  space : (b : ℕ) (bs : List ℕ) (n : ℕ) → is_space b ≡ true → AddUpTo bs n → AddUpTo (b ∷ bs) n
-  part : (text : List ℕ) (first n : ℕ) → IsTime (digits_of text) (unit_of text) first → AddUpTo (past_part text) n → AddUpTo text (first + n)
+abbrev pub AddUpTo : List ℕ → ℕ → Type 0
+AddUpTo text n = (times : List ℕ) × StandsForText time_front text times × (sum times ≡ n)
 
 -- the text is `infinity`, or it has one part at least and its parts add up to this
 abbrev pub IsSpan : List ℕ → TimeSpan → Type 0
 IsSpan text Infinite = text ≡ codes "infinity"
-IsSpan text (Micros n) = (is_empty (trim_start text) ≡ false) × AddUpTo text n × (n ≤ span_limit)
+IsSpan text (Micros n) = (is_blank text ≡ false) × AddUpTo text n × (n ≤ span_limit)
 
 -- ---- sets of exits
 
@@ -176,31 +179,15 @@ boolean_of text =
 unfoldable pub number_of : List ℕ → Option ℕ
 number_of text = if is_decimal text && nat_le (decimal text) number_limit then Some (decimal text) else None
 
--- the microseconds that a number and a unit say
-abbrev pub time_of : List ℕ → List ℕ → Option ℕ
-time_of digits unit = if nat_lt 0 (length digits) then option_map (λ size. decimal digits * size) (unit_size unit) else None
-
-abbrev pub sum_of : Option ℕ → Option ℕ → Option ℕ
-sum_of None other = None
-sum_of (Some n) other = option_map (λ m. n + m) other
-
--- what the parts of a text add up to, after so many bytes are skipped
-abbrev pub parts_of : ℕ → List ℕ → Option ℕ
-parts_of skip [] = Some 0
-parts_of (suc skip) (b ∷ bs) = parts_of skip bs
-parts_of zero (b ∷ bs) =
-    if is_space b then parts_of zero bs
-    else sum_of (time_of (digits_of (b ∷ bs)) (unit_of (b ∷ bs))) (parts_of (length bs - length (past_part (b ∷ bs))) bs)
-
-abbrev pub span_within : Option ℕ → Option TimeSpan
-span_within None = None
-span_within (Some n) = if nat_le n span_limit then Some (Micros n) else None
+-- the span of so many microseconds, where they aren't too many
+abbrev pub span_within : ℕ → Option TimeSpan
+span_within n = if nat_le n span_limit then Some (Micros n) else None
 
 -- the time span that the text says
 unfoldable pub span_of : List ℕ → Option TimeSpan
 span_of text =
     if bytes_eq text (codes "infinity") then Some Infinite
-    else (if is_empty (trim_start text) then None else span_within (parts_of 0 text))
+    else (if is_blank text then None else option_and_then span_within (option_map sum (reading time_front 0 text)))
 
 -- the set of the ends that the text's words tell, where each of them tells one
 unfoldable pub exits_of : List ℕ → Option (End → Bool)

@@ -16,5 +16,5 @@ pub fn trimming_at_the_end()
 
 /// A text that stands for another one piece by piece, whatever the pieces, stands for one at most.
 pub fn a_text_of_pieces_has_one_reading()
-    ensures { (front : ℕ → List ℕ → Front) (text first second : List ℕ) → StandsForText front text first → StandsForText front text second → first ≡ second }
+    ensures { (front : ℕ → List ℕ → Front ℕ) (text first second : List ℕ) → StandsForText front text first → StandsForText front text second → first ≡ second }
 {}

@@ -4,7 +4,8 @@ use Rattle.std.specs.List.{cons_option}
 use Rattle.std.proofs.lemmas.List.{append-nil, map-append}
 use Rattle.std.proofs.lemmas.List.Elements.{filter_map-append}
 use Rattle.um_model.specs.Readings.{Reading, all_read, command_reading, commands_reading, environment_reading, in_front, variable_reading, or_warning, read_in, then_read, value_reading, warning_in}
-use Rattle.um_model.specs.Words.{Command, commands_read, words_of}
+use Rattle.um_model.specs.Commands.{Command, commands_read}
+use Rattle.um_model.specs.Words.{words_of}
 use Rattle.um_model.specs.declared.warnings.WarningKind.{WarningKind}
 use Rattle.um_model.specs.declared.warnings.WarningKind.TheVariants.{UnreadableValue}
 use Rattle.um_model.specs.declared.words.WordRules.TheVariants.{Escaped}

@@ -5,7 +5,7 @@ use Rattle.um_model.specs.Resolution.{or_else}
 use Rattle.um_model.specs.Settings.{ServiceSettings}
 use Rattle.um_model.specs.Substitution.{Variable}
 use Rattle.um_model.specs.Units.{Assigned, Found, LoadedUnit, Settings, Source, Warning, assignments_in, found_unless, loading_by_file, reason_of, refused_service, refused_setting, service_settings_of, settings_of, type_of, unit_by, warnings_of}
-use Rattle.um_model.specs.Words.{Command}
+use Rattle.um_model.specs.Commands.{Command}
 use Rattle.um_model.specs.declared.names.Suffix.{Suffix}
 use Rattle.um_model.specs.declared.service.End.{End}
 use Rattle.um_model.specs.declared.settings.RestartPolicy.{RestartPolicy}

@@ -1,7 +1,8 @@
 //! Time spans.
 
 ghost use Rattle.std.specs.Prelude.{◌≡◌, ◌+◌, ◌<◌, ◌≤◌, ◌^◌, ℕ, length, IfSome, IfNone};
-ghost use Rattle.um_model.specs.Values.{IsTime, IsSpan, span_of, unit_size, digits_of, unit_of, past_part};
+ghost use Rattle.um_model.specs.Values.{IsSpan, span_of, unit_size, digits_of, unit_of, past_part};
+ghost use Rattle.um_model.proofs.ValuesLaws.{IsTime};
 ghost use Rattle.um_model.specs.declared.settings.TimeSpan as spans;
 ghost use Rattle.um_model.specs.declared.settings.TimeSpan.TheVariants.{Micros};
 

@@ -1,8 +1,9 @@
 -- What is read by the functions of the definitions is what the relations tell.
 use Rattle.std.proofs.Common.{◌≡◌, ℕ, List, map, Option, option_map, Result, Ok, Err, String, Vec, Global, IfOk, MatchOption, string_bytes}
 use Rattle.um_model.specs.declared.words.WordRules.{WordRules}
-use Rattle.um_model.specs.Words as pure
-use Rattle.um_model.specs.Words.{AreWords, words_of, AreCommands, commands_read}
+use Rattle.um_model.specs.Commands as pure
+use Rattle.um_model.specs.Commands.{AreCommands, commands_read}
+use Rattle.um_model.specs.Words.{AreWords, words_of}
 use Rattle.um_model.proofs.FindsLaws.{told_by_function}
 use Rattle.um_model.proofs.WordsLaws.{finds_words, finds_commands}
 use Rattle.um_words.specs.declared.command.Command.{Command}

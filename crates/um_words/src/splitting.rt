@@ -1,7 +1,8 @@
 //! The words of a text.
 
 ghost use Rattle.std.specs.Prelude.{◌≡◌, ℕ, List, IfOk, MatchOption, map, option_map, string_bytes};
-ghost use Rattle.um_model.specs.Words.{AreWords, read_words, words_of};
+ghost use Rattle.um_model.specs.Pieces.{reading};
+ghost use Rattle.um_model.specs.Words.{AreWords, piece_of_words, words_of};
 ghost use Rattle.um_model.specs.declared.words.WordRules.TheVariants.{Escaped, Names};
 ghost use Rattle.um_words.specs.Views.{word_of};
 
@@ -16,7 +17,7 @@ pub fn spelled<'a>(
     rules: WordRules,
     text: &'a str,
 ) -> Result<Option<Vec<Spelled<'a>>>, AllocError>
-    ensures { IfOk result (λ r. option_map (λ words. map word_of words.items) r ≡ read_words rules 0 text.now) }
+    ensures { IfOk result (λ r. option_map (λ words. map word_of words.items) r ≡ reading (piece_of_words rules) 0 text.now) }
 {
     let mut words = Vec::new(alloc);
     let mut rest = text;

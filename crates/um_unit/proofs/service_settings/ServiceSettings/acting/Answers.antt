@@ -1,7 +1,7 @@
 use Rattle.std.proofs.Common.{◌∙◌, ap, List}
 use Rattle.um_model.specs.Settings.{ServiceSettings, acting_kind, default_settings}
 use Rattle.um_model.specs.Substitution.{Variable}
-use Rattle.um_model.specs.Words.{Command}
+use Rattle.um_model.specs.Commands.{Command}
 use Rattle.um_unit.specs.ServiceView.{service_settings_of}
 use Rattle.um_words.specs.Commands.{commands_seen}
 use Rattle.um_words.specs.Environment.{variables_of}
