@@ -1,7 +1,8 @@
 -- A file is found where a chain of hops leads to it, and only there.
 use Rattle.std.proofs.Common.{◌≡◌, ◌↔◌, ℕ, zero, suc, ◌≤◌, ◌<◌, Bool, true, false, cond, List, [], ◌∷◌, length, Option, Some, None, refl, sym, ap, ◌∙◌, subst, arith}
+use Rattle.std.specs.Option.{option_map_or}
 use Rattle.um_model.specs.Names.{suffix_of}
-use Rattle.um_model.specs.Resolution.{Resolution, AtFile, AtNoFile, AtMask, Nowhere, followed, held, hop_limit, is_mask, is_served_type, needs_no_file, next_name, resolution_at, resolution_of, resolved}
+use Rattle.um_model.specs.Resolution.{Resolution, AtFile, AtNoFile, AtMask, Nowhere, held, hop_limit, is_mask, is_served_type, needs_no_file, next_name, resolution_at, resolution_of, resolved}
 use Rattle.um_model.specs.Tree.{Tree, Entry, File, Link}
 use Rattle.um_model.specs.Leads.{Hops, Leads, stays, hop, IsFoundWithin}
 
@@ -40,12 +41,12 @@ module _ (limit : ℕ) (tree : Tree) (name unit path text : List ℕ) (follow : 
     filled = subst (λ t. 0 < length t) (ap text_at e) (omega arith);
   }
 
-  at_next : (here target : List ℕ) (o : Option (List ℕ)) → held tree name ≡ Some (here, Link target) → is_mask target ≡ false → next_name name target ≡ o → followed o follow ≡ AtFile unit path text
+  at_next : (here target : List ℕ) (o : Option (List ℕ)) → held tree name ≡ Some (here, Link target) → is_mask target ≡ false → next_name name target ≡ o → option_map_or follow o Nowhere ≡ AtFile unit path text
       → IsFoundWithin limit tree name unit path text
   at_next here target None h unmasked n e = no_file Nowhere unit path text e refl
   at_next here target (Some next) h unmasked n e = later next (record { path = here; target = target; linked = h; unmasked = unmasked; leads_on = n }) e
 
-  at_link : (here target : List ℕ) (b : Bool) → held tree name ≡ Some (here, Link target) → is_mask target ≡ b → cond b (AtMask name) (followed (next_name name target) follow) ≡ AtFile unit path text
+  at_link : (here target : List ℕ) (b : Bool) → held tree name ≡ Some (here, Link target) → is_mask target ≡ b → cond b (AtMask name) (option_map_or follow (next_name name target) Nowhere) ≡ AtFile unit path text
       → IsFoundWithin limit tree name unit path text
   at_link here target true h mask e = no_file (AtMask name) unit path text e refl
   at_link here target false h unmasked e = at_next here target (next_name name target) h unmasked refl e
@@ -81,8 +82,8 @@ held_file (suc limit) tree unit path text h some = ap (λ o. resolution_at unit 
 followed_link : (limit : ℕ) (tree : Tree) (name next : List ℕ) → Hops tree name next → resolved (suc limit) tree name ≡ resolved limit tree next
 followed_link limit tree name next h =
     ap (λ o. resolution_at name o (resolved limit tree)) h.linked
-    ∙ ap (λ b. cond b (AtMask name) (followed (next_name name h.target) (resolved limit tree))) h.unmasked
-    ∙ ap (λ o. followed o (resolved limit tree)) h.leads_on
+    ∙ ap (λ b. cond b (AtMask name) (option_map_or (resolved limit tree) (next_name name h.target) Nowhere)) h.unmasked
+    ∙ ap (λ o. option_map_or (resolved limit tree) o Nowhere) h.leads_on
 
 led : (tree : Tree) (limit count : ℕ) (name unit path text : List ℕ) → Leads tree count name unit → count ≤ limit → held tree unit ≡ Some (path, File text) → 0 < length text → resolved limit tree name ≡ AtFile unit path text
 led tree limit count name unit path text (stays n) few h some = held_file limit tree n path text h some

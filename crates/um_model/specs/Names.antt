@@ -2,7 +2,7 @@
 -- Follows systemd.unit(5), "Description" and "String Escaping for Inclusion in Unit Names".
 -- The tree, unit files, requests and all that names a unit stand on this file.
 use Rattle.std.specs.Prelude.{◌≡◌, ℕ, ◌+◌, ◌-◌, ◌*◌, ◌/◌, ◌%◌, ◌≤◌, ◌<◌, nat_le, nat_lt, nat_eq, Bool, true, false, not, ◌&&◌, ◌||◌, ◌==◌}
-use Rattle.std.specs.Prelude.{List, [], ◌∷◌, ◌++◌, length, take, slice_index, Option, Some, None, is_some, if◌then◌else◌, codes, find}
+use Rattle.std.specs.Prelude.{List, [], ◌∷◌, ◌++◌, length, take, slice_index, Option, Some, None, is_some, option_map, if◌then◌else◌, codes, find}
 use Rattle.std.specs.List.{list_all, ends_with, flat_map}
 use Rattle.std.specs.Char.{digit_char, digit_value}
 use Rattle.um_model.specs.Ascii.{is_digit, is_letter}
@@ -139,14 +139,9 @@ with_instance name instance = prefix_of name ++ (64 ∷ instance ++ suffix_text_
 abbrev pub named : List ℕ → Option (List ℕ)
 named text = if is_unit_name text then Some text else None
 
--- the template of the name, where its instance is this one
-abbrev pub template_for : List ℕ → Option (List ℕ) → Option (List ℕ)
-template_for name None = None
-template_for name (Some instance) = Some (with_instance name [])
-
 -- the template of a name with an instance, empty or not
 abbrev pub template_of : List ℕ → Option (List ℕ)
-template_of name = template_for name (instance_of name)
+template_of name = option_map (λ instance. with_instance name []) (instance_of name)
 
 -- Other text in a name.
 

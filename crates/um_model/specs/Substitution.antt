@@ -3,6 +3,7 @@
 -- The start of a service's process stands on this file.
 use Rattle.std.specs.Prelude.{◌≡◌, ℕ, ◌+◌, Bool, false, ◌&&◌, ◌||◌, ◌==◌, if◌then◌else◌, List, [], ◌∷◌, ◌++◌, length, drop, reverse, find}
 use Rattle.std.specs.Prelude.{take_while, Option, Some, None, bytes_eq}
+use Rattle.std.specs.Option.{option_map_or}
 use Rattle.std.specs.List.{list_all}
 use Rattle.um_model.specs.Ascii.{is_letter, is_digit}
 use Rattle.um_model.specs.Text.{first_passes}
@@ -28,14 +29,9 @@ abbrev pub is_variable_name : List ℕ → Bool
 is_variable_name [] = false
 is_variable_name (b ∷ bs) = is_name_start b && list_all is_name_byte bs
 
--- the value of a variable that was found; an unset one is empty
-abbrev pub value_or_empty : Option Variable → List ℕ
-value_or_empty None = []
-value_or_empty (Some variable) = variable.value
-
--- the value that the environment gives the name: of equal names the later counts
+-- the value that the environment gives the name: of equal names the later counts, and an unset one is empty
 abbrev pub value_of : List Variable → List ℕ → List ℕ
-value_of environment name = value_or_empty (find (λ v. bytes_eq v.name name) (reverse environment))
+value_of environment name = option_map_or (λ v. v.value) (find (λ v. bytes_eq v.name name) (reverse environment)) []
 
 -- the name of a word that is `$NAME` whole
 abbrev pub whole_name : List ℕ → Option (List ℕ)

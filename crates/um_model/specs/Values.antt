@@ -4,6 +4,7 @@
 use Rattle.std.specs.Prelude.{◌≡◌, ℕ, ◌+◌, ◌-◌, ◌*◌, ◌≤◌, Bool, true, false, not, ◌&&◌, ◌==◌, nat_le, nat_lt}
 use Rattle.std.specs.Prelude.{List, [], ◌∷◌, length, drop, map, filter, take_while, codes, Option, Some, None, option_map, option_and_then, find, is_some, sum, if◌then◌else◌}
 use Rattle.std.specs.List.{list_any, list_all, slice_split}
+use Rattle.std.specs.Map.{lookup}
 use Rattle.std.specs.Char.{to_ascii_lowercase}
 use Rattle.std.specs.Str.{bytes_eq}
 use Rattle.um_model.specs.Moments.{span_limit}
@@ -68,13 +69,9 @@ time_units =
     ∷ (codes "d", 86400000000) ∷ (codes "day", 86400000000) ∷ (codes "days", 86400000000)
     ∷ (codes "w", 604800000000) ∷ (codes "week", 604800000000) ∷ (codes "weeks", 604800000000) ∷ []
 
--- what stands beside the name in a table
-abbrev pub number_among : {N : Type 0} → List (List ℕ × N) → List ℕ → Option N
-number_among table name = option_map (λ row. row.1) (find (λ row. bytes_eq name row.0) table)
-
 -- microseconds in a unit of time
 abbrev pub unit_size : List ℕ → Option ℕ
-unit_size unit = number_among time_units unit
+unit_size unit = lookup (bytes_eq unit) time_units
 
 -- the digits at the front of a text, as far as they go
 abbrev pub digits_of : List ℕ → List ℕ
@@ -123,7 +120,7 @@ signals =
 
 -- the number of the signal of that name
 abbrev pub signal_number : List ℕ → Option ℕ
-signal_number word = number_among signals word
+signal_number word = lookup (bytes_eq word) signals
 
 -- the end that a word tells: an exit code from 0 to 255, or a signal by its name
 abbrev pub exit_of : List ℕ → Option End

@@ -2,7 +2,8 @@
 
 ghost use Rattle.std.specs.Prelude.{◌≡◌, ◌↔◌, ℕ, List};
 ghost use Rattle.um_model.specs.Pieces.{Front, StandsForText};
-ghost use Rattle.um_model.specs.Text.{trim_start, trim_end, IsCutInFront, IsCutAtEnd};
+ghost use Rattle.um_model.specs.Text.{trim_start, trim_end};
+ghost use Rattle.um_model.proofs.TextLaws.{IsCutInFront, IsCutAtEnd};
 
 /// A text without the whitespace in front is what is left where whitespace alone is cut off there, as far as it goes.
 pub fn trimming_in_front()
