@@ -15,7 +15,6 @@ use Rattle.um_model.specs.Resolution.{is_of_same_type, UnitFile, Resolution, AtF
 use Rattle.um_model.specs.Keys.{is_foreign, is_known_section, is_refused_key, kind_of_key}
 use Rattle.um_model.specs.Readings.{text_reading, commands_reading, environment_reading, names_reading}
 use Rattle.um_model.specs.Readings.{first_warning, names_said, value_reading, instance_in}
-use Rattle.um_model.specs.Settings.{ServiceSettings}
 use Rattle.um_model.specs.Values.{boolean_of, number_of, span_of, exits_of, policy_named}
 use Rattle.um_model.specs.Commands.{Command}
 use Rattle.um_model.specs.Substitution.{Variable}
@@ -220,10 +219,40 @@ span_said value = option_map micros_in (span_of value)
 abbrev pub timeout_said : List ℕ → Option (Option ℕ)
 timeout_said value = option_map timeout_in (span_of value)
 
+-- of a service: spans are in microseconds, and one that is None never ends
+pub record ServiceSettings : Type 0 where
+  pub kind : UnitKind
+  pub start : List Command  -- ExecStart=
+  pub stop : List Command  -- ExecStop=
+  pub environment : List Variable
+  pub remains : Bool  -- RemainAfterExit=
+  pub restart : RestartPolicy
+  pub restart_delay : Option ℕ  -- RestartSec=
+  pub timeout_start : Option ℕ
+  pub timeout_stop : Option ℕ
+  pub limit_interval : Option ℕ  -- StartLimitIntervalSec=
+  pub limit_burst : ℕ  -- StartLimitBurst=
+  pub success : End → Bool  -- SuccessExitStatus=
+  pub prevents_restart : End → Bool  -- RestartPreventExitStatus=
+  pub forces_restart : End → Bool  -- RestartForceExitStatus=
+
+-- what counts where nothing is set, in microseconds and starts: 100 ms, 90 s, and 5 starts in 10 s
+abbrev pub default_restart_delay : ℕ
+default_restart_delay = 100000
+
+abbrev pub default_timeout : ℕ
+default_timeout = 90000000
+
+abbrev pub default_limit_interval : ℕ
+default_limit_interval = 10000000
+
+abbrev pub default_limit_burst : ℕ
+default_limit_burst = 5
+
 -- a oneshot service may start as long as it likes
 abbrev pub default_timeout_start : UnitKind → Option ℕ
 default_timeout_start Oneshot = None
-default_timeout_start other = Some 90000000
+default_timeout_start other = Some default_timeout
 
 -- the settings of a service of this kind with these commands
 abbrev pub service_settings_with : List Command → UnitKind → List ℕ → List Assigned → ServiceSettings
@@ -234,13 +263,15 @@ service_settings_with start kind unit assigned = record {
   environment = environment_of unit assigned;
   remains = last_read boolean_of false (values_of (in_service (codes "RemainAfterExit") ∷ []) assigned);
   restart = last_read policy_named No (values_of (in_service (codes "Restart") ∷ []) assigned);
-  restart_delay = last_read span_said (Some 100000) (values_of (in_service (codes "RestartSec") ∷ []) assigned);
+  restart_delay = last_read span_said (Some default_restart_delay) (values_of (in_service (codes "RestartSec") ∷ []) assigned);
   timeout_start =
       last_read timeout_said (default_timeout_start kind) (values_of (in_service (codes "TimeoutStartSec") ∷ in_service (codes "TimeoutSec") ∷ []) assigned);
-  timeout_stop = last_read timeout_said (Some 90000000) (values_of (in_service (codes "TimeoutStopSec") ∷ in_service (codes "TimeoutSec") ∷ []) assigned);
+  timeout_stop =
+      last_read timeout_said (Some default_timeout) (values_of (in_service (codes "TimeoutStopSec") ∷ in_service (codes "TimeoutSec") ∷ []) assigned);
   limit_interval =
-      last_read span_said (Some 10000000) (values_of (in_unit (codes "StartLimitIntervalSec") ∷ in_service (codes "StartLimitInterval") ∷ []) assigned);
-  limit_burst = last_read number_of 5 (values_of (in_unit (codes "StartLimitBurst") ∷ in_service (codes "StartLimitBurst") ∷ []) assigned);
+      last_read span_said (Some default_limit_interval)
+      (values_of (in_unit (codes "StartLimitIntervalSec") ∷ in_service (codes "StartLimitInterval") ∷ []) assigned);
+  limit_burst = last_read number_of default_limit_burst (values_of (in_unit (codes "StartLimitBurst") ∷ in_service (codes "StartLimitBurst") ∷ []) assigned);
   success = exits_in (codes "SuccessExitStatus") assigned;
   prevents_restart = exits_in (codes "RestartPreventExitStatus") assigned;
   forces_restart = exits_in (codes "RestartForceExitStatus") assigned;

@@ -122,9 +122,15 @@ signals =
 abbrev pub signal_number : List ℕ → Option ℕ
 signal_number word = lookup (bytes_eq word) signals
 
--- the end that a word tells: an exit code from 0 to 255, or a signal by its name
+-- the greatest exit code
+abbrev pub code_limit : ℕ
+code_limit = 255
+
+-- the end that a word tells: an exit code, or a signal by its name
 abbrev pub exit_of : List ℕ → Option End
-exit_of word = if is_decimal word then (if nat_le (decimal word) 255 then Some (Code (decimal word)) else None) else option_map Signal (signal_number word)
+exit_of word =
+    if is_decimal word then (if nat_le (decimal word) code_limit then Some (Code (decimal word)) else None)
+    else option_map Signal (signal_number word)
 
 -- the pieces between spaces and tabs, but for empty ones
 abbrev pub words_in : List ℕ → List (List ℕ)

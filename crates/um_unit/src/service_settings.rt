@@ -4,6 +4,7 @@ ghost use Rattle.um_unit.specs.ServiceView.{service_settings_of};
 ghost use Rattle.um_words.specs.Commands.{commands_seen};
 ghost use Rattle.um_words.specs.Environment.{variables_of};
 
+use crate::settings::default_timeout_start;
 use std::alloc::{AllocError, Global};
 use um_model::{RestartPolicy, Span, UnitKind};
 use um_value::ExitSet;
@@ -43,8 +44,8 @@ pub struct ServiceSettings {
 }
 
 impl ServiceSettings {
-    /// What the service table acts on where no setting counts: no commands, no restart, time-outs of 90 seconds, and starts that
-    /// aren't limited. It takes no memory.
+    /// What the service table acts on where no setting counts: what a unit has that sets nothing, but that starts aren't limited.
+    /// It takes no memory.
     pub fn new(alloc: Global, kind: UnitKind) -> ServiceSettings
         ensures { service_settings_of result ≡ default_settings kind }
     {
@@ -56,7 +57,7 @@ impl ServiceSettings {
             remains: false,
             restart: RestartPolicy::No,
             restart_delay: Some(Span::from_micros(100_000)),
-            timeout_start: Some(Span::from_micros(90_000_000)),
+            timeout_start: default_timeout_start(kind),
             timeout_stop: Some(Span::from_micros(90_000_000)),
             limit_interval: Some(Span::from_micros(0)),
             limit_burst: 5,
