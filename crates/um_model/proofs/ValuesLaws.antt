@@ -11,11 +11,11 @@ use Rattle.std.proofs.lemmas.Option.{same_Some, none-some}
 use Rattle.std.proofs.lemmas.Bool.{cases_Bool, cond-true, cond-false, and_from, and_parts, or_cases, not-true, eqb-true, lt-ltb, ltb-true, le-leb, leb-true, false_from_ne_true, true≢false}
 use Rattle.std.proofs.lemmas.Slice.Eq.{bytes_eq-Decides}
 use Rattle.um_model.specs.Ascii.{is_space, is_digit}
-use Rattle.um_model.specs.Pieces.{front_of, done, reading}
+use Rattle.um_model.specs.Pieces.{front_of, StandsForText, done, reading}
 use Rattle.um_model.specs.Text.{trim_start, is_empty, is_blank}
 use Rattle.um_model.specs.Finds.{Finds}
 use Rattle.um_model.specs.Moments.{span_limit}
-use Rattle.um_model.specs.Values.{words_for, is_same_in_any_case, IsBoolean, boolean_of, decimal, is_decimal, number_limit, IsNumber, number_of, unit_size, digits_of, unit_of, past_part, AddUpTo, IsSpan, time_of, time_front, span_within, span_of, words_in, tells_end, is_exit, IsExitSet, exits_of, restart_text, policies, policy_named}
+use Rattle.um_model.specs.Values.{words_for, is_same_in_any_case, boolean_of, decimal, is_decimal, number_limit, number_of, unit_size, digits_of, unit_of, past_part, time_of, time_front, span_within, span_of, words_in, tells_end, is_exit, exits_of, restart_text, policies, policy_named}
 use Rattle.um_model.specs.declared.service.End.{End}
 use Rattle.um_model.specs.declared.settings.RestartPolicy.{RestartPolicy}
 use Rattle.um_model.specs.declared.settings.RestartPolicy.TheVariants.{No, Always, OnSuccess, OnFailure, OnAbnormal, OnAbort, OnWatchdog}
@@ -24,6 +24,34 @@ use Rattle.um_model.proofs.PiecesLaws.{prefixed, read_by_front, prefixed-nil, re
 use Rattle.um_model.proofs.TextLaws.{trim_start_cuts}
 use Rattle.um_model.specs.declared.settings.TimeSpan.{TimeSpan}
 use Rattle.um_model.specs.declared.settings.TimeSpan.TheVariants.{Micros, Infinite}
+
+-- ---- the values as relations
+
+-- the text is one of the words for this truth value, in any ASCII case
+abbrev pub IsBoolean : List ℕ → Bool → Type 0
+IsBoolean text b = list_any (is_same_in_any_case text) (words_for b) ≡ true
+
+-- the text spells this number, which isn't too great
+pub record IsNumber (text : List ℕ) (n : ℕ) : Type 0 where
+  pub digits : is_decimal text ≡ true
+  pub value : n ≡ decimal text
+  pub limit : n ≤ number_limit
+
+-- the text is a sequence of parts, with whitespace between them as one likes; together they are so many microseconds
+abbrev pub AddUpTo : List ℕ → ℕ → Type 0
+AddUpTo text n = (times : List ℕ) × StandsForText time_front text times × (sum times ≡ n)
+
+-- the text is `infinity`, or it has one part at least and its parts add up to this
+abbrev pub IsSpan : List ℕ → TimeSpan → Type 0
+IsSpan text Infinite = text ≡ codes "infinity"
+IsSpan text (Micros n) = (is_blank text ≡ false) × AddUpTo text n × (n ≤ span_limit)
+
+-- each word of the text tells an end, and the set holds the ends that they tell and no other
+pub record IsExitSet (text : List ℕ) (holds : End → Bool) : Type 0 where
+  pub readable : list_all is_exit (words_in text) ≡ true
+  pub exact : (end : End) → holds end ≡ tells_end text end
+
+-- ---- the laws
 
 -- a run of digits doesn't begin with whitespace
 no_space_first : (b : ℕ) (bs : List ℕ) → 0 < length (digits_of (b ∷ bs)) → is_space b ≡ true → ⊥

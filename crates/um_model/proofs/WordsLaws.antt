@@ -3,8 +3,7 @@ use Rattle.std.proofs.Common.{◌≡◌, ◌<◌, ◌≤◌, ℕ, zero, suc, ◌
 use Rattle.std.specs.Prelude.{IfSome, ◌&&◌, nat_lt}
 use Rattle.std.specs.Option.{option_map_or}
 use Rattle.std.specs.List.{prefix_len, flat_map, slice_split, onto_first}
-use Rattle.std.proofs.lemmas.List.{drop-drop, length-drop, length-append, take-append-drop}
-use Rattle.std.proofs.Math.Seq.{drop-append_seam}
+use Rattle.std.proofs.lemmas.List.{drop-drop, length-drop, take-append-drop}
 use Rattle.std.proofs.lemmas.Bool.{cases_Bool, true≢false, cond-true, cond-false, or_parts, or_cases, not-true, not-false, eqb-true}
 use Rattle.std.proofs.lemmas.Option.{some_pair_parts, none-some, same_Some}
 use Rattle.um_model.specs.Ascii.{is_space}
@@ -14,7 +13,7 @@ use Rattle.um_model.specs.declared.words.WordRules.TheVariants.{Escaped, Plain, 
 pub use Rattle.um_model.specs.Words.{with_front, at_end, by_spelling, read}
 use Rattle.um_model.proofs.FindsLaws.{one_found}
 use Rattle.um_model.specs.Words.{is_quote, Spelling, Stop, Bad, Turn, Means, Kept, begins_escape, meaning_of, hex_value, hex_spelling, is_left_out, rare_escape, escape, bare, spelled_at, may_end, Word, before, word_front, piece_of_words, values_of, AreWords, words_of}
-use Rattle.um_model.specs.Commands.{Command, is_separator, value_in_command, command_of, commands_of, AreCommands, commands_read}
+use Rattle.um_model.specs.Commands.{Command, is_separator, value_in_command, command_of, commands_of, commands_read}
 use Rattle.um_model.specs.Pieces.{StandsForText, reading}
 use Rattle.um_model.proofs.PiecesLaws.{prefixed, read_by_front, reading_first, reading-StandsForText, StandsForText-reading, prefixed-nil, Follows, past_piece}
 
@@ -304,6 +303,10 @@ unfolding words_of
 AreWords-words_of rules text words e =
     let t = mapped values_of (reading (piece_of_words rules) 0 text) words e in
     (t.0, StandsForText-reading (piece_of_words rules) text t.0 t.1, t.2)
+
+-- the text reads as these commands
+abbrev pub AreCommands : List ℕ → List Command → Type 0
+AreCommands text commands = (spelled : List Word) × StandsForText (piece_of_words Escaped) text spelled × (commands_of spelled ≡ commands)
 
 -- and of commands
 pub commands_read-AreCommands : (text : List ℕ) (commands : List Command) → AreCommands text commands → commands_read text ≡ Some commands

@@ -1,9 +1,9 @@
 -- Words as commands.
 -- Follows systemd.service(5), "Command lines".
 -- The settings of units and the start of a process stand on this file.
-use Rattle.std.specs.Prelude.{◌≡◌, ℕ, Bool, false, not, ◌||◌, ◌==◌, if◌then◌else◌, List, [], ◌∷◌, length, map, drop, take_while, Option, option_map, bytes_eq}
+use Rattle.std.specs.Prelude.{ℕ, Bool, false, not, ◌||◌, ◌==◌, if◌then◌else◌, List, [], ◌∷◌, length, map, drop, take_while, Option, option_map, bytes_eq}
 use Rattle.std.specs.List.{list_any, flat_map, slice_split}
-use Rattle.um_model.specs.Pieces.{StandsForText, reading}
+use Rattle.um_model.specs.Pieces.{reading}
 use Rattle.um_model.specs.Words.{Word, piece_of_words}
 use Rattle.um_model.specs.declared.words.WordRules.TheVariants.{Escaped}
 
@@ -42,10 +42,6 @@ command_of (first ∷ others) =
 -- the commands of words, parted at each separator
 abbrev pub commands_of : List Word → List Command
 commands_of words = flat_map (λ part. command_of (map value_in_command part)) (slice_split is_separator words)
-
--- the text reads as these commands
-abbrev pub AreCommands : List ℕ → List Command → Type 0
-AreCommands text commands = (spelled : List Word) × StandsForText (piece_of_words Escaped) text spelled × (commands_of spelled ≡ commands)
 
 -- the commands that the text reads as, where it can be read
 unfoldable pub commands_read : List ℕ → Option (List Command)

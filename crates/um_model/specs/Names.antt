@@ -3,6 +3,7 @@
 -- The tree, unit files, requests and all that names a unit stand on this file.
 use Rattle.std.specs.Prelude.{◌≡◌, ℕ, ◌+◌, ◌-◌, ◌*◌, ◌/◌, ◌%◌, ◌≤◌, ◌<◌, nat_le, nat_lt, nat_eq, Bool, true, false, not, ◌&&◌, ◌||◌, ◌==◌}
 use Rattle.std.specs.Prelude.{List, [], ◌∷◌, ◌++◌, length, take, slice_index, Option, Some, None, is_some, option_map, if◌then◌else◌, codes, find}
+use Rattle.std.specs.Option.{option_map_or}
 use Rattle.std.specs.List.{list_all, ends_with, flat_map}
 use Rattle.std.specs.Char.{digit_char, digit_value}
 use Rattle.um_model.specs.Ascii.{is_digit, is_letter}
@@ -117,14 +118,9 @@ is_stem text = nat_lt 0 (length text) && not (slice_index text 0 == 64) && list_
 unfoldable pub is_unit_name : List ℕ → Bool
 is_unit_name text = nat_le (length text) name_limit && is_some (suffix_of text) && is_stem (stem_of text)
 
--- there is an instance, and it is empty
-abbrev pub is_empty_instance : Option (List ℕ) → Bool
-is_empty_instance None = false
-is_empty_instance (Some instance) = length instance == 0
-
 -- the name is a template: it has an `@` and an empty instance
 abbrev pub is_template : List ℕ → Bool
-is_template name = is_empty_instance (instance_of name)
+is_template name = option_map_or (λ instance. length instance == 0) (instance_of name) false
 
 -- the text of a suffix, where there is one
 abbrev pub suffix_text_of : Option Suffix → List ℕ

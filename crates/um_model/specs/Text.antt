@@ -1,7 +1,7 @@
 -- A text without the spaces and tabs at its ends.
 -- Follows systemd.syntax(7) in what counts as whitespace.
 -- Unit files, values and words stand on this file.
-use Rattle.std.specs.Prelude.{ℕ, ◌-◌, Bool, true, false, List, [], ◌∷◌, ◌++◌, length, take, reverse, if◌then◌else◌}
+use Rattle.std.specs.Prelude.{ℕ, ◌-◌, Bool, true, false, List, [], ◌∷◌, length, take, reverse, if◌then◌else◌}
 use Rattle.um_model.specs.Ascii.{is_space}
 
 -- without the whitespace in front

@@ -60,9 +60,7 @@ pub record Assigned : Type 0 where
 abbrev pub assigned_by : Option Suffix → Option (List ℕ) → Item → List Assigned
 assigned_by type (Some section) (Assignment key value line whole) =
     if is_known_section type section then record { section = section; key = key; value = value } ∷ [] else []
-assigned_by type (Some section) (Section name line) = []
-assigned_by type (Some section) (Warned warning line) = []
-assigned_by type None item = []
+assigned_by type section other = []
 
 -- the assignments of a unit's files as one list, in the order in which they are read
 abbrev pub assignments_in : Option Suffix → List Source → List Assigned
