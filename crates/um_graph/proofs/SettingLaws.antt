@@ -4,7 +4,9 @@ use Rattle.std.specs.Prelude.{filter_map}
 use Rattle.std.specs.List.{cons_option}
 use Rattle.um_model.specs.Dependencies.{loadable_of, loadable_in, names_in}
 use Rattle.um_model.specs.Names.{is_template, is_unit_name, suffix_of}
-use Rattle.um_model.specs.Readings.{Reading, names_reading, names_said, read_in, text_reading, then_read, unit_reading, unit_readings}
+use Rattle.std.specs.Result.{result_ok}
+use Rattle.um_model.specs.declared.warnings.WarningKind.{WarningKind}
+use Rattle.um_model.specs.Readings.{Reading, names_reading, names_said, text_reading, then_read, unit_reading, unit_readings}
 use Rattle.um_model.specs.Resolution.{Resolution, AtFile, AtNoFile, AtMask, Nowhere, resolution_of}
 use Rattle.um_model.specs.Tree.{Tree}
 use Rattle.um_model.specs.Units.{Assigned, Dependencies, LoadedUnit, Loading, Found, Masked, NotFound, BadSetting, Source, assignments_in, dependencies_of, found_unless, in_unit, load, loading_at, reason_of, sources_at, unit_by, units_named, values_of, without_install}
@@ -17,25 +19,25 @@ use Rattle.um_graph.proofs.ListLaws.{flat_contains, in_none, in_cons}
 
 -- ---- what a value tells
 module _ (fits : List ℕ → Bool) (unit : List ℕ) where
-  tested : (text y : List ℕ) (b : Bool) → fits text ≡ b → read_in {A = List ℕ} (if b then Ok text else Err UnreadableValue) ≡ Some y → fits y ≡ true
+  tested : (text y : List ℕ) (b : Bool) → fits text ≡ b → result_ok {T = List ℕ} {E = WarningKind} (if b then Ok text else Err UnreadableValue) ≡ Some y → fits y ≡ true
   tested text y true t h = let same : text ≡ y = cc in sym (ap fits same) ∙ t
   tested text y false t h = cc
 
-  read_fits : (word y : List ℕ) → read_in (unit_reading fits unit word) ≡ Some y → fits y ≡ true
+  read_fits : (word y : List ℕ) → result_ok (unit_reading fits unit word) ≡ Some y → fits y ≡ true
   read_fits word y h = by (text_reading unit word) h
     where
-      by : (r : Reading (List ℕ)) → read_in (then_read r (λ text. if fits text then Ok text else Err UnreadableValue)) ≡ Some y → fits y ≡ true
+      by : (r : Reading (List ℕ)) → result_ok (then_read r (λ text. if fits text then Ok text else Err UnreadableValue)) ≡ Some y → fits y ≡ true
       by (Err w) h = cc
       by (Ok text) h = tested text y (fits text) refl h
 
-  words_fit : (words : List (List ℕ)) (y : List ℕ) → Contains (filter_map read_in (map (unit_reading fits unit) words)) y → fits y ≡ true
+  words_fit : (words : List (List ℕ)) (y : List ℕ) → Contains (filter_map result_ok (map (unit_reading fits unit) words)) y → fits y ≡ true
   words_fit [] y c = absurd (in_none y c)
-  words_fit (word ∷ words) y c = by (read_in (unit_reading fits unit word)) refl (words_fit words y) c
+  words_fit (word ∷ words) y c = by (result_ok (unit_reading fits unit word)) refl (words_fit words y) c
     where
-      by : (o : Option (List ℕ)) → read_in (unit_reading fits unit word) ≡ o → (Contains (filter_map read_in (map (unit_reading fits unit) words)) y → fits y ≡ true)
-          → Contains (cons_option o (filter_map read_in (map (unit_reading fits unit) words))) y → fits y ≡ true
+      by : (o : Option (List ℕ)) → result_ok (unit_reading fits unit word) ≡ o → (Contains (filter_map result_ok (map (unit_reading fits unit) words)) y → fits y ≡ true)
+          → Contains (cons_option o (filter_map result_ok (map (unit_reading fits unit) words))) y → fits y ≡ true
       by None e rest c = rest c
-      by (Some z) e rest c = elim (in_cons z (filter_map read_in (map (unit_reading fits unit) words)) y c) as (λ _. fits y ≡ true) [
+      by (Some z) e rest c = elim (in_cons z (filter_map result_ok (map (unit_reading fits unit) words)) y c) as (λ _. fits y ≡ true) [
         | inl same ↦ read_fits word y (e ∙ ap Some same)
         | inr later ↦ rest later
       ]
@@ -44,7 +46,7 @@ module _ (fits : List ℕ → Bool) (unit : List ℕ) where
   unfolding names_reading
   value_fits value y c = by (words_of Names value) c
     where
-      by : (o : Option (List (List ℕ))) → Contains (filter_map read_in (unit_readings fits unit o)) y → fits y ≡ true
+      by : (o : Option (List (List ℕ))) → Contains (filter_map result_ok (unit_readings fits unit o)) y → fits y ≡ true
       by None c = absurd (in_none y c)
       by (Some words) c = words_fit words y c
 

@@ -3,7 +3,9 @@ use Rattle.std.proofs.Common.{◌≡◌, ◌∙◌, ℕ, Bool, true, false, cond
 use Rattle.std.specs.List.{filter_map}
 use Rattle.um_model.specs.Install.{install_of}
 use Rattle.um_model.specs.Names.{is_unit_name}
-use Rattle.um_model.specs.Readings.{Reading, read_in, then_read, text_reading, unit_reading, unit_readings, names_reading, names_said}
+use Rattle.std.specs.Result.{result_ok}
+use Rattle.um_model.specs.declared.warnings.WarningKind.{WarningKind}
+use Rattle.um_model.specs.Readings.{Reading, then_read, text_reading, unit_reading, unit_readings, names_reading, names_said}
 use Rattle.um_model.specs.Resolution.{Resolution, AtFile, AtNoFile, AtMask, Nowhere, resolution_of}
 use Rattle.um_model.specs.Tree.{Tree}
 use Rattle.um_model.specs.Units.{Assigned, LoadedUnit, load, loading_at, found_unless, name_in, unit_named, install_settings_of, names_of, unit_by, sources_at, assignments_in}
@@ -28,20 +30,20 @@ none_in name (k, h, e) = omega arith
 
 -- what is read of a word is a name that fits
 module _ (fits : List ℕ → Bool) (unit : List ℕ) where
-  by_test : (b : Bool) (text name : List ℕ) → fits text ≡ b → read_in {A = List ℕ} (cond b (Ok text) (Err UnreadableValue)) ≡ Some name → fits name ≡ true
+  by_test : (b : Bool) (text name : List ℕ) → fits text ≡ b → result_ok {T = List ℕ} {E = WarningKind} (cond b (Ok text) (Err UnreadableValue)) ≡ Some name → fits name ≡ true
   by_test true text name t e = ap fits (sym (same_Some text name e)) ∙ t
   by_test false text name t e = absurd (none-some name e)
 
-  by_reading : (r : Reading (List ℕ)) (name : List ℕ) → read_in (then_read r (λ text. cond (fits text) (Ok text) (Err UnreadableValue))) ≡ Some name → fits name ≡ true
+  by_reading : (r : Reading (List ℕ)) (name : List ℕ) → result_ok (then_read r (λ text. cond (fits text) (Ok text) (Err UnreadableValue))) ≡ Some name → fits name ≡ true
   by_reading (Ok text) name e = by_test (fits text) text name refl e
   by_reading (Err w) name e = absurd (none-some name e)
 
-  in_words : (words : Option (List (List ℕ))) (name : List ℕ) → Contains (filter_map read_in (unit_readings fits unit words)) name → fits name ≡ true
+  in_words : (words : Option (List (List ℕ))) (name : List ℕ) → Contains (filter_map result_ok (unit_readings fits unit words)) name → fits name ≡ true
   in_words None name c = absurd (none_in name c)
   in_words (Some words) name c =
-      let r = filter_map_contains read_in (each (unit_reading fits unit) words) name c in
+      let r = filter_map_contains result_ok (each (unit_reading fits unit) words) name c in
       let w = each_contains (unit_reading fits unit) words r.0 r.1 in
-      by_reading (text_reading unit w.0) name (ap read_in w.2 ∙ r.2)
+      by_reading (text_reading unit w.0) name (ap result_ok w.2 ∙ r.2)
 
   in_value : (value name : List ℕ) → Contains (names_said fits unit value) name → fits name ≡ true
   unfolding names_reading

@@ -7,7 +7,8 @@ use denote.Enum.Bare.{sameb, same_true, same_false}
 use Rattle.um_model.specs.Dependencies.{loadable_in, shutdown_target, names_in, Says, Links, has_defaults, Gives, Declares, Mentions}
 use Rattle.um_model.specs.Dependencies as model
 use Rattle.um_model.specs.Names.{is_unit_name, suffix_of, stem_of}
-use Rattle.um_model.specs.Readings.{Reading, read_in, then_read, text_reading, unit_reading, unit_readings, names_reading, names_said}
+use Rattle.std.specs.Result.{result_ok}
+use Rattle.um_model.specs.Readings.{Reading, then_read, text_reading, unit_reading, unit_readings, names_reading, names_said}
 use Rattle.um_model.specs.Resolution.{Resolution, AtFile, AtNoFile, AtMask, Nowhere, resolution_of}
 use Rattle.um_model.specs.Tree.{Tree, Entry, File, Link, PathParts, Place, Unit as Itself, DropIn, Wants, Requires, path_parts, is_fit_place, is_plain_name, are_fit}
 use Rattle.um_model.specs.Units.{Source, Assigned, Dependencies, LoadedUnit, Loading, Found, names_of, dependencies_of, assignments_in, unit_by, found_unless, loading_at, sources_at, load, unit_named}
@@ -123,11 +124,11 @@ module _ (tree : Tree) (kind : DependencyKind) (x y : List ℕ) where
 
 -- ---- the names in settings are unit names
 
-read_fits : (fits : List ℕ → Bool) (name : List ℕ) (r : Reading (List ℕ)) → read_in (then_read r (λ text. cond (fits text) (Ok text) (Err UnreadableValue))) ≡ Some name → fits name ≡ true
+read_fits : (fits : List ℕ → Bool) (name : List ℕ) (r : Reading (List ℕ)) → result_ok (then_read r (λ text. cond (fits text) (Ok text) (Err UnreadableValue))) ≡ Some name → fits name ≡ true
 read_fits fits name (Err warning) is = absurd (none-some name is)
 read_fits fits name (Ok text) is = by_test (fits text) refl is
   where
-    by_test : (b : Bool) → fits text ≡ b → read_in (cond b (Ok text) (Err UnreadableValue)) ≡ Some name → fits name ≡ true
+    by_test : (b : Bool) → fits text ≡ b → result_ok (cond b (Ok text) (Err UnreadableValue)) ≡ Some name → fits name ≡ true
     by_test true fit same = subst (λ t. fits t ≡ true) (same_Some text name same) fit
     by_test false unfit none = absurd (none-some name none)
 
@@ -135,12 +136,12 @@ names_fit : (fits : List ℕ → Bool) (unit : List ℕ) (values : List (List �
 unfolding names_reading
 names_fit fits unit values name is = let value = from_flat_map (names_said fits unit) values name is in by_words (words_of Names value.0) value.2
   where
-    by_words : (o : Option (List (List ℕ))) → Among (filter_map read_in (unit_readings fits unit o)) name → fits name ≡ true
+    by_words : (o : Option (List (List ℕ))) → Among (filter_map result_ok (unit_readings fits unit o)) name → fits name ≡ true
     by_words None none = absurd none
     by_words (Some words) among =
-        let reading = from_filter_map read_in (each (unit_reading fits unit) words) name among in
+        let reading = from_filter_map result_ok (each (unit_reading fits unit) words) name among in
         let word = from_map (unit_reading fits unit) words reading.0 reading.1 in
-        read_fits fits name (text_reading unit word.0) (sym (ap read_in word.2) ∙ reading.2)
+        read_fits fits name (text_reading unit word.0) (sym (ap result_ok word.2) ∙ reading.2)
 
 -- all units that the settings name to depend on, or to be before or after, have unit names
 pub record AreNames (d : Dependencies) : Type 0 where

@@ -1,111 +1,78 @@
--- A file is found where a chain of hops leads to it, and only there.
-use Rattle.std.proofs.Common.{◌≡◌, ◌↔◌, ℕ, zero, suc, ◌≤◌, ◌<◌, Bool, true, false, cond, List, [], ◌∷◌, length, Option, Some, None, refl, sym, ap, ◌∙◌, subst, arith}
+-- Where a name leads is what a chain of hops tells, and only that.
+use Rattle.std.proofs.Common.{◌≡◌, ◌↔◌, ℕ, zero, suc, ◌<◌, Bool, true, false, cond, List, [], ◌∷◌, length, Option, Some, None, refl, sym, ap, ◌∙◌, subst, arith}
+use Rattle.std.specs.Option.{option_map_or}
 use Rattle.um_model.specs.Names.{suffix_of}
-use Rattle.um_model.specs.Resolution.{Resolution, AtFile, AtNoFile, AtMask, Nowhere, followed, held, hop_limit, is_mask, is_served_type, needs_no_file, next_name, resolution_at, resolution_of, resolved}
+use Rattle.um_model.specs.Resolution.{Resolution, AtFile, AtNoFile, AtMask, Nowhere, held, hop_limit, is_mask, is_served_type, needs_no_file, next_name, resolution_at, resolution_of, resolved}
 use Rattle.um_model.specs.Tree.{Tree, Entry, File, Link}
-use Rattle.um_model.specs.Leads.{Hops, Leads, stays, hop, IsFoundWithin}
+use Rattle.um_model.specs.Leads.{Hops, EndsAt, at_file, at_empty_file, at_mask, at_no_file, at_nothing, at_no_name, Leads, ends, hop, too_far}
 
--- what the parts of a file's resolution are
-abbrev unit_at : Resolution → List ℕ
-unit_at (AtFile unit path text) = unit
-unit_at other = []
+-- what is told goes the way of the function, if it does where a hop goes on
+module _ (limit : ℕ) (tree : Tree) (name : List ℕ) (follow : List ℕ → Resolution) (later : (next : List ℕ) → Hops tree name next → Leads tree limit name (follow next)) where
+  leads_nothing : (b : Bool) → held tree name ≡ None → needs_no_file name ≡ b → Leads tree limit name (cond b (AtNoFile name) Nowhere)
+  leads_nothing true h e = ends limit name (AtNoFile name) (at_no_file name h e)
+  leads_nothing false h e = ends limit name Nowhere (at_nothing name h e)
 
-abbrev path_at : Resolution → List ℕ
-path_at (AtFile unit path text) = path
-path_at other = []
+  leads_next : (path target : List ℕ) (o : Option (List ℕ)) → held tree name ≡ Some (path, Link target) → is_mask target ≡ false → next_name name target ≡ o
+      → Leads tree limit name (option_map_or follow o Nowhere)
+  leads_next path target None h unmasked e = ends limit name Nowhere (at_no_name name path target h unmasked e)
+  leads_next path target (Some next) h unmasked e = later next (record { path = path; target = target; linked = h; unmasked = unmasked; leads_on = e })
 
-abbrev text_at : Resolution → List ℕ
-text_at (AtFile unit path text) = text
-text_at other = []
+  leads_link : (path target : List ℕ) (b : Bool) → held tree name ≡ Some (path, Link target) → is_mask target ≡ b
+      → Leads tree limit name (cond b (AtMask name) (option_map_or follow (next_name name target) Nowhere))
+  leads_link path target true h mask = ends limit name (AtMask name) (at_mask name path target h mask)
+  leads_link path target false h unmasked = leads_next path target (next_name name target) h unmasked refl
 
-abbrev is_file : Resolution → Bool
-is_file (AtFile unit path text) = true
-is_file other = false
+  leads_at : (o : Option (List ℕ × Entry)) → held tree name ≡ o → Leads tree limit name (resolution_at name o follow)
+  leads_at None h = leads_nothing (needs_no_file name) h refl
+  leads_at (Some (path, File [])) h = ends limit name (AtMask name) (at_empty_file name path h)
+  leads_at (Some (path, File (b ∷ bs))) h = ends limit name (AtFile name path (b ∷ bs)) (at_file name path (b ∷ bs) h (omega arith))
+  leads_at (Some (path, Link target)) h = leads_link path target (is_mask target) h refl
 
-no_file : {A : Type 0} (r : Resolution) (unit path text : List ℕ) → r ≡ AtFile unit path text → is_file r ≡ false → A
-no_file r unit path text e none = absurd (let both : false ≡ true = sym none ∙ ap is_file e in cc)
-
-module _ (limit : ℕ) (tree : Tree) (name unit path text : List ℕ) (follow : List ℕ → Resolution)
-    (later : (next : List ℕ) → Hops tree name next → follow next ≡ AtFile unit path text → IsFoundWithin limit tree name unit path text) where
-  at_nothing : (b : Bool) → cond b (AtNoFile name) Nowhere ≡ AtFile unit path text → IsFoundWithin limit tree name unit path text
-  at_nothing true e = no_file (AtNoFile name) unit path text e refl
-  at_nothing false e = no_file Nowhere unit path text e refl
-
-  at_file : (here : List ℕ) (b : ℕ) (bs : List ℕ) → held tree name ≡ Some (here, File (b ∷ bs)) → AtFile name here (b ∷ bs) ≡ AtFile unit path text → IsFoundWithin limit tree name unit path text
-  at_file here b bs h e = record {
-    count = 0;
-    few = omega arith;
-    leads = subst (λ u. Leads tree 0 name u) (ap unit_at e) (stays name);
-    holds = ap (held tree) (sym (ap unit_at e)) ∙ (h ∙ ap (λ r. Some (path_at r, File (text_at r))) e);
-    filled = subst (λ t. 0 < length t) (ap text_at e) (omega arith);
-  }
-
-  at_next : (here target : List ℕ) (o : Option (List ℕ)) → held tree name ≡ Some (here, Link target) → is_mask target ≡ false → next_name name target ≡ o → followed o follow ≡ AtFile unit path text
-      → IsFoundWithin limit tree name unit path text
-  at_next here target None h unmasked n e = no_file Nowhere unit path text e refl
-  at_next here target (Some next) h unmasked n e = later next (record { path = here; target = target; linked = h; unmasked = unmasked; leads_on = n }) e
-
-  at_link : (here target : List ℕ) (b : Bool) → held tree name ≡ Some (here, Link target) → is_mask target ≡ b → cond b (AtMask name) (followed (next_name name target) follow) ≡ AtFile unit path text
-      → IsFoundWithin limit tree name unit path text
-  at_link here target true h mask e = no_file (AtMask name) unit path text e refl
-  at_link here target false h unmasked e = at_next here target (next_name name target) h unmasked refl e
-
-  found_at : (o : Option (List ℕ × Entry)) → held tree name ≡ o → resolution_at name o follow ≡ AtFile unit path text → IsFoundWithin limit tree name unit path text
-  found_at None h e = at_nothing (needs_no_file name) e
-  found_at (Some (here, File [])) h e = no_file (AtMask name) unit path text e refl
-  found_at (Some (here, File (b ∷ bs))) h e = at_file here b bs h e
-  found_at (Some (here, Link target)) h e = at_link here target (is_mask target) h refl e
-
-one_more : (limit : ℕ) (tree : Tree) (name next unit path text : List ℕ) → Hops tree name next → IsFoundWithin limit tree next unit path text → IsFoundWithin (suc limit) tree name unit path text
-one_more limit tree name next unit path text first found = record {
-  count = suc found.count;
-  few = let few = found.few in omega arith;
-  leads = hop found.count name next unit first found.leads;
-  holds = found.holds;
-  filled = found.filled;
-}
-
-found : (limit : ℕ) (tree : Tree) (name unit path text : List ℕ) → resolved limit tree name ≡ AtFile unit path text → IsFoundWithin limit tree name unit path text
-found zero tree name unit path text e = found_at zero tree name unit path text (λ other. Nowhere) (λ next h f. no_file Nowhere unit path text f refl) (held tree name) refl e
-found (suc limit) tree name unit path text e =
-    found_at (suc limit) tree name unit path text (resolved limit tree) (λ next h f. one_more limit tree name next unit path text h (found limit tree next unit path text f)) (held tree name) refl e
+-- the function tells where a name leads
+pub leads_resolved : (limit : ℕ) (tree : Tree) (name : List ℕ) → Leads tree limit name (resolved limit tree name)
+leads_resolved zero tree name = leads_at zero tree name (λ other. Nowhere) (λ next h. too_far name next h) (held tree name) refl
+leads_resolved (suc limit) tree name =
+    leads_at (suc limit) tree name (resolved limit tree) (λ next h. hop limit name next (resolved limit tree next) h (leads_resolved limit tree next)) (held tree name) refl
 
 filled_file : (unit path text : List ℕ) (follow : List ℕ → Resolution) → 0 < length text → resolution_at unit (Some (path, File text)) follow ≡ AtFile unit path text
 filled_file unit path [] follow some = absurd (omega arith)
 filled_file unit path (b ∷ bs) follow some = refl
 
-held_file : (limit : ℕ) (tree : Tree) (unit path text : List ℕ) → held tree unit ≡ Some (path, File text) → 0 < length text → resolved limit tree unit ≡ AtFile unit path text
-held_file zero tree unit path text h some = ap (λ o. resolution_at unit o (λ other. Nowhere)) h ∙ filled_file unit path text (λ other. Nowhere) some
-held_file (suc limit) tree unit path text h some = ap (λ o. resolution_at unit o (resolved limit tree)) h ∙ filled_file unit path text (resolved limit tree) some
+-- an end is one whatever would follow
+ended : (tree : Tree) (name : List ℕ) (end : Resolution) (follow : List ℕ → Resolution) → EndsAt tree name end → resolution_at name (held tree name) follow ≡ end
+ended tree name end follow (at_file unit path text h some) = ap (λ o. resolution_at unit o follow) h ∙ filled_file unit path text follow some
+ended tree name end follow (at_empty_file unit path h) = ap (λ o. resolution_at unit o follow) h
+ended tree name end follow (at_mask unit path target h mask) =
+    ap (λ o. resolution_at unit o follow) h ∙ ap (λ b. cond b (AtMask unit) (option_map_or follow (next_name unit target) Nowhere)) mask
+ended tree name end follow (at_no_file unit h e) = ap (λ o. resolution_at unit o follow) h ∙ ap (λ b. cond b (AtNoFile unit) Nowhere) e
+ended tree name end follow (at_nothing unit h e) = ap (λ o. resolution_at unit o follow) h ∙ ap (λ b. cond b (AtNoFile unit) Nowhere) e
+ended tree name end follow (at_no_name unit path target h unmasked e) =
+    ap (λ o. resolution_at unit o follow) h
+    ∙ (ap (λ b. cond b (AtMask unit) (option_map_or follow (next_name unit target) Nowhere)) unmasked ∙ ap (λ o. option_map_or follow o Nowhere) e)
 
-followed_link : (limit : ℕ) (tree : Tree) (name next : List ℕ) → Hops tree name next → resolved (suc limit) tree name ≡ resolved limit tree next
-followed_link limit tree name next h =
-    ap (λ o. resolution_at name o (resolved limit tree)) h.linked
-    ∙ ap (λ b. cond b (AtMask name) (followed (next_name name h.target) (resolved limit tree))) h.unmasked
-    ∙ ap (λ o. followed o (resolved limit tree)) h.leads_on
+followed_link : (tree : Tree) (name next : List ℕ) (follow : List ℕ → Resolution) → Hops tree name next → resolution_at name (held tree name) follow ≡ follow next
+followed_link tree name next follow h =
+    ap (λ o. resolution_at name o follow) h.linked
+    ∙ ap (λ b. cond b (AtMask name) (option_map_or follow (next_name name h.target) Nowhere)) h.unmasked
+    ∙ ap (λ o. option_map_or follow o Nowhere) h.leads_on
 
-led : (tree : Tree) (limit count : ℕ) (name unit path text : List ℕ) → Leads tree count name unit → count ≤ limit → held tree unit ≡ Some (path, File text) → 0 < length text → resolved limit tree name ≡ AtFile unit path text
-led tree limit count name unit path text (stays n) few h some = held_file limit tree n path text h some
-led tree zero count name unit path text (hop c n next last first more) few h some = absurd (omega arith)
-led tree (suc limit) count name unit path text (hop c n next last first more) few h some = followed_link limit tree n next first ∙ led tree limit c next last path text more (omega arith) h some
+-- and a name leads where the function tells
+pub resolved_leads : (tree : Tree) (limit : ℕ) (name : List ℕ) (end : Resolution) → Leads tree limit name end → resolved limit tree name ≡ end
+resolved_leads tree zero name end (ends limit n e at) = ended tree n e (λ other. Nowhere) at
+resolved_leads tree (suc more) name end (ends limit n e at) = ended tree n e (resolved more tree) at
+resolved_leads tree (suc more) name end (hop limit n next e first later) = followed_link tree n next (resolved limit tree) first ∙ resolved_leads tree limit next e later
+resolved_leads tree limit name end (too_far n next first) = followed_link tree n next (λ other. Nowhere) first
 
-pub found_by_hops : (limit : ℕ) (tree : Tree) (name unit path text : List ℕ) → (resolved limit tree name ≡ AtFile unit path text) ↔ IsFoundWithin limit tree name unit path text
-found_by_hops limit tree name unit path text = (found limit tree name unit path text, λ f. led tree limit f.count name unit path text f.leads f.few f.holds f.filled)
+pub leads_by_hops : (limit : ℕ) (tree : Tree) (name : List ℕ) (end : Resolution) → (resolved limit tree name ≡ end) ↔ Leads tree limit name end
+leads_by_hops limit tree name end = (λ e. subst (Leads tree limit name) e (leads_resolved limit tree name), resolved_leads tree limit name end)
 
-abbrev where_served : Bool → Resolution → Resolution
-where_served served r = cond served r Nowhere
-
-served_file : (served : Bool) (r : Resolution) (unit path text : List ℕ) → where_served served r ≡ AtFile unit path text → (served ≡ true) × (r ≡ AtFile unit path text)
-served_file true r unit path text e = (refl, e)
-served_file false r unit path text e = no_file Nowhere unit path text e refl
-
-resolution_is : (tree : Tree) (name : List ℕ) → resolution_of tree name ≡ where_served (is_served_type (suffix_of name)) (resolved hop_limit tree name)
+-- of a type that is served, by eight hops; of another, nowhere
+pub leads_by_eight : (tree : Tree) (name : List ℕ) (end : Resolution) → is_served_type (suffix_of name) ≡ true → (resolution_of tree name ≡ end) ↔ Leads tree hop_limit name end
 unfolding resolution_of
-resolution_is tree name = refl
+leads_by_eight tree name end served =
+    let same : resolution_of tree name ≡ resolved hop_limit tree name = ap (λ b. cond b (resolved hop_limit tree name) Nowhere) served in
+    (λ e. (leads_by_hops hop_limit tree name end).0 (sym same ∙ e), λ l. same ∙ (leads_by_hops hop_limit tree name end).1 l)
 
-pub found_by_eight : (tree : Tree) (name unit path text : List ℕ) → (resolution_of tree name ≡ AtFile unit path text) ↔ ((is_served_type (suffix_of name) ≡ true) × IsFoundWithin hop_limit tree name unit path text)
-found_by_eight tree name unit path text = (
-  λ e. let both = served_file (is_served_type (suffix_of name)) (resolved hop_limit tree name) unit path text (sym (resolution_is tree name) ∙ e) in
-      (both.0, found hop_limit tree name unit path text both.1),
-  λ f. resolution_is tree name ∙ ap (λ b. where_served b (resolved hop_limit tree name)) f.0 ∙ (found_by_hops hop_limit tree name unit path text).1 f.1,
-)
+pub unserved_nowhere : (tree : Tree) (name : List ℕ) → is_served_type (suffix_of name) ≡ false → resolution_of tree name ≡ Nowhere
+unfolding resolution_of
+unserved_nowhere tree name other = ap (λ b. cond b (resolved hop_limit tree name) Nowhere) other

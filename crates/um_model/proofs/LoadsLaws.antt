@@ -1,11 +1,12 @@
 -- A tree with more links that want or require has each unit load as before.
 use Rattle.std.proofs.Common.{ℕ, zero, suc, ◌≡◌, ◌≢◌, ◌∙◌, Bool, true, false, cond, List, [], ◌∷◌, ◌++◌, map as each, flat_map, Option, Some, None, option_and_then, Ordering, Less, Equal, Greater, refl, sym, ap, subst}
+use Rattle.std.specs.Option.{option_map_or, option_or}
 use Rattle.std.specs.FinMap as map
 use Rattle.std.specs.Cmp.Lexicographic.{slice_cmp, nat_list_cmp_total}
 use Rattle.std.specs.Ordering.{nat_cmp, is_eq}
 use Rattle.std.specs.Prelude.{option_map}
-use Rattle.um_model.specs.Names.{is_unit_name, suffix_of, instance_of, template_of, template_for, with_instance}
-use Rattle.um_model.specs.Resolution.{Resolution, AtFile, AtNoFile, AtMask, Nowhere, or_else, unit_path, held_in, first_held, unless_to_template, held, is_mask, is_of_same_type, is_served_type, of_same_type, next_name, followed, resolution_at, resolved, hop_limit, resolution_of, DropIn, drop_in_folders, drop_in_named, drop_in_at, drop_ins_in, drop_ins_by_file, drop_ins_of, file_of_drop_in, files_at}
+use Rattle.um_model.specs.Names.{is_unit_name, suffix_of, instance_of, template_of, with_instance}
+use Rattle.um_model.specs.Resolution.{Resolution, AtFile, AtNoFile, AtMask, Nowhere, unit_path, held_in, first_held, unless_to_template, held, is_mask, is_of_same_type, is_served_type, of_same_type, next_name, resolution_at, resolved, hop_limit, resolution_of, DropIn, drop_in_folders, drop_in_named, drop_in_at, drop_ins_in, drop_ins_by_file, drop_ins_of, file_of_drop_in, files_at}
 use Rattle.um_model.specs.Tree.{Tree, Entry, File, Link, behind}
 use Rattle.um_model.specs.Units.{Found, source_of, loading_by_file, without_install, unit_by, loading_at, load}
 use Rattle.um_model.specs.declared.tree.Layer.{Layer}
@@ -71,27 +72,27 @@ module _ (u tree : Tree) (same : LooksAs u tree) where
   same_held_in layer unit is = ap (option_map (λ e. (unit_path layer unit, e))) (same.holds layer unit is)
 
   same_first : (unit : List ℕ) → is_unit_name unit ≡ true → first_held u unit ≡ first_held tree unit
-  same_first unit is = λ i. or_else (same_held_in Etc unit is i) (or_else (same_held_in Run unit is i) (same_held_in Lib unit is i))
+  same_first unit is = λ i. option_or (same_held_in Etc unit is i) (option_or (same_held_in Run unit is i) (same_held_in Lib unit is i))
 
   same_of_template : (unit : List ℕ) (o : Option (List ℕ)) → is_unit_name unit ≡ true → instance_of unit ≡ o
-      → option_and_then (first_held u) (template_for unit o) ≡ option_and_then (first_held tree) (template_for unit o)
+      → option_and_then (first_held u) (option_map (λ instance. with_instance unit []) o) ≡ option_and_then (first_held tree) (option_map (λ instance. with_instance unit []) o)
   same_of_template unit None is e = refl
   same_of_template unit (Some instance) is e = same_first (with_instance unit []) (is_unit_name-template unit instance is e)
 
   same_held : (unit : List ℕ) → is_unit_name unit ≡ true → held u unit ≡ held tree unit
-  same_held unit is = λ i. or_else (unless_to_template (template_of unit) (same_first unit is i)) (same_of_template unit (instance_of unit) is refl i)
+  same_held unit is = λ i. option_or (unless_to_template (template_of unit) (same_first unit is i)) (same_of_template unit (instance_of unit) is refl i)
 
   module _ (unit : List ℕ) (follow other : List ℕ → Resolution) (later : (name : List ℕ) → is_unit_name name ≡ true → follow name ≡ other name) where
     same_followed : (name : List ℕ) (is_name is_same : Bool) → is_unit_name name ≡ is_name → is_of_same_type unit name ≡ is_same
-        → followed (of_same_type unit (cond is_name (Some name) None)) follow ≡ followed (of_same_type unit (cond is_name (Some name) None)) other
+        → option_map_or follow (of_same_type unit (cond is_name (Some name) None)) Nowhere ≡ option_map_or other (of_same_type unit (cond is_name (Some name) None)) Nowhere
     same_followed name false is_same e f = refl
     same_followed name true is_same e f = by_type (is_of_same_type unit name)
       where
-        by_type : (b : Bool) → followed (cond b (Some name) None) follow ≡ followed (cond b (Some name) None) other
+        by_type : (b : Bool) → option_map_or follow (cond b (Some name) None) Nowhere ≡ option_map_or other (cond b (Some name) None) Nowhere
         by_type true = later name e
         by_type false = refl
 
-    same_link : (target : List ℕ) (b : Bool) → cond b (AtMask unit) (followed (next_name unit target) follow) ≡ cond b (AtMask unit) (followed (next_name unit target) other)
+    same_link : (target : List ℕ) (b : Bool) → cond b (AtMask unit) (option_map_or follow (next_name unit target) Nowhere) ≡ cond b (AtMask unit) (option_map_or other (next_name unit target) Nowhere)
     same_link target true = refl
     same_link target false = same_followed _ _ _ refl refl
 

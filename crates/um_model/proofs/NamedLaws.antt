@@ -1,11 +1,13 @@
 -- A unit name leads to a unit name, and the names in a unit's [Install] section are unit names.
 use Rattle.std.proofs.Common.{ℕ, zero, suc, ◌≡◌, Bool, true, false, cond, List, [], ◌∷◌, Option, Some, None, Ok, Err, filter_map, map, refl, sym, ◌∙◌, ap, subst}
+use Rattle.std.specs.Option.{option_map_or}
 use Rattle.std.proofs.lemmas.Bool.{and_parts}
 use Rattle.std.proofs.lemmas.Option.{none-some, same_Some}
 use Rattle.um_model.specs.Install.{install_of}
 use Rattle.um_model.specs.Names.{suffix_of, is_unit_name, named}
-use Rattle.um_model.specs.Readings.{Reading, read_in, then_read, text_reading, unit_reading, unit_readings, names_reading, names_said}
-use Rattle.um_model.specs.Resolution.{Resolution, AtFile, AtNoFile, AtMask, Nowhere, held, is_mask, is_of_same_type, is_served_type, needs_no_file, of_same_type, next_name, followed, resolution_at, resolved, hop_limit, resolution_of}
+use Rattle.std.specs.Result.{result_ok}
+use Rattle.um_model.specs.Readings.{Reading, then_read, text_reading, unit_reading, unit_readings, names_reading, names_said}
+use Rattle.um_model.specs.Resolution.{Resolution, AtFile, AtNoFile, AtMask, Nowhere, held, is_mask, is_of_same_type, is_served_type, needs_no_file, of_same_type, next_name, resolution_at, resolved, hop_limit, resolution_of}
 use Rattle.um_model.specs.Tree.{Tree, Entry, File, Link}
 use Rattle.um_model.specs.Units.{Source, Assigned, assignments_in, names_of, unit_by, found_unless, loading_at, sources_at, load, name_in, unit_named, InstallSettings, nothing_installed, is_alias_for, install_settings_of}
 use Rattle.um_model.specs.Words.{words_of}
@@ -30,15 +32,15 @@ module _ (unit : List ℕ) (is : is_unit_name unit ≡ true) (follow : List ℕ 
   at_nothing false = tt
 
   followed_name : (other : List ℕ) (is_name same : Bool) → is_unit_name other ≡ is_name → is_of_same_type unit other ≡ same
-      → HasName (followed (of_same_type unit (cond is_name (Some other) None)) follow)
+      → HasName (option_map_or follow (of_same_type unit (cond is_name (Some other) None)) Nowhere)
   followed_name other false same e f = tt
-  followed_name other true same e f = subst (λ b. HasName (followed (cond b (Some other) None) follow)) (sym f) (by_type same)
+  followed_name other true same e f = subst (λ b. HasName (option_map_or follow (cond b (Some other) None) Nowhere)) (sym f) (by_type same)
     where
-      by_type : (b : Bool) → HasName (followed (cond b (Some other) None) follow)
+      by_type : (b : Bool) → HasName (option_map_or follow (cond b (Some other) None) Nowhere)
       by_type true = later other e
       by_type false = tt
 
-  at_link : (target : List ℕ) (b : Bool) → HasName (cond b (AtMask unit) (followed (next_name unit target) follow))
+  at_link : (target : List ℕ) (b : Bool) → HasName (cond b (AtMask unit) (option_map_or follow (next_name unit target) Nowhere))
   at_link target true = is
   at_link target false = followed_name _ _ _ refl refl
 
@@ -78,15 +80,15 @@ named_by_name tree asked is = by_resolution (resolution_of tree asked) (resoluti
 
 -- ---- what is named in Also=
 
-read_name : (fits : List ℕ → Bool) (text name : List ℕ) (b : Bool) (warning : WarningKind) → fits text ≡ b → read_in (cond b (Ok text) (Err warning)) ≡ Some name → fits name ≡ true
+read_name : (fits : List ℕ → Bool) (text name : List ℕ) (b : Bool) (warning : WarningKind) → fits text ≡ b → result_ok (cond b (Ok text) (Err warning)) ≡ Some name → fits name ≡ true
 read_name fits text name true warning e f = subst (λ t. fits t ≡ true) (same_Some text name f) e
 read_name fits text name false warning e f = absurd (none-some name f)
 
-name_of_word : (fits : List ℕ → Bool) (unit word name : List ℕ) (o : Reading (List ℕ)) → text_reading unit word ≡ o → read_in (unit_reading fits unit word) ≡ Some name → fits name ≡ true
+name_of_word : (fits : List ℕ → Bool) (unit word name : List ℕ) (o : Reading (List ℕ)) → text_reading unit word ≡ o → result_ok (unit_reading fits unit word) ≡ Some name → fits name ≡ true
 name_of_word fits unit word name (Err warning) e f =
-    absurd (none-some name (sym (ap (λ r. read_in (then_read r (λ text. cond (fits text) (Ok text) (Err UnreadableValue)))) e) ∙ f))
+    absurd (none-some name (sym (ap (λ r. result_ok (then_read r (λ text. cond (fits text) (Ok text) (Err UnreadableValue)))) e) ∙ f))
 name_of_word fits unit word name (Ok text) e f =
-    read_name fits text name (fits text) UnreadableValue refl (sym (ap (λ r. read_in (then_read r (λ text. cond (fits text) (Ok text) (Err UnreadableValue)))) e) ∙ f)
+    read_name fits text name (fits text) UnreadableValue refl (sym (ap (λ r. result_ok (then_read r (λ text. cond (fits text) (Ok text) (Err UnreadableValue)))) e) ∙ f)
 
 -- what is named fits
 names_fit : (fits : List ℕ → Bool) (unit : List ℕ) (values : List (List ℕ)) (name : List ℕ) → Among (names_of fits unit values) name → fits name ≡ true
@@ -95,12 +97,12 @@ names_fit fits unit values name is =
     let value = from_flat_map (names_said fits unit) values name is in
     by_words value.0 (words_of Names value.0) value.2
   where
-    by_words : (value : List ℕ) (o : Option (List (List ℕ))) → Among (filter_map read_in (unit_readings fits unit o)) name → fits name ≡ true
+    by_words : (value : List ℕ) (o : Option (List (List ℕ))) → Among (filter_map result_ok (unit_readings fits unit o)) name → fits name ≡ true
     by_words value None none = absurd none
     by_words value (Some words) is =
-        let reading = from_filter_map read_in (map (unit_reading fits unit) words) name is in
+        let reading = from_filter_map result_ok (map (unit_reading fits unit) words) name is in
         let word = from_map (unit_reading fits unit) words reading.0 reading.1 in
-        name_of_word fits unit word.0 name (text_reading unit word.0) refl (sym (ap read_in word.2) ∙ reading.2)
+        name_of_word fits unit word.0 name (text_reading unit word.0) refl (sym (ap result_ok word.2) ∙ reading.2)
 
 -- the names in an [Install] section are unit names
 pub record AreNames (install : InstallSettings) : Type 0 where

@@ -1,5 +1,5 @@
 -- The laws of unit names: a text is a unit name by the test exactly where it is the name of some parts, and of one alone.
-use Rattle.std.proofs.Common.{◌≡◌, ◌≢◌, ◌-◌, ◌<◌, ◌≤◌, ℕ, suc, Bool, true, false, not, ◌&&◌, ◌==◌, nat_eq, nat_lt, List, [], ◌∷◌, ◌++◌, Option, Some, None, is_some, length, take, drop, get_or, reverse, find, cond, refl, sym, ap, ◌∙◌, subst, append_assoc, append-nil, take-append-drop, take_at, eq-eqb, arith, ⊎_elim, length-append}
+use Rattle.std.proofs.Common.{option_map, ◌≡◌, ◌≢◌, ◌-◌, ◌<◌, ◌≤◌, ℕ, suc, Bool, true, false, not, ◌&&◌, ◌==◌, nat_eq, nat_lt, List, [], ◌∷◌, ◌++◌, Option, Some, None, is_some, length, take, drop, get_or, reverse, find, cond, refl, sym, ap, ◌∙◌, subst, append_assoc, append-nil, take-append-drop, take_at, eq-eqb, arith, ⊎_elim, length-append}
 use Rattle.std.specs.List.{list_all, ends_with}
 use Rattle.std.proofs.lemmas.List.Folds.{list_all-append}
 use Rattle.std.proofs.lemmas.Bool.{or_cases, or_left, cases_Bool, cond-true, cond-false, and_parts, and_from, false≢true, eqb-true, lt-ltb, le-leb, leb-true, not-true, ne_eqb}
@@ -8,7 +8,7 @@ use Rattle.std.proofs.lemmas.List.{reverse-append, reverse-reverse}
 use Rattle.std.proofs.lemmas.List.Prefix.{end_rest}
 use Rattle.std.proofs.lemmas.Option.{none-some, same_Some}
 use Rattle.std.proofs.lemmas.Slice.Eq.{bytes_eq-Decides}
-use Rattle.um_model.specs.Names.{suffix_text, is_prefix_byte, is_instance_byte, NameParts, instance_text, name_text, is_fit_instance, AreFit, name_limit, IsNameOf, suffixes, ends_in, suffix_of, stem_before, stem_of, before_at, after_at, prefix_of, instance_of, is_stem, is_unit_name, suffix_text_of, with_instance, named, template_for, template_of}
+use Rattle.um_model.specs.Names.{suffix_text, is_prefix_byte, is_instance_byte, NameParts, instance_text, name_text, is_fit_instance, AreFit, name_limit, IsNameOf, suffixes, ends_in, suffix_of, stem_before, stem_of, before_at, after_at, prefix_of, instance_of, is_stem, is_unit_name, suffix_text_of, with_instance, named, template_of}
 use Rattle.um_model.specs.declared.names.Suffix.{Suffix}
 use Rattle.um_model.specs.declared.names.Suffix.TheVariants.{Service, Socket, Device, Mount, Automount, Swap, Target, Path, Timer, Slice, Scope}
 
@@ -304,7 +304,7 @@ with_instance-name p instance fit =
     ap (λ prefix. prefix ++ (64 ∷ instance ++ suffix_text_of (suffix_of (name_text p)))) (prefix_of-name p fit)
     ∙ ap (λ o. p.prefix ++ (64 ∷ instance ++ suffix_text_of o)) (suffix_of-name p)
 
-template_for-named : (name : List ℕ) (o : Option (List ℕ)) → is_unit_name name ≡ true → instance_of name ≡ o → is_some o ≡ true → named (with_instance name []) ≡ template_for name o
+template_for-named : (name : List ℕ) (o : Option (List ℕ)) → is_unit_name name ≡ true → instance_of name ≡ o → is_some o ≡ true → named (with_instance name []) ≡ option_map (λ instance. with_instance name []) o
 template_for-named name None is same some = absurd (false≢true some)
 template_for-named name (Some instance) is same some =
     cond-true (is_unit_name (with_instance name [])) (Some (with_instance name [])) None (is_unit_name-template name instance is same)

@@ -1,12 +1,13 @@
 -- What a unit says is said by its own name, so dependencies and the order of known units don't ask what else is known.
 use Rattle.std.proofs.Common.{◌≡◌, ◌⊎◌, ◌∙◌, ℕ, zero, suc, Bool, true, false, cond, List, [], ◌∷◌, Option, Some, None, refl, sym, ap, subst, inl, inr}
+use Rattle.std.specs.Option.{option_map_or}
 use Rattle.std.proofs.lemmas.Option.{none-some, same_Some}
 use Rattle.std.proofs.lemmas.Slice.Eq.{bytes_eq-Decides}
 use Rattle.um_model.specs.Dependencies.{loadable_of, loadable_in, has_defaults, shutdown_target, Gives, Declares, IsKnown, Depends, IsDeclared, PullsIn, Orders, Precedes}
 use Rattle.um_model.specs.Dependencies as model
 use Rattle.um_model.specs.Names.{is_template, is_unit_name, instance_of, suffix_of, suffix_text_of}
 use Rattle.um_model.specs.Reached.{first, next}
-use Rattle.um_model.specs.Resolution.{Resolution, AtFile, AtNoFile, AtMask, Nowhere, held, is_mask, is_of_same_type, is_served_type, needs_no_file, of_same_type, next_name, followed, resolution_at, resolved, hop_limit, resolution_of, unit_in_target, with_instance_of}
+use Rattle.um_model.specs.Resolution.{Resolution, AtFile, AtNoFile, AtMask, Nowhere, held, is_mask, is_of_same_type, is_served_type, needs_no_file, of_same_type, next_name, resolution_at, resolved, hop_limit, resolution_of, unit_in_target, with_instance_of}
 use Rattle.um_model.specs.Tree.{Tree, Entry, File, Link}
 use Rattle.um_model.specs.Units.{LoadedUnit, Loading, Found, Masked, NotFound, BadSetting, assignments_in, reason_of, unit_by, found_unless, loading_at, sources_at, load, name_in, unit_named}
 use Rattle.um_model.specs.declared.dependencies.DependencyKind.{DependencyKind}
@@ -70,18 +71,18 @@ module _ (tree : Tree) (unit : List ℕ) where
     at_nothing true at needs = stays_by None (AtNoFile unit) at (λ further. ap (λ b. cond b (AtNoFile unit) Nowhere) needs)
     at_nothing false at needs = tt
 
-    at_other : (other : List ℕ) (b : Bool) → is_unit_name other ≡ true → is_of_same_type unit other ≡ b → Returns tree unit (followed (cond b (Some other) None) follow)
+    at_other : (other : List ℕ) (b : Bool) → is_unit_name other ≡ true → is_of_same_type unit other ≡ b → Returns tree unit (option_map_or follow (cond b (Some other) None) Nowhere)
     at_other other true named same = returns_before tree unit other (follow other) (same_type unit other same) named (later other)
     at_other other false named same = tt
 
-    at_next : (other : List ℕ) (b : Bool) → is_unit_name other ≡ b → Returns tree unit (followed (of_same_type unit (cond b (Some other) None)) follow)
+    at_next : (other : List ℕ) (b : Bool) → is_unit_name other ≡ b → Returns tree unit (option_map_or follow (of_same_type unit (cond b (Some other) None)) Nowhere)
     at_next other true named = at_other other (is_of_same_type unit other) named refl
     at_next other false named = tt
 
     at_link : (path target : List ℕ) (b : Bool) → held tree unit ≡ Some (path, Link target) → is_mask target ≡ b
-        → Returns tree unit (cond b (AtMask unit) (followed (next_name unit target) follow))
+        → Returns tree unit (cond b (AtMask unit) (option_map_or follow (next_name unit target) Nowhere))
     at_link path target true at mask =
-        stays_by (Some (path, Link target)) (AtMask unit) at (λ further. ap (λ b. cond b (AtMask unit) (followed (next_name unit target) further)) mask)
+        stays_by (Some (path, Link target)) (AtMask unit) at (λ further. ap (λ b. cond b (AtMask unit) (option_map_or further (next_name unit target) Nowhere)) mask)
     at_link path target false at mask = at_next (with_instance_of (instance_of unit) (unit_in_target target)) _ refl
 
     returns_at : (o : Option (List ℕ × Entry)) → held tree unit ≡ o → Returns tree unit (resolution_at unit o follow)

@@ -1,16 +1,15 @@
 -- The laws of substitution: one result; and each value has words.
-use Rattle.std.proofs.Common.{◌≡◌, ◌≢◌, ◌≤◌, ℕ, zero, suc, ◌-◌, Bool, true, false, cond, eqb, List, [], ◌∷◌, ◌++◌, length, drop, Option, Some, None, refl, sym, ap, ◌∙◌, subst, inl, inr, append_assoc, append-nil, arith}
-use Rattle.std.proofs.lemmas.List.{length-drop}
-use Rattle.std.proofs.lemmas.Bool.{cases_Bool, cond-false, ne_eqb}
+use Rattle.std.proofs.Common.{◌≡◌, ◌≢◌, ℕ, zero, suc, ◌-◌, Bool, true, false, cond, eqb, List, [], ◌∷◌, ◌++◌, length, Option, Some, None, refl, sym, ap, ◌∙◌, subst, inl, inr, append_assoc, append-nil}
+use Rattle.std.proofs.lemmas.Bool.{cases_Bool, cond-true, cond-false, ne_eqb}
 use Rattle.std.proofs.lemmas.Option.{none-some, same_Some}
 use Rattle.um_model.specs.Ascii.{is_space}
-use Rattle.um_model.specs.Pieces.{Front, Gives}
-use Rattle.um_model.specs.Words.{is_quote, Stop, Turn, Kept, bare, InWord, ends, stops, turns, stands, keeps, Word, AreSpelled, none, space, word_first, values_of, AreWords}
+use Rattle.um_model.specs.Pieces.{Front, Gives, StandsForText}
+use Rattle.um_model.specs.Words.{is_quote, bare, Word, word_front, piece_of_words, values_of, AreWords}
 use Rattle.um_model.specs.Substitution.{Variable, value_of, whole_name, braced_name, variable_front, dollar_front, piece_front, Becomes, splits, fills, AllBecome, no_more, one_more, AreSubstituted, no_words, first_stays}
 use Rattle.um_model.specs.declared.words.WordRules.TheVariants.{Plain}
 use Rattle.um_model.specs.Text.{first_passes}
 use Rattle.um_model.proofs.PiecesLaws.{one_reading, IsRead, has_reading}
-use Rattle.um_model.proofs.WordsLaws.{read, by_spelling, with_front, InWord-read, same_words}
+use Rattle.um_model.proofs.WordsLaws.{read, by_spelling, with_front, first_word, same_words}
 
 -- a byte that is no `$` stands for itself
 pub plain_piece : (environment : List Variable) (b : ℕ) (bs : List ℕ) → b ≢ 36 → piece_front environment b bs ≡ Gives (b ∷ []) 1
@@ -94,45 +93,21 @@ plain_reads [] n quote = ([], [], refl)
 plain_reads (b ∷ bs) (suc n) quote = plain_reads bs n quote
 plain_reads (b ∷ bs) zero quote = reads_spelling quote b bs (λ n other. plain_reads bs n other)
 
-within : (quote : Option ℕ) (text word rest : List ℕ) → InWord Plain quote text word rest → length rest ≤ length text
-within quote text word rest (ends q e) = omega arith
-within quote text word rest (stops q b bs e) = omega arith
-within quote text word rest (turns q other b bs w r e inside) = omega (arith, within other bs w r inside)
-within quote text word rest (stands q b meaning n bs w r e inside) = omega (arith, within q (drop (n - 1) bs) w r inside, length-drop (n - 1) bs)
-within quote text word rest (keeps q b n bs w r e inside) = omega (arith, within q (drop (n - 1) bs) w r inside, length-drop (n - 1) bs)
-
-no_stop : (quotes : Bool) (b : ℕ) → cond quotes (Turn (Some b)) (Kept 1) ≢ Stop
-no_stop true b e = absurd (cc)
-no_stop false b e = absurd (cc)
-
--- a word that is there takes a byte
-word_takes : (b : ℕ) (bs word rest : List ℕ) → is_space b ≡ false → InWord Plain None (b ∷ bs) word rest → length rest ≤ length bs
-word_takes b bs word rest apart (stops q c more e) = absurd (no_stop (is_quote c) c (sym (cond-false _ _ _ apart) ∙ e))
-word_takes b bs word rest apart (turns q other c more w r e inside) = within other more w r inside
-word_takes b bs word rest apart (stands q c meaning n more w r e inside) = omega (arith, within q (drop (n - 1) more) w r inside, length-drop (n - 1) more)
-word_takes b bs word rest apart (keeps q c n more w r e inside) = omega (arith, within q (drop (n - 1) more) w r inside, length-drop (n - 1) more)
-
-have_words : (size : ℕ) (text : List ℕ) → length text ≤ size → (words : List Word) × AreSpelled Plain text words
-have_words size [] small = ([], none)
-have_words zero (b ∷ bs) small = absurd (omega arith)
-have_words (suc size) (b ∷ bs) small = elim (cases_Bool (is_space b)) [
-  | inl white ↦
-      let more = have_words size bs (omega arith) in
-      (more.0, space b bs more.0 white more.1)
+have_read : (b : ℕ) (bs : List ℕ) → IsRead (piece_of_words Plain b bs)
+have_read b bs = elim (cases_Bool (is_space b)) [
+  | inl white ↦ ([], 1, cond-true _ _ _ white)
   | inr apart ↦
-      let read = plain_reads (b ∷ bs) 0 None in
-      let inside = InWord-read Plain (length (b ∷ bs)) None (b ∷ bs) read.0 read.1 (omega arith) read.2 in
-      let more = have_words size read.1 (omega (arith, word_takes b bs read.0 read.1 apart inside)) in
-      (_, word_first b bs read.0 read.1 more.0 apart inside more.1)
+      let found = plain_reads (b ∷ bs) 0 None in
+      (first_word (b ∷ bs) found.1 found.0 ∷ [], length (b ∷ bs) - length found.1, cond-false _ _ _ apart ∙ ap (word_front (b ∷ bs)) found.2)
 ]
 
 -- each value reads as words
-pub has_words : (text : List ℕ) → (words : List Word) × AreSpelled Plain text words
-has_words text = have_words (length text) text (omega arith)
+pub has_words : (text : List ℕ) → (words : List Word) × StandsForText (piece_of_words Plain) text words
+has_words text = has_reading (piece_of_words Plain) have_read text
 
 -- Each word becomes some words.
 
-read_if : (b : Bool) (f g : Front) → IsRead f → IsRead g → IsRead (cond b f g)
+read_if : (b : Bool) (f g : Front ℕ) → IsRead f → IsRead g → IsRead (cond b f g)
 read_if true f g first second = first
 read_if false f g first second = second
 

@@ -8,11 +8,60 @@ use Rattle.std.proofs.lemmas.List.Folds.{prefix_len-append}
 use Rattle.std.proofs.lemmas.List.Sums.{AllPass-from_list_all, take_while-cons, split_at_first, passes_at_first}
 use Rattle.std.proofs.lemmas.Bool.{eqb-true, cases_lt, eq-eqb, cond-true, ltb-true, ltb-false, lt-ltb, le-ltb}
 use Rattle.std.proofs.lemmas.Option.{none-some, same_Some}
-use Rattle.std.specs.Option.{is_some}
+use Rattle.std.specs.Option.{is_some, option_map_or}
 use Rattle.std.proofs.Math.Bool.{or-false, or-true}
 use Rattle.um_model.specs.Ascii.{is_space}
 use Rattle.um_model.specs.Text.{trim_start, trim_end, trim, is_empty, is_blank, without_last}
-use Rattle.um_model.specs.Syntax.{Line, is_comment, continues, physical_line, joined_line, AreKept, kept_none, drops_comment, keeps_blank, keeps_text, AreJoined, joined_none, stands_alone, goes_on, ends, Statement, Blank, Head, Pair, Stray, IsHeadOf, has_no_equals, Says, says_nothing, says_head, says_pair, says_no_pair, Item, items_of, is_head, Give, gives_none, gives_line, Placed, in_sections, IsReading, physical, first_text, joined, joined_lines, in_brackets, before_bracket, head_or, has_equals, pair_of, statement_of, section_after, line_number, stands_well, items_in, reading_of}
+use Rattle.um_model.specs.Syntax.{Line, is_comment, continues, physical_line, joined_line, Statement, Blank, Head, Pair, Stray, IsHeadOf, has_no_equals, Says, says_nothing, says_head, says_pair, says_no_pair, Item, Section, Assignment, Warning, items_of, is_head, Placed, in_sections, physical, first_text, joined, joined_lines, in_brackets, before_bracket, has_equals, pair_of, statement_of, section_after, line_number, items_in, reading_of}
+use Rattle.um_model.specs.declared.warnings.WarningKind.TheVariants.{BeforeAnySection}
+
+-- What a text says as a relation, line by line
+
+-- the lines that count, from physical line n on: comment lines are taken out, the others keep their numbers, and a blank one
+-- counts as an empty one
+pub data AreKept : ℕ → List (List ℕ) → List Line → Type 0 where
+  kept_none : (n : ℕ) → AreKept n [] []
+  drops_comment : (n : ℕ) (l : List ℕ) (ls : List (List ℕ)) (kept : List Line) → is_comment l ≡ true → AreKept (n + 1) ls kept
+      → AreKept n (l ∷ ls) kept
+  keeps_blank : (n : ℕ) (l : List ℕ) (ls : List (List ℕ)) (kept : List Line) → is_blank l ≡ true → AreKept (n + 1) ls kept
+      → AreKept n (l ∷ ls) (physical_line n [] ∷ kept)
+  keeps_text : (n : ℕ) (l : List ℕ) (ls : List (List ℕ)) (kept : List Line) → is_comment l ≡ false → is_blank l ≡ false
+      → AreKept (n + 1) ls kept → AreKept n (l ∷ ls) (physical_line n l ∷ kept)
+
+-- the joined lines: one that goes on has a space for its last backslash, and then the joined line that follows; at the end of
+-- the text nothing follows
+pub data AreJoined : List Line → List Line → Type 0 where
+  joined_none : AreJoined [] []
+  stands_alone : (l : Line) (ls js : List Line) → continues l.text ≡ false → AreJoined ls js → AreJoined (l ∷ ls) (l ∷ js)
+  goes_on : (l j : Line) (ls js : List Line) → continues l.text ≡ true → AreJoined ls (j ∷ js)
+      → AreJoined (l ∷ ls) (joined_line l j.text ∷ js)
+  ends : (l : Line) → continues l.text ≡ true → AreJoined (l ∷ []) (joined_line l [] ∷ [])
+
+-- what lines give, after a section's head or before any
+pub data Give : Bool → List Line → List Item → Type 0 where
+  gives_none : (begun : Bool) → Give begun [] []
+  gives_line : (begun : Bool) (l : Line) (ls : List Line) (statement : Statement) (items : List Item) → Says l.text statement
+      → Give (begun || is_head statement) ls items → Give begun (l ∷ ls) (items_of statement begun l.number l.whole ++ items)
+
+-- what a text says: its physical lines end in a line feed, and one carriage return before that is dropped
+pub record IsReading (text : List ℕ) (reading : List Placed) : Type 0 where
+  pub kept : List Line
+  pub joined_ones : List Line
+  pub items : List Item
+  pub keeps : AreKept 1 (lines text) kept
+  pub joins : AreJoined kept joined_ones
+  pub gives : Give false joined_ones items
+  pub places : reading ≡ in_sections None items
+
+-- a head and an assignment stand in a section, and the warning of an assignment before any section stands in none
+abbrev pub stands_well : Option (List ℕ) → Item → Bool
+stands_well None (Section name line) = false
+stands_well (Some section) (Section name line) = true
+stands_well None (Assignment key value line whole) = false
+stands_well (Some section) (Assignment key value line whole) = true
+stands_well None (Warning kind line) = true
+stands_well (Some section) (Warning BeforeAnySection line) = false
+stands_well (Some section) (Warning kind line) = true
 
 -- Lines that count
 
@@ -191,7 +240,7 @@ says_of text = by_name (in_brackets (trim text)) refl
     by_blank true never is = says_nothing text is
     by_blank false never is = by_equals (has_equals text) never is refl
 
-    by_name : (r : Option (List ℕ)) → in_brackets (trim text) ≡ r → Says text (head_or r (cond (is_blank text) Blank (cond (has_equals text) (pair_of text) Stray)))
+    by_name : (r : Option (List ℕ)) → in_brackets (trim text) ≡ r → Says text (option_map_or Head r (cond (is_blank text) Blank (cond (has_equals text) (pair_of text) Stray)))
     by_name (Some name) is = says_head text name (head_from (trim text) name is)
     by_name None is = by_blank (is_blank text) (λ name head. none-some name (sym is ∙ in_brackets-head (trim text) name head)) refl
 

@@ -1,5 +1,5 @@
 -- Laws of the tree: what each change keeps, and that a served path has its parts and no others.
-use Rattle.std.proofs.Common.{◌≡◌, ℕ, ◌+◌, ◌-◌, ◌<◌, ◌≤◌, nat_eq, nat_le, nat_lt, Bool, true, false, not, ◌&&◌, ◌||◌, cond, T, List, [], ◌∷◌, ◌++◌, length, take, drop, get_or, codes, Option, Some, None, is_none, is_some, option_map, Ordering, Less, Equal, Greater, refl, sym, ap, ◌∙◌, subst, append_assoc, append-nil, take-append-drop, take_at, length-append, lit≤, arith}
+use Rattle.std.proofs.Common.{◌≡◌, ℕ, ◌+◌, ◌-◌, ◌<◌, ◌≤◌, nat_eq, nat_le, nat_lt, Bool, true, false, not, ◌&&◌, ◌||◌, cond, T, List, [], ◌∷◌, ◌++◌, length, take, drop, get_or, codes, Option, Some, None, is_none, is_some, option_map, option_and_then, Ordering, Less, Equal, Greater, refl, sym, ap, ◌∙◌, subst, append_assoc, append-nil, take-append-drop, take_at, length-append, lit≤, arith}
 use Rattle.std.specs.Cmp.{tied_itself}
 use Rattle.std.specs.Cmp.Lexicographic.{slice_cmp, nat_list_cmp_total}
 use Rattle.std.specs.FinMap as map
@@ -7,6 +7,7 @@ use Rattle.std.specs.FinMap.{nat_cmp-IsAntisymmetric, slice_cmp-IsAntisymmetric}
 use Rattle.std.specs.FinMap.Entries.{find, below_all, is_sorted, where_key, is_sorted-where_key, find-where_key}
 use Rattle.std.specs.List.{list_all, list_any, starts_with, ends_with, position_or_len, before_first, after_first}
 use Rattle.std.specs.Ordering.{nat_cmp, eq_by_cmp, is_eq, is_lt}
+use Rattle.std.specs.Option.{option_or, option_map_or}
 use Rattle.std.specs.Str.{bytes_eq}
 use Rattle.std.proofs.lemmas.Bool.{leb-false, ltb-true, ltb-false, lt-ltb, le-ltb, le-leb, eqb-true, ne_eqb, and_from, and_parts, cond-true, false≢true, not-false}
 use Rattle.std.proofs.lemmas.Bool.Decides.{Decides-eqb}
@@ -18,7 +19,7 @@ use Rattle.std.proofs.lemmas.Option.{same_Some}
 use Rattle.std.proofs.lemmas.Slice.Eq.{bytes_eq-Decides, starts_is}
 use Rattle.um_model.specs.Names.{is_prefix_byte, is_instance_byte, is_fit_instance, instance_text, suffix_text, is_unit_name, is_template}
 use Rattle.um_model.specs.Refusals.{Refused, cause, first_cause}
-use Rattle.um_model.specs.Tree.{layer_text, Place, Unit, DropIn, Wants, Requires, place_text, PathParts, is_drop_in_name, is_plain_name, is_fit_place, IsPathOf, is_slash, behind, before, around_slash, layer_among, layer_and_rest, place_among, place_in, unit_and_place, where_fit, parts_behind, path_parts, Entry, File, Link, Tree, IsTree, entry_limit, text_limit, is_served, is_fit_entry, is_fit_at, is_fit_target, is_link, is_other_than_link, is_full_for, put_cause, link_cause, is_volatile, has_run, without_run, path_text, are_fit}
+use Rattle.um_model.specs.Tree.{layer_text, Place, Unit, DropIn, Wants, Requires, place_text, PathParts, is_drop_in_name, is_plain_name, is_fit_place, IsPathOf, is_slash, behind, before, around_slash, layer_and_rest, place_in, unit_and_place, where_fit, path_parts, Entry, File, Link, Tree, IsTree, entry_limit, text_limit, is_served, is_fit_entry, is_fit_at, is_fit_target, is_link, is_other_than_link, is_full_for, put_cause, link_cause, is_volatile, has_run, without_run, path_text, are_fit}
 use Rattle.um_model.specs.declared.names.Suffix.{Suffix}
 use Rattle.um_model.specs.declared.names.Suffix.TheVariants.{Service, Socket, Device, Mount, Automount, Swap, Target, Path, Timer, Slice, Scope}
 use Rattle.um_model.specs.declared.tree.Layer.{Layer}
@@ -243,12 +244,25 @@ around-parts text q e =
     ∙ ap (λ b. before_first is_slash text ++ b ∷ after_first is_slash text) (eqb-true (get_or text (position_or_len is_slash text) 0) 47 (passes_at_first is_slash text 0 low))
     ∙ ap (λ p. p.0 ++ 47 ∷ p.1) both.1
 
+abbrev layer_among : Option (List ℕ) → Option (List ℕ) → Option (List ℕ) → Option (Layer × List ℕ)
+layer_among etc run lib = option_or (option_map (λ rest. (Etc, rest)) etc) (option_or (option_map (λ rest. (Run, rest)) run) (option_map (λ rest. (Lib, rest)) lib))
+
 layer-parts : (path : List ℕ) (etc run lib : Option (List ℕ)) → behind (layer_text Etc) path ≡ etc → behind (layer_text Run) path ≡ run → behind (layer_text Lib) path ≡ lib
     → (q : Layer × List ℕ) → layer_among etc run lib ≡ Some q → path ≡ layer_text q.0 ++ q.1
 layer-parts path (Some rest) run lib e₁ e₂ e₃ q e = subst (λ p. path ≡ layer_text p.0 ++ p.1) (same_Some (Etc, rest) q e) (behind-parts (layer_text Etc) path rest e₁)
 layer-parts path None (Some rest) lib e₁ e₂ e₃ q e = subst (λ p. path ≡ layer_text p.0 ++ p.1) (same_Some (Run, rest) q e) (behind-parts (layer_text Run) path rest e₂)
 layer-parts path None None (Some rest) e₁ e₂ e₃ q e = subst (λ p. path ≡ layer_text p.0 ++ p.1) (same_Some (Lib, rest) q e) (behind-parts (layer_text Lib) path rest e₃)
 layer-parts path None None None e₁ e₂ e₃ q e = cc
+
+-- by what stands before the `.d`, `.wants` or `.requires` of the directory
+abbrev place_among : Option (List ℕ) → Option (List ℕ) → Option (List ℕ) → List ℕ → Option (List ℕ × Place)
+place_among drop_in wants requires file =
+    option_map_or (λ unit. option_map (λ name. (unit, DropIn name)) (before (codes ".conf") file)) drop_in
+    (option_or (option_map (λ unit. (unit, Wants file)) wants) (option_map (λ unit. (unit, Requires file)) requires))
+
+-- by what stands around the first `/` of what follows the layer
+abbrev place_around : List ℕ → Option (List ℕ × List ℕ) → Option (List ℕ × Place)
+place_around rest parts = option_map_or (λ p. place_in p.0 p.1) parts (Some (rest, Unit))
 
 abbrev Spells : List ℕ → List ℕ × Place → Type 0
 Spells rest q = rest ≡ q.0 ++ place_text q.1
@@ -271,19 +285,24 @@ place-parts directory file None None (Some unit) e₁ e₂ e₃ q e =
     (ap (λ x. x ++ 47 ∷ file) (before-parts (codes ".requires") directory unit e₃) ∙ append_assoc unit (codes ".requires") (47 ∷ file))
 place-parts directory file None None None e₁ e₂ e₃ q e = cc
 
-unit-parts : (rest : List ℕ) (o : Option (List ℕ × List ℕ)) → around_slash rest ≡ o → (q : List ℕ × Place) → unit_and_place rest o ≡ Some q → Spells rest q
+unit-parts : (rest : List ℕ) (o : Option (List ℕ × List ℕ)) → around_slash rest ≡ o → (q : List ℕ × Place) → place_around rest o ≡ Some q → Spells rest q
 unit-parts rest None around q e = subst (Spells rest) (same_Some (rest, Unit) q e) (sym (append-nil rest))
 unit-parts rest (Some p) around q e = around-parts rest p around ∙ place-parts p.0 p.1 _ _ _ refl refl refl q e
 
 abbrev parts_of : Layer → List ℕ × Place → PathParts
 parts_of layer q = record { layer = layer; unit = q.0; place = q.1 }
 
-fit-parts : (layer : Layer) (rest : List ℕ) (o : Option (List ℕ × Place)) → unit_and_place rest (around_slash rest) ≡ o → (p : PathParts) → where_fit layer o ≡ Some p → IsPathOf (layer_text layer ++ rest) p
+fit-parts : (layer : Layer) (rest : List ℕ) (o : Option (List ℕ × Place)) → unit_and_place rest ≡ o → (p : PathParts) → option_and_then (λ u. where_fit (parts_of layer u)) o ≡ Some p
+    → IsPathOf (layer_text layer ++ rest) p
 fit-parts layer rest None found p e = cc
 fit-parts layer rest (Some q) found p e =
     let both = cond_some (is_fit_place q.0 q.1) (parts_of layer q) p e in
     subst (IsPathOf (layer_text layer ++ rest)) both.1
     (record { fit = both.0; spelled = ap (λ x. layer_text layer ++ x) (unit-parts rest (around_slash rest) refl q found) })
+
+-- the parts by the layer and what follows it
+abbrev parts_behind : Option (Layer × List ℕ) → Option PathParts
+parts_behind o = option_and_then (λ l. option_and_then (λ u. where_fit (parts_of l.0 u)) (unit_and_place l.1)) o
 
 path-parts : (path : List ℕ) (o : Option (Layer × List ℕ)) → layer_and_rest path ≡ o → (p : PathParts) → parts_behind o ≡ Some p → IsPathOf path p
 path-parts path None found p e = cc
@@ -394,11 +413,11 @@ layer-text Lib rest = refl
 
 -- in a directory of the unit
 in_directory : (unit ending file : List ℕ) (o : Option (List ℕ × Place)) → is_unit_name unit ≡ true → list_all no_slash ending ≡ true → place_in (unit ++ ending) file ≡ o
-    → unit_and_place (unit ++ (ending ++ 47 ∷ file)) (around_slash (unit ++ (ending ++ 47 ∷ file))) ≡ o
+    → unit_and_place (unit ++ (ending ++ 47 ∷ file)) ≡ o
 in_directory unit ending file o is plain found =
     let whole : unit ++ (ending ++ 47 ∷ file) ≡ (unit ++ ending) ++ 47 ∷ file = sym (append_assoc unit ending (47 ∷ file)) in
-    ap (λ rest. unit_and_place rest (around_slash rest)) whole
-    ∙ ap (unit_and_place ((unit ++ ending) ++ 47 ∷ file)) (around-append (unit ++ ending) file (all-append unit ending (name-no_slash unit is) plain))
+    ap unit_and_place whole
+    ∙ ap (place_around ((unit ++ ending) ++ 47 ∷ file)) (around-append (unit ++ ending) file (all-append unit ending (name-no_slash unit is) plain))
     ∙ found
 
 in_drop_ins : (unit name : List ℕ) → place_in (unit ++ codes ".d") (name ++ codes ".conf") ≡ Some (unit, DropIn name)
@@ -427,8 +446,8 @@ fit-name unit (DropIn name) fit = (and_parts (is_unit_name unit) (is_drop_in_nam
 fit-name unit (Wants other) fit = plain_name unit (and_parts (is_plain_name unit) (is_plain_name other) fit).0
 fit-name unit (Requires other) fit = plain_name unit (and_parts (is_plain_name unit) (is_plain_name other) fit).0
 
-unit-place : (unit : List ℕ) (place : Place) → is_unit_name unit ≡ true → unit_and_place (unit ++ place_text place) (around_slash (unit ++ place_text place)) ≡ Some (unit, place)
-unit-place unit Unit is = ap (λ rest. unit_and_place rest (around_slash rest)) (append-nil unit) ∙ ap (unit_and_place unit) (around-none unit (name-no_slash unit is))
+unit-place : (unit : List ℕ) (place : Place) → is_unit_name unit ≡ true → unit_and_place (unit ++ place_text place) ≡ Some (unit, place)
+unit-place unit Unit is = ap unit_and_place (append-nil unit) ∙ ap (place_around unit) (around-none unit (name-no_slash unit is))
 unit-place unit (DropIn name) is = in_directory unit (codes ".d") (name ++ codes ".conf") _ is refl (in_drop_ins unit name)
 unit-place unit (Wants other) is = in_directory unit (codes ".wants") other _ is refl (in_wants unit other)
 unit-place unit (Requires other) is = in_directory unit (codes ".requires") other _ is refl (in_requires unit other)
@@ -437,7 +456,7 @@ unit-place unit (Requires other) is = in_directory unit (codes ".requires") othe
 pub parts_at : (p : PathParts) → is_unit_name p.unit ≡ true → path_parts (path_text p) ≡ cond (are_fit p) (Some p) None
 unfolding path_parts
 parts_at p is =
-    ap parts_behind (layer-text p.layer (p.unit ++ place_text p.place)) ∙ ap (where_fit p.layer) (unit-place p.unit p.place is)
+    ap parts_behind (layer-text p.layer (p.unit ++ place_text p.place)) ∙ ap (option_and_then (λ u. where_fit (parts_of p.layer u))) (unit-place p.unit p.place is)
 
 -- the parts of a path are told
 pub parts_of_path : (path : List ℕ) (p : PathParts) → IsPathOf path p → path_parts path ≡ Some p

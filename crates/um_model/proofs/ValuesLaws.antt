@@ -1,28 +1,57 @@
 -- The laws of values: at most one reading of each kind, and the steps of a sum of parts.
 use Rattle.std.proofs.Common.{◌≡◌, ◌<◌, ◌≤◌, ℕ, zero, suc, ◌+◌, ◌-◌, ◌*◌, Bool, true, false, ◌&&◌, not, cond, eqb, leb, List, [], ◌∷◌, ◌++◌, length, take, drop, map, Option, Some, None, option_map, find, inl, inr, refl, sym, ap, subst, ◌∙◌, codes, append_assoc, arith}
-use Rattle.std.specs.Prelude.{nat_lt}
+use Rattle.std.specs.Prelude.{nat_lt, option_and_then, sum}
 use Rattle.std.specs.Char.{to_ascii_lowercase}
 use Rattle.std.specs.List.{list_any, list_all}
 use Rattle.std.specs.Str.{bytes_eq}
 use Rattle.std.proofs.Math.Path.{fun_ext}
-use Rattle.std.proofs.Math.Seq.{drop-append_seam}
-use Rattle.std.proofs.lemmas.List.{length-append, take-append-drop}
-use Rattle.std.proofs.lemmas.List.Sums.{take_while-cons}
+use Rattle.std.proofs.lemmas.List.{take-append-drop}
+use Rattle.std.proofs.lemmas.List.Sums.{take_while-cons, sum_by-cons}
 use Rattle.std.proofs.lemmas.Option.{same_Some, none-some}
 use Rattle.std.proofs.lemmas.Bool.{cases_Bool, cond-true, cond-false, and_from, and_parts, or_cases, not-true, eqb-true, lt-ltb, ltb-true, le-leb, leb-true, false_from_ne_true, true≢false}
 use Rattle.std.proofs.lemmas.Slice.Eq.{bytes_eq-Decides}
 use Rattle.um_model.specs.Ascii.{is_space, is_digit}
-use Rattle.um_model.specs.Text.{trim_start, is_empty}
+use Rattle.um_model.specs.Pieces.{front_of, StandsForText, done, reading}
+use Rattle.um_model.specs.Text.{trim_start, is_empty, is_blank}
 use Rattle.um_model.specs.Finds.{Finds}
 use Rattle.um_model.specs.Moments.{span_limit}
-use Rattle.um_model.specs.Values.{words_for, is_same_in_any_case, IsBoolean, boolean_of, decimal, is_decimal, number_limit, IsNumber, number_of, unit_size, digits_of, unit_of, past_part, IsTime, AddUpTo, nothing, space, part, IsSpan, time_of, sum_of, parts_of, span_within, span_of, words_in, tells_end, is_exit, IsExitSet, exits_of, restart_text, policies, policy_named}
+use Rattle.um_model.specs.Values.{words_for, is_same_in_any_case, boolean_of, decimal, is_decimal, number_limit, number_of, unit_size, digits_of, unit_of, past_part, time_of, time_front, span_within, span_of, words_in, tells_end, is_exit, exits_of, restart_text, policies, policy_named}
 use Rattle.um_model.specs.declared.service.End.{End}
 use Rattle.um_model.specs.declared.settings.RestartPolicy.{RestartPolicy}
 use Rattle.um_model.specs.declared.settings.RestartPolicy.TheVariants.{No, Always, OnSuccess, OnFailure, OnAbnormal, OnAbort, OnWatchdog}
 use Rattle.um_model.proofs.FindsLaws.{one_found}
+use Rattle.um_model.proofs.PiecesLaws.{prefixed, read_by_front, prefixed-nil, reading_first, reading-StandsForText, StandsForText-reading, Follows, past_piece}
 use Rattle.um_model.proofs.TextLaws.{trim_start_cuts}
 use Rattle.um_model.specs.declared.settings.TimeSpan.{TimeSpan}
 use Rattle.um_model.specs.declared.settings.TimeSpan.TheVariants.{Micros, Infinite}
+
+-- ---- the values as relations
+
+-- the text is one of the words for this truth value, in any ASCII case
+abbrev pub IsBoolean : List ℕ → Bool → Type 0
+IsBoolean text b = list_any (is_same_in_any_case text) (words_for b) ≡ true
+
+-- the text spells this number, which isn't too great
+pub record IsNumber (text : List ℕ) (n : ℕ) : Type 0 where
+  pub digits : is_decimal text ≡ true
+  pub value : n ≡ decimal text
+  pub limit : n ≤ number_limit
+
+-- the text is a sequence of parts, with whitespace between them as one likes; together they are so many microseconds
+abbrev pub AddUpTo : List ℕ → ℕ → Type 0
+AddUpTo text n = (times : List ℕ) × StandsForText time_front text times × (sum times ≡ n)
+
+-- the text is `infinity`, or it has one part at least and its parts add up to this
+abbrev pub IsSpan : List ℕ → TimeSpan → Type 0
+IsSpan text Infinite = text ≡ codes "infinity"
+IsSpan text (Micros n) = (is_blank text ≡ false) × AddUpTo text n × (n ≤ span_limit)
+
+-- each word of the text tells an end, and the set holds the ends that they tell and no other
+pub record IsExitSet (text : List ℕ) (holds : End → Bool) : Type 0 where
+  pub readable : list_all is_exit (words_in text) ≡ true
+  pub exact : (end : End) → holds end ≡ tells_end text end
+
+-- ---- the laws
 
 -- a run of digits doesn't begin with whitespace
 no_space_first : (b : ℕ) (bs : List ℕ) → 0 < length (digits_of (b ∷ bs)) → is_space b ≡ true → ⊥
@@ -33,20 +62,12 @@ no_space_first b bs some white = elim (cases_Bool (is_digit b)) [
   | inr other ↦ let none : digits_of (b ∷ bs) ≡ [] = take_while-cons is_digit b bs ∙ cond-false _ _ _ other in omega (arith, ap length none)
 ]
 
--- whitespace in front changes no sum
-pub sum-untrimmed : (text : List ℕ) (n : ℕ) → AddUpTo (trim_start text) n → AddUpTo text n
-sum-untrimmed [] n sum = sum
-sum-untrimmed (b ∷ bs) n sum = elim (cases_Bool (is_space b)) [
-  | inl white ↦ space b bs n white (sum-untrimmed bs n (subst (λ x. AddUpTo x n) (cond-true _ _ _ white) sum))
-  | inr other ↦ subst (λ x. AddUpTo x n) (cond-false _ _ _ other) sum
-]
-
-pub sum-trimmed : (text : List ℕ) (n : ℕ) → AddUpTo text n → AddUpTo (trim_start text) n
-sum-trimmed text n nothing = nothing
-sum-trimmed text n (space b more m white sum) = subst (λ x. AddUpTo x m) (sym (cond-true _ _ _ white)) (sum-trimmed more m sum)
-sum-trimmed [] n (part text first m time sum) = absurd (omega (arith, time.some))
-sum-trimmed (b ∷ bs) n (part text first m time sum) =
-    subst (λ x. AddUpTo x (first + m)) (sym (cond-false _ _ _ (false_from_ne_true _ (no_space_first b bs time.some)))) (part (b ∷ bs) first m time sum)
+-- A number and a unit say so many microseconds, in other words.
+pub record IsTime (digits unit : List ℕ) (n : ℕ) : Type 0 where
+  pub some : 0 < length digits
+  pub size : ℕ
+  pub unit_is : unit_size unit ≡ Some size
+  pub value : n ≡ decimal digits * size
 
 -- a number and a unit say one time
 pub one_time : (digits unit : List ℕ) (a b : ℕ) → IsTime digits unit a → IsTime digits unit b → a ≡ b
@@ -59,13 +80,114 @@ trim_start-le (b ∷ bs) = elim (cases_Bool (is_space b)) [
   | inr other ↦ let e : trim_start (b ∷ bs) ≡ b ∷ bs = cond-false _ _ _ other in omega (arith, ap length e)
 ]
 
+-- the time of a number and its unit
+time_of-IsTime : (digits unit : List ℕ) (n : ℕ) → IsTime digits unit n → time_of digits unit ≡ Some n
+time_of-IsTime digits unit n time =
+    cond-true _ _ _ (lt-ltb 0 (length digits) time.some) ∙ ap (option_map (λ size. decimal digits * size)) time.unit_is ∙ ap Some (sym time.value)
+
+mapped : {A B : Type 0} (f : A → B) (r : Option A) (y : B) → option_map f r ≡ Some y → (x : A) × (r ≡ Some x) × (f x ≡ y)
+mapped f None y e = absurd (none-some y e)
+mapped f (Some x) y e = (x, refl, same_Some (f x) y e)
+
+IsTime-time_of : (digits unit : List ℕ) (n : ℕ) → time_of digits unit ≡ Some n → IsTime digits unit n
+IsTime-time_of digits unit n e = elim (cases_Bool (nat_lt 0 (length digits))) [
+  | inl some ↦
+      let t = mapped (λ size. decimal digits * size) (unit_size unit) n (sym (cond-true _ _ _ some) ∙ e) in
+      record { some = ltb-true 0 (length digits) some; size = t.0; unit_is = t.1; value = sym t.2 }
+  | inr other ↦ absurd (none-some n (sym (cond-false _ _ _ other) ∙ e))
+]
+
+trimmed_follows : (m : ℕ) (text : List ℕ) → Follows text (drop m (trim_start text))
+trimmed_follows m text =
+    let cut = trim_start_cuts text in
+    let rest = trim_start text in (
+      cut.front ++ take m rest,
+      cut.parts ∙ ap (λ x. cut.front ++ x) (sym (take-append-drop m rest)) ∙ sym (append_assoc cut.front (take m rest) (drop m rest)),
+    )
+
+part_follows : (n m b : ℕ) (bs : List ℕ) → 0 < n → Follows bs (drop m (trim_start (drop n (b ∷ bs))))
+part_follows zero m b bs some = absurd (omega arith)
+part_follows (suc n) m b bs some =
+    let later = trimmed_follows m (drop n bs) in
+    (take n bs ++ later.0, sym (take-append-drop n bs) ∙ ap (λ x. take n bs ++ x) later.1 ∙ sym (append_assoc (take n bs) later.0 _))
+
+-- a part takes a byte at least
+past_follows : (b : ℕ) (bs : List ℕ) → 0 < length (digits_of (b ∷ bs)) → Follows bs (past_part (b ∷ bs))
+past_follows b bs some = part_follows (length (digits_of (b ∷ bs))) (length (unit_of (b ∷ bs))) b bs some
+
+-- what the times of a text add up to
+abbrev sum_in : List ℕ → Option ℕ
+sum_in text = option_map sum (reading time_front 0 text)
+
+sum_in-AddUpTo : (text : List ℕ) (n : ℕ) → AddUpTo text n → sum_in text ≡ Some n
+sum_in-AddUpTo text n add = ap (option_map sum) (reading-StandsForText time_front text add.0 add.1) ∙ ap Some add.2
+
+AddUpTo-sum_in : (text : List ℕ) (n : ℕ) → sum_in text ≡ Some n → AddUpTo text n
+AddUpTo-sum_in text n e =
+    let t = mapped sum (reading time_front 0 text) n e in
+    (t.0, StandsForText-reading time_front text t.0 t.1, t.2)
+
+space_sum : (b : ℕ) (bs : List ℕ) → is_space b ≡ true → sum_in (b ∷ bs) ≡ sum_in bs
+space_sum b bs white = ap (option_map sum) (reading_first time_front b 1 bs [] (cond-true _ _ _ white) ∙ prefixed-nil (reading time_front 0 bs))
+
+trimmed_sum : (text : List ℕ) → sum_in (trim_start text) ≡ sum_in text
+trimmed_sum [] = refl
+trimmed_sum (b ∷ bs) = elim (cases_Bool (is_space b)) [
+  | inl white ↦ ap sum_in (cond-true _ _ _ white) ∙ trimmed_sum bs ∙ sym (space_sum b bs white)
+  | inr other ↦ ap sum_in (cond-false _ _ _ other)
+]
+
+-- whitespace in front changes no sum
+pub sum-untrimmed : (text : List ℕ) (n : ℕ) → AddUpTo (trim_start text) n → AddUpTo text n
+sum-untrimmed text n adds = AddUpTo-sum_in text n (sym (trimmed_sum text) ∙ sum_in-AddUpTo (trim_start text) n adds)
+
+pub sum-trimmed : (text : List ℕ) (n : ℕ) → AddUpTo text n → AddUpTo (trim_start text) n
+sum-trimmed text n adds = AddUpTo-sum_in (trim_start text) n (trimmed_sum text ∙ sum_in-AddUpTo text n adds)
+
+sum_of_first : (first : ℕ) (r : Option (List ℕ)) → option_map sum (prefixed (first ∷ []) r) ≡ option_map (λ m. first + m) (option_map sum r)
+sum_of_first first None = refl
+sum_of_first first (Some times) = ap Some (sum_by-cons (λ x. x) first times)
+
+part_sum : (b : ℕ) (bs : List ℕ) (first : ℕ) → is_space b ≡ false → IsTime (digits_of (b ∷ bs)) (unit_of (b ∷ bs)) first
+    → sum_in (b ∷ bs) ≡ option_map (λ m. first + m) (sum_in (past_part (b ∷ bs)))
+part_sum b bs first apart time =
+    let text = b ∷ bs in
+    let past = past_part text in
+    let n = length text - length past in
+    let front = cond-false _ _ _ apart ∙ ap (λ t. front_of (option_map (λ m. m ∷ []) t) n) (time_of-IsTime (digits_of text) (unit_of text) first time) in
+    ap (option_map sum) (reading_first time_front b n bs (first ∷ []) front ∙ ap (λ t. prefixed (first ∷ []) (reading time_front 0 t)) (past_piece b bs past (past_follows b bs time.some)))
+    ∙ sum_of_first first (reading time_front 0 past)
+
+-- a sum of nothing, and of one part more
+pub nothing : AddUpTo [] 0
+nothing = ([], done, refl)
+
+pub part : (text : List ℕ) (first n : ℕ) → IsTime (digits_of text) (unit_of text) first → AddUpTo (past_part text) n → AddUpTo text (first + n)
+part [] first n time adds = absurd (omega (arith, time.some))
+part (b ∷ bs) first n time adds =
+    AddUpTo-sum_in (b ∷ bs) (first + n)
+    (part_sum b bs first (false_from_ne_true _ (no_space_first b bs time.some)) time ∙ ap (option_map (λ m. first + m)) (sum_in-AddUpTo (past_part (b ∷ bs)) n adds))
+
 -- a text that is trimmed in front and isn't empty begins with a part
 pub sum-first : (text : List ℕ) (n : ℕ) → trim_start text ≡ text → is_empty text ≡ false → AddUpTo text n
     → (first : ℕ) × (m : ℕ) × IsTime (digits_of text) (unit_of text) first × AddUpTo (past_part text) m × (n ≡ first + m)
-sum-first text n trimmed some nothing = absurd (true≢false some)
-sum-first text n trimmed some (space b more m white sum) =
-    absurd (omega (arith, trim_start-le more, ap length (sym (cond-true (is_space b) (trim_start more) (b ∷ more) white) ∙ trimmed)))
-sum-first text n trimmed some (part t first m time sum) = (first, m, time, sum, refl)
+sum-first [] n trimmed some adds = absurd (true≢false some)
+sum-first (b ∷ bs) n trimmed some adds = elim (cases_Bool (is_space b)) [
+  | inl white ↦ absurd (omega (arith, trim_start-le bs, ap length (sym (cond-true (is_space b) (trim_start bs) (b ∷ bs) white) ∙ trimmed)))
+  | inr apart ↦
+      let text = b ∷ bs in
+      let size = length text - length (past_part text) in
+      elim (time_of (digits_of text) (unit_of text)) as
+      (λ t. time_of (digits_of text) (unit_of text) ≡ t → (first : ℕ) × (m : ℕ) × IsTime (digits_of text) (unit_of text) first × AddUpTo (past_part text) m × (n ≡ first + m)) [
+        | None ↦ λ e.
+            let none = ap (λ f. option_map sum (read_by_front f (λ k. reading time_front k bs))) (cond-false _ _ _ apart ∙ ap (λ t. front_of (option_map (λ m. m ∷ []) t) size) e) in
+            absurd (none-some n (sym none ∙ sum_in-AddUpTo text n adds))
+        | Some first ↦ λ e.
+            let time = IsTime-time_of (digits_of text) (unit_of text) first e in
+            let t = mapped (λ m. first + m) (sum_in (past_part text)) n (sym (part_sum b bs first apart time) ∙ sum_in-AddUpTo text n adds) in
+            (first, t.0, time, AddUpTo-sum_in (past_part text) t.0 t.1, sym t.2)
+      ] refl
+]
 
 pub trim_start-trim_start : (text : List ℕ) → trim_start (trim_start text) ≡ trim_start text
 trim_start-trim_start [] = refl
@@ -162,97 +284,6 @@ pub restart_text-policy_named : (text : List ℕ) (policy : RestartPolicy) → p
 unfolding policy_named
 restart_text-policy_named text policy e = sym ((bytes_eq-Decides text (restart_text policy)).0 (found_so (λ p. bytes_eq text (restart_text p)) policies policy e))
 
--- the time of a number and its unit
-time_of-IsTime : (digits unit : List ℕ) (n : ℕ) → IsTime digits unit n → time_of digits unit ≡ Some n
-time_of-IsTime digits unit n time =
-    cond-true _ _ _ (lt-ltb 0 (length digits) time.some) ∙ ap (option_map (λ size. decimal digits * size)) time.unit_is ∙ ap Some (sym time.value)
-
-mapped : {A B : Type 0} (f : A → B) (r : Option A) (y : B) → option_map f r ≡ Some y → (x : A) × (r ≡ Some x) × (f x ≡ y)
-mapped f None y e = absurd (none-some y e)
-mapped f (Some x) y e = (x, refl, same_Some (f x) y e)
-
-IsTime-time_of : (digits unit : List ℕ) (n : ℕ) → time_of digits unit ≡ Some n → IsTime digits unit n
-IsTime-time_of digits unit n e = elim (cases_Bool (nat_lt 0 (length digits))) [
-  | inl some ↦
-      let t = mapped (λ size. decimal digits * size) (unit_size unit) n (sym (cond-true _ _ _ some) ∙ e) in
-      record { some = ltb-true 0 (length digits) some; size = t.0; unit_is = t.1; value = sym t.2 }
-  | inr other ↦ absurd (none-some n (sym (cond-false _ _ _ other) ∙ e))
-]
-
--- what is in front of the rest of a text
-abbrev Follows : List ℕ → List ℕ → Type 0
-Follows text rest = (front : List ℕ) × (text ≡ front ++ rest)
-
-trimmed_follows : (m : ℕ) (text : List ℕ) → Follows text (drop m (trim_start text))
-trimmed_follows m text =
-    let cut = trim_start_cuts text in
-    let rest = trim_start text in (
-      cut.front ++ take m rest,
-      cut.parts ∙ ap (λ x. cut.front ++ x) (sym (take-append-drop m rest)) ∙ sym (append_assoc cut.front (take m rest) (drop m rest)),
-    )
-
-part_follows : (n m b : ℕ) (bs : List ℕ) → 0 < n → Follows bs (drop m (trim_start (drop n (b ∷ bs))))
-part_follows zero m b bs some = absurd (omega arith)
-part_follows (suc n) m b bs some =
-    let later = trimmed_follows m (drop n bs) in
-    (take n bs ++ later.0, sym (take-append-drop n bs) ∙ ap (λ x. take n bs ++ x) later.1 ∙ sym (append_assoc (take n bs) later.0 _))
-
--- a part takes a byte at least
-past_follows : (b : ℕ) (bs : List ℕ) → 0 < length (digits_of (b ∷ bs)) → Follows bs (past_part (b ∷ bs))
-past_follows b bs some = part_follows (length (digits_of (b ∷ bs))) (length (unit_of (b ∷ bs))) b bs some
-
-parts_skip : (n : ℕ) (bs : List ℕ) → parts_of n bs ≡ parts_of 0 (drop n bs)
-parts_skip zero bs = refl
-parts_skip (suc n) [] = refl
-parts_skip (suc n) (b ∷ bs) = parts_skip n bs
-
--- behind a first part the rest is added up
-past_read : (bs past : List ℕ) → Follows bs past → parts_of (length bs - length past) bs ≡ parts_of 0 past
-past_read bs past at =
-    let place : length bs - length past ≡ length at.0 = omega (arith, ap length at.1, length-append at.0 past) in
-    parts_skip (length bs - length past) bs
-    ∙ ap (parts_of 0) (ap (λ n. drop n bs) place ∙ ap (drop (length at.0)) at.1 ∙ drop-append_seam at.0 past)
-
--- the function finds each sum
-pub parts_of-AddUpTo : (text : List ℕ) (n : ℕ) → AddUpTo text n → parts_of 0 text ≡ Some n
-parts_of-AddUpTo text n nothing = refl
-parts_of-AddUpTo text n (space b bs m white sum) = cond-true _ _ _ white ∙ parts_of-AddUpTo bs m sum
-parts_of-AddUpTo [] n (part text first m time sum) = absurd (omega (arith, time.some))
-parts_of-AddUpTo (b ∷ bs) n (part text first m time sum) =
-    let past = past_part (b ∷ bs) in
-    cond-false _ _ _ (false_from_ne_true _ (no_space_first b bs time.some))
-    ∙ ap (λ r. sum_of r (parts_of (length bs - length past) bs)) (time_of-IsTime (digits_of (b ∷ bs)) (unit_of (b ∷ bs)) first time)
-    ∙ ap (sum_of (Some first)) (past_read bs past (past_follows b bs time.some) ∙ parts_of-AddUpTo past m sum)
-
-summed : (r s : Option ℕ) (n : ℕ) → sum_of r s ≡ Some n → (first : ℕ) × (m : ℕ) × (r ≡ Some first) × (s ≡ Some m) × (first + m ≡ n)
-summed None s n e = absurd (none-some n e)
-summed (Some first) s n e = let t = mapped (λ m. first + m) s n e in (first, t.0, refl, t.1, t.2)
-
-abbrev FindsSums : ℕ → Type 0
-FindsSums size = (text : List ℕ) (n : ℕ) → length text ≤ size → parts_of 0 text ≡ Some n → AddUpTo text n
-
-by_part : (size : ℕ) → FindsSums size → (b : ℕ) (bs : List ℕ) (n : ℕ) → length bs ≤ size
-    → sum_of (time_of (digits_of (b ∷ bs)) (unit_of (b ∷ bs))) (parts_of (length bs - length (past_part (b ∷ bs))) bs) ≡ Some n → AddUpTo (b ∷ bs) n
-by_part size finds b bs n small e =
-    let past = past_part (b ∷ bs) in
-    let t = summed (time_of (digits_of (b ∷ bs)) (unit_of (b ∷ bs))) (parts_of (length bs - length past) bs) n e in
-    let time = IsTime-time_of (digits_of (b ∷ bs)) (unit_of (b ∷ bs)) t.0 t.2 in
-    let at = past_follows b bs time.some in
-    subst (AddUpTo (b ∷ bs)) t.4
-    (part (b ∷ bs) t.0 t.1 time (finds past t.1 (omega (arith, ap length at.1, length-append at.0 past)) (sym (past_read bs past at) ∙ t.3)))
-
-AddUpTo-sized : (size : ℕ) → FindsSums size
-AddUpTo-sized size [] n small e = subst (AddUpTo []) (same_Some 0 n e) nothing
-AddUpTo-sized zero (b ∷ bs) n small e = absurd (omega arith)
-AddUpTo-sized (suc size) (b ∷ bs) n small e = elim (cases_Bool (is_space b)) [
-  | inl white ↦ space b bs n white (AddUpTo-sized size bs n (omega arith) (sym (cond-true _ _ _ white) ∙ e))
-  | inr apart ↦ by_part size (AddUpTo-sized size) b bs n (omega arith) (sym (cond-false _ _ _ apart) ∙ e)
-]
-
--- what the function finds is a sum
-pub AddUpTo-parts_of : (text : List ℕ) (n : ℕ) → parts_of 0 text ≡ Some n → AddUpTo text n
-AddUpTo-parts_of text n e = AddUpTo-sized (length text) text n (omega arith) e
-
 -- a text that adds up to something isn't the word for an endless span
 not_endless : (text : List ℕ) (n : ℕ) → AddUpTo text n → bytes_eq text (codes "infinity") ≡ false
 not_endless text n sum =
@@ -265,23 +296,23 @@ span_of-IsSpan text Infinite is = cond-true _ _ _ ((bytes_eq-Decides text (codes
 span_of-IsSpan text (Micros n) is =
     cond-false _ _ _ (not_endless text n is.1)
     ∙ cond-false _ _ _ is.0
-    ∙ ap span_within (parts_of-AddUpTo text n is.1)
+    ∙ ap (option_and_then span_within) (sum_in-AddUpTo text n is.1)
     ∙ cond-true _ _ _ (le-leb n span_limit is.2)
 
-within_limit : (r : Option ℕ) (span : TimeSpan) → span_within r ≡ Some span → (n : ℕ) × (r ≡ Some n) × (n ≤ span_limit) × (Micros n ≡ span)
+within_limit : (r : Option ℕ) (span : TimeSpan) → option_and_then span_within r ≡ Some span → (n : ℕ) × (r ≡ Some n) × (n ≤ span_limit) × (Micros n ≡ span)
 within_limit None span e = absurd (none-some span e)
 within_limit (Some n) span e = elim (cases_Bool (leb n span_limit)) [
   | inl fits ↦ (n, refl, leb-true n span_limit fits, same_Some (Micros n) span (sym (cond-true _ _ _ fits) ∙ e))
   | inr other ↦ absurd (none-some span (sym (cond-false _ _ _ other) ∙ e))
 ]
 
-span_by : (text : List ℕ) (endless empty : Bool) (span : TimeSpan) → bytes_eq text (codes "infinity") ≡ endless → is_empty (trim_start text) ≡ empty
-    → cond endless (Some Infinite) (cond empty None (span_within (parts_of 0 text))) ≡ Some span → IsSpan text span
+span_by : (text : List ℕ) (endless empty : Bool) (span : TimeSpan) → bytes_eq text (codes "infinity") ≡ endless → is_blank text ≡ empty
+    → cond endless (Some Infinite) (cond empty None (option_and_then span_within (sum_in text))) ≡ Some span → IsSpan text span
 span_by text true empty span is other e = subst (IsSpan text) (same_Some Infinite span e) ((bytes_eq-Decides text (codes "infinity")).0 is)
 span_by text false true span is other e = absurd (none-some span e)
 span_by text false false span is some e =
-    let t = within_limit (parts_of 0 text) span e in
-    subst (IsSpan text) t.3 (some, AddUpTo-parts_of text t.0 t.1, t.2)
+    let t = within_limit (sum_in text) span e in
+    subst (IsSpan text) t.3 (some, AddUpTo-sum_in text t.0 t.1, t.2)
 
 pub IsSpan-span_of : (text : List ℕ) (span : TimeSpan) → span_of text ≡ Some span → IsSpan text span
 unfolding span_of

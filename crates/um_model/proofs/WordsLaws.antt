@@ -1,9 +1,9 @@
 -- The laws of words: at most one reading, and the function that finds it.
 use Rattle.std.proofs.Common.{◌≡◌, ◌<◌, ◌≤◌, ℕ, zero, suc, ◌+◌, ◌-◌, Bool, true, false, ◌||◌, not, cond, eqb, List, [], ◌∷◌, ◌++◌, length, take, drop, map, Option, Some, None, option_map, refl, sym, ap, ◌∙◌, subst, inl, inr, append_assoc, append-nil, arith}
 use Rattle.std.specs.Prelude.{IfSome, ◌&&◌, nat_lt}
+use Rattle.std.specs.Option.{option_map_or}
 use Rattle.std.specs.List.{prefix_len, flat_map, slice_split, onto_first}
-use Rattle.std.proofs.lemmas.List.{drop-drop, length-drop, length-append, take-append-drop}
-use Rattle.std.proofs.Math.Seq.{drop-append_seam}
+use Rattle.std.proofs.lemmas.List.{drop-drop, length-drop, take-append-drop}
 use Rattle.std.proofs.lemmas.Bool.{cases_Bool, true≢false, cond-true, cond-false, or_parts, or_cases, not-true, not-false, eqb-true}
 use Rattle.std.proofs.lemmas.Option.{some_pair_parts, none-some, same_Some}
 use Rattle.um_model.specs.Ascii.{is_space}
@@ -12,7 +12,10 @@ use Rattle.um_model.specs.declared.words.WordRules.{WordRules}
 use Rattle.um_model.specs.declared.words.WordRules.TheVariants.{Escaped, Plain, Names}
 pub use Rattle.um_model.specs.Words.{with_front, at_end, by_spelling, read}
 use Rattle.um_model.proofs.FindsLaws.{one_found}
-use Rattle.um_model.specs.Words.{is_quote, Spelling, Stop, Bad, Turn, Means, Kept, begins_escape, meaning_of, hex_value, hex_spelling, is_left_out, rare_escape, means_or, escape, bare, spelled_at, may_end, InWord, ends, stops, turns, stands, keeps, Word, before, AreSpelled, none, space, word_first, values_of, AreWords, Command, is_separator, value_in_command, command_of, commands_of, AreCommands, word_then, read_words, words_of, commands_read}
+use Rattle.um_model.specs.Words.{is_quote, Spelling, Stop, Bad, Turn, Means, Kept, begins_escape, meaning_of, hex_value, hex_spelling, is_left_out, rare_escape, escape, bare, spelled_at, may_end, Word, before, word_front, piece_of_words, values_of, AreWords, words_of}
+use Rattle.um_model.specs.Commands.{Command, is_separator, value_in_command, command_of, commands_of, commands_read}
+use Rattle.um_model.specs.Pieces.{StandsForText, reading}
+use Rattle.um_model.proofs.PiecesLaws.{prefixed, read_by_front, reading_first, reading-StandsForText, StandsForText-reading, prefixed-nil, Follows, past_piece}
 
 -- the byte ends or turns a word, outside quotes or in one
 abbrev pub marks : Option ℕ → ℕ → Bool
@@ -22,6 +25,17 @@ marks (Some quote) b = eqb b quote
 -- the byte stands for itself
 abbrev pub is_plain : WordRules → Option ℕ → ℕ → Bool
 is_plain rules quote b = not (begins_escape rules b || marks quote b)
+
+-- The word at the front of a text in other words: inside this quote, or none, the text begins with spellings of the word's bytes up to the word's end, and then the rest
+pub data InWord (rules : WordRules) : Option ℕ → List ℕ → List ℕ → List ℕ → Type 0 where
+  ends : (quote : Option ℕ) → may_end rules quote ≡ true → InWord rules quote [] [] []
+  stops : (quote : Option ℕ) (b : ℕ) (bs : List ℕ) → spelled_at rules quote b bs ≡ Stop → InWord rules quote (b ∷ bs) [] (b ∷ bs)
+  turns : (quote other : Option ℕ) (b : ℕ) (bs word rest : List ℕ) → spelled_at rules quote b bs ≡ Turn other
+      → InWord rules other bs word rest → InWord rules quote (b ∷ bs) word rest
+  stands : (quote : Option ℕ) (b meaning n : ℕ) (bs word rest : List ℕ) → spelled_at rules quote b bs ≡ Means meaning n
+      → InWord rules quote (drop (n - 1) bs) word rest → InWord rules quote (b ∷ bs) (meaning ∷ word) rest
+  keeps : (quote : Option ℕ) (b n : ℕ) (bs word rest : List ℕ) → spelled_at rules quote b bs ≡ Kept n
+      → InWord rules quote (drop (n - 1) bs) word rest → InWord rules quote (b ∷ bs) (b ∷ take (n - 1) bs ++ word) rest
 
 drop_cons : (b : ℕ) (bs : List ℕ) (n : ℕ) → 1 ≤ n → drop n (b ∷ bs) ≡ drop (n - 1) bs
 drop_cons b bs zero h = absurd (omega arith)
@@ -203,7 +217,7 @@ goes_either : (t : Bool) (f g : Spelling) → is_stop f ≡ false → is_stop g 
 goes_either true f g first second = first
 goes_either false f g first second = second
 
-goes_meant : (meaning : Option ℕ) (other : Spelling) → is_stop other ≡ false → is_stop (means_or meaning other) ≡ false
+goes_meant : (meaning : Option ℕ) (other : Spelling) → is_stop other ≡ false → is_stop (option_map_or (λ m. Means m 2) meaning other) ≡ false
 goes_meant (Some meaning) other goes = refl
 goes_meant None other goes = goes
 
@@ -224,10 +238,6 @@ bare_goes b apart = ap is_stop (cond-false _ _ _ apart) ∙ goes_either (is_quot
 -- outside quotes whitespace alone ends a word
 word_goes : (rules : WordRules) (b : ℕ) (bs : List ℕ) → is_space b ≡ false → spelled_at rules None b bs ≡ Stop → ⊥
 word_goes rules b bs apart e = true≢false (sym (ap is_stop e) ∙ goes_either (begins_escape rules b) (escape bs) (bare None b) (escape_goes bs) (bare_goes b apart))
-
--- what is in front of the rest of a text
-abbrev Follows : List ℕ → List ℕ → Type 0
-Follows text rest = (front : List ℕ) × (text ≡ front ++ rest)
 
 follows_more : (bs rest : List ℕ) (n : ℕ) → Follows (drop n bs) rest → Follows bs rest
 follows_more bs rest n later =
@@ -252,106 +262,64 @@ rest_follows_first rules b bs word rest apart (stands q c meaning n more w r e i
 rest_follows_first rules b bs word rest apart (keeps q c n more w r e inside) =
     follows_more more r (n - 1) (rest_follows rules q (drop (n - 1) more) w r inside)
 
-read_words_skip : (rules : WordRules) (n : ℕ) (bs : List ℕ) → read_words rules n bs ≡ read_words rules 0 (drop n bs)
-read_words_skip rules zero bs = refl
-read_words_skip rules (suc n) [] = refl
-read_words_skip rules (suc n) (b ∷ bs) = read_words_skip rules n bs
-
--- behind a first word the rest is read
-rest_read : (rules : WordRules) (b : ℕ) (bs rest : List ℕ) → Follows bs rest → read_words rules (length (b ∷ bs) - length rest - 1) bs ≡ read_words rules 0 rest
-rest_read rules b bs rest at =
-    let place : length (b ∷ bs) - length rest - 1 ≡ length at.0 = omega (arith, ap length at.1, length-append at.0 rest) in
-    read_words_skip rules (length (b ∷ bs) - length rest - 1) bs
-    ∙ ap (read_words rules 0) (ap (λ n. drop n bs) place ∙ ap (drop (length at.0)) at.1 ∙ drop-append_seam at.0 rest)
-
 -- a text that begins with whitespace is as many words as what follows
-pub space_read : (rules : WordRules) (b : ℕ) (bs : List ℕ) → is_space b ≡ true → read_words rules 0 (b ∷ bs) ≡ read_words rules 0 bs
-space_read rules b bs white = cond-true _ _ _ white
+pub space_read : (rules : WordRules) (b : ℕ) (bs : List ℕ) → is_space b ≡ true → reading (piece_of_words rules) 0 (b ∷ bs) ≡ reading (piece_of_words rules) 0 bs
+space_read rules b bs white = reading_first (piece_of_words rules) b 1 bs [] (cond-true _ _ _ white) ∙ prefixed-nil (reading (piece_of_words rules) 0 bs)
 
 -- a word that is read at the front of a text
 abbrev pub first_word : List ℕ → List ℕ → List ℕ → Word
 first_word text rest value = record { spelling = before rest text; value = value }
 
-first_read : (rules : WordRules) (b : ℕ) (bs value rest : List ℕ) → is_space b ≡ false → InWord rules None (b ∷ bs) value rest
-    → read_words rules 0 (b ∷ bs) ≡ option_map (λ words. first_word (b ∷ bs) rest value ∷ words) (read_words rules 0 rest)
-first_read rules b bs value rest apart inside =
-    cond-false _ _ _ apart
-    ∙ ap (λ r. word_then r (b ∷ bs) (λ n. read_words rules n bs)) (read-InWord rules None (b ∷ bs) value rest inside)
-    ∙ ap (option_map (λ words. first_word (b ∷ bs) rest value ∷ words)) (rest_read rules b bs rest (rest_follows_first rules b bs value rest apart inside))
+first_read : (rules : WordRules) (b : ℕ) (bs value rest : List ℕ) → is_space b ≡ false → read rules 0 None (b ∷ bs) ≡ Some (value, rest)
+    → reading (piece_of_words rules) 0 (b ∷ bs) ≡ option_map (λ words. first_word (b ∷ bs) rest value ∷ words) (reading (piece_of_words rules) 0 rest)
+first_read rules b bs value rest apart found =
+    let inside = InWord-read rules (length (b ∷ bs)) None (b ∷ bs) value rest (omega arith) found in
+    let first = first_word (b ∷ bs) rest value in
+    reading_first (piece_of_words rules) b (length (b ∷ bs) - length rest) bs (first ∷ []) (cond-false _ _ _ apart ∙ ap (word_front (b ∷ bs)) found)
+    ∙ ap (λ t. prefixed (first ∷ []) (reading (piece_of_words rules) 0 t)) (past_piece b bs rest (rest_follows_first rules b bs value rest apart inside))
 
 -- a text that begins with a word is this word, and the words that follow it
 pub word_read : (rules : WordRules) (text rest later : List ℕ) (b : ℕ) (value : List ℕ) → text ≡ b ∷ later → is_space b ≡ false
     → read rules 0 None text ≡ Some (value, rest)
-    → read_words rules 0 text ≡ option_map (λ words. first_word text rest value ∷ words) (read_words rules 0 rest)
+    → reading (piece_of_words rules) 0 text ≡ option_map (λ words. first_word text rest value ∷ words) (reading (piece_of_words rules) 0 rest)
 word_read rules text rest later b value e apart found =
-    ap (read_words rules 0) e
-    ∙ first_read rules b later value rest apart (InWord-read rules (length (b ∷ later)) None (b ∷ later) value rest (omega arith) (ap (read rules 0 None) (sym e) ∙ found))
-    ∙ ap (λ t. option_map (λ words. first_word t rest value ∷ words) (read_words rules 0 rest)) (sym e)
+    ap (reading (piece_of_words rules) 0) e
+    ∙ first_read rules b later value rest apart (ap (read rules 0 None) (sym e) ∙ found)
+    ∙ ap (λ t. option_map (λ words. first_word t rest value ∷ words) (reading (piece_of_words rules) 0 rest)) (sym e)
 
 -- where no word is read there are none
-pub none_read : (rules : WordRules) (text later : List ℕ) (b : ℕ) → text ≡ b ∷ later → is_space b ≡ false → read rules 0 None text ≡ None → read_words rules 0 text ≡ None
+pub none_read : (rules : WordRules) (text later : List ℕ) (b : ℕ) → text ≡ b ∷ later → is_space b ≡ false → read rules 0 None text ≡ None → reading (piece_of_words rules) 0 text ≡ None
 none_read rules text later b e apart nothing =
-    ap (read_words rules 0) e ∙ cond-false _ _ _ apart
-    ∙ ap (λ r. word_then r (b ∷ later) (λ n. read_words rules n later)) (ap (read rules 0 None) (sym e) ∙ nothing)
-
--- the function finds each reading of a text as words
-pub read_words-AreSpelled : (rules : WordRules) (text : List ℕ) (words : List Word) → AreSpelled rules text words → read_words rules 0 text ≡ Some words
-read_words-AreSpelled rules text words none = refl
-read_words-AreSpelled rules text words (space b bs ws white are) = space_read rules b bs white ∙ read_words-AreSpelled rules bs ws are
-read_words-AreSpelled rules text words (word_first b bs value rest ws apart inside are) =
-    first_read rules b bs value rest apart inside ∙ ap (option_map (λ more. first_word (b ∷ bs) rest value ∷ more)) (read_words-AreSpelled rules rest ws are)
-
-abbrev FindsSpelled : WordRules → ℕ → Type 0
-FindsSpelled rules size = (text : List ℕ) (words : List Word) → length text ≤ size → read_words rules 0 text ≡ Some words → AreSpelled rules text words
-
-by_first : (rules : WordRules) (size : ℕ) → FindsSpelled rules size → (r : Option (List ℕ × List ℕ)) (b : ℕ) (bs : List ℕ) (words : List Word) → length bs ≤ size
-    → is_space b ≡ false → read rules 0 None (b ∷ bs) ≡ r → word_then r (b ∷ bs) (λ n. read_words rules n bs) ≡ Some words → AreSpelled rules (b ∷ bs) words
-by_first rules size finds None b bs words small apart is h = absurd (none-some words h)
-by_first rules size finds (Some p) b bs words small apart is h =
-    let inside = InWord-read rules (length (b ∷ bs)) None (b ∷ bs) p.0 p.1 (omega arith) is in
-    let at = rest_follows_first rules b bs p.0 p.1 apart inside in
-    let t = mapped (λ ws. first_word (b ∷ bs) p.1 p.0 ∷ ws) (read_words rules (length (b ∷ bs) - length p.1 - 1) bs) words h in
-    subst (AreSpelled rules (b ∷ bs)) t.2
-    (word_first b bs p.0 p.1 t.0 apart inside (finds p.1 t.0 (omega (arith, ap length at.1, length-append at.0 p.1)) (sym (rest_read rules b bs p.1 at) ∙ t.1)))
-
-AreSpelled-sized : (rules : WordRules) (size : ℕ) → FindsSpelled rules size
-AreSpelled-sized rules size [] words small e = subst (AreSpelled rules []) (same_Some [] words e) none
-AreSpelled-sized rules zero (b ∷ bs) words small e = absurd (omega arith)
-AreSpelled-sized rules (suc size) (b ∷ bs) words small e = elim (cases_Bool (is_space b)) [
-  | inl white ↦ space b bs words white (AreSpelled-sized rules size bs words (omega arith) (sym (space_read rules b bs white) ∙ e))
-  | inr apart ↦ by_first rules size (AreSpelled-sized rules size) (read rules 0 None (b ∷ bs)) b bs words (omega arith) apart refl (sym (cond-false _ _ _ apart) ∙ e)
-]
-
--- what the function finds is a reading
-pub AreSpelled-read_words : (rules : WordRules) (text : List ℕ) (words : List Word) → read_words rules 0 text ≡ Some words → AreSpelled rules text words
-AreSpelled-read_words rules text words e = AreSpelled-sized rules (length text) text words (omega arith) e
+    ap (reading (piece_of_words rules) 0) e
+    ∙ ap (λ f. read_by_front f (λ n. reading (piece_of_words rules) n later)) (cond-false _ _ _ apart ∙ ap (word_front (b ∷ later)) (ap (read rules 0 None) (sym e) ∙ nothing))
 
 -- the same of what the words stand for
 pub words_of-AreWords : (rules : WordRules) (text : List ℕ) (words : List (List ℕ)) → AreWords rules text words → words_of rules text ≡ Some words
 unfolding words_of
-words_of-AreWords rules text words are = ap (option_map values_of) (read_words-AreSpelled rules text are.0 are.1) ∙ ap Some are.2
+words_of-AreWords rules text words are = ap (option_map values_of) (reading-StandsForText (piece_of_words rules) text are.0 are.1) ∙ ap Some are.2
 
 pub AreWords-words_of : (rules : WordRules) (text : List ℕ) (words : List (List ℕ)) → words_of rules text ≡ Some words → AreWords rules text words
 unfolding words_of
 AreWords-words_of rules text words e =
-    let t = mapped values_of (read_words rules 0 text) words e in
-    (t.0, AreSpelled-read_words rules text t.0 t.1, t.2)
+    let t = mapped values_of (reading (piece_of_words rules) 0 text) words e in
+    (t.0, StandsForText-reading (piece_of_words rules) text t.0 t.1, t.2)
+
+-- the text reads as these commands
+abbrev pub AreCommands : List ℕ → List Command → Type 0
+AreCommands text commands = (spelled : List Word) × StandsForText (piece_of_words Escaped) text spelled × (commands_of spelled ≡ commands)
 
 -- and of commands
 pub commands_read-AreCommands : (text : List ℕ) (commands : List Command) → AreCommands text commands → commands_read text ≡ Some commands
 unfolding commands_read
-commands_read-AreCommands text commands are = ap (option_map commands_of) (read_words-AreSpelled Escaped text are.0 are.1) ∙ ap Some are.2
+commands_read-AreCommands text commands are = ap (option_map commands_of) (reading-StandsForText (piece_of_words Escaped) text are.0 are.1) ∙ ap Some are.2
 
 pub AreCommands-commands_read : (text : List ℕ) (commands : List Command) → commands_read text ≡ Some commands → AreCommands text commands
 unfolding commands_read
 AreCommands-commands_read text commands e =
-    let t = mapped commands_of (read_words Escaped 0 text) commands e in
-    (t.0, AreSpelled-read_words Escaped text t.0 t.1, t.2)
+    let t = mapped commands_of (reading (piece_of_words Escaped) 0 text) commands e in
+    (t.0, StandsForText-reading (piece_of_words Escaped) text t.0 t.1, t.2)
 
 -- each function finds what its relation tells
-
-pub finds_spelled : (rules : WordRules) (text : List ℕ) → Finds (read_words rules 0 text) (AreSpelled rules text)
-finds_spelled rules text = λ words. (AreSpelled-read_words rules text words, read_words-AreSpelled rules text words)
 
 pub finds_words : (rules : WordRules) (text : List ℕ) → Finds (words_of rules text) (AreWords rules text)
 finds_words rules text = λ words. (AreWords-words_of rules text words, words_of-AreWords rules text words)

@@ -1,7 +1,9 @@
 -- The sections and keys of unit files, and what kind of value each key takes.
 -- Follows systemd.unit(5), "[Unit] Section Options" and "[Install] Section Options", and systemd.service(5), "Options".
 -- Settings and warnings stand on this file.
-use Rattle.std.specs.Prelude.{ℕ, Bool, ◌||◌, if◌then◌else◌, nat_eq, List, [], ◌∷◌, find, Option, Some, None, option_map, codes}
+use Rattle.std.specs.Prelude.{ℕ, Bool, ◌||◌, if◌then◌else◌, nat_eq, List, [], ◌∷◌, Option, Some, None, codes}
+use Rattle.std.specs.Map.{lookup}
+use Rattle.std.specs.Option.{option_or}
 use Rattle.std.specs.List.{list_any, starts_with}
 use Rattle.std.specs.Str.{bytes_eq}
 use Rattle.um_model.specs.declared.names.Suffix.{Suffix}
@@ -64,14 +66,6 @@ abbrev pub keys_of : List ℕ → Keys
 keys_of section =
     if bytes_eq section (codes "Unit") then unit_keys else (if bytes_eq section (codes "Install") then install_keys else service_keys)
 
--- the kind of a key's values among these keys
-abbrev pub kind_among : Keys → List ℕ → Option ValueKind
-kind_among keys key = option_map (λ entry. entry.1) (find (λ entry. bytes_eq key entry.0) keys)
-
-abbrev pub or_refused : List ℕ → Option ValueKind → Option ValueKind
-or_refused key (Some kind) = Some kind
-or_refused key None = if is_refused_key key then Some Refused else None
-
 -- the kind of a key's values in a known section, where the key is known
 unfoldable pub kind_of_key : List ℕ → List ℕ → Option ValueKind
-kind_of_key section key = or_refused key (kind_among (keys_of section) key)
+kind_of_key section key = option_or (lookup (bytes_eq key) (keys_of section)) (if is_refused_key key then Some Refused else None)

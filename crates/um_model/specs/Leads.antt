@@ -1,8 +1,8 @@
--- How a name leads to a file, in a reader's words: by a chain of hops, each from a name that a link holds to the next name.
+-- Where a name leads, in a reader's words: by a chain of hops, each from a name that a link holds to the next name, to one of four ends.
 -- Follows systemd.unit(5), "Description" (aliases).
 -- The laws in proofs/LeadsLaws depend on this file, and by them a law of um_resolve.
-use Rattle.std.specs.Prelude.{◌≡◌, ℕ, zero, suc, ◌≤◌, ◌<◌, false, List, length, Some}
-use Rattle.um_model.specs.Resolution.{held, is_mask, next_name}
+use Rattle.std.specs.Prelude.{◌≡◌, ℕ, zero, suc, ◌<◌, true, false, List, [], length, Some, None}
+use Rattle.um_model.specs.Resolution.{Resolution, AtFile, AtNoFile, AtMask, Nowhere, held, is_mask, needs_no_file, next_name}
 use Rattle.um_model.specs.Tree.{Tree, File, Link}
 
 -- a link that doesn't mask holds the name, and leads on to the next one
@@ -13,15 +13,18 @@ pub record Hops (tree : Tree) (name next : List ℕ) : Type 0 where
   pub unmasked : is_mask target ≡ false
   pub leads_on : next_name name target ≡ Some next
 
--- so many hops from the one name to the other
-pub data Leads (tree : Tree) : ℕ → List ℕ → List ℕ → Type 0 where
-  stays : (name : List ℕ) → Leads tree zero name name
-  hop : (count : ℕ) (name next last : List ℕ) → Hops tree name next → Leads tree count next last → Leads tree (suc count) name last
+-- no hop goes on from the name: at a file that isn't empty, a mask, a unit that needs no file, nothing, or a link that leads to no fit name
+pub data EndsAt (tree : Tree) : List ℕ → Resolution → Type 0 where
+  at_file : (unit path text : List ℕ) → held tree unit ≡ Some (path, File text) → 0 < length text → EndsAt tree unit (AtFile unit path text)
+  at_empty_file : (unit path : List ℕ) → held tree unit ≡ Some (path, File []) → EndsAt tree unit (AtMask unit)
+  at_mask : (unit path target : List ℕ) → held tree unit ≡ Some (path, Link target) → is_mask target ≡ true → EndsAt tree unit (AtMask unit)
+  at_no_file : (unit : List ℕ) → held tree unit ≡ None → needs_no_file unit ≡ true → EndsAt tree unit (AtNoFile unit)
+  at_nothing : (unit : List ℕ) → held tree unit ≡ None → needs_no_file unit ≡ false → EndsAt tree unit Nowhere
+  at_no_name : (unit path target : List ℕ) → held tree unit ≡ Some (path, Link target) → is_mask target ≡ false → next_name unit target ≡ None
+      → EndsAt tree unit Nowhere
 
--- by so many hops at most the name leads to the unit that this file holds, which isn't empty
-pub record IsFoundWithin (limit : ℕ) (tree : Tree) (name unit path text : List ℕ) : Type 0 where
-  pub count : ℕ
-  pub few : count ≤ limit
-  pub leads : Leads tree count name unit
-  pub holds : held tree unit ≡ Some (path, File text)
-  pub filled : 0 < length text
+-- by so many hops at most the name leads to this end; one that has further to go leads nowhere
+pub data Leads (tree : Tree) : ℕ → List ℕ → Resolution → Type 0 where
+  ends : (limit : ℕ) (name : List ℕ) (end : Resolution) → EndsAt tree name end → Leads tree limit name end
+  hop : (limit : ℕ) (name next : List ℕ) (end : Resolution) → Hops tree name next → Leads tree limit next end → Leads tree (suc limit) name end
+  too_far : (name next : List ℕ) → Hops tree name next → Leads tree zero name Nowhere

@@ -6,6 +6,7 @@ pub mod Ascii
 pub mod Text
 pub mod Pieces
 pub mod Words
+pub mod Commands
 pub mod Substitution
 pub mod Names
 pub mod Tree

@@ -2,7 +2,8 @@
 -- Follows systemd.unit(5), "Description" and "String Escaping for Inclusion in Unit Names".
 -- The tree, unit files, requests and all that names a unit stand on this file.
 use Rattle.std.specs.Prelude.{◌≡◌, ℕ, ◌+◌, ◌-◌, ◌*◌, ◌/◌, ◌%◌, ◌≤◌, ◌<◌, nat_le, nat_lt, nat_eq, Bool, true, false, not, ◌&&◌, ◌||◌, ◌==◌}
-use Rattle.std.specs.Prelude.{List, [], ◌∷◌, ◌++◌, length, take, slice_index, Option, Some, None, is_some, if◌then◌else◌, codes, find}
+use Rattle.std.specs.Prelude.{List, [], ◌∷◌, ◌++◌, length, take, slice_index, Option, Some, None, is_some, option_map, if◌then◌else◌, codes, find}
+use Rattle.std.specs.Option.{option_map_or}
 use Rattle.std.specs.List.{list_all, ends_with, flat_map}
 use Rattle.std.specs.Char.{digit_char, digit_value}
 use Rattle.um_model.specs.Ascii.{is_digit, is_letter}
@@ -117,14 +118,9 @@ is_stem text = nat_lt 0 (length text) && not (slice_index text 0 == 64) && list_
 unfoldable pub is_unit_name : List ℕ → Bool
 is_unit_name text = nat_le (length text) name_limit && is_some (suffix_of text) && is_stem (stem_of text)
 
--- there is an instance, and it is empty
-abbrev pub is_empty_instance : Option (List ℕ) → Bool
-is_empty_instance None = false
-is_empty_instance (Some instance) = length instance == 0
-
 -- the name is a template: it has an `@` and an empty instance
 abbrev pub is_template : List ℕ → Bool
-is_template name = is_empty_instance (instance_of name)
+is_template name = option_map_or (λ instance. length instance == 0) (instance_of name) false
 
 -- the text of a suffix, where there is one
 abbrev pub suffix_text_of : Option Suffix → List ℕ
@@ -139,14 +135,9 @@ with_instance name instance = prefix_of name ++ (64 ∷ instance ++ suffix_text_
 abbrev pub named : List ℕ → Option (List ℕ)
 named text = if is_unit_name text then Some text else None
 
--- the template of the name, where its instance is this one
-abbrev pub template_for : List ℕ → Option (List ℕ) → Option (List ℕ)
-template_for name None = None
-template_for name (Some instance) = Some (with_instance name [])
-
 -- the template of a name with an instance, empty or not
 abbrev pub template_of : List ℕ → Option (List ℕ)
-template_of name = template_for name (instance_of name)
+template_of name = option_map (λ instance. with_instance name []) (instance_of name)
 
 -- Other text in a name.
 
@@ -176,7 +167,7 @@ abbrev pub is_hex_digit : ℕ → Bool
 is_hex_digit b = is_digit b || (nat_le 97 b && nat_le b 102)
 
 -- what follows a `\` is an `x` and two hexadecimal digits, and gives their byte; anything else is ill escaped
-abbrev pub escape_front : List ℕ → Front
+abbrev pub escape_front : List ℕ → Front ℕ
 escape_front [] = Unreadable
 escape_front (x ∷ []) = Unreadable
 escape_front (x ∷ high ∷ []) = Unreadable
@@ -186,7 +177,7 @@ escape_front (x ∷ high ∷ low ∷ rest) =
     else Unreadable
 
 -- `-` becomes `/`, an escape its byte, and any other byte stays
-abbrev pub unescape_front : ℕ → List ℕ → Front
+abbrev pub unescape_front : ℕ → List ℕ → Front ℕ
 unescape_front b bs = if b == 45 then Gives (47 ∷ []) 1 else (if b == 92 then escape_front bs else Gives (b ∷ []) 1)
 
 -- the text stands for these bytes

@@ -1,11 +1,13 @@
 -- What the value of a setting means under a unit's name: its words with their specifiers expanded, or why it can't be read.
 -- Follows systemd.syntax(7), "Quoting", systemd.unit(5), "Specifiers", and systemd.service(5), "Command lines".
 -- Settings and warnings stand on this file.
-use Rattle.std.specs.Prelude.{ℕ, Bool, ◌&&◌, ◌==◌, if◌then◌else◌, nat_lt, List, [], ◌∷◌, length, map, filter_map, Option, Some, None, Result, Ok, Err}
+use Rattle.std.specs.Prelude.{ℕ, Bool, ◌&&◌, ◌==◌, if◌then◌else◌, nat_lt, List, [], ◌∷◌, length, map, filter_map, Option, Some, None, ok_or, Result, Ok, Err}
+use Rattle.std.specs.Result.{result_ok, result_err}
 use Rattle.std.specs.List.{list_all, before_first, after_first, position_or_len}
 use Rattle.um_model.specs.Names.{is_instance_byte}
 use Rattle.um_model.specs.Specifiers.{expanded_of}
-use Rattle.um_model.specs.Words.{Command, words_of, commands_read, is_executable_word}
+use Rattle.um_model.specs.Commands.{Command, commands_read, is_executable_word}
+use Rattle.um_model.specs.Words.{words_of}
 use Rattle.um_model.specs.Substitution.{Variable, is_variable_name}
 use Rattle.um_model.specs.declared.warnings.WarningKind.{WarningKind}
 use Rattle.um_model.specs.declared.warnings.WarningKind.TheVariants.{UnreadableValue, UnreadableSpecifier}
@@ -15,10 +17,6 @@ use Rattle.um_model.specs.declared.words.WordRules.TheVariants.{Escaped, Names}
 abbrev pub Reading : Type 0 → Type 0
 Reading A = Result A WarningKind
 
-abbrev pub or_warning : {A : Type 0} → WarningKind → Option A → Reading A
-or_warning warning None = Err warning
-or_warning warning (Some a) = Ok a
-
 -- a reading that goes on from another
 abbrev pub then_read : {A B : Type 0} → Reading A → (A → Reading B) → Reading B
 then_read (Err warning) next = Err warning
@@ -26,27 +24,15 @@ then_read (Ok a) next = next a
 
 -- of several readings all, or the first warning
 abbrev pub in_front : {A : Type 0} → Reading A → Reading (List A) → Reading (List A)
-in_front (Err warning) others = Err warning
-in_front (Ok a) (Err warning) = Err warning
-in_front (Ok a) (Ok others) = Ok (a ∷ others)
+in_front first others = then_read first (λ a. then_read others (λ rest. Ok (a ∷ rest)))
 
 abbrev pub all_read : {A : Type 0} → List (Reading A) → Reading (List A)
 all_read [] = Ok []
 all_read (first ∷ others) = in_front first (all_read others)
 
--- what was read, if anything
-abbrev pub read_in : {A : Type 0} → Reading A → Option A
-read_in (Ok a) = Some a
-read_in (Err warning) = None
-
--- the warning, if there is one
-abbrev pub warning_in : {A : Type 0} → Reading A → Option WarningKind
-warning_in (Ok a) = None
-warning_in (Err warning) = Some warning
-
 -- a text with its specifiers expanded
 abbrev pub text_reading : List ℕ → List ℕ → Reading (List ℕ)
-text_reading unit text = or_warning UnreadableSpecifier (expanded_of unit text)
+text_reading unit text = ok_or (expanded_of unit text) UnreadableSpecifier
 
 -- ---- commands and environments: one word that can't be read spoils the value
 
@@ -63,7 +49,7 @@ command_reading unit command = then_read (words_reading unit command.words) (λ 
 
 -- the commands of a value
 unfoldable pub commands_reading : List ℕ → List ℕ → Reading (List Command)
-commands_reading unit value = then_read (or_warning UnreadableValue (commands_read value)) (λ commands. all_read (map (command_reading unit) commands))
+commands_reading unit value = then_read (ok_or (commands_read value) UnreadableValue) (λ commands. all_read (map (command_reading unit) commands))
 
 abbrev pub is_equals : ℕ → Bool
 is_equals b = b == 61
@@ -75,11 +61,11 @@ variable_in word =
     then Some (record { name = before_first is_equals word; value = after_first is_equals word }) else None
 
 abbrev pub variable_reading : List ℕ → List ℕ → Reading Variable
-variable_reading unit word = then_read (text_reading unit word) (λ text. or_warning UnreadableValue (variable_in text))
+variable_reading unit word = then_read (text_reading unit word) (λ text. ok_or (variable_in text) UnreadableValue)
 
 -- the variables of a value
 unfoldable pub environment_reading : List ℕ → List ℕ → Reading (List Variable)
-environment_reading unit value = then_read (or_warning UnreadableValue (words_of Escaped value)) (λ words. all_read (map (variable_reading unit) words))
+environment_reading unit value = then_read (ok_or (words_of Escaped value) UnreadableValue) (λ words. all_read (map (variable_reading unit) words))
 
 -- ---- lists of unit names: a word that can't be read is alone without effect
 
@@ -95,16 +81,16 @@ unfoldable pub names_reading : (List ℕ → Bool) → List ℕ → List ℕ →
 names_reading fits unit value = unit_readings fits unit (words_of Names value)
 
 abbrev pub first_warning : {A : Type 0} → List (Reading A) → Option WarningKind
-first_warning readings = warning_in (all_read readings)
+first_warning readings = result_err (all_read readings)
 
 -- the names that a value tells
 abbrev pub names_said : (List ℕ → Bool) → List ℕ → List ℕ → List (List ℕ)
-names_said fits unit value = filter_map read_in (names_reading fits unit value)
+names_said fits unit value = filter_map result_ok (names_reading fits unit value)
 
 -- ---- values that are one thing
 
 abbrev pub value_reading : {A : Type 0} → Option A → Reading A
-value_reading read = or_warning UnreadableValue read
+value_reading read = ok_or read UnreadableValue
 
 -- an instance has its bytes alone
 abbrev pub instance_in : List ℕ → Option (List ℕ)

@@ -3,6 +3,7 @@
 -- Settings, `cat` and enabling stand on this file.
 use Rattle.std.specs.Prelude.{ℕ, zero, suc, Bool, true, false, if◌then◌else◌, List, [], ◌∷◌, ◌++◌, map as each, Option, Some, None}
 use Rattle.std.specs.Prelude.{option_map, option_and_then, codes}
+use Rattle.std.specs.Option.{option_or, option_map_or}
 use Rattle.std.specs.List.{flat_map, after_last}
 use Rattle.std.specs.Str.{bytes_eq}
 use Rattle.std.specs.FinMap as map
@@ -17,11 +18,6 @@ use Rattle.um_model.specs.declared.tree.Layer.TheVariants.{Etc, Run, Lib}
 
 -- ---- a unit's entry
 
--- the first of two, where it is there
-abbrev pub or_else : {A : Type 0} → Option A → Option A → Option A
-or_else (Some a) other = Some a
-or_else None other = other
-
 -- the path of a unit in a layer
 abbrev pub unit_path : Layer → List ℕ → List ℕ
 unit_path layer unit = layer_text layer ++ unit
@@ -32,7 +28,7 @@ held_in layer tree unit = option_map (λ e. (unit_path layer unit, e)) (map.get 
 
 -- the first layer that holds the unit counts
 abbrev pub first_held : Tree → List ℕ → Option (List ℕ × Entry)
-first_held tree unit = or_else (held_in Etc tree unit) (or_else (held_in Run tree unit) (held_in Lib tree unit))
+first_held tree unit = option_or (held_in Etc tree unit) (option_or (held_in Run tree unit) (held_in Lib tree unit))
 
 -- the unit that a link leads to: the last part of its target
 abbrev pub unit_in_target : List ℕ → List ℕ
@@ -50,7 +46,7 @@ unless_to_template template (Some found) = if leads_to_template template found.1
 
 -- the unit's own entry, or else that of its template
 abbrev pub held : Tree → List ℕ → Option (List ℕ × Entry)
-held tree unit = or_else (unless_to_template (template_of unit) (first_held tree unit)) (option_and_then (first_held tree) (template_of unit))
+held tree unit = option_or (unless_to_template (template_of unit) (first_held tree unit)) (option_and_then (first_held tree) (template_of unit))
 
 -- ---- where a name leads
 
@@ -92,17 +88,12 @@ with_instance_of (Some instance) other = if is_template other then with_instance
 abbrev pub next_name : List ℕ → List ℕ → Option (List ℕ)
 next_name unit target = of_same_type unit (named (with_instance_of (instance_of unit) (unit_in_target target)))
 
--- where a hop goes on, if it does
-abbrev pub followed : Option (List ℕ) → (List ℕ → Resolution) → Resolution
-followed None follow = Nowhere
-followed (Some other) follow = follow other
-
 -- where a name leads by what holds it: an empty file and a link to `/dev/null` mask, any other link leads on
 abbrev pub resolution_at : List ℕ → Option (List ℕ × Entry) → (List ℕ → Resolution) → Resolution
 resolution_at unit None follow = if needs_no_file unit then AtNoFile unit else Nowhere
 resolution_at unit (Some (path, File [])) follow = AtMask unit
 resolution_at unit (Some (path, File (b ∷ bs))) follow = AtFile unit path (b ∷ bs)
-resolution_at unit (Some (path, Link target)) follow = if is_mask target then AtMask unit else followed (next_name unit target) follow
+resolution_at unit (Some (path, Link target)) follow = if is_mask target then AtMask unit else option_map_or follow (next_name unit target) Nowhere
 
 -- where a name leads by so many hops at most
 abbrev pub resolved : ℕ → Tree → List ℕ → Resolution
@@ -131,13 +122,9 @@ drop_in_folder unit layer = layer_text layer ++ (unit ++ codes ".d/")
 abbrev pub folders_of : List ℕ → List (List ℕ)
 folders_of unit = each (drop_in_folder unit) (Etc ∷ Run ∷ Lib ∷ [])
 
-abbrev pub folders_of_template : Option (List ℕ) → List (List ℕ)
-folders_of_template None = []
-folders_of_template (Some template) = folders_of template
-
 -- the folders of drop-ins, of equal files the earlier counts: the unit's own, and then its template's
 abbrev pub drop_in_folders : List ℕ → List (List ℕ)
-drop_in_folders unit = folders_of unit ++ folders_of_template (template_of unit)
+drop_in_folders unit = folders_of unit ++ option_map_or folders_of (template_of unit) []
 
 abbrev pub drop_in_named : Option (List ℕ) → List ℕ × Entry → List DropIn
 drop_in_named None held = []

@@ -1,55 +1,19 @@
--- What the settings of a unit say of its processes, its restarts and its limit.
+-- What the service table takes of a unit's settings: its commands by their places, its environment, and what it acts on.
 -- Follows systemd.service(5) and, for the start limit, systemd.unit(5).
 -- Units, clean ends, the service table and the machine stand on this file.
-use Rattle.std.specs.Prelude.{ℕ, ◌^◌, ◌&&◌, Bool, false, List, [], ◌∷◌, ◌++◌, length, map, nat_lt, Option, Some, None, slice_get}
-use Rattle.um_model.specs.Words.{Command}
+use Rattle.std.specs.Prelude.{ℕ, ◌^◌, ◌&&◌, Bool, false, List, [], ◌∷◌, ◌++◌, length, map, nat_lt, Some, slice_get}
+use Rattle.std.specs.Option.{option_map_or}
+use Rattle.um_model.specs.Commands.{Command}
 use Rattle.um_model.specs.Substitution.{Variable}
-use Rattle.um_model.specs.declared.service.End.{End}
-use Rattle.um_model.specs.declared.settings.RestartPolicy.{RestartPolicy}
-use Rattle.um_model.specs.declared.settings.RestartPolicy.TheVariants.{No}
+use Rattle.um_model.specs.Units.{service_settings_with}
+pub use Rattle.um_model.specs.Units.{ServiceSettings}
 use Rattle.um_model.specs.declared.transition.CommandList.{CommandList}
 use Rattle.um_model.specs.declared.transition.CommandList.TheVariants.{OfStart, OfStop}
 use Rattle.um_model.specs.declared.transition.UnitKind.{UnitKind}
 
--- spans are in microseconds; one that is None never ends
-pub record ServiceSettings : Type 0 where
-  pub kind : UnitKind
-  pub start : List Command  -- ExecStart=
-  pub stop : List Command  -- ExecStop=
-  pub environment : List Variable
-  pub remains : Bool  -- RemainAfterExit=
-  pub restart : RestartPolicy
-  pub restart_delay : Option ℕ  -- RestartSec=
-  pub timeout_start : Option ℕ
-  pub timeout_stop : Option ℕ
-  pub limit_interval : Option ℕ  -- StartLimitIntervalSec=
-  pub limit_burst : ℕ  -- StartLimitBurst=
-  pub success : End → Bool  -- SuccessExitStatus=
-  pub prevents_restart : End → Bool  -- RestartPreventExitStatus=
-  pub forces_restart : End → Bool  -- RestartForceExitStatus=
-
--- the set that no end is in
-abbrev pub no_end : End → Bool
-no_end end = false
-
 -- the settings of a unit of this kind where nothing is set
 abbrev pub default_settings : UnitKind → ServiceSettings
-default_settings kind = record {
-  kind = kind;
-  start = [];
-  stop = [];
-  environment = [];
-  remains = false;
-  restart = No;
-  restart_delay = Some 100000;
-  timeout_start = Some 90000000;
-  timeout_stop = Some 90000000;
-  limit_interval = Some 10000000;
-  limit_burst = 5;
-  success = no_end;
-  prevents_restart = no_end;
-  forces_restart = no_end;
-}
+default_settings kind = service_settings_with [] kind [] []
 
 -- one of its lists of commands
 abbrev pub commands_in : ServiceSettings → CommandList → List Command
@@ -64,13 +28,9 @@ place_limit = 2 ^ 32
 abbrev pub has_place : List Command → ℕ → Bool
 has_place commands i = nat_lt i (length commands) && nat_lt i place_limit
 
-abbrev pub ignores_failure : Option Command → Bool
-ignores_failure None = false
-ignores_failure (Some c) = c.ignores_failure
-
 -- the command at this place is written with `-`
 abbrev pub has_dash : ServiceSettings → CommandList → ℕ → Bool
-has_dash s which i = ignores_failure (slice_get (commands_in s which) i)
+has_dash s which i = option_map_or (λ c. c.ignores_failure) (slice_get (commands_in s which) i) false
 
 -- a variable as a process is given it: `NAME=value`
 abbrev pub variable_text : Variable → List ℕ

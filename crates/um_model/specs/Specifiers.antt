@@ -3,19 +3,14 @@
 -- Settings and enabling stand on this file.
 use Rattle.std.specs.Prelude.{ℕ, List, [], ◌∷◌, Option, Some, None, unwrap_or, if◌then◌else◌, ◌==◌}
 use Rattle.std.specs.List.{after_last}
-use Rattle.std.specs.Str.{IsUtf8, is_utf8}
+use Rattle.std.specs.Str.{is_utf8}
 use Rattle.um_model.specs.Ascii.{is_letter}
-use Rattle.um_model.specs.Names.{stem_of, prefix_of, instance_of, unescape_front, StandsForBytes}
-use Rattle.um_model.specs.Pieces.{Front, Unreadable, Gives, StandsForText, reading}
+use Rattle.um_model.specs.Names.{stem_of, prefix_of, instance_of, unescape_front}
+use Rattle.um_model.specs.Pieces.{Front, Gives, front_of, reading}
 
 -- the instance of a name; empty where it has none
 abbrev pub instance_or_empty : List ℕ → List ℕ
 instance_or_empty name = unwrap_or (instance_of name) []
-
--- the text that the bytes' escapes stand for, where it is one
-abbrev pub IsUnescaped : List ℕ → Option (List ℕ) → Type 0
-IsUnescaped escaped (Some text) = StandsForBytes escaped text × IsUtf8 text
-IsUnescaped escaped None = (bytes : List ℕ) → StandsForBytes escaped bytes → ¬ (IsUtf8 bytes)
 
 -- what a letter stands for: `n` the full name, `N` without the suffix, `p` the prefix, `i` the instance as written, `I` unescaped,
 -- `j` what follows the last `-` of the prefix
@@ -29,30 +24,16 @@ specified name unescaped letter =
     else (if letter == 106 then Some (after_last (λ b. b == 45) (prefix_of name))
     else None)))))
 
--- two bytes are read, if they stand for something
-abbrev pub two_bytes_for : Option (List ℕ) → Front
-two_bytes_for None = Unreadable
-two_bytes_for (Some text) = Gives text 2
-
 -- what follows a `%`: another `%` is one, a letter what it stands for; before anything else the `%` stays
-abbrev pub percent_front : List ℕ → Option (List ℕ) → List ℕ → Front
+abbrev pub percent_front : List ℕ → Option (List ℕ) → List ℕ → Front ℕ
 percent_front name unescaped [] = Gives (37 ∷ []) 1
 percent_front name unescaped (b ∷ bs) =
     if b == 37 then Gives (37 ∷ []) 2
-    else (if is_letter b then two_bytes_for (specified name unescaped b) else Gives (37 ∷ []) 1)
+    else (if is_letter b then front_of (specified name unescaped b) 2 else Gives (37 ∷ []) 1)
 
 -- any byte but a `%` stays
-abbrev pub specifier_front : List ℕ → Option (List ℕ) → ℕ → List ℕ → Front
+abbrev pub specifier_front : List ℕ → Option (List ℕ) → ℕ → List ℕ → Front ℕ
 specifier_front name unescaped b bs = if b == 37 then percent_front name unescaped bs else Gives (b ∷ []) 1
-
--- the text stands for another one in the files of the unit of that name
-pub record IsExpanded (name text expanded : List ℕ) : Type 0 where
-  pub unescaped : Option (List ℕ)
-  pub instance : IsUnescaped (instance_or_empty name) unescaped
-  pub pieces : StandsForText (specifier_front name unescaped) text expanded
-
--- The same as functions, for definitions that go on from an expansion; the laws in proofs/SpecifiersLaws say that they tell the
--- relations above.
 
 -- the bytes, where they are a text
 abbrev pub as_text : Option (List ℕ) → Option (List ℕ)

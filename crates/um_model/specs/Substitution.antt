@@ -3,6 +3,7 @@
 -- The start of a service's process stands on this file.
 use Rattle.std.specs.Prelude.{◌≡◌, ℕ, ◌+◌, Bool, false, ◌&&◌, ◌||◌, ◌==◌, if◌then◌else◌, List, [], ◌∷◌, ◌++◌, length, drop, reverse, find}
 use Rattle.std.specs.Prelude.{take_while, Option, Some, None, bytes_eq}
+use Rattle.std.specs.Option.{option_map_or}
 use Rattle.std.specs.List.{list_all}
 use Rattle.um_model.specs.Ascii.{is_letter, is_digit}
 use Rattle.um_model.specs.Text.{first_passes}
@@ -28,14 +29,9 @@ abbrev pub is_variable_name : List ℕ → Bool
 is_variable_name [] = false
 is_variable_name (b ∷ bs) = is_name_start b && list_all is_name_byte bs
 
--- the value of a variable that was found; an unset one is empty
-abbrev pub value_or_empty : Option Variable → List ℕ
-value_or_empty None = []
-value_or_empty (Some variable) = variable.value
-
--- the value that the environment gives the name: of equal names the later counts
+-- the value that the environment gives the name: of equal names the later counts, and an unset one is empty
 abbrev pub value_of : List Variable → List ℕ → List ℕ
-value_of environment name = value_or_empty (find (λ v. bytes_eq v.name name) (reverse environment))
+value_of environment name = option_map_or (λ v. v.value) (find (λ v. bytes_eq v.name name) (reverse environment)) []
 
 -- the name of a word that is `$NAME` whole
 abbrev pub whole_name : List ℕ → Option (List ℕ)
@@ -54,17 +50,17 @@ braced_name [] = None
 braced_name (b ∷ bs) = if b == 123 then closed_name bs else None
 
 -- `${NAME}` stands for the value; a `$` before anything else stands for itself
-abbrev pub variable_front : List Variable → Option (List ℕ) → Front
+abbrev pub variable_front : List Variable → Option (List ℕ) → Front ℕ
 variable_front environment None = Gives (36 ∷ []) 1
 variable_front environment (Some name) = Gives (value_of environment name) (length name + 3)
 
 -- a `$`, by what follows it; `$$` stands for one
-abbrev pub dollar_front : List Variable → List ℕ → Front
+abbrev pub dollar_front : List Variable → List ℕ → Front ℕ
 dollar_front environment bs =
     if first_passes (λ b. b == 36) bs then Gives (36 ∷ []) 2 else variable_front environment (braced_name bs)
 
 -- any other byte stands for itself
-abbrev pub piece_front : List Variable → ℕ → List ℕ → Front
+abbrev pub piece_front : List Variable → ℕ → List ℕ → Front ℕ
 piece_front environment b bs = if b == 36 then dollar_front environment bs else Gives (b ∷ []) 1
 
 -- a word becomes these words: the value's where it is `$NAME` whole, else one, piece by piece

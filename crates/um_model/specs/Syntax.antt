@@ -3,6 +3,7 @@
 -- The reader of unit files, and what units are by their assignments, stand on this file.
 use Rattle.std.specs.Prelude.{◌≡◌, ℕ, ◌+◌, ◌-◌, ◌%◌, Bool, true, false, not, ◌||◌, List, [], ◌∷◌, ◌++◌, length, drop, reverse, take_while}
 use Rattle.std.specs.Prelude.{Option, Some, None, slice_index, nat_lt, ◌==◌, if◌then◌else◌}
+use Rattle.std.specs.Option.{option_map_or}
 use Rattle.std.specs.List.{list_all, before_first, after_first, position_or_len}
 use Rattle.std.specs.Str.Lines.{lines}
 use Rattle.um_model.specs.Text.{trim_start, trim, is_blank, first_passes, without_last}
@@ -45,23 +46,24 @@ joined_line l after = record { number = l.number; text = without_last l.text ++ 
 
 -- the lines that count, from physical line n on: comment lines are taken out, the others keep their numbers, and a blank one
 -- counts as an empty one
-pub data AreKept : ℕ → List (List ℕ) → List Line → Type 0 where
-  kept_none : (n : ℕ) → AreKept n [] []
-  drops_comment : (n : ℕ) (l : List ℕ) (ls : List (List ℕ)) (kept : List Line) → is_comment l ≡ true → AreKept (n + 1) ls kept
-      → AreKept n (l ∷ ls) kept
-  keeps_blank : (n : ℕ) (l : List ℕ) (ls : List (List ℕ)) (kept : List Line) → is_blank l ≡ true → AreKept (n + 1) ls kept
-      → AreKept n (l ∷ ls) (physical_line n [] ∷ kept)
-  keeps_text : (n : ℕ) (l : List ℕ) (ls : List (List ℕ)) (kept : List Line) → is_comment l ≡ false → is_blank l ≡ false
-      → AreKept (n + 1) ls kept → AreKept n (l ∷ ls) (physical_line n l ∷ kept)
+abbrev pub physical : ℕ → List (List ℕ) → List Line
+physical n [] = []
+physical n (l ∷ ls) = if is_comment l then physical (n + 1) ls else physical_line n (if is_blank l then [] else l) ∷ physical (n + 1) ls
+
+-- the text of the first line, nothing if there is none
+abbrev pub first_text : List Line → List ℕ
+first_text [] = []
+first_text (l ∷ ls) = l.text
 
 -- the joined lines: one that goes on has a space for its last backslash, and then the joined line that follows; at the end of
 -- the text nothing follows
-pub data AreJoined : List Line → List Line → Type 0 where
-  joined_none : AreJoined [] []
-  stands_alone : (l : Line) (ls js : List Line) → continues l.text ≡ false → AreJoined ls js → AreJoined (l ∷ ls) (l ∷ js)
-  goes_on : (l j : Line) (ls js : List Line) → continues l.text ≡ true → AreJoined ls (j ∷ js)
-      → AreJoined (l ∷ ls) (joined_line l j.text ∷ js)
-  ends : (l : Line) → continues l.text ≡ true → AreJoined (l ∷ []) (joined_line l [] ∷ [])
+abbrev pub joined : List Line → List Line
+joined [] = []
+joined (l ∷ ls) = if continues l.text then joined_line l (first_text (joined ls)) ∷ drop 1 (joined ls) else l ∷ joined ls
+
+-- the joined lines of a text: its physical lines end in a line feed, and one carriage return before that is dropped
+abbrev pub joined_lines : List ℕ → List Line
+joined_lines text = joined (physical 1 (lines text))
 
 -- What a line says
 
@@ -88,6 +90,29 @@ pub data Says : List ℕ → Statement → Type 0 where
       → Says text (Pair (trim before) (trim after))
   says_no_pair : (text : List ℕ) → ((name : List ℕ) → ¬ IsHeadOf text name) → is_blank text ≡ false → has_no_equals text ≡ true → Says text Stray
 
+-- what stands before the `]` at the end
+abbrev pub before_bracket : List ℕ → Option (List ℕ)
+before_bracket text = if slice_index text (length text - 1) == 93 then Some (without_last text) else None
+
+-- what stands between `[` at the front and `]` at the end
+abbrev pub in_brackets : List ℕ → Option (List ℕ)
+in_brackets [] = None
+in_brackets (b ∷ bs) = if b == 91 then before_bracket bs else None
+
+-- some byte is an `=`
+abbrev pub has_equals : List ℕ → Bool
+has_equals text = nat_lt (position_or_len (λ b. b == 61) text) (length text)
+
+-- key and value of a text with an `=`
+abbrev pub pair_of : List ℕ → Statement
+pair_of text = Pair (trim (before_first (λ b. b == 61) text)) (trim (after_first (λ b. b == 61) text))
+
+-- the same as a function; the laws in proofs/SyntaxLaws say that it tells the relation
+abbrev pub statement_of : List ℕ → Statement
+statement_of text = option_map_or Head (in_brackets (trim text)) (if is_blank text then Blank else (if has_equals text then pair_of text else Stray))
+
+-- What a text says
+
 -- a section's head with its name, a key and a value, or a warning, each with the number of its line; the value stands in the
 -- text as it is, if the line is whole
 pub data Item : Type 0 where
@@ -112,15 +137,12 @@ items_of Stray begun number whole = Warning NoEqualsSign number ∷ []
 -- the statement is a section's head
 abbrev pub is_head : Statement → Bool
 is_head (Head name) = true
-is_head Blank = false
-is_head (Pair key value) = false
-is_head Stray = false
+is_head other = false
 
 -- what lines give, after a section's head or before any
-pub data Give : Bool → List Line → List Item → Type 0 where
-  gives_none : (begun : Bool) → Give begun [] []
-  gives_line : (begun : Bool) (l : Line) (ls : List Line) (statement : Statement) (items : List Item) → Says l.text statement
-      → Give (begun || is_head statement) ls items → Give begun (l ∷ ls) (items_of statement begun l.number l.whole ++ items)
+abbrev pub items_in : Bool → List Line → List Item
+items_in begun [] = []
+items_in begun (l ∷ ls) = items_of (statement_of l.text) begun l.number l.whole ++ items_in (begun || is_head (statement_of l.text)) ls
 
 -- an item with the name of the section that it stands in, if there is one
 pub record Placed : Type 0 where
@@ -130,87 +152,13 @@ pub record Placed : Type 0 where
 -- the section after an item
 abbrev pub section_after : Option (List ℕ) → Item → Option (List ℕ)
 section_after section (Section name line) = Some name
-section_after section (Assignment key value line whole) = section
-section_after section (Warning kind line) = section
+section_after section other = section
 
 -- each item with its section, which is that of the last head before it; a head stands in its own
 abbrev pub in_sections : Option (List ℕ) → List Item → List Placed
 in_sections section [] = []
 in_sections section (i ∷ is) = record { section = section_after section i; item = i } ∷ in_sections (section_after section i) is
 
--- what a text says: its physical lines end in a line feed, and one carriage return before that is dropped
-pub record IsReading (text : List ℕ) (reading : List Placed) : Type 0 where
-  pub kept : List Line
-  pub joined_ones : List Line
-  pub items : List Item
-  pub keeps : AreKept 1 (lines text) kept
-  pub joins : AreJoined kept joined_ones
-  pub gives : Give false joined_ones items
-  pub places : reading ≡ in_sections None items
-
--- a head and an assignment stand in a section, and the warning of an assignment before any section stands in none
-abbrev pub stands_well : Option (List ℕ) → Item → Bool
-stands_well None (Section name line) = false
-stands_well (Some section) (Section name line) = true
-stands_well None (Assignment key value line whole) = false
-stands_well (Some section) (Assignment key value line whole) = true
-stands_well None (Warning kind line) = true
-stands_well (Some section) (Warning BeforeAnySection line) = false
-stands_well (Some section) (Warning kind line) = true
-
--- The same as functions, for definitions that go on from a reading; the laws in proofs/SyntaxLaws say that they tell the
--- relations above.
-
--- the lines that count, from physical line n on
-abbrev pub physical : ℕ → List (List ℕ) → List Line
-physical n [] = []
-physical n (l ∷ ls) = if is_comment l then physical (n + 1) ls else physical_line n (if is_blank l then [] else l) ∷ physical (n + 1) ls
-
--- the text of the first line, nothing if there is none
-abbrev pub first_text : List Line → List ℕ
-first_text [] = []
-first_text (l ∷ ls) = l.text
-
--- the joined lines of lines that count
-abbrev pub joined : List Line → List Line
-joined [] = []
-joined (l ∷ ls) = if continues l.text then joined_line l (first_text (joined ls)) ∷ drop 1 (joined ls) else l ∷ joined ls
-
--- the joined lines of a text
-abbrev pub joined_lines : List ℕ → List Line
-joined_lines text = joined (physical 1 (lines text))
-
--- what stands before the `]` at the end
-abbrev pub before_bracket : List ℕ → Option (List ℕ)
-before_bracket text = if slice_index text (length text - 1) == 93 then Some (without_last text) else None
-
--- what stands between `[` at the front and `]` at the end
-abbrev pub in_brackets : List ℕ → Option (List ℕ)
-in_brackets [] = None
-in_brackets (b ∷ bs) = if b == 91 then before_bracket bs else None
-
--- some byte is an `=`
-abbrev pub has_equals : List ℕ → Bool
-has_equals text = nat_lt (position_or_len (λ b. b == 61) text) (length text)
-
--- key and value of a text with an `=`
-abbrev pub pair_of : List ℕ → Statement
-pair_of text = Pair (trim (before_first (λ b. b == 61) text)) (trim (after_first (λ b. b == 61) text))
-
--- the head of that name, or another statement if there is no name
-abbrev pub head_or : Option (List ℕ) → Statement → Statement
-head_or (Some name) other = Head name
-head_or None other = other
-
--- what a joined line says
-abbrev pub statement_of : List ℕ → Statement
-statement_of text = head_or (in_brackets (trim text)) (if is_blank text then Blank else (if has_equals text then pair_of text else Stray))
-
--- what lines give, after a section's head or before any
-abbrev pub items_in : Bool → List Line → List Item
-items_in begun [] = []
-items_in begun (l ∷ ls) = items_of (statement_of l.text) begun l.number l.whole ++ items_in (begun || is_head (statement_of l.text)) ls
-
--- the reading of a text
+-- what a text says
 abbrev pub reading_of : List ℕ → List Placed
 reading_of text = in_sections None (items_in false (joined_lines text))

@@ -1,8 +1,7 @@
 -- A text without the spaces and tabs at its ends.
 -- Follows systemd.syntax(7) in what counts as whitespace.
 -- Unit files, values and words stand on this file.
-use Rattle.std.specs.Prelude.{◌≡◌, ℕ, ◌-◌, Bool, true, false, List, [], ◌∷◌, ◌++◌, length, take, reverse, if◌then◌else◌}
-use Rattle.std.specs.List.{list_all}
+use Rattle.std.specs.Prelude.{ℕ, ◌-◌, Bool, true, false, List, [], ◌∷◌, length, take, reverse, if◌then◌else◌}
 use Rattle.um_model.specs.Ascii.{is_space}
 
 -- without the whitespace in front
@@ -18,10 +17,10 @@ trim_end text = reverse (trim_start (reverse text))
 abbrev pub trim : List ℕ → List ℕ
 trim text = trim_end (trim_start text)
 
--- a text without a byte
-abbrev pub is_empty : List ℕ → Bool
+-- a text without a byte, or another list with nothing in it
+abbrev pub is_empty : {A : Type 0} → List A → Bool
 is_empty [] = true
-is_empty (b ∷ bs) = false
+is_empty (a ∷ others) = false
 
 -- nothing but whitespace
 abbrev pub is_blank : List ℕ → Bool
@@ -35,19 +34,3 @@ first_passes passes (b ∷ bs) = passes b
 -- all but the last byte
 abbrev pub without_last : List ℕ → List ℕ
 without_last text = take (length text - 1) text
-
--- The same in other words; the laws in proofs/TextLaws say that trimming is this and nothing else.
-
--- whitespace alone was cut off in front, and none is left there
-pub record IsCutInFront (text rest : List ℕ) : Type 0 where
-  pub front : List ℕ
-  pub parts : text ≡ front ++ rest
-  pub spaces : list_all is_space front ≡ true
-  pub stops : first_passes is_space rest ≡ false
-
--- whitespace alone was cut off at the end, and none is left there
-pub record IsCutAtEnd (text rest : List ℕ) : Type 0 where
-  pub back : List ℕ
-  pub parts : text ≡ rest ++ back
-  pub spaces : list_all is_space back ≡ true
-  pub stops : first_passes is_space (reverse rest) ≡ false

@@ -2,14 +2,13 @@
 -- Follows systemd.unit(5), "Unit File Load Path".
 -- Resolution, drop-ins, dependencies by links, enabling and the state stand on this file.
 use Rattle.std.specs.Prelude.{◌≡◌, ℕ, ◌-◌, ◌≤◌, nat_le, nat_lt, nat_eq, Bool, true, false, not, ◌&&◌, ◌||◌, ◌==◌, List, [], ◌∷◌, ◌++◌}
-use Rattle.std.specs.Prelude.{length, take, drop, Option, Some, None, is_none, is_some, option_map, Result, ◌⊎◌, if◌then◌else◌, codes, refl}
+use Rattle.std.specs.Prelude.{length, take, drop, Option, Some, None, is_none, is_some, option_map, option_and_then, Result, if◌then◌else◌, codes}
+use Rattle.std.specs.Option.{option_or, option_map_or}
 use Rattle.std.specs.List.{list_all, list_any, starts_with, ends_with, position_or_len, before_first, after_first, after_last}
 use Rattle.std.specs.Str.{bytes_eq}
 use Rattle.std.specs.Ordering.{nat_cmp}
 use Rattle.std.specs.Cmp.Lexicographic.{slice_cmp}
-use Rattle.std.specs.Coded.{Coded, code_by, coded_ℕ, coded_list, coded⊎}
 use Rattle.std.specs.FinMap as map
-use mathlib.Core.Logic.{inl, inr}
 use Rattle.um_model.specs.Ascii.{is_digit, is_letter}
 use Rattle.um_model.specs.Names.{is_unit_name, is_template}
 use Rattle.um_model.specs.Refusals.{Refused, cause, first_cause, unless_refused, bad_path, exists_at, too_large}
@@ -98,52 +97,34 @@ before end text = if ends_with nat_eq text end then Some (take (length text - le
 -- what stands before and behind the first `/`, where there is one
 abbrev pub around_slash : List ℕ → Option (List ℕ × List ℕ)
 around_slash text =
-    if nat_lt (position_or_len is_slash text) (length text) then Some (before_first is_slash text, after_first is_slash text)
-    else None
+    if nat_lt (position_or_len is_slash text) (length text) then Some (before_first is_slash text, after_first is_slash text) else None
 
--- the layer with whose text the path begins, by what follows each of the three in it
-abbrev pub layer_among : Option (List ℕ) → Option (List ℕ) → Option (List ℕ) → Option (Layer × List ℕ)
-layer_among (Some rest) run lib = Some (Etc, rest)
-layer_among None (Some rest) lib = Some (Run, rest)
-layer_among None None (Some rest) = Some (Lib, rest)
-layer_among None None None = None
+-- the layer, where the path begins with its text, and what follows
+abbrev pub in_layer : List ℕ → Layer → Option (Layer × List ℕ)
+in_layer path layer = option_map (λ rest. (layer, rest)) (behind (layer_text layer) path)
 
--- the layer and what follows it
 abbrev pub layer_and_rest : List ℕ → Option (Layer × List ℕ)
-layer_and_rest path =
-    layer_among (behind (layer_text Etc) path) (behind (layer_text Run) path) (behind (layer_text Lib) path)
+layer_and_rest path = option_or (in_layer path Etc) (option_or (in_layer path Run) (in_layer path Lib))
 
--- the unit and the place, by the unit before the `.d`, `.wants` or `.requires` of the directory, and the file in it
-abbrev pub place_among : Option (List ℕ) → Option (List ℕ) → Option (List ℕ) → List ℕ → Option (List ℕ × Place)
-place_among (Some unit) wants requires file = option_map (λ name. (unit, DropIn name)) (before (codes ".conf") file)
-place_among None (Some unit) requires file = Some (unit, Wants file)
-place_among None None (Some unit) file = Some (unit, Requires file)
-place_among None None None file = None
-
--- the same, by the whole name of the directory
+-- a file in a directory of a unit: a drop-in, or the unit that is wanted or required
 abbrev pub place_in : List ℕ → List ℕ → Option (List ℕ × Place)
 place_in directory file =
-    place_among (before (codes ".d") directory) (before (codes ".wants") directory) (before (codes ".requires") directory) file
+    option_map_or (λ unit. option_map (λ name. (unit, DropIn name)) (before (codes ".conf") file)) (before (codes ".d") directory)
+    (option_or (option_map (λ unit. (unit, Wants file)) (before (codes ".wants") directory))
+    (option_map (λ unit. (unit, Requires file)) (before (codes ".requires") directory)))
 
--- the unit and the place: the whole of what follows the layer, or by the directory
-abbrev pub unit_and_place : List ℕ → Option (List ℕ × List ℕ) → Option (List ℕ × Place)
-unit_and_place rest None = Some (rest, Unit)
-unit_and_place rest (Some parts) = place_in parts.0 parts.1
+-- the unit and the place: the whole of what follows the layer, or a file in a directory
+abbrev pub unit_and_place : List ℕ → Option (List ℕ × Place)
+unit_and_place rest = option_map_or (λ parts. place_in parts.0 parts.1) (around_slash rest) (Some (rest, Unit))
 
 -- the parts, if they are fit
-abbrev pub where_fit : Layer → Option (List ℕ × Place) → Option PathParts
-where_fit layer None = None
-where_fit layer (Some p) =
-    if is_fit_place p.0 p.1 then Some (record { layer = layer; unit = p.0; place = p.1 }) else None
+abbrev pub where_fit : PathParts → Option PathParts
+where_fit p = if are_fit p then Some p else None
 
--- the parts, by the layer and what follows it
-abbrev pub parts_behind : Option (Layer × List ℕ) → Option PathParts
-parts_behind None = None
-parts_behind (Some p) = where_fit p.0 (unit_and_place p.1 (around_slash p.1))
-
--- the parts of a served path
+-- the parts of a served path: the layer, and then the unit and the place
 unfoldable pub path_parts : List ℕ → Option PathParts
-path_parts path = parts_behind (layer_and_rest path)
+path_parts path =
+    option_and_then (λ l. option_and_then (λ u. where_fit (record { layer = l.0; unit = u.0; place = u.1 })) (unit_and_place l.1)) (layer_and_rest path)
 
 -- ---- the tree
 
@@ -152,30 +133,9 @@ pub data Entry : Type 0 where
   File : List ℕ → Entry
   Link : List ℕ → Entry
 
--- an entry as one of two texts, and back
-abbrev pub entry_sides : Entry → List ℕ ⊎ List ℕ
-entry_sides (File text) = inl text
-entry_sides (Link target) = inr target
-
-abbrev pub entry_of_sides : List ℕ ⊎ List ℕ → Entry
-entry_of_sides (inl text) = File text
-entry_of_sides (inr target) = Link target
-
-pub entry_of_sides-entry_sides : (e : Entry) → entry_of_sides (entry_sides e) ≡ e
-entry_of_sides-entry_sides (File text) = refl
-entry_of_sides-entry_sides (Link target) = refl
-
--- how the logic stores an entry
-abbrev pub entry_code : Coded Entry
-entry_code = code_by (List ℕ ⊎ List ℕ) (coded⊎ (coded_list coded_ℕ) (coded_list coded_ℕ)) entry_sides entry_of_sides entry_of_sides-entry_sides
-
 -- a finite map, by the bytes of the paths in ascending order
 abbrev pub Tree : Type 0
 Tree = map.FinMap (slice_cmp nat_cmp) Entry
-
--- how the logic stores a tree
-abbrev pub tree_code : Coded Tree
-tree_code = map.code (coded_list coded_ℕ) entry_code
 
 -- the text of a file has at most so many bytes
 abbrev pub text_limit : ℕ

@@ -2,20 +2,21 @@
 -- Follows systemd.unit(5) and systemd.service(5).
 -- The machine stands on this file: what `show` tells, and what a start does.
 use Rattle.std.specs.Prelude.{ℕ, Bool, true, false, not, ◌&&◌, ◌||◌, ◌==◌, List, [], ◌∷◌, ◌++◌, length, find, filter_map, map as each}
-use Rattle.std.specs.Prelude.{Option, Some, None, Ok, Err, option_map, if◌then◌else◌, codes}
+use Rattle.std.specs.Prelude.{Option, Some, None, option_map, if◌then◌else◌, codes}
+use Rattle.std.specs.Option.{option_or}
+use Rattle.std.specs.Result.{result_ok, result_err, result_unwrap_or}
 use Rattle.std.specs.List.{flat_map, list_any, after_last}
 use Rattle.std.specs.Str.{bytes_eq}
 use Rattle.um_model.specs.Names.{suffix_of, is_unit_name}
 use Rattle.um_model.specs.Text.{is_empty}
 use Rattle.um_model.specs.Syntax.{Item, Section, Assignment, Warning as Warned, Placed, line_number, reading_of}
 use Rattle.um_model.specs.Tree.{Tree}
-use Rattle.um_model.specs.Resolution.{or_else, is_of_same_type, UnitFile, Resolution, AtFile, AtNoFile, AtMask, Nowhere, files_at, resolution_of}
+use Rattle.um_model.specs.Resolution.{is_of_same_type, UnitFile, Resolution, AtFile, AtNoFile, AtMask, Nowhere, files_at, resolution_of}
 use Rattle.um_model.specs.Keys.{is_foreign, is_known_section, is_refused_key, kind_of_key}
-use Rattle.um_model.specs.Readings.{Reading, read_in, warning_in, text_reading, commands_reading, environment_reading, names_reading}
+use Rattle.um_model.specs.Readings.{text_reading, commands_reading, environment_reading, names_reading}
 use Rattle.um_model.specs.Readings.{first_warning, names_said, value_reading, instance_in}
-use Rattle.um_model.specs.Settings.{ServiceSettings}
 use Rattle.um_model.specs.Values.{boolean_of, number_of, span_of, exits_of, policy_named}
-use Rattle.um_model.specs.Words.{Command}
+use Rattle.um_model.specs.Commands.{Command}
 use Rattle.um_model.specs.Substitution.{Variable}
 use Rattle.um_model.specs.declared.service.End.{End}
 use Rattle.um_model.specs.declared.settings.RestartPolicy.{RestartPolicy}
@@ -59,9 +60,7 @@ pub record Assigned : Type 0 where
 abbrev pub assigned_by : Option Suffix → Option (List ℕ) → Item → List Assigned
 assigned_by type (Some section) (Assignment key value line whole) =
     if is_known_section type section then record { section = section; key = key; value = value } ∷ [] else []
-assigned_by type (Some section) (Section name line) = []
-assigned_by type (Some section) (Warned warning line) = []
-assigned_by type None item = []
+assigned_by type section other = []
 
 -- the assignments of a unit's files as one list, in the order in which they are read
 abbrev pub assignments_in : Option Suffix → List Source → List Assigned
@@ -101,10 +100,6 @@ last_read read default values = last_or default (filter_map read values)
 -- a list that an empty value clears: all that the values behind the last empty one say
 abbrev pub since_empty : List (List ℕ) → List (List ℕ)
 since_empty values = after_last is_empty values
-
-abbrev pub said_in : {A : Type 0} → Reading (List A) → List A
-said_in (Ok said) = said
-said_in (Err warning) = []
 
 -- everything that is named
 abbrev pub names_of : (List ℕ → Bool) → List ℕ → List (List ℕ) → List (List ℕ)
@@ -185,23 +180,19 @@ type_said value =
 abbrev pub type_of : List Assigned → TypeSaid
 type_of assigned = last_read type_said Unsaid (values_of (in_service (codes "Type") ∷ []) assigned)
 
-abbrev pub is_none_left : {A : Type 0} → List A → Bool
-is_none_left [] = true
-is_none_left (a ∷ others) = false
-
 -- simple where nothing is said and a command is left, oneshot where neither is given
 abbrev pub kind_by : TypeSaid → List Command → UnitKind
-kind_by Unsaid start = if is_none_left start then Oneshot else Simple
+kind_by Unsaid start = if is_empty start then Oneshot else Simple
 kind_by (Served kind) start = kind
 kind_by Unserved start = Simple
 
 -- all commands of the setting with this key
 abbrev pub commands_of : List ℕ → List ℕ → List Assigned → List Command
-commands_of key unit assigned = flat_map (λ value. said_in (commands_reading unit value)) (since_empty (values_of (in_service key ∷ []) assigned))
+commands_of key unit assigned = flat_map (λ value. result_unwrap_or (commands_reading unit value) []) (since_empty (values_of (in_service key ∷ []) assigned))
 
 abbrev pub environment_of : List ℕ → List Assigned → List Variable
 environment_of unit assigned =
-    flat_map (λ value. said_in (environment_reading unit value)) (since_empty (values_of (in_service (codes "Environment") ∷ []) assigned))
+    flat_map (λ value. result_unwrap_or (environment_reading unit value) []) (since_empty (values_of (in_service (codes "Environment") ∷ []) assigned))
 
 abbrev pub tells_any : List (End → Bool) → End → Bool
 tells_any sets end = list_any (λ set. set end) sets
@@ -226,10 +217,40 @@ span_said value = option_map micros_in (span_of value)
 abbrev pub timeout_said : List ℕ → Option (Option ℕ)
 timeout_said value = option_map timeout_in (span_of value)
 
+-- of a service: spans are in microseconds, and one that is None never ends
+pub record ServiceSettings : Type 0 where
+  pub kind : UnitKind
+  pub start : List Command  -- ExecStart=
+  pub stop : List Command  -- ExecStop=
+  pub environment : List Variable
+  pub remains : Bool  -- RemainAfterExit=
+  pub restart : RestartPolicy
+  pub restart_delay : Option ℕ  -- RestartSec=
+  pub timeout_start : Option ℕ
+  pub timeout_stop : Option ℕ
+  pub limit_interval : Option ℕ  -- StartLimitIntervalSec=
+  pub limit_burst : ℕ  -- StartLimitBurst=
+  pub success : End → Bool  -- SuccessExitStatus=
+  pub prevents_restart : End → Bool  -- RestartPreventExitStatus=
+  pub forces_restart : End → Bool  -- RestartForceExitStatus=
+
+-- what counts where nothing is set, in microseconds and starts: 100 ms, 90 s, and 5 starts in 10 s
+abbrev pub default_restart_delay : ℕ
+default_restart_delay = 100000
+
+abbrev pub default_timeout : ℕ
+default_timeout = 90000000
+
+abbrev pub default_limit_interval : ℕ
+default_limit_interval = 10000000
+
+abbrev pub default_limit_burst : ℕ
+default_limit_burst = 5
+
 -- a oneshot service may start as long as it likes
 abbrev pub default_timeout_start : UnitKind → Option ℕ
 default_timeout_start Oneshot = None
-default_timeout_start other = Some 90000000
+default_timeout_start other = Some default_timeout
 
 -- the settings of a service of this kind with these commands
 abbrev pub service_settings_with : List Command → UnitKind → List ℕ → List Assigned → ServiceSettings
@@ -240,13 +261,15 @@ service_settings_with start kind unit assigned = record {
   environment = environment_of unit assigned;
   remains = last_read boolean_of false (values_of (in_service (codes "RemainAfterExit") ∷ []) assigned);
   restart = last_read policy_named No (values_of (in_service (codes "Restart") ∷ []) assigned);
-  restart_delay = last_read span_said (Some 100000) (values_of (in_service (codes "RestartSec") ∷ []) assigned);
+  restart_delay = last_read span_said (Some default_restart_delay) (values_of (in_service (codes "RestartSec") ∷ []) assigned);
   timeout_start =
       last_read timeout_said (default_timeout_start kind) (values_of (in_service (codes "TimeoutStartSec") ∷ in_service (codes "TimeoutSec") ∷ []) assigned);
-  timeout_stop = last_read timeout_said (Some 90000000) (values_of (in_service (codes "TimeoutStopSec") ∷ in_service (codes "TimeoutSec") ∷ []) assigned);
+  timeout_stop =
+      last_read timeout_said (Some default_timeout) (values_of (in_service (codes "TimeoutStopSec") ∷ in_service (codes "TimeoutSec") ∷ []) assigned);
   limit_interval =
-      last_read span_said (Some 10000000) (values_of (in_unit (codes "StartLimitIntervalSec") ∷ in_service (codes "StartLimitInterval") ∷ []) assigned);
-  limit_burst = last_read number_of 5 (values_of (in_unit (codes "StartLimitBurst") ∷ in_service (codes "StartLimitBurst") ∷ []) assigned);
+      last_read span_said (Some default_limit_interval)
+      (values_of (in_unit (codes "StartLimitIntervalSec") ∷ in_service (codes "StartLimitInterval") ∷ []) assigned);
+  limit_burst = last_read number_of default_limit_burst (values_of (in_unit (codes "StartLimitBurst") ∷ in_service (codes "StartLimitBurst") ∷ []) assigned);
   success = exits_in (codes "SuccessExitStatus") assigned;
   prevents_restart = exits_in (codes "RestartPreventExitStatus") assigned;
   forces_restart = exits_in (codes "RestartForceExitStatus") assigned;
@@ -266,7 +289,7 @@ pub record Settings : Type 0 where
   pub install : InstallSettings
 
 abbrev pub description_in : List ℕ → List ℕ → Option (List ℕ)
-description_in unit value = read_in (text_reading unit value)
+description_in unit value = result_ok (text_reading unit value)
 
 abbrev pub settings_of : List ℕ → List Assigned → Settings
 settings_of unit assigned = record {
@@ -291,7 +314,7 @@ is_unserved other = false
 
 -- a oneshot service has a command, or remains with a command to stop it
 abbrev pub lacks_command : ServiceSettings → Bool
-lacks_command s = is_none_left s.start && not (s.remains && not (is_none_left s.stop))
+lacks_command s = is_empty s.start && not (s.remains && not (is_empty s.stop))
 
 -- any other service has exactly one
 abbrev pub has_wrong_count : UnitKind → ServiceSettings → Bool
@@ -315,25 +338,25 @@ refused_service other said s = None
 -- the first reason why a unit can't be loaded
 abbrev pub reason_of : List ℕ → List Assigned → Option (List ℕ)
 reason_of unit assigned =
-    or_else (refused_setting assigned) (refused_service (suffix_of unit) (type_of assigned) (service_settings_of (suffix_of unit) unit assigned))
+    option_or (refused_setting assigned) (refused_service (suffix_of unit) (type_of assigned) (service_settings_of (suffix_of unit) unit assigned))
 
 -- ---- warnings
 
 -- the warning that a value of this kind gives
 unfoldable pub value_warning : List ℕ → ValueKind → List ℕ → Option WarningKind
-value_warning unit kind.Text value = warning_in (text_reading unit value)
+value_warning unit kind.Text value = result_err (text_reading unit value)
 value_warning unit kind.Unused value = None
 value_warning unit kind.Units value = first_warning (names_reading is_unit_name unit value)
 value_warning unit kind.Aliases value = first_warning (names_reading (is_alias_for unit) unit value)
-value_warning unit kind.Instance value = warning_in (value_reading (instance_in value))
-value_warning unit kind.Truth value = warning_in (value_reading (boolean_of value))
-value_warning unit kind.Span value = warning_in (value_reading (span_of value))
-value_warning unit kind.Number value = warning_in (value_reading (number_of value))
-value_warning unit kind.Commands value = warning_in (commands_reading unit value)
-value_warning unit kind.Environment value = warning_in (environment_reading unit value)
-value_warning unit kind.Exits value = warning_in (value_reading (exits_of value))
-value_warning unit kind.Policy value = warning_in (value_reading (policy_named value))
-value_warning unit kind.ServiceType value = warning_in (value_reading (type_said value))
+value_warning unit kind.Instance value = result_err (value_reading (instance_in value))
+value_warning unit kind.Truth value = result_err (value_reading (boolean_of value))
+value_warning unit kind.Span value = result_err (value_reading (span_of value))
+value_warning unit kind.Number value = result_err (value_reading (number_of value))
+value_warning unit kind.Commands value = result_err (commands_reading unit value)
+value_warning unit kind.Environment value = result_err (environment_reading unit value)
+value_warning unit kind.Exits value = result_err (value_reading (exits_of value))
+value_warning unit kind.Policy value = result_err (value_reading (policy_named value))
+value_warning unit kind.ServiceType value = result_err (value_reading (type_said value))
 value_warning unit kind.Refused value = None
 
 abbrev pub warning_by_kind : List ℕ → Option ValueKind → List ℕ → Option WarningKind

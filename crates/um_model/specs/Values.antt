@@ -1,14 +1,16 @@
 -- What the values of settings mean: truth values, numbers, time spans, sets of exits, and when a service is started again.
 -- Follows systemd.syntax(7) in truth values, systemd.time(7), "Parsing Time Spans", and systemd.service(5) in `Restart=` and `SuccessExitStatus=`.
 -- Settings and the service table stand on this file.
-use Rattle.std.specs.Prelude.{◌≡◌, ℕ, zero, suc, ◌+◌, ◌-◌, ◌*◌, ◌<◌, ◌≤◌, Bool, true, false, not, ◌&&◌, ◌==◌, nat_le, nat_lt}
-use Rattle.std.specs.Prelude.{List, [], ◌∷◌, length, drop, map, filter, take_while, codes, Option, Some, None, option_map, find, is_some, if◌then◌else◌}
+use Rattle.std.specs.Prelude.{ℕ, ◌+◌, ◌-◌, ◌*◌, Bool, true, false, not, ◌&&◌, ◌==◌, nat_le, nat_lt}
+use Rattle.std.specs.Prelude.{List, [], ◌∷◌, length, drop, map, filter, take_while, codes, Option, Some, None, option_map, option_and_then, find, fold, is_some, sum, if◌then◌else◌}
 use Rattle.std.specs.List.{list_any, list_all, slice_split}
+use Rattle.std.specs.Map.{lookup}
 use Rattle.std.specs.Char.{to_ascii_lowercase}
 use Rattle.std.specs.Str.{bytes_eq}
 use Rattle.um_model.specs.Moments.{span_limit}
 use Rattle.um_model.specs.Ascii.{is_space, is_digit, is_letter}
-use Rattle.um_model.specs.Text.{trim_start, is_empty}
+use Rattle.um_model.specs.Pieces.{Front, Gives, front_of, reading}
+use Rattle.um_model.specs.Text.{trim_start, is_blank}
 use Rattle.um_model.specs.declared.service.End.{End}
 use Rattle.um_model.specs.declared.service.End.TheVariants.{Code, Signal, Lost}
 use Rattle.um_model.specs.declared.settings.RestartPolicy.{RestartPolicy}
@@ -25,20 +27,15 @@ words_for false = codes "0" ∷ codes "no" ∷ codes "false" ∷ codes "off" ∷
 abbrev pub is_same_in_any_case : List ℕ → List ℕ → Bool
 is_same_in_any_case text word = bytes_eq (map to_ascii_lowercase text) (map to_ascii_lowercase word)
 
--- the text is one of the words for this truth value, in any ASCII case
-abbrev pub IsBoolean : List ℕ → Bool → Type 0
-IsBoolean text b = list_any (is_same_in_any_case text) (words_for b) ≡ true
+-- the truth value that the text is a word for
+unfoldable pub boolean_of : List ℕ → Option Bool
+boolean_of text = find (λ b. list_any (is_same_in_any_case text) (words_for b)) (true ∷ false ∷ [])
 
 -- ---- numbers
 
--- the number that a number's digits and these digits behind them spell
-abbrev pub decimal_after : ℕ → List ℕ → ℕ
-decimal_after n [] = n
-decimal_after n (b ∷ bs) = decimal_after (10 * n + (b - 48)) bs
-
 -- the number that decimal digits spell
 abbrev pub decimal : List ℕ → ℕ
-decimal digits = decimal_after 0 digits
+decimal digits = fold (λ n b. 10 * n + (b - 48)) 0 digits
 
 -- decimal digits alone, and one at least
 abbrev pub is_decimal : List ℕ → Bool
@@ -48,11 +45,9 @@ is_decimal text = nat_lt 0 (length text) && list_all is_digit text
 abbrev pub number_limit : ℕ
 number_limit = 4294967295
 
--- the text spells this number, which isn't too great
-pub record IsNumber (text : List ℕ) (n : ℕ) : Type 0 where
-  pub digits : is_decimal text ≡ true
-  pub value : n ≡ decimal text
-  pub limit : n ≤ number_limit
+-- the number that the text spells, where it isn't too great
+unfoldable pub number_of : List ℕ → Option ℕ
+number_of text = if is_decimal text && nat_le (decimal text) number_limit then Some (decimal text) else None
 
 -- ---- time spans
 
@@ -67,13 +62,9 @@ time_units =
     ∷ (codes "d", 86400000000) ∷ (codes "day", 86400000000) ∷ (codes "days", 86400000000)
     ∷ (codes "w", 604800000000) ∷ (codes "week", 604800000000) ∷ (codes "weeks", 604800000000) ∷ []
 
--- what stands beside the name in a table
-abbrev pub number_among : {N : Type 0} → List (List ℕ × N) → List ℕ → Option N
-number_among table name = option_map (λ row. row.1) (find (λ row. bytes_eq name row.0) table)
-
 -- microseconds in a unit of time
 abbrev pub unit_size : List ℕ → Option ℕ
-unit_size unit = number_among time_units unit
+unit_size unit = lookup (bytes_eq unit) time_units
 
 -- the digits at the front of a text, as far as they go
 abbrev pub digits_of : List ℕ → List ℕ
@@ -91,23 +82,26 @@ unit_of text = take_while is_letter (past_digits text)
 abbrev pub past_part : List ℕ → List ℕ
 past_part text = drop (length (unit_of text)) (past_digits text)
 
--- a number and a unit say so many microseconds
-pub record IsTime (digits unit : List ℕ) (n : ℕ) : Type 0 where
-  pub some : 0 < length digits
-  pub size : ℕ
-  pub unit_is : unit_size unit ≡ Some size
-  pub value : n ≡ decimal digits * size
+-- the microseconds that a number and a unit say
+abbrev pub time_of : List ℕ → List ℕ → Option ℕ
+time_of digits unit = if nat_lt 0 (length digits) then option_map (λ size. decimal digits * size) (unit_size unit) else None
 
--- the text is a sequence of parts, with whitespace between them as one likes; together they are so many microseconds
-pub data AddUpTo : List ℕ → ℕ → Type 0 where
-  nothing : AddUpTo [] 0
-  space : (b : ℕ) (bs : List ℕ) (n : ℕ) → is_space b ≡ true → AddUpTo bs n → AddUpTo (b ∷ bs) n
-  part : (text : List ℕ) (first n : ℕ) → IsTime (digits_of text) (unit_of text) first → AddUpTo (past_part text) n → AddUpTo text (first + n)
+-- a piece of a text of times: whitespace, or a part
+abbrev pub time_front : ℕ → List ℕ → Front ℕ
+time_front b bs =
+    let text = b ∷ bs in
+    if is_space b then Gives [] 1
+    else front_of (option_map (λ n. n ∷ []) (time_of (digits_of text) (unit_of text))) (length text - length (past_part text))
 
--- the text is `infinity`, or it has one part at least and its parts add up to this
-abbrev pub IsSpan : List ℕ → TimeSpan → Type 0
-IsSpan text Infinite = text ≡ codes "infinity"
-IsSpan text (Micros n) = (is_empty (trim_start text) ≡ false) × AddUpTo text n × (n ≤ span_limit)
+-- the span of so many microseconds, where they aren't too many
+abbrev pub span_within : ℕ → Option TimeSpan
+span_within n = if nat_le n span_limit then Some (Micros n) else None
+
+-- the time span that the text says: `infinity`, or one part at least, which add up to it, with whitespace between them as one likes
+unfoldable pub span_of : List ℕ → Option TimeSpan
+span_of text =
+    if bytes_eq text (codes "infinity") then Some Infinite
+    else (if is_blank text then None else option_and_then span_within (option_map sum (reading time_front 0 text)))
 
 -- ---- sets of exits
 
@@ -120,11 +114,17 @@ signals =
 
 -- the number of the signal of that name
 abbrev pub signal_number : List ℕ → Option ℕ
-signal_number word = number_among signals word
+signal_number word = lookup (bytes_eq word) signals
 
--- the end that a word tells: an exit code from 0 to 255, or a signal by its name
+-- the greatest exit code
+abbrev pub code_limit : ℕ
+code_limit = 255
+
+-- the end that a word tells: an exit code, or a signal by its name
 abbrev pub exit_of : List ℕ → Option End
-exit_of word = if is_decimal word then (if nat_le (decimal word) 255 then Some (Code (decimal word)) else None) else option_map Signal (signal_number word)
+exit_of word =
+    if is_decimal word then (if nat_le (decimal word) code_limit then Some (Code (decimal word)) else None)
+    else option_map Signal (signal_number word)
 
 -- the pieces between spaces and tabs, but for empty ones
 abbrev pub words_in : List ℕ → List (List ℕ)
@@ -146,10 +146,9 @@ tells_end text end = list_any (λ word. is_end end (exit_of word)) (words_in tex
 abbrev pub is_exit : List ℕ → Bool
 is_exit word = is_some (exit_of word)
 
--- each word of the text tells an end, and the set holds the ends that they tell and no other
-pub record IsExitSet (text : List ℕ) (holds : End → Bool) : Type 0 where
-  pub readable : list_all is_exit (words_in text) ≡ true
-  pub exact : (end : End) → holds end ≡ tells_end text end
+-- the set of the ends that the text's words tell, where each of them tells one
+unfoldable pub exits_of : List ℕ → Option (End → Bool)
+exits_of text = if list_all is_exit (words_in text) then Some (tells_end text) else None
 
 -- ---- Restart=
 
@@ -162,49 +161,6 @@ restart_text OnFailure = codes "on-failure"
 restart_text OnAbnormal = codes "on-abnormal"
 restart_text OnAbort = codes "on-abort"
 restart_text OnWatchdog = codes "on-watchdog"
-
--- ---- the same as functions, for definitions that go on from a reading; the laws in proofs/ValuesLaws say that they tell the
--- relations above
-
--- the truth value that the text is a word for
-unfoldable pub boolean_of : List ℕ → Option Bool
-boolean_of text =
-    if list_any (is_same_in_any_case text) (words_for true) then Some true
-    else (if list_any (is_same_in_any_case text) (words_for false) then Some false else None)
-
--- the number that the text spells, where it isn't too great
-unfoldable pub number_of : List ℕ → Option ℕ
-number_of text = if is_decimal text && nat_le (decimal text) number_limit then Some (decimal text) else None
-
--- the microseconds that a number and a unit say
-abbrev pub time_of : List ℕ → List ℕ → Option ℕ
-time_of digits unit = if nat_lt 0 (length digits) then option_map (λ size. decimal digits * size) (unit_size unit) else None
-
-abbrev pub sum_of : Option ℕ → Option ℕ → Option ℕ
-sum_of None other = None
-sum_of (Some n) other = option_map (λ m. n + m) other
-
--- what the parts of a text add up to, after so many bytes are skipped
-abbrev pub parts_of : ℕ → List ℕ → Option ℕ
-parts_of skip [] = Some 0
-parts_of (suc skip) (b ∷ bs) = parts_of skip bs
-parts_of zero (b ∷ bs) =
-    if is_space b then parts_of zero bs
-    else sum_of (time_of (digits_of (b ∷ bs)) (unit_of (b ∷ bs))) (parts_of (length bs - length (past_part (b ∷ bs))) bs)
-
-abbrev pub span_within : Option ℕ → Option TimeSpan
-span_within None = None
-span_within (Some n) = if nat_le n span_limit then Some (Micros n) else None
-
--- the time span that the text says
-unfoldable pub span_of : List ℕ → Option TimeSpan
-span_of text =
-    if bytes_eq text (codes "infinity") then Some Infinite
-    else (if is_empty (trim_start text) then None else span_within (parts_of 0 text))
-
--- the set of the ends that the text's words tell, where each of them tells one
-unfoldable pub exits_of : List ℕ → Option (End → Bool)
-exits_of text = if list_all is_exit (words_in text) then Some (tells_end text) else None
 
 -- all policies
 abbrev pub policies : List RestartPolicy

@@ -1,13 +1,16 @@
--- A text as words, with quotes and escapes, and words as commands.
--- Follows systemd.syntax(7), "Quoting", and systemd.service(5), "Command lines".
--- Substitution and the settings of units stand on this file.
-use Rattle.std.specs.Prelude.{◌≡◌, ℕ, zero, suc, ◌+◌, ◌*◌, ◌-◌, Bool, true, false, not, ◌&&◌, ◌||◌, ◌==◌, nat_lt, nat_le, if◌then◌else◌}
-use Rattle.std.specs.Prelude.{List, [], ◌∷◌, ◌++◌, length, map, take, drop, take_while, slice_index, Option, Some, None, option_map, is_none, bytes_eq}
+-- A text as words, with quotes and escapes.
+-- Follows systemd.syntax(7), "Quoting".
+-- Commands, substitution and the settings of units stand on this file.
+use Rattle.std.specs.Prelude.{◌≡◌, ℕ, zero, suc, ◌+◌, ◌*◌, ◌-◌, Bool, true, false, ◌&&◌, ◌||◌, ◌==◌, nat_lt, nat_le, if◌then◌else◌}
+use Rattle.std.specs.Prelude.{List, [], ◌∷◌, ◌++◌, length, map, take, slice_index, Option, Some, None, option_map, is_none}
 use Rattle.std.specs.Char.{digit_value}
-use Rattle.std.specs.List.{list_all, list_any, flat_map, slice_split}
+use Rattle.std.specs.List.{list_all}
+use Rattle.std.specs.Map.{lookup}
+use Rattle.std.specs.Option.{option_map_or}
 use Rattle.um_model.specs.Ascii.{is_space}
+use Rattle.um_model.specs.Pieces.{Front, Unreadable, Gives, StandsForText, reading}
 use Rattle.um_model.specs.declared.words.WordRules.{WordRules}
-use Rattle.um_model.specs.declared.words.WordRules.TheVariants.{Escaped, Plain, Names}
+use Rattle.um_model.specs.declared.words.WordRules.TheVariants.{Escaped, Plain}
 
 -- " and '
 abbrev pub is_quote : ℕ → Bool
@@ -26,21 +29,12 @@ pub data Spelling : Type 0 where
 abbrev pub begins_with_digits : ℕ → ℕ → List ℕ → Bool
 begins_with_digits base n bs = nat_le n (length bs) && list_all (λ b. nat_lt (digit_value b) base) (take n bs)
 
--- what a backslash and this byte mean: a b f n r t v, s for a space, and \ " ' themselves
+-- what a backslash and each of these bytes mean: a b f n r t v, s for a space, and \ " ' themselves
+abbrev pub meanings : List (ℕ × ℕ)
+meanings = (97, 7) ∷ (98, 8) ∷ (102, 12) ∷ (110, 10) ∷ (114, 13) ∷ (116, 9) ∷ (118, 11) ∷ (115, 32) ∷ (92, 92) ∷ (34, 34) ∷ (39, 39) ∷ []
+
 abbrev pub meaning_of : ℕ → Option ℕ
-meaning_of b =
-    if b == 97 then Some 7
-    else (if b == 98 then Some 8
-    else (if b == 102 then Some 12
-    else (if b == 110 then Some 10
-    else (if b == 114 then Some 13
-    else (if b == 116 then Some 9
-    else (if b == 118 then Some 11
-    else (if b == 115 then Some 32
-    else (if b == 92 then Some 92
-    else (if b == 34 then Some 34
-    else (if b == 39 then Some 39
-    else None))))))))))
+meaning_of b = lookup (λ c. b == c) meanings
 
 -- the number that the first two digits write
 abbrev pub hex_value : List ℕ → ℕ
@@ -61,15 +55,10 @@ rare_escape b bs =
     else (if is_left_out b bs then Bad
     else (if is_space b then Kept 2 else Kept 1))
 
--- the byte that is meant, where there is one
-abbrev pub means_or : Option ℕ → Spelling → Spelling
-means_or (Some meaning) other = Means meaning 2
-means_or None other = other
-
 -- a backslash, by what follows it; the last byte of a text stays
 abbrev pub escape : List ℕ → Spelling
 escape [] = Kept 1
-escape (b ∷ bs) = means_or (meaning_of b) (rare_escape b bs)
+escape (b ∷ bs) = option_map_or (λ meaning. Means meaning 2) (meaning_of b) (rare_escape b bs)
 
 -- a byte that begins no escape
 abbrev pub bare : Option ℕ → ℕ → Spelling
@@ -79,8 +68,7 @@ bare (Some quote) b = if b == quote then Turn None else Kept 1
 -- the byte begins an escape: a backslash in a setting that is words, but not in a variable's value or a list of unit names
 abbrev pub begins_escape : WordRules → ℕ → Bool
 begins_escape Escaped b = b == 92
-begins_escape Plain b = false
-begins_escape Names b = false
+begins_escape other b = false
 
 -- how the front of a text is spelled, inside this quote or none
 abbrev pub spelled_at : WordRules → Option ℕ → ℕ → List ℕ → Spelling
@@ -88,20 +76,8 @@ spelled_at rules quote b bs = if begins_escape rules b then escape bs else bare 
 
 -- a word may end with the text: outside quotes, and in a variable's value anywhere
 abbrev pub may_end : WordRules → Option ℕ → Bool
-may_end Escaped quote = is_none quote
 may_end Plain quote = true
-may_end Names quote = is_none quote
-
--- inside this quote, or none, the text begins with spellings of the word's bytes up to the word's end, and then the rest
-pub data InWord (rules : WordRules) : Option ℕ → List ℕ → List ℕ → List ℕ → Type 0 where
-  ends : (quote : Option ℕ) → may_end rules quote ≡ true → InWord rules quote [] [] []
-  stops : (quote : Option ℕ) (b : ℕ) (bs : List ℕ) → spelled_at rules quote b bs ≡ Stop → InWord rules quote (b ∷ bs) [] (b ∷ bs)
-  turns : (quote other : Option ℕ) (b : ℕ) (bs word rest : List ℕ) → spelled_at rules quote b bs ≡ Turn other
-      → InWord rules other bs word rest → InWord rules quote (b ∷ bs) word rest
-  stands : (quote : Option ℕ) (b meaning n : ℕ) (bs word rest : List ℕ) → spelled_at rules quote b bs ≡ Means meaning n
-      → InWord rules quote (drop (n - 1) bs) word rest → InWord rules quote (b ∷ bs) (meaning ∷ word) rest
-  keeps : (quote : Option ℕ) (b n : ℕ) (bs word rest : List ℕ) → spelled_at rules quote b bs ≡ Kept n
-      → InWord rules quote (drop (n - 1) bs) word rest → InWord rules quote (b ∷ bs) (b ∷ take (n - 1) bs ++ word) rest
+may_end other quote = is_none quote
 
 -- a word as it is written, and what it stands for
 pub record Word : Type 0 where
@@ -112,75 +88,9 @@ pub record Word : Type 0 where
 abbrev pub before : List ℕ → List ℕ → List ℕ
 before rest text = take (length text - length rest) text
 
--- the text is these words, with whitespace between them
-pub data AreSpelled (rules : WordRules) : List ℕ → List Word → Type 0 where
-  none : AreSpelled rules [] []
-  space : (b : ℕ) (bs : List ℕ) (words : List Word) → is_space b ≡ true → AreSpelled rules bs words → AreSpelled rules (b ∷ bs) words
-  word_first : (b : ℕ) (bs value rest : List ℕ) (words : List Word) → is_space b ≡ false → InWord rules None (b ∷ bs) value rest
-      → AreSpelled rules rest words → AreSpelled rules (b ∷ bs) (record { spelling = before rest (b ∷ bs); value = value } ∷ words)
-
--- what words stand for
-abbrev pub values_of : List Word → List (List ℕ)
-values_of words = map (λ w. w.value) words
-
--- the text reads as these words
-abbrev pub AreWords : WordRules → List ℕ → List (List ℕ) → Type 0
-AreWords rules text words = (spelled : List Word) × AreSpelled rules text spelled × (values_of spelled ≡ words)
-
--- Commands.
-
--- a command: its words, and what the signs in front of the first one say
-pub record Command : Type 0 where
-  pub words : List (List ℕ)
-  pub ignores_failure : Bool
-  pub substitutes : Bool
-
--- the word is written as a lone `;`
-abbrev pub is_separator : Word → Bool
-is_separator word = bytes_eq word.spelling (59 ∷ [])
-
--- what a word of a command stands for: one that is written `\;` for `;`
-abbrev pub value_in_command : Word → List ℕ
-value_in_command word = if bytes_eq word.spelling (92 ∷ 59 ∷ []) then 59 ∷ [] else word.value
-
--- `-`, `:`, `+` or `!`
-abbrev pub is_sign : ℕ → Bool
-is_sign b = b == 45 || b == 58 || b == 43 || b == 33
-
--- the signs in front of a first word
-abbrev pub signs_of : List ℕ → List ℕ
-signs_of first = take_while is_sign first
-
--- the command of these words, the signs cut off: `-` ignores failure, `:` leaves variables alone. Without words there is none
-abbrev pub command_of : List (List ℕ) → List Command
-command_of [] = []
-command_of (first ∷ others) =
-    record {
-      words = drop (length (signs_of first)) first ∷ others;
-      ignores_failure = list_any (λ b. b == 45) (signs_of first);
-      substitutes = not (list_any (λ b. b == 58) (signs_of first));
-    } ∷ []
-
--- the commands of words, parted at each separator
-abbrev pub commands_of : List Word → List Command
-commands_of words = flat_map (λ part. command_of (map value_in_command part)) (slice_split is_separator words)
-
--- the text reads as these commands
-abbrev pub AreCommands : List ℕ → List Command → Type 0
-AreCommands text commands = (spelled : List Word) × AreSpelled Escaped text spelled × (commands_of spelled ≡ commands)
-
--- the word can be run: an absolute path, or a name without `/`
-abbrev pub is_executable_word : List ℕ → Bool
-is_executable_word [] = false
-is_executable_word (b ∷ bs) = b == 47 || not (list_any (λ c. c == 47) (b ∷ bs))
-
--- The same as functions, for definitions that go on from a reading; the laws in proofs/WordsLaws say that they tell the relations
--- above.
-
 -- these bytes, and then what is read
 abbrev pub with_front : List ℕ → Option (List ℕ × List ℕ) → Option (List ℕ × List ℕ)
-with_front bytes None = None
-with_front bytes (Some found) = Some (bytes ++ found.0, found.1)
+with_front bytes r = option_map (λ found. (bytes ++ found.0, found.1)) r
 
 -- nothing is left
 abbrev pub at_end : WordRules → Option ℕ → Option (List ℕ × List ℕ)
@@ -200,23 +110,23 @@ read rules skip quote [] = at_end rules quote
 read rules (suc skip) quote (b ∷ bs) = read rules skip quote bs
 read rules zero quote (b ∷ bs) = by_spelling (spelled_at rules quote b bs) quote b bs (λ n other. read rules n other bs)
 
--- a word that was found at the front of a text, and the words that are read behind it, past so many bytes of what follows the first
-abbrev pub word_then : Option (List ℕ × List ℕ) → List ℕ → (ℕ → Option (List Word)) → Option (List Word)
-word_then None text later = None
-word_then (Some (value, rest)) text later =
-    option_map (λ words. record { spelling = before rest text; value = value } ∷ words) (later (length text - length rest - 1))
+-- a word that was found at the front of a text, with what follows it
+abbrev pub word_front : List ℕ → Option (List ℕ × List ℕ) → Front Word
+word_front text None = Unreadable
+word_front text (Some (value, rest)) = Gives (record { spelling = before rest text; value = value } ∷ []) (length text - length rest)
 
--- the words of a text, after so many bytes are skipped
-abbrev pub read_words : WordRules → ℕ → List ℕ → Option (List Word)
-read_words rules skip [] = Some []
-read_words rules (suc skip) (b ∷ bs) = read_words rules skip bs
-read_words rules zero (b ∷ bs) =
-    if is_space b then read_words rules zero bs else word_then (read rules zero None (b ∷ bs)) (b ∷ bs) (λ n. read_words rules n bs)
+-- a piece of a text of words: whitespace, or a word
+abbrev pub piece_of_words : WordRules → ℕ → List ℕ → Front Word
+piece_of_words rules b bs = if is_space b then Gives [] 1 else word_front (b ∷ bs) (read rules zero None (b ∷ bs))
+
+-- what words stand for
+abbrev pub values_of : List Word → List (List ℕ)
+values_of words = map (λ w. w.value) words
+
+-- the text reads as these words
+abbrev pub AreWords : WordRules → List ℕ → List (List ℕ) → Type 0
+AreWords rules text words = (spelled : List Word) × StandsForText (piece_of_words rules) text spelled × (values_of spelled ≡ words)
 
 -- the words that the text reads as, where it can be read
 unfoldable pub words_of : WordRules → List ℕ → Option (List (List ℕ))
-words_of rules text = option_map values_of (read_words rules 0 text)
-
--- the commands that the text reads as, where it can be read
-unfoldable pub commands_read : List ℕ → Option (List Command)
-commands_read text = option_map commands_of (read_words Escaped 0 text)
+words_of rules text = option_map values_of (reading (piece_of_words rules) 0 text)

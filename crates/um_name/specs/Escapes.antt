@@ -1,9 +1,9 @@
 -- What the front of an escaped text gives, as the code tells it.
-use Rattle.std.specs.Prelude.{[], ◌∷◌, Option, Some, None}
+use Rattle.std.specs.Prelude.{ℕ, [], ◌∷◌, Option, Some, None}
 use Rattle.um_model.specs.Pieces.{Front, Unreadable, Gives}
 use Rattle.um_name.specs.declared.escapes.Piece.{Piece}
 
 -- a byte, and how many bytes of the text stand for it
-abbrev pub front_of : Option Piece → Front
+abbrev pub front_of : Option Piece → Front ℕ
 front_of None = Unreadable
 front_of (Some piece) = Gives (piece.byte ∷ []) piece.size

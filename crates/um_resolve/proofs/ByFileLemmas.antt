@@ -13,7 +13,8 @@ use Rattle.std.proofs.lemmas.Map.Views.{tells_apart}
 use Rattle.std.specs.List.{flat_map}
 use Rattle.std.proofs.lemmas.Grind.{flat_map-append}
 use Rattle.std.proofs.Common.{append-nil}
-use Rattle.um_model.specs.Resolution.{DropIn, by_file, drop_ins_by_file, or_else}
+use Rattle.std.specs.Option.{option_or}
+use Rattle.um_model.specs.Resolution.{DropIn, by_file, drop_ins_by_file}
 use Rattle.um_tree.proofs.TextMaps.{get-map_of, entries-map_of, map_of_inserted}
 use Rattle.um_resolve.specs.View.{ByFile, added, by_file_of, drop_in_of, drop_ins_seen, file_and_drop_in, first_kept}
 use Rattle.um_resolve.specs.declared.drop_ins.DropIn as code
@@ -41,7 +42,7 @@ pub added-append : (m : ByFile) (ds es : List DropIn) → added m (ds ++ es) ≡
 added-append m [] es = refl
 added-append m (d ∷ ds) es = added-append (first_kept m d) ds es
 
-chosen : (b : Bool) (here there : Option DropIn) (d : DropIn) → (b ≡ true → here ≡ there) → cond (is_some there) here (cond b (Some d) here) ≡ or_else here (cond b (Some d) None)
+chosen : (b : Bool) (here there : Option DropIn) (d : DropIn) → (b ≡ true → here ≡ there) → cond (is_some there) here (cond b (Some d) here) ≡ option_or here (cond b (Some d) None)
 chosen true here None d e = rw (e refl) refl
 chosen true here (Some x) d e = rw (e refl) refl
 chosen false None None d e = refl
@@ -56,26 +57,26 @@ get-cond false m n q = refl
 same_place : (m : ByFile) (q file : List ℕ) → eq_by_cmp (slice_cmp nat_cmp) q file ≡ true → map.get m q ≡ map.get m file
 same_place m q file e = ap (map.get m) (tells_apart exact_bytes q file e)
 
-get-first_kept : (m : ByFile) (d : DropIn) (q : List ℕ) → map.get (first_kept m d) q ≡ or_else (map.get m q) (cond (eq_by_cmp (slice_cmp nat_cmp) q d.file) (Some d) None)
+get-first_kept : (m : ByFile) (d : DropIn) (q : List ℕ) → map.get (first_kept m d) q ≡ option_or (map.get m q) (cond (eq_by_cmp (slice_cmp nat_cmp) q d.file) (Some d) None)
 get-first_kept m d q =
     get-cond (map.contains_key m d.file) m (map.insert m d.file d) q
     ∙ ap (cond (map.contains_key m d.file) (map.get m q)) (map.get-insert nat_list_cmp_total m d.file d q)
     ∙ chosen (eq_by_cmp (slice_cmp nat_cmp) q d.file) (map.get m q) (map.get m d.file) d (same_place m q d.file)
 
-or_else-assoc : (b : Bool) (o rest : Option DropIn) (d : DropIn) → or_else (or_else o (cond b (Some d) None)) rest ≡ or_else o (cond b (Some d) rest)
+or_else-assoc : (b : Bool) (o rest : Option DropIn) (d : DropIn) → option_or (option_or o (cond b (Some d) None)) rest ≡ option_or o (cond b (Some d) rest)
 or_else-assoc b (Some x) rest d = refl
 or_else-assoc true None rest d = refl
 or_else-assoc false None rest d = refl
 
-or_else-none : (o : Option DropIn) → o ≡ or_else o None
+or_else-none : (o : Option DropIn) → o ≡ option_or o None
 or_else-none None = refl
 or_else-none (Some x) = refl
 
-get-added : (m : ByFile) (ds : List DropIn) (q : List ℕ) → map.get (added m ds) q ≡ or_else (map.get m q) (map.find (slice_cmp nat_cmp) q (each by_file ds))
+get-added : (m : ByFile) (ds : List DropIn) (q : List ℕ) → map.get (added m ds) q ≡ option_or (map.get m q) (map.find (slice_cmp nat_cmp) q (each by_file ds))
 get-added m [] q = or_else-none (map.get m q)
 get-added m (d ∷ ds) q =
     get-added (first_kept m d) ds q
-    ∙ ap (λ o. or_else o (map.find (slice_cmp nat_cmp) q (each by_file ds))) (get-first_kept m d q)
+    ∙ ap (λ o. option_or o (map.find (slice_cmp nat_cmp) q (each by_file ds))) (get-first_kept m d q)
     ∙ or_else-assoc (eq_by_cmp (slice_cmp nat_cmp) q d.file) (map.get m q) (map.find (slice_cmp nat_cmp) q (each by_file ds)) d
 
 -- all of them, added to nothing
@@ -83,7 +84,7 @@ pub added_all : (ds : List DropIn) → added map.empty ds ≡ drop_ins_by_file d
 added_all ds =
     map.same_map nat_list_cmp_total (slice_cmp-IsAntisymmetric nat_cmp-IsAntisymmetric) _ _
     (λ q. get-added map.empty ds q
-    ∙ ap (λ o. or_else o (map.find (slice_cmp nat_cmp) q (each by_file ds))) (map.get-empty (slice_cmp nat_cmp) q)
+    ∙ ap (λ o. option_or o (map.find (slice_cmp nat_cmp) q (each by_file ds))) (map.get-empty (slice_cmp nat_cmp) q)
     ∙ sym (map.get-from_entries nat_list_cmp_total (each by_file ds) q))
 
 values-each : (es : List (String Global × code.DropIn)) → each drop_in_of (values_of es) ≡ each (λ e. e.1) (each file_and_drop_in es)

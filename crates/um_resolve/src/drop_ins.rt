@@ -1,6 +1,7 @@
-ghost use Rattle.std.specs.Prelude.{◌≡◌, IfOk, OnOk, map as each, option_copied, option_map, string_bytes};
+ghost use Rattle.std.specs.Prelude.{◌≡◌, IfOk, OnOk, [], map as each, option_copied, option_map, string_bytes};
 ghost use Rattle.std.specs.FinMap as map;
 ghost use Rattle.std.specs.List.{flat_map};
+ghost use Rattle.std.specs.Option.{option_map_or};
 ghost use Rattle.um_model.specs.Resolution as model;
 ghost use Rattle.um_model.specs.Tree.{behind};
 ghost use Rattle.um_tree.specs.View.{entry_of};
@@ -120,7 +121,7 @@ fn add_template<'t>(
     template: Option<&UnitName>,
 ) -> Result<(), AllocError>
     ensures { OnOk result (by_file_of by_file.new.entries
-        ≡ added (by_file_of by_file.old.entries) (flat_map (model.drop_ins_in tree.now) (model.folders_of_template (option_copied template.entry)))) }
+        ≡ added (by_file_of by_file.old.entries) (flat_map (model.drop_ins_in tree.now) (option_map_or model.folders_of (option_copied template.entry) []))) }
 {
     if let Some(template) = template {
         add_unit(alloc, by_file, tree, template.as_str())?;

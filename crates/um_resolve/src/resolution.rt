@@ -1,4 +1,5 @@
 ghost use Rattle.std.specs.Prelude.{◌≡◌, ℕ, List, Some, None, IfOk, if◌then◌else◌, option_copied, option_map, string_bytes};
+ghost use Rattle.std.specs.Option.{option_map_or};
 ghost use Rattle.um_model.specs.Resolution as model;
 ghost use Rattle.um_model.specs.Tree.{File};
 ghost use Rattle.um_tree.specs.View.{entry_of};
@@ -170,7 +171,7 @@ fn at_file<'t>(unit: &UnitName, path: String, text: &'t str) -> Result<Step<'t>,
 
 fn at_link<'t>(alloc: Global, unit: &UnitName, target: &str) -> Result<Step<'t>, AllocError>
     ensures { IfOk result (λ s. (follow : List ℕ → model.Resolution)
-        → after_step s follow ≡ (if model.is_mask target.now then model.AtMask unit.now else model.followed (model.next_name unit.now target.now) follow)) }
+        → after_step s follow ≡ (if model.is_mask target.now then model.AtMask unit.now else option_map_or follow (model.next_name unit.now target.now) model.Nowhere)) }
 {
     if target == "/dev/null" {
         return Ok(Step::Ends(Resolution::Mask { unit: unit.copy()? }));

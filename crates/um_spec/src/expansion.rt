@@ -4,7 +4,8 @@ ghost use Rattle.std.specs.Prelude.{◌≡◌, ◌-◌, ◌+◌, ◌<◌, ◌≤
 ghost use Rattle.std.specs.List.{after_last};
 ghost use Rattle.std.specs.Str.{IsCharBoundary};
 ghost use Rattle.um_model.specs.Pieces.{reading};
-ghost use Rattle.um_model.specs.Specifiers.{IsUnescaped, IsExpanded, expanded_of, instance_or_empty, specified, percent_front, specifier_front};
+ghost use Rattle.um_model.specs.Specifiers.{expanded_of, instance_or_empty, specified, percent_front, specifier_front};
+ghost use Rattle.um_model.proofs.SpecifiersLaws.{IsUnescaped};
 ghost use Rattle.um_spec.specs.Piece.{front_of};
 
 use std::alloc::{AllocError, Global};
@@ -103,10 +104,7 @@ fn expand_with(
 /// anything but a letter stays, also at the end. None where a `%` stands before another letter, and where `%I` is asked for
 /// and the instance is ill escaped or isn't UTF-8.
 pub fn expand(alloc: Global, text: &str, unit: &UnitName) -> Result<Option<String>, AllocError>
-    ensures read { IfOk result (λ r. MatchOption r
-        ((expanded : List ℕ) → ¬ (IsExpanded unit.now text.now expanded))
-        (λ expanded. IsExpanded unit.now text.now (string_bytes expanded))) }
-    ensures same { IfOk result (λ r. option_map string_bytes r ≡ expanded_of unit.now text.now) }
+    ensures { IfOk result (λ r. option_map string_bytes r ≡ expanded_of unit.now text.now) }
 {
     match unescaped(alloc, instance_or_empty(unit))? {
         Some(instance) => expand_with(alloc, text, unit, Some(instance.as_str())),

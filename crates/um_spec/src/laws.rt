@@ -2,7 +2,8 @@
 
 ghost use Rattle.std.specs.Prelude.{◌≡◌, ℕ, List};
 ghost use Rattle.um_model.specs.Finds.{Finds};
-ghost use Rattle.um_model.specs.Specifiers.{IsExpanded, expanded_of};
+ghost use Rattle.um_model.specs.Specifiers.{expanded_of};
+ghost use Rattle.um_model.proofs.SpecifiersLaws.{IsExpanded};
 
 /// Under a name a text stands for one other at most.
 pub fn a_text_has_one_expansion()

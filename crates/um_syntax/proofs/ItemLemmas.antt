@@ -4,8 +4,7 @@ use Rattle.std.specs.Prelude.{All, IfSome}
 use Rattle.std.specs.Option.{option_to_list}
 use Rattle.std.proofs.lemmas.List.{drop_more, drop_all, map-append}
 use Rattle.std.proofs.lemmas.List.Elements.{All-push}
-use Rattle.um_model.specs.Syntax.{Line, statement_of, items_of, items_in, is_head, joined_lines, in_sections, IsReading}
-use Rattle.um_model.proofs.SyntaxLaws.{reading_given}
+use Rattle.um_model.specs.Syntax.{Line, statement_of, items_of, items_in, is_head, joined_lines, in_sections, reading_of}
 use Rattle.um_model.specs.Syntax as said
 use Rattle.um_syntax.specs.declared.joiner.Joined.{Joined}
 use Rattle.um_syntax.specs.declared.items.Item.{Item}
@@ -51,9 +50,9 @@ all_more P old new (Some x) is here all = subst (All P) (sym is) (All-push P old
 pub read_all : (source : List ℕ) (lines : List Joined) (i : ℕ) (begun : Bool) (items : List Item) → length lines ≤ i
     → map item_of items ++ items_in begun (map line_of (drop i lines)) ≡ items_in false (map line_of lines)
     → map line_of lines ≡ joined_lines source
-    → IsReading source (in_sections None (map item_of items))
+    → in_sections None (map item_of items) ≡ reading_of source
 read_all source lines i begun items past told are =
     let nothing : drop i lines ≡ [] = drop_all i lines past in
     let same : map item_of items ≡ items_in false (joined_lines source) =
     sym (append-nil (map item_of items)) ∙ ap (λ ls. map item_of items ++ items_in begun (map line_of ls)) (sym nothing) ∙ told ∙ ap (items_in false) are in
-    subst (λ found. IsReading source (in_sections None found)) (sym same) (reading_given source)
+    ap (in_sections None) same

@@ -1,7 +1,7 @@
 //! The items of a text.
 
 ghost use Rattle.std.specs.Prelude.{◌≡◌, ◌+◌, ◌<◌, ◌^◌, ℕ, List, None, IfOk, IfSome, All, map, length, true, false};
-ghost use Rattle.um_model.specs.Syntax.{statement_of, items_of, is_head, in_sections, IsReading};
+ghost use Rattle.um_model.specs.Syntax.{statement_of, items_of, is_head, in_sections, reading_of};
 ghost use Rattle.um_syntax.specs.Places.{cow_text, is_borrowed, LiesAt};
 ghost use Rattle.um_syntax.specs.Joining.{line_of, LiesIn, HasPlace};
 ghost use Rattle.um_syntax.specs.Items.{item_of, items_seen, is_section, begins_section, SpanIsIn, BorrowsIfWhole};
@@ -143,7 +143,7 @@ fn read_item<'a>(
 /// What the text of a unit file says, in the order of its lines (systemd.syntax(7)): heads of sections, assignments, and the
 /// warnings `BeforeAnySection` and `NoEqualsSign`. Every text can be read.
 pub fn parse<'a>(alloc: Global, source: &'a str) -> Result<Vec<Item<'a>>, AllocError>
-    ensures reading { IfOk result (λ items. IsReading source.now (in_sections None (map item_of items.items))) }
+    ensures reading { IfOk result (λ items. in_sections None (map item_of items.items) ≡ reading_of source.now) }
     ensures spans { IfOk result (λ items. All (SpanIsIn source.now) items.items) }
     ensures borrowed { IfOk result (λ items. All BorrowsIfWhole items.items) }
 {

@@ -2,7 +2,8 @@
 
 ghost use Rattle.std.specs.Prelude.{◌≡◌, ◌↔◌, ℕ, List};
 ghost use Rattle.um_model.specs.Pieces.{Front, StandsForText};
-ghost use Rattle.um_model.specs.Text.{trim_start, trim_end, IsCutInFront, IsCutAtEnd};
+ghost use Rattle.um_model.specs.Text.{trim_start, trim_end};
+ghost use Rattle.um_model.proofs.TextLaws.{IsCutInFront, IsCutAtEnd};
 
 /// A text without the whitespace in front is what is left where whitespace alone is cut off there, as far as it goes.
 pub fn trimming_in_front()
@@ -16,5 +17,5 @@ pub fn trimming_at_the_end()
 
 /// A text that stands for another one piece by piece, whatever the pieces, stands for one at most.
 pub fn a_text_of_pieces_has_one_reading()
-    ensures { (front : ℕ → List ℕ → Front) (text first second : List ℕ) → StandsForText front text first → StandsForText front text second → first ≡ second }
+    ensures { (front : ℕ → List ℕ → Front ℕ) (text first second : List ℕ) → StandsForText front text first → StandsForText front text second → first ≡ second }
 {}

@@ -1,2 +1,3 @@
 pub mod Place
 pub mod View
+pub mod Code

@@ -119,7 +119,7 @@ fn place_in<'a>(directory: &'a str, file: &'a str) -> Option<(&'a str, Place<'a>
 }
 
 fn unit_and_place(rest: &str) -> Option<(&str, Place<'_>)>
-    ensures { option_map text_and_place result ≡ model.unit_and_place rest.now (model.around_slash rest.now) }
+    ensures { option_map text_and_place result ≡ model.unit_and_place rest.now }
 {
     match around_slash(rest) {
         Some((directory, file)) => place_in(directory, file),

@@ -5,6 +5,7 @@ ghost use Rattle.um_model.specs.Tree as model;
 ghost use Rattle.um_model.specs.Refusals as told;
 ghost use Rattle.um_model.specs.Weight.{entry_weight, tree_weight};
 ghost use Rattle.um_model.specs.declared.refusals.Limit as limits;
+ghost use Rattle.um_tree.specs.Code.{tree_code};
 ghost use Rattle.um_tree.specs.View.{entry_of, path_with_entry, refused_by, stored_entry, tree_of};
 ghost use Rattle.um_wire.specs.Refusal.{refused_of};
 ghost use Rattle.um_wire.specs.declared.refusal.Refusal.TheVariants.{NoMemory, TooLarge};
@@ -40,7 +41,7 @@ pub struct Tree {
 impl Model for Tree {
     ghost Value = { model.Tree };
 
-    ghost coded = { model.tree_code };
+    ghost coded = { tree_code };
 
     ghost view = { λ t. tree_of t.entries.entries };
 

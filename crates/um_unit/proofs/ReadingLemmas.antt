@@ -3,8 +3,12 @@ use Rattle.std.proofs.Common.{◌≡◌, ℕ, List, [], ◌∷◌, ◌++◌, map
 use Rattle.std.specs.List.{cons_option}
 use Rattle.std.proofs.lemmas.List.{append-nil, map-append}
 use Rattle.std.proofs.lemmas.List.Elements.{filter_map-append}
-use Rattle.um_model.specs.Readings.{Reading, all_read, command_reading, commands_reading, environment_reading, in_front, variable_reading, or_warning, read_in, then_read, value_reading, warning_in}
-use Rattle.um_model.specs.Words.{Command, commands_read, words_of}
+use Rattle.std.specs.Option.{ok_or}
+use Rattle.std.specs.Result.{result_ok}
+use Rattle.std.specs.Result.{result_err}
+use Rattle.um_model.specs.Readings.{Reading, all_read, command_reading, commands_reading, environment_reading, in_front, variable_reading, then_read, value_reading}
+use Rattle.um_model.specs.Commands.{Command, commands_read}
+use Rattle.um_model.specs.Words.{words_of}
 use Rattle.um_model.specs.declared.warnings.WarningKind.{WarningKind}
 use Rattle.um_model.specs.declared.warnings.WarningKind.TheVariants.{UnreadableValue}
 use Rattle.um_model.specs.declared.words.WordRules.TheVariants.{Escaped}
@@ -50,38 +54,38 @@ seen_twice f g (Ok a) = refl
 seen_twice f g (Err warning) = refl
 
 -- a warning behind what was read
-pub warned_later : {A : Type 0} (a : A) (others : Reading (List A)) → warning_in (in_front (Ok a) others) ≡ warning_in others
+pub warned_later : {A : Type 0} (a : A) (others : Reading (List A)) → result_err (in_front (Ok a) others) ≡ result_err others
 warned_later a (Ok others) = refl
 warned_later a (Err warning) = refl
 
-pub same_warning : {A B : Type 0} (f : A → B) (r : Reading A) → warning_in (read_as f r) ≡ warning_in r
+pub same_warning : {A B : Type 0} (f : A → B) (r : Reading A) → result_err (read_as f r) ≡ result_err r
 same_warning f (Ok a) = refl
 same_warning f (Err warning) = refl
 
-pub same_unread : {A B : Type 0} (f : A → B) (o : Option A) → warning_in (value_reading (option_map f o)) ≡ warning_in (value_reading o)
+pub same_unread : {A B : Type 0} (f : A → B) (o : Option A) → result_err (value_reading (option_map f o)) ≡ result_err (value_reading o)
 same_unread f None = refl
 same_unread f (Some a) = refl
 
 -- one name more
 pub named_more : {A B : Type 0} (f : A → B) (old : List B) (done more : List A) (readings : List (Reading A)) (reading : Reading A) (name : A) → reading ≡ Ok name → more ≡ done ++ name ∷ []
-    → map f done ≡ old ++ map f (filter_map read_in readings) → map f more ≡ old ++ map f (filter_map read_in (readings ++ reading ∷ []))
+    → map f done ≡ old ++ map f (filter_map result_ok readings) → map f more ≡ old ++ map f (filter_map result_ok (readings ++ reading ∷ []))
 named_more f old done more readings reading name is e so_far =
     ap (map f) e ∙ map-append f done (name ∷ []) ∙ ap (λ names. names ++ f name ∷ []) so_far
-    ∙ append_assoc old (map f (filter_map read_in readings)) (f name ∷ [])
-    ∙ ap (λ names. old ++ names) (sym (map-append f (filter_map read_in readings) (name ∷ [])))
-    ∙ ap (λ r. old ++ map f (filter_map read_in readings ++ filter_map read_in (r ∷ []))) (sym is)
-    ∙ ap (λ names. old ++ map f names) (sym (filter_map-append read_in readings (reading ∷ [])))
+    ∙ append_assoc old (map f (filter_map result_ok readings)) (f name ∷ [])
+    ∙ ap (λ names. old ++ names) (sym (map-append f (filter_map result_ok readings) (name ∷ [])))
+    ∙ ap (λ r. old ++ map f (filter_map result_ok readings ++ filter_map result_ok (r ∷ []))) (sym is)
+    ∙ ap (λ names. old ++ map f names) (sym (filter_map-append result_ok readings (reading ∷ [])))
 
 -- one that names nothing
-pub named_no_more : {A B : Type 0} (f : A → B) (old : List B) (done : List A) (readings : List (Reading A)) (reading : Reading A) → read_in reading ≡ None
-    → map f done ≡ old ++ map f (filter_map read_in readings) → map f done ≡ old ++ map f (filter_map read_in (readings ++ reading ∷ []))
+pub named_no_more : {A B : Type 0} (f : A → B) (old : List B) (done : List A) (readings : List (Reading A)) (reading : Reading A) → result_ok reading ≡ None
+    → map f done ≡ old ++ map f (filter_map result_ok readings) → map f done ≡ old ++ map f (filter_map result_ok (readings ++ reading ∷ []))
 named_no_more f old done readings reading none so_far =
     so_far
-    ∙ ap (λ names. old ++ map f names) (sym (append-nil (filter_map read_in readings)))
-    ∙ ap (λ o. old ++ map f (filter_map read_in readings ++ cons_option o [])) (sym none)
-    ∙ ap (λ names. old ++ map f names) (sym (filter_map-append read_in readings (reading ∷ [])))
+    ∙ ap (λ names. old ++ map f names) (sym (append-nil (filter_map result_ok readings)))
+    ∙ ap (λ o. old ++ map f (filter_map result_ok readings ++ cons_option o [])) (sym none)
+    ∙ ap (λ names. old ++ map f names) (sym (filter_map-append result_ok readings (reading ∷ [])))
 
-pub names_nothing : {A : Type 0} (reading : Reading A) → ((a : A) → reading ≡ Ok a → ⊥) → read_in reading ≡ None
+pub names_nothing : {A : Type 0} (reading : Reading A) → ((a : A) → reading ≡ Ok a → ⊥) → result_ok reading ≡ None
 names_nothing (Ok a) not = absurd (not a refl)
 names_nothing (Err warning) not = refl
 
@@ -91,15 +95,15 @@ pub read_all : {V A B : Type 0} (f : A → B) (items : V → List A) (r : Readin
 read_all f items r readings others all seen = sym (seen_twice (map f) items r) ∙ ap (read_as (map f)) all ∙ all_seen f readings ∙ ap all_read seen
 
 -- the names that readings say, seen in another way
-pub said_seen : {A B : Type 0} (f : A → B) (readings : List (Reading A)) → map f (filter_map read_in readings) ≡ filter_map read_in (map (read_as f) readings)
+pub said_seen : {A B : Type 0} (f : A → B) (readings : List (Reading A)) → map f (filter_map result_ok readings) ≡ filter_map result_ok (map (read_as f) readings)
 said_seen f [] = refl
 said_seen f (Ok a ∷ others) = ap (λ names. f a ∷ names) (said_seen f others)
 said_seen f (Err warning ∷ others) = said_seen f others
 
 pub commands_by : (unit value : List ℕ) (commands : List Command) → commands_read value ≡ Some commands → commands_reading unit value ≡ all_read (map (command_reading unit) commands)
 unfolding commands_reading
-commands_by unit value commands e = ap (λ o. then_read (or_warning UnreadableValue o) (λ read. all_read (map (command_reading unit) read))) e
+commands_by unit value commands e = ap (λ o. then_read (ok_or o UnreadableValue) (λ read. all_read (map (command_reading unit) read))) e
 
 pub environment_by : (unit value : List ℕ) (words : List (List ℕ)) → words_of Escaped value ≡ Some words → environment_reading unit value ≡ all_read (map (variable_reading unit) words)
 unfolding environment_reading
-environment_by unit value words e = ap (λ o. then_read (or_warning UnreadableValue o) (λ read. all_read (map (variable_reading unit) read))) e
+environment_by unit value words e = ap (λ o. then_read (ok_or o UnreadableValue) (λ read. all_read (map (variable_reading unit) read))) e

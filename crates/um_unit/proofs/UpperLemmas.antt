@@ -1,11 +1,11 @@
 -- What a service's settings are, field by field, and when a unit is the one of its files.
 use Rattle.std.proofs.Common.{◌≡◌, ℕ, Bool, List, Option, Some, None, sym, ap, ◌∙◌}
 use Rattle.um_model.specs.Names.{suffix_of}
-use Rattle.um_model.specs.Resolution.{or_else}
+use Rattle.std.specs.Option.{option_or}
 use Rattle.um_model.specs.Settings.{ServiceSettings}
 use Rattle.um_model.specs.Substitution.{Variable}
 use Rattle.um_model.specs.Units.{Assigned, Found, LoadedUnit, Settings, Source, Warning, assignments_in, found_unless, loading_by_file, reason_of, refused_service, refused_setting, service_settings_of, settings_of, type_of, unit_by, warnings_of}
-use Rattle.um_model.specs.Words.{Command}
+use Rattle.um_model.specs.Commands.{Command}
 use Rattle.um_model.specs.declared.names.Suffix.{Suffix}
 use Rattle.um_model.specs.declared.service.End.{End}
 use Rattle.um_model.specs.declared.settings.RestartPolicy.{RestartPolicy}
@@ -39,12 +39,12 @@ unit_is unit sources {name} {path} {path'} {suffix} {assigned} {settings} {warni
 -- the reason by the settings that are already known
 pub reason_is : (unit : List ℕ) (sources : List Source) → {suffix other : Suffix} {assigned : List Assigned} {settings : Settings} {reason : Option (List ℕ)}
     → suffix_of unit ≡ Some suffix → suffix_of unit ≡ Some other → assigned ≡ assignments_in (Some suffix) sources → settings ≡ settings_of unit assigned
-    → reason ≡ or_else (refused_setting assigned) (refused_service (Some other) (type_of assigned) settings.service)
+    → reason ≡ option_or (refused_setting assigned) (refused_service (Some other) (type_of assigned) settings.service)
     → reason ≡ reason_of unit (assignments_in (suffix_of unit) sources)
 reason_is unit sources {suffix} {other} {assigned} {settings} {reason} typed typed_too assigns sets is =
     let assigned_is : assigned ≡ assignments_in (suffix_of unit) sources = assigns ∙ ap (λ t. assignments_in t sources) (sym typed) in
-    is ∙ ap (λ s. or_else (refused_setting assigned) (refused_service (Some other) (type_of assigned) s)) (ap (λ s. s.service) sets)
-    ∙ ap (λ t. or_else (refused_setting assigned) (refused_service t (type_of assigned) (service_settings_of (suffix_of unit) unit assigned))) (sym typed_too)
+    is ∙ ap (λ s. option_or (refused_setting assigned) (refused_service (Some other) (type_of assigned) s)) (ap (λ s. s.service) sets)
+    ∙ ap (λ t. option_or (refused_setting assigned) (refused_service t (type_of assigned) (service_settings_of (suffix_of unit) unit assigned))) (sym typed_too)
     ∙ ap (reason_of unit) assigned_is
 
 -- with no reason against it, the unit of the file is found

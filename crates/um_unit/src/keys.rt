@@ -3,6 +3,8 @@
 ghost use Rattle.std.specs.Prelude.{◌≡◌, Some, map};
 ghost use Rattle.std.specs.List.{list_any};
 ghost use Rattle.std.specs.Str.{bytes_eq};
+ghost use Rattle.std.specs.Map.{lookup};
+ghost use Rattle.std.specs.Str.{bytes_eq};
 ghost use Rattle.um_model.specs.Keys as keys;
 
 use um_model::{Suffix, ValueKind};
@@ -110,7 +112,7 @@ pub fn is_known_section(suffix: Suffix, section: &str) -> bool
 
 /// The kind of a key's values among these keys.
 fn kind_among(known: &[(&str, ValueKind)], key: &str) -> Option<ValueKind>
-    ensures { result ≡ keys.kind_among (map (λ k. (k.0.now, k.1)) known.now) key.now }
+    ensures { result ≡ lookup (bytes_eq key.now) (map (λ k. (k.0.now, k.1)) known.now) }
 {
     for (name, kind) in known {
         if key == *name {
@@ -122,7 +124,7 @@ fn kind_among(known: &[(&str, ValueKind)], key: &str) -> Option<ValueKind>
 
 /// The kind of a key's values among the keys of a known section.
 fn kind_in(section: &str, key: &str) -> Option<ValueKind>
-    ensures { result ≡ keys.kind_among (keys.keys_of section.now) key.now }
+    ensures { result ≡ lookup (bytes_eq key.now) (keys.keys_of section.now) }
 {
     if section == "Unit" {
         return kind_among(&UNIT_KEYS, key);

@@ -2,6 +2,7 @@
 
 ghost use Rattle.std.specs.Prelude.{◌≡◌, ◌++◌, ◌∷◌, [], IfOk, OnOk, map, string_bytes, filter_map};
 ghost use Rattle.std.specs.List.{flat_map};
+ghost use Rattle.std.specs.Result.{result_ok, result_unwrap_or};
 ghost use Rattle.um_model.specs.Names.{is_unit_name};
 ghost use Rattle.um_model.specs.Readings as said;
 ghost use Rattle.um_model.specs.Units as model;
@@ -28,7 +29,7 @@ fn add_all<T: Drop>(all: &mut Vec<T>, more: Vec<T>) -> Result<(), AllocError>
 
 /// Adds the names that could be read.
 fn add_names(names: &mut Vec<String>, readings: Vec<Reading<String>>) -> Result<(), AllocError>
-    ensures { OnOk result (map string_bytes names.new.items ≡ map string_bytes names.old.items ++ filter_map said.read_in (map (read_as string_bytes) readings.items)) }
+    ensures { OnOk result (map string_bytes names.new.items ≡ map string_bytes names.old.items ++ filter_map result_ok (map (read_as string_bytes) readings.items)) }
 {
     for reading in readings {
         if let Ok(name) = reading {
@@ -85,7 +86,7 @@ pub fn install_names(
 
 /// The commands of a value that can be read, else none.
 fn commands_said(alloc: Global, unit: &UnitName, value: &str) -> Result<Vec<Command>, AllocError>
-    ensures { IfOk result (λ all. commands_seen all.items ≡ model.said_in (said.commands_reading unit.now value.now)) }
+    ensures { IfOk result (λ all. commands_seen all.items ≡ result_unwrap_or (said.commands_reading unit.now value.now) []) }
 {
     match commands_reading(alloc, unit, value)? {
         Ok(commands) => Ok(commands),
@@ -112,7 +113,7 @@ pub fn commands_of(
 
 /// The variables of a value that can be read, else none.
 fn variables_said(alloc: Global, unit: &UnitName, value: &str) -> Result<Vec<Variable>, AllocError>
-    ensures { IfOk result (λ all. variables_of all.items ≡ model.said_in (said.environment_reading unit.now value.now)) }
+    ensures { IfOk result (λ all. variables_of all.items ≡ result_unwrap_or (said.environment_reading unit.now value.now) []) }
 {
     match environment_reading(alloc, unit, value)? {
         Ok(variables) => Ok(variables),

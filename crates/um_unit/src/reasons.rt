@@ -1,7 +1,7 @@
 //! Why a unit can't be loaded.
 
 ghost use Rattle.std.specs.Prelude.{◌≡◌, ◌++◌, IfOk, Some, codes, map, option_map, string_bytes};
-ghost use Rattle.um_model.specs.Resolution.{or_else};
+ghost use Rattle.std.specs.Option.{option_or};
 ghost use Rattle.um_model.specs.Units as model;
 ghost use Rattle.um_unit.specs.ServiceView.{service_settings_of};
 ghost use Rattle.um_unit.specs.Sources.{assigned_of};
@@ -93,7 +93,7 @@ pub fn reason_of(
     assigned: &[Assigned<'_>],
     settings: &ServiceSettings,
 ) -> Result<Option<String>, AllocError>
-    ensures { IfOk result (λ reason. option_map string_bytes reason ≡ or_else (model.refused_setting (map assigned_of assigned.now))
+    ensures { IfOk result (λ reason. option_map string_bytes reason ≡ option_or (model.refused_setting (map assigned_of assigned.now))
         (model.refused_service (Some suffix) (model.type_of (map assigned_of assigned.now)) (service_settings_of settings.now))) }
 {
     if let Some(reason) = refused_setting(alloc, assigned)? {

@@ -2,6 +2,7 @@ ghost use Rattle.std.specs.Prelude.{◌≡◌};
 ghost use Rattle.um_model.specs.Settings.{default_settings};
 ghost use Rattle.um_unit.specs.ServiceView.{service_settings_of};
 
+use crate::settings::default_timeout_start;
 use std::alloc::Global;
 use um_model::{RestartPolicy, Span, UnitKind};
 use um_value::ExitSet;
@@ -41,8 +42,8 @@ pub struct ServiceSettings {
 }
 
 impl ServiceSettings {
-    /// Those of a unit of this kind where nothing is set: no commands, no restart, time-outs of 90 seconds, and five starts in ten
-    /// seconds. It takes no memory.
+    /// Those of a unit of this kind where nothing is set: no commands, no restart, time-outs of 90 seconds (a oneshot has all time to
+    /// start), and five starts in ten seconds. It takes no memory.
     pub fn new(alloc: Global, kind: UnitKind) -> ServiceSettings
         ensures { service_settings_of result ≡ default_settings kind }
     {
@@ -54,7 +55,7 @@ impl ServiceSettings {
             remains: false,
             restart: RestartPolicy::No,
             restart_delay: Some(Span::from_micros(100_000)),
-            timeout_start: Some(Span::from_micros(90_000_000)),
+            timeout_start: default_timeout_start(kind),
             timeout_stop: Some(Span::from_micros(90_000_000)),
             limit_interval: Some(Span::from_micros(10_000_000)),
             limit_burst: 5,

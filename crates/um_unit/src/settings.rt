@@ -146,7 +146,7 @@ fn kind_by(said: TypeSaid, start: &[Command]) -> UnitKind
 }
 
 /// A oneshot service may start as long as it likes, any other 90 seconds.
-fn default_timeout_start(kind: UnitKind) -> Option<Span>
+pub(crate) fn default_timeout_start(kind: UnitKind) -> Option<Span>
     ensures { result ≡ model.default_timeout_start kind }
 {
     match kind {

@@ -1,6 +1,7 @@
 //! What the lines of a unit's files warn of.
 
 ghost use Rattle.std.specs.Prelude.{◌≡◌, ◌++◌, Some, OnOk, IfOk, map, option_map};
+ghost use Rattle.std.specs.Result.{result_err};
 ghost use Rattle.um_model.specs.Readings as said;
 ghost use Rattle.um_model.specs.Syntax.{line_number};
 ghost use Rattle.um_model.specs.Units as model;
@@ -33,14 +34,14 @@ pub struct Warning {
 }
 
 fn warning_in<T: Drop>(reading: Reading<T>) -> Option<WarningKind>
-    ensures { result ≡ said.warning_in reading }
+    ensures { result ≡ result_err reading }
 {
     reading.err()
 }
 
 /// The warning of a value that has no reading.
 fn unread<T: Drop>(read: Option<T>) -> Option<WarningKind>
-    ensures { result ≡ said.warning_in (said.value_reading read) }
+    ensures { result ≡ result_err (said.value_reading read) }
 {
     warning_in(value_reading(read))
 }

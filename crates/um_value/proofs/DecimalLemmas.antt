@@ -1,7 +1,11 @@
 -- The number that is spelled so far, digit by digit.
 use Rattle.std.proofs.Common.{◌≡◌, ◌<◌, ◌≤◌, ℕ, ◌+◌, ◌-◌, ◌*◌, List, [], ◌∷◌, length, get_or, drop, arith}
 use Rattle.std.proofs.lemmas.List.{at_drop_more}
-use Rattle.um_model.specs.Values.{decimal_after}
+use Rattle.std.specs.Prelude.{fold}
+
+-- the number that a number's digits and these digits behind them spell
+abbrev pub decimal_after : ℕ → List ℕ → ℕ
+decimal_after n bs = fold (λ m b. 10 * m + (b - 48)) n bs
 
 decimal_after-least : (n : ℕ) (bs : List ℕ) → n ≤ decimal_after n bs
 decimal_after-least n [] = omega arith

@@ -1,23 +1,24 @@
 -- What stands in a table passes what all of the table does.
-use Rattle.std.proofs.Common.{◌≡◌, ◌<◌, ℕ, Bool, true, false, cond, List, [], ◌∷◌, Option, Some, None, option_map, find, IfSome, refl, sym, ap, ◌∙◌}
+use Rattle.std.proofs.Common.{◌≡◌, ◌<◌, ℕ, Bool, true, false, cond, List, [], ◌∷◌, Option, Some, None, IfSome, refl, sym, ap, ◌∙◌}
 use Rattle.std.specs.Prelude.{nat_lt}
+use Rattle.std.specs.Map.{lookup}
 use Rattle.std.specs.List.{list_all}
 use Rattle.std.specs.Str.{bytes_eq}
 use Rattle.std.proofs.lemmas.Bool.{and_parts, ltb-true}
 use Rattle.std.proofs.lemmas.Option.{same_Some, none-some}
-use Rattle.um_model.specs.Values.{number_among, signals, signal_number, time_units, unit_size}
+use Rattle.um_model.specs.Values.{signals, signal_number, time_units, unit_size}
 
-found_here : {N : Type 0} (p : N → Bool) (b : Bool) (row : List ℕ × N) (rest : Option (List ℕ × N)) (n : N) → p row.1 ≡ true
-    → ((m : N) → option_map (λ r. r.1) rest ≡ Some m → p m ≡ true) → option_map (λ r. r.1) (cond b (Some row) rest) ≡ Some n → p n ≡ true
-found_here p true row rest n here later e = ap p (sym (same_Some row.1 n e)) ∙ here
-found_here p false row rest n here later e = later n e
+found_here : {N : Type 0} (p : N → Bool) (b : Bool) (here : N) (rest : Option N) (n : N) → p here ≡ true → ((m : N) → rest ≡ Some m → p m ≡ true)
+    → cond b (Some here) rest ≡ Some n → p n ≡ true
+found_here p true here rest n passes later e = ap p (sym (same_Some here n e)) ∙ passes
+found_here p false here rest n passes later e = later n e
 
 found_passes : {N : Type 0} (p : N → Bool) (table : List (List ℕ × N)) (name : List ℕ) → list_all (λ row. p row.1) table ≡ true
-    → (n : N) → number_among table name ≡ Some n → p n ≡ true
+    → (n : N) → lookup (bytes_eq name) table ≡ Some n → p n ≡ true
 found_passes p [] name all n e = absurd (none-some n e)
 found_passes p (row ∷ rows) name all n e =
     let both = and_parts (p row.1) (list_all (λ r. p r.1) rows) all in
-    found_here p (bytes_eq name row.0) row (find (λ r. bytes_eq name r.0) rows) n both.0 (found_passes p rows name both.1) e
+    found_here p (bytes_eq name row.0) row.1 (lookup (bytes_eq name) rows) n both.0 (found_passes p rows name both.1) e
 
 -- no signal has a number past 15
 pub small_signal : (o : Option ℕ) (word : List ℕ) → o ≡ signal_number word → IfSome o (λ number. number < 16)

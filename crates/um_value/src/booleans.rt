@@ -1,8 +1,8 @@
 //! Truth values.
 
-ghost use Rattle.std.specs.Prelude.{◌≡◌, Bool, IfSome, IfNone};
+ghost use Rattle.std.specs.Prelude.{◌≡◌};
 ghost use Rattle.std.specs.List.{list_any};
-ghost use Rattle.um_model.specs.Values.{IsBoolean, boolean_of, is_same_in_any_case};
+ghost use Rattle.um_model.specs.Values.{boolean_of, is_same_in_any_case};
 
 const YES: [&str; 6] = ["1", "yes", "true", "on", "y", "t"];
 
@@ -25,9 +25,7 @@ fn is_one_of(words: &[&str], text: &str) -> bool
 /// The truth value that the text says: `1 yes true on y t` or `0 no false off n f`, in any ASCII case (systemd.syntax(7)).
 /// None for any other text.
 pub fn boolean(text: &str) -> Option<bool>
-    ensures found { IfSome result (λ b. IsBoolean text.now b) }
-    ensures none { IfNone result ((b : Bool) → ¬ (IsBoolean text.now b)) }
-    ensures same { result ≡ boolean_of text.now }
+    ensures { result ≡ boolean_of text.now }
 {
     if is_one_of(&YES, text) {
         Some(true)

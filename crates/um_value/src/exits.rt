@@ -1,7 +1,7 @@
 //! Sets of exits.
 
 ghost use Rattle.std.specs.Prelude.{◌≡◌, ◌||◌, ◌<◌, true, false, Some, Bool, IfSome, IfNone, option_map, ℕ, length, slice_index_or};
-ghost use Rattle.um_model.specs.Values.{signal_number, exit_of, is_end, IsExitSet, exits_of};
+ghost use Rattle.um_model.specs.Values.{signal_number, exit_of, is_end, exits_of};
 ghost use Rattle.um_model.specs.declared.service.End as ends;
 ghost use Rattle.um_value.specs.ExitSet.{holds, fits};
 
@@ -120,9 +120,7 @@ fn exit_of(word: &[u8]) -> Option<End>
 /// tabs alone part words; a text without words gives the empty set (systemd.service(5), `SuccessExitStatus=`). None where a
 /// word is anything else.
 pub fn exit_set(text: &str) -> Option<ExitSet>
-    ensures found { IfSome result (λ set. IsExitSet text.now (holds set)) }
-    ensures none { IfNone result ((set : ends.End → Bool) → ¬ (IsExitSet text.now set)) }
-    ensures same { option_map holds result ≡ exits_of text.now }
+    ensures { option_map holds result ≡ exits_of text.now }
 {
     let mut set = ExitSet::empty();
     let pieces = text.as_bytes().split(|b| Class::Space.contains(*b));

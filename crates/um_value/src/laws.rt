@@ -2,7 +2,8 @@
 
 ghost use Rattle.std.specs.Prelude.{◌≡◌, ℕ, List, Bool};
 ghost use Rattle.um_model.specs.Finds.{Finds};
-ghost use Rattle.um_model.specs.Values.{IsBoolean, IsNumber, IsSpan, IsExitSet, restart_text, boolean_of, number_of, span_of, exits_of, policy_named};
+ghost use Rattle.um_model.proofs.ValuesLaws.{IsBoolean, IsNumber, IsSpan, IsExitSet};
+ghost use Rattle.um_model.specs.Values.{restart_text, boolean_of, number_of, span_of, exits_of, policy_named};
 ghost use Rattle.um_model.specs.declared.service.End as ends;
 ghost use Rattle.um_model.specs.declared.settings.RestartPolicy as policies;
 ghost use Rattle.um_model.specs.declared.settings.TimeSpan as spans;

@@ -1,9 +1,9 @@
 //! Decimal numbers.
 
-ghost use Rattle.std.specs.Prelude.{◌≡◌, ◌<◌, ◌≤◌, ◌^◌, ℕ, MatchOption, IfSome, IfNone};
+ghost use Rattle.std.specs.Prelude.{◌≡◌, ◌<◌, ◌≤◌, ◌^◌, MatchOption};
 ghost use Rattle.std.specs.List.{list_all};
 ghost use Rattle.um_model.specs.Ascii.{is_digit};
-ghost use Rattle.um_model.specs.Values.{decimal, is_decimal, IsNumber, number_of};
+ghost use Rattle.um_model.specs.Values.{decimal, is_decimal, number_of};
 
 /// The greatest number that `decimal` reads.
 const LIMIT: u64 = 1 << 62;
@@ -40,9 +40,7 @@ pub fn is_decimal(text: &[u8]) -> bool
 /// The number that the text's decimal digits spell, at most 4,294,967,295. None for a greater one, for any other byte than a
 /// digit, and for no digit.
 pub fn number(text: &str) -> Option<u32>
-    ensures found { IfSome result (λ n. IsNumber text.now n) }
-    ensures none { IfNone result ((n : ℕ) → ¬ (IsNumber text.now n)) }
-    ensures same { result ≡ number_of text.now }
+    ensures { result ≡ number_of text.now }
 {
     if !is_decimal(text.as_bytes()) {
         return None;

@@ -1,8 +1,8 @@
 //! Time spans.
 
 ghost use Rattle.std.specs.Prelude.{◌≡◌, ◌+◌, ◌<◌, ◌≤◌, ◌^◌, ℕ, length, IfSome, IfNone};
-ghost use Rattle.um_model.specs.Values.{IsTime, IsSpan, span_of, unit_size, digits_of, unit_of, past_part};
-ghost use Rattle.um_model.specs.declared.settings.TimeSpan as spans;
+ghost use Rattle.um_model.specs.Values.{span_of, unit_size, digits_of, unit_of, past_part};
+ghost use Rattle.um_model.proofs.ValuesLaws.{IsTime, IsSpan};
 ghost use Rattle.um_model.specs.declared.settings.TimeSpan.TheVariants.{Micros};
 
 use crate::numbers::decimal;
@@ -102,9 +102,7 @@ fn sum_of_parts(text: &str) -> Option<Span>
 /// and `w week weeks`; a part without one is seconds. Whitespace may stand around each number and unit (systemd.time(7),
 /// "Parsing Time Spans"). None for any other text.
 pub fn span(text: &str) -> Option<TimeSpan>
-    ensures found { IfSome result (λ span. IsSpan text.now span) }
-    ensures none { IfNone result ((span : spans.TimeSpan) → ¬ (IsSpan text.now span)) }
-    ensures same { result ≡ span_of text.now }
+    ensures { result ≡ span_of text.now }
 {
     if text == "infinity" {
         return Some(TimeSpan::Infinite);

@@ -1,4 +1,3 @@
 pub mod WordLemmas
 pub mod VariableLemmas
 pub mod CommandLemmas
-pub mod ReadingLemmas

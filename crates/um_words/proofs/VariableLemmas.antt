@@ -1,7 +1,7 @@
 -- Names in words, and one piece more of a word, about lists alone.
 use Rattle.std.proofs.Common.{◌≡◌, ◌≢◌, ◌<◌, ℕ, ◌+◌, ◌-◌, Bool, true, false, ◌&&◌, cond, eqb, List, [], ◌∷◌, ◌++◌, length, get_or, drop, map, reverse, Option, Some, None, refl, sym, ap, ◌∙◌, subst, append-nil, arith}
 use Rattle.std.specs.Prelude.{find, string_bytes, bytes_eq}
-use Rattle.std.specs.Option.{option_map}
+use Rattle.std.specs.Option.{option_map, option_map_or}
 use Rattle.std.specs.List.{prefix_len, take_while}
 use Rattle.std.specs.Str.{IsUtf8, IsCharBoundary}
 use Rattle.std.proofs.lemmas.List.{map-append, reverse-append}
@@ -11,7 +11,7 @@ use Rattle.std.proofs.lemmas.Bool.Decides.{nat_tests}
 use Rattle.um_model.specs.Text.{first_passes}
 use Rattle.um_model.specs.Pieces.{Gives, StandsForText}
 use Rattle.um_model.specs.Substitution as pure
-use Rattle.um_model.specs.Substitution.{is_name_byte, is_variable_name, whole_name, closed_name, braced_name, value_or_empty, value_of, dollar_front, piece_front}
+use Rattle.um_model.specs.Substitution.{is_name_byte, is_variable_name, whole_name, closed_name, braced_name, value_of, dollar_front, piece_front}
 use Rattle.um_model.proofs.PiecesLaws.{prefixed, reading, reading-append, reading_more_after, StandsForText-reading}
 use Rattle.um_model.proofs.SubstitutionLaws.{plain_piece}
 use Rattle.um_words.proofs.WordLemmas.{boundary_behind}
@@ -103,10 +103,10 @@ find-map name (v ∷ vs) = found_or v (bytes_eq (string_bytes v.name) name) _ _ 
 
 -- the value of the variable that was found
 pub value_found : (name : List ℕ) (vs : List Variable) (found : Option Variable) → found ≡ find (λ v. bytes_eq (string_bytes v.name) name) (reverse vs)
-    → value_of (variables_of vs) name ≡ value_or_empty (option_map variable_of found)
+    → value_of (variables_of vs) name ≡ option_map_or (λ v. v.value) (option_map variable_of found) []
 value_found name vs found e =
-    ap (λ r. value_or_empty (find (λ v. bytes_eq v.name name) r)) (sym (map-reverse vs))
-    ∙ ap value_or_empty (find-map name (reverse vs) ∙ ap (option_map variable_of) (sym e))
+    ap (λ r. option_map_or (λ v. v.value) (find (λ v. bytes_eq v.name name) r) []) (sym (map-reverse vs))
+    ∙ ap (λ o. option_map_or (λ v. v.value) o []) (find-map name (reverse vs) ∙ ap (option_map variable_of) (sym e))
 
 -- one piece more
 pub filled_more : (environment : List pure.Variable) (text rest front behind value after out : List ℕ) (n : ℕ) (whole : Option (List ℕ))

@@ -1,6 +1,6 @@
 -- Commands, as the code holds them.
 use Rattle.std.specs.Prelude.{List, map, string_bytes}
-use Rattle.um_model.specs.Words as pure
+use Rattle.um_model.specs.Commands as pure
 use Rattle.um_words.specs.declared.command.Command.{Command}
 
 -- a command's words, as texts, and its signs

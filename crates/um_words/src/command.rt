@@ -3,8 +3,7 @@
 ghost use Rattle.std.specs.Prelude.{◌≡◌, ◌++◌, ◌==◌, ℕ, List, IfOk, OnOk, MatchOption, bytes_eq, drop, length, map, string_bytes};
 ghost use Rattle.std.specs.Option.{option_map};
 ghost use Rattle.std.specs.List.{list_any, prefix_len};
-ghost use Rattle.um_model.specs.Words as words;
-ghost use Rattle.um_model.specs.Words.{AreCommands, commands_read, command_of, is_separator, is_sign, signs_of, value_in_command, is_executable_word};
+ghost use Rattle.um_model.specs.Commands.{commands_read, command_of, is_separator, is_sign, signs_of, value_in_command, is_executable_word};
 ghost use Rattle.um_words.specs.Views.{word_of};
 ghost use Rattle.um_words.specs.Commands.{command_seen, commands_seen};
 
@@ -99,10 +98,7 @@ fn push_command(
 /// in front of a command's first word are cut off, where `+` and `!` have no effect. None where the text can't be read
 /// (systemd.service(5), "Command lines").
 pub fn commands(alloc: Global, text: &str) -> Result<Option<Vec<Command>>, AllocError>
-    ensures read { IfOk result (λ r. MatchOption r
-        ((commands : List words.Command) → ¬ (AreCommands text.now commands))
-        (λ commands. AreCommands text.now (commands_seen commands.items))) }
-    ensures same { IfOk result (λ r. option_map (λ commands. commands_seen commands.items) r ≡ commands_read text.now) }
+    ensures { IfOk result (λ r. option_map (λ commands. commands_seen commands.items) r ≡ commands_read text.now) }
 {
     let Some(spelled) = spelled(alloc, WordRules::Escaped, text)? else {
         return Ok(None);

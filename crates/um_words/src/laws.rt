@@ -4,7 +4,9 @@ ghost use Rattle.std.specs.Prelude.{◌≡◌, ℕ, List};
 ghost use Rattle.um_model.specs.declared.words.WordRules.{WordRules};
 ghost use Rattle.um_model.specs.declared.words.WordRules.TheVariants.{Plain};
 ghost use Rattle.um_model.specs.Finds.{Finds};
-ghost use Rattle.um_model.specs.Words.{AreWords, AreCommands, Command, words_of, commands_read};
+ghost use Rattle.um_model.specs.Words.{AreWords, words_of};
+ghost use Rattle.um_model.specs.Commands.{Command, commands_read};
+ghost use Rattle.um_model.proofs.WordsLaws.{AreCommands};
 ghost use Rattle.um_model.specs.Substitution.{Variable, AreSubstituted};
 
 /// By the rules of a setting, of a value and of a list of names, a text reads as one list of words at most.

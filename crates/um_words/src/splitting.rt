@@ -1,7 +1,8 @@
 //! The words of a text.
 
 ghost use Rattle.std.specs.Prelude.{◌≡◌, ℕ, List, IfOk, MatchOption, map, option_map, string_bytes};
-ghost use Rattle.um_model.specs.Words.{AreWords, read_words, words_of};
+ghost use Rattle.um_model.specs.Pieces.{reading};
+ghost use Rattle.um_model.specs.Words.{piece_of_words, words_of};
 ghost use Rattle.um_model.specs.declared.words.WordRules.TheVariants.{Escaped, Names};
 ghost use Rattle.um_words.specs.Views.{word_of};
 
@@ -16,7 +17,7 @@ pub fn spelled<'a>(
     rules: WordRules,
     text: &'a str,
 ) -> Result<Option<Vec<Spelled<'a>>>, AllocError>
-    ensures { IfOk result (λ r. option_map (λ words. map word_of words.items) r ≡ read_words rules 0 text.now) }
+    ensures { IfOk result (λ r. option_map (λ words. map word_of words.items) r ≡ reading (piece_of_words rules) 0 text.now) }
 {
     let mut words = Vec::new(alloc);
     let mut rest = text;
@@ -56,10 +57,7 @@ fn words_by(alloc: Global, rules: WordRules, text: &str) -> Result<Option<Vec<St
 /// digits of another number, `\` and three octal digits, `\u` and four or `\U` and eight hexadecimal digits
 /// (systemd.syntax(7), "Quoting").
 pub fn words(alloc: Global, text: &str) -> Result<Option<Vec<String>>, AllocError>
-    ensures read { IfOk result (λ r. MatchOption r
-        ((words : List (List ℕ)) → ¬ (AreWords Escaped text.now words))
-        (λ words. AreWords Escaped text.now (map string_bytes words.items))) }
-    ensures same { IfOk result (λ r. option_map (λ words. map string_bytes words.items) r ≡ words_of Escaped text.now) }
+    ensures { IfOk result (λ r. option_map (λ words. map string_bytes words.items) r ≡ words_of Escaped text.now) }
 {
     words_by(alloc, WordRules::Escaped, text)
 }
@@ -67,10 +65,7 @@ pub fn words(alloc: Global, text: &str) -> Result<Option<Vec<String>>, AllocErro
 /// The words of a list of unit names: `"` and `'` quote, and each backslash stays as it is written. None for an unclosed quote
 /// (systemd.unit(5)).
 pub fn names(alloc: Global, text: &str) -> Result<Option<Vec<String>>, AllocError>
-    ensures read { IfOk result (λ r. MatchOption r
-        ((words : List (List ℕ)) → ¬ (AreWords Names text.now words))
-        (λ words. AreWords Names text.now (map string_bytes words.items))) }
-    ensures same { IfOk result (λ r. option_map (λ words. map string_bytes words.items) r ≡ words_of Names text.now) }
+    ensures { IfOk result (λ r. option_map (λ words. map string_bytes words.items) r ≡ words_of Names text.now) }
 {
     words_by(alloc, WordRules::Names, text)
 }

@@ -1,7 +1,8 @@
 use Rattle.std.proofs.Common.{◌≡◌, map, drop}
-use Rattle.um_model.specs.Keys.{kind_among}
+use Rattle.std.specs.Map.{lookup}
+use Rattle.std.specs.Str.{bytes_eq}
 use Rattle.um_unit.proofs.keys.kind_among.Given as goal
 
 -- the key is none of those so far
 abbrev pub invariant-loop-name : goal.invariant-loop-name
-invariant-loop-name l = kind_among (map (λ k. (k.0.now, k.1)) (drop l.name-index l.known)) l.key ≡ kind_among (map (λ k. (k.0.now, k.1)) l.known) l.key
+invariant-loop-name l = lookup (bytes_eq l.key) (map (λ k. (k.0.now, k.1)) (drop l.name-index l.known)) ≡ lookup (bytes_eq l.key) (map (λ k. (k.0.now, k.1)) l.known)

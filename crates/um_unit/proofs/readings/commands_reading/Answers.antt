@@ -14,4 +14,4 @@ returns c =
     c.loop-command.invariant ∙ ap (λ xs. map (command_reading unit) (map command_seen xs)) (take_all _ c.deref-command-items.result.now c.loop-command-test.false)
     ∙ ap (λ xs. map (command_reading unit) (map command_seen xs)) c.deref-command-items.ensures.value in
     read_all command_seen (λ all. all.items) c.in_ok-read.read c.loop-command.readings.items _ c.in_ok-read.ensures seen
-    ∙ sym (commands_by unit c.args.value.now (commands_seen commands) (sym c.in_ok-commands.ensures.same ∙ ap (option_map (λ all. commands_seen all.items)) c.in-Some.is))
+    ∙ sym (commands_by unit c.args.value.now (commands_seen commands) (sym c.in_ok-commands.ensures ∙ ap (option_map (λ all. commands_seen all.items)) c.in-Some.is))

@@ -14,4 +14,4 @@ returns c =
     c.loop-word.invariant ∙ ap (λ xs. map (variable_reading unit) (map string_bytes xs)) (take_all _ c.deref-word-items.result.now c.loop-word-test.false)
     ∙ ap (λ xs. map (variable_reading unit) (map string_bytes xs)) c.deref-word-items.ensures.value in
     read_all variable_of (λ all. all.items) c.in_ok-read.read c.loop-word.readings.items _ c.in_ok-read.ensures seen
-    ∙ sym (environment_by unit c.args.value.now (map string_bytes words) (sym c.in_ok-words.ensures.same ∙ ap (option_map (λ all. map string_bytes all.items)) c.in-Some.is))
+    ∙ sym (environment_by unit c.args.value.now (map string_bytes words) (sym c.in_ok-words.ensures ∙ ap (option_map (λ all. map string_bytes all.items)) c.in-Some.is))

@@ -5,9 +5,9 @@ use Rattle.std.proofs.lemmas.List.{length_push, take_all}
 use Rattle.std.proofs.lemmas.Iterator.Consumers.{YieldsList-from_filter, YieldsList-turn, YieldsList-end}
 use Rattle.std.proofs.lemmas.Iterator.Splits.{YieldsList-from_slice_split}
 use Rattle.um_model.specs.Ascii.{is_space}
-use Rattle.um_model.specs.Values.{exit_of, is_end, is_exit, words_in, IsExitSet, exits_of}
+use Rattle.um_model.specs.Values.{exit_of, is_end, is_exit, words_in, exits_of}
 use Rattle.um_model.proofs.FindsLaws.{told_by_relation}
-use Rattle.um_model.proofs.ValuesLaws.{exits_of-IsExitSet, finds_exits}
+use Rattle.um_model.proofs.ValuesLaws.{IsExitSet, exits_of-IsExitSet, finds_exits}
 use Rattle.um_value.specs.ExitSet.{holds}
 use Rattle.um_value.proofs.ExitLemmas.{word_more, readable_more, exact_more, unreadable}
 use Rattle.um_value.proofs.exits.exit_set.Goals as goal
@@ -15,11 +15,13 @@ use Rattle.um_value.proofs.exits.exit_set.Goals as goal
 pub loop-word-init : goal.loop-word-init
 loop-word-init c = record { can = (mut_total _ _ (λ s a. tt), search rules, search rules); finite = search rules; readable = refl; exact = c.empty-set.ensures }
 
-pub returns-in_err-exit_of-clause-none : goal.returns-in_err-exit_of-clause-none
-returns-in_err-exit_of-clause-none c =
-    let words = YieldsList-from_filter _ (λ word. not (eqb (length word) 0)) (YieldsList-from_slice_split _ is_space c.args.text.now (cc) (cc) (cc) (λ x b q k. search (rules, tests))) (cc) (λ x b q k. search (rules, tests)) in
+pub returns-in_err-exit_of : goal.returns-in_err-exit_of
+returns-in_err-exit_of c =
+    let text = c.args.text.now in
+    let words = YieldsList-from_filter _ (λ word. not (eqb (length word) 0)) (YieldsList-from_slice_split _ is_space text (cc) (cc) (cc) (λ x b q k. search (rules, tests))) (cc) (λ x b q k. search (rules, tests)) in
     let here = YieldsList-turn words c.loop-word.yielded _ c.loop-word.yielded_by _ _ c.in-Some.word c.in-Some.is c.next.ensures.steps in
-    rw c.from_residual.ensures (λ set is. unreadable (words_in c.args.text.now) (length c.loop-word.yielded) c.in-Some.word.now here (sym c.in_err-exit_of.ensures.value) is.readable)
+    told_by_relation (exits_of text) (IsExitSet text) (finds_exits text) holds c.from_residual.result (rw c.from_residual.ensures tt)
+    (rw c.from_residual.ensures (λ set is. unreadable (words_in text) (length c.loop-word.yielded) c.in-Some.word.now here (sym c.in_err-exit_of.ensures.value) is.readable))
 
 pub loop-word-preserved : goal.loop-word-preserved
 loop-word-preserved c =
@@ -38,20 +40,13 @@ loop-word-preserved c =
           ∙ ap (list_any (λ w. is_end end (exit_of w))) (sym more);
     }
 
-pub returns-clause-found : goal.returns-clause-found
-returns-clause-found c =
+pub returns : goal.returns
+returns c =
     let pieces = YieldsList-from_filter _ (λ word. not (eqb (length word) 0)) (YieldsList-from_slice_split _ is_space c.args.text.now (cc) (cc) (cc) (λ x b q k. search (rules, tests))) (cc) (λ x b q k. search (rules, tests)) in
     let words = words_in c.args.text.now in
     let all = take_all (length c.loop-word.yielded) words (omega (arith, (YieldsList-end pieces c.loop-word.yielded _ c.loop-word.yielded_by _ _ c.in-None.is c.next.ensures.steps).1)) in
-    record {
+    let found : IsExitSet c.args.text.now (holds c.loop-word.set) = record {
       readable = ap (list_all is_exit) (sym all) ∙ c.loop-word.invariant.readable;
       exact = λ end. c.loop-word.invariant.exact end ∙ ap (list_any (λ w. is_end end (exit_of w))) all;
-    }
-
-pub returns-in_err-exit_of-clause-same : goal.returns-in_err-exit_of-clause-same
-returns-in_err-exit_of-clause-same c =
-    let text = c.args.text.now in
-    told_by_relation (exits_of text) (IsExitSet text) (finds_exits text) holds c.from_residual.result (rw c.from_residual.ensures tt) (returns-in_err-exit_of-clause-none c)
-
-pub returns-clause-same : goal.returns-clause-same
-returns-clause-same c = sym (exits_of-IsExitSet c.args.text.now (holds c.loop-word.set) (returns-clause-found c))
+    } in
+    sym (exits_of-IsExitSet c.args.text.now (holds c.loop-word.set) found)

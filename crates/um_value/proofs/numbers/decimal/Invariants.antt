@@ -1,5 +1,6 @@
 use Rattle.std.proofs.Common.{◌≡◌, ◌≤◌, ◌+◌, ◌^◌, drop}
-use Rattle.um_model.specs.Values.{decimal, decimal_after}
+use Rattle.um_model.specs.Values.{decimal}
+use Rattle.um_value.proofs.DecimalLemmas.{decimal_after}
 use Rattle.um_value.proofs.numbers.decimal.Given as goal
 
 abbrev pub invariant-loop-digit : goal.invariant-loop-digit
