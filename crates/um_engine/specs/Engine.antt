@@ -54,7 +54,7 @@ state_before b s = given_or b.served s
 
 -- what the service table knows of a unit
 abbrev pub acting_of : Acting → model.Acting
-acting_of a = record { settings = service_settings_of a.settings; loadable = a.loadable }
+acting_of a = record { settings = service_settings_of a.settings.now; loadable = a.loadable }
 
 -- what happens to a unit is carried out
 abbrev pub CarriesTo : ℕ → List ℕ → UnitEvent → model.State → List Action → model.State → List Action → Type 0
