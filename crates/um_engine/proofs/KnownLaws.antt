@@ -5,8 +5,9 @@ use Rattle.std.proofs.lemmas.Option.{get_or_from_slice_get}
 use Rattle.um_graph.proofs.NamedLaws.{got_within}
 use Rattle.um_model.specs.Dependencies.{CountsFor, IsKnown, KnowsTooMany, extra}
 use Rattle.um_model.specs.Few.{IsFew, HoldsNoMore}
-use Rattle.um_model.specs.Machine.{State, IsHeld, IsTooHeavy, PutFile, PutLink, Remove, Cancel, Changes, puts, links, removes, cancels, unit_asked}
+use Rattle.um_model.specs.Machine.{State, IsCrowded, IsHeld, IsTooHeavy, CausesOfLoad, PutFile, PutLink, Remove, Cancel, Changes, puts, links, removes, cancels, unit_asked}
 use Rattle.um_model.specs.Reached.{first}
+use Rattle.um_model.specs.Refusals.{Refused, at_first}
 use Rattle.um_model.specs.Tree.{Tree, has_run, without_run}
 use Rattle.um_model.specs.Weight.{weight_of}
 use Rattle.um_model.proofs.FewLaws.{cancel_no_more}
@@ -65,6 +66,13 @@ known_by names (Some i) x y b e found is t = (i, got_within names i y (found ∙
 pub knows_loaded : (k : KnownView) (s u : State) (tree : Tree) → IsGraphFor tree (Contains k.extra) k.graph → ((unit : List ℕ) → IsHeld s unit → Contains k.graph.names unit)
     → u ≡ record s { tree = tree; loaded = tree } → KnowsFor k u
 knows_loaded k s u tree made held is = subst (KnowsFor k) (sym is) (record { made = made; held = held })
+
+-- where a tree is loaded that may be, no more units are known than may be
+pub few_loaded : (s u : State) (tree : Tree) → ((r : Refused) → ¬ CausesOfLoad s tree r) → u ≡ record s { tree = tree; loaded = tree } → IsFew u
+few_loaded s u tree free is r crowded = free r (at_first (subst (λ (x : State). IsCrowded x.loaded (IsHeld x) r) is crowded))
+
+pub few_reloaded : (s u : State) → ((r : Refused) → ¬ CausesOfLoad s s.tree r) → u ≡ record s { loaded = s.tree } → IsFew u
+few_reloaded s u free is r crowded = free r (at_first (subst (λ (x : State). IsCrowded x.loaded (IsHeld x) r) is crowded))
 
 -- commands that leave the loaded tree make the state hold nothing new, but for plans
 pub put_holds_no_more : (s u : State) (path text : List ℕ) → Changes s (PutFile path text) u → HoldsNoMore s u

@@ -1,12 +1,14 @@
 -- A step, by what is planned of it.
-use Rattle.std.proofs.Common.{◌≡◌, ◌≢◌, ◌∙◌, ◌↔◌, ℕ, Bool, true, false, true≢false, List, [], ◌++◌, Option, Some, None, is_some, refl, sym, ap, subst}
+use Rattle.std.proofs.Common.{◌≡◌, ◌≢◌, ◌∙◌, ◌↔◌, ℕ, Bool, true, false, true≢false, List, [], ◌++◌, Option, Some, None, is_some, refl, sym, ap, subst, inl}
+use Rattle.std.specs.Prelude.{IfSome, option_map}
+use Rattle.std.proofs.lemmas.Option.{none-some, same_Some}
+use Rattle.um_model.specs.Few.{IsFew, HoldsNoMore}
 use Rattle.um_model.specs.Machine as model
-use Rattle.um_model.proofs.KeepsLaws.{carries_keeps, settles_keeps, fires_keeps}
-use Rattle.um_model.specs.Machine.{State, Command, Happening, Event, Commanded, Happened, Follows, ends, ticks, Settles, obeys, Changes, Input, Reply, Done, Refuses, HasNoEffect, IsTooHeavy, LacksEffect, Takes, meets, Step, refused, crowded_out, HasNoRoom, idle, taken, reply_after, moment_of}
+use Rattle.um_model.specs.Machine.{State, Command, Happening, Booted, Event, Commanded, Happened, Follows, ends, reports, ticks, boots, end_of, obeys, Changes, Does, changes, Input, Reply, Done, Refuses, HasNoEffect, IsTooHeavy, LacksEffect, Takes, meets, Step, refused, crowded_out, HasNoRoom, idle, taken, reply_after, moment_of}
 use Rattle.um_model.specs.Refusals.{Refused, no_room}
-use Rattle.um_model.specs.Service.{Action}
-use Rattle.um_engine.proofs.KnownLaws.{serves_for, knows_still}
-use Rattle.std.specs.Prelude.{IfSome}
+use Rattle.um_model.specs.Service.{Action, state_of_unit}
+use Rattle.um_model.specs.declared.transition.UnitEvent.TheVariants.{Executed}
+use Rattle.um_model.proofs.FewLaws.{fires_no_more, happened_no_more, no_more_few, number_held, settles_no_more}
 use Rattle.um_graph.specs.Graph.{GraphView}
 use Rattle.um_state.specs.View.{state_of}
 use Rattle.um_state.specs.declared.state.State.{State as Kept}
@@ -16,8 +18,9 @@ use Rattle.um_wire.specs.declared.refusal.Refusal.TheVariants.{NoMemory}
 use Rattle.um_engine.specs.Engine.{Met, MetBy, SettlesTo, state_at}
 use Rattle.um_engine.specs.Known.{KnownView, KnowsFor}
 use Rattle.um_engine.specs.Over.{Serves}
-use Rattle.um_engine.specs.Served.{ServedView}
 use Rattle.um_engine.specs.Planned.{Declines, for_cause, for_room}
+use Rattle.um_engine.specs.Served.{ServedView}
+use Rattle.um_engine.proofs.KnownLaws.{knows_less, serves_for}
 
 -- for the input itself, by its event
 of_input : (size : ℕ) (s : State) (i : Input) (event : Event) (reply : Reply) (actions : List Action) (v : State) → i.event ≡ event
@@ -77,60 +80,79 @@ command_effect t s event command b e f = (λ h. absurd (true≢false (sym f ∙ 
 
 -- ---- what is known stays so
 
--- what follows from a happening leaves the loaded tree
-follows_loaded : (t : ℕ) (s v : State) (happening : Happening) (actions : List Action) → Follows t s happening actions v → v.loaded ≡ s.loaded
-follows_loaded t s v _ _ (ends {u = u} unit process carries settles) = (settles_keeps t u _ v settles).loaded ∙ (carries_keeps t unit _ s _ u carries).loaded
-follows_loaded t s v _ _ (ticks timers are fired) = (fires_keeps t timers s _ v fired).loaded
+-- what happens in the time of one boot makes the state hold nothing new
+follows_less : (t : ℕ) (s v : State) (happening : Happening) (actions : List Action) → ((boot : List ℕ) → ¬ (happening ≡ Booted boot)) → Follows t s happening actions v → HoldsNoMore s v
+follows_less t s v _ _ isnt (ends {number = number} {end = end} {first = x} {more = y} {u = u} unit is h k) =
+    happened_no_more t unit (end_of (state_of_unit s.units unit) number end) s x y u v (inl (number_held s number unit is)) h k
+follows_less t s v _ _ isnt (reports {number = number} {first = x} {more = y} {u = u} unit is awaits h k) =
+    happened_no_more t unit Executed s x y u v (inl (number_held s number unit is)) h k
+follows_less t s v _ actions isnt (ticks timers are h) = fires_no_more t timers s actions v h
+follows_less t s _ _ _ isnt (boots {boot = boot}) = absurd (isnt boot refl)
 
 -- jobs begin in a state, over what is known for it
-module _ (k here : KnownView) (g : GraphView) (t : ℕ) (s old v : State) (none all : List Action) (knows : KnowsFor k s) (same : old ≡ s) (is : here ≡ k) (shown : g ≡ here.graph) (e : none ≡ [])
-    (settles : Serves g old → SettlesTo t old none v all × Serves g v) where
+module _ (k here : KnownView) (g : GraphView) (t : ℕ) (s old v : State) (before all : List Action) (knows : KnowsFor k s) (same : old ≡ s) (is : here ≡ k) (shown : g ≡ here.graph)
+    (settles : Serves g old → SettlesTo t old before v all × Serves g v) where
   graph_is : g ≡ k.graph
   graph_is = shown ∙ ap (λ (x : KnownView). x.graph) is
 
-  settles_here : SettlesTo t old none v all × Serves g v
+  settles_here : SettlesTo t old before v all × Serves g v
   settles_here = settles (subst (λ x. Serves x old) (sym graph_is) (subst (Serves k.graph) (sym same) (serves_for k s knows)))
 
-  pub settles_all : Settles t s all v
-  settles_all =
-      let (new, goes, whole) = subst (λ x. SettlesTo t x none v all) same settles_here.0 in
-      subst (λ l. Settles t s l v) (sym (whole ∙ ap (λ l. l ++ new) e)) goes
+  pub settles_all : SettlesTo t s before v all
+  settles_all = subst (λ x. SettlesTo t x before v all) same settles_here.0
+
+  less : HoldsNoMore s v
+  less = let (new, goes, whole) = settles_all in settles_no_more t s new v goes
 
   pub known_settled : KnowsFor here v
-  known_settled =
-      subst (λ x. KnowsFor x v) (sym is)
-      (knows_still k s v knows (settles_keeps t s all v settles_all).loaded (subst (λ x. Serves x v) graph_is settles_here.1).held)
+  known_settled = subst (λ x. KnowsFor x v) (sym is) (knows_less k s v knows less)
 
--- something happens in a state, over what is known for it
+  pub few_settled : IsFew s → IsFew v
+  few_settled = no_more_few s v less
+
+-- something happens in a state in the time of one boot, over what is known for it
 module _ (k : KnownView) (g : GraphView) (t : ℕ) (s old : State) (happening : Happening) (o : Option Kept) (actions : List Action) (knows : KnowsFor k s) (same : old ≡ s) (shown : g ≡ k.graph)
-    (met : Serves g old → Met t old happening o actions) (serves : Serves g old → IfSome o (λ after. Serves g (state_of after))) where
-  serves_here : Serves g old
-  serves_here = subst (λ x. Serves x old) (sym shown) (subst (Serves k.graph) (sym same) (serves_for k s knows))
-
+    (isnt : (boot : List ℕ) → ¬ (happening ≡ Booted boot)) (met : Serves g old → Met t old happening o actions) where
   met_here : Met t s happening o actions
-  met_here = subst (λ x. Met t x happening o actions) same (met serves_here)
+  met_here = subst (λ x. Met t x happening o actions) same (met (subst (λ x. Serves x old) (sym shown) (subst (Serves k.graph) (sym same) (serves_for k s knows))))
 
-  pub met_none : o ≡ None → MetBy t s happening None actions
-  met_none e = subst (λ x. Met t s happening x actions) e met_here
+  less_met : (p : Option Kept) → Met t s happening p actions → IfSome p (λ after. HoldsNoMore s (state_of after))
+  less_met None h = tt
+  less_met (Some after) h = follows_less t s (state_of after) happening actions isnt h.1
 
-  met_state : (after : Kept) → o ≡ Some after → (¬ HasNoEffect t s happening) × Follows t s happening actions (state_of after)
-  met_state after e = subst (λ x. Met t s happening x actions) e met_here
+  known_of : (p : Option Kept) → IfSome p (λ after. HoldsNoMore s (state_of after)) → IfSome p (λ after. KnowsFor k (state_of after))
+  known_of None h = tt
+  known_of (Some after) h = knows_less k s (state_of after) knows h
 
-  pub met_some : (after : Kept) (w : ServedView) → o ≡ Some after → w.state ≡ state_of after → MetBy t s happening (Some w) actions
-  met_some after w e is = let (acts, follows) = met_state after e in (acts, subst (Follows t s happening actions) (sym is) follows)
+  few_of : IsFew s → (p : Option Kept) → IfSome p (λ after. HoldsNoMore s (state_of after)) → IfSome p (λ after. IsFew (state_of after))
+  few_of few None h = tt
+  few_of few (Some after) h = no_more_few s (state_of after) h few
 
-  pub known_met : (after : Kept) (here : KnownView) → o ≡ Some after → here ≡ k → KnowsFor here (state_of after)
-  known_met after here e is =
-      let held : Serves g (state_of after) = subst (λ x. IfSome x (λ after. Serves g (state_of after))) e (serves serves_here) in
-      subst (λ x. KnowsFor x (state_of after)) (sym is)
-      (knows_still k s (state_of after) knows (follows_loaded t s (state_of after) happening actions (met_state after e).1) (subst (λ x. Serves x (state_of after)) shown held).held)
+  pub known_met : IfSome o (λ after. KnowsFor k (state_of after))
+  known_met = known_of o (less_met o met_here)
+
+  pub few_met : IsFew s → IfSome o (λ after. IsFew (state_of after))
+  few_met few = few_of few o (less_met o met_here)
+
+  by_state : (p : Option Kept) (w : Option ServedView) → option_map (λ (x : ServedView). x.state) w ≡ option_map state_of p → Met t s happening p actions → MetBy t s happening w actions
+  by_state None None e h = h
+  by_state None (Some w) e h = absurd (none-some w.state (sym e))
+  by_state (Some after) None e h = absurd (none-some (state_of after) e)
+  by_state (Some after) (Some w) e h = (h.0, subst (Follows t s happening actions) (sym (same_Some w.state (state_of after) e)) h.1)
+
+  pub met_by : (w : Option ServedView) → option_map (λ (x : ServedView). x.state) w ≡ option_map state_of o → MetBy t s happening w actions
+  met_by w e = by_state o w e met_here
 
 -- ---- a command
 
+-- what it changes it does, and asks for nothing
+pub does_so : (t : ℕ) (s u v : State) (command : Command) (all : List Action) → Changes s command u → v ≡ u → all ≡ [] → Does t s command all v
+does_so t s u v command all h e f = subst (λ l. Does t s command l v) (sym f) (subst (Does t s command []) (sym e) (changes h))
+
 -- a command that isn't refused, with all jobs that begin
-pub obeyed_so : (t : ℕ) (s u v : State) (command : Command) (actions : List Action) → ((r : Refused) → ¬ Refuses s command r) → Changes s command u → Settles t u actions v
-    → Takes t s (Commanded command) actions v
-obeyed_so t s u v command actions free changes settles = obeys free changes settles
+pub obeyed_so : (t : ℕ) (s u v : State) (command : Command) (first all : List Action) → ((r : Refused) → ¬ Refuses s command r) → Does t s command first u → SettlesTo t u first v all
+    → Takes t s (Commanded command) all v
+obeyed_so t s u v command first all free does (more, settles, whole) = subst (λ l. Takes t s (Commanded command) l v) (sym whole) (obeys free does settles)
 
 pub declined_for_cause : (size t : ℕ) (s : State) (command : Command) (e : Refusal) → (e ≢ NoMemory → Refuses s command (refused_of e)) → e ≢ NoMemory
     → Declines size t s command (refused_of e)

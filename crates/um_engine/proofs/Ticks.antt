@@ -1,13 +1,22 @@
 -- What follows from what happens, and whether it has an effect, by what it leaves.
-use Rattle.std.proofs.Common.{◌≡◌, ◌∙◌, ◌++◌, ℕ, List, [], sym, ap, subst}
+use Rattle.std.proofs.Common.{◌≡◌, ◌∙◌, ◌&&◌, ◌++◌, ℕ, Bool, true, false, true≢false, List, [], Option, Some, None, refl, sym, ap, subst}
+use Rattle.std.specs.Bool.{Decides}
+use Rattle.std.specs.Cmp.Lexicographic.{pointwise, same_text, other_text}
+use Rattle.std.specs.Prelude.{nat_eq}
+use Rattle.std.proofs.lemmas.Bool.{and_parts}
+use Rattle.std.proofs.lemmas.Bool.Decides.{Decides-eqb}
 use Rattle.um_model.proofs.KeepsLaws.{fires_keeps, same_state}
-use Rattle.um_model.proofs.MachineLaws.{tick_has_effect}
-use Rattle.um_model.specs.Machine.{State, ProcessEnded, Tick, IsProcessOf, end_of, Follows, ends, ticks, HasNoEffect, is_idle}
-use Rattle.um_model.specs.Service.{Action, state_of_unit}
+use Rattle.um_model.proofs.MachineLaws.{boot_has_effect, one_process, tick_has_effect}
+use Rattle.um_model.specs.Ends.{is_starting, may_be_asked}
+use Rattle.um_model.specs.Machine.{State, ProcessEnded, ProcessExecuted, Tick, Booted, IsProcessOf, IsOver, AwaitsReport, acting_in, booted, end_of, Happens, Follows, ends, reports, ticks, boots, HasNoEffect, is_idle, isnt_awaited, is_known}
+use Rattle.um_model.specs.Service.{Action, is_number, state_of_unit}
 use Rattle.um_model.specs.declared.service.End.{End}
+use Rattle.um_model.specs.declared.transition.UnitEvent.{UnitEvent}
+use Rattle.um_model.specs.declared.transition.UnitEvent.TheVariants.{Executed}
 use Rattle.um_graph.specs.Graph.{GraphView}
+use Rattle.um_engine.specs.Engine.{FollowsUpon, HappensTo, MetBy, SettlesTo, FiresTo, IsSame}
 use Rattle.um_engine.specs.Over.{Serves}
-use Rattle.um_engine.specs.Engine.{CarriesTo, SettlesTo, FiresTo, IsSame}
+use Rattle.um_engine.specs.Served.{ServedView}
 
 -- a tick that leaves units, jobs and the next number leaves the state
 same_after : (t : ℕ) (s v : State) (new : List Action) → Follows t s Tick new v → IsSame s v → v ≡ s
@@ -24,14 +33,58 @@ tick_acts t s v new follows differs =
     tick_has_effect t s new v follows
     (λ (none, same). differs none (record { units = ap (λ x. x.units) (sym same); pending = ap (λ x. x.pending) (sym same); next = ap (λ x. x.next) (sym same) }))
 
--- the end of a live process, by what became of its unit and of jobs in a copy of the state
-pub end_follows : (t : ℕ) (s copy u v : State) (number : ℕ) (end : End) (unit : List ℕ) (none between all : List Action) → copy ≡ s → none ≡ [] → IsProcessOf s.units number unit
-    → CarriesTo t unit (end_of (state_of_unit copy.units unit) number end) copy none u between → SettlesTo t u between v all → Follows t s (ProcessEnded number end) all v
-end_follows t s copy u v number end unit none between all same e process carries (more, settles, whole) =
-    let (first, carried, is) = subst (λ x. CarriesTo t unit (end_of (state_of_unit x.units unit) number end) x none u between) same carries in
-    subst (λ l. Follows t s (ProcessEnded number end) l v)
-    (sym (whole ∙ (ap (λ l. l ++ more) (is ∙ ap (λ l. l ++ first) e))))
-    (ends unit process carried settles)
+-- something happened to a unit of a copy of the state, and jobs began
+pub follows_upon : (t : ℕ) (s copy u v : State) (unit : List ℕ) (event : UnitEvent) (none between all : List Action) → copy ≡ s → none ≡ []
+    → HappensTo t unit event copy none u between → SettlesTo t u between v all → FollowsUpon t s unit event all v
+follows_upon t s copy u v unit event none between all same e happens (more, settles, whole) =
+    let (first, happened, is) = subst (λ x. HappensTo t unit event x none u between) same happens in
+    record { between = u; first = first; more = more; happens = happened; settles = settles; all = whole ∙ ap (λ l. l ++ more) (is ∙ ap (λ l. l ++ first) e) }
+
+-- the end of a live process, by what became of its unit and of jobs
+pub end_follows : (t : ℕ) (s v : State) (number : ℕ) (end : End) (unit : List ℕ) (event : UnitEvent) (all : List Action) → IsProcessOf s.units number unit
+    → event ≡ end_of (state_of_unit s.units unit) number end → FollowsUpon t s unit event all v → Follows t s (ProcessEnded number end) all v
+end_follows t s v number end unit event all process is h =
+    subst (λ l. Follows t s (ProcessEnded number end) l v) (sym h.all) (ends unit process (subst (λ e. Happens t unit e s h.first h.between) is h.happens) h.settles)
+
+-- so with the report that its program runs
+pub report_follows : (t : ℕ) (s v : State) (number : ℕ) (unit : List ℕ) (all : List Action) → IsProcessOf s.units number unit → AwaitsReport s number unit
+    → FollowsUpon t s unit Executed all v → Follows t s (ProcessExecuted number) all v
+report_follows t s v number unit all process awaits h = subst (λ l. Follows t s (ProcessExecuted number) l v) (sym h.all) (reports unit process awaits h.happens h.settles)
+
+-- a report for which the process's unit doesn't wait has no effect
+pub report_is_idle : (t : ℕ) (s : State) (number : ℕ) (unit : List ℕ) → IsProcessOf s.units number unit → ¬ AwaitsReport s number unit → HasNoEffect t s (ProcessExecuted number)
+report_is_idle t s number unit process none =
+    isnt_awaited (λ other is awaits. none (subst (AwaitsReport s number) (one_process s.units number other unit is process) awaits))
+
+-- nor has one of a process that isn't live
+pub report_is_over : (t : ℕ) (s : State) (number : ℕ) → IsOver s.units number → HasNoEffect t s (ProcessExecuted number)
+report_is_over t s number over = isnt_awaited (λ other is awaits. over other is.has)
+
+-- the number of a process, as it is tested
+number_told : (number : ℕ) (o : Option ℕ) → is_number number o ≡ true → o ≡ Some number
+number_told number None t = absurd (true≢false (sym t))
+number_told number (Some n) t = ap Some ((Decides-eqb n number).0 t)
+
+number_is : (number : ℕ) (o : Option ℕ) → o ≡ Some number → is_number number o ≡ true
+number_is number o e = ap (is_number number) e ∙ (Decides-eqb number number).1 refl
+
+-- whether the unit waits for the report, by what it is asked of
+pub report_decided : (s : State) (number : ℕ) (unit : List ℕ) (starts asked is : Bool) → starts ≡ is_starting (state_of_unit s.units unit).sub
+    → asked ≡ may_be_asked (acting_in s.loaded unit).settings.kind → is ≡ is_number number (state_of_unit s.units unit).main
+    → Decides (starts && asked && is) (AwaitsReport s number unit)
+report_decided s number unit starts asked is e f g = (told, tells)
+  where
+    told : starts && asked && is ≡ true → AwaitsReport s number unit
+    told h =
+        let (both, d) = and_parts (starts && asked) is h in
+        let (a, b) = and_parts starts asked both in
+        record { starts = sym e ∙ a; kind = sym f ∙ b; main = number_told number (state_of_unit s.units unit).main (sym g ∙ d) }
+
+    tells : AwaitsReport s number unit → starts && asked && is ≡ true
+    tells h =
+        ap (λ b. b && asked && is) (e ∙ h.starts)
+        ∙ (ap (λ b. b && is) (f ∙ h.kind)
+        ∙ (g ∙ number_is number (state_of_unit s.units unit).main h.main))
 
 -- a tick, by the deadlines that fired
 pub tick_follows : (t : ℕ) (s copy v : State) (none all : List Action) → copy ≡ s → none ≡ [] → FiresTo t copy none v all → Follows t s Tick all v
@@ -46,3 +99,18 @@ tick_idle t s copy v none all same e fires nothing stays = tick_is_idle t s v al
 -- a graph that serves for a state serves for its copy
 pub serves_copy : (g : GraphView) (s copy : State) → copy ≡ s → Serves g s → Serves g copy
 serves_copy g s copy same serves = subst (Serves g) (sym same) serves
+
+-- the boot that is known has no effect
+pub boot_is_known : (t : ℕ) (s : State) (boot : List ℕ) → boot ≡ s.boot → MetBy t s (Booted boot) None []
+boot_is_known t s boot is = (is_known is, refl)
+
+-- another one has
+pub boot_follows : (t : ℕ) (s : State) (boot : List ℕ) (after : ServedView) → ¬ (boot ≡ s.boot) → after.state ≡ booted boot s → MetBy t s (Booted boot) (Some after) []
+boot_follows t s boot after other is = (boot_has_effect t s boot other, subst (Follows t s (Booted boot) []) (sym is) boots)
+
+-- texts are tested byte by byte
+pub same_boot : (xs ys : List ℕ) (b : Bool) → b ≡ pointwise nat_eq xs ys → b ≡ true → xs ≡ ys
+same_boot xs ys b is told = same_text xs ys (sym told ∙ is)
+
+pub other_boot : (xs ys : List ℕ) (b : Bool) → b ≡ pointwise nat_eq xs ys → b ≡ false → ¬ (xs ≡ ys)
+other_boot xs ys b is told = other_text xs ys (sym told ∙ is)

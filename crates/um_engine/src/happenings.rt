@@ -1,14 +1,16 @@
 //! What follows from what happens.
 
 ghost use Rattle.std.specs.Bool.{Decides};
-ghost use Rattle.std.specs.Prelude.{◌≡◌, ◌↔◌, ℕ, List, [], Contains, map, option_map, IsTrue, IfOk, IfSome, MatchOption};
+ghost use Rattle.std.specs.Prelude.{◌≡◌, ◌↔◌, ◌&&◌, ℕ, List, [], Contains, map, option_map, IsTrue, IfOk, IfSome, MatchOption};
 ghost use Rattle.um_engine.specs.Engine.{FollowsUpon, Met, MetBy, IsSame};
 ghost use Rattle.um_engine.specs.Known.{KnowsFor};
 ghost use Rattle.um_engine.specs.Over.{Serves};
-ghost use Rattle.um_model.specs.Ends.{is_starting};
+ghost use Rattle.um_model.specs.Ends.{is_starting, may_be_asked};
+ghost use Rattle.um_model.specs.Few.{IsFew};
 ghost use Rattle.um_model.specs.Machine as model;
 ghost use Rattle.um_model.specs.Service.{is_number};
 ghost use Rattle.um_state.specs.View.{state_of, happening_of, action_of};
+ghost use Rattle.um_wire.specs.declared.refusal.Refusal.TheVariants.{NoMemory};
 
 use crate::acting::Acting;
 use crate::falling::happen;
@@ -114,6 +116,14 @@ fn is_number(number: u64, process: Option<ProcessNumber>) -> bool
     }
 }
 
+/// Whether a unit of this kind that stands so waits for the report that the program of its main process runs, and that process has
+/// the number.
+fn awaits(stands: UnitState, kind: UnitKind, number: u64) -> bool
+    ensures { result ≡ (is_starting stands.sub && may_be_asked kind && is_number number stands.main) }
+{
+    is_starting(stands.sub) && may_be_asked(kind) && is_number(number, stands.main)
+}
+
 /// Whether the unit, one of the graph, waits for the report that the program of its main process runs, and that process has the
 /// number.
 fn awaits_report(alloc: Global, graph: &Graph, state: &State, number: u64, unit: &UnitName) -> bool
@@ -122,7 +132,7 @@ fn awaits_report(alloc: Global, graph: &Graph, state: &State, number: u64, unit:
     let stands = state.units().get(unit);
     let defaults = ServiceSettings::new(alloc, UnitKind::Simple);
     let acting = Acting::in_graph(graph, unit, &defaults);
-    is_starting(stands.sub) && may_be_asked(acting.settings.kind) && is_number(number, stands.main)
+    awaits(stands, acting.settings.kind, number)
 }
 
 /// The state after the report that the program of a process runs; none where no unit waits for it.
@@ -166,6 +176,16 @@ fn after_tick(
     Ok((Some(after), actions))
 }
 
+/// Want of memory, as the one cause for which nothing else is refused.
+fn want_of_memory(refusal: Refusal) -> AllocError
+    requires { ¬ ¬ (refusal ≡ NoMemory) }
+{
+    match refusal {
+        Refusal::NoMemory => AllocError,
+        _ => unreachable!(),
+    }
+}
+
 /// The state after a boot with this id, with what is known anew of its units: what stood under `run/` is gone. None where that is the
 /// boot that is known.
 fn after_boot(alloc: Global, served: &Served, boot: &BootId) -> Result<Option<Served>, AllocError>
@@ -179,14 +199,14 @@ fn after_boot(alloc: Global, served: &Served, boot: &BootId) -> Result<Option<Se
     after.begin_boot(alloc, boot.copy()?);
     match Served::of(alloc, after) {
         Ok(served) => Ok(Some(served)),
-        Err(Refusal::NoMemory) => Err(AllocError),
-        Err(_) => unreachable!(),
+        Err(refusal) => Err(want_of_memory(refusal)),
     }
 }
 
 /// The state, if there is one, with what is known as it was.
 fn with_known(served: &Served, after: Option<State>) -> Result<Option<Served>, AllocError>
-    requires { IfSome after (λ state. KnowsFor served.now.known (state_of state)) }
+    requires knows { IfSome after (λ state. KnowsFor served.now.known (state_of state)) }
+    requires few { IfSome after (λ state. IsFew (state_of state)) }
     ensures { IfOk result (λ known. option_map (λ s. s.state) known ≡ option_map state_of after) }
 {
     match after {

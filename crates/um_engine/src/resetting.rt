@@ -31,7 +31,7 @@ fn reset(
         → ResetsTo moment (unit.now ∷ []) (state_of state.old) (map action_of actions.old.items) (state_of state.new) (map action_of actions.new.items)
         × Serves graph.now (state_of state.new)) }
 {
-    if !state.units().holds(unit) {
+    if !state.holds(unit) {
         return Ok(());
     }
     happen(alloc, graph, state, actions, moment, unit, UnitEvent::Reset)?;

@@ -5,6 +5,7 @@ ghost use Rattle.std.specs.Coded.{codes};
 ghost use Rattle.std.specs.FinMap as maps;
 ghost use Rattle.um_engine.specs.Known.{IsGraphFor, KnowsFor};
 ghost use Rattle.um_engine.specs.Served.{ServedView};
+ghost use Rattle.um_model.specs.Few.{IsFew};
 ghost use Rattle.um_model.specs.Machine.{IsHeld, IsHeldOr, IsCrowded};
 ghost use Rattle.um_state.specs.View.{state_of};
 ghost use Rattle.um_tree.specs.Code.{tree_code};
@@ -20,7 +21,7 @@ use um_state::State;
 use um_wire::Refusal;
 
 /// A state and what is known of the units of its loaded tree, all that the state holds among them. States that follow one another
-/// share what is known.
+/// share what is known. No more units are known by it than may be.
 #[derive(Drop)]
 pub struct Served {
     state: State,
@@ -34,7 +35,7 @@ impl Model for Served {
 
     ghost view = { λ s. record { state = state_of s.state; known = s.known.value } };
 
-    ghost invariant = { λ s. KnowsFor s.known.value (state_of s.state) };
+    ghost invariant = { λ s. KnowsFor s.known.value (state_of s.state) × IsFew (state_of s.state) };
 }
 
 impl Served {
@@ -48,9 +49,10 @@ impl Served {
         Ok(Served { state, known })
     }
 
-    /// A state with what is known for it.
+    /// A state with what is known for it, by which no more units are known than may be.
     pub fn with(state: State, known: Rc<Known>) -> Served
-        requires { KnowsFor known.value (state_of state) }
+        requires knows { KnowsFor known.value (state_of state) }
+        requires few { IsFew (state_of state) }
         ensures state { result.state ≡ state_of state }
         ensures known { result.known ≡ known.value }
     {
@@ -62,6 +64,7 @@ impl Served {
         ensures state { state_of result.0 ≡ self.state }
         ensures known { result.1.value ≡ self.known }
         ensures knows { KnowsFor self.known self.state }
+        ensures few { IsFew self.state }
     {
         let Served { state, known } = self;
         (state, known)
@@ -80,6 +83,7 @@ impl Served {
     pub fn state(&self) -> &State
         ensures state { state_of result.now ≡ self.now.state }
         ensures knows { KnowsFor self.now.known self.now.state }
+        ensures few { IsFew self.now.state }
     {
         &self.state
     }
@@ -96,6 +100,7 @@ impl Served {
     pub fn share_known(&self) -> Result<Rc<Known>, AllocError>
         ensures known { IfOk result (λ k. k.value ≡ self.now.known) }
         ensures knows { KnowsFor self.now.known self.now.state }
+        ensures few { IsFew self.now.state }
     {
         self.known.clone()
     }

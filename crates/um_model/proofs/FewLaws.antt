@@ -99,7 +99,7 @@ deadline_held s unit deadline is = inl (λ none. none-some deadline (sym (ap (λ
 pub same_no_more : (s : State) → HoldsNoMore s s
 same_no_more s = record { loaded = refl; held = λ unit is. is }
 
-no_more_trans : (s u v : State) → HoldsNoMore s u → HoldsNoMore u v → HoldsNoMore s v
+pub no_more_trans : (s u v : State) → HoldsNoMore s u → HoldsNoMore u v → HoldsNoMore s v
 no_more_trans s u v f g = record { loaded = g.loaded ∙ f.loaded; held = λ x is. f.held x (g.held x is) }
 
 -- of a unit without jobs none is left
@@ -238,12 +238,12 @@ happens_no_more t unit event s actions v may (Happens.happens {falling = falling
 reset_apart : Reset ≡ StartBegins → ⊥
 reset_apart e = cc
 
-resets_no_more : (t : ℕ) (units : List (List ℕ)) (s : State) (actions : List Action) (v : State) → AreReset t units s actions v → HoldsNoMore s v
+pub resets_no_more : (t : ℕ) (units : List (List ℕ)) (s : State) (actions : List Action) (v : State) → AreReset t units s actions v → HoldsNoMore s v
 resets_no_more t units s actions v all_reset = same_no_more s
 resets_no_more t (unit ∷ units) s actions v (reset_next {u = u} {first = x} {more = y} h k) =
     no_more_trans s u v (happens_no_more t unit Reset s x u (inr reset_apart) h) (resets_no_more t units u y v k)
 
-settles_no_more : (t : ℕ) (s : State) (actions : List Action) (v : State) → Settles t s actions v → HoldsNoMore s v
+pub settles_no_more : (t : ℕ) (s : State) (actions : List Action) (v : State) → Settles t s actions v → HoldsNoMore s v
 settles_no_more t s actions v (Settles.rests none) = same_no_more s
 settles_no_more t s actions v (Settles.begins_next {u = u} {first = x} {more = y} j n h k) =
     no_more_trans s u v
@@ -348,7 +348,7 @@ booted_none boot s x (inl h) = h (map.get-empty (slice_cmp nat_cmp) x)
 booted_none boot s x (inr h) = h (map.get-empty (slice_cmp nat_cmp) x)
 
 -- and no more is known by what stands not under `run/`
-booted_few : (boot : List ℕ) (s : State) → IsFew s → IsFew (booted boot s)
+pub booted_few : (boot : List ℕ) (s : State) → IsFew s → IsFew (booted boot s)
 booted_few boot s few r crowded = few r (record { many = inr (by_tree crowded.many); refusal = crowded.refusal })
   where
     fewer : (tree : Tree) → KnowsTooMany tree (IsHeld (booted boot s)) → KnowsTooMany tree (IsHeld s)
@@ -369,7 +369,7 @@ follows_no_more t s happening actions v (Follows.reports {number = number} {firs
 follows_no_more t s happening actions v (Follows.ticks timers are h) = inl (fires_no_more t timers s actions v h)
 follows_no_more t s happening actions v (Follows.boots {boot = boot}) = inr (boot, refl)
 
-follows_few : (t : ℕ) (s : State) (happening : Happening) (actions : List Action) (v : State) → Follows t s happening actions v → IsFew s → IsFew v
+pub follows_few : (t : ℕ) (s : State) (happening : Happening) (actions : List Action) (v : State) → Follows t s happening actions v → IsFew s → IsFew v
 follows_few t s happening actions v h few = elim (follows_no_more t s happening actions v h) as (λ _. IsFew v) [
   | inl less ↦ no_more_few s v less few
   | inr (boot, is) ↦ subst IsFew (sym is) (booted_few boot s few)

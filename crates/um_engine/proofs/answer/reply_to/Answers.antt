@@ -1,6 +1,8 @@
+use Rattle.std.proofs.Common.{inl, inr, ap, subst, sym}
 use Rattle.std.proofs.lemmas.Result.{IfOk-weaker}
-use Rattle.um_state.specs.View.{state_of, reply_of}
-use Rattle.um_engine.proofs.Answered.{shows_so, tells_activity_so, tells_files_so, tells_enabling_so, lists_jobs_so}
+use Rattle.um_state.specs.View.{query_of, state_of, reply_of}
+use Rattle.um_model.specs.Machine.{IsReplyTo}
+use Rattle.um_engine.proofs.Answered.{shows_so, tells_activity_so, tells_failure_so, tells_files_so, tells_enabling_so, lists_jobs_so}
 use Rattle.um_engine.proofs.answer.reply_to.Goals as goal
 
 pub returns-in-Show : goal.returns-in-Show
@@ -9,7 +11,12 @@ returns-in-Show c =
 
 pub returns-in-IsActive : goal.returns-in-IsActive
 returns-in-IsActive c =
-    rw c.in-IsActive.is (IfOk-weaker c.is_active.result _ _ (λ r is. tells_activity_so (state_of c.args.state.now) c.in-IsActive.unit (reply_of r) is) c.is_active.ensures)
+    let s = state_of c.args.state.now in
+    IfOk-weaker c.activity.result _ (λ r. IsReplyTo s (query_of c.args.query.now) (reply_of r))
+    (λ r told. elim c.in-IsActive.is as (λ _. IsReplyTo s (query_of c.args.query.now) (reply_of r)) [
+      | inl is ↦ subst (λ q. IsReplyTo s q (reply_of r)) (sym (ap query_of is)) (tells_activity_so s c.in-IsActive.unit (reply_of r) told)
+      | inr is ↦ subst (λ q. IsReplyTo s q (reply_of r)) (sym (ap query_of is)) (tells_failure_so s c.in-IsActive.unit (reply_of r) told)
+    ]) c.activity.ensures
 
 pub returns-in-Cat : goal.returns-in-Cat
 returns-in-Cat c =

@@ -1,10 +1,11 @@
-use Rattle.std.proofs.Common.{◌≡◌, ◌≢◌, rules, sym, subst}
+use Rattle.std.proofs.Common.{◌≡◌, ◌≢◌, ◌∙◌, rules, sym, ap, subst}
 use Rattle.um_model.specs.Machine as model
 use Rattle.um_model.specs.Refusals.{Refused}
 use Rattle.um_state.specs.View.{state_of}
 use Rattle.um_wire.specs.Refusal.{refused_of}
 use Rattle.um_wire.specs.declared.refusal.Refusal.TheVariants.{NoMemory}
 use Rattle.um_engine.proofs.Causes.{free_to_reload, reloads_to}
+use Rattle.um_engine.proofs.KnownLaws.{few_reloaded}
 use Rattle.um_engine.proofs.commands.reloaded.Goals as goal
 
 pub returns-in_err-known-clause-refused : goal.returns-in_err-known-clause-refused
@@ -13,6 +14,12 @@ returns-in_err-known-clause-refused c =
     let step : c.in_err-known.field-0.0 ≢ NoMemory → model.Refuses s model.DaemonReload (refused_of c.in_err-known.field-0.0) =
     λ differs. model.reloads_none (subst (λ t. model.CausesOfLoad s t (refused_of c.in_err-known.field-0.0)) c.tree.ensures (c.in_err-known.ensures.refused differs)) in
     search (rules, step)
+
+pub with-requires-clause-few : goal.with-requires-clause-few
+with-requires-clause-few c =
+    let s = state_of c.args.state.now in
+    few_reloaded s (state_of c.reload.new.self) (subst (λ t. (r : Refused) → ¬ model.CausesOfLoad s t r) c.tree.ensures c.in_ok-known.ensures.refused)
+    (c.in_ok-reload.ensures.ok ∙ ap (λ (x : model.State). record x { loaded = x.tree }) c.in_ok-changed.ensures)
 
 pub returns-clause-changed : goal.returns-clause-changed
 returns-clause-changed c =

@@ -8,3 +8,8 @@ pub returns-clause-refused : goal.returns-clause-refused
 returns-clause-refused c =
     let none : has_run (state_of c.args.changed).loaded ≡ false = search rules in
     few_known c.args.known.value (state_of c.args.changed) c.requires none
+
+pub with-requires-clause-few : goal.with-requires-clause-few
+with-requires-clause-few c =
+    let none : has_run (state_of c.args.changed).loaded ≡ false = search rules in
+    few_known c.args.known.value (state_of c.args.changed) c.requires none

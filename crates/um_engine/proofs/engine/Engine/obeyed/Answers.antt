@@ -18,8 +18,8 @@ returns-in_err-check_room-clause-refused c =
     let s = c.args.self.now.served.state in
     let u = c.in_ok-outcome.outcome.served.state in
     let v = c.in_ok-served.served.state in
-    let takes = obeyed_so c.args.moment s u v (command_of c.args.command.now) (map action_of c.in_ok-served.actions.items)
-    c.in_ok-outcome.ensures.refused c.in_ok-outcome.ensures.changed c.in_ok-served.ensures in
+    let takes = obeyed_so c.args.moment s u v (command_of c.args.command.now) (map action_of c.in_ok-outcome.outcome.actions.items) (map action_of c.in_ok-served.actions.items)
+    c.in_ok-outcome.ensures.refused c.in_ok-outcome.ensures.does c.in_ok-served.ensures in
     let step : c.in_err-check_room.field-0.0 ≢ NoMemory
     → Declines c.args.self.now.size c.args.moment s (command_of c.args.command.now) (refused_of c.in_err-check_room.field-0.0) =
     declined_for_room c.args.self.now.size c.args.moment s v (command_of c.args.command.now) (map action_of c.in_ok-served.actions.items) c.in_err-check_room.field-0.0 takes
@@ -29,9 +29,9 @@ returns-in_err-check_room-clause-refused c =
 pub returns-clause-taken : goal.returns-clause-taken
 returns-clause-taken c =
     obeyed_so c.args.moment c.args.self.now.served.state c.in_ok-outcome.outcome.served.state c.in_ok-served.served.state (command_of c.args.command.now)
-    (map action_of c.in_ok-served.actions.items) c.in_ok-outcome.ensures.refused c.in_ok-outcome.ensures.changed c.in_ok-served.ensures
+    (map action_of c.in_ok-outcome.outcome.actions.items) (map action_of c.in_ok-served.actions.items) c.in_ok-outcome.ensures.refused c.in_ok-outcome.ensures.does c.in_ok-served.ensures
 
 pub returns-clause-reply : goal.returns-clause-reply
 returns-clause-reply c =
     same_answer c.args.moment (model.Commanded (command_of c.args.command.now)) c.args.self.now.served.state c.in_ok-outcome.outcome.served.state
-    c.in_ok-served.served.state (map action_of c.in_ok-served.actions.items) (reply_of c.in_ok-outcome.outcome.reply) c.in_ok-outcome.ensures.reply c.in_ok-served.ensures
+    c.in_ok-served.served.state (map action_of c.in_ok-outcome.outcome.actions.items) (map action_of c.in_ok-served.actions.items) (reply_of c.in_ok-outcome.outcome.reply) c.in_ok-outcome.ensures.reply c.in_ok-served.ensures

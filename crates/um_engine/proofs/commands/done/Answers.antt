@@ -1,0 +1,86 @@
+use Rattle.std.proofs.Common.{◌≡◌, ◌∙◌, List, [], Result, Ok, Err, map, ap, refl, rules, subst, sym}
+use Rattle.std.specs.Prelude.{IfOk}
+use Rattle.um_model.specs.Machine as model
+use Rattle.um_model.specs.Machine.{State}
+use Rattle.um_state.specs.View.{action_of, command_of, state_of}
+use Rattle.um_model.specs.Few.{HoldsNoMore}
+use Rattle.um_engine.proofs.KnownLaws.{put_holds_no_more, link_holds_no_more, remove_holds_no_more, waiting_holds_no_more}
+use Rattle.um_engine.proofs.Stepped.{does_so}
+use Rattle.um_engine.proofs.commands.done.Goals as goal
+
+pub kept-requires : goal.kept-requires
+kept-requires c =
+    let u = state_of c.in_ok-changed-in-PutFile.changed in
+    subst (λ (s : State). HoldsNoMore s u) c.state-state.ensures.state
+    (put_holds_no_more (state_of c.state-state.result.now) u _ _ c.in_ok-changed-in-PutFile.ensures.changed)
+
+pub kept-requires-in-PutLink : goal.kept-requires-in-PutLink
+kept-requires-in-PutLink c =
+    let u = state_of c.in_ok-changed-in-PutLink.changed in
+    subst (λ (s : State). HoldsNoMore s u) c.state-state.ensures.state
+    (link_holds_no_more (state_of c.state-state.result.now) u _ _ c.in_ok-changed-in-PutLink.ensures.changed)
+
+pub kept-requires-in-Remove : goal.kept-requires-in-Remove
+kept-requires-in-Remove c =
+    let u = state_of c.in_ok-changed-in-Remove.changed in
+    subst (λ (s : State). HoldsNoMore s u) c.state-state.ensures.state
+    (remove_holds_no_more (state_of c.state-state.result.now) u _ c.in_ok-changed-in-Remove.ensures.changed)
+
+pub kept-requires-in-Cancel : goal.kept-requires-in-Cancel
+kept-requires-in-Cancel c = waiting_holds_no_more c.args.served.now.state _ (state_of c.in_ok-changed-in-Cancel.changed) c.in_ok-changed-in-Cancel.ensures.changed
+
+pub returns-in_ok-kept-in-PutFile-clause-does : goal.returns-in_ok-kept-in-PutFile-clause-does
+returns-in_ok-kept-in-PutFile-clause-does c =
+    let o = c.in_ok-kept-in-PutFile in
+    let u = state_of c.in_ok-changed-in-PutFile.changed in
+    let told : model.Changes c.args.served.now.state (command_of c.args.command.now) u = search (rules, c.in-PutFile.is, c.state-state.ensures.state, c.in_ok-changed-in-PutFile.ensures.changed) in
+    does_so c.args.moment c.args.served.now.state u o.field-0.served.state (command_of c.args.command.now) (map action_of o.field-0.actions.items) told o.ensures.state (ap (map action_of) o.ensures.actions)
+
+pub returns-in_ok-kept-in-PutLink-clause-does : goal.returns-in_ok-kept-in-PutLink-clause-does
+returns-in_ok-kept-in-PutLink-clause-does c =
+    let o = c.in_ok-kept-in-PutLink in
+    let u = state_of c.in_ok-changed-in-PutLink.changed in
+    let told : model.Changes c.args.served.now.state (command_of c.args.command.now) u = search (rules, c.in-PutLink.is, c.state-state.ensures.state, c.in_ok-changed-in-PutLink.ensures.changed) in
+    does_so c.args.moment c.args.served.now.state u o.field-0.served.state (command_of c.args.command.now) (map action_of o.field-0.actions.items) told o.ensures.state (ap (map action_of) o.ensures.actions)
+
+pub returns-in_ok-kept-in-Remove-clause-does : goal.returns-in_ok-kept-in-Remove-clause-does
+returns-in_ok-kept-in-Remove-clause-does c =
+    let o = c.in_ok-kept-in-Remove in
+    let u = state_of c.in_ok-changed-in-Remove.changed in
+    let told : model.Changes c.args.served.now.state (command_of c.args.command.now) u = search (rules, c.in-Remove.is, c.state-state.ensures.state, c.in_ok-changed-in-Remove.ensures.changed) in
+    does_so c.args.moment c.args.served.now.state u o.field-0.served.state (command_of c.args.command.now) (map action_of o.field-0.actions.items) told o.ensures.state (ap (map action_of) o.ensures.actions)
+
+pub returns-in_ok-kept-in-Cancel-clause-does : goal.returns-in_ok-kept-in-Cancel-clause-does
+returns-in_ok-kept-in-Cancel-clause-does c =
+    let o = c.in_ok-kept-in-Cancel in
+    let u = state_of c.in_ok-changed-in-Cancel.changed in
+    let told : model.Changes c.args.served.now.state (command_of c.args.command.now) u = search (rules, c.in-Cancel.is, c.state-state.ensures.state, c.in_ok-changed-in-Cancel.ensures.changed) in
+    does_so c.args.moment c.args.served.now.state u o.field-0.served.state (command_of c.args.command.now) (map action_of o.field-0.actions.items) told o.ensures.state (ap (map action_of) o.ensures.actions)
+
+pub returns-in_ok-reloaded-in-DaemonReload-clause-does : goal.returns-in_ok-reloaded-in-DaemonReload-clause-does
+returns-in_ok-reloaded-in-DaemonReload-clause-does c =
+    let u = c.in_ok-reloaded-in-DaemonReload.field-0.state in
+    let told : model.Changes c.args.served.now.state (command_of c.args.command.now) u = search (rules, c.in-DaemonReload.is, c.state-state.ensures.state, c.in_ok-reloaded-in-DaemonReload.ensures.changed) in
+    does_so c.args.moment c.args.served.now.state u c.silent.result.served.state (command_of c.args.command.now) (map action_of c.silent.result.actions.items) told c.silent.ensures.state
+    (ap (map action_of) (c.silent.ensures.actions ∙ c.new.ensures.items))
+
+pub returns-in_ok-planned-in-ForUnit-clause-does : goal.returns-in_ok-planned-in-ForUnit-clause-does
+returns-in_ok-planned-in-ForUnit-clause-does c =
+    let u = c.in_ok-planned-in-ForUnit.planned.state in
+    let told : model.Changes c.args.served.now.state (command_of c.args.command.now) u = search (rules, c.in-ForUnit.is, c.state-state.ensures.state, c.in_ok-planned-in-ForUnit.ensures.changed) in
+    does_so c.args.moment c.args.served.now.state u c.silent-in-ForUnit.result.served.state (command_of c.args.command.now) (map action_of c.silent-in-ForUnit.result.actions.items) told c.silent-in-ForUnit.ensures.state
+    (ap (map action_of) (c.silent-in-ForUnit.ensures.actions ∙ c.new-in-ForUnit.ensures.items))
+
+if_both : {X E : Type 0} (result : Result X E) (P Q R : X → Type 0) → ((x : X) → P x → Q x → R x) → IfOk result P → IfOk result Q → IfOk result R
+if_both (Ok x) P Q R both p q = both x p q
+if_both (Err e) P Q R both p q = p
+
+pub returns-in-Install-clause-does : goal.returns-in-Install-clause-does
+returns-in-Install-clause-does c =
+    let s = c.args.served.now.state in
+    let command = model.Install c.in-Install.verb c.in-Install.unit in
+    if_both c.installed.result (λ o. model.Changes (state_of c.state-state.result.now) command o.served.state) (λ o. o.actions.items ≡ [])
+    (λ o. model.Does c.args.moment s (command_of c.args.command.now) (map action_of o.actions.items) o.served.state)
+    (λ o h none. does_so c.args.moment s o.served.state o.served.state (command_of c.args.command.now) (map action_of o.actions.items)
+    (subst (λ q. model.Changes s q o.served.state) (sym (ap command_of c.in-Install.is)) (subst (λ (x : State). model.Changes x command o.served.state) c.state-state.ensures.state h))
+    refl (ap (map action_of) none)) c.installed.ensures.changed c.installed.ensures.actions

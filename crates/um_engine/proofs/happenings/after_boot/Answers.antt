@@ -1,0 +1,30 @@
+use Rattle.std.proofs.Common.{◌≡◌, ◌∙◌, sym, ap, subst}
+use Rattle.um_model.specs.Machine as model
+use Rattle.um_model.specs.Machine.{State}
+use Rattle.um_model.proofs.FewLaws.{booted_few}
+use Rattle.um_state.specs.View.{state_of}
+use Rattle.um_wire.specs.Refusal.{refused_of}
+use Rattle.um_engine.proofs.Ticks.{boot_follows, boot_is_known, same_boot, other_boot}
+use Rattle.um_engine.proofs.happenings.after_boot.Goals as goal
+
+pub returns-then-eq : goal.returns-then-eq
+returns-then-eq c t =
+    let known = c.as_str-2.ensures.text ∙ (c.boot.ensures ∙ ap (λ (s : State). s.boot) c.state-state.ensures.state) in
+    boot_is_known t c.args.served.now.state c.args.boot.now (sym c.as_str.ensures.text ∙ (same_boot c.as_str.result.now c.as_str-2.result.now c.eq.result c.eq.ensures c.if-eq.true ∙ known))
+
+pub returns-in-Ok : goal.returns-in-Ok
+returns-in-Ok c t =
+    let s = c.args.served.now.state in
+    let known = c.as_str-2.ensures.text ∙ (c.boot.ensures ∙ ap (λ (x : State). x.boot) c.state-state.ensures.state) in
+    let same = c.in_ok-after.ensures ∙ c.state-state.ensures.state in
+    boot_follows t s c.args.boot.now c.in-Ok.served
+    (λ is. other_boot c.as_str.result.now c.as_str-2.result.now c.eq.result c.eq.ensures c.if-eq.false (c.as_str.ensures.text ∙ (is ∙ sym known)))
+    (c.in-Ok.ensures.state ∙ (c.begin_boot.ensures ∙ (ap (λ b. model.booted b (state_of c.in_ok-after.after)) c.in_ok-copy.ensures ∙ ap (model.booted c.args.boot.now) same)))
+
+pub want_of_memory-requires : goal.want_of_memory-requires
+want_of_memory-requires c = λ differs.
+    let s = c.args.served.now.state in
+    let same = c.in_ok-after.ensures ∙ c.state-state.ensures.state in
+    let is = c.begin_boot.ensures ∙ ap (model.booted c.in_ok-copy.field-0) same in
+    booted_few c.in_ok-copy.field-0 s c.state-state.ensures.few (refused_of c.in-Err.refusal)
+    (subst (λ (x : State). model.IsCrowded x.loaded (model.IsHeld x) (refused_of c.in-Err.refusal)) is (c.in-Err.ensures.refused differs))
