@@ -39,6 +39,7 @@ pub mod EntriesLaws
 pub mod PendingSpellingsLaws
 pub mod StateSpellingsLaws
 pub mod InputSpellingsLaws
+pub mod InputLengthLaws
 pub mod SpellingRows
 pub mod TransitionLaws
 pub mod StoreLaws
