@@ -91,7 +91,7 @@ command_long t s (Cancel unit) actions u is fit does = omega (arith, named_long 
 command_long t s (ResetFailed unit) actions u is fit does = omega (arith, optional_long unit fit)
 command_long t s (Install verb unit) actions u is fit does = omega (arith, named_long unit fit)
 
-end_long : (e : End) → length (end_spelling e) ≤ 2
+pub end_long : (e : End) → length (end_spelling e) ≤ 2
 end_long (end.Code code) = omega arith
 end_long (end.Signal number) = omega arith
 end_long end.Lost = omega arith

@@ -40,6 +40,7 @@ pub mod PendingSpellingsLaws
 pub mod StateSpellingsLaws
 pub mod InputSpellingsLaws
 pub mod InputLengthLaws
+pub mod StateLengthLaws
 pub mod SpellingRows
 pub mod TransitionLaws
 pub mod StoreLaws
