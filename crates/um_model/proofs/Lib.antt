@@ -41,6 +41,7 @@ pub mod StateSpellingsLaws
 pub mod InputSpellingsLaws
 pub mod InputLengthLaws
 pub mod StateLengthLaws
+pub mod AsciiLaws
 pub mod SpellingRows
 pub mod TransitionLaws
 pub mod StoreLaws
