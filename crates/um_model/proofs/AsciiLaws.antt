@@ -17,11 +17,11 @@ use Rattle.um_model.proofs.NamesLaws.{named_by_parts}
 use Rattle.um_model.proofs.TreeLaws.{path_of_parts, fit-name}
 
 -- a byte of ASCII
-abbrev is_low : ℕ → Bool
+abbrev pub is_low : ℕ → Bool
 is_low b = nat_lt b 128
 
 -- all bytes are of ASCII
-abbrev AreLow : List ℕ → Type 0
+abbrev pub AreLow : List ℕ → Type 0
 AreLow bs = list_all is_low bs ≡ true
 
 low_instance : (b : ℕ) → is_instance_byte b ≡ true → b < 128
@@ -45,7 +45,7 @@ low_ascii (b ∷ bs) all =
     let both = and_parts (is_low b) (list_all is_low bs) all in
     IsAscii-cons b bs (ltb-true b 128 both.0) (low_ascii bs both.1)
 
-low_utf8 : (bs : List ℕ) → AreLow bs → is_utf8 bs ≡ true
+pub low_utf8 : (bs : List ℕ) → AreLow bs → is_utf8 bs ≡ true
 low_utf8 bs all = is_utf8-from_IsUtf8 bs (IsUtf8-from_ascii bs (low_ascii bs all))
 
 both_low : (front bs : List ℕ) → AreLow front → AreLow bs → AreLow (front ++ bs)

@@ -42,6 +42,7 @@ pub mod InputSpellingsLaws
 pub mod InputLengthLaws
 pub mod StateLengthLaws
 pub mod AsciiLaws
+pub mod FitTreeLaws
 pub mod SpellingRows
 pub mod TransitionLaws
 pub mod StoreLaws
