@@ -43,6 +43,8 @@ pub mod InputLengthLaws
 pub mod StateLengthLaws
 pub mod AsciiLaws
 pub mod FitTreeLaws
+pub mod InvariantLaws
+pub mod FitNamesLaws
 pub mod SpellingRows
 pub mod TransitionLaws
 pub mod StoreLaws
