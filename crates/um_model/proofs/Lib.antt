@@ -45,6 +45,7 @@ pub mod AsciiLaws
 pub mod FitTreeLaws
 pub mod InvariantLaws
 pub mod FitNamesLaws
+pub mod FitUnitLaws
 pub mod SpellingRows
 pub mod TransitionLaws
 pub mod StoreLaws
