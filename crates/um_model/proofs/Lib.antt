@@ -46,6 +46,7 @@ pub mod FitTreeLaws
 pub mod InvariantLaws
 pub mod FitNamesLaws
 pub mod FitUnitLaws
+pub mod FitNumbersLaws
 pub mod SpellingRows
 pub mod TransitionLaws
 pub mod StoreLaws
