@@ -47,6 +47,8 @@ pub mod InvariantLaws
 pub mod FitNamesLaws
 pub mod FitUnitLaws
 pub mod FitNumbersLaws
+pub mod FitSoundLaws
+pub mod FitStateLaws
 pub mod SpellingRows
 pub mod TransitionLaws
 pub mod StoreLaws

@@ -133,7 +133,7 @@ one_few : (unit : List ℕ) (kind : JobKind) (o : Option JobState) → length (j
 one_few unit kind None = omega arith
 one_few unit kind (Some state) = omega arith
 
-shown_few : (es : List (List ℕ × UnitJobs)) → length (flat_map (λ e. jobs_shown_of e.0 e.1) es) ≤ length es * 2
+pub shown_few : (es : List (List ℕ × UnitJobs)) → length (flat_map (λ e. jobs_shown_of e.0 e.1) es) ≤ length es * 2
 shown_few [] = omega arith
 shown_few (e ∷ es) =
     let rest = shown_few es in
