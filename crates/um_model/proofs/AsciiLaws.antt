@@ -1,5 +1,5 @@
 -- Unit names and served paths are of ASCII bytes, so they are texts in UTF-8.
-use Rattle.std.proofs.Common.{ℕ, ◌≡◌, ◌∙◌, ◌<◌, Bool, true, false, ◌&&◌, nat_lt, List, [], ◌∷◌, ◌++◌, codes, Option, Some, None, is_some, refl, sym, ap, subst, arith}
+use Rattle.std.proofs.Common.{ℕ, ◌≡◌, ◌∙◌, ◌<◌, Bool, true, nat_lt, List, [], ◌∷◌, ◌++◌, codes, Option, Some, None, is_some, refl, sym, subst, arith}
 use Rattle.std.specs.List.{list_all}
 use Rattle.std.specs.Str.{IsAscii, is_utf8}
 use Rattle.std.proofs.lemmas.Bool.{and_parts, and_from, ltb-true, lt-ltb}
@@ -7,8 +7,8 @@ use Rattle.std.proofs.lemmas.Bool.Decides.{nat_tests}
 use Rattle.std.proofs.lemmas.List.Folds.{list_all-append}
 use Rattle.std.proofs.lemmas.Str.{IsUtf8-from_ascii, is_utf8-from_IsUtf8}
 use Rattle.std.proofs.lemmas.Str.Ascii.{IsAscii-nil, IsAscii-cons}
-use Rattle.um_model.specs.Names.{is_instance_byte, is_prefix_byte, is_fit_instance, instance_text, suffix_text, is_unit_name, NameParts, IsNameOf, name_text, is_template}
-use Rattle.um_model.specs.Tree.{layer_text, Place, Unit, DropIn, Wants, Requires, place_text, PathParts, IsPathOf, path_parts, path_text, is_plain_name, is_drop_in_name, is_drop_in_byte, is_fit_place, is_served}
+use Rattle.um_model.specs.Names.{is_instance_byte, is_prefix_byte, is_fit_instance, instance_text, suffix_text, is_unit_name, NameParts, IsNameOf}
+use Rattle.um_model.specs.Tree.{layer_text, Place, Unit, DropIn, Wants, Requires, place_text, PathParts, IsPathOf, path_parts, is_plain_name, is_drop_in_name, is_drop_in_byte, is_fit_place}
 use Rattle.um_model.specs.declared.names.Suffix.{Suffix}
 use Rattle.um_model.specs.declared.names.Suffix.TheVariants.{Service, Socket, Device, Mount, Automount, Swap, Target, Path, Timer, Slice, Scope}
 use Rattle.um_model.specs.declared.tree.Layer.{Layer}

@@ -1,18 +1,17 @@
 -- The units of which a state holds anything have unit names, and its maps hold no empty value.
-use Rattle.std.proofs.Common.{ℕ, ◌≡◌, ◌≢◌, ◌⊎◌, ◌∙◌, true, false, List, Option, Some, None, unwrap_or, refl, sym, ap, subst, inl, inr}
+use Rattle.std.proofs.Common.{ℕ, ◌≡◌, ◌≢◌, ◌⊎◌, ◌∙◌, true, List, Option, Some, None, unwrap_or, refl, sym, ap, subst, inl, inr}
 use Rattle.std.proofs.lemmas.Option.{none-some}
 use Rattle.std.specs.FinMap as map
 use Rattle.um_model.specs.Dependencies as model
 use Rattle.um_model.specs.Dependencies.{IsKnown, IsNamed, Mentions}
 use Rattle.um_model.specs.Few.{HoldsNoMore}
 use Rattle.um_model.specs.InputSpellings.{FitCommand, FitEvent}
-use Rattle.um_model.specs.Jobs.{Job, stop_job, start_job, no_jobs, jobs_of_unit, jobs_left, AreTidyJobs, with_jobs, cancelled, jobs, with_running, job_of, IsPending}
-use Rattle.um_model.specs.Machine.{State, empty_state, Command, Happening, Event, IsHeld, IsHeldOr, Changes, puts, links, removes, reloads, plans, demands_nothing, cancels, installs, Does, units_reset, Takes, obeys, meets, Follows, unit_asked, jobs_asked, scene_at, booted, change_of, changed, Becomes, Carries, begun, with_start_alone}
+use Rattle.um_model.specs.Jobs.{Job, stop_job, start_job, no_jobs, jobs_of_unit, jobs_left, AreTidyJobs, cancelled, jobs, with_running, job_of, IsPending}
+use Rattle.um_model.specs.Machine.{State, empty_state, Command, Happening, Event, IsHeld, IsHeldOr, Changes, puts, links, removes, reloads, plans, demands_nothing, cancels, installs, Does, units_reset, Takes, obeys, meets, Follows, unit_asked, jobs_asked, scene_at, booted, change_of, Becomes, Carries, begun, with_start_alone}
 use Rattle.um_model.specs.Names.{is_unit_name}
 use Rattle.um_model.specs.Plan.{IsPlan}
 use Rattle.um_model.specs.Service.{Action, ByUnit, AreTidyUnits, dead_unit}
 use Rattle.um_model.specs.Tree.{Tree}
-use Rattle.um_model.specs.Units.{unit_named}
 use Rattle.um_model.specs.declared.dependencies.Demand.{Demand}
 use Rattle.um_model.specs.declared.jobs.JobKind.TheVariants as job
 use Rattle.um_model.specs.declared.jobs.JobState.{JobState}
@@ -27,7 +26,7 @@ use Rattle.um_model.proofs.GivesLaws.{names_of_link, names_mentioned, OwnOrName}
 use Rattle.um_model.proofs.InvariantLaws.{FitUnitEvent, kept_taking}
 use Rattle.um_model.proofs.NamedLaws.{named_by_name}
 use Rattle.um_model.proofs.TreeLaws.{path_of_parts, fit-name}
-use Rattle.um_model.proofs.UnitLaws.{no_job_held, tidy_empty, tidy_units, tidy_jobs}
+use Rattle.um_model.proofs.UnitLaws.{tidy_empty, tidy_units, tidy_jobs}
 
 -- ---- known names
 

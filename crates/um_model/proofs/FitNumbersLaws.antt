@@ -1,16 +1,15 @@
 -- The units of a state have bytes, and the numbers of live processes are distinct, from 1 and below the next one.
-use Rattle.std.proofs.Common.{ℕ, ◌≡◌, ◌≢◌, ◌⊎◌, inl, inr, ◌∙◌, ◌+◌, ◌<◌, ◌≤◌, ◌^◌, List, Option, Some, None, unwrap_or, refl, sym, ap, subst, arith}
-use Rattle.std.specs.Prelude.{IfSome, max}
+use Rattle.std.proofs.Common.{ℕ, ◌≡◌, ◌⊎◌, inl, inr, ◌∙◌, ◌+◌, ◌<◌, ◌≤◌, ◌^◌, List, Option, Some, None, unwrap_or, refl, sym, ap, subst, arith}
+use Rattle.std.specs.Prelude.{IfSome}
 use Rattle.std.proofs.lemmas.Option.{none-some}
 use Rattle.std.specs.Cmp.Lexicographic.{slice_cmp}
 use Rattle.std.specs.FinMap as map
 use Rattle.std.specs.Ordering.{nat_cmp}
 use Rattle.um_model.specs.InputSpellings.{FitEvent}
-use Rattle.um_model.specs.Jobs.{Job}
-use Rattle.um_model.specs.Machine.{State, empty_state, Command, Event, acting_in, around, change_of, changed, with_result_dependency, TakesAlong, Becomes, Carries, begun, with_start_alone, Changes, puts, links, removes, reloads, plans, demands_nothing, cancels, installs, booted, Takes, moment_of}
+use Rattle.um_model.specs.Machine.{State, empty_state, Command, Event, acting_in, around, change_of, changed, with_result_dependency, TakesAlong, Becomes, Carries, begun, with_start_alone, Changes, puts, links, removes, reloads, plans, demands_nothing, cancels, installs, booted, Takes}
 use Rattle.um_model.specs.Moments.{moment_limit, process_limit}
-use Rattle.um_model.specs.Service.{Action, ByUnit, dead_unit, state_of_unit, with_unit}
-use Rattle.um_model.specs.Transitions.{transition, HasNumber, spawned}
+use Rattle.um_model.specs.Service.{Action, dead_unit, state_of_unit, with_unit}
+use Rattle.um_model.specs.Transitions.{HasNumber, spawned}
 use Rattle.um_model.specs.declared.limit.Counted.{Counted}
 use Rattle.um_model.specs.declared.service.UnitState.{UnitState}
 use Rattle.um_model.specs.declared.transition.Change.{Change}

@@ -1,5 +1,5 @@
 -- The units of a state whose numbers are apart pass the test of sound bytes: windows up to the clock, numbers distinct and below the next one.
-use Rattle.std.proofs.Common.{ℕ, ◌≡◌, ◌⊎◌, inl, inr, ◌∙◌, ◌<◌, ◌≤◌, ◌^◌, ◌==◌, nat_lt, nat_le, Bool, true, false, not, cond, List, [], ◌∷◌, ◌++◌, flat_map, Option, Some, None, unwrap_or, refl, sym, ap, subst, arith, T, is_eq}
+use Rattle.std.proofs.Common.{ℕ, ◌≡◌, ◌⊎◌, inl, inr, ◌∙◌, ◌<◌, ◌≤◌, ◌^◌, ◌==◌, nat_lt, Bool, true, false, not, cond, List, [], ◌∷◌, ◌++◌, flat_map, Option, Some, None, unwrap_or, refl, sym, ap, subst, T, is_eq}
 use Rattle.std.specs.Prelude.{IfSome}
 use Rattle.std.specs.List.{list_all}
 use Rattle.std.specs.Cmp.{tied_itself}
@@ -13,7 +13,7 @@ use Rattle.std.proofs.lemmas.Map.Lookups.{exact_bytes}
 use Rattle.std.proofs.lemmas.Map.Views.{tells_apart}
 use Rattle.std.proofs.lemmas.Option.{none-some}
 use Rattle.um_model.specs.Machine.{State}
-use Rattle.um_model.specs.Service.{ByUnit, dead_unit, state_of_unit}
+use Rattle.um_model.specs.Service.{dead_unit, state_of_unit}
 use Rattle.um_model.specs.StateSpellings.{has_begun, numbers_in, are_distinct, is_sound}
 use Rattle.um_model.specs.Transitions.{numbers, live_numbers, HasNumber}
 use Rattle.um_model.specs.declared.limit.Counted.{Counted}

@@ -1,6 +1,6 @@
 -- Each state of a run from the empty one has bytes, of at most its weight, where each input has some.
-use Rattle.std.proofs.Common.{ℕ, ◌≡◌, ◌≢◌, ◌⊎◌, inl, inr, ◌∙◌, ◌<◌, ◌≤◌, ◌^◌, true, List, [], ◌∷◌, ◌++◌, length, get_or, flat_map, AllPairs, Option, Some, None, unwrap_or, refl, sym, ap, subst, append_assoc, arith}
-use Rattle.std.specs.Prelude.{IfSome, max}
+use Rattle.std.proofs.Common.{ℕ, ◌≡◌, ◌≢◌, inl, inr, ◌∙◌, ◌<◌, ◌≤◌, ◌^◌, true, List, [], ◌∷◌, ◌++◌, length, get_or, flat_map, AllPairs, Option, Some, None, unwrap_or, refl, sym, ap, subst, append_assoc, arith}
+use Rattle.std.specs.Prelude.{IfSome}
 use Rattle.std.specs.List.{AllByRecursion}
 use Rattle.std.specs.FinMap as map
 use Rattle.std.proofs.lemmas.Bool.{cases_lt}
@@ -53,10 +53,14 @@ held_few : (s : State) → IsFew s → (names : List (List ℕ)) × ((unit : Lis
 held_few s few = by (held_list s)
   where
     by_once : (xs : List (List ℕ)) → IsListOf (IsKnown s.loaded (IsHeld s)) xs → AllPairs (λ x y. x ≢ y) xs → (names : List (List ℕ)) × ((unit : List ℕ) → IsHeld s unit → Among names unit) × (length names ≤ unit_limit)
-    by_once xs list apart = (xs, (λ unit is. list.all unit (first (extra is))), elim (cases_lt unit_limit (length xs)) as (λ _. length xs ≤ unit_limit) [
-      | inl more ↦ absurd (few (too_large Units) (record { many = inl (record { names = xs; known = λ k d short. list.has (get_or xs k d) (among_at xs k d short); apart = apart; many = more }); refusal = refl }))
-      | inr most ↦ most
-    ])
+    by_once xs list apart = (
+      xs,
+      (λ unit is. list.all unit (first (extra is))),
+      elim (cases_lt unit_limit (length xs)) as (λ _. length xs ≤ unit_limit) [
+        | inl more ↦ absurd (few (too_large Units) (record { many = inl (record { names = xs; known = λ k d short. list.has (get_or xs k d) (among_at xs k d short); apart = apart; many = more }); refusal = refl }))
+        | inr most ↦ most
+      ],
+    )
 
     by : (extras : List (List ℕ)) × IsListOf (IsHeld s) extras → (names : List (List ℕ)) × ((unit : List ℕ) → IsHeld s unit → Among names unit) × (length names ≤ unit_limit)
     by (extras, listed) = let once = known_once s.loaded (IsHeld s) extras listed in by_once once.0 once.1 once.2

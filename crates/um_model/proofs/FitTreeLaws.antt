@@ -1,32 +1,31 @@
 -- The trees of a state that comes of inputs that have bytes have bytes: each path is served and what stands at it is a text.
-use Rattle.std.proofs.Common.{ℕ, zero, suc, ◌≡◌, ◌≢◌, ◌⊎◌, ◌∙◌, ◌<◌, ◌≤◌, ◌^◌, nat_lt, Bool, true, false, not, cond, List, [], ◌∷◌, ◌++◌, length, map as each, Option, Some, None, option_and_then, is_none, is_some, Result, Ok, Err, codes, refl, sym, ap, subst, inl, inr, arith, T, is_eq}
+use Rattle.std.proofs.Common.{ℕ, zero, suc, ◌≡◌, ◌≢◌, ◌⊎◌, ◌∙◌, ◌<◌, ◌≤◌, ◌^◌, Bool, true, false, not, cond, List, [], ◌∷◌, ◌++◌, length, map as each, Option, Some, None, option_and_then, is_some, Ok, codes, refl, sym, ap, subst, inl, inr, arith, T, is_eq}
 use Rattle.std.specs.Prelude.{option_map}
 use Rattle.std.specs.Cmp.{tied_itself}
 use Rattle.std.specs.Cmp.Lexicographic.{slice_cmp, nat_list_cmp_total}
 use Rattle.std.specs.FinMap as map
 use Rattle.std.specs.FinMap.{nat_cmp-IsAntisymmetric, slice_cmp-IsAntisymmetric}
 use Rattle.std.specs.FinMap.Entries.{find}
-use Rattle.std.specs.List.{list_all, AllByRecursion}
+use Rattle.std.specs.List.{AllByRecursion}
 use Rattle.std.specs.Ordering.{nat_cmp, eq_by_cmp}
 use Rattle.std.specs.Str.{is_utf8}
 use Rattle.std.proofs.lemmas.Bool.{cases_lt}
 use Rattle.std.proofs.lemmas.List.{length-map}
 use Rattle.std.proofs.lemmas.Map.Lookups.{exact_bytes}
 use Rattle.std.proofs.lemmas.Map.Views.{tells_apart}
-use Rattle.std.proofs.lemmas.Option.{none-some, same_Some}
+use Rattle.std.proofs.lemmas.Option.{none-some}
 use Rattle.um_model.specs.Bytes.{ByText, FitText, are_keys}
-use Rattle.um_model.specs.Install.{LinkAt, link_at, links_to, links_of, linked_name, path_in_etc, IsAskedFor, IsPathAsked, IsUnlinked, IsUnfit, IsTooMany, IsEnabled, IsDisabled, path_of_mask, is_masking, unmasked, CausesOfEnable, Installs, enables, disables, masks, unmasks, RefusesInstall, enables_none}
+use Rattle.um_model.specs.Install.{LinkAt, link_at, links_to, links_of, linked_name, path_in_etc, IsAskedFor, IsPathAsked, IsUnlinked, IsEnabled, IsDisabled, path_of_mask, is_masking, CausesOfEnable, Installs, enables, disables, masks, unmasks, RefusesInstall, enables_none}
 use Rattle.um_model.specs.InputSpellings.{FitCommand}
-use Rattle.um_model.specs.Machine.{State, Command, PutFile, PutLink, Remove, DaemonReload, ForUnit, Cancel, ResetFailed, Install, Refuses, Changes, puts, links, removes, reloads, plans, demands_nothing, cancels, installs}
+use Rattle.um_model.specs.Machine.{State, Command, Refuses, Changes, puts, links, removes, reloads, plans, demands_nothing, cancels, installs}
 use Rattle.um_model.specs.Names.{template_of}
-use Rattle.um_model.specs.Refusals.{Refused, cause, unless_refused, at_first}
+use Rattle.um_model.specs.Refusals.{Refused, unless_refused, at_first}
 use Rattle.um_model.specs.Resolution.{or_else, unit_path, held_in, first_held, leads_to_template, unless_to_template, held, Resolution, AtFile, AtNoFile, AtMask, Nowhere, is_mask, is_served_type, needs_no_file, next_name, followed, resolution_at, resolved, hop_limit, resolution_of}
 use Rattle.um_model.specs.StateSpellings.{any_text, FitEntry, FitTree}
-use Rattle.um_model.specs.Tree.{Tree, Entry, File, Link, Wants, Requires, Unit as Itself, PathParts, IsTree, path_parts, is_served, is_fit_at, is_fit_entry, is_fit_target, entry_limit, text_limit, put_cause, put_file, link_cause, put_link, remove_cause, remove_at, is_volatile, without_run}
+use Rattle.um_model.specs.Tree.{Tree, Entry, File, Link, Wants, Requires, Unit as Itself, PathParts, IsTree, path_parts, is_served, is_fit_at, is_fit_entry, is_fit_target, entry_limit, put_cause, put_file, link_cause, put_link, remove_cause, remove_at, is_volatile, without_run}
 use Rattle.um_model.specs.Units.{InstallSettings, LoadedUnit, Loading, Found, Masked, NotFound, BadSetting, found_unless, loading_at, load}
 use Rattle.um_model.specs.Weight.{text_of_entry}
 use Rattle.um_model.specs.declared.install.InstallVerb.{InstallVerb}
-use Rattle.um_model.specs.declared.install.InstallVerb.TheVariants as verbs
 use Rattle.um_model.specs.declared.tree.Layer.{Layer}
 use Rattle.um_model.specs.declared.tree.Layer.TheVariants.{Etc, Run, Lib}
 use Rattle.um_model.proofs.AmongLaws.{among_either, among_contained, from_map}

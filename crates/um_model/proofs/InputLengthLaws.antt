@@ -1,16 +1,14 @@
 -- An input that isn't refused is spelled in at most 131,072 bytes: the longest puts a file at a path of a tree.
-use Rattle.std.proofs.Common.{ℕ, ◌≡◌, ◌≢◌, ◌∙◌, ◌+◌, ◌-◌, ◌≤◌, ◌^◌, nat_lt, Bool, true, false, not, ◌&&◌, List, [], ◌∷◌, ◌++◌, length, Option, Some, None, is_none, is_some, Result, Ok, Err, refl, sym, ap, subst, length-append, arith}
+use Rattle.std.proofs.Common.{ℕ, ◌≡◌, ◌≢◌, ◌∙◌, ◌+◌, ◌-◌, ◌≤◌, ◌^◌, nat_lt, Bool, true, false, not, List, ◌++◌, length, Option, Some, None, is_none, Ok, refl, sym, ap, length-append, arith}
 use Rattle.std.specs.Prelude.{IfSome}
 use Rattle.std.specs.FinMap as map
 use Rattle.std.proofs.lemmas.Bool.{and_from, le-leb, leb-true, ltb-false, not-false}
-use Rattle.std.proofs.lemmas.Option.{none-some}
 use Rattle.byteorder.specs.Endian.{big_bytes}
 use Rattle.byteorder.specs.Numbers.{length-bytes_high_first}
 use Rattle.um_model.specs.Bytes.{text_spelling, option_spelling}
-use Rattle.um_model.specs.Names.{is_unit_name}
 use Rattle.um_model.specs.Refusals.{Refused, no_room, cause, unless_refused}
 use Rattle.um_model.specs.Tree.{Tree, Entry, File, Link, IsTree, path_parts, is_served, is_fit_at, is_fit_target, is_link, is_other_than_link, is_full_for, text_limit, put_cause, put_file, link_cause, put_link, remove_cause, remove_at}
-use Rattle.um_model.specs.Machine.{State, Command, PutFile, PutLink, Remove, DaemonReload, ForUnit, Cancel, ResetFailed, Install, Happening, ProcessEnded, ProcessExecuted, Tick, Booted, Event, Commanded, Happened, Input, Reply, Refusal, boot_limit, Changes, puts, links, removes, Does, Takes, obeys, meets, moment_of, Step, refused, crowded_out, idle, taken}
+use Rattle.um_model.specs.Machine.{State, Command, PutFile, PutLink, Remove, DaemonReload, ForUnit, Cancel, ResetFailed, Install, Happening, ProcessEnded, ProcessExecuted, Tick, Booted, Event, Commanded, Happened, Input, Reply, Refusal, boot_limit, puts, links, removes, Does, Takes, obeys, meets, moment_of, Step, refused, crowded_out, idle, taken}
 use Rattle.um_model.specs.Service.{Action}
 use Rattle.um_model.specs.Spellings.{FitUnitName, end_spelling}
 use Rattle.um_model.specs.InputSpellings.{command_fields, happening_fields, event_fields, input_spelling, mode_spelling, FitCommand, FitHappening, FitInput}

@@ -1,10 +1,10 @@
 -- What each change of a unit, each job that begins, each command and each boot keep is kept by all that an input has for its effect.
-use Rattle.std.proofs.Common.{ℕ, ◌≡◌, Bool, true, false, cond, List, [], ◌∷◌, ◌++◌, Option, refl}
+use Rattle.std.proofs.Common.{ℕ, Bool, true, false, cond, List, ◌∷◌, ◌++◌}
 use Rattle.std.specs.Prelude.{⊤}
 use Rattle.std.specs.FinMap as map
 use Rattle.um_model.specs.InputSpellings.{FitEvent}
 use Rattle.um_model.specs.Jobs.{Job}
-use Rattle.um_model.specs.Machine.{State, Command, Happening, Event, Carries, FallDown, all_told, told_next, Happens, begins, begun, Settles, rests, begins_next, Changes, AreReset, all_reset, reset_next, units_reset, Does, end_of, with_start_alone, Restarts, has_a_job, closes_a_circle, ComesDue, Fires, none_due, booted, Follows, ends, reports, ticks, boots, Takes, obeys, meets}
+use Rattle.um_model.specs.Machine.{State, Command, Event, Carries, FallDown, all_told, told_next, Happens, begins, begun, Settles, rests, begins_next, Changes, AreReset, all_reset, reset_next, units_reset, Does, end_of, with_start_alone, Restarts, has_a_job, closes_a_circle, ComesDue, Fires, none_due, booted, ends, reports, ticks, boots, Takes, obeys, meets}
 use Rattle.um_model.specs.Service.{Action, is_number, state_of_unit}
 use Rattle.um_model.specs.Spellings.{FitEnd}
 use Rattle.um_model.specs.Timers.{Timers}
@@ -12,7 +12,7 @@ use Rattle.um_model.specs.declared.jobs.JobKind.{JobKind}
 use Rattle.um_model.specs.declared.jobs.JobKind.TheVariants as job
 use Rattle.um_model.specs.declared.service.End.{End}
 use Rattle.um_model.specs.declared.transition.UnitEvent.{UnitEvent}
-use Rattle.um_model.specs.declared.transition.UnitEvent.TheVariants.{StartBegins, StopBegins, BoundStop, Executed, MainEnds, ControlEnds, DeadlinePasses, Reset}
+use Rattle.um_model.specs.declared.transition.UnitEvent.TheVariants.{BoundStop, Executed, MainEnds, ControlEnds, DeadlinePasses, Reset}
 
 -- the end that an event tells has bytes
 abbrev pub FitUnitEvent : UnitEvent → Type 0

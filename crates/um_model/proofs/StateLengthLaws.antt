@@ -1,25 +1,23 @@
 -- A state is spelled in no more bytes than it weighs.
-use Rattle.std.proofs.Common.{ℕ, suc, ◌≡◌, ◌≢◌, ◌∙◌, ◌+◌, ◌*◌, ◌<◌, ◌≤◌, Bool, true, false, cond, ◌&&◌, List, [], ◌∷◌, ◌++◌, length, get_or, map as each, flat_map, AllPairs, Option, Some, None, is_some, refl, sym, ap, subst, length-append, inl, inr, arith, T, is_eq}
+use Rattle.std.proofs.Common.{ℕ, ◌≡◌, ◌≢◌, ◌∙◌, ◌+◌, ◌*◌, ◌≤◌, Bool, true, false, cond, List, [], ◌∷◌, ◌++◌, length, map as each, flat_map, AllPairs, Option, Some, None, is_some, refl, sym, ap, subst, length-append, inl, inr, arith, T}
 use Rattle.std.proofs.lemmas.Bool.{leb-true, true≢false}
 use Rattle.std.proofs.lemmas.List.{length-map}
 use Rattle.std.proofs.lemmas.List.Kept.{AllPairs-cons}
 use Rattle.std.proofs.lemmas.List.Sums.{sum-map, sum_by-cons}
-use Rattle.std.specs.Cmp.{tied_itself, eq_by_cmp_equiv}
-use Rattle.std.specs.Cmp.Lexicographic.{slice_cmp, nat_list_cmp_total}
+use Rattle.std.specs.Cmp.Lexicographic.{slice_cmp}
 use Rattle.std.specs.FinMap as map
-use Rattle.std.specs.FinMap.Entries.{below_all, find}
+use Rattle.std.specs.FinMap.Entries.{find}
 use Rattle.std.specs.List.{list_all, sum_by, AllByRecursion}
 use Rattle.std.specs.Ordering.{nat_cmp, eq_by_cmp}
 use Rattle.byteorder.specs.Endian.{big_bytes}
 use Rattle.um_model.specs.Bytes.{Spelling, ByText, text_spelling, pair_spelling, option_spelling, truth_spelling, list_spelling}
-use Rattle.um_model.specs.Dependencies.{IsKnown, CountsFor, extra}
+use Rattle.um_model.specs.Dependencies.{CountsFor, extra}
 use Rattle.um_model.specs.Jobs.{JobShown, job_shown, jobs_shown_of, jobs_shown}
 use Rattle.um_model.specs.Machine.{State, IsHeld, boot_limit}
 use Rattle.um_model.specs.Names.{is_unit_name}
 use Rattle.um_model.specs.Reached.{first}
-use Rattle.um_model.specs.Service.{ByUnit}
 use Rattle.um_model.specs.Spellings.{sub_spelling, result_spelling, kind_spelling, job_state_spelling, end_spelling, counted_spelling, unit_spelling}
-use Rattle.um_model.specs.StateSpellings.{entry_fields, entry_spelling, tree_spelling, units_spelling, job_spelling, pending_spelling, FitJob, state_spelling, FitState}
+use Rattle.um_model.specs.StateSpellings.{entry_spelling, tree_spelling, units_spelling, job_spelling, pending_spelling, FitJob, state_spelling, FitState}
 use Rattle.um_model.specs.Tree.{Tree, Entry, File, Link}
 use Rattle.um_model.specs.Weight.{tree_weight, weight_of}
 use Rattle.um_model.specs.declared.jobs.JobKind.{JobKind}
@@ -27,9 +25,8 @@ use Rattle.um_model.specs.declared.jobs.JobKind.TheVariants.{Stop, Start}
 use Rattle.um_model.specs.declared.jobs.JobState.{JobState}
 use Rattle.um_model.specs.declared.jobs.UnitJobs.{UnitJobs}
 use Rattle.um_model.specs.declared.limit.Counted.{Counted}
-use Rattle.um_model.specs.declared.service.End.{End}
 use Rattle.um_model.specs.declared.service.UnitState.{UnitState}
-use Rattle.um_model.proofs.AmongLaws.{among_contained, contains_among}
+use Rattle.um_model.proofs.AmongLaws.{among_contained}
 use Rattle.um_model.proofs.BytesLaws.{left_holds, right_holds}
 use Rattle.um_model.proofs.EntriesLaws.{left_true, right_true, below_none}
 use Rattle.um_model.proofs.InputLengthLaws.{number_long, text_long, end_long}
