@@ -360,7 +360,7 @@ booted_few boot s few r crowded = few r (record { many = inr (by_tree crowded.ma
     by_tree (inr k) = fewer (without_run s.loaded) (subst (λ tree. KnowsTooMany tree (IsHeld (booted boot s))) (without_run_twice s.loaded) k)
 
 -- what happens makes the state hold nothing new, or it is a boot
-follows_no_more : (t : ℕ) (s : State) (happening : Happening) (actions : List Action) (v : State) → Follows t s happening actions v
+pub follows_no_more : (t : ℕ) (s : State) (happening : Happening) (actions : List Action) (v : State) → Follows t s happening actions v
     → HoldsNoMore s v ⊎ ((boot : List ℕ) × (v ≡ booted boot s))
 follows_no_more t s happening actions v (Follows.ends {number = number} {end = end} {first = x} {more = y} {u = u} unit is h k) =
     inl (happened_no_more t unit (end_of (state_of_unit s.units unit) number end) s x y u v (inl (number_held s number unit is)) h k)
@@ -404,7 +404,7 @@ module _ (Extra : List ℕ → Type 0) (none : (x : List ℕ) → ¬ Extra x) wh
   none_many : ¬ KnowsTooMany map.empty Extra
   none_many k = reached_in (λ _. ⊥) none_named (λ a b known mentions. known) _ (k.known 0 [] (omega (arith, k.many)))
 
-empty_none : (x : List ℕ) → ¬ IsHeld empty_state x
+pub empty_none : (x : List ℕ) → ¬ IsHeld empty_state x
 empty_none x (inl h) = h (map.get-empty (slice_cmp nat_cmp) x)
 empty_none x (inr h) = h (map.get-empty (slice_cmp nat_cmp) x)
 

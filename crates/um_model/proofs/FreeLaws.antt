@@ -216,7 +216,7 @@ module _ (s : State) (named : List ℕ) where
         let pended : IsPending s.pending j = λ none. pends (ap (job_of j.kind) (plan.jobs j.unit None (left nr ns np)) ∙ none) in
         first (extra (inl (inr (λ none. true≢false (sym (held s.pending j pended) ∙ ap is_some none)))))
 
-    pending_known : (j : Job) → IsPending after j → Known j.unit
+    pub pending_known : (j : Job) → IsPending after j → Known j.unit
     pending_known j pends =
         let scene = finite_scene s named in
         let c = counts_some (scene_at s named) scene.0 scene.1 (demand, named) j.unit in

@@ -39,6 +39,16 @@ pub mod EntriesLaws
 pub mod PendingSpellingsLaws
 pub mod StateSpellingsLaws
 pub mod InputSpellingsLaws
+pub mod InputLengthLaws
+pub mod StateLengthLaws
+pub mod AsciiLaws
+pub mod FitTreeLaws
+pub mod InvariantLaws
+pub mod FitNamesLaws
+pub mod FitUnitLaws
+pub mod FitNumbersLaws
+pub mod FitSoundLaws
+pub mod FitStateLaws
 pub mod SpellingRows
 pub mod TransitionLaws
 pub mod StoreLaws

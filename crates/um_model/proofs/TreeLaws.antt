@@ -35,13 +35,13 @@ same_order : (a b : List ℕ) → eq_by_cmp (slice_cmp nat_cmp) a b ≡ true →
 same_order a b e = slice_cmp-IsAntisymmetric nat_cmp-IsAntisymmetric a b (tied _ e)
 
 -- where none of three causes is told, none of them holds
-none_of_three : (a b c : Bool) (r s t : Refused) → first_cause (cause a r ∷ cause b s ∷ cause c t ∷ []) ≡ None → (a ≡ false) × (b ≡ false) × (c ≡ false)
+pub none_of_three : (a b c : Bool) (r s t : Refused) → first_cause (cause a r ∷ cause b s ∷ cause c t ∷ []) ≡ None → (a ≡ false) × (b ≡ false) × (c ≡ false)
 none_of_three true b c r s t e = cc
 none_of_three false true c r s t e = cc
 none_of_three false false true r s t e = cc
 none_of_three false false false r s t e = (refl, refl, refl)
 
-none_of_four : (a b c d : Bool) (r s t u : Refused) → first_cause (cause a r ∷ cause b s ∷ cause c t ∷ cause d u ∷ []) ≡ None → (a ≡ false) × (b ≡ false) × (c ≡ false) × (d ≡ false)
+pub none_of_four : (a b c d : Bool) (r s t u : Refused) → first_cause (cause a r ∷ cause b s ∷ cause c t ∷ cause d u ∷ []) ≡ None → (a ≡ false) × (b ≡ false) × (c ≡ false) × (d ≡ false)
 none_of_four true b c d r s t u e = cc
 none_of_four false b c d r s t u e = let rest = none_of_three b c d s t u e in (refl, rest.0, rest.1, rest.2)
 

@@ -14,7 +14,7 @@ use Rattle.um_model.specs.declared.tree.Layer.TheVariants.{Etc, Run, Lib}
 use Rattle.um_model.specs.Weight.{entry_weight, tree_weight}
 use Rattle.um_model.proofs.TreeLaws.{entries-fit, entries-retain_keys, path_of_parts, fit-name}
 
-short_name : (text : List ℕ) → is_unit_name text ≡ true → length text ≤ 255
+pub short_name : (text : List ℕ) → is_unit_name text ≡ true → length text ≤ 255
 unfolding is_unit_name
 short_name text is =
     let both = and_parts (nat_le (length text) name_limit && is_some (suffix_of text)) (is_stem (stem_of text)) is in
