@@ -1,6 +1,7 @@
 -- The trees of a state that comes of inputs that have bytes have bytes: each path is served and what stands at it is a text.
 use Rattle.std.proofs.Common.{ℕ, zero, suc, ◌≡◌, ◌≢◌, ◌⊎◌, ◌∙◌, ◌<◌, ◌≤◌, ◌^◌, Bool, true, false, not, cond, List, [], ◌∷◌, ◌++◌, length, map as each, Option, Some, None, option_and_then, is_some, Ok, codes, refl, sym, ap, subst, inl, inr, arith, T, is_eq}
 use Rattle.std.specs.Prelude.{option_map}
+use Rattle.std.specs.Option.{option_or, option_map_or}
 use Rattle.std.specs.Cmp.{tied_itself}
 use Rattle.std.specs.Cmp.Lexicographic.{slice_cmp, nat_list_cmp_total}
 use Rattle.std.specs.FinMap as map
@@ -20,7 +21,7 @@ use Rattle.um_model.specs.InputSpellings.{FitCommand}
 use Rattle.um_model.specs.Machine.{State, Command, Refuses, Changes, puts, links, removes, reloads, plans, demands_nothing, cancels, installs}
 use Rattle.um_model.specs.Names.{template_of}
 use Rattle.um_model.specs.Refusals.{Refused, unless_refused, at_first}
-use Rattle.um_model.specs.Resolution.{or_else, unit_path, held_in, first_held, leads_to_template, unless_to_template, held, Resolution, AtFile, AtNoFile, AtMask, Nowhere, is_mask, is_served_type, needs_no_file, next_name, followed, resolution_at, resolved, hop_limit, resolution_of}
+use Rattle.um_model.specs.Resolution.{unit_path, held_in, first_held, leads_to_template, unless_to_template, held, Resolution, AtFile, AtNoFile, AtMask, Nowhere, is_mask, is_served_type, needs_no_file, next_name, resolution_at, resolved, hop_limit, resolution_of}
 use Rattle.um_model.specs.StateSpellings.{any_text, FitEntry, FitTree}
 use Rattle.um_model.specs.Tree.{Tree, Entry, File, Link, Wants, Requires, Unit as Itself, PathParts, IsTree, path_parts, is_served, is_fit_at, is_fit_entry, is_fit_target, entry_limit, put_cause, put_file, link_cause, put_link, remove_cause, remove_at, is_volatile, without_run}
 use Rattle.um_model.specs.Units.{InstallSettings, LoadedUnit, Loading, Found, Masked, NotFound, BadSetting, found_unless, loading_at, load}
@@ -184,7 +185,7 @@ module _ (tree : Tree) (is : IsTree tree) where
       by None at = tt
       by (Some entry) at = path_utf8 tree is (unit_path layer unit) entry at
 
-  either_text : (o p : Option (List ℕ × Entry)) → IsAtText o → IsAtText p → IsAtText (or_else o p)
+  either_text : (o p : Option (List ℕ × Entry)) → IsAtText o → IsAtText p → IsAtText (option_or o p)
   either_text None p h k = k
   either_text (Some found) p h k = h
 
@@ -214,11 +215,11 @@ module _ (tree : Tree) (is : IsTree tree) where
   nothing_text unit true = tt
   nothing_text unit false = tt
 
-  followed_text : (o : Option (List ℕ)) (follow : List ℕ → Resolution) → ((other : List ℕ) → LeadsToText (follow other)) → LeadsToText (followed o follow)
+  followed_text : (o : Option (List ℕ)) (follow : List ℕ → Resolution) → ((other : List ℕ) → LeadsToText (follow other)) → LeadsToText (option_map_or follow o Nowhere)
   followed_text None follow later = tt
   followed_text (Some other) follow later = later other
 
-  link_text : (unit target : List ℕ) (follow : List ℕ → Resolution) (b : Bool) → ((other : List ℕ) → LeadsToText (follow other)) → LeadsToText (cond b (AtMask unit) (followed (next_name unit target) follow))
+  link_text : (unit target : List ℕ) (follow : List ℕ → Resolution) (b : Bool) → ((other : List ℕ) → LeadsToText (follow other)) → LeadsToText (cond b (AtMask unit) (option_map_or follow (next_name unit target) Nowhere))
   link_text unit target follow true later = tt
   link_text unit target follow false later = followed_text (next_name unit target) follow later
 

@@ -16,7 +16,7 @@ use Rattle.um_model.specs.Transitions.{deadline_after, has_number, is_live, just
 use Rattle.um_model.specs.Tree.{Tree}
 use Rattle.um_model.specs.Units.{Assigned, last_or, last_read, micros_in, timeout_in, span_said, timeout_said, default_timeout_start, service_settings_with, service_settings_of, LoadedUnit, Loading, Found, Masked, NotFound, BadSetting, found_unless, loading_at, load}
 use Rattle.um_model.specs.Values.{number_limit, number_of, span_of}
-use Rattle.um_model.specs.Words.{Command}
+use Rattle.um_model.specs.Commands.{Command}
 use Rattle.um_model.specs.declared.limit.Counted.{Counted}
 use Rattle.um_model.specs.declared.names.Suffix.{Suffix}
 use Rattle.um_model.specs.declared.names.Suffix.TheVariants.{Service}
