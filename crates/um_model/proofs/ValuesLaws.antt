@@ -326,6 +326,9 @@ finds_boolean text = λ b. (IsBoolean-boolean_of text b, boolean_of-IsBoolean te
 pub finds_number : (text : List ℕ) → Finds (number_of text) (IsNumber text)
 finds_number text = λ n. (IsNumber-number_of text n, number_of-IsNumber text n)
 
+pub finds_time : (digits unit : List ℕ) → Finds (time_of digits unit) (IsTime digits unit)
+finds_time digits unit = λ n. (IsTime-time_of digits unit n, time_of-IsTime digits unit n)
+
 pub finds_span : (text : List ℕ) → Finds (span_of text) (IsSpan text)
 finds_span text = λ span. (IsSpan-span_of text span, span_of-IsSpan text span)
 

@@ -1,5 +1,5 @@
 -- The laws of words: at most one reading, and the function that finds it.
-use Rattle.std.proofs.Common.{◌≡◌, ◌<◌, ◌≤◌, ℕ, zero, suc, ◌+◌, ◌-◌, Bool, true, false, ◌||◌, not, cond, eqb, List, [], ◌∷◌, ◌++◌, length, take, drop, map, Option, Some, None, option_map, refl, sym, ap, ◌∙◌, subst, inl, inr, append_assoc, append-nil, arith}
+use Rattle.std.proofs.Common.{◌≡◌, ◌↔◌, ◌<◌, ◌≤◌, ℕ, zero, suc, ◌+◌, ◌-◌, Bool, true, false, ◌||◌, not, cond, eqb, List, [], ◌∷◌, ◌++◌, length, take, drop, map, Option, Some, None, option_map, refl, sym, ap, ◌∙◌, subst, inl, inr, append_assoc, append-nil, arith}
 use Rattle.std.specs.Prelude.{IfSome, ◌&&◌, nat_lt}
 use Rattle.std.specs.Option.{option_map_or}
 use Rattle.std.specs.List.{prefix_len, flat_map, slice_split, onto_first}
@@ -199,6 +199,10 @@ InWord-read rules size quote [] word rest small e = ended rules quote word rest 
 InWord-read rules zero quote (b ∷ bs) word rest small e = absurd (omega arith)
 InWord-read rules (suc size) quote (b ∷ bs) word rest small e =
     by_case rules size (InWord-read rules size) (spelled_at rules quote b bs) quote b bs word rest (omega arith) refl e
+
+-- what is read is what is spelled
+pub word_spelled : (rules : WordRules) (quote : Option ℕ) (bs word rest : List ℕ) → (read rules 0 quote bs ≡ Some (word, rest)) ↔ InWord rules quote bs word rest
+word_spelled rules quote bs word rest = (λ e. InWord-read rules (length bs) quote bs word rest (omega arith) e, read-InWord rules quote bs word rest)
 
 -- an option that is mapped to something was something
 mapped : {A B : Type 0} (f : A → B) (r : Option A) (y : B) → option_map f r ≡ Some y → (x : A) × (r ≡ Some x) × (f x ≡ y)

@@ -2,8 +2,8 @@
 
 ghost use Rattle.std.specs.Prelude.{◌≡◌, ℕ, List, Bool};
 ghost use Rattle.um_model.specs.Finds.{Finds};
-ghost use Rattle.um_model.proofs.ValuesLaws.{IsBoolean, IsNumber, IsSpan, IsExitSet};
-ghost use Rattle.um_model.specs.Values.{restart_text, boolean_of, number_of, span_of, exits_of, policy_named};
+ghost use Rattle.um_model.proofs.ValuesLaws.{IsBoolean, IsNumber, IsTime, IsSpan, IsExitSet};
+ghost use Rattle.um_model.specs.Values.{restart_text, boolean_of, time_of, number_of, span_of, exits_of, policy_named};
 ghost use Rattle.um_model.specs.declared.service.End as ends;
 ghost use Rattle.um_model.specs.declared.settings.RestartPolicy as policies;
 ghost use Rattle.um_model.specs.declared.settings.TimeSpan as spans;
@@ -22,6 +22,7 @@ pub fn each_value_is_found()
     ensures boolean { (text : List ℕ) → Finds (boolean_of text) (IsBoolean text) }
     ensures number { (text : List ℕ) → Finds (number_of text) (IsNumber text) }
     ensures span { (text : List ℕ) → Finds (span_of text) (IsSpan text) }
+    ensures time { (digits unit : List ℕ) → Finds (time_of digits unit) (IsTime digits unit) }
     ensures exits { (text : List ℕ) → Finds (exits_of text) (IsExitSet text) }
     ensures restart { (text : List ℕ) → Finds (policy_named text) (λ policy. restart_text policy ≡ text) }
 {}

@@ -1,12 +1,12 @@
 //! What the definitions of words say together, as functions that do nothing.
 
-ghost use Rattle.std.specs.Prelude.{◌≡◌, ℕ, List};
+ghost use Rattle.std.specs.Prelude.{◌≡◌, ◌↔◌, ℕ, List, Option, Some};
 ghost use Rattle.um_model.specs.declared.words.WordRules.{WordRules};
 ghost use Rattle.um_model.specs.declared.words.WordRules.TheVariants.{Plain};
 ghost use Rattle.um_model.specs.Finds.{Finds};
-ghost use Rattle.um_model.specs.Words.{AreWords, words_of};
+ghost use Rattle.um_model.specs.Words.{AreWords, read, words_of};
 ghost use Rattle.um_model.specs.Commands.{Command, commands_read};
-ghost use Rattle.um_model.proofs.WordsLaws.{AreCommands};
+ghost use Rattle.um_model.proofs.WordsLaws.{AreCommands, InWord};
 ghost use Rattle.um_model.specs.Substitution.{Variable, AreSubstituted};
 
 /// By the rules of a setting, of a value and of a list of names, a text reads as one list of words at most.
@@ -28,6 +28,11 @@ pub fn commands_have_one_reading()
 pub fn each_reading_is_found()
     ensures words { (rules : WordRules) (text : List ℕ) → Finds (words_of rules text) (AreWords rules text) }
     ensures commands { (text : List ℕ) → Finds (commands_read text) (AreCommands text) }
+{}
+
+/// A word is found at the front of a text, inside a quote or none, exactly where it is spelled there, and what follows it is left.
+pub fn a_word_is_found_as_it_is_spelled()
+    ensures { (rules : WordRules) (quote : Option ℕ) (text word rest : List ℕ) → (read rules 0 quote text ≡ Some (word, rest)) ↔ InWord rules quote text word rest }
 {}
 
 /// With these variables the words of a command become one list of words at most.

@@ -12,8 +12,8 @@ mod word;
 
 pub use command::{Command, commands, is_executable_word};
 pub use laws::{
-    a_substitution_has_one_result, commands_have_one_reading, each_reading_is_found,
-    each_value_has_words, words_have_one_reading,
+    a_substitution_has_one_result, a_word_is_found_as_it_is_spelled, commands_have_one_reading,
+    each_reading_is_found, each_value_has_words, words_have_one_reading,
 };
 pub use splitting::{names, words};
 pub use substitution::substitute;
