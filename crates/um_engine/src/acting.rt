@@ -33,20 +33,41 @@ fn loading<'g>(graph: &'g Graph, unit: &UnitName) -> Option<&'g Loading>
 impl<'g> Acting<'g> {
     ghost use Rattle.um_engine.specs.Engine.{acting_of};
 
+    /// A unit that isn't loadable: it acts as a simple service with default settings.
+    fn unloadable(defaults: &'g ServiceSettings) -> Acting<'g>
+        requires { service_settings_of defaults.now ≡ default_settings Simple }
+        ensures { acting_of result ≡ model.acting_unloadable }
+    {
+        Acting {
+            settings: defaults,
+            loadable: false,
+        }
+    }
+
     /// How a unit acts that was found: a template isn't loadable.
     fn of_found(found: &'g LoadedUnit, defaults: &'g ServiceSettings) -> Acting<'g>
         requires { service_settings_of defaults.now ≡ default_settings Simple }
         ensures { acting_of result ≡ model.acting_of (units.Found (unit_of found.now)) }
     {
         if found.name.is_template() {
-            return Acting {
-                settings: defaults,
-                loadable: false,
-            };
+            return Acting::unloadable(defaults);
         }
         Acting {
             settings: &found.settings.service,
             loadable: true,
+        }
+    }
+
+    /// How a unit acts, by what was found of it.
+    fn of(loading: &'g Loading, defaults: &'g ServiceSettings) -> Acting<'g>
+        requires { service_settings_of defaults.now ≡ default_settings Simple }
+        ensures { acting_of result ≡ model.acting_of (loading_of loading.now) }
+    {
+        match loading {
+            Loading::Found(found) => Acting::of_found(found, defaults),
+            Loading::Masked { .. } => Acting::unloadable(defaults),
+            Loading::NotFound => Acting::unloadable(defaults),
+            Loading::BadSetting { .. } => Acting::unloadable(defaults),
         }
     }
 
@@ -58,11 +79,8 @@ impl<'g> Acting<'g> {
             → acting_of result ≡ model.acting_in s.loaded unit.now }
     {
         match loading(graph, unit) {
-            Some(Loading::Found(found)) => Acting::of_found(found, defaults),
-            _ => Acting {
-                settings: defaults,
-                loadable: false,
-            },
+            Some(loading) => Acting::of(loading, defaults),
+            None => Acting::unloadable(defaults),
         }
     }
 }
