@@ -111,7 +111,7 @@ sum_sinks k (n ∷ ns) f h less y c d = elim (cons_cases n ns y c) as (λ _. sum
 ]
 
 falling_few : (s : State) (row : List Neighbour) (unit : ℕ) (names : List (List ℕ)) → length (falling_from s row unit names) ≤ length names
-falling_few s row unit [] = let none : length (falling_from s row unit []) ≡ 0 = refl in omega arith
+falling_few s row unit [] = omega arith
 falling_few s row unit (name ∷ names) = let rest = falling_few s row (suc unit) names in by (is_bound row unit && goes s name) rest
   where
     by : (b : Bool) → length (falling_from s row (suc unit) names) ≤ length names

@@ -51,12 +51,12 @@ module _ (s : State) (row : List Neighbour) where
   }
 
   found : (unit : ℕ) (names : List (List ℕ)) (name : List ℕ) → Among (named_from unit names) name → IsFound unit names name
-  found unit [] name none = absurd none
-  found unit (first ∷ names) name = by (is_bound row unit && goes s first) refl
+  found unit [] name = λ none. absurd none
+  found unit (first ∷ names) name = by (is_bound row unit && goes s first) refl (found (suc unit) names name)
     where
-      by : (b : Bool) → (is_bound row unit && goes s first) ≡ b → Among (cond b (first ∷ named_from (suc unit) names) (named_from (suc unit) names)) name
+      by : (b : Bool) → (is_bound row unit && goes s first) ≡ b → (Among (named_from (suc unit) names) name → IsFound (suc unit) names name) → Among (cond b (first ∷ named_from (suc unit) names) (named_from (suc unit) names)) name
           → IsFound unit (first ∷ names) name
-      by true t (inl is) =
+      by true t rest (inl is) =
           let p = and_parts (is_bound row unit) (goes s first) t in
           record {
             place = 0;
@@ -64,8 +64,8 @@ module _ (s : State) (row : List Neighbour) where
             bound = (let e : unit + 0 ≡ unit = omega arith in ap (is_bound row) e) ∙ p.0;
             going = ap (goes s) is ∙ p.1;
           }
-      by true t (inr later) = found_later unit first names name (found (suc unit) names name later)
-      by false t later = found_later unit first names name (found (suc unit) names name later)
+      by true t rest (inr later) = found_later unit first names name (rest later)
+      by false t rest later = found_later unit first names name (rest later)
 
   find : (unit : ℕ) (names : List (List ℕ)) (name : List ℕ) (place : ℕ) → slice_get names place ≡ Some name → is_bound row (unit + place) ≡ true → goes s name ≡ true
       → Among (named_from unit names) name
@@ -84,44 +84,41 @@ module _ (s : State) (row : List Neighbour) where
       by false later = later
 
   of_all : (unit : ℕ) (names : List (List ℕ)) (name : List ℕ) → Among (named_from unit names) name → Among names name
-  of_all unit [] name none = none
-  of_all unit (first ∷ names) name = by (is_bound row unit && goes s first)
+  of_all unit [] name = λ none. none
+  of_all unit (first ∷ names) name = by (is_bound row unit && goes s first) (of_all (suc unit) names name)
     where
-      by : (b : Bool) → Among (cond b (first ∷ named_from (suc unit) names) (named_from (suc unit) names)) name → Among (first ∷ names) name
-      by true (inl is) = inl is
-      by true (inr later) = inr (of_all (suc unit) names name later)
-      by false later = inr (of_all (suc unit) names name later)
+      by : (b : Bool) → (Among (named_from (suc unit) names) name → Among names name) → Among (cond b (first ∷ named_from (suc unit) names) (named_from (suc unit) names)) name → Among (first ∷ names) name
+      by true rest (inl is) = inl is
+      by true rest (inr later) = inr (rest later)
+      by false rest later = inr (rest later)
 
   sorted_from : (unit : ℕ) (names : List (List ℕ)) → AllPairs IsNamedBefore names → AllPairs IsNamedBefore (named_from unit names)
   sorted_from unit [] sorted = sorted
-  sorted_from unit (first ∷ names) sorted = by (is_bound row unit && goes s first)
+  sorted_from unit (first ∷ names) sorted = by (is_bound row unit && goes s first) (sorted_from (suc unit) names (others_sorted first names sorted))
     where
-      rest : AllPairs IsNamedBefore (named_from (suc unit) names)
-      rest = sorted_from (suc unit) names (others_sorted first names sorted)
-
       before : All (IsNamedBefore first) (named_from (suc unit) names)
       before k d few = first_before first names sorted _ (of_all (suc unit) names _ (among_at (named_from (suc unit) names) k d few))
 
-      by : (b : Bool) → AllPairs IsNamedBefore (cond b (first ∷ named_from (suc unit) names) (named_from (suc unit) names))
-      by true = AllPairs-cons IsNamedBefore first (named_from (suc unit) names) before rest
-      by false = rest
+      by : (b : Bool) → AllPairs IsNamedBefore (named_from (suc unit) names)
+          → AllPairs IsNamedBefore (cond b (first ∷ named_from (suc unit) names) (named_from (suc unit) names))
+      by true rest = AllPairs-cons IsNamedBefore first (named_from (suc unit) names) before rest
+      by false rest = rest
 
   -- they are the names of those that are found by number
   named_so : (g : GraphView) (unit : ℕ) (names : List (List ℕ)) → ((i : ℕ) (x : List ℕ) → slice_get names i ≡ Some x → IsNumberOf g (unit + i) x)
       → AreNamed g (falling_from s row unit names) (named_from unit names)
   named_so g unit [] at = refl
-  named_so g unit (first ∷ names) at = by (is_bound row unit && goes s first)
+  named_so g unit (first ∷ names) at =
+      by (is_bound row unit && goes s first)
+      (named_so g (suc unit) names (λ i x is. let e : unit + suc i ≡ suc unit + i = omega arith in subst (λ k. IsNumberOf g k x) e (at (suc i) x is)))
     where
-      rest : AreNamed g (falling_from s row (suc unit) names) (named_from (suc unit) names)
-      rest = named_so g (suc unit) names (λ i x is. let e : unit + suc i ≡ suc unit + i = omega arith in subst (λ k. IsNumberOf g k x) e (at (suc i) x is))
-
       here : slice_get g.names unit ≡ Some first
       here = let e : unit + 0 ≡ unit = omega arith in subst (λ k. IsNumberOf g k first) e (at 0 first refl)
 
-      by : (b : Bool) → AreNamed g (cond b (unit ∷ falling_from s row (suc unit) names) (falling_from s row (suc unit) names))
+      by : (b : Bool) → AreNamed g (falling_from s row (suc unit) names) (named_from (suc unit) names) → AreNamed g (cond b (unit ∷ falling_from s row (suc unit) names) (falling_from s row (suc unit) names))
           (cond b (first ∷ named_from (suc unit) names) (named_from (suc unit) names))
-      by true = ap (λ o. o ∷ map (slice_get g.names) (falling_from s row (suc unit) names)) here ∙ ap (λ l. Some first ∷ l) rest
-      by false = rest
+      by true rest = ap (λ o. o ∷ map (slice_get g.names) (falling_from s row (suc unit) names)) here ∙ ap (λ l. Some first ∷ l) rest
+      by false rest = rest
 
 -- ---- those that fall with a unit of the graph
 
@@ -270,3 +267,17 @@ happened g t name event s u v before between after list (carries, serves_then) s
     let named = subst (λ l. AreNamed g l falling) (sym (adds unit number ∙ append-nil _)) called in
     let (fell, serves_on) = falls falling named serves_then in
     (happens_so t name event falling s u v before between after carries are fell, serves_on)
+
+-- the same of the unit by another name that is the same
+pub told_named : (g : GraphView) (t : ℕ) (name other : List ℕ) → name ≡ other → (s u : State) (before after : List Action)
+    → CarriesTo t name BoundStop s before u after × Serves g u → CarriesTo t other BoundStop s before u after × Serves g u
+told_named g t name other same s u before after told = subst (λ x. CarriesTo t x BoundStop s before u after × Serves g u) same told
+
+-- ---- lists of numbers
+
+pub length_none : (list : List ℕ) → length list ≡ 0 → list ≡ []
+length_none [] none = refl
+length_none (unit ∷ rest) none = absurd (omega arith)
+
+pub none_listed : {P : Type 0} (unit : ℕ) (list rest : List ℕ) → list ≡ unit ∷ rest → list ≡ [] → P
+none_listed unit list rest is none = let long = ap length (sym is ∙ none) in absurd (omega arith)

@@ -29,7 +29,7 @@ abbrev pub is_bound : List Neighbour → ℕ → Bool
 is_bound row unit = list_any (is_bound_as unit) row
 
 -- of the units with these names, numbered from this number on, those that are bound to the one of the row and are active or activating
-pub falling_from : State → List Neighbour → ℕ → List (List ℕ) → List ℕ
+abbrev pub falling_from : State → List Neighbour → ℕ → List (List ℕ) → List ℕ
 falling_from s row unit [] = []
 falling_from s row unit (name ∷ names) =
     if is_bound row unit && goes s name then unit ∷ falling_from s row (suc unit) names else falling_from s row (suc unit) names
