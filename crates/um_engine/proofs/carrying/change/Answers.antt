@@ -9,7 +9,7 @@ use Rattle.um_engine.proofs.carrying.change.Goals as goal
 
 pub returns-clause-changes : goal.returns-clause-changes
 returns-clause-changes c = λ serves known.
-    let acting = c.in_ok-acting.ensures (state_of c.args.state.now) serves known in
+    let acting = c.in_graph-acting.ensures (state_of c.args.state.now) serves known in
     let settings = ap (λ x. x.settings) acting in
     let loadable = ap (λ x. x.loadable) acting in
     let unit = rw (settings, loadable, c.is_waiting.ensures, c.get-jobs.ensures.jobs, c.pending.ensures, c.of-service.ensures, c.get.ensures.state, c.units.ensures, c.next.ensures) at c.in_ok-asked.ensures.unit in
