@@ -1,4 +1,4 @@
-use Rattle.std.proofs.Common.{◌≡◌, ◌∙◌, ◌∷◌, ◌++◌, ℕ, List, [], length, map, sym, refl, arith}
+use Rattle.std.proofs.Common.{◌≡◌, ◌∷◌, map, refl, arith}
 use Rattle.um_engine.proofs.Carried.{no_more_then}
 use Rattle.um_engine.proofs.FallenLaws.{fewer_turns}
 use Rattle.um_engine.proofs.FallingLaws.{length_none, none_listed, way_begins, way_ends, way_goes_on}

@@ -1,4 +1,4 @@
-use Rattle.std.proofs.Common.{◌≡◌, ◌∙◌, List, ℕ, Some, None, map, subst, sym, refl}
+use Rattle.std.proofs.Common.{◌∙◌, map, sym}
 use Rattle.std.proofs.lemmas.Option.{same_Some}
 use Rattle.um_engine.proofs.AlongLaws.{known_by}
 use Rattle.um_engine.proofs.FallingLaws.{told_named}

@@ -1,4 +1,4 @@
-use Rattle.std.proofs.Common.{◌≡◌, ◌∙◌, List, [], map, sym, ap, subst, arith}
+use Rattle.std.proofs.Common.{map}
 use Rattle.um_engine.proofs.FallingLaws.{happened}
 use Rattle.um_state.specs.View.{state_of, action_of}
 use Rattle.um_engine.proofs.falling.happen.Goals as goal
