@@ -144,7 +144,7 @@ module _ (g : GraphView) where
 abbrev pub left : GraphView → Taking → ℕ
 left g m = sum_by (λ n. waits (jobs_of_unit m.0.pending n).start) g.names + length m.1
 
-sum_falls : (names : List (List ℕ)) (f h : List ℕ → ℕ) → ((n : List ℕ) → f n ≤ h n) → sum_by f names ≤ sum_by h names
+pub sum_falls : (names : List (List ℕ)) (f h : List ℕ → ℕ) → ((n : List ℕ) → f n ≤ h n) → sum_by f names ≤ sum_by h names
 sum_falls [] f h less = omega arith
 sum_falls (n ∷ ns) f h less = omega (arith, sum_by-cons f n ns, sum_by-cons h n ns, less n, sum_falls ns f h less)
 

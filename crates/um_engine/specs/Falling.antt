@@ -1,7 +1,7 @@
 -- Which units fall with one that came to rest, as the code goes from one to the next by the rows of the graph.
 -- Follows the definition of what falls with a unit: it says it by numbers.
 -- What happens to a unit stands on this file, with all units that fall with it.
-use Rattle.std.specs.Prelude.{◌≡◌, ℕ, suc, ◌==◌, ◌&&◌, ◌++◌, Bool, if◌then◌else◌, List, [], ◌∷◌, Option, Some, None, map, slice_get}
+use Rattle.std.specs.Prelude.{◌≡◌, ◌≢◌, ℕ, suc, ◌==◌, ◌&&◌, ◌++◌, Bool, false, if◌then◌else◌, List, [], ◌∷◌, Option, Some, None, map, slice_get}
 use Rattle.std.specs.List.{list_any}
 use Rattle.um_model.specs.Machine.{State, comes_to_rest}
 use Rattle.um_model.specs.Service.{active_state_of, state_of_unit}
@@ -29,7 +29,7 @@ abbrev pub is_bound : List Neighbour → ℕ → Bool
 is_bound row unit = list_any (is_bound_as unit) row
 
 -- of the units with these names, numbered from this number on, those that are bound to the one of the row and are active or activating
-pub falling_from : State → List Neighbour → ℕ → List (List ℕ) → List ℕ
+abbrev pub falling_from : State → List Neighbour → ℕ → List (List ℕ) → List ℕ
 falling_from s row unit [] = []
 falling_from s row unit (name ∷ names) =
     if is_bound row unit && goes s name then unit ∷ falling_from s row (suc unit) names else falling_from s row (suc unit) names
@@ -45,3 +45,18 @@ AddsFalling g s before name list after = (unit : ℕ) → IsNumberOf g unit name
 -- these are the names of the units with these numbers
 abbrev pub AreNamed : GraphView → List ℕ → List (List ℕ) → Type 0
 AreNamed g units names = map (slice_get g.names) units ≡ map Some names
+
+-- of all units the state tells that they have come as far as before
+abbrev pub KeepsSubs : State → State → Type 0
+KeepsSubs s v = (unit : List ℕ) → sub_of v unit ≡ sub_of s unit
+
+-- the unit isn't active or activating any more, or stays where it wasn't; all others stay
+pub record StopsOne (unit : List ℕ) (s v : State) : Type 0 where
+  pub down : goes v unit ≡ false
+  pub stays : goes s unit ≡ false → sub_of v unit ≡ sub_of s unit
+  pub others : (x : List ℕ) → x ≢ unit → sub_of v x ≡ sub_of s x
+
+-- so it is of the unit of this name; where there is none nothing is changed
+abbrev pub StopsIf : Option (List ℕ) → State → List ℕ → State → List ℕ → Type 0
+StopsIf None s list v after = (v ≡ s) × (after ≡ list)
+StopsIf (Some name) s list v after = StopsOne name s v

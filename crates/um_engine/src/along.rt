@@ -2,6 +2,7 @@
 
 ghost use Rattle.std.specs.Prelude.{◌≡◌, ◌∷◌, ℕ, [], Contains, IfOk, OnOk};
 ghost use Rattle.um_engine.specs.Along as taking;
+ghost use Rattle.um_engine.specs.Falling.{KeepsSubs};
 ghost use Rattle.um_engine.specs.Over.{Serves};
 ghost use Rattle.um_graph.specs.Graph.{IsNumberOf, row_of};
 ghost use Rattle.um_model.proofs.WaitingLaws.{NoMoreWait};
@@ -143,6 +144,7 @@ pub fn take_along(
         → AreTidyJobs (state_of state.old).pending → AreTidyUnits (state_of state.old).units
         → TakesAlong (state_of state.old) failed.now (state_of state.new) × Serves graph.now (state_of state.new)) }
     ensures waits { OnOk result (NoMoreWait (state_of state.new).pending (state_of state.old).pending) }
+    ensures subs { OnOk result (KeepsSubs (state_of state.old) (state_of state.new)) }
 {
     let mut list = listed(alloc, graph, failed)?;
     'units: while let Some(unit) = list.pop() {

@@ -1,9 +1,11 @@
 ghost use Rattle.std.specs.Prelude.{◌≡◌, false, Contains, map, IfOk, OnOk};
 ghost use Rattle.um_engine.specs.Carrying.{ChangesTo, KeepsOthers};
 ghost use Rattle.um_engine.specs.Engine.{CarriesTo};
+ghost use Rattle.um_engine.specs.Falling.{StopsOne};
 ghost use Rattle.um_engine.specs.Over.{Serves};
 ghost use Rattle.um_model.proofs.WaitingLaws.{NoMoreWait};
 ghost use Rattle.um_model.specs.Machine as model;
+ghost use Rattle.um_model.specs.declared.transition.UnitEvent.TheVariants.{BoundStop};
 ghost use Rattle.um_state.specs.View.{state_of, action_of};
 
 use crate::acting::Acting;
@@ -39,6 +41,7 @@ fn change(
         → ChangesTo moment unit.now event (state_of state.old) (map action_of actions.old.items) fails (state_of state.new) (map action_of actions.new.items)) }
     ensures waits { OnOk result (NoMoreWait (state_of state.new).pending (state_of state.old).pending) }
     ensures others { OnOk result (KeepsOthers unit.now (state_of state.old) (state_of state.new)) }
+    ensures stops { OnOk result (event ≡ BoundStop → StopsOne unit.now (state_of state.old) (state_of state.new)) }
 {
     let defaults = ServiceSettings::new(alloc, UnitKind::Simple);
     let acting = Acting::in_graph(graph, unit, &defaults);
@@ -75,6 +78,7 @@ pub fn carry(
         × Serves graph.now (state_of state.new)) }
     ensures waits { OnOk result (NoMoreWait (state_of state.new).pending (state_of state.old).pending) }
     ensures others { IfOk result (λ fails. fails ≡ false → KeepsOthers unit.now (state_of state.old) (state_of state.new)) }
+    ensures stops { OnOk result (event ≡ BoundStop → StopsOne unit.now (state_of state.old) (state_of state.new)) }
 {
     let fails = change(alloc, graph, state, actions, moment, unit, event)?;
     if fails {

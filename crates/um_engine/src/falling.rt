@@ -1,11 +1,11 @@
 //! What happens to a unit, with the units that fall with it: those that are bound to one that comes to rest are told to stop at once
 //! (systemd.unit(5), "BindsTo=").
 
-ghost use Rattle.std.specs.Prelude.{◌≡◌, ◌++◌, ℕ, List, [], false, map, Contains, IfOk, OnOk};
+ghost use Rattle.std.specs.Prelude.{◌≡◌, ◌++◌, ℕ, List, [], false, map, Contains, IfOk, OnOk, slice_get};
 ghost use Rattle.um_engine.specs.Carrying.{KeepsOthers};
 ghost use Rattle.um_engine.specs.Engine.{CarriesTo, FallsTo, HappensTo};
 ghost use Rattle.um_engine.specs.Falling as falls;
-ghost use Rattle.um_engine.specs.Falling.{AddsFalling, AreNamed, falling_from, goes, sub_of};
+ghost use Rattle.um_engine.specs.Falling.{AddsFalling, AreNamed, StopsIf, StopsOne, falling_from, goes, sub_of};
 ghost use Rattle.um_engine.specs.Over.{Serves};
 ghost use Rattle.um_graph.specs.Graph.{IsNumberOf};
 ghost use Rattle.um_model.proofs.WaitingLaws.{NoMoreWait};
@@ -120,6 +120,7 @@ fn carry_on(
     ensures adds { OnOk result (AddsFalling graph.now (state_of state.new) (sub_of (state_of state.old) unit.now) unit.now list.old.items list.new.items) }
     ensures waits { OnOk result (NoMoreWait (state_of state.new).pending (state_of state.old).pending) }
     ensures others { IfOk result (λ fails. fails ≡ false → KeepsOthers unit.now (state_of state.old) (state_of state.new)) }
+    ensures stops { OnOk result (event ≡ BoundStop → StopsOne unit.now (state_of state.old) (state_of state.new)) }
 {
     let before = state.units().get(unit).sub;
     let fails = carry(alloc, graph, state, actions, moment, unit, event)?;
@@ -143,6 +144,7 @@ fn fall_next(
     ensures adds { OnOk result ((name : List ℕ) → IsNumberOf graph.now unit name
         → AddsFalling graph.now (state_of state.new) (sub_of (state_of state.old) name) name list.old.items list.new.items) }
     ensures waits { OnOk result (NoMoreWait (state_of state.new).pending (state_of state.old).pending) }
+    ensures stops { OnOk result (StopsIf (slice_get graph.now.names unit) (state_of state.old) list.old.items (state_of state.new) list.new.items) }
 {
     let Some(name) = graph.name(unit) else {
         return Ok(());

@@ -54,11 +54,11 @@ a_carrying t unit event s =
 -- ---- a bound stop
 
 -- a unit in this sub state is active or activating
-abbrev goes_at : SubState → Bool
+abbrev pub goes_at : SubState → Bool
 goes_at sub = is_going (active_state_of sub)
 
 -- a unit that was told to stop isn't active or activating
-abbrev IsDown : Change → Type 0
+abbrev pub IsDown : Change → Type 0
 IsDown c = goes_at c.unit.sub ≡ false
 
 either_down : (b : Bool) (x y : Change) → IsDown x → IsDown y → IsDown (cond b x y)
@@ -102,7 +102,7 @@ module _ (s : ServiceSettings) (c : Around) where
   stop_down u Failed goes = absurd (true≢false (sym goes))
 
   -- after a bound stop no unit is active or activating
-  bound_stop_down : (u : UnitState) → IsDown (transition s c u BoundStop)
+  pub bound_stop_down : (u : UnitState) → IsDown (transition s c u BoundStop)
   bound_stop_down u = by_test (goes_at u.sub) refl
     where
       by_test : (b : Bool) → goes_at u.sub ≡ b → IsDown (cond b (row s c u u.sub StopBegins true) (just u))
@@ -110,7 +110,7 @@ module _ (s : ServiceSettings) (c : Around) where
       by_test false goes = goes
 
   -- and one that wasn't before stays as it is
-  bound_stop_leaves : (u : UnitState) → goes_at u.sub ≡ false → transition s c u BoundStop ≡ just u
+  pub bound_stop_leaves : (u : UnitState) → goes_at u.sub ≡ false → transition s c u BoundStop ≡ just u
   bound_stop_leaves u goes = ap (λ b. cond b (row s c u u.sub StopBegins true) (just u)) goes
 
 -- ---- sub states after a change of a unit
@@ -212,7 +212,7 @@ none_fall s u unit [] are stays = refl
 none_fall s u unit (name ∷ names) are stays = absurd (true≢false (sym ((are.each name).0 (0, omega arith, refl)).rests ∙ stays))
 
 -- one that stays as it was didn't
-stays_up : (sub : SubState) → comes_to_rest sub sub ≡ false
+pub stays_up : (sub : SubState) → comes_to_rest sub sub ≡ false
 stays_up Dead = refl
 stays_up Failed = refl
 stays_up other = refl

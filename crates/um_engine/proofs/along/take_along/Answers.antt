@@ -1,8 +1,9 @@
-use Rattle.std.proofs.Common.{arith}
+use Rattle.std.proofs.Common.{arith, refl}
 use Rattle.um_graph.specs.Graph.{row_of}
 use Rattle.um_state.specs.View.{state_of}
 use Rattle.um_engine.specs.Along.{Taking}
 use Rattle.um_engine.proofs.AlongLaws.{fewer_left, waits_on}
+use Rattle.um_engine.proofs.FallenLaws.{subs_on}
 use Rattle.um_engine.proofs.TakenLaws.{begins_so, ends_so, goes_on}
 use Rattle.um_engine.proofs.along.take_along.Goals as goal
 
@@ -12,6 +13,7 @@ units-init c = record {
       let (u, number, is) = c.in_ok-list.ensures known in
       begins_so c.args.graph.now (state_of c.args.state.now) c.args.failed.now serves u c.in_ok-list.list.items number is tidy_jobs tidy_units;
   waits = λ unit. omega arith;
+  subs = λ unit. refl;
 }
 
 pub units-smaller : goal.units-smaller
@@ -30,6 +32,7 @@ units-preserved c =
           goes_on c.args.graph.now (state_of c.args.state.now) c.args.failed.now serves (state_of c.units.state) c.units.list.items c.pop.new.self.items c.in-Some.unit after
           (c.units.invariant.going serves known tidy_jobs tidy_units) c.in-Some.ensures.items c.in_ok-take_all.ensures;
       waits = waits_on c.args.graph.now row row before after c.args.state.now.pending c.in_ok-take_all.ensures c.units.invariant.waits;
+      subs = subs_on c.args.graph.now row row before after (state_of c.args.state.now) c.in_ok-take_all.ensures c.units.invariant.subs;
     }
 
 pub returns-clause-along : goal.returns-clause-along

@@ -3,6 +3,7 @@ use Rattle.um_model.proofs.WaitingLaws.{NoMoreWait}
 use Rattle.um_model.specs.Jobs.{AreTidyJobs}
 use Rattle.um_model.specs.Service.{AreTidyUnits}
 use Rattle.um_state.specs.View.{state_of}
+use Rattle.um_engine.specs.Falling.{KeepsSubs}
 use Rattle.um_engine.specs.Over.{Serves}
 use Rattle.um_engine.proofs.AlongLaws.{left}
 use Rattle.um_engine.proofs.TakenLaws.{IsGoing}
@@ -13,6 +14,7 @@ invariant-units l = record {
   going : Serves l.graph (state_of l.initial.state) → Contains l.graph.names l.failed → AreTidyJobs l.initial.state.pending → AreTidyUnits l.initial.state.units
       → IsGoing l.graph (state_of l.initial.state) l.failed (state_of l.state) l.list.items;
   waits : NoMoreWait l.state.pending l.initial.state.pending;
+  subs : KeepsSubs (state_of l.initial.state) (state_of l.state);
 }
 
 -- the starts that wait, and the units that are to be followed

@@ -1,6 +1,7 @@
 use Rattle.std.proofs.Common.{map, sym, true≢false, ◌∙◌}
 use Rattle.um_state.specs.View.{state_of, action_of}
 use Rattle.um_engine.proofs.Carried.{carried_alone, carried_along, no_more_then}
+use Rattle.um_engine.proofs.FallenLaws.{stops_then}
 use Rattle.um_engine.proofs.carrying.carry.Goals as goal
 
 pub returns-in_ok-take_along-clause-carries : goal.returns-in_ok-take_along-clause-carries
@@ -21,3 +22,7 @@ returns-else-fails-clause-carries c = λ serves known.
 
 pub returns-in_ok-take_along-clause-others : goal.returns-in_ok-take_along-clause-others
 returns-in_ok-take_along-clause-others c = λ none. absurd (true≢false (sym c.if-fails.true ∙ none))
+
+pub returns-in_ok-take_along-clause-stops : goal.returns-in_ok-take_along-clause-stops
+returns-in_ok-take_along-clause-stops c = λ is.
+    stops_then c.args.unit.now (state_of c.args.state.now) (state_of c.change.new.state) (state_of c.take_along.new.state) (c.in_ok-fails.ensures.stops is) c.in_ok-take_along.ensures.subs

@@ -2,6 +2,9 @@ use Rattle.std.proofs.Common.{◌∙◌, ap, map}
 use Rattle.std.proofs.lemmas.List.{map-append}
 use Rattle.um_state.specs.View.{state_of, action_of}
 use Rattle.um_engine.proofs.Carried.{changes_so, no_more_left, others_kept}
+use Rattle.um_engine.proofs.FallenLaws.{stopped_by, stops_one}
+use Rattle.um_model.specs.Service.{state_of_unit}
+use Rattle.um_unit.specs.ServiceView.{service_settings_of}
 use Rattle.um_engine.proofs.carrying.change.Goals as goal
 
 pub returns-clause-changes : goal.returns-clause-changes
@@ -33,3 +36,11 @@ pub returns-clause-others : goal.returns-clause-others
 returns-clause-others c =
     others_kept c.args.unit.now (state_of c.args.state.now) (state_of c.set_unit.new.self) (state_of c.set_jobs.new.self) (state_of c.set_next.new.self)
     c.unit.result c.jobs_left.result c.in_ok-asked.asked.next c.in_ok-set_unit.ensures.ok c.in_ok-set_jobs.ensures.ok c.set_next.ensures
+
+pub returns-clause-stops : goal.returns-clause-stops
+returns-clause-stops c = λ is.
+    let asked = rw (c.of-service.ensures, c.get.ensures.state, c.units.ensures) at c.in_ok-asked.ensures.unit in
+    stops_one c.args.unit.now (state_of c.args.state.now) (state_of c.set_unit.new.self) (state_of c.set_jobs.new.self) (state_of c.set_next.new.self)
+    c.unit.result c.jobs_left.result c.in_ok-asked.asked.next c.in_ok-set_unit.ensures.ok c.in_ok-set_jobs.ensures.ok c.set_next.ensures
+    (stopped_by (service_settings_of c.in_graph-acting.result.settings.now)
+    (record { moment = c.args.moment; next = c.next.result; loadable = c.in_graph-acting.result.loadable; stop_waits = c.is_waiting.result }) c.args.event (state_of_unit (state_of c.args.state.now).units c.args.unit.now) c.unit.result is (c.unit.ensures ∙ asked))

@@ -1,6 +1,6 @@
-use Rattle.std.proofs.Common.{◌∙◌, sym, true}
+use Rattle.std.proofs.Common.{◌∙◌, sym}
 use Rattle.um_unit.specs.View.{unit_of}
-use Rattle.um_engine.proofs.Acts.{template_acts, loadable_acts}
+use Rattle.um_engine.proofs.Acts.{template_acts}
 use Rattle.um_engine.proofs.acting.Acting.of_found.Goals as goal
 
 pub returns-then-is_template : goal.returns-then-is_template
