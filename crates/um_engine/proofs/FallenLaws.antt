@@ -1,12 +1,12 @@
 -- What a stop at once makes of how far the units have come, and that telling units to stop at once ends.
-use Rattle.std.proofs.Common.{◌≡◌, ◌≢◌, ◌∙◌, ◌+◌, ◌<◌, ◌≤◌, ◌&&◌, ℕ, suc, Bool, true, false, cond, List, [], ◌∷◌, ◌++◌, length, sum_by, Contains, Option, Some, None, slice_get, refl, sym, ap, subst, inl, inr, arith}
+use Rattle.std.proofs.Common.{◌≡◌, ◌∙◌, ◌+◌, ◌<◌, ◌≤◌, ◌&&◌, ℕ, suc, Bool, true, false, cond, List, [], ◌∷◌, ◌++◌, length, sum_by, Contains, Option, Some, None, slice_get, refl, sym, ap, subst, inl, inr, arith}
 use Rattle.std.proofs.lemmas.List.{length-append}
 use Rattle.std.proofs.lemmas.List.Sums.{sum_by-cons}
 use Rattle.um_model.specs.Jobs.{jobs_of_unit}
 use Rattle.um_model.specs.Machine.{State, comes_to_rest, is_waiting, with_result_dependency}
-use Rattle.um_model.specs.Service.{ByUnit, state_of_unit, with_unit}
+use Rattle.um_model.specs.Service.{state_of_unit, with_unit}
 use Rattle.um_model.specs.Settings.{ServiceSettings}
-use Rattle.um_model.specs.Transitions.{transition, just}
+use Rattle.um_model.specs.Transitions.{transition}
 use Rattle.um_model.specs.declared.jobs.UnitJobs.{UnitJobs}
 use Rattle.um_model.specs.declared.service.UnitState.{UnitState}
 use Rattle.um_model.specs.declared.transition.Around.{Around}

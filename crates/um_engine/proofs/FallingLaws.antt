@@ -1,5 +1,5 @@
 -- The units that the code finds to fall with one that came to rest are those that the definition says, by name.
-use Rattle.std.proofs.Common.{◌≡◌, ◌∙◌, ◌+◌, ◌==◌, ◌&&◌, ℕ, zero, suc, Bool, true, false, true≢false, cond, List, [], ◌∷◌, ◌++◌, length, map, Contains, Option, Some, None, slice_get, unwrap_or, refl, sym, ap, subst, inl, inr, arith, append_assoc, append-nil}
+use Rattle.std.proofs.Common.{◌≡◌, ◌∙◌, ◌+◌, ◌==◌, ◌&&◌, ℕ, zero, suc, Bool, true, false, true≢false, cond, List, [], ◌∷◌, ◌++◌, length, map, Contains, Some, slice_get, unwrap_or, refl, sym, ap, subst, inl, inr, arith, append_assoc, append-nil}
 use Rattle.std.proofs.lemmas.Bool.{and_parts}
 use Rattle.std.proofs.lemmas.Bool.Decides.{Decides-eqb}
 use Rattle.std.proofs.lemmas.List.{map-append}
@@ -7,7 +7,7 @@ use Rattle.std.proofs.lemmas.List.Kept.{AllPairs-cons}
 use Rattle.std.proofs.lemmas.Option.{same_Some}
 use Rattle.std.specs.Prelude.{All, AllPairs}
 use Rattle.um_model.specs.Least.{IsNamedBefore}
-use Rattle.um_model.specs.Machine.{State, AreFalling, FallsWith, all_told, told_next, comes_to_rest}
+use Rattle.um_model.specs.Machine.{State, AreFalling, all_told, told_next, comes_to_rest}
 use Rattle.um_model.specs.Dependencies.{Depends}
 use Rattle.um_model.specs.Machine as model
 use Rattle.um_model.specs.Service.{Action, dead_unit}
@@ -19,13 +19,13 @@ use Rattle.um_model.proofs.FallTotal.{goes_at}
 use Rattle.um_model.proofs.LeastLaws.{Among}
 use Rattle.um_model.proofs.OnceLaws.{among_at}
 use Rattle.um_model.proofs.SceneLaws.{first_before, others_sorted}
-use Rattle.um_graph.specs.Graph.{GraphView, IsNumberOf, Stands, row_of}
+use Rattle.um_graph.specs.Graph.{GraphView, IsNumberOf, row_of}
 use Rattle.um_graph.specs.Kinds.{has, inverse_bit_of}
 use Rattle.um_graph.specs.declared.row.Neighbour.{Neighbour}
 use Rattle.um_engine.specs.Engine.{CarriesTo, FallsTo, HappensTo}
 use Rattle.um_engine.specs.Falling.{AddsFalling, AreNamed, falling, falling_from, goes, is_bound, is_bound_as, sub_of}
 use Rattle.um_engine.specs.Over.{Serves}
-use Rattle.um_engine.proofs.AlongLaws.{and_both, any_in, in_any, known_by, number_by}
+use Rattle.um_engine.proofs.AlongLaws.{and_both, any_in, in_any, number_by}
 use Rattle.um_engine.proofs.TakenLaws.{needed_by, needs_by}
 
 -- ---- the names of those that are found

@@ -50,7 +50,7 @@ AreNamed g units names = map (slice_get g.names) units ≡ map Some names
 abbrev pub KeepsSubs : State → State → Type 0
 KeepsSubs s v = (unit : List ℕ) → sub_of v unit ≡ sub_of s unit
 
--- the unit isn't active or activating any more, or stays where it wasn't; all others stay
+-- the unit isn't active or activating then, and has come as far as before where it wasn't before; so have all others
 pub record StopsOne (unit : List ℕ) (s v : State) : Type 0 where
   pub down : goes v unit ≡ false
   pub stays : goes s unit ≡ false → sub_of v unit ≡ sub_of s unit
