@@ -7,7 +7,7 @@ ghost use Rattle.um_engine.specs.Engine.{CarriesTo, FallsTo, HappensTo};
 ghost use Rattle.um_engine.specs.Falling as falls;
 ghost use Rattle.um_engine.specs.Falling.{AddsFalling, AreNamed, StopsIf, StopsOne, falling_from, goes, sub_of};
 ghost use Rattle.um_engine.specs.Over.{Serves};
-ghost use Rattle.um_graph.specs.Graph.{IsNumberOf};
+ghost use Rattle.um_graph.specs.Graph.{IsGraph, IsNumberOf};
 ghost use Rattle.um_model.proofs.WaitingLaws.{NoMoreWait};
 ghost use Rattle.um_model.specs.Machine as model;
 ghost use Rattle.um_model.specs.declared.transition.UnitEvent.TheVariants.{BoundStop};
@@ -71,7 +71,8 @@ fn push_bound(
     list: &mut VecDeque<usize>,
     row: &[Neighbour],
 ) -> Result<(), AllocError>
-    ensures { OnOk result (list.new.items ≡ falling_from (state_of state.now) row.now 0 graph.now.names ++ list.old.items) }
+    ensures graph { IsGraph graph.now }
+    ensures list { OnOk result (list.new.items ≡ falling_from (state_of state.now) row.now 0 graph.now.names ++ list.old.items) }
 {
     let mut unit = graph.len();
     while unit > 0 {
