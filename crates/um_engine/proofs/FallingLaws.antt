@@ -252,7 +252,7 @@ pub way_ends : (g : GraphView) (t : ℕ) (names : List (List ℕ)) (s u : State)
     → IsOnTheWay g t names s u before between list → list ≡ [] → FallsTo t names s before u between × Serves g u
 way_ends g t names s u before between list way is = (
   way.whole u between
-  (subst (λ l. FallsTo t l u between u between) (sym (none_named g way.names_now (subst (λ l. AreNamed g l way.names_now) is way.named))) (all_fell t u between)),
+      (subst (λ l. FallsTo t l u between u between) (sym (none_named g way.names_now (subst (λ l. AreNamed g l way.names_now) is way.named))) (all_fell t u between)),
   way.serves,
 )
 

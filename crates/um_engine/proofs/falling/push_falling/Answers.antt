@@ -19,8 +19,8 @@ adds_row : (g : GraphView) (s : State) (before : SubState) (name : List ℕ) (nu
     → row ≡ row_of g.rows number → comes_to_rest before (sub_of s name) ≡ true → after ≡ falling_from s row 0 g.names ++ list → AddsFalling g s before name list after
 adds_row g s before name number row list after graph is row_is rests e unit other =
     e ∙ ap (λ l. l ++ list) (
-      ap (λ r. falling_from s r 0 g.names) (row_is ∙ ap (row_of g.rows) same)
-      ∙ sym (ap (λ b. cond b (falling_from s (row_of g.rows unit) 0 g.names) []) rests))
+    ap (λ r. falling_from s r 0 g.names) (row_is ∙ ap (row_of g.rows) same)
+    ∙ sym (ap (λ b. cond b (falling_from s (row_of g.rows unit) 0 g.names) []) rests))
   where
     same : number ≡ unit
     same =
@@ -31,7 +31,7 @@ pub returns : goal.returns
 returns c =
     then_ok c.push_bound.result
     (adds_row c.args.graph.now (state_of c.args.state.now) c.args.before c.args.unit.now c.in-Some.number c.neighbours.result.now c.args.list.now.items c.push_bound.new.list.items
-      c.push_bound.ensures.graph c.in-Some.ensures c.neighbours.ensures
-      (ap (λ us. comes_to_rest c.args.before (state_of_unit us c.args.unit.now).sub) (sym c.units.ensures)
-      ∙ ap (λ (u : UnitState). comes_to_rest c.args.before u.sub) (sym c.get.ensures.state) ∙ (sym c.comes_to_rest.ensures ∙ c.if-not-comes_to_rest.false)))
+    c.push_bound.ensures.graph c.in-Some.ensures c.neighbours.ensures
+    (ap (λ us. comes_to_rest c.args.before (state_of_unit us c.args.unit.now).sub) (sym c.units.ensures)
+    ∙ ap (λ (u : UnitState). comes_to_rest c.args.before u.sub) (sym c.get.ensures.state) ∙ (sym c.comes_to_rest.ensures ∙ c.if-not-comes_to_rest.false)))
     c.push_bound.ensures.list
