@@ -32,7 +32,7 @@ tree_passes : (tree : Tree) → IsTree tree → is_tree tree ≡ true
 tree_passes tree is =
     both_true _ _ (from_each (λ e. is_fit_entry e.0 e.1) tree (λ path entry here. ap (is_fit_at path) (sym here) ∙ is.fit path)) (le-leb (map.len tree) entry_limit is.few)
 
-passes_tree : (tree : Tree) → is_tree tree ≡ true → IsTree tree
+pub passes_tree : (tree : Tree) → is_tree tree ≡ true → IsTree tree
 passes_tree tree e = record { fit = λ path. at_path path (map.get tree path) refl; few = leb-true (map.len tree) entry_limit (right_true _ _ e) } where
   at_path : (path : List ℕ) (o : Option Entry) → map.get tree path ≡ o → is_fit_at path (map.get tree path) ≡ true
   at_path path None here = ap (is_fit_at path) here
