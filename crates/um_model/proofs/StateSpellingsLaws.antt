@@ -48,7 +48,7 @@ known : (b : Bool) → not b ≡ true → b ≡ false
 known true h = sym h
 known false h = refl
 
-known_is_tidy : (units : ByUnit UnitState) → are_known units ≡ true → AreTidyUnits units
+pub known_is_tidy : (units : ByUnit UnitState) → are_known units ≡ true → AreTidyUnits units
 known_is_tidy units e unit here = not_dead dead_unit (known _ (at_each (λ e. not (holds_nothing e.1)) units e unit dead_unit here)) refl
 
 tidy_is_known : (units : ByUnit UnitState) → AreTidyUnits units → are_known units ≡ true
