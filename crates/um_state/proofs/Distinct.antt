@@ -1,12 +1,11 @@
 -- Whether numbers are distinct, by a walk that keeps those that it met.
-use Rattle.std.proofs.Common.{◌≡◌, ℕ, ◌≤◌, ◌-◌, length, take, drop, slice_index, arith, ◌==◌, Bool, true, false, not, cond, ◌&&◌, List, [], ◌∷◌, Ordering, Equal, is_eq, refl, sym, ap, subst, ◌∙◌}
+use Rattle.std.proofs.Common.{◌≡◌, ℕ, ◌==◌, Bool, true, false, not, cond, ◌&&◌, List, [], ◌∷◌, Ordering, Equal, is_eq, refl, sym, ap, subst, ◌∙◌}
 use Rattle.std.specs.BTreeSet.{BTreeSet, contains}
 use Rattle.std.specs.BTreeMap.{is_at}
 use Rattle.std.specs.Cmp.{nat_cmp_is}
 use Rattle.std.specs.FinMap.{nat_cmp-IsAntisymmetric}
 use Rattle.std.specs.List.{list_all, list_any}
 use Rattle.std.specs.Ordering.{nat_cmp}
-use Rattle.std.proofs.lemmas.List.{take_all}
 use Rattle.std.proofs.lemmas.Bool.{eqb-true, eqb-false}
 use Rattle.um_model.specs.StateSpellings.{are_distinct}
 
@@ -69,13 +68,6 @@ module _ (held held' : ℕ → Bool) (n : ℕ) (updates : (m : ℕ) → held' m 
       ap (λ b. b && are_distinct ns) (both ns)
       ∙ (grouped (list_all (λ m. not (m == n)) ns) (list_all (λ m. not (held m)) ns) (are_distinct ns)
       ∙ sym (ap (λ b. (not b && list_all (λ m. not (held m)) ns) && are_distinct (n ∷ ns)) new))
-
--- what a pattern leaves behind the first one
-pub first_and_rest : (ns : List ℕ) → 1 ≤ length ns → ns ≡ slice_index ns 0 ∷ take (length ns - 1) (drop 1 ns)
-first_and_rest [] h = absurd (omega (arith, h))
-first_and_rest (n ∷ ns) h =
-    let low : length ns ≤ length (n ∷ ns) - 1 = omega arith in
-    ap (λ l. n ∷ l) (sym (take_all (length (n ∷ ns) - 1) ns low))
 
 pub not_true : (b : Bool) → not b ≡ true → b ≡ false
 not_true true e = sym e

@@ -2,7 +2,6 @@
 use Rattle.std.proofs.Common.{◌≡◌, ℕ, zero, suc, ◌-◌, nat_lt, cond, Bool, true, false, List, [], ◌∷◌, ◌++◌, length, map as each, Option, Some, None, refl, sym, ap, ◌∙◌}
 use Rattle.std.proofs.Common.{◌<◌, ◌≤◌, ◌+◌, drop, take, slice_index, arith}
 use Rattle.std.specs.Prelude.{⊤}
-use Rattle.std.proofs.lemmas.List.{take_all}
 use Rattle.std.proofs.lemmas.Bool.{ltb-true, ltb-false}
 use Rattle.um_model.specs.Bytes.{Reading, ◌>>=◌, arm_in, as_at, pair_at, none_at, number_at, option_at, text_at}
 use Rattle.um_model.specs.InputSpellings.{comes_at, for_unit_at, input_arms, input_at, install_at, mode_at, nothing_at, texts_at}
@@ -13,6 +12,7 @@ use Rattle.um_model.specs.declared.commands.UnitVerb.{UnitVerb}
 use Rattle.um_model.specs.declared.commands.UnitVerb.TheVariants as verb
 use Rattle.um_model.specs.declared.install.InstallVerb.{InstallVerb}
 use Rattle.um_model.specs.declared.install.InstallVerb.TheVariants as install
+use Rattle.um_state.proofs.Fronts.{two_first}
 use Rattle.um_state.specs.Arms.{command_arms, event_at, for_unit, happening_arms, input_of_fields, installs, timed_at}
 
 -- two readings are one
@@ -160,19 +160,6 @@ timed_same one other h bytes = by (moment_at bytes) where
   by : (o : Option (ℕ × List ℕ)) → told input_of_fields (behind one o) ≡ told input_of_fields (behind other o)
   by None = refl
   by (Some x) = ap (λ r. told input_of_fields (beside x.0 r)) (h x.1)
-
-two_first : (bytes : List ℕ) → 2 ≤ length bytes → bytes ≡ slice_index bytes 0 ∷ slice_index bytes 1 ∷ drop 2 bytes
-two_first [] h = absurd (omega (arith, h))
-two_first (a ∷ []) h = absurd (omega (arith, h))
-two_first (a ∷ b ∷ rest) h = refl
-
--- what a pattern leaves behind two bytes
-pub behind_two : (bytes : List ℕ) → 2 ≤ length bytes → take (length bytes - 2) (drop 2 bytes) ≡ drop 2 bytes
-behind_two [] h = absurd (omega (arith, h))
-behind_two (a ∷ []) h = absurd (omega (arith, h))
-behind_two (a ∷ b ∷ rest) h =
-    let low : length rest ≤ length (a ∷ b ∷ rest) - 2 = omega arith in
-    take_all (length (a ∷ b ∷ rest) - 2) rest low
 
 -- behind a 1 and a tag, an input is a moment, and the fields by the tag
 pub input_here : (bytes : List ℕ) → 2 ≤ length bytes → slice_index bytes 0 ≡ 1 → input_at bytes ≡ timed_at (slice_index bytes 1) (drop 2 bytes)

@@ -171,11 +171,7 @@ fn install_in(
 }
 
 /// The command with this tag whose fields stand in front of the bytes.
-fn command_in(
-    alloc: Global,
-    tag: u8,
-    bytes: &[u8],
-) -> Result<Option<(Command, usize)>, AllocError>
+fn command_in(alloc: Global, tag: u8, bytes: &[u8]) -> Result<Option<(Command, usize)>, AllocError>
     ensures read { IfOk result (λ found. arm_in command_arms tag bytes.now ≡ option_map (λ x. (command_of x.0, drop x.1 bytes.now)) found) }
     ensures within { IfOk result (λ found. IfSome found (λ x. x.1 ≤ length bytes.now)) }
 {

@@ -1,7 +1,8 @@
 use Rattle.std.proofs.Common.{sym, ap, ◌∙◌}
 use Rattle.std.specs.BTreeSet.{contains}
 use Rattle.std.specs.Ordering.{nat_cmp}
-use Rattle.um_state.proofs.Distinct.{are_new, first_and_rest, none_held, not_true, one_kept}
+use Rattle.um_state.proofs.Distinct.{are_new, none_held, not_true, one_kept}
+use Rattle.um_state.proofs.Fronts.{first_and_rest}
 use Rattle.um_state.proofs.unit_bytes.are_distinct.Goals as goal
 
 pub loop-rest-init : goal.loop-rest-init
