@@ -1,5 +1,5 @@
 -- What a pattern takes off the front of a list, and what it leaves.
-use Rattle.std.proofs.Common.{◌≡◌, ℕ, ◌≤◌, ◌+◌, ◌-◌, List, [], ◌∷◌, length, take, drop, slice_index, arith, refl, sym, ap, ◌∙◌}
+use Rattle.std.proofs.Common.{◌≡◌, ℕ, ◌≤◌, ◌-◌, List, [], ◌∷◌, length, take, drop, slice_index, arith, refl, sym, ap}
 use Rattle.std.proofs.lemmas.List.{take_all}
 
 -- what a pattern leaves behind the first one

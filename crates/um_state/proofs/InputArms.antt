@@ -1,6 +1,6 @@
 -- An input is read by the tag of its fields, behind its moment.
 use Rattle.std.proofs.Common.{◌≡◌, ℕ, zero, suc, ◌-◌, nat_lt, cond, Bool, true, false, List, [], ◌∷◌, ◌++◌, length, map as each, Option, Some, None, refl, sym, ap, ◌∙◌}
-use Rattle.std.proofs.Common.{◌<◌, ◌≤◌, ◌+◌, drop, take, slice_index, arith}
+use Rattle.std.proofs.Common.{◌<◌, ◌≤◌, ◌+◌, drop, slice_index, arith}
 use Rattle.std.specs.Prelude.{⊤}
 use Rattle.std.proofs.lemmas.Bool.{ltb-true, ltb-false}
 use Rattle.um_model.specs.Bytes.{Reading, ◌>>=◌, arm_in, as_at, pair_at, none_at, number_at, option_at, text_at}

@@ -1,5 +1,5 @@
 -- The map of the jobs of a list, made from the end of the list.
-use Rattle.std.proofs.Common.{◌≡◌, ℕ, Bool, true, ◌||◌, List, [], ◌∷◌, ◌++◌, is_some, refl, ap, ◌∙◌}
+use Rattle.std.proofs.Common.{◌≡◌, List, [], ◌∷◌, ◌++◌, refl, ap}
 use Rattle.std.specs.FinMap as map
 use Rattle.um_model.specs.Service.{ByUnit}
 use Rattle.um_model.specs.Jobs.{JobShown, jobs_of_unit, with_jobs}

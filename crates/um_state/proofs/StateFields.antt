@@ -1,5 +1,5 @@
 -- The fields of a state, put and read one behind the other.
-use Rattle.std.proofs.Common.{◌≡◌, ℕ, ◌≤◌, ◌+◌, ◌-◌, true, List, [], ◌∷◌, ◌++◌, length, take, drop, slice_index, arith, append_assoc, Some, refl, sym, ap, ◌∙◌}
+use Rattle.std.proofs.Common.{◌≡◌, ℕ, ◌≤◌, ◌+◌, ◌-◌, true, List, [], ◌∷◌, ◌++◌, length, take, drop, slice_index, arith, append_assoc, Some, refl, ap, ◌∙◌}
 use Rattle.std.proofs.lemmas.List.{drop-drop}
 use Rattle.um_model.specs.Bytes.{Reading, as_at, only_at, pair_at}
 use Rattle.um_model.specs.Spellings.{moment_at, next_at}

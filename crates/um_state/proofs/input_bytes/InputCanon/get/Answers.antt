@@ -3,7 +3,6 @@ use Rattle.std.proofs.lemmas.List.{drop-drop}
 use Rattle.um_model.proofs.BytesLaws.{at_some, at_none}
 use Rattle.um_state.proofs.Fronts.{behind_two}
 use Rattle.um_state.proofs.InputArms.{input_here}
-use Rattle.um_state.specs.Arms.{timed_at}
 use Rattle.um_state.specs.View.{input_of}
 use Rattle.um_state.proofs.input_bytes.InputCanon.get.Goals as goal
 

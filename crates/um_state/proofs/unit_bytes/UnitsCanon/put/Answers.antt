@@ -1,4 +1,4 @@
-use Rattle.std.proofs.Common.{◌++◌, ◌≡◌, ap, subst, ◌∙◌}
+use Rattle.std.proofs.Common.{◌++◌, ap, subst, ◌∙◌}
 use Rattle.um_model.specs.Bytes.{FitMap}
 use Rattle.um_model.specs.Names.{is_unit_name}
 use Rattle.um_model.specs.Service.{AreTidyUnits}
