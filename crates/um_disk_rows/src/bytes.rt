@@ -1,48 +1,13 @@
 //! Canonical bytes: how values are spelled, and what is no spelling.
 use crate::answers::same;
+use crate::spelled::{is_not_read, is_read, is_spelled};
 use std::collections::BTreeMap;
 use std::process::Abort;
 use um_model::{
     Counted, Deadline, End, JobKind, JobMode, JobState, Moment, NextNumber, ProcessNumber,
     SubState, UnitResult, UnitState,
 };
-use um_wire::{Canon, get_tag, put_tag, read_whole, spell};
-
-/// Asserts that the value is spelled by these bytes.
-fn has_spelling<T: Canon>(rt: &(impl AllocGlobal + Abort), value: &T, bytes: &[u8]) {
-    let spelled = spell(rt.alloc(), value).expect(rt, "no memory");
-    same(rt, spelled.as_slice(), bytes);
-}
-
-/// The bytes with others behind them.
-fn followed(rt: &(impl AllocGlobal + Abort), bytes: &[u8]) -> Vec<u8> {
-    let mut longer = Vec::from_slice(rt.alloc(), bytes).expect(rt, "no memory");
-    longer
-        .extend_from_slice(&[7, 0, 255])
-        .expect(rt, "no memory");
-    longer
-}
-
-/// Asserts that a value is read from the bytes with others behind them, and is spelled by the bytes.
-fn is_read<T: Canon + Drop>(rt: &(impl AllocGlobal + Abort), bytes: &[u8]) {
-    let longer = followed(rt, bytes);
-    let found = T::get(rt.alloc(), longer.as_slice()).expect(rt, "no memory");
-    let (read, count) = found.expect(rt, "what is spelled isn't read");
-    same(rt, count, bytes.len());
-    has_spelling(rt, &read, bytes);
-}
-
-/// Asserts that the value is spelled by these bytes, and is read from them with others behind them.
-fn is_spelled<T: Canon + Drop>(rt: &(impl AllocGlobal + Abort), value: &T, bytes: &[u8]) {
-    has_spelling(rt, value, bytes);
-    is_read::<T>(rt, bytes);
-}
-
-/// Asserts that no front of the bytes spells a value.
-fn is_not_read<T: Canon + Drop>(rt: &(impl AllocGlobal + Abort), bytes: &[u8]) {
-    let read = T::get(rt.alloc(), bytes).expect(rt, "no memory");
-    assert!(rt; read.is_none(), "{bytes:?} are read");
-}
+use um_wire::{Canon, get_tag, put_tag, read_whole};
 
 fn text(rt: &(impl AllocGlobal + Abort), text: &str) -> String {
     String::from_str(rt.alloc(), text).expect(rt, "no memory")

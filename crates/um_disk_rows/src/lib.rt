@@ -8,6 +8,8 @@ mod bytes;
 #[cfg(test)]
 mod filedisk;
 #[cfg(test)]
+mod input;
+#[cfg(test)]
 mod limit;
 #[cfg(test)]
 mod log;
@@ -20,5 +22,9 @@ mod refusal;
 mod sector;
 #[cfg(test)]
 mod slot;
+#[cfg(test)]
+mod spelled;
+#[cfg(test)]
+mod state;
 #[cfg(test)]
 mod timer;

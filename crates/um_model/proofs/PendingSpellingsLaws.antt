@@ -43,7 +43,7 @@ with_more j es = put cmp j.unit (with_job j.kind j.state (unwrap_or (find cmp j.
 no_entries : map.entries (map.empty {X = UnitJobs} {R = cmp}) ≡ []
 no_entries = nil_from_length _ (sym (map.len-entries _) ∙ map.len-empty cmp UnitJobs)
 
-has_with_job : (kind : JobKind) (state : JobState) (j : UnitJobs) → has_job (with_job kind state j) ≡ true
+pub has_with_job : (kind : JobKind) (state : JobState) (j : UnitJobs) → has_job (with_job kind state j) ≡ true
 has_with_job Stop state j = refl
 has_with_job Start state j = by (is_some j.stop)
   where

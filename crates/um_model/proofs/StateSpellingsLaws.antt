@@ -32,7 +32,7 @@ tree_passes : (tree : Tree) → IsTree tree → is_tree tree ≡ true
 tree_passes tree is =
     both_true _ _ (from_each (λ e. is_fit_entry e.0 e.1) tree (λ path entry here. ap (is_fit_at path) (sym here) ∙ is.fit path)) (le-leb (map.len tree) entry_limit is.few)
 
-passes_tree : (tree : Tree) → is_tree tree ≡ true → IsTree tree
+pub passes_tree : (tree : Tree) → is_tree tree ≡ true → IsTree tree
 passes_tree tree e = record { fit = λ path. at_path path (map.get tree path) refl; few = leb-true (map.len tree) entry_limit (right_true _ _ e) } where
   at_path : (path : List ℕ) (o : Option Entry) → map.get tree path ≡ o → is_fit_at path (map.get tree path) ≡ true
   at_path path None here = ap (is_fit_at path) here
@@ -48,7 +48,7 @@ known : (b : Bool) → not b ≡ true → b ≡ false
 known true h = sym h
 known false h = refl
 
-known_is_tidy : (units : ByUnit UnitState) → are_known units ≡ true → AreTidyUnits units
+pub known_is_tidy : (units : ByUnit UnitState) → are_known units ≡ true → AreTidyUnits units
 known_is_tidy units e unit here = not_dead dead_unit (known _ (at_each (λ e. not (holds_nothing e.1)) units e unit dead_unit here)) refl
 
 tidy_is_known : (units : ByUnit UnitState) → AreTidyUnits units → are_known units ≡ true

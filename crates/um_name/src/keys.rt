@@ -1,10 +1,13 @@
-//! A unit name is a key of maps that have canonical bytes: it stands for its text.
-ghost use Rattle.std.specs.Prelude.{refl};
+//! A unit name has the canonical bytes of its text, and is a key of maps that have canonical bytes.
+ghost use Rattle.std.specs.Prelude.{ℕ, List, refl};
+ghost use Rattle.um_model.specs.Bytes.{text_spelling};
 ghost use Rattle.um_model.specs.Names.{is_unit_name as is_name};
+ghost use Rattle.um_model.specs.Spellings.{FitUnitName, unit_name_at};
+ghost use Rattle.um_model.proofs.SpellingsLaws.{canonical_unit_name};
 
 use crate::UnitName;
 use std::alloc::{AllocError, Global};
-use um_wire::{Key, Refusal};
+use um_wire::{Canon, Key, Refusal, put_text, text_in_front};
 
 impl Key for UnitName {
     ghost bytes = { λ name. name };
@@ -24,4 +27,32 @@ impl Key for UnitName {
     }
 
     ghost order = { λ a b. refl };
+}
+
+impl Canon for UnitName {
+    ghost Value = { List ℕ };
+
+    ghost value = { λ name. name };
+
+    ghost fits = { FitUnitName };
+
+    ghost spelling = { text_spelling };
+
+    ghost reading = { unit_name_at };
+
+    fn put(&self, out: &mut Vec<u8>) -> Result<(), AllocError> {
+        put_text(self.as_str(), out)
+    }
+
+    fn get(alloc: Global, bytes: &[u8]) -> Result<Option<(UnitName, usize)>, AllocError> {
+        let Some((text, n)) = text_in_front(bytes) else {
+            return Ok(None);
+        };
+        match UnitName::named(alloc, text)? {
+            Some(name) => Ok(Some((name, n))),
+            None => Ok(None),
+        }
+    }
+
+    ghost canonical = { canonical_unit_name };
 }

@@ -1,8 +1,12 @@
 ghost use Rattle.std.specs.Prelude.{◌≡◌, ◌≤◌, ◌<◌, [], ℕ, List, length, string_bytes, IfOk, MatchOption};
+ghost use Rattle.um_model.specs.Bytes.{text_spelling};
 ghost use Rattle.um_model.specs.Machine.{boot_limit};
+ghost use Rattle.um_model.specs.StateSpellings.{FitBoot, boot_at};
+ghost use Rattle.um_model.proofs.StateSpellingsLaws.{canonical_boot};
 
 use std::alloc::{AllocError, Global};
 use std::marker::Model;
+use um_wire::{Canon, put_text, text_in_front};
 
 /// A boot's id has at most so many bytes.
 const LIMIT: usize = 64;
@@ -57,4 +61,33 @@ impl BootId {
             text: self.text.clone()?,
         })
     }
+}
+
+impl Canon for BootId {
+    ghost Value = { List ℕ };
+
+    ghost value = { λ id. id };
+
+    ghost fits = { FitBoot };
+
+    ghost spelling = { text_spelling };
+
+    ghost reading = { boot_at };
+
+    fn put(&self, out: &mut Vec<u8>) -> Result<(), AllocError> {
+        put_text(self.as_str(), out)
+    }
+
+    fn get(alloc: Global, bytes: &[u8]) -> Result<Option<(BootId, usize)>, AllocError> {
+        let Some((text, n)) = text_in_front(bytes) else {
+            return Ok(None);
+        };
+        if text.len() > LIMIT {
+            return Ok(None);
+        }
+        let text = String::from_str(alloc, text)?;
+        Ok(Some((BootId { text }, n)))
+    }
+
+    ghost canonical = { canonical_boot };
 }

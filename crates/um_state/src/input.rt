@@ -68,8 +68,8 @@ pub enum Event {
 /// An event with its moment.
 #[derive(Debug, Drop)]
 pub struct Input {
-    moment: Moment,
-    event: Event,
+    pub(crate) moment: Moment,
+    pub(crate) event: Event,
 }
 
 impl Input {

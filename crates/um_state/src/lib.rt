@@ -3,9 +3,13 @@
 
 mod boot;
 mod input;
+mod input_bytes;
+mod job_bytes;
 mod laws;
 mod reply;
 mod state;
+mod state_bytes;
+mod unit_bytes;
 mod units;
 
 pub use boot::BootId;

@@ -17,13 +17,13 @@ use um_wire::Refusal;
 /// The state of the manager.
 #[derive(Drop)]
 pub struct State {
-    tree: Tree,
-    loaded: Tree,
-    boot: BootId,
-    clock: Moment,
-    next: NextNumber,
-    units: Units,
-    pending: Pending,
+    pub(crate) tree: Tree,
+    pub(crate) loaded: Tree,
+    pub(crate) boot: BootId,
+    pub(crate) clock: Moment,
+    pub(crate) next: NextNumber,
+    pub(crate) units: Units,
+    pub(crate) pending: Pending,
 }
 
 impl State {

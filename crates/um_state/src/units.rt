@@ -34,8 +34,8 @@ fn push_keys<V>(
 /// What the state holds of units, by name: those that differ from a dead unit of which nothing is known.
 #[derive(Drop)]
 pub struct Units {
-    alloc: Global,
-    entries: BTreeMap<UnitName, UnitState>,
+    pub(crate) alloc: Global,
+    pub(crate) entries: BTreeMap<UnitName, UnitState>,
 }
 
 impl Model for Units {
@@ -178,7 +178,7 @@ fn push_jobs(shown: &mut Vec<JobShown>, unit: &UnitName, jobs: UnitJobs) -> Resu
 #[derive(Drop)]
 pub struct Pending {
     alloc: Global,
-    entries: BTreeMap<UnitName, UnitJobs>,
+    pub(crate) entries: BTreeMap<UnitName, UnitJobs>,
 }
 
 impl Model for Pending {

@@ -2,6 +2,7 @@
 //! definition says, and which stays as it was where a call is refused.
 #![tactic(auto)]
 
+mod bytes;
 mod cause;
 mod entries;
 mod entry;

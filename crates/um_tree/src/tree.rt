@@ -23,10 +23,10 @@ use um_model::Layer;
 use um_wire::{Limit, Refusal};
 
 /// The text of a file has at most so many bytes.
-const TEXT_LIMIT: usize = 65_536;
+pub(crate) const TEXT_LIMIT: usize = 65_536;
 
 /// A tree has at most so many entries.
-const ENTRY_LIMIT: usize = 4_096;
+pub(crate) const ENTRY_LIMIT: usize = 4_096;
 
 /// An entry weighs so many bytes beside its path and its text or target.
 const ENTRY_WEIGHT: u64 = 32;
@@ -34,8 +34,8 @@ const ENTRY_WEIGHT: u64 = 32;
 /// A finite map from served paths to files and links (systemd.unit(5), "Unit File Load Path").
 #[derive(Drop)]
 pub struct Tree {
-    alloc: Global,
-    entries: BTreeMap<String, Stored>,
+    pub(crate) alloc: Global,
+    pub(crate) entries: BTreeMap<String, Stored>,
 }
 
 impl Model for Tree {

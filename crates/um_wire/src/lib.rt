@@ -23,5 +23,6 @@ pub use laws::{
 };
 pub use maps::Key;
 pub use refusal::{Refusal, Texts};
+pub use texts::{put_text, text_in_front};
 pub use um_model::Limit;
 pub use whole::{read_whole, spell};

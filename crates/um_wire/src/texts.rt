@@ -1,11 +1,12 @@
 //! Texts: how many bytes, and those, in UTF-8.
-ghost use Rattle.std.specs.Prelude.{◌≡◌, ◌≤◌, ◌++◌, ℕ, List, length, IfSome, OnOk, OnErr};
+ghost use Rattle.std.specs.Prelude.{◌≡◌, ◌≤◌, ◌++◌, ℕ, List, length, drop, IfSome, OnOk, OnErr};
 ghost use Rattle.std.specs.Option.{option_map};
 ghost use Rattle.std.specs.String.{string_bytes};
 ghost use Rattle.um_model.specs.Bytes.{FitText, IsInFront, front_text as front_text_of, text_spelling, text_at};
 ghost use Rattle.um_model.proofs.BytesLaws.{canonical_text};
 
 use crate::canon::Canon;
+use byteorder::{BigEndian, ByteOrder};
 use std::alloc::{AllocError, Global};
 
 /// So many bytes, where they are there and a text.
@@ -23,8 +24,23 @@ fn front_text(bytes: &[u8], len: usize) -> Option<&str>
     }
 }
 
-/// Puts the bytes of a text, as those of a `String`.
-pub(crate) fn put_text(text: &str, out: &mut Vec<u8>) -> Result<(), AllocError>
+/// The text in front of the bytes and how many bytes it has with its length, or None where none stands there. It takes no
+/// memory.
+pub fn text_in_front(bytes: &[u8]) -> Option<(&str, usize)>
+    ensures read { text_at bytes.now ≡ option_map (λ x. (x.0.now, drop x.1 bytes.now)) result }
+    ensures within { IfSome result (λ x. x.1 ≤ length bytes.now) }
+{
+    if bytes.len() < 4 {
+        return None;
+    }
+    let len = BigEndian::read_u32(bytes) as usize;
+    let (_, rest) = bytes.split_at(4);
+    let text = front_text(rest, len)?;
+    Some((text, 4 + len))
+}
+
+/// Puts the bytes of a text, as those of a `String`. It answers want of memory also for a text of 2^32 bytes or more.
+pub fn put_text(text: &str, out: &mut Vec<u8>) -> Result<(), AllocError>
     ensures put { OnOk result (out.new.items ≡ out.old.items ++ text_spelling text.now) }
     ensures fits { OnOk result (FitText text.now) }
     ensures front { OnErr result (IsInFront out.old.items out.new.items) }
@@ -53,12 +69,8 @@ impl Canon for String {
     }
 
     fn get(alloc: Global, bytes: &[u8]) -> Result<Option<(String, usize)>, AllocError> {
-        let Some((len, n)) = u32::get(alloc, bytes)? else {
-            return Ok(None);
-        };
-        let (_, rest) = bytes.split_at(n);
-        match front_text(rest, len as usize) {
-            Some(text) => Ok(Some((String::from_str(alloc, text)?, n + len as usize))),
+        match text_in_front(bytes) {
+            Some((text, n)) => Ok(Some((String::from_str(alloc, text)?, n))),
             None => Ok(None),
         }
     }

@@ -1,0 +1,92 @@
+//! Values and the bytes that spell them.
+use crate::answers::{same, same_at};
+use std::process::Abort;
+use um_wire::{Canon, spell};
+
+/// Asserts that the value is spelled by these bytes.
+pub fn has_spelling<T: Canon>(rt: &(impl AllocGlobal + Abort), value: &T, bytes: &[u8]) {
+    let spelled = spell(rt.alloc(), value).expect(rt, "no memory");
+    same(rt, spelled.as_slice(), bytes);
+}
+
+/// The bytes with others behind them.
+fn followed(rt: &(impl AllocGlobal + Abort), bytes: &[u8]) -> Vec<u8> {
+    let mut longer = Vec::from_slice(rt.alloc(), bytes).expect(rt, "no memory");
+    longer
+        .extend_from_slice(&[7, 0, 255])
+        .expect(rt, "no memory");
+    longer
+}
+
+/// Asserts that a value is read from the bytes with others behind them, and is spelled by the bytes.
+pub fn is_read<T: Canon + Drop>(rt: &(impl AllocGlobal + Abort), bytes: &[u8]) {
+    let longer = followed(rt, bytes);
+    let found = T::get(rt.alloc(), longer.as_slice()).expect(rt, "no memory");
+    let (read, count) = found.expect(rt, "what is spelled isn't read");
+    same(rt, count, bytes.len());
+    has_spelling(rt, &read, bytes);
+}
+
+/// Asserts that the value is spelled by these bytes, and is read from them with others behind them.
+pub fn is_spelled<T: Canon + Drop>(rt: &(impl AllocGlobal + Abort), value: &T, bytes: &[u8]) {
+    has_spelling(rt, value, bytes);
+    is_read::<T>(rt, bytes);
+}
+
+/// Asserts that no front of the bytes spells a value.
+pub fn is_not_read<T: Canon + Drop>(rt: &(impl AllocGlobal + Abort), bytes: &[u8]) {
+    let read = T::get(rt.alloc(), bytes).expect(rt, "no memory");
+    assert!(rt; read.is_none(), "{bytes:?} are read");
+}
+
+/// Asserts that the value has no spelling.
+pub fn has_none<T: Canon>(rt: &(impl AllocGlobal + Abort), value: &T) {
+    same(rt, spell(rt.alloc(), value).is_err(), true);
+}
+
+/// The number of a hexadecimal digit; None for any other byte.
+fn digit(byte: u8) -> Option<u8> {
+    match byte {
+        b'0'..=b'9' => Some(byte - b'0'),
+        b'a'..=b'f' => Some(byte - b'a' + 10),
+        _ => None,
+    }
+}
+
+/// Puts the bytes of which the line has the hexadecimal digits, two a byte.
+fn put_line(rt: &impl Abort, bytes: &mut Vec<u8>, line: &str) {
+    let mut high = None;
+    for byte in line.as_bytes() {
+        match (digit(*byte), high) {
+            (Some(low), Some(first)) => {
+                bytes.push((first << 4) | low).expect(rt, "no memory");
+                high = None;
+            }
+            (Some(first), None) => high = Some(first),
+            (None, _) => {}
+        }
+    }
+}
+
+/// The bytes of which the lines have the hexadecimal digits, two a byte.
+pub fn hex(rt: &(impl AllocGlobal + Abort), lines: &[&str]) -> Vec<u8> {
+    let mut bytes = Vec::new(rt.alloc());
+    for line in lines {
+        put_line(rt, &mut bytes, line);
+    }
+    bytes
+}
+
+/// The bytes with another one at this place.
+pub fn with_byte(rt: &(impl AllocGlobal + Abort), lines: &[&str], at: usize, byte: u8) -> Vec<u8> {
+    let mut bytes = hex(rt, lines);
+    assert!(rt; at < bytes.len(), "there is no such byte");
+    bytes[at] = byte;
+    bytes
+}
+
+/// Asserts that no front of the bytes spells a value, in this row.
+pub fn is_not_read_at<T: Canon + Drop>(rt: &(impl AllocGlobal + Abort), bytes: &[u8], row: &str) {
+    let read = T::get(rt.alloc(), bytes).expect(rt, "no memory");
+    same_at(rt, read.is_none(), true, row);
+}

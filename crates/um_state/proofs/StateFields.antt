@@ -1,0 +1,43 @@
+-- The fields of a state, put and read one behind the other.
+use Rattle.std.proofs.Common.{◌≡◌, ℕ, ◌≤◌, ◌+◌, ◌-◌, true, List, [], ◌∷◌, ◌++◌, length, take, drop, slice_index, arith, append_assoc, Some, refl, ap, ◌∙◌}
+use Rattle.std.proofs.lemmas.List.{drop-drop}
+use Rattle.um_model.specs.Bytes.{Reading, as_at, only_at, pair_at}
+use Rattle.um_model.specs.Spellings.{moment_at, next_at}
+use Rattle.um_model.specs.StateSpellings.{StateFields, boot_at, is_sound, pending_at, state_at, state_of, tree_at, units_at}
+use Rattle.um_model.specs.InputSpellings.{happening_fields}
+use Rattle.um_model.specs.Machine.{ProcessExecuted}
+use Rattle.um_state.proofs.Fronts.{behind_one, first_and_rest}
+
+-- what is put behind a 1, one behind the other
+pub behind_mark : (old a b c d e f g : List ℕ) → (((((((old ++ 1 ∷ []) ++ a) ++ b) ++ c) ++ d) ++ e) ++ f) ++ g ≡ old ++ 1 ∷ (a ++ (b ++ (c ++ (d ++ (e ++ (f ++ g))))))
+behind_mark old a b c d e f g =
+    let front = old ++ 1 ∷ [] in
+    append_assoc (((((front ++ a) ++ b) ++ c) ++ d) ++ e) f g
+    ∙ (append_assoc ((((front ++ a) ++ b) ++ c) ++ d) e (f ++ g)
+    ∙ (append_assoc (((front ++ a) ++ b) ++ c) d (e ++ (f ++ g))
+    ∙ (append_assoc ((front ++ a) ++ b) c (d ++ (e ++ (f ++ g)))
+    ∙ (append_assoc (front ++ a) b (c ++ (d ++ (e ++ (f ++ g))))
+    ∙ (append_assoc front a (b ++ (c ++ (d ++ (e ++ (f ++ g)))))
+    ∙ append_assoc old (1 ∷ []) (a ++ (b ++ (c ++ (d ++ (e ++ (f ++ g)))))))))))
+
+-- a number in eight bytes, as that of a process is spelled
+abbrev pub eight_bytes : ℕ → List ℕ
+eight_bytes n = happening_fields (ProcessExecuted n)
+
+-- the fields in order
+abbrev pub fields_at : Reading StateFields
+fields_at = pair_at tree_at (pair_at tree_at (pair_at boot_at (pair_at moment_at (pair_at next_at (pair_at units_at pending_at)))))
+
+sound_here : (bytes rest : List ℕ) (f : StateFields) → fields_at bytes ≡ Some (f, rest) → is_sound (state_of f) ≡ true → only_at is_sound (as_at state_of fields_at) bytes ≡ Some (state_of f, rest)
+sound_here bytes rest f read sound = rw (read, sound) refl
+
+-- behind a 1 they are a state where they fit together
+pub state_here : (bytes : List ℕ) (f : StateFields) (n : ℕ) → 1 ≤ length bytes → slice_index bytes 0 ≡ 1
+    → fields_at (take (length bytes - 1) (drop 1 bytes)) ≡ Some (f, drop n (take (length bytes - 1) (drop 1 bytes))) → is_sound (state_of f) ≡ true
+    → state_at bytes ≡ Some (state_of f, drop (n + 1) bytes)
+state_here bytes f n long one read sound =
+    let rest = take (length bytes - 1) (drop 1 bytes) in
+    let sum : 1 + n ≡ n + 1 = omega arith in
+    ap state_at (first_and_rest bytes long ∙ ap (λ b. b ∷ rest) one)
+    ∙ (sound_here rest (drop n rest) f read sound
+    ∙ ap (λ l. Some (state_of f, l)) (ap (drop n) (behind_one bytes long) ∙ (drop-drop n 1 bytes ∙ ap (λ m. drop m bytes) sum)))

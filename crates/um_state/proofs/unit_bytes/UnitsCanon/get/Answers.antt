@@ -1,0 +1,28 @@
+use Rattle.std.proofs.Common.{rules, ◌≡◌, true, false, Some, drop, ap, ◌∙◌}
+use Rattle.um_model.proofs.BytesLaws.{at_some}
+use Rattle.um_model.proofs.NameMaps.{seen}
+use Rattle.um_model.proofs.StateSpellingsLaws.{known_is_tidy}
+use Rattle.um_model.specs.StateSpellings.{are_known}
+use Rattle.um_state.proofs.UnitsRead.{same_map, units_here, units_unknown}
+use Rattle.um_state.proofs.unit_bytes.UnitsCanon.get.Goals as goal
+
+pub returns-then-not-are_known-clause-read : goal.returns-then-not-are_known-clause-read
+returns-then-not-are_known-clause-read c =
+    let bytes = c.args.bytes.now in
+    let units = seen c.in-Some.entries in
+    let read = at_some _ bytes _ _ c.in-Some.entries c.in-Some.n c.in_ok-entries.ensures.read c.in-Some.is in
+    let unknown : are_known units ≡ false = search rules in
+    units_unknown bytes units (drop c.in-Some.n bytes) (read ∙ ap (λ m. Some (m, drop c.in-Some.n bytes)) (same_map c.in-Some.entries.entries)) unknown
+
+pub returns-clause-read : goal.returns-clause-read
+returns-clause-read c =
+    let bytes = c.args.bytes.now in
+    let units = seen c.in-Some.entries in
+    let read = at_some _ bytes _ _ c.in-Some.entries c.in-Some.n c.in_ok-entries.ensures.read c.in-Some.is in
+    let known : are_known units ≡ true = search rules in
+    units_here bytes units (drop c.in-Some.n bytes) (read ∙ ap (λ m. Some (m, drop c.in-Some.n bytes)) (same_map c.in-Some.entries.entries)) known
+
+pub invariant_of-result : goal.invariant_of-result
+invariant_of-result c =
+    let is : are_known (seen c.in-Some.entries) ≡ true = search rules in
+    known_is_tidy (seen c.in-Some.entries) is

@@ -1,0 +1,134 @@
+//! The canonical bytes of pending jobs: a list, by ascending names of their units, of one unit the stop job first.
+ghost use Rattle.std.specs.Prelude.{◌≡◌, map, IfOk};
+ghost use Rattle.um_model.specs.Jobs as model;
+ghost use Rattle.um_model.specs.Service.{ByUnit};
+ghost use Rattle.um_model.specs.StateSpellings.{FitJob, FitPending, is_job_before, job_at, job_spelling, jobs_ascend, pending_at, pending_of, pending_spelling, with_job};
+ghost use Rattle.um_model.proofs.PendingSpellingsLaws.{canonical_job, canonical_pending};
+ghost use Rattle.um_model.specs.declared.jobs.UnitJobs as jobs;
+ghost use Rattle.um_state.specs.Shown.{job_of};
+
+use crate::reply::JobShown;
+use crate::units::Pending;
+use std::alloc::{AllocError, Global};
+use std::cmp::Ordering;
+use um_model::{JobKind, JobState, UnitJobs};
+use um_name::UnitName;
+use um_wire::{Canon, Tagged};
+
+/// The name of its unit, what it does, and how far it is.
+impl Canon for JobShown {
+    ghost Value = { model.JobShown };
+
+    ghost value = { job_of };
+
+    ghost fits = { FitJob };
+
+    ghost spelling = { job_spelling };
+
+    ghost reading = { job_at };
+
+    fn put(&self, out: &mut Vec<u8>) -> Result<(), AllocError> {
+        self.unit.put(out)?;
+        self.kind.put(out)?;
+        self.state.put(out)?;
+        Ok(())
+    }
+
+    fn get(alloc: Global, bytes: &[u8]) -> Result<Option<(JobShown, usize)>, AllocError> {
+        match <(UnitName, (JobKind, JobState))>::get(alloc, bytes)? {
+            Some(((unit, (kind, state)), n)) => Ok(Some((JobShown { unit, kind, state }, n))),
+            None => Ok(None),
+        }
+    }
+
+    ghost canonical = { canonical_job };
+}
+
+/// Whether one job stands before another.
+fn is_before(job: &JobShown, next: &JobShown) -> bool
+    ensures { result ≡ is_job_before (job_of job.now) (job_of next.now) }
+{
+    match job.unit.cmp(&next.unit) {
+        Ordering::Less => true,
+        Ordering::Equal => job.kind.tag() < next.kind.tag(),
+        Ordering::Greater => false,
+    }
+}
+
+/// Whether each job stands before the next.
+fn ascend(jobs: &[JobShown]) -> bool
+    ensures { result ≡ jobs_ascend (map job_of jobs.now) }
+{
+    let mut rest = jobs;
+    while let [job, behind @ ..] = rest {
+        if let [next, ..] = behind {
+            if !is_before(job, next) {
+                return false;
+            }
+        }
+        rest = behind;
+    }
+    true
+}
+
+/// With that job beside what is pending for the unit.
+fn with_job(kind: JobKind, state: JobState, held: UnitJobs) -> UnitJobs
+    ensures { result ≡ with_job kind state held }
+{
+    match kind {
+        JobKind::Stop => UnitJobs {
+            stop: Some(state),
+            start: held.start,
+        },
+        JobKind::Start => UnitJobs {
+            stop: held.stop,
+            start: Some(state),
+        },
+    }
+}
+
+/// The jobs of a list, by unit.
+fn pending_of(alloc: Global, jobs: Vec<JobShown>) -> Result<Pending, AllocError>
+    ensures { IfOk result (λ pending. pending ≡ pending_of (map job_of jobs.items)) }
+{
+    let mut rest = jobs;
+    let mut pending = Pending::new(alloc);
+    while let Some(job) = rest.pop() {
+        let held = pending.get(&job.unit);
+        pending.set(&job.unit, with_job(job.kind, job.state, held))?;
+    }
+    Ok(pending)
+}
+
+impl Canon for Pending {
+    ghost Value = { ByUnit jobs.UnitJobs };
+
+    ghost value = { λ pending. pending };
+
+    ghost fits = { FitPending };
+
+    ghost spelling = { pending_spelling };
+
+    ghost reading = { pending_at };
+
+    fn put(&self, out: &mut Vec<u8>) -> Result<(), AllocError> {
+        // The proof reads here that no unit is held without a job.
+        let _ = &self.entries;
+        let jobs = self.shown()?;
+        jobs.put(out)?;
+        Ok(())
+    }
+
+    fn get(alloc: Global, bytes: &[u8]) -> Result<Option<(Pending, usize)>, AllocError> {
+        let Some((jobs, n)) = <Vec<JobShown> as Canon>::get(alloc, bytes)? else {
+            return Ok(None);
+        };
+        if !ascend(jobs.as_slice()) {
+            return Ok(None);
+        }
+        let pending = pending_of(alloc, jobs)?;
+        Ok(Some((pending, n)))
+    }
+
+    ghost canonical = { canonical_pending };
+}

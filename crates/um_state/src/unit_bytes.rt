@@ -1,0 +1,117 @@
+//! The canonical bytes of units: a map from names to units of which something is known.
+ghost use Rattle.std.specs.Prelude.{◌≡◌, ◌++◌, IfOk, OnOk};
+ghost use Rattle.std.specs.FinMap as maps;
+ghost use Rattle.um_model.specs.Service.{ByUnit};
+ghost use Rattle.um_model.specs.StateSpellings.{FitUnits, are_distinct, are_known, has_begun, have_begun, numbers_in, units_at, units_spelling};
+ghost use Rattle.um_model.specs.Transitions.{numbers};
+ghost use Rattle.um_model.proofs.StateSpellingsLaws.{canonical_units};
+ghost use Rattle.um_model.specs.declared.service.UnitState as unit;
+
+use crate::units::Units;
+use std::alloc::{AllocError, Global};
+use std::collections::{BTreeMap, BTreeSet};
+use um_model::{Counted, Moment, ProcessNumber, UnitState};
+use um_name::UnitName;
+use um_wire::Canon;
+
+/// Whether something is known of each unit.
+fn are_known(entries: &BTreeMap<UnitName, UnitState>) -> bool
+    ensures { result ≡ are_known (maps.from_entries entries.now.entries) }
+{
+    for (_, unit) in entries.iter() {
+        if unit.holds_nothing() {
+            return false;
+        }
+    }
+    true
+}
+
+impl Canon for Units {
+    ghost Value = { ByUnit unit.UnitState };
+
+    ghost value = { λ units. units };
+
+    ghost fits = { FitUnits };
+
+    ghost spelling = { units_spelling };
+
+    ghost reading = { units_at };
+
+    fn put(&self, out: &mut Vec<u8>) -> Result<(), AllocError> {
+        self.entries.put(out)?;
+        Ok(())
+    }
+
+    fn get(alloc: Global, bytes: &[u8]) -> Result<Option<(Units, usize)>, AllocError> {
+        let Some((entries, n)) = <BTreeMap<UnitName, UnitState> as Canon>::get(alloc, bytes)? else {
+            return Ok(None);
+        };
+        if !are_known(&entries) {
+            return Ok(None);
+        }
+        Ok(Some((Units { alloc, entries }, n)))
+    }
+
+    ghost canonical = { canonical_units };
+}
+
+/// Whether a window began, up to the clock, or none is there.
+fn has_begun(clock: Moment, window: Option<Counted>) -> bool
+    ensures { result ≡ has_begun clock window }
+{
+    match window {
+        Some(window) => window.began.micros() <= clock.micros(),
+        None => true,
+    }
+}
+
+/// Adds the number of a process, if it is there, behind the others.
+fn push_number(told: &mut Vec<u64>, process: Option<ProcessNumber>) -> Result<(), AllocError>
+    ensures { OnOk result (told.new.items ≡ told.old.items ++ numbers process) }
+{
+    if let Some(process) = process {
+        told.push(process.get())?;
+    }
+    Ok(())
+}
+
+/// Whether no number stands twice.
+pub(crate) fn are_distinct(alloc: Global, numbers: &[u64]) -> Result<bool, AllocError>
+    ensures { IfOk result (λ distinct. distinct ≡ are_distinct numbers.now) }
+{
+    let mut held = BTreeSet::new(alloc);
+    let mut rest = numbers;
+    while let [number, behind @ ..] = rest {
+        if !held.insert(*number)? {
+            return Ok(false);
+        }
+        rest = behind;
+    }
+    Ok(true)
+}
+
+impl Units {
+    /// Whether no window began after the clock. It takes no memory.
+    pub(crate) fn have_begun(&self, clock: Moment) -> bool
+        ensures { result ≡ have_begun clock self.now }
+    {
+        for (_, unit) in self.entries.iter() {
+            if !has_begun(clock, unit.window) {
+                return false;
+            }
+        }
+        true
+    }
+
+    /// The numbers of the live processes.
+    pub(crate) fn live_numbers(&self) -> Result<Vec<u64>, AllocError>
+        ensures { IfOk result (λ numbers. numbers.items ≡ numbers_in self.now) }
+    {
+        let mut numbers = Vec::new(self.alloc);
+        for (_, unit) in self.entries.iter() {
+            push_number(&mut numbers, unit.main)?;
+            push_number(&mut numbers, unit.control)?;
+        }
+        Ok(numbers)
+    }
+}
