@@ -49,6 +49,7 @@ pub mod FitUnitLaws
 pub mod FitNumbersLaws
 pub mod FitSoundLaws
 pub mod FitStateLaws
+pub mod WholeLaws
 pub mod SpellingRows
 pub mod TransitionLaws
 pub mod StoreLaws
