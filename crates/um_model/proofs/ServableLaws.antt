@@ -1,5 +1,5 @@
 -- Each step leaves a state that a store may hold such that it still may.
-use Rattle.std.proofs.Common.{ℕ, Contains, ◌≡◌, ◌≢◌, ◌∙◌, ◌+◌, ◌*◌, ◌≤◌, AllPairs, List, [], ◌∷◌, length, refl, sym, ap, subst, inl, arith}
+use Rattle.std.proofs.Common.{ℕ, Contains, ◌≡◌, ◌∙◌, ◌≤◌, List, [], ◌∷◌, length, refl, sym, ap, subst, inl, arith}
 use Rattle.std.specs.Prelude.{map as each}
 use Rattle.std.specs.List.{sum}
 use Rattle.std.specs.Cmp.Lexicographic.{slice_cmp}
@@ -9,7 +9,7 @@ use mathlib.Core.HLevel.{Π_prop, ×₃_prop, ⊥_prop}
 use Rattle.um_model.specs.Dependencies.{IsKnown, KnowsSoMany, CountsFor}
 use Rattle.um_model.specs.Few.{IsFew}
 use Rattle.um_model.specs.Live.{IsFree}
-use Rattle.um_model.specs.Machine.{State, empty_state, Command, Commanded, Happening, Happened, Event, Input, Reply, IsHeld, IsBefore, IsTooHeavy, HasNoRoom, Takes, reply_after, moment_of, Step, taken}
+use Rattle.um_model.specs.Machine.{State, empty_state, Commanded, Happening, Happened, Event, Input, Reply, IsHeld, IsBefore, IsTooHeavy, HasNoRoom, Takes, reply_after, moment_of, Step, taken}
 use Rattle.um_model.specs.Servable.{IsServable}
 use Rattle.um_model.specs.Service.{Action}
 use Rattle.um_model.specs.Tree.{Entry}
