@@ -10,7 +10,8 @@ use Rattle.um_wire.specs.Refusal.{refused_of}
 use Rattle.um_wire.specs.declared.refusal.Refusal.{Refusal}
 use Rattle.um_wire.specs.declared.refusal.Refusal.TheVariants as refusal
 use Rattle.um_wire.specs.declared.refusal.Refusal.TheVariants.{NoMemory}
-use Rattle.um_engine.specs.Planned.{Declines, for_cause, for_room, is_of_store}
+use Rattle.um_engine.specs.OfStore.{is_of_store}
+use Rattle.um_engine.specs.Planned.{Declines, for_cause, for_room}
 
 -- ---- numbers
 

@@ -1,7 +1,7 @@
 -- What the code finds of a state by the numbers of a graph's units.
 -- Follows no manual page: it turns numbers into names.
 -- Plans stand on this file.
-use Rattle.std.specs.Prelude.{◌≡◌, ℕ, Bool, true, false, List, Option, Some, None, option_map, slice_get}
+use Rattle.std.specs.Prelude.{◌≡◌, ℕ, List, Option, Some, None, option_map, slice_get}
 use Rattle.um_model.specs.Jobs.{jobs_of_unit}
 use Rattle.um_model.specs.Machine.{State, IsHeldOr, Takes, Commanded, Command, Refuses, IsTooHeavy, scene_at}
 use Rattle.um_model.specs.Refusals.{Refused, no_room}
@@ -17,8 +17,6 @@ use Rattle.um_graph.specs.Graph.{GraphView, IsNumberOf}
 use Rattle.um_jobs.specs.Named.{jobs_at}
 use Rattle.um_transact.specs.Scene.{IsAccepted}
 use Rattle.um_transact.specs.Walk.{activity_at}
-use Rattle.um_wire.specs.declared.refusal.Refusal.{Refusal}
-use Rattle.um_wire.specs.declared.refusal.Refusal.TheVariants.{Device, Reopen, Damaged, NotFormatted, GenerationsSpent, OtherLayout}
 
 -- the loadings of the graph are those of the tree
 abbrev pub Loads : GraphView → Tree → Type 0
@@ -41,13 +39,3 @@ pub record HasPlan (s : State) (root : Demand × List ℕ) (mode : JobMode) (u :
 pub data Declines (size t : ℕ) (s : State) (command : Command) : Refused → Type 0 where
   for_cause : {r : Refused} → Refuses s command r → Declines size t s command r
   for_room : {actions : List Action} {u : State} → Takes t s (Commanded command) actions u → IsTooHeavy size u → Declines size t s command no_room
-
--- refusals of a store, its device or the children: E16 to E20, and E22
-abbrev pub is_of_store : Refusal → Bool
-is_of_store Device = true
-is_of_store Reopen = true
-is_of_store (Damaged sector) = true
-is_of_store NotFormatted = true
-is_of_store GenerationsSpent = true
-is_of_store OtherLayout = true
-is_of_store other = false

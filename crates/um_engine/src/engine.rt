@@ -1,6 +1,7 @@
 ghost use Rattle.std.specs.Prelude.{◌≡◌, ◌↔◌, [], false, is_some, map, IfOk, IfErr, IfSome, IsTrue};
 ghost use Rattle.um_engine.specs.Engine.{state_in, size_in, has_effect_in, state_at, state_after, reply_in, actions_in, state_before, SettlesTo};
-ghost use Rattle.um_engine.specs.Planned.{Declines, is_of_store};
+ghost use Rattle.um_engine.specs.OfStore.{is_of_store};
+ghost use Rattle.um_engine.specs.Planned.{Declines};
 ghost use Rattle.um_model.specs.Machine as model;
 ghost use Rattle.um_model.specs.Machine.{Step, Takes, LacksEffect, moment_of, IsTooHeavy};
 ghost use Rattle.um_model.specs.Servable.{IsServable};

@@ -89,9 +89,10 @@ fn a_state_has_room_up_to_the_size_of_its_store(rt: HostRuntime) {
 
 /// The text of a service that wants so many units that aren't there.
 fn wanting_text(rt: &(impl AllocGlobal + Abort), count: usize) -> String {
-    let mut unit = text(rt, "[Unit]\nWants=");
+    let alloc = rt.alloc();
+    let mut unit = text(rt, "[Service]\nExecStart=/bin/sleep 9\n[Unit]\nWants=");
     for number in 0..count {
-        let name = format!(in rt.alloc(); " n{number}.service").expect(rt, "no memory");
+        let name = format!(in alloc; " n{number}.service").expect(rt, "no memory");
         unit.push_str(name.as_str()).expect(rt, "no memory");
     }
     unit
@@ -134,11 +135,17 @@ fn put_start(rt: &(impl AllocGlobal + Abort), state: &mut State, unit: &str) {
     state.set_jobs(&unit, WAITS_TO_START).expect(rt, "no memory");
 }
 
-/// A state in which `a.service` and `b.service` wait to start, where the one has this text and the other stands behind it.
+/// The text of a service that starts after the other.
+const AFTER_A: &str = "[Service]\nExecStart=/bin/sleep 9\n[Unit]\nAfter=a.service\n";
+
+/// The same, the other way round.
+const AFTER_B: &str = "[Service]\nExecStart=/bin/sleep 9\n[Unit]\nAfter=b.service\n";
+
+/// A state in which `a.service` and `b.service` wait to start, where the one has this text and the other starts after it.
 fn with_starts(rt: &(impl AllocGlobal + Abort), unit: &str) -> State {
     let mut state = State::empty(rt.alloc());
     put(rt, &mut state, "lib/a.service", unit);
-    put(rt, &mut state, "lib/b.service", "[Unit]\nAfter=a.service\n");
+    put(rt, &mut state, "lib/b.service", AFTER_A);
     load(rt, &mut state);
     for unit in ["a.service", "b.service"] {
         put_start(rt, &mut state, unit);
@@ -148,7 +155,7 @@ fn with_starts(rt: &(impl AllocGlobal + Abort), unit: &str) -> State {
 
 #[test]
 fn a_state_whose_jobs_wait_in_a_circle_is_not_served(rt: HostRuntime) {
-    let circle = with_starts(&rt, "[Unit]\nAfter=b.service\n");
+    let circle = with_starts(&rt, AFTER_B);
     same(&rt, is_served(&rt, circle, LARGE_SIZE), false);
     let line = with_starts(&rt, "[Service]\nExecStart=/bin/sleep 9\n");
     same(&rt, is_served(&rt, line, LARGE_SIZE), true);

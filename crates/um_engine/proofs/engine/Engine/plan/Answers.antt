@@ -3,7 +3,7 @@ use Rattle.um_model.specs.Machine as model
 use Rattle.um_state.specs.View.{input_of, action_of, command_of, happening_of}
 use Rattle.um_wire.specs.Refusal.{refused_of}
 use Rattle.um_wire.specs.declared.refusal.Refusal.TheVariants.{NoMemory}
-use Rattle.um_engine.specs.Planned.{is_of_store}
+use Rattle.um_engine.specs.OfStore.{is_of_store}
 use Rattle.um_engine.proofs.OnlyLaws.{declined_of_no_store}
 use Rattle.um_engine.proofs.Stepped.{declined_step, taken_step, met_step, met_effect, met_nothing, command_effect}
 use Rattle.um_engine.proofs.engine.Engine.plan.Goals as goal
