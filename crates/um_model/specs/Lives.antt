@@ -1,0 +1,67 @@
+-- What outlives a crash: the lives of a store, each opened on the image that the one before it left, and the inputs that they keep.
+-- No manual page has it: crash safety is this project's own promise (docs/CRASH.md tells it in plain words).
+-- The law of lives in proofs/LivesLaws and the keeper's contracts depend on this file.
+use Rattle.std.specs.Prelude.{◌≡◌, ⊤, ⊥, ℕ, List, [], ◌∷◌, ◌++◌}
+use Rattle.um_model.specs.Disk.{Image}
+use Rattle.um_model.specs.Machine.{State, Input, Reply, Step, empty_state}
+use Rattle.um_model.specs.Service.{Action}
+use Rattle.um_model.specs.Stands.{IsStoreOf}
+use Rattle.um_model.specs.Store.{body_limit}
+use Rattle.um_model.specs.declared.layout.Layout.{Layout}
+
+-- What came of an input that was offered to a store.
+pub data Outcome : Type 0 where
+  -- it was answered, as its step is: done or refused
+  answered : Reply → Outcome
+  -- it found no memory, a store that is to be opened again, or the last generation: it is no step
+  turned_away : Outcome
+  -- the device failed, or the manager stopped before the answer
+  unanswered : Outcome
+
+pub record Offer : Type 0 where
+  pub input : Input
+  pub outcome : Outcome
+
+-- what was offered since the store was opened, and the image that the stop left
+pub record Life : Type 0 where
+  pub offers : List Offer
+  pub image : Image
+
+-- none of these was answered
+pub data AreUnanswered : List Offer → Type 0 where
+  none : AreUnanswered []
+  turned : {input : Input} {offers : List Offer} → AreUnanswered offers → AreUnanswered (record { input = input; outcome = turned_away } ∷ offers)
+  lost : {input : Input} {offers : List Offer} → AreUnanswered offers → AreUnanswered (record { input = input; outcome = unanswered } ∷ offers)
+
+-- the outcome lets an input be a step with this reply: an answered one got just that, and one that was turned away is no step
+abbrev pub MayBeStep : Outcome → Reply → Type 0
+MayBeStep (answered r) reply = reply ≡ r
+MayBeStep turned_away reply = ⊥
+MayBeStep unanswered reply = ⊤
+
+-- The image that the stop of a life may leave, which began in this state: it takes a beginning of what was offered, with all that was answered.
+pub data MayLeave (layout : Layout) : State → List Offer → Image → Type 0 where
+  holds : {s : State} {offers : List Offer} {image : Image} → IsStoreOf layout image s → AreUnanswered offers → MayLeave layout s offers image
+  takes : {s t : State} {offer : Offer} {offers : List Offer} {image : Image} (reply : Reply) (actions : List Action) → MayBeStep offer.outcome reply
+      → Step (body_limit layout) s offer.input reply actions t → MayLeave layout t offers image → MayLeave layout s (offer ∷ offers) image
+  turns_away : {s : State} {input : Input} {offers : List Offer} {image : Image} → MayLeave layout s offers image
+      → MayLeave layout s (record { input = input; outcome = turned_away } ∷ offers) image
+
+-- each life is opened on the image before it, in a state that this stands for
+pub data Lived (layout : Layout) : Image → List Life → Image → Type 0 where
+  ended : {image : Image} → Lived layout image [] image
+  lived : {first last : Image} {s : State} {life : Life} {lives : List Life} → IsStoreOf layout first s → MayLeave layout s life.offers life.image
+      → Lived layout life.image lives last → Lived layout first (life ∷ lives) last
+
+-- a beginning of what was offered in a life, without what was turned away: behind it nothing was answered
+pub data IsKept : List Offer → List Input → Type 0 where
+  no_more : {offers : List Offer} → AreUnanswered offers → IsKept offers []
+  keeps : {offer : Offer} {offers : List Offer} {inputs : List Input} (reply : Reply) → MayBeStep offer.outcome reply → IsKept offers inputs
+      → IsKept (offer ∷ offers) (offer.input ∷ inputs)
+  passes : {input : Input} {offers : List Offer} {inputs : List Input} → IsKept offers inputs
+      → IsKept (record { input = input; outcome = turned_away } ∷ offers) inputs
+
+-- of each life such a beginning, one behind the other
+pub data AreKept : List Life → List Input → Type 0 where
+  all_kept : AreKept [] []
+  and_life : {life : Life} {lives : List Life} {here more : List Input} → IsKept life.offers here → AreKept lives more → AreKept (life ∷ lives) (here ++ more)
