@@ -83,4 +83,5 @@ pub mod GivenMaps
 pub mod CrowdedLaws
 pub mod FewLaws
 pub mod LightLaws
+pub mod ServableLaws
 pub mod FinishedLaws
