@@ -53,7 +53,9 @@ pub mod SpellingRows
 pub mod TransitionLaws
 pub mod StoreLaws
 pub mod LogLaws
+pub mod ImageLaws
 pub mod StandsLaws
+pub mod UnreadLaws
 pub mod LivesLaws
 pub mod FindsLaws
 pub mod SessionsLaws
