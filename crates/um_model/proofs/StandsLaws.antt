@@ -1,8 +1,9 @@
 -- What an image of a store stands for is one state at most, of one layout; and what the sectors of a store say as its state.
-use Rattle.std.specs.Prelude.{drop, map, take}
+use Rattle.std.specs.Prelude.{drop, map, is_some, true}
 use Rattle.std.specs.List.{AllByRecursion}
 use Rattle.std.proofs.Common.{◌≡◌, ◌∙◌, ℕ, ◌+◌, ◌≤◌, List, [], ◌∷◌, ◌++◌, Option, Some, None, refl, sym, ap, subst, arith}
 use Rattle.std.proofs.Math.Bridge.{le_prop}
+use Rattle.std.proofs.lemmas.Bool.{false≢true}
 use Rattle.std.proofs.lemmas.List.{append-nil}
 use Rattle.std.proofs.lemmas.Option.{same_Some, none-some}
 use Rattle.byteorder.specs.Endian.{big_number}
@@ -111,7 +112,7 @@ stands_servable {layout} {s = s} one = run_servable (body_limit layout) one.cont
 -- ---- what is spelled
 
 -- what comes of both, where something does
-bound : {A B : Type 0} (o : Option A) (f : A → Option B) (b : B) → (o >>= f) ≡ Some b → (a : A) × (o ≡ Some a) × (f a ≡ Some b)
+pub bound : {A B : Type 0} (o : Option A) (f : A → Option B) (b : B) → (o >>= f) ≡ Some b → (a : A) × (o ≡ Some a) × (f a ≡ Some b)
 bound None f b e = absurd (none-some b e)
 bound (Some a) f b e = (a, refl, e)
 
@@ -151,14 +152,19 @@ pub record ComesTo (size : ℕ) (body : List ℕ) (records : List (List ℕ)) (s
   pub run : Run size start inputs s
 
 module _ {layout : Layout} {image : Image} {slot : Slot} {generation : ℕ} {body : List ℕ} {records : List (List ℕ)} (store : IsStore layout image slot generation body records) where
+  -- its newest slot and its records, as functions of the image
+  pub newest_told : newest_of layout image ≡ Some (record { slot = slot; generation = generation; body = body })
+  newest_told = (newest_some layout image _).1 store.newest
+
+  pub records_told : records_of layout generation image ≡ records
+  records_told = only_records layout generation image records store.records_are
+
   -- what a store holds
   pub contents_are : {start : State} {inputs : List Input} → nothing_left (state_at body) ≡ Some start → inputs_of records ≡ Some inputs
       → contents_of layout image ≡ Some (contents slot generation start inputs)
   contents_are {start} {inputs} start_is inputs_are =
-      let newest = (newest_some layout image (record { slot = slot; generation = generation; body = body })).1 store.newest in
-      let are = only_records layout generation image records store.records_are in
-      (λ k. newest k >>= λ n. nothing_left (state_at n.body) >>= λ s. inputs_of (records_of layout n.generation image) >>= λ is. Some (contents n.slot n.generation s is))
-      ∙ (λ k. start_is k >>= λ s. inputs_of (are k) >>= λ is. Some (contents slot generation s is))
+      (λ k. newest_told k >>= λ n. nothing_left (state_at n.body) >>= λ s. inputs_of (records_of layout n.generation image) >>= λ is. Some (contents n.slot n.generation s is))
+      ∙ (λ k. start_is k >>= λ s. inputs_of (records_told k) >>= λ is. Some (contents slot generation s is))
       ∙ (λ k. inputs_are k >>= λ is. Some (contents slot generation start is))
 
   -- A store whose sectors come to a state is a store of it.
@@ -173,6 +179,11 @@ module _ {layout : Layout} {image : Image} {slot : Slot} {generation : ℕ} {bod
     };
     none_later = store.none_later;
   }
+
+-- the store of an image whose newest slot is told
+pub store_told : {layout : Layout} {image : Image} {n : Newest} → image 0 ≡ superblock layout → newest_of layout image ≡ Some n → IsFree layout (n.generation + 1) image (log_start layout (n.generation + 1))
+    → IsStore layout image n.slot n.generation n.body (records_of layout n.generation image)
+store_told {layout} {image} {n} first newest free = record { first = first; newest = (newest_some layout image n).0 newest; records_are = records_are layout n.generation image; none_later = free }
 
 -- what an image holds, told by its parts
 pub record HasContents (layout : Layout) (image : Image) (c : Contents) : Type 0 where
@@ -235,6 +246,11 @@ comes_of {layout} {image} {s} {slot} {generation} {body} {records} is store =
           (subst (λ r. ComesTo (body_limit layout) h.body r h.start h.inputs s) are h.comes),
     )
 
+-- Images with the same store are of the same state.
+pub same_store : {layout : Layout} {a b : Image} {s : State} {slot : Slot} {generation : ℕ} {body : List ℕ} {records : List (List ℕ)} → IsStoreOf layout a s
+    → IsStore layout a slot generation body records → IsStore layout b slot generation body records → IsStoreOf layout b s
+same_store is one other = let (start, inputs, comes) = comes_of is one in store_of other comes
+
 -- ---- what a keeper makes of a store
 
 -- a record more is a step more
@@ -294,3 +310,14 @@ pub ends_of : {layout : Layout} {image : Image} {c : Contents} {s : State} → S
 ends_of {layout} {image} {c} {s} one holds =
     subst (λ (d : Contents). IsServable (body_limit layout) d.start × ((t : State) → Run (body_limit layout) d.start d.inputs t → t ≡ s))
     (one_contents layout image one.contents c one.holds holds) (one.servable, only_end one.run)
+
+-- the same where it is known only that something is held
+held_any : (layout : Layout) (image : Image) (o : Option Contents) → contents_of layout image ≡ o → is_some o ≡ true → (c : Contents) × (contents_of layout image ≡ Some c)
+held_any layout image (Some c) is there = (c, is)
+held_any layout image None is there = absurd (false≢true there)
+
+pub stands_by_any : {layout : Layout} {image : Image} {s : State} → image 0 ≡ superblock layout → is_some (contents_of layout image) ≡ true
+    → ((c : Contents) → contents_of layout image ≡ Some c → IsServable (body_limit layout) c.start × ((t : State) → Run (body_limit layout) c.start c.inputs t → t ≡ s)) → StandsFor layout image s
+stands_by_any {layout} {image} first there each =
+    let (c, is) = held_any layout image (contents_of layout image) refl there in
+    stands_by_ends first is (each c is).0 (each c is).1
