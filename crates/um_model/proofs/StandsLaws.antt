@@ -1,7 +1,7 @@
 -- What an image of a store stands for is one state at most, of one layout; and what the sectors of a store say as its state.
 use Rattle.std.specs.Prelude.{drop, map, is_some, true}
 use Rattle.std.specs.List.{AllByRecursion}
-use Rattle.std.proofs.Common.{◌≡◌, ◌∙◌, ℕ, ◌+◌, ◌≤◌, List, [], ◌∷◌, ◌++◌, Option, Some, None, refl, sym, ap, subst, arith}
+use Rattle.std.proofs.Common.{◌≡◌, ◌⊎◌, inl, inr, ◌∙◌, ℕ, ◌+◌, ◌≤◌, List, [], ◌∷◌, ◌++◌, Option, Some, None, refl, sym, ap, subst, arith}
 use Rattle.std.proofs.Math.Bridge.{le_prop}
 use Rattle.std.proofs.lemmas.Bool.{false≢true}
 use Rattle.std.proofs.lemmas.List.{append-nil}
@@ -9,14 +9,14 @@ use Rattle.std.proofs.lemmas.Option.{same_Some, none-some}
 use Rattle.byteorder.specs.Endian.{big_number}
 use mathlib.Core.HLevel.{×_prop}
 use Rattle.um_model.specs.Bytes.{IsBytes, ◌>>=◌, nothing_left}
-use Rattle.um_model.specs.Disk.{Sector, Image}
+use Rattle.um_model.specs.Disk.{Sector, Image, Past, IsImage, Images}
 use Rattle.um_model.specs.InputSpellings.{input_spelling, input_at, FitInput}
 use Rattle.um_model.specs.Machine.{State, Input, Reply, Step, Run, rests, goes, empty_state}
 use Rattle.um_model.specs.Servable.{IsServable}
 use Rattle.um_model.specs.Service.{Action}
 use Rattle.um_model.specs.Stands.{inputs_of, Contents, contents_of, StandsFor, IsStoreOf}
 use Rattle.um_model.specs.StateSpellings.{state_spelling, state_at, FitState}
-use Rattle.um_model.specs.Store.{superblock, body_limit, log_start, Newest, newest_of, records_of, IsNewest, IsFree, IsStore}
+use Rattle.um_model.specs.Store.{superblock, other, body_limit, log_start, Newest, newest_of, records_of, IsNewest, HasRecords, IsFree, IsStore, IsStoreOf as HasStore, WasStore, EitherSnapshot, EitherRecord}
 use Rattle.um_model.specs.declared.layout.Layout.{Layout}
 use Rattle.um_model.specs.declared.layout.Slot.{Slot}
 use Rattle.um_model.specs.declared.layout.Slot.TheVariants.{A}
@@ -251,6 +251,17 @@ pub same_store : {layout : Layout} {a b : Image} {s : State} {slot : Slot} {gene
     → IsStore layout a slot generation body records → IsStore layout b slot generation body records → IsStoreOf layout b s
 same_store is one other = let (start, inputs, comes) = comes_of is one in store_of other comes
 
+-- what has a store's newest slot and its records is that store too
+pub store_like : {layout : Layout} {a b : Image} {slot : Slot} {generation : ℕ} {body : List ℕ} {records : List (List ℕ)} → IsStore layout a slot generation body records → b 0 ≡ superblock layout
+    → newest_of layout b ≡ newest_of layout a → records_of layout generation b ≡ records_of layout generation a → IsFree layout (generation + 1) b (log_start layout (generation + 1))
+    → IsStore layout b slot generation body records
+store_like {layout} {b = b} {generation = generation} store first newest same free = record {
+  first = first;
+  newest = (newest_some layout b _).0 (newest ∙ newest_told store);
+  records_are = subst (HasRecords layout generation b) (same ∙ records_told store) (records_are layout generation b);
+  none_later = free;
+}
+
 -- ---- what a keeper makes of a store
 
 -- a record more is a step more
@@ -321,3 +332,27 @@ pub stands_by_any : {layout : Layout} {image : Image} {s : State} → image 0 �
 stands_by_any {layout} {image} first there each =
     let (c, is) = held_any layout image (contents_of layout image) refl there in
     stands_by_ends first is (each c is).0 (each c is).1
+
+-- ---- what a crash leaves meanwhile
+
+-- While a record is written the image is a store of the state before the step or of that after it.
+pub either_state : {layout : Layout} {image : Image} {slot : Slot} {generation : ℕ} {body : List ℕ} {records : List (List ℕ)} {start : State} {inputs : List Input} {s t : State} {input : Input} {reply : Reply}
+    {actions : List Action} → ComesTo (body_limit layout) body records start inputs s → FitInput input → Step (body_limit layout) s input reply actions t
+    → EitherRecord layout slot generation body records (input_spelling input) image → IsStoreOf layout image s ⊎ IsStoreOf layout image t
+either_state comes fit step (inl kept) = inl (store_of kept comes)
+either_state comes fit step (inr done) = inr (one_more done comes fit step)
+
+module _ {layout : Layout} {past : Past} {slot : Slot} {generation : ℕ} {before : List ℕ} (stores : Images past (HasStore layout slot generation before)) {s : State}
+    (back : nothing_left (state_at (state_spelling s)) ≡ Some s) (may : IsServable (body_limit layout) s) where
+  -- While a snapshot of its state is written the image is a store of that state throughout.
+  pub still_state : Images past (λ image. IsStoreOf layout image s) → (image : Image) → EitherSnapshot layout past slot generation before (state_spelling s) image → IsStoreOf layout image s
+  still_state all image (inl kept) = same_store (all kept.from kept.was) (stores kept.from kept.was) kept.store
+  still_state all image (inr done) = anew done back may
+
+  -- Where the images before are stores of several states, it is a store of a state that one of them had: here s is that of one of them.
+  pub some_state : (now : Image) → IsImage past now → IsStoreOf layout now s → ((image : Image) → IsImage past image → (u : State) × IsStoreOf layout image u)
+      → (image : Image) → EitherSnapshot layout past slot generation before (state_spelling s) image → (from : Image) × (u : State) × IsImage past from × IsStoreOf layout from u × IsStoreOf layout image u
+  some_state now is store all image (inl kept) =
+      let (u, was) = all kept.from kept.was in
+      (kept.from, u, kept.was, was, same_store was (stores kept.from kept.was) kept.store)
+  some_state now is store all image (inr done) = (now, s, is, store, anew done back may)
