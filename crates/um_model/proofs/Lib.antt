@@ -56,6 +56,7 @@ pub mod LogLaws
 pub mod ImageLaws
 pub mod StandsLaws
 pub mod SpelledLaws
+pub mod FitOnceLaws
 pub mod UnreadLaws
 pub mod LivesLaws
 pub mod FindsLaws
