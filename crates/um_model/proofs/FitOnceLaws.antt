@@ -1,16 +1,16 @@
 -- There is one way at most for a state to have bytes, and for an input: what is known of them may stand in a field's fact.
 use Rattle.std.specs.Prelude.{⊤, ◌^◌, ◌<◌, IfSome}
-use Rattle.std.specs.List.{AllByRecursion, AllByRecursion-prop}
-use Rattle.std.proofs.Common.{◌≡◌, ◌≢◌, ℕ, ◌≤◌, Bool, true, List, Option, Some, None, length, refl, ap}
+use Rattle.std.specs.List.{AllByRecursion-prop}
+use Rattle.std.proofs.Common.{◌≡◌, ℕ, ◌≤◌, Bool, true, List, Option, Some, None, refl, ap}
 use Rattle.std.proofs.Math.Bool.{Bool-set}
 use Rattle.std.proofs.Math.Bridge.{le_prop}
 use mathlib.Core.HLevel.{Π_prop, ×_prop, ⊥_prop}
 use Rattle.um_model.specs.Bytes.{FitBetween, FitText, FitList, FitMap, ByText}
-use Rattle.um_model.specs.Jobs.{JobShown, jobs_shown, AreTidyJobs}
+use Rattle.um_model.specs.Jobs.{jobs_shown, AreTidyJobs}
 use Rattle.um_model.specs.Machine.{State}
 use Rattle.um_model.specs.Names.{is_unit_name}
 use Rattle.um_model.specs.Service.{ByUnit, AreTidyUnits}
-use Rattle.um_model.specs.Spellings.{FitEnd, FitMoment, FitNext, FitProcess, FitDeadline, FitCounted, FitUnitName, FitUnit}
+use Rattle.um_model.specs.Spellings.{FitEnd, FitMoment, FitNext, FitProcess, FitDeadline, FitCounted, FitUnit}
 use Rattle.um_model.specs.StateSpellings.{FitEntry, any_text, FitTree, FitUnits, FitJob, FitPending, FitBoot, is_sound, FitState}
 use Rattle.um_model.specs.Tree.{Tree, Entry, File, Link, IsTree, is_fit_at, entry_limit}
 use Rattle.um_model.specs.declared.jobs.UnitJobs.{UnitJobs}

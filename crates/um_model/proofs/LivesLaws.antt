@@ -1,11 +1,11 @@
 -- What outlives a crash: the state that the last image stands for comes of what was kept, and that holds all that was answered.
-use Rattle.std.proofs.Common.{◌≡◌, inl, inr, ℕ, List, [], ◌∷◌, ◌++◌, refl, sym, ap, subst, Some}
+use Rattle.std.proofs.Common.{◌≡◌, inl, inr, ℕ, List, [], ◌∷◌, ◌++◌, refl, sym, subst}
 use Rattle.std.specs.List.{Contains}
 use Rattle.um_model.specs.Disk.{Image}
-use Rattle.um_model.specs.Machine.{State, Input, Reply, Step, Run, rests, goes, empty_state}
-use Rattle.um_model.specs.Stands.{StandsFor, IsStoreOf}
+use Rattle.um_model.specs.Machine.{State, Input, Reply, Run, rests, goes, empty_state}
+use Rattle.um_model.specs.Stands.{IsStoreOf}
 use Rattle.um_model.specs.Store.{body_limit}
-use Rattle.um_model.specs.Lives.{Outcome, answered, turned_away, unanswered, Offer, Life, AreUnanswered, none, turned, lost, MayBeStep, MayLeave, holds, takes, turns_away, Lived, ended, lived, IsKept, no_more, keeps, passes, AreKept, all_kept, and_life}
+use Rattle.um_model.specs.Lives.{Outcome, answered, turned_away, unanswered, Offer, Life, AreUnanswered, none, turned, lost, MayLeave, holds, takes, turns_away, Lived, ended, lived, IsKept, no_more, keeps, passes, AreKept, all_kept, and_life}
 use Rattle.um_model.specs.Lives.{RunsOver, stays, steps, leaves_out, RunsThrough, at_end, and_on, where_answered, answered_in, all_answered, HasInOrder, no_others, has, between}
 use Rattle.um_model.specs.declared.layout.Layout.{Layout}
 use Rattle.um_model.proofs.AmongLaws.{among_contained, contains_among}
