@@ -60,6 +60,7 @@ pub mod SpelledLaws
 pub mod FitOnceLaws
 pub mod UnreadLaws
 pub mod LivesLaws
+pub mod KeptLaws
 pub mod FindsLaws
 pub mod SessionsLaws
 pub mod WaitingLaws
