@@ -55,6 +55,12 @@ pub mod TransitionLaws
 pub mod StoreLaws
 pub mod LogLaws
 pub mod ImageLaws
+pub mod StandsLaws
+pub mod SpelledLaws
+pub mod FitOnceLaws
+pub mod UnreadLaws
+pub mod LivesLaws
+pub mod KeptLaws
 pub mod FindsLaws
 pub mod SessionsLaws
 pub mod WaitingLaws

@@ -48,5 +48,7 @@ pub mod Spellings
 pub mod StateSpellings
 pub mod InputSpellings
 pub mod Store
+pub mod Stands
+pub mod Lives
 pub mod Finds
 pub mod Sessions

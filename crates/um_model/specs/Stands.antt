@@ -1,0 +1,51 @@
+-- What an image of a store stands for: the state that its newest body spells, and from there a step for each record of its generation.
+-- No manual page has it: it is the project's own format (docs/FORMATS.md, "The store on its disk").
+-- The lives of a store and the keeper stand on this file.
+use Rattle.std.specs.Prelude.{◌≡◌, ℕ, ◌+◌, List, [], ◌∷◌, Option, Some}
+use Rattle.um_model.specs.Bytes.{◌>>=◌, nothing_left}
+use Rattle.um_model.specs.Disk.{Image}
+use Rattle.um_model.specs.InputSpellings.{input_at}
+use Rattle.um_model.specs.Machine.{State, Input, Run}
+use Rattle.um_model.specs.Servable.{IsServable}
+use Rattle.um_model.specs.StateSpellings.{state_at}
+use Rattle.um_model.specs.Store.{superblock, body_limit, log_start, Newest, newest_of, records_of, IsSlotRead, IsFree, IsLogRead}
+use Rattle.um_model.specs.declared.layout.Layout.{Layout}
+use Rattle.um_model.specs.declared.layout.Slot.{Slot}
+
+-- the inputs that records spell, each the whole of its record
+abbrev pub inputs_of : List (List ℕ) → Option (List Input)
+inputs_of [] = Some []
+inputs_of (bytes ∷ records) = nothing_left (input_at bytes) >>= λ input. inputs_of records >>= λ inputs. Some (input ∷ inputs)
+
+-- What a store holds: a snapshot of a state, where it stands, and the inputs that were recorded since.
+pub record Contents : Type 0 where
+  pub slot : Slot
+  pub generation : ℕ
+  pub start : State
+  pub inputs : List Input
+
+-- the newest body spells the state, and each record of its generation an input
+abbrev pub contents_of : Layout → Image → Option Contents
+contents_of layout image =
+    newest_of layout image >>= λ n. nothing_left (state_at n.body) >>= λ s. inputs_of (records_of layout n.generation image) >>= λ inputs.
+    Some (record { slot = n.slot; generation = n.generation; start = s; inputs = inputs })
+
+-- The image of a store of this layout stands for the state: a run over the recorded inputs, from the snapshot on, ends there.
+pub record StandsFor (layout : Layout) (image : Image) (s : State) : Type 0 where
+  pub first : image 0 ≡ superblock layout
+  pub contents : Contents
+  pub holds : contents_of layout image ≡ Some contents
+  pub servable : IsServable (body_limit layout) contents.start
+  pub run : Run (body_limit layout) contents.start contents.inputs s
+
+-- An image that a store of the state leaves: no sector of its log is of a later generation, which the next snapshot would bring to count.
+pub record IsStoreOf (layout : Layout) (image : Image) (s : State) : Type 0 where
+  pub stands : StandsFor layout image s
+  pub none_later : IsFree layout (stands.contents.generation + 1) image (log_start layout (stands.contents.generation + 1))
+
+-- a sector that the reading of a store looks at: the first, those of its slots, and of the log those of the newest generation
+pub data IsRead (layout : Layout) (image : Image) : ℕ → Type 0 where
+  is_first : IsRead layout image 0
+  of_slots : {j : ℕ} → IsSlotRead layout image j → IsRead layout image j
+  of_log : {j : ℕ} (n : Newest) → newest_of layout image ≡ Some n → IsLogRead layout n.generation image 0 (log_start layout n.generation) j
+      → IsRead layout image j
