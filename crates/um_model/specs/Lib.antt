@@ -49,3 +49,4 @@ pub mod InputSpellings
 pub mod Store
 pub mod Finds
 pub mod Sessions
+pub mod Runner
