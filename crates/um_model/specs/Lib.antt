@@ -50,3 +50,4 @@ pub mod Store
 pub mod Finds
 pub mod Sessions
 pub mod Children
+pub mod Runner
