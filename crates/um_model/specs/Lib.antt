@@ -52,3 +52,5 @@ pub mod Stands
 pub mod Lives
 pub mod Finds
 pub mod Sessions
+pub mod Children
+pub mod Runner

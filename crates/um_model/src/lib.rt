@@ -2,6 +2,7 @@
 //! share.
 #![tactic(auto)]
 
+mod children;
 mod commands;
 mod dependencies;
 mod frames;
@@ -13,6 +14,7 @@ mod names;
 mod processes;
 mod refusals;
 mod requests;
+mod runner;
 mod service;
 mod settings;
 mod time;
@@ -22,6 +24,7 @@ mod units;
 mod warnings;
 mod words;
 
+pub use children::Fate;
 pub use commands::{JobMode, UnitVerb};
 pub use dependencies::{Demand, DependencyKind};
 pub use frames::Ending;
@@ -33,6 +36,7 @@ pub use names::Suffix;
 pub use processes::{NextNumber, ProcessNumber};
 pub use refusals::Limit;
 pub use requests::{Mode, Verb};
+pub use runner::{Claimant, RunnerFile};
 pub use service::{ActiveState, End, Signal, SubState, UnitResult, UnitState};
 pub use settings::{RestartPolicy, TimeSpan};
 pub use time::{Deadline, Moment, Span};
