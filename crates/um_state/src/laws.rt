@@ -15,6 +15,7 @@ ghost use Rattle.um_model.specs.declared.service.UnitState.{UnitState};
 ghost use Rattle.um_state.specs.Short.{HasShortTexts};
 ghost use Rattle.um_state.specs.View.{input_of};
 
+use crate::fitting::{event_fits, moment_fits};
 use crate::input::Input;
 
 /// Units that are tidy are the same where each stands the same.
@@ -65,10 +66,14 @@ pub fn no_spelling_of_a_run_is_longer_than_the_weight()
         → length (state_spelling t) ≤ weight_of t.tree t.loaded units }
 {}
 
-/// Each input that can be made has a spelling, where its texts have fewer than 2^32 bytes.
+/// Each input that can be made has a spelling, where its texts have fewer than 2^32 bytes. It only looks at the input, since its types
+/// keep what the spelling asks for.
 pub fn each_input_has_a_spelling(input: &Input)
     ensures { HasShortTexts (input_of input.now).event → FitInput (input_of input.now) }
-{}
+{
+    moment_fits(input.moment);
+    event_fits(&input.event);
+}
 
 /// An input that is accepted after a run from the empty state has at most 131,072 bytes.
 pub fn an_accepted_input_is_short()

@@ -3,7 +3,7 @@ use Rattle.um_model.specs.Bytes.{text_spelling}
 use Rattle.um_model.specs.StateSpellings.{pending_spelling, tree_spelling, units_spelling}
 use Rattle.um_state.proofs.StateFields.{behind_mark, eight_bytes}
 use Rattle.um_state.specs.View.{state_of}
-use Rattle.um_state.proofs.state_bytes.State.put.Goals as goal
+use Rattle.um_state.proofs.state.State.put.Goals as goal
 
 pub returns-clause-put : goal.returns-clause-put
 returns-clause-put c =
@@ -23,15 +23,3 @@ returns-clause-put c =
     let e6 = c.in_ok-put-6.ensures.put ∙ ap (λ o. o ++ units) e5 in
     let e7 = c.in_ok-put-7.ensures.put ∙ ap (λ o. o ++ pending) e6 in
     e7 ∙ behind_mark c.args.out.now.items tree loaded boot clock next units pending
-
-pub returns-clause-fits : goal.returns-clause-fits
-returns-clause-fits c sound = record {
-  tree = c.in_ok-put.ensures.fits;
-  loaded = c.in_ok-put-2.ensures.fits;
-  boot = c.in_ok-put-3.ensures.fits;
-  clock = c.in_ok-put-4.ensures.fits;
-  next = c.in_ok-put-5.ensures.fits;
-  units = c.in_ok-put-6.ensures.fits;
-  pending = c.in_ok-put-7.ensures.fits;
-  sound = sound;
-}
