@@ -6,8 +6,7 @@ use Rattle.um_model.specs.Few.{IsFew}
 use Rattle.um_model.specs.Live.{IsFree}
 use Rattle.um_model.specs.Machine.{State, IsTooHeavy}
 
--- a state that a store of so many bytes may hold: it weighs no more, no more units are known than may be, and its pending jobs don't wait
--- for one another in a circle
+-- a store of so many bytes may hold the state: it isn't too heavy, not too many units are known, and no pending jobs wait in a circle
 pub record IsServable (size : ℕ) (s : State) : Type 0 where
   pub light : ¬ IsTooHeavy size s
   pub few : IsFew s
