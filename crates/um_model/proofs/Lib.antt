@@ -54,6 +54,8 @@ pub mod SpellingRows
 pub mod TransitionLaws
 pub mod StoreLaws
 pub mod LogLaws
+pub mod StandsLaws
+pub mod LivesLaws
 pub mod FindsLaws
 pub mod SessionsLaws
 pub mod WaitingLaws
