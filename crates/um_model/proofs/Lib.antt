@@ -56,6 +56,7 @@ pub mod StoreLaws
 pub mod LogLaws
 pub mod StandsLaws
 pub mod LivesLaws
+pub mod ImageLaws
 pub mod FindsLaws
 pub mod SessionsLaws
 pub mod WaitingLaws
