@@ -57,11 +57,8 @@ pub mod LogLaws
 pub mod StandsLaws
 pub mod LivesLaws
 pub mod ImageLaws
-pub mod ImageLaws
-pub mod StandsLaws
 pub mod SpelledLaws
 pub mod UnreadLaws
-pub mod LivesLaws
 pub mod FindsLaws
 pub mod SessionsLaws
 pub mod WaitingLaws
