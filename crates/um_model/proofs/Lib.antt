@@ -58,6 +58,7 @@ pub mod StandsLaws
 pub mod LivesLaws
 pub mod ImageLaws
 pub mod SpelledLaws
+pub mod FitOnceLaws
 pub mod UnreadLaws
 pub mod FindsLaws
 pub mod SessionsLaws

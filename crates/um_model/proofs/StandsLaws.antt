@@ -8,7 +8,7 @@ use Rattle.std.proofs.lemmas.List.{append-nil}
 use Rattle.std.proofs.lemmas.Option.{same_Some, none-some}
 use Rattle.byteorder.specs.Endian.{big_number}
 use mathlib.Core.HLevel.{×_prop}
-use Rattle.um_model.specs.Bytes.{IsBytes, ◌>>=◌, nothing_left}
+use Rattle.um_model.specs.Bytes.{◌>>=◌, nothing_left}
 use Rattle.um_model.specs.Disk.{Sector, Image, Past, IsImage, Images}
 use Rattle.um_model.specs.InputSpellings.{input_spelling, input_at, FitInput}
 use Rattle.um_model.specs.Machine.{State, Input, Reply, Step, Run, rests, goes, empty_state}
@@ -16,11 +16,9 @@ use Rattle.um_model.specs.Servable.{IsServable}
 use Rattle.um_model.specs.Service.{Action}
 use Rattle.um_model.specs.Stands.{inputs_of, Contents, contents_of, StandsFor, IsStoreOf}
 use Rattle.um_model.specs.StateSpellings.{state_spelling, state_at, FitState}
-use Rattle.um_model.specs.Store.{superblock, other, body_limit, log_start, Newest, newest_of, records_of, IsNewest, HasRecords, IsFree, IsStore, IsStoreOf as HasStore, WasStore, EitherSnapshot, EitherRecord}
+use Rattle.um_model.specs.Store.{superblock, other, body_limit, log_start, Newest, newest_of, records_of, IsNewest, HasRecords, IsFree, IsStore, IsStoreOf as HasStore, EitherSnapshot, EitherRecord}
 use Rattle.um_model.specs.declared.layout.Layout.{Layout}
 use Rattle.um_model.specs.declared.layout.Slot.{Slot}
-use Rattle.um_model.specs.declared.layout.Slot.TheVariants.{A}
-use Rattle.um_model.proofs.BytesLaws.{whole_spelled}
 use Rattle.um_model.proofs.FewLaws.{empty_few}
 use Rattle.um_model.proofs.FitStateLaws.{fit_of_whole, empty_whole}
 use Rattle.um_model.proofs.ImageLaws.{newest_some, records_are, only_records}
