@@ -1,6 +1,8 @@
-//! The engine over a disk. So far: what an accepted input answers, to be spent action by action.
+//! The engine over a disk: what it answers outlives a crash.
 #![tactic(auto)]
 
+mod keeper;
 mod receipt;
 
+pub use keeper::Keeper;
 pub use receipt::{Handed, Receipt, SpawnOrder};
