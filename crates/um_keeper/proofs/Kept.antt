@@ -1,12 +1,14 @@
 -- What a keeper holds of its disk: what the log and the slots need of it, and what they give back.
-use Rattle.std.proofs.Common.{◌≡◌, ◌∙◌, ℕ, ◌+◌, ◌≤◌, true, false≢true, List, [], ◌∷◌, ◌++◌, length, refl, sym, ap, subst, Option, Some, None, is_some, inl, inr, ◌⊎◌}
+use Rattle.std.proofs.Common.{◌≡◌, ◌∙◌, ℕ, ◌+◌, ◌≤◌, true, List, [], ◌∷◌, ◌++◌, length, refl, sym, ap, subst, Option, Some, None, is_some, inl, inr, ◌⊎◌}
+use Rattle.std.specs.Prelude.{Result, Ok, IfOk, IfSome}
 use Rattle.std.proofs.Math.Bridge.{le_prop}
 use Rattle.std.proofs.Math.Logic.{∥∥₁_elim, ∥∥₁_map}
+use Rattle.std.proofs.lemmas.Bool.{false≢true}
 use Rattle.std.proofs.lemmas.Option.{same_Some}
 use Rattle.std.specs.Coded.{Coded, Coded-set, codes}
 use Rattle.std.specs.FinMap as maps
 use Rattle.um_model.specs.Bytes.{nothing_left}
-use Rattle.um_model.specs.Disk.{Past, Image, IsImage, Images, seen}
+use Rattle.um_model.specs.Disk.{Past, Image, IsImage, Images, During, seen}
 use Rattle.um_model.specs.InputSpellings.{FitInput, input_spelling}
 use Rattle.um_model.specs.Machine.{State, Input, Run, rests, goes, Step, Reply}
 use Rattle.um_model.specs.Servable.{IsServable}
@@ -17,12 +19,19 @@ use Rattle.um_model.specs.Store as store
 use Rattle.um_model.specs.Store.{body_limit, log_start, log_end, newest_of, records_of, sectors_of, HasRecords, IsStore, GoesOn, EitherRecord, EitherSnapshot}
 use Rattle.um_model.specs.declared.layout.Layout.{Layout}
 use Rattle.um_model.specs.declared.layout.Slot.{Slot}
+use Rattle.um_model.proofs.DiskLaws.{started, weaker}
 use Rattle.um_model.proofs.ImageLaws.{newest_some, records_are}
 use Rattle.um_model.proofs.ServableLaws.{step_servable}
 use Rattle.um_model.proofs.StandsLaws.{contents, ComesTo, HasContents, has_contents, contents_are, newest_told, records_told, store_of, comes_further, comes_anew, run_to, only_end, state_back, either_state, anew}
 use Rattle.um_model.proofs.WholeLaws.{step_fits, spelled_room}
 use Rattle.um_tree.specs.Code.{tree_code}
 use Rattle.um_keeper.specs.Keeping.{MayHold, Keeps, IsBegun}
+
+-- ---- answers
+
+-- what is said of an answer that has a value, at that value
+pub at_some : {A E : Type 0} (P : A → Type 0) (result : Result (Option A) E) (found : Option A) (x : A) → IfOk result (λ o. IfSome o P) → result ≡ Ok found → found ≡ Some x → P x
+at_some P result found x said is some = subst (λ o. IfSome o P) some (subst (λ r. IfOk r (λ o. IfSome o P)) is said)
 
 -- ---- what the log and the slots need
 
@@ -83,6 +92,10 @@ module _ {past : Past} {sectors : ℕ} {layout : Layout} {slot : Slot} {generati
   pub snapshots : Images past (store.IsStoreOf layout slot generation unpacked.body)
   snapshots image is = subst (IsStore layout image slot generation unpacked.body) (sym (k.records image is)) (unpacked.goes_on.store image is)
 
+  -- where nothing is written
+  pub still : During past past (λ image. IsStoreOf layout image s)
+  still = started past _ stores
+
 -- ---- what they give back
 
 pub packed : {past : Past} {sectors : ℕ} {layout : Layout} {slot : Slot} {generation number next : ℕ} {s : State} {body : List ℕ} {records : List (List ℕ)}
@@ -110,6 +123,13 @@ packed {past} {sectors} {layout} {slot} {generation} {number} {next} {s} {body} 
     told : contents_of layout (seen past) ≡ Some (contents slot generation start inputs)
     told = contents_are (whole.store (seen past) is) comes.start_is comes.inputs_are
 
+-- the same by equal numbers
+pub keeps_at : {past : Past} {sectors n m x y n' : ℕ} {layout l : Layout} {slot : Slot} {generation : ℕ} {s : State} → Keeps past sectors layout slot generation n x s
+    → n' ≡ sectors → l ≡ layout → m ≡ n → y ≡ x → Keeps past n' l slot generation m y s
+keeps_at {past} {sectors} {n} {m} {x} {y} {n'} {layout} {l} {slot} {generation} {s} k a b c d =
+    subst (λ z. Keeps past n' l slot generation m z s) (sym d) (subst (λ z. Keeps past n' l slot generation z x s) (sym c)
+    (subst (λ (z : Layout). Keeps past n' z slot generation n x s) (sym b) (subst (λ z. Keeps past z layout slot generation n x s) (sym a) k)))
+
 -- ---- a record
 
 module _ {past : Past} {sectors : ℕ} {layout : Layout} {slot : Slot} {generation number next size : ℕ} {s t : State} (held : MayHold layout size s)
@@ -131,6 +151,10 @@ module _ {past : Past} {sectors : ℕ} {layout : Layout} {slot : Slot} {generati
       → GoesOn layout new slot generation (unpacked k).body (records_of layout generation (seen past) ++ input_spelling input ∷ []) later further
       → Keeps new sectors layout slot generation later further t
   recorded is whole = packed is whole (comes_further (unpacked k).comes fit stepped) k.on_disk
+
+-- the same by equal layouts
+pub held_at : {layout l : Layout} {size : ℕ} {s : State} → MayHold layout size s → l ≡ layout → MayHold l size s
+held_at {size = size} {s = s} held same = subst (λ (l : Layout). MayHold l size s) (sym same) held
 
 -- a state after a step may be held too
 pub held_after : {layout : Layout} {size : ℕ} {s t : State} {input : Input} {reply : Reply} {actions : List Action} → MayHold layout size s → FitInput input
@@ -164,12 +188,26 @@ module _ {past : Past} {sectors : ℕ} {layout : Layout} {slot : Slot} {generati
   either_kept image (inl was) = store_of (subst (IsStore layout image slot generation (unpacked k).body) (k.records was.from was.was) was.store) (unpacked k).comes
   either_kept image (inr new) = anew new (read_again held) may
 
+  -- the same of the calls that write it
+  pub during_kept : {new : Past} {body : List ℕ} → body ≡ state_spelling s
+      → ((before : List ℕ) → Images past (store.IsStoreOf layout slot generation before) → During past new (EitherSnapshot layout past slot generation before body))
+      → During past new (λ image. IsStoreOf layout image s)
+  during_kept {new} {body} is written = weaker past new _ _ either_kept
+      (subst (λ b. During past new (EitherSnapshot layout past slot generation (unpacked k).body b)) is (written (unpacked k).body (snapshots k)))
+
   -- behind it the keeper holds the same state, with no record
   pub snapped : {new : Past} {to : Slot} {after later further : ℕ} → IsImage new (seen new) → log_end layout after ≤ sectors
       → GoesOn layout new to after (state_spelling s) [] later further → Keeps new sectors layout to after later further s
   snapped is on_disk whole = packed is whole (comes_anew (read_again held) may) on_disk
 
--- what each image holds then
-pub snapshot_told : {layout : Layout} {image : Image} {slot : Slot} {generation size : ℕ} {s : State} → MayHold layout size s → IsStore layout image slot generation (state_spelling s) []
-    → contents_of layout image ≡ Some (contents slot generation s [])
-snapshot_told held store = contents_are store (read_again held) refl
+  -- behind the calls that write it
+  module _ {new : Past} {to : Slot} {after later further : ℕ} {body : List ℕ} (is : body ≡ state_spelling s)
+      (written : (before : List ℕ) → Images past (store.IsStoreOf layout slot generation before) → GoesOn layout new to after body [] later further) where
+    behind : GoesOn layout new to after (state_spelling s) [] later further
+    behind = subst (λ b. GoesOn layout new to after b [] later further) is (written (unpacked k).body (snapshots k))
+
+    pub kept_behind : IsImage new (seen new) → log_end layout after ≤ sectors → Keeps new sectors layout to after later further s
+    kept_behind image on_disk = snapped image on_disk behind
+
+    pub told_behind : Images new (λ image. contents_of layout image ≡ Some (contents to after s []))
+    told_behind image at = contents_are (behind.store image at) (read_again held) refl

@@ -1,7 +1,7 @@
 -- What clauses say of a keeper: its disk, the layout of its store, where it stands on the disk, and its state.
 -- No manual page has it: it is the project's own.
 -- The keeper's calls stand on this file.
-use Rattle.std.specs.Prelude.{ℕ, Bool}
+use Rattle.std.specs.Prelude.{◌≡◌, ℕ, Bool}
 use Rattle.um_model.specs.Machine.{State}
 use Rattle.um_model.specs.declared.layout.Layout.{Layout}
 use Rattle.um_model.specs.declared.layout.Slot.{Slot}
@@ -38,3 +38,8 @@ next_in k = k.log.next
 -- an earlier call failed on its disk
 abbrev pub has_failed : {D : Type 0} {g : _} → Keeper D g → Bool
 has_failed k = k.failed
+
+-- the same layout, and the same size of the store
+pub record IsSamePlace {D : Type 0} {g : _} (old new : Keeper D g) : Type 0 where
+  pub layout : layout_in new ≡ layout_in old
+  pub size : size_in new ≡ size_in old
