@@ -152,9 +152,37 @@ module _ {past : Past} {sectors : ℕ} {layout : Layout} {slot : Slot} {generati
       → Keeps new sectors layout slot generation later further t
   recorded is whole = packed is whole (comes_further (unpacked k).comes fit stepped) k.on_disk
 
--- the same by equal layouts
-pub held_at : {layout l : Layout} {size : ℕ} {s : State} → MayHold layout size s → l ≡ layout → MayHold l size s
-held_at {size = size} {s = s} held same = subst (λ (l : Layout). MayHold l size s) (sym same) held
+  -- the same of the calls that write it
+  module _ {of : ℕ} {bytes : List ℕ} (same : of ≡ generation) (is : bytes ≡ input_spelling input) where
+    ready : GoesOn layout past slot of (unpacked k).body (records_of layout generation (seen past)) number next
+    ready = subst (λ g. GoesOn layout past slot g (unpacked k).body (records_of layout generation (seen past)) number next) (sym same) (unpacked k).goes_on
+
+    pub during_begun : {new : Past} → ((slot : Slot) (body : List ℕ) (records : List (List ℕ)) → GoesOn layout past slot of body records number next
+            → During past new (EitherRecord layout slot of body records bytes)) → During past new (IsBegun layout s (input ∷ []))
+    during_begun {new} written = weaker past new _ _ either_begun
+        (subst (λ g. During past new (EitherRecord layout slot g (unpacked k).body (records_of layout generation (seen past)) (input_spelling input))) same
+        (subst (λ b. During past new (EitherRecord layout slot of (unpacked k).body (records_of layout generation (seen past)) b)) is
+        (written slot (unpacked k).body (records_of layout generation (seen past)) ready)))
+
+    pub kept_recorded : {new : Past} {l : Layout} {later_of later further : ℕ} → ((slot : Slot) (body : List ℕ) (records : List (List ℕ)) → GoesOn layout past slot of body records number next
+            → GoesOn l new slot later_of body (records ++ bytes ∷ []) later further)
+        → IsImage new (seen new) → l ≡ layout → later_of ≡ of → Keeps new sectors l slot generation later further t
+    kept_recorded {new} {l} {later_of} {later} {further} written image on_layout of_generation =
+        subst (λ (z : Layout). Keeps new sectors z slot generation later further t) (sym on_layout) (recorded image
+        (subst (λ b. GoesOn layout new slot generation (unpacked k).body (records_of layout generation (seen past) ++ b ∷ []) later further) is
+        (subst (λ g. GoesOn layout new slot g (unpacked k).body (records_of layout generation (seen past) ++ bytes ∷ []) later further) (of_generation ∙ same)
+        (subst (λ (z : Layout). GoesOn z new slot later_of (unpacked k).body (records_of layout generation (seen past) ++ bytes ∷ []) later further) on_layout
+        (written slot (unpacked k).body (records_of layout generation (seen past)) ready)))))
+
+-- the same by equal values
+pub held_at : {layout l : Layout} {size n : ℕ} {s t : State} → MayHold layout size s → l ≡ layout → n ≡ size → t ≡ s → MayHold l n t
+held_at {l = l} {size = size} {n = n} {s = s} held a b c =
+    subst (λ (z : State). MayHold l n z) (sym c) (subst (λ z. MayHold l z s) (sym b) (subst (λ (z : Layout). MayHold z size s) (sym a) held))
+
+pub keeps_for : {past : Past} {sectors more : ℕ} {layout : Layout} {slot : Slot} {generation number next : ℕ} {s t : State}
+    → Keeps past sectors layout slot generation number next s → more ≡ sectors → t ≡ s → Keeps past more layout slot generation number next t
+keeps_for {past} {sectors} {more} {layout} {slot} {generation} {number} {next} {s} k a b =
+    subst (λ (z : State). Keeps past more layout slot generation number next z) (sym b) (subst (λ z. Keeps past z layout slot generation number next s) (sym a) k)
 
 -- a state after a step may be held too
 pub held_after : {layout : Layout} {size : ℕ} {s t : State} {input : Input} {reply : Reply} {actions : List Action} → MayHold layout size s → FitInput input

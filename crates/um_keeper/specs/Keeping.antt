@@ -3,11 +3,12 @@
 -- The keeper and its opening stand on this file.
 use Rattle.std.specs.Prelude.{◌≡◌, ◌+◌, ◌≤◌, ℕ, length, true, List, take, Some, is_some}
 use Rattle.um_model.specs.Disk.{Past, Image, Images, seen}
+use Rattle.um_model.specs.InputSpellings.{input_spelling}
 use Rattle.um_model.specs.Machine.{State, Input, Run}
 use Rattle.um_model.specs.Servable.{IsServable}
-use Rattle.um_model.specs.StateSpellings.{FitState}
+use Rattle.um_model.specs.StateSpellings.{FitState, state_spelling}
 use Rattle.um_model.specs.Stands.{Contents, contents_of, IsStoreOf}
-use Rattle.um_model.specs.Store.{superblock, body_limit, log_start, log_end, newest_of, records_of, sectors_of, IsFree}
+use Rattle.um_model.specs.Store.{superblock, body_limit, log_start, log_end, newest_of, records_of, sectors_of, sector_count, part_count, IsFree}
 use Rattle.um_model.specs.declared.layout.Layout.{Layout}
 use Rattle.um_model.specs.declared.layout.Slot.{Slot}
 
@@ -44,3 +45,11 @@ pub record IsBegun (layout : Layout) (s : State) (inputs : List Input) (image : 
   pub state : State
   pub run : Run (body_limit layout) s (take count inputs) state
   pub store : IsStoreOf layout image state
+
+-- The most calls on the disk that a record of the input takes: one a part, and a sync.
+abbrev pub record_calls : Input → ℕ
+record_calls input = part_count (length (input_spelling input)) + 1
+
+-- The most that a snapshot of the state takes: one a sector of the body, one for the header, and two syncs.
+abbrev pub snapshot_calls : State → ℕ
+snapshot_calls s = sector_count (length (state_spelling s)) + 3

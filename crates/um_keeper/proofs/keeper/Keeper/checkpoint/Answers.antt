@@ -1,4 +1,4 @@
-use Rattle.std.proofs.Common.{◌∙◌, Ok, length, sym, ap, subst, arith}
+use Rattle.std.proofs.Common.{◌∙◌, Ok, length, refl, sym, ap, subst, arith}
 use Rattle.um_model.specs.StateSpellings.{state_spelling}
 use Rattle.um_keeper.proofs.Kept.{at_some, still, spelled_fits, during_kept, kept_behind, told_behind, held_at, keeps_at}
 use Rattle.um_keeper.proofs.keeper.Keeper.checkpoint.Goals as goal
@@ -13,7 +13,7 @@ pub invariant_of-self : goal.invariant_of-self
 invariant_of-self g c =
     record {
       same = c.new-self.ensures.of.1;
-      holds = held_at c.args.self.now.holds c.new-self.ensures.of.0;
+      holds = held_at c.args.self.now.holds c.new-self.ensures.of.0 refl refl;
       kept = λ f h.
           let old = sym c.write_other.ensures.honest ∙ h in
           let k = c.args.self.now.kept f old in
