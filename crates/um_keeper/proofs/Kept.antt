@@ -1,6 +1,6 @@
 -- What a keeper holds of its disk: what the log and the slots need of it, and what they give back.
-use Rattle.std.proofs.Common.{◌≡◌, ◌∙◌, ℕ, ◌+◌, ◌≤◌, true, List, [], ◌∷◌, ◌++◌, length, refl, sym, ap, subst, Option, Some, None, is_some, inl, inr, ◌⊎◌}
-use Rattle.std.specs.Prelude.{Result, Ok, IfOk, IfSome}
+use Rattle.std.proofs.Common.{◌≡◌, ◌≢◌, ◌∙◌, ℕ, ◌+◌, ◌≤◌, true, List, [], ◌∷◌, ◌++◌, length, refl, sym, ap, subst, Option, Some, None, is_some, inl, inr, ◌⊎◌}
+use Rattle.std.specs.Prelude.{Result, Ok, Err, IfOk, IfSome}
 use Rattle.std.proofs.Math.Bridge.{le_prop}
 use Rattle.std.proofs.Math.Logic.{∥∥₁_elim, ∥∥₁_map}
 use Rattle.std.proofs.lemmas.Bool.{false≢true}
@@ -10,7 +10,9 @@ use Rattle.std.specs.FinMap as maps
 use Rattle.um_model.specs.Bytes.{nothing_left}
 use Rattle.um_model.specs.Disk.{Past, Image, IsImage, Images, During, seen}
 use Rattle.um_model.specs.InputSpellings.{FitInput, input_spelling}
-use Rattle.um_model.specs.Machine.{State, Input, Run, rests, goes, Step, Reply}
+use Rattle.um_model.specs.Machine.{State, Input, Run, rests, goes, Step, Reply, Refusal}
+use Rattle.um_model.specs.Numbers.{AreNew, started_numbers}
+use Rattle.um_model.specs.Refusals.{Refused}
 use Rattle.um_model.specs.Servable.{IsServable}
 use Rattle.um_model.specs.Service.{Action}
 use Rattle.um_model.specs.StateSpellings.{state_at, state_spelling, FitState}
@@ -19,11 +21,12 @@ use Rattle.um_model.specs.Store as store
 use Rattle.um_model.specs.Store.{body_limit, log_start, log_end, newest_of, records_of, sectors_of, HasRecords, IsStore, GoesOn, EitherRecord, EitherSnapshot}
 use Rattle.um_model.specs.declared.layout.Layout.{Layout}
 use Rattle.um_model.specs.declared.layout.Slot.{Slot}
-use Rattle.um_model.proofs.DiskLaws.{started, weaker}
+use Rattle.um_model.proofs.DiskLaws.{started, weaker, followed}
 use Rattle.um_model.proofs.ImageLaws.{newest_some, records_are}
+use Rattle.um_model.proofs.NumbersLaws.{numbers_rise}
 use Rattle.um_model.proofs.ServableLaws.{step_servable}
 use Rattle.um_model.proofs.StandsLaws.{contents, ComesTo, HasContents, has_contents, contents_are, newest_told, records_told, store_of, comes_further, comes_anew, run_to, only_end, state_back, either_state, anew}
-use Rattle.um_model.proofs.WholeLaws.{step_fits, spelled_room}
+use Rattle.um_model.proofs.WholeLaws.{step_fits, spelled_room, accepted_room}
 use Rattle.um_tree.specs.Code.{tree_code}
 use Rattle.um_keeper.specs.Keeping.{MayHold, Keeps, IsBegun}
 
@@ -192,6 +195,51 @@ held_after {size = size} {s = s} {t = t} {input} {reply} {actions} held fit step
   servable = step_servable size s input reply actions t step held.servable;
   fits = ∥∥₁_map held.fits (λ f. step_fits size s input reply actions t fit step f held.servable);
 }
+
+-- none of the inputs was taken
+none_begun : {layout : Layout} {s : State} {inputs : List Input} (image : Image) → IsStoreOf layout image s → IsBegun layout s inputs image
+none_begun {s = s} image store = record { count = 0; state = s; run = rests; store = store }
+
+pub not_begun : {past : Past} {sectors : ℕ} {layout : Layout} {slot : Slot} {generation number next : ℕ} {s : State} (inputs : List Input)
+    → Keeps past sectors layout slot generation number next s → During past past (IsBegun layout s inputs)
+not_begun {past} inputs k = weaker past past _ _ none_begun (still k)
+
+-- nor while a snapshot of the state was written
+pub room_begun : {past new : Past} {layout : Layout} {s : State} (inputs : List Input) → During past new (λ image. IsStoreOf layout image s) → During past new (IsBegun layout s inputs)
+room_begun {past} {new} inputs made = weaker past new _ _ none_begun made
+
+-- a snapshot first, and then the record
+pub room_and_record : {past mid new : Past} {layout l : Layout} {s t : State} (inputs : List Input) → During past mid (λ image. IsStoreOf layout image s)
+    → During mid new (IsBegun l t inputs) → l ≡ layout → t ≡ s → During past new (IsBegun layout s inputs)
+room_and_record {past} {mid} {new} {layout} {l} {s} {t} inputs made written on_layout of_state = followed past mid new _ (room_begun inputs made)
+    (subst (λ (z : State). During mid new (IsBegun layout z inputs)) of_state (subst (λ (z : Layout). During mid new (IsBegun z t inputs)) on_layout written))
+
+-- the record of an input that isn't refused is no longer than any record may be
+pub record_short : {layout : Layout} {size : ℕ} {s t : State} {input : Input} {reply : Reply} {actions : List Action} → MayHold layout size s → FitInput input
+    → Step size s input reply actions t → ((r : Refused) → reply ≢ Refusal r) → length (input_spelling input) ≤ 131072
+record_short {size = size} {s = s} {t = t} {input} {reply} {actions} held fit step accepted =
+    ∥∥₁_elim held.fits le_prop (λ f. (accepted_room size s input reply actions t f fit step accepted).1)
+
+-- ---- what a step answers
+
+-- what follows from what is said of a value
+pub if_ok : {A E : Type 0} {P Q : A → Type 0} (result : Result A E) → ((x : A) → P x → Q x) → IfOk result P → IfOk result Q
+if_ok (Ok x) more said = more x said
+if_ok (Err e) more said = said
+
+pub new_numbers : {size : ℕ} {s t u : State} {input : Input} {reply : Reply} {actions more : List Action} → Step size s input reply actions t → more ≡ actions → u ≡ t
+    → AreNew s.next u.next (started_numbers more)
+new_numbers {size} {s} {t} {u} {input} {reply} {actions} {more} step a b =
+    subst (λ (v : State). AreNew s.next v.next (started_numbers more)) (sym b)
+    (subst (λ l. AreNew s.next t.next (started_numbers l)) (sym a) (numbers_rise size s input reply actions t step))
+
+pub stores_at : {past : Past} {sectors : ℕ} {layout l : Layout} {slot : Slot} {generation number next : ℕ} {s : State} → Keeps past sectors l slot generation number next s
+    → l ≡ layout → Images past (λ image. IsStoreOf layout image s)
+stores_at {s = s} k same image is = subst (λ (z : Layout). IsStoreOf z image s) same (stores k image is)
+
+pub stores_for : {past : Past} {sectors : ℕ} {layout : Layout} {slot : Slot} {generation number next : ℕ} {s t : State} → Keeps past sectors layout slot generation number next s
+    → t ≡ s → Images past (λ image. IsStoreOf layout image t)
+stores_for {layout = layout} k same image is = subst (λ (z : State). IsStoreOf layout image z) (sym same) (stores k image is)
 
 -- ---- a snapshot
 
