@@ -180,7 +180,8 @@ pub fn memory<R: Read, W: Write>(
     ensures ok { IfOk result (λ e. WritesFrom memory_size empty_state [] (R.remaining input.old) (W.contents output.old) (W.contents output.new) e) }
     ensures err { OnErr result (BeginsFrom memory_size empty_state [] (R.remaining input.old) (W.contents output.old) (W.contents output.new)) }
 {
-    let Some(engine) = Engine::of(alloc, State::empty(alloc), MEMORY_SIZE)? else {
+    let engine = Engine::of(alloc, State::empty(alloc), MEMORY_SIZE)?;
+    let Some(engine) = engine else {
         // a store of this size may hold the empty state
         unreachable!()
     };

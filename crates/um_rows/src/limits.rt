@@ -110,8 +110,16 @@ fn with_wanted(rt: &(impl AllocGlobal + Abort), count: usize) -> State {
 #[test]
 fn a_state_of_which_too_many_units_are_known_is_not_served(rt: HostRuntime) {
     // with a.service and shutdown.target 1,024, and 1,025
-    same(&rt, is_served(&rt, with_wanted(&rt, 1_022), LARGE_SIZE), true);
-    same(&rt, is_served(&rt, with_wanted(&rt, 1_023), LARGE_SIZE), false);
+    same(
+        &rt,
+        is_served(&rt, with_wanted(&rt, 1_022), LARGE_SIZE),
+        true,
+    );
+    same(
+        &rt,
+        is_served(&rt, with_wanted(&rt, 1_023), LARGE_SIZE),
+        false,
+    );
 }
 
 /// The same where an entry under `run/` masks `a.service`, so that only without that entry all these are known.
@@ -125,14 +133,24 @@ fn with_hidden(rt: &(impl AllocGlobal + Abort), count: usize) -> State {
 
 #[test]
 fn units_are_counted_without_the_entries_under_run_too(rt: HostRuntime) {
-    same(&rt, is_served(&rt, with_hidden(&rt, 1_022), LARGE_SIZE), true);
-    same(&rt, is_served(&rt, with_hidden(&rt, 1_023), LARGE_SIZE), false);
+    same(
+        &rt,
+        is_served(&rt, with_hidden(&rt, 1_022), LARGE_SIZE),
+        true,
+    );
+    same(
+        &rt,
+        is_served(&rt, with_hidden(&rt, 1_023), LARGE_SIZE),
+        false,
+    );
 }
 
 /// Puts a waiting start of the unit.
 fn put_start(rt: &(impl AllocGlobal + Abort), state: &mut State, unit: &str) {
     let unit = UnitName::parse(rt.alloc(), unit).expect(rt, "no unit");
-    state.set_jobs(&unit, WAITS_TO_START).expect(rt, "no memory");
+    state
+        .set_jobs(&unit, WAITS_TO_START)
+        .expect(rt, "no memory");
 }
 
 /// The text of a service that starts after the other.
