@@ -3,7 +3,7 @@ use Rattle.um_model.specs.Bytes.{text_spelling}
 use Rattle.um_model.specs.StateSpellings.{pending_spelling, tree_spelling, units_spelling}
 use Rattle.um_state.proofs.StateFields.{behind_mark, eight_bytes}
 use Rattle.um_state.specs.View.{state_of}
-use Rattle.um_state.proofs.state_bytes.StateCanon.put.Goals as goal
+use Rattle.um_state.proofs.state.State.put.Goals as goal
 
 pub returns-clause-put : goal.returns-clause-put
 returns-clause-put c =

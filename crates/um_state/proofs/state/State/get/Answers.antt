@@ -1,7 +1,7 @@
 use Rattle.std.proofs.Common.{rules, ◌≡◌, slice_index, sym, ◌∙◌}
 use Rattle.um_model.proofs.BytesLaws.{at_some}
 use Rattle.um_state.proofs.StateFields.{state_here}
-use Rattle.um_state.proofs.state_bytes.StateCanon.get.Goals as goal
+use Rattle.um_state.proofs.state.State.get.Goals as goal
 
 pub returns-clause-read : goal.returns-clause-read
 returns-clause-read c =
