@@ -302,7 +302,7 @@ impl<'a, R: Files + Processes + Clock> RunnerDir<'a, R> {
     ///
     /// `NoMemory` where a growth was refused, `Device` where the system refuses: a later call removes what was left.
     pub fn forget_others(&mut self, live: &[ProcessNumber]) -> Result<(), ChildFault>
-        ensures failures { IfOk result (λ _. self.new.failures ≡ self.old.failures) }
+        ensures failures { CountsFault result self.old.failures self.new.failures }
     {
         let ended = self.ended();
         for number in &self.count(ended)? {
