@@ -84,3 +84,4 @@ pub mod CrowdedLaws
 pub mod FewLaws
 pub mod LightLaws
 pub mod FinishedLaws
+pub mod RunnerLaws
