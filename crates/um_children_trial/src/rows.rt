@@ -4,7 +4,7 @@ use crate::runners::{FOLDER, number, start};
 use std::alloc::Global;
 use std::time::Duration;
 use std::{fs, thread};
-use um_children::{Children, Fate, RunnerDir, Signal};
+use um_children::{Children, End, FakeChildren, Fate, RunnerDir, Signal};
 
 /// Fates are asked so many times, every 10 ms.
 const POLLS: u32 = 500;
@@ -156,6 +156,27 @@ fn odd_files(rt: &HostRuntime, children: &mut Dir<'_>) -> anyhow::Result<()> {
     std::os::unix::fs::symlink(rt, "/proc/self/stat", "processes/28.status")?;
     let linked = children.fate(number(28)?, true)?;
     println!(rt; "a directory: {fate:?}, a link: {linked:?}")?;
+    let bytes = vec![in alloc; 255u8; 1 << 20]?;
+    fs::write(rt, "processes/29.status", bytes.as_slice())?;
+    let large = children.fate(number(29)?, true)?;
+    println!(rt; "a megabyte that is no text: {large:?}")?;
+    Ok(())
+}
+
+/// Children in memory, of which none was started.
+fn in_memory(rt: &HostRuntime, alloc: Global) -> anyhow::Result<()> {
+    let mut children = FakeChildren::new(alloc);
+    children.ends(number(2)?, End::Code(3))?;
+    let starting = children.fate(number(2)?, false)?;
+    let absent = children.fate(number(2)?, true)?;
+    children.fuse(2);
+    children.signal(number(2)?, Signal::Term)?;
+    let failed = children.fate(number(2)?, true);
+    let copy = children.copy(alloc)?;
+    let (calls, failures) = (copy.calls().len(), copy.failures());
+    println!(rt;
+        "in memory: {starting:?}, {absent:?}, {failed:?}; calls: {calls}, failures: {failures}"
+    )?;
     Ok(())
 }
 
@@ -166,6 +187,7 @@ pub fn rows(rt: &HostRuntime, alloc: Global) -> anyhow::Result<()> {
     claims(rt, &mut children)?;
     forgets(rt, &mut children)?;
     odd_files(rt, &mut children)?;
+    in_memory(rt, alloc)?;
     let failures = children.failures();
     println!(rt; "failures: {failures}")?;
     Ok(())
