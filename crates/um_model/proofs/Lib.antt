@@ -93,3 +93,4 @@ pub mod LightLaws
 pub mod RefusesLaws
 pub mod ServableLaws
 pub mod FinishedLaws
+pub mod RunnerLaws
