@@ -60,6 +60,7 @@ pub mod ImageLaws
 pub mod SpelledLaws
 pub mod FitOnceLaws
 pub mod UnreadLaws
+pub mod KeptLaws
 pub mod FindsLaws
 pub mod SessionsLaws
 pub mod WaitingLaws

@@ -276,10 +276,15 @@ comes_further {records} {inputs} {input} comes fit step = record {
 pub comes_anew : {size : ℕ} {s : State} → nothing_left (state_at (state_spelling s)) ≡ Some s → IsServable size s → ComesTo size (state_spelling s) [] s [] s
 comes_anew is may = record { start_is = is; inputs_are = refl; servable = may; run = rests }
 
--- so do spellings of a start and of inputs
-pub comes_spelled : {size : ℕ} {start s : State} {inputs : List Input} → FitState start → AllByRecursion FitInput inputs → IsServable size start → Run size start inputs s
-    → ComesTo size (state_spelling start) (map input_spelling inputs) start inputs s
-comes_spelled {start} {inputs} fit fits may run = record { start_is = state_back start fit; inputs_are = inputs_back inputs fits; servable = may; run = run }
+-- and so do spellings of a start and of inputs
+pub comes_spelled : {size : ℕ} {body : List ℕ} {records : List (List ℕ)} {start s : State} {inputs : List Input} → body ≡ state_spelling start → FitState start
+    → records ≡ map input_spelling inputs → AllByRecursion FitInput inputs → IsServable size start → Run size start inputs s → ComesTo size body records start inputs s
+comes_spelled {start = start} {inputs = inputs} is fit are fits may run = record {
+  start_is = ap (λ (b : List ℕ). nothing_left (state_at b)) is ∙ state_back start fit;
+  inputs_are = ap inputs_of are ∙ inputs_back inputs fits;
+  servable = may;
+  run = run;
+}
 
 -- With one record more it is a store of the state after the step.
 pub one_more : {layout : Layout} {image : Image} {slot : Slot} {generation : ℕ} {body : List ℕ} {records : List (List ℕ)} {start : State} {inputs : List Input} {s t : State} {input : Input} {reply : Reply}
