@@ -4,7 +4,7 @@ ghost use Rattle.std.specs.Coded.{codes};
 ghost use Rattle.std.specs.FinMap as maps;
 ghost use Rattle.um_engine.specs.Engine as machine;
 ghost use Rattle.um_engine.specs.Engine.{reply_in, actions_in, state_after};
-ghost use Rattle.um_engine.specs.Planned.{is_of_store};
+ghost use Rattle.um_engine.specs.OfStore.{is_of_store};
 ghost use Rattle.um_keeper.specs.Keeping.{MayHold, Keeps, IsBegun, record_calls, snapshot_calls};
 ghost use Rattle.um_log.specs.Reading.{Fits};
 ghost use Rattle.um_model.specs.Disk.{During, Images};
