@@ -5,8 +5,15 @@ use Rattle.std.specs.Prelude.{◌≡◌, ℕ, Bool, IsTrue, Result, Ok, Err}
 use Rattle.um_model.specs.Disk.{one_more}
 use Rattle.um_children.specs.declared.fault.ChildFault.{ChildFault}
 use Rattle.um_children.specs.declared.fault.ChildFault.TheVariants as fault
+use Rattle.um_runner.specs.declared.fault.FolderFault.{FolderFault}
+use Rattle.um_runner.specs.declared.fault.FolderFault.TheVariants as folder
 use Rattle.um_wire.specs.declared.refusal.Refusal.{Refusal}
 use Rattle.um_wire.specs.declared.refusal.Refusal.TheVariants as refusal
+
+-- what the folder of the runners refuses is a failure of the children
+abbrev pub fault_of : FolderFault → ChildFault
+fault_of folder.NoMemory = fault.NoMemory
+fault_of (folder.System error) = fault.Device
 
 -- as the manager refuses it
 abbrev pub refusal_of : ChildFault → Refusal

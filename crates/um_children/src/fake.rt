@@ -1,5 +1,5 @@
-ghost use Rattle.std.specs.Prelude.{◌≡◌, ◌∷◌, ◌++◌, [], List, true, false, not, if◌then◌else◌, IfOk, OnOk, OnErr};
-ghost use Rattle.um_model.specs.Children.{IsFinal, is_absent, has_started, was_absent, Asks, Spawns, Signals};
+ghost use Rattle.std.specs.Prelude.{◌≡◌, ◌⊎◌, ◌∷◌, ◌++◌, [], List, IsTrue, true, false, not, if◌then◌else◌, IfOk, OnOk, OnErr};
+ghost use Rattle.um_model.specs.Children.{IsFinal, is_absent, has_started, was_absent, Spawned, Asks, Spawns, Signals};
 ghost use Rattle.um_model.specs.Disk.{one_more};
 ghost use Rattle.um_children.specs.Calls.{call_of, calls_of, Fits};
 ghost use Rattle.um_children.specs.Fakes.{fate_of, end_of, fuse_after, is_due};
@@ -233,7 +233,17 @@ impl Children for FakeChildren {
 
     ghost absence_is_final = { λ f _. f.kept };
 
-    fn spawn(&mut self, order: SpawnOrder) -> Result<(), ChildFault> {
+    /// The number starts unless the call fails or it was told to be absent.
+    fn spawn(&mut self, order: SpawnOrder) -> Result<(), ChildFault>
+        ensures past { IsTrue true → IsTrue (not self.new.lost) → Spawns order result (calls_of self.old.calls.items) (calls_of self.new.calls.items) }
+        ensures starts { OnOk result (calls_of self.new.calls.items ≡ calls_of self.old.calls.items ++ Spawned order true (not (was_absent (calls_of self.old.calls.items) order.number)) ∷ []) }
+        ensures whole { KeepsWhole result (not self.old.lost) (not self.new.lost) }
+        ensures failures { CountsFault result self.old.failures self.new.failures }
+        ensures due { OnOk result (is_due self.old.fuse ≡ false) }
+        ensures fails { OnErr result ((is_due self.old.fuse ≡ true) ⊎ (self.new.lost ≡ true)) }
+        ensures fuse { self.new.fuse ≡ fuse_after self.old.fuse }
+        ensures ends { self.new.ends ≡ self.old.ends }
+    {
         let number = order.number();
         let burns = self.burns();
         let is_absent = was_absent(self.calls.as_slice(), number);
@@ -251,7 +261,15 @@ impl Children for FakeChildren {
         if burns { Err(self.fail()) } else { Ok(()) }
     }
 
-    fn signal(&mut self, number: ProcessNumber, signal: Signal) -> Result<(), ChildFault> {
+    fn signal(&mut self, number: ProcessNumber, signal: Signal) -> Result<(), ChildFault>
+        ensures past { IsTrue true → IsTrue (not self.new.lost) → Signals number signal (calls_of self.old.calls.items) (calls_of self.new.calls.items) }
+        ensures whole { KeepsWhole result (not self.old.lost) (not self.new.lost) }
+        ensures failures { CountsFault result self.old.failures self.new.failures }
+        ensures due { OnOk result (is_due self.old.fuse ≡ false) }
+        ensures fails { OnErr result ((is_due self.old.fuse ≡ true) ⊎ (self.new.lost ≡ true)) }
+        ensures fuse { self.new.fuse ≡ fuse_after self.old.fuse }
+        ensures ends { self.new.ends ≡ self.old.ends }
+    {
         let burns = self.burns();
         if !note(&mut self.calls, Call::Signalled { number, signal }) {
             return Err(self.lose());
@@ -259,7 +277,17 @@ impl Children for FakeChildren {
         if burns { Err(self.fail()) } else { Ok(()) }
     }
 
-    fn fate(&mut self, number: ProcessNumber, claim: bool) -> Result<Fate, ChildFault> {
+    fn fate(&mut self, number: ProcessNumber, claim: bool) -> Result<Fate, ChildFault>
+        ensures past { IsTrue true → IsTrue (not self.new.lost) → Asks number claim result (calls_of self.old.calls.items) (calls_of self.new.calls.items) }
+        ensures claim { claim ≡ false → IfOk result (λ fate. is_absent fate ≡ false) }
+        ensures told { IfOk result (λ fate. fate ≡ fate_of (calls_of self.old.calls.items) self.old.ends.items number claim) }
+        ensures whole { KeepsWhole result (not self.old.lost) (not self.new.lost) }
+        ensures failures { CountsFault result self.old.failures self.new.failures }
+        ensures due { OnOk result (is_due self.old.fuse ≡ false) }
+        ensures fails { OnErr result ((is_due self.old.fuse ≡ true) ⊎ (self.new.lost ≡ true)) }
+        ensures fuse { self.new.fuse ≡ fuse_after self.old.fuse }
+        ensures ends { self.new.ends ≡ self.old.ends }
+    {
         if self.burns() {
             let told = None;
             if !note(

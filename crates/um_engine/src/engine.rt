@@ -1,9 +1,10 @@
-ghost use Rattle.std.specs.Prelude.{◌≡◌, ◌↔◌, [], false, is_some, map, IfOk, IfErr, IfSome, IsTrue};
+ghost use Rattle.std.specs.Prelude.{◌≡◌, ◌≢◌, ◌↔◌, [], false, is_some, map, IfOk, IfErr, IfSome, IsTrue};
 ghost use Rattle.um_engine.specs.Engine.{state_in, size_in, has_effect_in, state_at, state_after, reply_in, actions_in, state_before, SettlesTo};
 ghost use Rattle.um_engine.specs.OfStore.{is_of_store};
 ghost use Rattle.um_engine.specs.Planned.{Declines};
 ghost use Rattle.um_model.specs.Machine as model;
 ghost use Rattle.um_model.specs.Machine.{Step, Takes, LacksEffect, moment_of, IsTooHeavy};
+ghost use Rattle.um_model.specs.Refusals.{Refused};
 ghost use Rattle.um_model.specs.Servable.{IsServable};
 ghost use Rattle.um_state.specs.View.{state_of, input_of, query_of, reply_of, action_of, command_of};
 ghost use Rattle.um_wire.specs.Refusal.{refused_of};
@@ -147,6 +148,7 @@ impl Engine {
     pub fn plan(&self, input: &Input) -> Result<Next, Refusal>
         ensures ok { IfOk result (λ next.
             Step (size_in self.now) (state_in self.now) (input_of input.now) (reply_in next) (actions_in next) (state_after next (state_in self.now))) }
+        ensures accepted { IfOk result (λ next. (r : Refused) → reply_in next ≢ model.Refusal r) }
         ensures effect { IfOk result (λ next. (has_effect_in next ≡ false)
             ↔ LacksEffect (moment_of (state_in self.now) (input_of input.now).moment) (state_in self.now) (input_of input.now).event) }
         ensures nothing { IfOk result (λ next. has_effect_in next ≡ false → (state_after next (state_in self.now) ≡ state_in self.now) × (actions_in next ≡ [])) }

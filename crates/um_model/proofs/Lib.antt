@@ -54,12 +54,12 @@ pub mod SpellingRows
 pub mod TransitionLaws
 pub mod StoreLaws
 pub mod LogLaws
-pub mod ImageLaws
 pub mod StandsLaws
+pub mod LivesLaws
+pub mod ImageLaws
 pub mod SpelledLaws
 pub mod FitOnceLaws
 pub mod UnreadLaws
-pub mod LivesLaws
 pub mod KeptLaws
 pub mod FindsLaws
 pub mod SessionsLaws
@@ -94,3 +94,4 @@ pub mod LightLaws
 pub mod RefusesLaws
 pub mod ServableLaws
 pub mod FinishedLaws
+pub mod RunnerLaws

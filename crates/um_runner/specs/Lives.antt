@@ -5,9 +5,12 @@ use Rattle.std.specs.Result.{is_ok}
 use Rattle.um_model.specs.Runner.{Claimed, Ours, Taken, Refused, Deed, Life}
 
 -- what came of claiming, by the answer
+abbrev pub claimed_when : Bool → Claimed
+claimed_when true = Ours
+claimed_when false = Taken
+
 abbrev pub claimed_of : {E : Type 0} → Result Bool E → Claimed
-claimed_of (Ok true) = Ours
-claimed_of (Ok false) = Taken
+claimed_of (Ok is_new) = claimed_when is_new
 claimed_of (Err e) = Refused
 
 -- behind what was noted before, a whole life is noted

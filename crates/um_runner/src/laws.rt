@@ -1,7 +1,9 @@
 //! What the definitions say together, as functions that do nothing.
 
-ghost use Rattle.std.specs.Prelude.{◌≡◌, ◌≢◌, ◌<◌, ◌^◌, ℕ, List, false, Contains};
-ghost use Rattle.um_model.specs.Runner.{IsPid, IsStatus, TellsEnd, claimant_of, claim_text, file_name, status_text};
+ghost use Rattle.std.specs.Prelude.{◌≡◌, ◌<◌, ◌^◌, ℕ, List, false};
+ghost use Rattle.std.specs.List.{list_any};
+ghost use Rattle.um_model.proofs.RunnerLaws.{is_slash};
+ghost use Rattle.um_model.specs.Runner.{IsPid, IsStatus, TellsEnd, claimant_of, claim_text, file_name};
 ghost use Rattle.um_model.specs.declared.runner.Claimant as claimants;
 ghost use Rattle.um_model.specs.declared.runner.RunnerFile as files;
 ghost use Rattle.um_model.specs.declared.service.End as ends;
@@ -17,6 +19,6 @@ pub fn a_text_has_one_reading()
 /// A name of a file has no slash, and is that of one file of one number: no path leads out of the folder, and no file is taken for
 /// another.
 pub fn no_path_leads_out()
-    ensures slash { (n : ℕ) (file : files.RunnerFile) → n < 2 ^ 64 → Contains (file_name n file) 47 → ⊥ }
+    ensures slash { (n : ℕ) (file : files.RunnerFile) → n < 2 ^ 64 → list_any is_slash (file_name n file) ≡ false }
     ensures one { (m n : ℕ) (a b : files.RunnerFile) → m < 2 ^ 64 → n < 2 ^ 64 → file_name m a ≡ file_name n b → (m ≡ n) × (a ≡ b) }
 {}
