@@ -1,7 +1,7 @@
 -- The files by which a runner tells the manager of a process, and what a runner does.
 -- Follows wait(2) in codes, signals and pids; the files are this project's own (docs/FORMATS.md, "The files of a process").
 -- The runner and the manager's children stand on this file, and the laws in proofs/RunnerLaws.
-use Rattle.std.specs.Prelude.{ℕ, ◌<◌, ◌^◌, Bool, true, false, ◌&&◌, ◌==◌, if◌then◌else◌, List, [], ◌∷◌, ◌++◌, reverse, find}
+use Rattle.std.specs.Prelude.{ℕ, ◌<◌, ◌^◌, Bool, true, false, ◌&&◌, ◌==◌, if◌then◌else◌, List, [], ◌∷◌, ◌++◌, length, reverse, find}
 use Rattle.std.specs.Prelude.{Option, Some, None, option_map, codes, decimal, bytes_eq}
 use Rattle.std.specs.List.{before_first, after_first}
 use Rattle.um_model.specs.declared.runner.Claimant.{Claimant}
@@ -79,6 +79,13 @@ is_entry_sign b = b == 61
 abbrev pub entry_value : List (List ℕ) → List ℕ → Option (List ℕ)
 entry_value entries name =
     option_map (λ entry. after_first is_entry_sign entry) (find (λ entry. bytes_eq (before_first is_entry_sign entry) name) (reverse entries))
+
+-- ---- the command line
+
+-- the words of a runner, behind `umd run`: the folder, the number, how many entries there are, the entries and the words of the command
+abbrev pub runner_words : (folder : List ℕ) (number : ℕ) (entries words : List (List ℕ)) → List (List ℕ)
+runner_words folder number entries words =
+    codes "--dir" ∷ folder ∷ codes "--number" ∷ decimal number ∷ codes "--env" ∷ decimal (length entries) ∷ codes "--" ∷ (entries ++ words)
 
 -- ---- the life of a runner
 

@@ -1,6 +1,6 @@
 //! The texts of the files.
 
-ghost use Rattle.std.specs.Prelude.{◌≡◌, ◌≢◌, ◌≤◌, ◌<◌, ◌&&◌, ◌++◌, ◌^◌, ℕ, nat_lt, MatchOption, IfSome, IfOk, codes, decimal, string_bytes};
+ghost use Rattle.std.specs.Prelude.{◌≡◌, ◌≢◌, ◌≤◌, ◌<◌, ◌⊎◌, ◌++◌, ◌^◌, ℕ, MatchOption, IfSome, IfOk, codes, decimal, string_bytes};
 ghost use Rattle.um_model.specs.Runner as runner;
 ghost use Rattle.um_model.specs.declared.service.End as ends;
 ghost use Rattle.um_model.specs.declared.service.End.TheVariants as told;
@@ -11,7 +11,7 @@ use std::str;
 use um_model::{Claimant, End};
 
 /// From this number on no number is a pid: 2^31.
-const PID_LIMIT: u32 = 1 << 31;
+const PID_LIMIT: u64 = 1 << 31;
 
 /// Whether it is `0`, or begins with another digit.
 fn is_plain(text: &[u8]) -> bool
@@ -25,25 +25,25 @@ fn is_plain(text: &[u8]) -> bool
 }
 
 #[tactic(auto, using(crate::proofs::Numerals::no_utf8))]
-/// The number that the text is in decimal digits, without zeros in front. None for another text, and from 2^32 on.
-fn number_in(text: &[u8]) -> Option<u32>
-    ensures { MatchOption result ((n : ℕ) → n < 2 ^ 32 → text.now ≢ decimal n) (λ n. text.now ≡ decimal n) }
+/// The number that the text is in decimal digits, without zeros in front. None for another text, and from 2^64 on.
+pub(crate) fn number_in(text: &[u8]) -> Option<u64>
+    ensures { MatchOption result ((n : ℕ) → n < 2 ^ 64 → text.now ≢ decimal n) (λ n. text.now ≡ decimal n) }
 {
     if !is_plain(text) {
         return None;
     }
     match str::from_utf8(text) {
-        Ok(digits) => digits.parse::<u32>().ok(),
+        Ok(digits) => digits.parse::<u64>().ok(),
         Err(_) => None,
     }
 }
 
 #[tactic(auto, using(crate::proofs::Lines::other_word, crate::proofs::Lines::has_front, crate::proofs::Lines::other_end))]
-/// The number of a line that is the word, the number and LF. None for another text, and from 2^32 on.
-fn number_behind(word: &[u8], text: &[u8]) -> Option<u32>
-    ensures line { MatchOption result ((n : ℕ) → n < 2 ^ 32 → text.now ≢ word.now ++ (decimal n ++ codes "\n"))
+/// The number of a line that is the word, the number and LF. None for another text, and from 2^64 on.
+fn number_behind(word: &[u8], text: &[u8]) -> Option<u64>
+    ensures line { MatchOption result ((n : ℕ) → n < 2 ^ 64 → text.now ≢ word.now ++ (decimal n ++ codes "\n"))
         (λ n. text.now ≡ word.now ++ (decimal n ++ codes "\n")) }
-    ensures small { IfSome result (λ n. n < 2 ^ 32) }
+    ensures small { IfSome result (λ n. n < 2 ^ 64) }
 {
     let Some(line) = text.strip_prefix(word) else {
         return None;
@@ -55,7 +55,7 @@ fn number_behind(word: &[u8], text: &[u8]) -> Option<u32>
 }
 
 /// The end by a code; None where it is none of a byte.
-fn exited(code: u32) -> Option<End>
+fn exited(code: u64) -> Option<End>
     ensures { MatchOption result (256 ≤ code) (λ end. (end ≡ told.Code code) × (code < 256)) }
 {
     match u8::try_from(code) {
@@ -65,7 +65,7 @@ fn exited(code: u32) -> Option<End>
 }
 
 /// The end by a signal; None where it is none of a byte.
-fn killed(number: u32) -> Option<End>
+fn killed(number: u64) -> Option<End>
     ensures { MatchOption result (256 ≤ number) (λ end. (end ≡ told.Signal number) × (number < 256)) }
 {
     match u8::try_from(number) {
@@ -74,11 +74,14 @@ fn killed(number: u32) -> Option<End>
     }
 }
 
-/// Whether the number can be a pid.
-fn is_pid(number: u32) -> bool
-    ensures { result ≡ (nat_lt 0 number && nat_lt number runner.pid_limit) }
+/// The pid of this number; None for 0, and from 2^31 on.
+fn pid_of(number: u64) -> Option<u32>
+    ensures { MatchOption result ((number ≡ 0) ⊎ (runner.pid_limit ≤ number)) (λ pid. (pid ≡ number) × (0 < number) × (number < runner.pid_limit)) }
 {
-    number > 0 && number < PID_LIMIT
+    if number == 0 || number >= PID_LIMIT {
+        return None;
+    }
+    Some(number as u32)
 }
 
 /// Whose the claim with this text is: a runner's, but for the manager's own text.
@@ -92,14 +95,14 @@ pub fn read_claim(text: &[u8]) -> Claimant
     }
 }
 
-#[tactic(auto, using(crate::proofs::Lines::pid_read, crate::proofs::Lines::no_pid, crate::proofs::Lines::no_pid_line))]
+#[tactic(auto, using(crate::proofs::Lines::pid_read, crate::proofs::Lines::no_pid_line))]
 /// The pid that the text tells: a number in decimal digits, without zeros in front, and LF. None for any other text, for 0, and
 /// from 2^31 on.
 pub fn read_pid(text: &[u8]) -> Option<u32>
     ensures { MatchOption result ((pid : ℕ) → runner.IsPid text.now pid → ⊥) (runner.IsPid text.now) }
 {
-    let pid = number_behind(b"", text)?;
-    if is_pid(pid) { Some(pid) } else { None }
+    let number = number_behind(b"", text)?;
+    pid_of(number)
 }
 
 #[tactic(auto, using(crate::proofs::Lines::code_read, crate::proofs::Lines::signal_read, crate::proofs::Lines::no_status))]

@@ -1,12 +1,14 @@
-//! The program `umd`: `--memory` answers the frames of standard input on standard output.
+//! The program `umd`: `--memory` answers the frames of standard input on standard output, `run` runs a command for the manager.
 #![tactic(auto)]
 
 use std::alloc::Global;
 use std::env::Env;
+use std::fs::Files;
 use std::io::ErrorKind;
-use std::process::ExitCode;
+use std::process::{ExitCode, Processes};
 use std::{env, io};
 use um_bin::{Ending, Fault, Line, memory, read_line};
+use um_runner::{Folder, FolderFault, RunnerLine};
 
 /// The exit status at a length past the limit, and where a growth of memory was refused.
 const REFUSED: u8 = 1;
@@ -14,7 +16,7 @@ const REFUSED: u8 = 1;
 /// The exit status at an end inside a frame, and at wrong words.
 const USAGE: u8 = 2;
 
-/// The exit status where standard input or output failed.
+/// The exit status where standard input or output failed, or the folder of a runner.
 const DEVICE: u8 = 5;
 
 fn serve_memory<R: Input + Print>(rt: &R, alloc: Global) -> Result<u8, Fault> {
@@ -27,9 +29,32 @@ fn serve_memory<R: Input + Print>(rt: &R, alloc: Global) -> Result<u8, Fault> {
     }
 }
 
-fn run_line<R: Input + Print + Eprint>(rt: &R, alloc: Global, line: &Line) -> Result<u8, Fault> {
+/// Runs a command for the manager.
+fn run_runner<R: Files + Processes + Eprint>(
+    rt: &R,
+    alloc: Global,
+    line: &RunnerLine<'_>,
+) -> Result<u8, Fault> {
+    let mut folder = Folder::of(rt, alloc, line.folder, line.number);
+    match um_runner::run(&mut folder, &line.job) {
+        Ok(()) => Ok(0),
+        Err(FolderFault::NoMemory) => Err(Fault::NoMemory),
+        Err(FolderFault::System(e)) => {
+            // Where standard error fails too, the exit status alone tells it.
+            let _unheard = eprintln!(rt; "umd: the folder: {e}");
+            Ok(DEVICE)
+        }
+    }
+}
+
+fn run_line<R: Input + Print + Eprint + Files + Processes>(
+    rt: &R,
+    alloc: Global,
+    line: &Line<'_>,
+) -> Result<u8, Fault> {
     match line {
         Line::Memory => serve_memory(rt, alloc),
+        Line::Run(line) => run_runner(rt, alloc, line),
         Line::Told(text) => match print!(rt; "{text}") {
             Ok(()) => Ok(0),
             Err(e) => Err(Fault::Write(e)),
@@ -43,19 +68,22 @@ fn run_line<R: Input + Print + Eprint>(rt: &R, alloc: Global, line: &Line) -> Re
 }
 
 /// Runs the program, and gives its exit status.
-fn run<R: AllocGlobal + Env + Input + Print + Eprint>(rt: &R) -> Result<u8, Fault> {
+fn run<R: AllocGlobal + Env + Input + Print + Eprint + Files + Processes>(rt: &R) -> Result<u8, Fault> {
     let alloc = rt.alloc();
-    let line = match env::args(rt) {
+    match env::args(rt) {
         Ok(args) => {
             let words: Vec<String> = args.collect(alloc)?;
-            read_line(alloc, words.as_slice())?
+            let line = read_line(alloc, words.as_slice())?;
+            run_line(rt, alloc, &line)
         }
         Err(e) => match e.kind() {
-            ErrorKind::OutOfMemory => return Err(Fault::NoMemory),
-            _ => Line::Wrong(String::from_str(alloc, "error: a word isn't UTF-8\n")?),
+            ErrorKind::OutOfMemory => Err(Fault::NoMemory),
+            _ => {
+                let text = String::from_str(alloc, "error: a word isn't UTF-8\n")?;
+                run_line(rt, alloc, &Line::Wrong(text))
+            }
         },
-    };
-    run_line(rt, alloc, &line)
+    }
 }
 
 /// Says what failed.
