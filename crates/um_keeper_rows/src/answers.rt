@@ -56,7 +56,7 @@ pub fn has_layout(rt: &impl Abort, sector: &Sector, bytes: &[u8]) {
 pub fn over<D: Disk>(rt: &(impl AllocGlobal + Abort), disk: D) -> Keeper<D> {
     match Keeper::open(rt.alloc(), disk) {
         Ok(keeper) => keeper,
-        Err(_) => rt.abort("not opened"),
+        Err(_) => rt.abort(),
     }
 }
 
