@@ -18,20 +18,30 @@ fn commanded(rt: &impl Abort, micros: u64, command: Command) -> Input {
     Input::new(at(rt, micros), Event::Commanded(command))
 }
 
-/// The input that puts the file `lib/a.service`.
-fn put(rt: &(impl AllocGlobal + Abort), content: &str) -> Input {
-    let path = text(rt, "lib/a.service");
+/// The input that puts a file.
+fn put_at(rt: &(impl AllocGlobal + Abort), path: &str, content: &str) -> Input {
+    let path = text(rt, path);
     let text = text(rt, content);
     commanded(rt, 0, Command::PutFile { path, text })
 }
 
-/// The input that puts so many bytes as that file.
-fn put_long(rt: &(impl AllocGlobal + Abort), length: usize) -> Input {
+/// The input that puts the file `lib/a.service`.
+fn put(rt: &(impl AllocGlobal + Abort), content: &str) -> Input {
+    put_at(rt, "lib/a.service", content)
+}
+
+/// The input that puts so many bytes as a file.
+fn put_long_at(rt: &(impl AllocGlobal + Abort), path: &str, length: usize) -> Input {
     let mut content = String::new(rt.alloc());
     for _ in 0..length {
         content.push('#').expect(rt, "no memory");
     }
-    put(rt, content.as_str())
+    put_at(rt, path, content.as_str())
+}
+
+/// The input that puts so many bytes as the file `lib/a.service`.
+fn put_long(rt: &(impl AllocGlobal + Abort), length: usize) -> Input {
+    put_long_at(rt, "lib/a.service", length)
 }
 
 /// The input that starts `a.service`.
@@ -101,7 +111,7 @@ fn a_tick_that_restarts_is_a_record(rt: HostRuntime) {
     has_layout(&rt, &sector_at(&rt, &mut disk, START + 4), &written);
 }
 
-/// The number of the first record that the log has room for after one more, by its sector's generation and number.
+/// The lowest bytes of the generation and the number that a sector of the log tells.
 fn record_in(rt: &impl Abort, disk: &mut impl Disk, k: usize) -> (u8, u8) {
     let sector = sector_at(rt, disk, k);
     (sector[11], sector[19])
@@ -154,21 +164,48 @@ fn a_failed_checkpoint_wants_the_store_opened_again(rt: HostRuntime) {
     same(&rt, again.state().clock(), at(&rt, 0));
 }
 
-/// What a crash within the record of 481 bytes leaves: whether the file is there.
-fn leaves(rt: &(impl AllocGlobal + Abort), picks: [usize; 2]) -> bool {
+/// What a crash within the record of 481 bytes leaves, opened again.
+fn left(rt: &(impl AllocGlobal + Abort), picks: [usize; 2]) -> Keeper<Fuse<MemDisk>> {
     // the record's sync: two sectors are written before it
     let mut keeper = opened(rt, calls_of_open(rt) + 3);
-    is_refused(rt, keeper.submit(&put_long(rt, 450)).map(starts), Some("E16 Device"));
+    let input = put_long(rt, 450);
+    is_refused(rt, keeper.submit(&input).map(starts), Some("E16 Device"));
     let disk = keeper.into_disk().into_inner();
     let left = disk.crash(rt.alloc(), &picks).expect(rt, "no memory");
-    let again = over(rt, Fuse::new(left, 0));
-    again.state().tree().len() > 0
+    over(rt, Fuse::new(left, 0))
+}
+
+/// How many files a crash within the record leaves.
+fn files_left(rt: &(impl AllocGlobal + Abort), picks: [usize; 2]) -> usize {
+    left(rt, picks).state().tree().len()
 }
 
 #[test]
 fn a_torn_record_is_absent(rt: HostRuntime) {
-    same(&rt, leaves(&rt, [0, 0]), false);
-    same(&rt, leaves(&rt, [1, 0]), false);
-    same(&rt, leaves(&rt, [0, 1]), false);
-    same(&rt, leaves(&rt, [1, 1]), true);
+    same(&rt, files_left(&rt, [0, 0]), 0);
+    same(&rt, files_left(&rt, [1, 0]), 0);
+    same(&rt, files_left(&rt, [0, 1]), 0);
+    same(&rt, files_left(&rt, [1, 1]), 1);
+}
+
+#[test]
+fn a_record_in_the_place_of_a_torn_one_counts_alone(rt: HostRuntime) {
+    let mut keeper = left(&rt, [0, 1]);
+    take(&rt, &mut keeper, &put_long_at(&rt, "lib/b.service", 450));
+    let again = over(&rt, keeper.into_disk());
+    same(&rt, again.state().tree().len(), 1);
+    same(&rt, again.state().tree().get("lib/b.service").is_some(), true);
+}
+
+/// How many disk calls the record of a file of so many bytes takes.
+fn calls_of_record(rt: &(impl AllocGlobal + Abort), length: usize) -> u64 {
+    let mut keeper = opened(rt, 0);
+    take(rt, &mut keeper, &put_long(rt, length));
+    keeper.into_disk().calls() - calls_of_open(rt)
+}
+
+#[test]
+fn a_record_takes_a_call_a_part_and_a_sync(rt: HostRuntime) {
+    same(&rt, calls_of_record(&rt, 449), 2);
+    same(&rt, calls_of_record(&rt, 450), 3);
 }
