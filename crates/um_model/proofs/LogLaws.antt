@@ -4,12 +4,12 @@ use Rattle.std.proofs.Common.{sym, ◌∙◌, ap, subst, inl, inr, ⊎_elim, ari
 use Rattle.std.proofs.lemmas.Bool.{cases_lt, cases_eq}
 use Rattle.std.proofs.lemmas.List.{take-append-drop, length-drop, length-take, length-append, nil_from_length, drop-drop, append-nil}
 use Rattle.byteorder.specs.Endian.{big_number}
-use Rattle.um_model.specs.Disk.{Sector, Image, Past, seen, During, IsSettled, IsLaid, MaybeLaid}
+use Rattle.um_model.specs.Disk.{Sector, Image, Past, seen, IsImage, During, IsSettled, IsLaid, MaybeLaid, AfterRun}
 use Rattle.um_model.proofs.DiskLaws.{started, weaker, laid_maybe}
 use Rattle.um_model.specs.declared.layout.Layout.{Layout}
 use Rattle.um_model.specs.declared.layout.Slot.{Slot}
 use Rattle.um_model.specs.declared.layout.Slot.TheVariants.{A, B}
-use Rattle.um_model.specs.Store.{log_start, log_end, record_limit, part_count, part_of, log_sector, IsRecord, AreRecords, stops, goes_on, HasRecords, sectors_of, IsOf, IsFree, IsLogEnd, IsPart, IsLogRead, begins, part_behind, record_behind, IsStore, IsReady, EitherRecord, IsSlotRead, head, behind}
+use Rattle.um_model.specs.Store.{log_start, log_end, record_limit, part_count, part_of, log_sector, IsRecord, AreRecords, stops, goes_on, HasRecords, sectors_of, IsOf, IsFree, IsLogEnd, IsPart, IsLogRead, begins, part_behind, record_behind, IsStore, GoesOn, EitherRecord, IsSlotRead, head, behind}
 use Rattle.um_model.proofs.StoreLaws.{log_generation, log_size, log_payload, is_of, none_of, same_record, unread_newest, body_within}
 
 -- ---- one reading
@@ -107,11 +107,11 @@ module _ (layout : Layout) (generation : ℕ) (a b : Image) where
 -- ---- a record more
 
 -- the slots lie before the log
-read_below : (layout : Layout) (image : Image) (j : ℕ) → IsSlotRead layout image j → j < log_start layout
-read_below layout image j (head A) = omega (arith, layout.slot_least)
-read_below layout image j (head B) = omega (arith, layout.slot_least)
-read_below layout image j (behind {slot = A} newest i below) = let inside = body_within layout newest.size i newest.header.fits below in omega (arith, inside)
-read_below layout image j (behind {slot = B} newest i below) = let inside = body_within layout newest.size i newest.header.fits below in omega (arith, inside)
+read_below : (layout : Layout) (generation : ℕ) (image : Image) (j : ℕ) → IsSlotRead layout image j → j < log_start layout generation
+read_below layout generation image j (head A) = omega (arith, layout.slot_least)
+read_below layout generation image j (head B) = omega (arith, layout.slot_least)
+read_below layout generation image j (behind {slot = A} newest i below) = let inside = body_within layout newest.size i newest.header.fits below in omega (arith, inside)
+read_below layout generation image j (behind {slot = B} newest i below) = let inside = body_within layout newest.size i newest.header.fits below in omega (arith, inside)
 
 -- all of them, or one that isn't
 all_or_one : (n : ℕ) (P Q : ℕ → Type 0) → ((i : ℕ) → i < n → P i ⊎ Q i) → ((i : ℕ) → i < n → P i) ⊎ ((i : ℕ) × (i < n) × Q i)
@@ -140,8 +140,8 @@ sectors_push : (records : List (List ℕ)) (bytes : List ℕ) → sectors_of (re
 sectors_push [] bytes = omega arith
 sectors_push (x ∷ records) bytes = omega (arith, sectors_push records bytes)
 
-module _ (layout : Layout) (generation number next : ℕ) (bytes : List ℕ) (run : List Sector) (last : generation < 2 ^ 64) (some : 0 < length bytes) (short : length bytes ≤ record_limit)
-    (room : next + part_count (length bytes) ≤ log_end layout) (count : length run ≡ part_count (length bytes))
+module _ (layout : Layout) (generation number next : ℕ) (bytes : List ℕ) (run : List Sector) (last : generation < 2 ^ 64) (some : 0 < length bytes) (short : length bytes ≤ record_limit layout generation)
+    (room : next + part_count (length bytes) ≤ log_end layout generation) (count : length run ≡ part_count (length bytes))
     (each : (i : ℕ) → i < length run → slice_index_or run i [] ≡ log_sector generation number i (length bytes) (part_of bytes i)) where
   abbrev size : ℕ
   size = part_count (length bytes)
@@ -149,7 +149,7 @@ module _ (layout : Layout) (generation number next : ℕ) (bytes : List ℕ) (ru
   module _ (old : Image) (records : List (List ℕ)) (end : IsLogEnd layout generation old records number next) (are : HasRecords layout generation old records) where
     -- what is behind the run is as before
     module _ (image : Image) (outside : (j : ℕ) → (j < next) ⊎ (next + length run ≤ j) → image j ≡ old j) where
-      before_same : (j : ℕ) → log_start layout ≤ j → j < log_start layout + sectors_of records → image j ≡ old j
+      before_same : (j : ℕ) → log_start layout generation ≤ j → j < log_start layout generation + sectors_of records → image j ≡ old j
       before_same j low high = let place = end.place in outside j (inl (omega (arith, high, place)))
 
       -- nothing of the generation stands behind it
@@ -158,7 +158,7 @@ module _ (layout : Layout) (generation number next : ℕ) (bytes : List ℕ) (ru
           end.free theirs j (omega (arith, low)) high (subst (IsOf theirs) (outside j (inr (omega (arith, low, count)))) is)
 
       with_more : (more : List (List ℕ)) → AreRecords layout generation image number next more → HasRecords layout generation image (records ++ more)
-      with_more more behind_it = records_front 0 (log_start layout) records more number next are before_same (omega (arith, end.count)) end.place behind_it
+      with_more more behind_it = records_front 0 (log_start layout generation) records more number next are before_same (omega (arith, end.count)) end.place behind_it
 
       -- the whole run is the record
       whole : ((i : ℕ) → i < length run → image (next + i) ≡ slice_index_or run i []) → HasRecords layout generation image (records ++ bytes ∷ [])
@@ -205,7 +205,7 @@ module _ (layout : Layout) (generation number next : ℕ) (bytes : List ℕ) (ru
     }
 
     -- no sector of the log is of a later generation
-    none_later : (image : Image) → MaybeLaid old next run image → IsFree layout (generation + 1) old (log_start layout) → IsFree layout (generation + 1) image (log_start layout)
+    none_later : (image : Image) → MaybeLaid old next run image → IsFree layout (generation + 1) old (log_start layout (generation + 1)) → IsFree layout (generation + 1) image (log_start layout (generation + 1))
     none_later image maybe before theirs j low high is = ⊎_elim
         (λ under. before theirs j low high (subst (IsOf theirs) (maybe.outside j (inl under)) is))
         (λ over. ⊎_elim
@@ -228,7 +228,7 @@ module _ (layout : Layout) (generation number next : ℕ) (bytes : List ℕ) (ru
     with_records : (image : Image) (all : List (List ℕ)) → MaybeLaid old next run image → HasRecords layout generation image all → IsStore layout image slot generation body all
     with_records image all maybe are = record {
       first = maybe.outside 0 (inl (omega (arith, end.place))) ∙ store.first;
-      newest = unread_newest layout old image (λ j read. maybe.outside j (inl (let low = read_below layout old j read in omega (arith, low, end.place)))) store.newest;
+      newest = unread_newest layout old image (λ j read. maybe.outside j (inl (let low = read_below layout generation old j read in omega (arith, low, end.place)))) store.newest;
       records_are = are;
       none_later = none_later old records end store.records_are image maybe store.none_later;
     }
@@ -242,21 +242,20 @@ module _ (layout : Layout) (generation number next : ℕ) (bytes : List ℕ) (ru
 
   -- ---- the same of whole runs of calls
 
-  module _ (past new : Past) (slot : Slot) (body : List ℕ) (records : List (List ℕ)) (ready : IsReady layout past slot generation body records number next) where
+  module _ (past new : Past) (slot : Slot) (body : List ℕ) (records : List (List ℕ)) (ready : GoesOn layout past slot generation body records number next) where
     -- while the record is written
-    pub during_record : During past new (MaybeLaid (seen past) next run) → During past new (EitherRecord layout slot generation body records bytes)
-    during_record written = weaker past new _ _ (either_record (seen past) slot body records ready.store ready.end) written
+    pub during_record : During past new (AfterRun past next run) → During past new (EitherRecord layout slot generation body records bytes)
+    during_record written = weaker past new _ _ (λ image m. either_record m.from slot body records (ready.store m.from m.was) (ready.end m.from m.was) image m.laid) written
 
     -- and behind it
-    pub ready_record : IsLaid (seen past) next run (seen new) → IsSettled new → IsReady layout new slot generation body (records ++ bytes ∷ []) (number + 1) (next + size)
-    ready_record laid settled = record {
-      settled = settled;
-      store = record_store (seen past) slot body records ready.store ready.end (seen new) laid;
-      end = end_behind (seen past) records ready.end ready.store.records_are (seen new) laid;
+    pub goes_on_record : IsImage past (seen past) → IsLaid (seen past) next run (seen new) → IsSettled new → GoesOn layout new slot generation body (records ++ bytes ∷ []) (number + 1) (next + size)
+    goes_on_record is laid settled = record {
+      store = λ image at. subst (λ i. IsStore layout i slot generation body (records ++ bytes ∷ [])) (sym (settled image at)) (record_store (seen past) slot body records (ready.store (seen past) is) (ready.end (seen past) is) (seen new) laid);
+      end = λ image at. subst (λ i. IsLogEnd layout generation i (records ++ bytes ∷ []) (number + 1) (next + size)) (sym (settled image at))
+          (end_behind (seen past) records (ready.end (seen past) is) (ready.store (seen past) is).records_are (seen new) laid);
     }
 
 -- before the first call
 pub before_record : {layout : Layout} (past : Past) {slot : Slot} {generation : ℕ} {body : List ℕ} {records : List (List ℕ)} {number next : ℕ} (bytes : List ℕ)
-    → IsReady layout past slot generation body records number next → During past past (EitherRecord layout slot generation body records bytes)
-before_record {layout} past {slot} {generation} {body} {records} bytes ready =
-    started past _ (λ image is. inl (subst (λ (i : Image). IsStore layout i slot generation body records) (sym (ready.settled image is)) ready.store))
+    → GoesOn layout past slot generation body records number next → During past past (EitherRecord layout slot generation body records bytes)
+before_record {layout} past {slot} {generation} {body} {records} bytes ready = started past _ (λ image is. inl (ready.store image is))

@@ -6,12 +6,12 @@ use Rattle.std.proofs.lemmas.Bool.{cases_lt}
 use Rattle.std.proofs.lemmas.List.{take-append-drop, length-drop, length-take, nil_from_length, take_all, drop-drop, append-nil}
 use Rattle.byteorder.specs.Endian.{big_number, big_bytes}
 use Rattle.byteorder.specs.Numbers.{big_number-reads_back}
-use Rattle.um_model.specs.Disk.{Sector, Image, Past, seen, During, IsSettled}
+use Rattle.um_model.specs.Disk.{Sector, Image, Past, seen, IsImage, Images, During, IsSettled}
 use Rattle.um_model.proofs.DiskLaws.{started, weaker}
 use Rattle.um_model.specs.declared.layout.Layout.{Layout}
 use Rattle.um_model.specs.declared.layout.Slot.{Slot}
 use Rattle.um_model.specs.declared.layout.Slot.TheVariants.{A, B}
-use Rattle.um_model.specs.Store.{log_start, log_end, IsRecord, AreRecords, stops, goes_on, IsOf, IsFree, IsLogEnd, IsStore, IsReady, EitherSnapshot, filled, superblock, slot_start, other, body_limit, header_sector, IsHeader, sector_count, joined, body_at, IsNewest, HasNoHeader, body_sector, IsSnapshot, MaybeSnapshot, IsSlotRead, head, behind, log_sector, part_count, part_of}
+use Rattle.um_model.specs.Store.{log_start, log_end, IsRecord, AreRecords, stops, goes_on, IsOf, IsFree, IsLogEnd, IsStore, IsStoreOf, GoesOn, EitherSnapshot, AfterSnapshot, filled, superblock, slot_start, other, body_limit, header_sector, IsHeader, sector_count, joined, body_at, IsNewest, HasNoHeader, body_sector, IsSnapshot, MaybeSnapshot, IsSlotRead, head, behind, log_sector, part_count, part_of}
 
 -- ---- headers
 
@@ -176,9 +176,9 @@ apart layout A j low high = inl (omega (arith, high))
 apart layout B j low high = inr (omega (arith, low))
 
 -- the log lies behind both
-behind_slot : (layout : Layout) (slot : Slot) (j : ℕ) → log_start layout ≤ j → slot_start layout slot + layout.slot_sectors ≤ j
-behind_slot layout A j low = omega (arith, low)
-behind_slot layout B j low = omega (arith, low)
+behind_slot : (layout : Layout) (slot : Slot) (generation j : ℕ) → log_start layout generation ≤ j → slot_start layout slot + layout.slot_sectors ≤ j
+behind_slot layout A generation j low = omega (arith, low)
+behind_slot layout B generation j low = omega (arith, low)
 
 -- sector 0 lies before both
 before_slot : (layout : Layout) (slot : Slot) → 0 < slot_start layout slot
@@ -253,7 +253,7 @@ pub same_record : {layout : Layout} {generation number at : ℕ} {bytes : List �
 same_record is same = record { some = is.some; short = is.short; within = is.within; parts = λ part below. same part below ∙ is.parts part below }
 
 -- what agrees from a place on has the same records
-pub same_records : {layout : Layout} {generation : ℕ} {a b : Image} (number at : ℕ) (records : List (List ℕ)) → ((j : ℕ) → at ≤ j → j < log_end layout → b j ≡ a j)
+pub same_records : {layout : Layout} {generation : ℕ} {a b : Image} (number at : ℕ) (records : List (List ℕ)) → ((j : ℕ) → at ≤ j → j < log_end layout generation → b j ≡ a j)
     → AreRecords layout generation a number at records → AreRecords layout generation b number at records
 same_records number at [] same (stops nothing) =
     stops (λ bytes is. nothing bytes (same_record is (λ i below. let within = is.within in sym (same (at + i) (omega arith) (omega (arith, within, below))))))
@@ -265,21 +265,21 @@ same_records number at (bytes ∷ records) same (goes_on is rest) =
 
 module _ {layout : Layout} {old image : Image} {slot : Slot} {generation : ℕ} {before body : List ℕ} {records : List (List ℕ)} (store : IsStore layout old slot generation before records)
     (maybe : MaybeSnapshot layout old (other slot) (generation + 1) body image) where
-  log_same : (j : ℕ) → log_start layout ≤ j → image j ≡ old j
-  log_same j low = maybe.outside j (inr (behind_slot layout (other slot) j low))
+  log_same : (j : ℕ) → log_start layout generation ≤ j → image j ≡ old j
+  log_same j low = maybe.outside j (inr (behind_slot layout (other slot) generation j low))
 
   first_same : image 0 ≡ superblock layout
   first_same = maybe.outside 0 (inl (before_slot layout (other slot))) ∙ store.first
 
   -- no log sector is of the next generation
-  pub next_free : IsFree layout (generation + 1) image (log_start layout)
+  pub next_free : IsFree layout (generation + 1) image (log_start layout (generation + 1))
   next_free theirs j low high is = store.none_later theirs j low high (subst (IsOf theirs) (log_same j low) is)
 
   kept_store : image (slot_start layout (other slot)) ≡ old (slot_start layout (other slot)) → IsStore layout image slot generation before records
   kept_store same = record {
     first = first_same;
     newest = kept_newest store.newest maybe.outside same;
-    records_are = same_records 0 (log_start layout) records (λ j low high. log_same j low) store.records_are;
+    records_are = same_records 0 (log_start layout generation) records (λ j low high. log_same j low) store.records_are;
     none_later = next_free;
   }
 
@@ -288,39 +288,40 @@ module _ {layout : Layout} {old image : Image} {slot : Slot} {generation : ℕ} 
   new_store last fits snapshot = record {
     first = first_same;
     newest = new_newest store.newest (home_same store.newest maybe.outside) last fits snapshot;
-    records_are = stops (λ bytes. none_of last next_free 0 (log_start layout) bytes (omega arith));
+    records_are = stops (λ bytes. none_of last next_free 0 (log_start layout (generation + 1)) bytes (omega arith));
     none_later = λ theirs j low high is. let below = next_free theirs j low high is in omega (arith, below);
   }
 
   -- What a crash leaves meanwhile is the store as it was, or with the new snapshot and no record.
-  pub either_store : generation + 1 < 2 ^ 64 → length body ≤ body_limit layout → EitherSnapshot layout slot generation before records body image
+  pub either_store : generation + 1 < 2 ^ 64 → length body ≤ body_limit layout
+      → IsStore layout image slot generation before records ⊎ IsStore layout image (other slot) (generation + 1) body []
   either_store last fits = ⊎_elim (λ same. inl (kept_store same)) (λ snapshot. inr (new_store last fits snapshot)) maybe.inside
 
   -- The log of a new snapshot begins at its first sector.
-  pub new_end : IsLogEnd layout (generation + 1) image [] 0 (log_start layout)
+  pub new_end : IsLogEnd layout (generation + 1) image [] 0 (log_start layout (generation + 1))
   new_end = record { count = refl; place = omega arith; within = omega arith; free = next_free }
 
 -- ---- the same of whole runs of calls
 
-module _ {layout : Layout} (past : Past) {slot : Slot} {generation : ℕ} {before : List ℕ} {records : List (List ℕ)} (settled : IsSettled past) (store : IsStore layout (seen past) slot generation before records) where
-  -- each image of a settled disk is that store
-  pub still_store : (image : Image) → image ≡ seen past → IsStore layout image slot generation before records
-  still_store image is = subst (λ (i : Image). IsStore layout i slot generation before records) (sym is) store
-
+module _ {layout : Layout} (past : Past) {slot : Slot} {generation : ℕ} {before : List ℕ} (stores : Images past (IsStoreOf layout slot generation before)) where
   -- before the first call
-  pub before_other : (body : List ℕ) → During past past (EitherSnapshot layout slot generation before records body)
-  before_other body = started past _ (λ image is. inl (still_store image (settled image is)))
+  pub before_other : (body : List ℕ) → During past past (EitherSnapshot layout past slot generation before body)
+  before_other body = started past _ (λ image is. inl (record { from = image; was = is; store = stores image is }))
 
   -- while a snapshot is written into the other slot
   pub during_other : {new : Past} {body : List ℕ} → generation + 1 < 2 ^ 64 → length body ≤ body_limit layout
-      → During past new (MaybeSnapshot layout (seen past) (other slot) (generation + 1) body) → During past new (EitherSnapshot layout slot generation before records body)
-  during_other {new} last fits run = weaker past new _ _ (λ image maybe. either_store store maybe last fits) run
+      → During past new (AfterSnapshot layout past (other slot) (generation + 1) body) → During past new (EitherSnapshot layout past slot generation before body)
+  during_other {new} {body} last fits run = weaker past new _ _
+      (λ image m. ⊎_elim {C = EitherSnapshot layout past slot generation before body image} (λ kept. inl (record { from = m.from; was = m.was; store = kept })) (λ done. inr done) (either_store (stores m.from m.was) m.maybe last fits)) run
 
   -- and behind it
-  pub ready_other : {new : Past} {body : List ℕ} → generation + 1 < 2 ^ 64 → length body ≤ body_limit layout
+  pub goes_on_other : {new : Past} {body : List ℕ} → generation + 1 < 2 ^ 64 → length body ≤ body_limit layout → IsImage past (seen past)
       → MaybeSnapshot layout (seen past) (other slot) (generation + 1) body (seen new) → IsSnapshot layout (seen new) (other slot) (generation + 1) body → IsSettled new
-      → IsReady layout new (other slot) (generation + 1) body [] 0 (log_start layout)
-  ready_other last fits maybe snapshot done = record { settled = done; store = new_store store maybe last fits snapshot; end = new_end store maybe }
+      → GoesOn layout new (other slot) (generation + 1) body [] 0 (log_start layout (generation + 1))
+  goes_on_other {new} {body} last fits is maybe snapshot done = record {
+    store = λ image at. subst (λ i. IsStore layout i (other slot) (generation + 1) body []) (sym (done image at)) (new_store (stores (seen past) is) maybe last fits snapshot);
+    end = λ image at. subst (λ i. IsLogEnd layout (generation + 1) i [] 0 (log_start layout (generation + 1))) (sym (done image at)) (new_end (stores (seen past) is) maybe);
+  }
 
 -- ---- the first snapshot of a store
 
@@ -346,19 +347,19 @@ first_newest {layout} {old} {image} nothing first last fits maybe snapshot = rec
 }
 
 -- With sector 0 it is a store without records.
-pub made_store : {layout : Layout} {old image : Image} {slot : Slot} {generation : ℕ} {body : List ℕ} → IsNewest layout old slot generation body → generation < 2 ^ 64 → IsFree layout generation old (log_start layout)
+pub made_store : {layout : Layout} {old image : Image} {slot : Slot} {generation : ℕ} {body : List ℕ} → IsNewest layout old slot generation body → generation < 2 ^ 64 → IsFree layout generation old (log_start layout generation)
     → ((j : ℕ) → 1 ≤ j → image j ≡ old j) → image 0 ≡ superblock layout → IsStore layout image slot generation body []
 made_store {layout} {old} {image} {slot} {generation} {body} newest last free same first = record {
   first = first;
   newest = unread_newest layout old image (λ j read. same j (read_from_one layout old j read)) newest;
-  records_are = stops (λ bytes. none_of last (λ theirs j low high is. free theirs j low high (subst (IsOf theirs) (same j (omega (arith, low))) is)) 0 (log_start layout) bytes (omega arith));
+  records_are = stops (λ bytes. none_of last (λ theirs j low high is. free theirs j low high (subst (IsOf theirs) (same j (omega (arith, low))) is)) 0 (log_start layout generation) bytes (omega arith));
   none_later = λ theirs j low high is. let below = free theirs j low high (subst (IsOf theirs) (same j (omega (arith, low))) is) in omega (arith, below);
 }
 
 -- The log stays as free as it was.
 pub kept_free : {layout : Layout} {old image : Image} {slot : Slot} {generation later : ℕ} {body : List ℕ} → MaybeSnapshot layout old slot generation body image
-    → IsFree layout later old (log_start layout) → IsFree layout later image (log_start layout)
-kept_free {layout} {slot} maybe free theirs j low high is = free theirs j low high (subst (IsOf theirs) (maybe.outside j (inr (behind_slot layout slot j low))) is)
+    → IsFree layout later old (log_start layout later) → IsFree layout later image (log_start layout later)
+kept_free {layout} {slot} {later} maybe free theirs j low high is = free theirs j low high (subst (IsOf theirs) (maybe.outside j (inr (behind_slot layout slot later j low))) is)
 
 -- ---- sector 0
 

@@ -135,6 +135,12 @@ pub record AfterRun (past : Past) (at : ℕ) (run : List Sector) (image : Image)
   pub was : IsImage past from
   pub laid : MaybeLaid from at run image
 
+-- outside so many sectors from a place on, an image of before
+pub record IsElsewhere (past : Past) (at count : ℕ) (image : Image) : Type 0 where
+  pub from : Image
+  pub was : IsImage past from
+  pub same : (j : ℕ) → (j < at) ⊎ (at + count ≤ j) → image j ≡ from j
+
 -- whether a call is a sync
 abbrev pub is_sync : Call → Bool
 is_sync synced = true

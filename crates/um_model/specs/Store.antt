@@ -2,8 +2,10 @@
 -- No manual page has it: it is the project's own format (docs/FORMATS.md, "The store on its disk").
 -- The slots, the log and the keeper stand on this file.
 use Rattle.std.specs.Prelude.{◌≡◌, ◌⊎◌, ◌+◌, ◌-◌, ◌*◌, ◌/◌, ◌^◌, ◌<◌, ◌≤◌, min, ℕ, zero, suc, List, [], ◌∷◌, ◌++◌, length, take, drop, replicate, codes}
+use Rattle.std.specs.Prelude.{Bool, true, ◌&&◌, nat_eq, nat_lt, nat_le, if◌then◌else◌, Option, Some, None}
+use Rattle.std.specs.Cmp.Lexicographic.{pointwise}
 use Rattle.byteorder.specs.Endian.{big_number, big_bytes}
-use Rattle.um_model.specs.Disk.{Sector, Image, Past, seen, IsSettled}
+use Rattle.um_model.specs.Disk.{Sector, Image, Past, IsImage, Images}
 use Rattle.um_model.specs.declared.layout.Layout.{Layout}
 use Rattle.um_model.specs.declared.layout.Slot.{Slot}
 use Rattle.um_model.specs.declared.layout.Slot.TheVariants.{A, B}
@@ -34,13 +36,17 @@ abbrev pub slot_start : Layout → Slot → ℕ
 slot_start layout A = 1
 slot_start layout B = layout.slot_sectors + 1
 
--- the first sector of the log
-abbrev pub log_start : Layout → ℕ
-log_start layout = 2 * layout.slot_sectors + 1
+-- the first sector of a generation's log: of this layout the same for all
+abbrev pub log_start : Layout → ℕ → ℕ
+log_start layout generation = 2 * layout.slot_sectors + 1
 
--- the first sector behind the log
-abbrev pub log_end : Layout → ℕ
-log_end layout = log_start layout + layout.log_sectors
+-- the first sector behind a generation's log
+abbrev pub log_end : Layout → ℕ → ℕ
+log_end layout generation = log_start layout generation + layout.log_sectors
+
+-- how many sectors the whole store has
+abbrev pub store_sectors : Layout → ℕ
+store_sectors layout = 2 * layout.slot_sectors + 1 + layout.log_sectors
 
 -- the slot beside this one
 abbrev pub other : Slot → Slot
@@ -97,6 +103,39 @@ pub record IsNewest (layout : Layout) (image : Image) (slot : Slot) (generation 
 abbrev pub HasNoHeader : Layout → Image → Type 0
 HasNoHeader layout image = (slot : Slot) (generation size : ℕ) → IsHeader layout (image (slot_start layout slot)) generation size → ⊥
 
+-- a sector is that header
+abbrev pub is_header : Layout → Sector → ℕ → ℕ → Bool
+is_header layout sector generation size =
+    nat_le 1 generation && (nat_lt generation (2 ^ 64) && (nat_le size (body_limit layout) && pointwise nat_eq sector (header_sector generation size)))
+
+-- a header's generation and length, where the sector is a well-formed one
+abbrev pub header_of : Layout → Sector → Option (ℕ × ℕ)
+header_of layout sector =
+    let generation = big_number 8 (drop 8 sector) in
+    let size = big_number 8 (drop 16 sector) in
+    if is_header layout sector generation size then Some (generation, size) else None
+
+-- what the newest slot holds
+pub record Newest : Type 0 where
+  pub slot : Slot
+  pub generation : ℕ
+  pub body : List ℕ
+
+-- what a slot with that header holds
+abbrev pub held_by : Layout → Image → Slot → ℕ × ℕ → Newest
+held_by layout image slot header = record { slot = slot; generation = header.0; body = body_at layout image slot header.1 }
+
+-- of the headers of slots A and B the newer, of equal generations slot A's
+abbrev pub newer_held : Layout → Image → Option (ℕ × ℕ) → Option (ℕ × ℕ) → Option Newest
+newer_held layout image None None = None
+newer_held layout image (Some a) None = Some (held_by layout image A a)
+newer_held layout image None (Some b) = Some (held_by layout image B b)
+newer_held layout image (Some a) (Some b) = if nat_le b.0 a.0 then Some (held_by layout image A a) else Some (held_by layout image B b)
+
+-- What the newest slot of an image holds, None where neither has a well-formed header.
+unfoldable pub newest_of : Layout → Image → Option Newest
+newest_of layout image = newer_held layout image (header_of layout (image (slot_start layout A))) (header_of layout (image (slot_start layout B)))
+
 -- a body's sectors as they are written, each by its place
 abbrev pub body_sector : List ℕ → ℕ → Sector
 body_sector body i = filled (take sector_bytes (drop (sector_bytes * i) body))
@@ -111,6 +150,12 @@ pub record MaybeSnapshot (layout : Layout) (old : Image) (slot : Slot) (generati
   pub outside : (j : ℕ) → (j < slot_start layout slot) ⊎ (slot_start layout slot + layout.slot_sectors ≤ j) → image j ≡ old j
   pub inside : (image (slot_start layout slot) ≡ old (slot_start layout slot)) ⊎ IsSnapshot layout image slot generation body
 
+-- an image of before, with the snapshot partly or wholly written
+pub record AfterSnapshot (layout : Layout) (past : Past) (slot : Slot) (generation : ℕ) (body : List ℕ) (image : Image) : Type 0 where
+  pub from : Image
+  pub was : IsImage past from
+  pub maybe : MaybeSnapshot layout from slot generation body image
+
 -- a sector that the reading of the newest body looks at: both headers, and what the newest one's length covers
 pub data IsSlotRead (layout : Layout) (image : Image) : ℕ → Type 0 where
   head : (slot : Slot) → IsSlotRead layout image (slot_start layout slot)
@@ -119,9 +164,9 @@ pub data IsSlotRead (layout : Layout) (image : Image) : ℕ → Type 0 where
 
 -- ---- the log
 
--- the longest record, in bytes
-abbrev pub record_limit : ℕ
-record_limit = 131072
+-- the longest record of a generation, in bytes: of this layout the same for all
+abbrev pub record_limit : Layout → ℕ → ℕ
+record_limit layout generation = 131072
 
 -- the first bytes of a sector of the log
 abbrev pub record_format : List ℕ
@@ -150,8 +195,8 @@ log_sector generation number part size payload =
 -- a whole record stands there: all its sectors are just as they are written
 pub record IsRecord (layout : Layout) (generation : ℕ) (image : Image) (number at : ℕ) (bytes : List ℕ) : Type 0 where
   pub some : 0 < length bytes
-  pub short : length bytes ≤ record_limit
-  pub within : at + part_count (length bytes) ≤ log_end layout
+  pub short : length bytes ≤ record_limit layout generation
+  pub within : at + part_count (length bytes) ≤ log_end layout generation
   pub parts : (part : ℕ) → part < part_count (length bytes) → image (at + part) ≡ log_sector generation number part (length bytes) (part_of bytes part)
 
 -- the records from a place on, each directly behind the one before, up to the first that isn't whole
@@ -163,7 +208,42 @@ pub data AreRecords (layout : Layout) (generation : ℕ) (image : Image) : ℕ �
 
 -- the records of a generation
 abbrev pub HasRecords : Layout → ℕ → Image → List (List ℕ) → Type 0
-HasRecords layout generation image records = AreRecords layout generation image 0 (log_start layout) records
+HasRecords layout generation image records = AreRecords layout generation image 0 (log_start layout generation) records
+
+-- the bytes of so many parts from a sector on, joined
+abbrev pub payloads : ℕ → Image → ℕ → List ℕ
+payloads zero image at = []
+payloads (suc n) image at = take part_bytes (drop 32 (image at)) ++ payloads n image (suc at)
+
+-- the bytes that a record from a sector on would have: that sector tells how many
+abbrev pub bytes_from : Image → ℕ → List ℕ
+bytes_from image at = let size = big_number 4 (drop 28 (image at)) in take size (payloads (part_count size) image at)
+
+-- the first parts of a record stand there, so many
+abbrev pub parts_stand : ℕ → Image → ℕ → ℕ → List ℕ → ℕ → Bool
+parts_stand generation image number at bytes zero = true
+parts_stand generation image number at bytes (suc n) =
+    parts_stand generation image number at bytes n
+    && pointwise nat_eq (image (at + n)) (log_sector generation number n (length bytes) (part_of bytes n))
+
+-- that record stands there whole
+abbrev pub is_record : Layout → ℕ → Image → ℕ → ℕ → List ℕ → Bool
+is_record layout generation image number at bytes =
+    nat_lt 0 (length bytes) && (nat_le (length bytes) (record_limit layout generation)
+    && (nat_le (at + part_count (length bytes)) (log_end layout generation)
+    && parts_stand generation image number at bytes (part_count (length bytes))))
+
+-- the records from a place on, so many at most
+abbrev pub records_from : ℕ → Layout → ℕ → Image → ℕ → ℕ → List (List ℕ)
+records_from zero layout generation image number at = []
+records_from (suc turns) layout generation image number at =
+    let bytes = bytes_from image at in
+    if is_record layout generation image number at bytes
+    then bytes ∷ records_from turns layout generation image (suc number) (at + part_count (length bytes)) else []
+
+-- The records of a generation that count in an image. Each has a sector of its own, so there are no more than the log has sectors.
+unfoldable pub records_of : Layout → ℕ → Image → List (List ℕ)
+records_of layout generation image = records_from layout.log_sectors layout generation image 0 (log_start layout generation)
 
 -- how many sectors records take
 abbrev pub sectors_of : List (List ℕ) → ℕ
@@ -177,13 +257,13 @@ pub record IsOf (generation : ℕ) (sector : Sector) : Type 0 where
 
 -- from a sector on, none of the log is of this generation or a later one
 abbrev pub IsFree : Layout → ℕ → Image → ℕ → Type 0
-IsFree layout generation image next = (theirs j : ℕ) → next ≤ j → j < log_end layout → IsOf theirs (image j) → theirs < generation
+IsFree layout generation image next = (theirs j : ℕ) → next ≤ j → j < log_end layout generation → IsOf theirs (image j) → theirs < generation
 
 -- Where the log's next record goes: directly behind those of its generation, and nothing of it stands there.
 pub record IsLogEnd (layout : Layout) (generation : ℕ) (image : Image) (records : List (List ℕ)) (number next : ℕ) : Type 0 where
   pub count : number ≡ length records
-  pub place : next ≡ log_start layout + sectors_of records
-  pub within : next ≤ log_end layout
+  pub place : next ≡ log_start layout generation + sectors_of records
+  pub within : next ≤ log_end layout generation
   pub free : IsFree layout generation image next
 
 -- a sector that is that part of a record of so many bytes
@@ -194,8 +274,9 @@ pub record IsPart (generation number part size : ℕ) (sector : Sector) : Type 0
 
 -- A sector that the reading of the records from a place on looks at: up to and with the first that isn't the next part in its place.
 pub data IsLogRead (layout : Layout) (generation : ℕ) (image : Image) : ℕ → ℕ → ℕ → Type 0 where
-  begins : {number at : ℕ} → at < log_end layout → IsLogRead layout generation image number at at
-  part_behind : {number at : ℕ} (size part : ℕ) → size ≤ record_limit → suc part < part_count size → at + part_count size ≤ log_end layout
+  begins : {number at : ℕ} → at < log_end layout generation → IsLogRead layout generation image number at at
+  part_behind : {number at : ℕ} (size part : ℕ) → size ≤ record_limit layout generation → suc part < part_count size
+      → at + part_count size ≤ log_end layout generation
       → ((i : ℕ) → i ≤ part → IsPart generation number i size (image (at + i))) → IsLogRead layout generation image number at (at + suc part)
   record_behind : {number at j : ℕ} {bytes : List ℕ} → IsRecord layout generation image number at bytes
       → IsLogRead layout generation image (suc number) (at + part_count (length bytes)) j → IsLogRead layout generation image number at j
@@ -207,20 +288,29 @@ pub record IsStore (layout : Layout) (image : Image) (slot : Slot) (generation :
   pub first : image 0 ≡ superblock layout
   pub newest : IsNewest layout image slot generation body
   pub records_are : HasRecords layout generation image records
-  pub none_later : IsFree layout (generation + 1) image (log_start layout)
+  pub none_later : IsFree layout (generation + 1) image (log_start layout (generation + 1))
 
--- the store as it was, or with this body as the next generation and no record
-abbrev pub EitherSnapshot : Layout → Slot → ℕ → List ℕ → List (List ℕ) → List ℕ → Image → Type 0
-EitherSnapshot layout slot generation before records body image =
-    IsStore layout image slot generation before records ⊎ IsStore layout image (other slot) (generation + 1) body []
+-- a store with this newest snapshot, and the records that count in the image
+abbrev pub IsStoreOf : Layout → Slot → ℕ → List ℕ → Image → Type 0
+IsStoreOf layout slot generation body image = IsStore layout image slot generation body (records_of layout generation image)
+
+-- the store of an image of before
+pub record WasStore (layout : Layout) (past : Past) (slot : Slot) (generation : ℕ) (body : List ℕ) (image : Image) : Type 0 where
+  pub from : Image
+  pub was : IsImage past from
+  pub store : IsStore layout image slot generation body (records_of layout generation from)
+
+-- the store of before, or with this body as the next generation and no record
+abbrev pub EitherSnapshot : Layout → Past → Slot → ℕ → List ℕ → List ℕ → Image → Type 0
+EitherSnapshot layout past slot generation before body image =
+    WasStore layout past slot generation before image ⊎ IsStore layout image (other slot) (generation + 1) body []
 
 -- the store as it was, or with this record behind the others
 abbrev pub EitherRecord : Layout → Slot → ℕ → List ℕ → List (List ℕ) → List ℕ → Image → Type 0
 EitherRecord layout slot generation body records bytes image =
     IsStore layout image slot generation body records ⊎ IsStore layout image slot generation body (records ++ bytes ∷ [])
 
--- All of it is on the disk, and the log goes on from there.
-pub record IsReady (layout : Layout) (past : Past) (slot : Slot) (generation : ℕ) (body : List ℕ) (records : List (List ℕ)) (number next : ℕ) : Type 0 where
-  pub settled : IsSettled past
-  pub store : IsStore layout (seen past) slot generation body records
-  pub end : IsLogEnd layout generation (seen past) records number next
+-- Whichever image a crash leaves, it is of that store, and the log goes on from there: a sector that isn't read may have several candidates.
+pub record GoesOn (layout : Layout) (past : Past) (slot : Slot) (generation : ℕ) (body : List ℕ) (records : List (List ℕ)) (number next : ℕ) : Type 0 where
+  pub store : Images past (λ image. IsStore layout image slot generation body records)
+  pub end : Images past (λ image. IsLogEnd layout generation image records number next)

@@ -12,6 +12,9 @@ const LOG_LEAST: u32 = 512;
 /// A slot and the log have at most so many sectors each.
 const SECTORS_MOST: u32 = 1 << 20;
 
+/// The longest record, in bytes.
+const RECORD_LIMIT: usize = 131_072;
+
 /// One of the two places of a snapshot.
 #[derive(Clone, Copy, Debug, PartialEq, Eq)]
 pub enum Slot {
@@ -47,7 +50,7 @@ impl Slot {
 }
 
 impl Layout {
-    ghost use Rattle.um_model.specs.Store.{slot_start, body_limit, log_start, log_end};
+    ghost use Rattle.um_model.specs.Store.{slot_start, body_limit, log_start, log_end, record_limit, store_sectors};
 
     /// The layout of a store with slots and a log of so many sectors; None outside the limits.
     pub fn new(slot_sectors: u32, log_sectors: u32) -> Option<Layout>
@@ -83,17 +86,31 @@ impl Layout {
         (self.slot_sectors as usize - 1) * SECTOR_BYTES
     }
 
-    /// The first sector of the log.
-    pub fn log_start(self) -> usize
-        ensures { result ≡ log_start self }
+    /// The first sector of a generation's log: of this layout the same for all.
+    pub fn log_start(self, _generation: u64) -> usize
+        ensures { result ≡ log_start self _generation }
     {
         2 * self.slot_sectors as usize + 1
     }
 
-    /// The first sector behind the log: so many sectors has the store.
-    pub fn log_end(self) -> usize
-        ensures { result ≡ log_end self }
+    /// The first sector behind a generation's log.
+    pub fn log_end(self, generation: u64) -> usize
+        ensures { result ≡ log_end self generation }
     {
-        self.log_start() + self.log_sectors as usize
+        self.log_start(generation) + self.log_sectors as usize
+    }
+
+    /// The longest record of a generation, in bytes: of this layout the same for all.
+    pub fn record_limit(self, _generation: u64) -> usize
+        ensures { result ≡ record_limit self _generation }
+    {
+        RECORD_LIMIT
+    }
+
+    /// How many sectors the whole store has.
+    pub fn sectors(self) -> usize
+        ensures { result ≡ store_sectors self }
+    {
+        2 * self.slot_sectors as usize + 1 + self.log_sectors as usize
     }
 }
