@@ -395,7 +395,7 @@ run_few size s t (i ∷ inputs) (Run.goes {t = v} reply actions step run) few = 
 
 -- in the empty tree nothing is known where nothing is held
 module _ (Extra : List ℕ → Type 0) (none : (x : List ℕ) → ¬ Extra x) where
-  none_named : (x : List ℕ) → ¬ IsNamed map.empty Extra x
+  pub none_named : (x : List ℕ) → ¬ IsNamed map.empty Extra x
   none_named x (model.has h) = none-some h.entry (sym (map.get-empty (slice_cmp nat_cmp) h.path) ∙ h.held)
   none_named x (model.holder links) = none-some _ (sym (map.get-empty (slice_cmp nat_cmp) links.path) ∙ links.link)
   none_named x (model.link links) = none-some _ (sym (map.get-empty (slice_cmp nat_cmp) links.path) ∙ links.link)
@@ -412,11 +412,11 @@ none_under_run : (entries : List (List ℕ × Entry)) → length entries ≡ 0 �
 none_under_run [] none = refl
 none_under_run (e ∷ entries) none = cc
 
-empty_same : without_run map.empty ≡ map.empty
+pub empty_same : without_run map.empty ≡ map.empty
 empty_same =
     without_run_same map.empty (none_under_run (map.entries map.empty) (sym (map.len-entries map.empty) ∙ map.len-empty (slice_cmp nat_cmp) Entry))
 
-empty_few : IsFew empty_state
+pub empty_few : IsFew empty_state
 empty_few r crowded = by_tree crowded.many
   where
     by_tree : ¬ (KnowsTooMany map.empty (IsHeld empty_state) ⊎ KnowsTooMany (without_run map.empty) (IsHeld empty_state))

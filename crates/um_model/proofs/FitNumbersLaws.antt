@@ -159,10 +159,10 @@ changes_good t s command u cancels h = same_good t s u refl refl h
 changes_good t s command u (demands_nothing is) h = h
 changes_good t s command u (plans is plan) h = same_good t s u refl refl h
 
-dead_good : (t : ℕ) → IsGood t dead_unit
+pub dead_good : (t : ℕ) → IsGood t dead_unit
 dead_good t = record { index_low = omega arith; deadline_low = tt; window_low = tt; last_low = tt; apart = λ n e f. none-some n e }
 
-dead_none : (n : ℕ) → ¬ HasNumber dead_unit n
+pub dead_none : (n : ℕ) → ¬ HasNumber dead_unit n
 dead_none n (inl e) = none-some n e
 dead_none n (inr e) = none-some n e
 

@@ -62,7 +62,7 @@ module _ {X : Type 0} (P : List ℕ × X → Type 0) where
 -- ---- a tree of texts
 
 -- what stands there is a text
-abbrev IsTextAt : Option Entry → Type 0
+abbrev pub IsTextAt : Option Entry → Type 0
 IsTextAt None = Unit {0}
 IsTextAt (Some entry) = is_utf8 (text_of_entry entry) ≡ true
 

@@ -278,7 +278,7 @@ none_comes : (Before : List ℕ → List ℕ → Type 0) (j k : Job) → ¬ Come
 none_comes Before j k c = none_waits k.kind (sym (ap (λ o. job_of k.kind (unwrap_or o no_jobs)) (map.get-empty _ k.unit)) ∙ c.waits)
 
 -- where no job is pending there is no cycle, whatever the order
-none_free : (Before : List ℕ → List ℕ → Type 0) → AreFree Before map.empty
+pub none_free : (Before : List ℕ → List ℕ → Type 0) → AreFree Before map.empty
 none_free Before [] c = c
 none_free Before (j ∷ []) c = none_comes Before j j c
 none_free Before (j ∷ (k ∷ ks)) c = none_comes Before j k c.0
@@ -298,7 +298,8 @@ takes_free t s event actions v (Takes.obeys {command = command} {first = x} {mor
     less_free u v (settles_less t u y v k) (does_free t s command x u none h free)
 takes_free t s event actions v (Takes.meets {happening = happening} effect h) free = follows_free t s happening actions v h free
 
-step_free : (size : ℕ) (s : State) (input : Input) (reply : Reply) (actions : List Action) (t : State) → Step size s input reply actions t → IsFree s → IsFree t
+-- a step keeps the pending jobs without a cycle
+pub step_free : (size : ℕ) (s : State) (input : Input) (reply : Reply) (actions : List Action) (t : State) → Step size s input reply actions t → IsFree s → IsFree t
 step_free size s input reply actions t (Step.refused e) free = free
 step_free size s input reply actions t (Step.crowded_out h heavy) free = free
 step_free size s input reply actions t (Step.idle e) free = free

@@ -49,6 +49,7 @@ pub mod FitUnitLaws
 pub mod FitNumbersLaws
 pub mod FitSoundLaws
 pub mod FitStateLaws
+pub mod WholeLaws
 pub mod SpellingRows
 pub mod TransitionLaws
 pub mod StoreLaws
@@ -83,4 +84,5 @@ pub mod GivenMaps
 pub mod CrowdedLaws
 pub mod FewLaws
 pub mod LightLaws
+pub mod ServableLaws
 pub mod FinishedLaws

@@ -34,6 +34,7 @@ pub mod Machine
 pub mod Live
 pub mod Finished
 pub mod Few
+pub mod Servable
 pub mod Numbers
 pub mod Requests
 pub mod Replies
