@@ -1,7 +1,7 @@
 -- What outlives a crash: the lives of a store, each opened on the image that the one before it left, and the inputs that they keep.
 -- No manual page has it: crash safety is this project's own promise (docs/CRASH.md tells it in plain words).
 -- The law of lives in proofs/LivesLaws and the keeper's contracts depend on this file.
-use Rattle.std.specs.Prelude.{◌≡◌, ⊤, ⊥, ℕ, List, [], ◌∷◌, ◌++◌}
+use Rattle.std.specs.Prelude.{◌≡◌, ⊤, ℕ, List, [], ◌∷◌, ◌++◌}
 use Rattle.um_model.specs.Disk.{Image}
 use Rattle.um_model.specs.Machine.{State, Input, Reply, Step, empty_state}
 use Rattle.um_model.specs.Service.{Action}
