@@ -54,6 +54,7 @@ pub mod SpellingRows
 pub mod TransitionLaws
 pub mod StoreLaws
 pub mod LogLaws
+pub mod ImageLaws
 pub mod FindsLaws
 pub mod SessionsLaws
 pub mod WaitingLaws

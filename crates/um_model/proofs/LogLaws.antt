@@ -19,7 +19,7 @@ pub length-part : (bytes : List ℕ) (part : ℕ) → length (part_of bytes part
 length-part bytes part = omega (arith, length-take 480 (drop (480 * part) bytes), length-drop (480 * part) bytes)
 
 -- the next part is the first of what is behind
-next_part : (bytes : List ℕ) (part : ℕ) → part_of bytes (suc part) ≡ part_of (drop 480 bytes) part
+pub next_part : (bytes : List ℕ) (part : ℕ) → part_of bytes (suc part) ≡ part_of (drop 480 bytes) part
 next_part bytes part =
     let moved : 480 * suc part ≡ 480 + 480 * part = omega arith in
     ap (take 480) (ap (λ (n : ℕ). drop n bytes) moved ∙ sym (drop-drop (480 * part) 480 bytes))

@@ -2,8 +2,7 @@
 -- No manual page has it: it is the project's own format (docs/FORMATS.md, "The store on its disk").
 -- The slots, the log and the keeper stand on this file.
 use Rattle.std.specs.Prelude.{◌≡◌, ◌⊎◌, ◌+◌, ◌-◌, ◌*◌, ◌/◌, ◌^◌, ◌<◌, ◌≤◌, min, ℕ, zero, suc, List, [], ◌∷◌, ◌++◌, length, take, drop, replicate, codes}
-use Rattle.std.specs.Prelude.{Bool, true, ◌&&◌, nat_eq, nat_lt, nat_le, if◌then◌else◌, Option, Some, None}
-use Rattle.std.specs.Cmp.Lexicographic.{pointwise}
+use Rattle.std.specs.Prelude.{Bool, true, ◌&&◌, bytes_eq, nat_lt, nat_le, if◌then◌else◌, Option, Some, None}
 use Rattle.byteorder.specs.Endian.{big_number, big_bytes}
 use Rattle.um_model.specs.Disk.{Sector, Image, Past, IsImage, Images}
 use Rattle.um_model.specs.declared.layout.Layout.{Layout}
@@ -106,7 +105,7 @@ HasNoHeader layout image = (slot : Slot) (generation size : ℕ) → IsHeader la
 -- a sector is that header
 abbrev pub is_header : Layout → Sector → ℕ → ℕ → Bool
 is_header layout sector generation size =
-    nat_le 1 generation && (nat_lt generation (2 ^ 64) && (nat_le size (body_limit layout) && pointwise nat_eq sector (header_sector generation size)))
+    nat_le 1 generation && (nat_lt generation (2 ^ 64) && (nat_le size (body_limit layout) && bytes_eq sector (header_sector generation size)))
 
 -- a header's generation and length, where the sector is a well-formed one
 abbrev pub header_of : Layout → Sector → Option (ℕ × ℕ)
@@ -224,7 +223,7 @@ abbrev pub parts_stand : ℕ → Image → ℕ → ℕ → List ℕ → ℕ → 
 parts_stand generation image number at bytes zero = true
 parts_stand generation image number at bytes (suc n) =
     parts_stand generation image number at bytes n
-    && pointwise nat_eq (image (at + n)) (log_sector generation number n (length bytes) (part_of bytes n))
+    && bytes_eq (image (at + n)) (log_sector generation number n (length bytes) (part_of bytes n))
 
 -- that record stands there whole
 abbrev pub is_record : Layout → ℕ → Image → ℕ → ℕ → List ℕ → Bool
