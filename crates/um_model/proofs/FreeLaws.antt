@@ -242,7 +242,7 @@ module _ (s : State) (named : List ℕ) where
 -- ---- a command
 
 -- a tree that isn't refused leaves the pending jobs without a cycle
-loads_free : (s : State) (tree : Tree) → ((r : Refused) → ¬ CausesOfLoad s tree r) → (cycle : List Job) → ¬ IsCycle (ComesBefore (IsBefore tree) s.pending) cycle
+pub loads_free : (s : State) (tree : Tree) → ((r : Refused) → ¬ CausesOfLoad s tree r) → (cycle : List Job) → ¬ IsCycle (ComesBefore (IsBefore tree) s.pending) cycle
 loads_free s tree none cycle c =
     let turned = least_unit_first (ComesBefore (IsBefore tree) s.pending) cycle c in
     none (ordering_cycle (units_of turned.0)) (at_second (λ r crowded. none r (at_first crowded))

@@ -85,5 +85,6 @@ pub mod GivenMaps
 pub mod CrowdedLaws
 pub mod FewLaws
 pub mod LightLaws
+pub mod RefusesLaws
 pub mod ServableLaws
 pub mod FinishedLaws

@@ -1,5 +1,5 @@
 -- Each step leaves a state that a store may hold such that it still may.
-use Rattle.std.proofs.Common.{ℕ, Contains, ◌≡◌, ◌≢◌, ◌∙◌, ◌+◌, ◌*◌, ◌≤◌, AllPairs, List, [], ◌∷◌, length, refl, sym, ap, subst, inl, arith}
+use Rattle.std.proofs.Common.{ℕ, Contains, ◌≡◌, ◌∙◌, ◌≤◌, List, [], ◌∷◌, length, refl, sym, ap, subst, inl, arith}
 use Rattle.std.specs.Prelude.{map as each}
 use Rattle.std.specs.List.{sum}
 use Rattle.std.specs.Cmp.Lexicographic.{slice_cmp}
@@ -9,7 +9,8 @@ use mathlib.Core.HLevel.{Π_prop, ×₃_prop, ⊥_prop}
 use Rattle.um_model.specs.Dependencies.{IsKnown, KnowsSoMany, CountsFor}
 use Rattle.um_model.specs.Few.{IsFew}
 use Rattle.um_model.specs.Live.{IsFree}
-use Rattle.um_model.specs.Machine.{State, empty_state, Command, Commanded, Happening, Happened, Event, Input, Reply, IsHeld, IsBefore, IsTooHeavy, HasNoRoom, Takes, reply_after, moment_of, Step, taken}
+use Rattle.um_model.specs.Machine.{State, empty_state, Commanded, Happening, Happened, Event, Input, Reply, IsHeld, IsBefore, CausesOfLoad, IsTooHeavy, HasNoRoom, Takes, reply_after, moment_of, Step, taken}
+use Rattle.um_model.specs.Refusals.{Refused, at_first, at_second}
 use Rattle.um_model.specs.Servable.{IsServable}
 use Rattle.um_model.specs.Service.{Action}
 use Rattle.um_model.specs.Tree.{Entry}
@@ -18,7 +19,7 @@ use Rattle.um_model.proofs.AmongLaws.{contains_among}
 use Rattle.um_model.proofs.CrowdedLaws.{a_count}
 use Rattle.um_model.proofs.DemandsLaws.{reached_in}
 use Rattle.um_model.proofs.FewLaws.{step_few, none_named, empty_none, empty_same, empty_few}
-use Rattle.um_model.proofs.FreeLaws.{step_free, none_free}
+use Rattle.um_model.proofs.FreeLaws.{loads_free, step_free, none_free}
 use Rattle.um_model.proofs.LightLaws.{happening_light}
 use Rattle.um_model.proofs.SceneLaws.{held_list}
 
@@ -36,6 +37,15 @@ parts_once size s = ×₃_prop (Π_prop (λ _. ⊥_prop)) (Π_prop (λ _. Π_pro
 pub servable_once : (size : ℕ) (s : State) → IsProp (IsServable size s)
 unfolding of_parts
 servable_once size s p q = ap (of_parts size s) (parts_once size s (p.light, p.few, p.free) (q.light, q.few, q.free))
+
+-- ---- a state is servable where it has room and a load of its loaded tree isn't refused
+
+pub loads_servable : (size : ℕ) (s : State) → ((r : Refused) → ¬ CausesOfLoad s s.loaded r) → ¬ IsTooHeavy size s → IsServable size s
+loads_servable size s none light = record { light = light; few = λ r crowded. none r (at_first crowded); free = loads_free s s.loaded none }
+
+pub refused_unservable : (size : ℕ) (s : State) (r : Refused) → CausesOfLoad s s.loaded r → ¬ IsServable size s
+refused_unservable size s r (at_first crowded) h = h.few r crowded
+refused_unservable size s r (at_second none circle) h = h.free circle.cycle circle.closed
 
 -- ---- the empty state
 
