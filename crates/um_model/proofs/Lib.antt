@@ -55,6 +55,8 @@ pub mod TransitionLaws
 pub mod StoreLaws
 pub mod LogLaws
 pub mod ImageLaws
+pub mod StandsLaws
+pub mod LivesLaws
 pub mod FindsLaws
 pub mod SessionsLaws
 pub mod WaitingLaws

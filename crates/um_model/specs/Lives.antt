@@ -65,3 +65,27 @@ pub data IsKept : List Offer → List Input → Type 0 where
 pub data AreKept : List Life → List Input → Type 0 where
   all_kept : AreKept [] []
   and_life : {life : Life} {lives : List Life} {here more : List Input} → IsKept life.offers here → AreKept lives more → AreKept (life ∷ lives) (here ++ more)
+
+-- ---- what was answered
+
+-- the input, where it was answered
+abbrev pub where_answered : Outcome → Input → List Input
+where_answered (answered reply) input = input ∷ []
+where_answered turned_away input = []
+where_answered unanswered input = []
+
+-- the inputs of a life that were answered
+abbrev pub answered_in : List Offer → List Input
+answered_in [] = []
+answered_in (offer ∷ offers) = where_answered offer.outcome offer.input ++ answered_in offers
+
+-- those of all lives, one behind the other
+abbrev pub all_answered : List Life → List Input
+all_answered [] = []
+all_answered (life ∷ lives) = answered_in life.offers ++ all_answered lives
+
+-- the second list has all of the first in its order, and maybe others between them
+pub data HasInOrder : List Input → List Input → Type 0 where
+  no_others : HasInOrder [] []
+  has : {input : Input} {some all : List Input} → HasInOrder some all → HasInOrder (input ∷ some) (input ∷ all)
+  between : {input : Input} {some all : List Input} → HasInOrder some all → HasInOrder some (input ∷ all)

@@ -1,0 +1,72 @@
+-- What outlives a crash: the state that the last image stands for comes of what was kept, and that holds all that was answered.
+use Rattle.std.proofs.Common.{◌≡◌, ℕ, List, [], ◌∷◌, ◌++◌, refl, sym, ap, subst, Some}
+use Rattle.um_model.specs.Disk.{Image}
+use Rattle.um_model.specs.Machine.{State, Input, Reply, Step, Run, rests, goes, empty_state}
+use Rattle.um_model.specs.Stands.{StandsFor, IsStoreOf}
+use Rattle.um_model.specs.Store.{body_limit}
+use Rattle.um_model.specs.Lives.{Outcome, answered, turned_away, unanswered, Offer, Life, AreUnanswered, none, turned, lost, MayBeStep, MayLeave, holds, takes, turns_away, Lived, ended, lived, IsKept, no_more, keeps, passes, AreKept, all_kept, and_life}
+use Rattle.um_model.specs.Lives.{where_answered, answered_in, all_answered, HasInOrder, no_others, has, between}
+use Rattle.um_model.specs.declared.layout.Layout.{Layout}
+use Rattle.um_model.proofs.MachineLaws.{run-append}
+use Rattle.um_model.proofs.StandsLaws.{one_state}
+
+-- ---- one life
+
+-- the image that a life left is of a store of the state that what was kept comes to
+pub one_life : (layout : Layout) (s : State) (offers : List Offer) (image : Image) → MayLeave layout s offers image
+    → (b : List Input) × IsKept offers b × (t : State) × Run (body_limit layout) s b t × IsStoreOf layout image t
+one_life layout s offers image (holds store none_answered) = ([], no_more none_answered, s, rests, store)
+one_life layout s (offer ∷ offers) image (takes reply actions may step leaves) =
+    let (b, kept, t, run, store) = one_life layout _ offers image leaves in
+    (offer.input ∷ b, keeps reply may kept, t, goes reply actions step run, store)
+one_life layout s (offer ∷ offers) image (turns_away leaves) =
+    let (b, kept, t, run, store) = one_life layout s offers image leaves in
+    (b, passes kept, t, run, store)
+
+-- ---- all lives
+
+-- The same of all lives, from the state on that the first image stands for.
+pub lives_from : (layout : Layout) (first last : Image) (lives : List Life) (s : State) → IsStoreOf layout first s → Lived layout first lives last
+    → (b : List Input) × AreKept lives b × (t : State) × Run (body_limit layout) s b t × IsStoreOf layout last t
+lives_from layout first last [] s store ended = ([], all_kept, s, rests, store)
+lives_from layout first last (life ∷ lives) s store (lived {s = begun} opened leaves more) =
+    let same : begun ≡ s = one_state layout first begun s opened.stands store.stands in
+    let (here, kept, t, run, left) = one_life layout s life.offers life.image (subst (λ x. MayLeave layout x life.offers life.image) same leaves) in
+    let (others, all, u, later, stands) = lives_from layout life.image last lives t left more in
+    (here ++ others, and_life kept all, u, run-append (body_limit layout) s t u here others run later, stands)
+
+-- and of a store that was new
+pub lives : (layout : Layout) (first last : Image) (lives : List Life) → IsStoreOf layout first empty_state → Lived layout first lives last
+    → (b : List Input) × AreKept lives b × (s : State) × Run (body_limit layout) empty_state b s × IsStoreOf layout last s
+lives layout first last all store led = lives_from layout first last all empty_state store led
+
+-- ---- what was answered is kept
+
+-- nothing was answered
+none_had : (offers : List Offer) → AreUnanswered offers → answered_in offers ≡ []
+none_had [] none = refl
+none_had (_ ∷ offers) (turned more) = none_had offers more
+none_had (_ ∷ offers) (lost more) = none_had offers more
+
+-- two such lists, one behind the other
+in_order_both : (a b c d : List Input) → HasInOrder a b → HasInOrder c d → HasInOrder (a ++ c) (b ++ d)
+in_order_both a b c d no_others more = more
+in_order_both a b c d (has {some = some} {all = all} rest) more = has (in_order_both some all c d rest more)
+in_order_both a b c d (between {all = all} rest) more = between (in_order_both a all c d rest more)
+
+-- What is kept of a life holds all that was answered in it, in its order.
+pub life_has_answered : (offers : List Offer) (b : List Input) → IsKept offers b → HasInOrder (answered_in offers) b
+life_has_answered offers [] (no_more none_answered) = subst (λ l. HasInOrder l []) (sym (none_had offers none_answered)) no_others
+life_has_answered (offer ∷ offers) (_ ∷ b) (keeps reply may kept) = by offer.outcome (life_has_answered offers b kept)
+  where
+    by : (o : Outcome) → HasInOrder (answered_in offers) b → HasInOrder (where_answered o offer.input ++ answered_in offers) (offer.input ∷ b)
+    by (answered r) rest = has rest
+    by turned_away rest = between rest
+    by unanswered rest = between rest
+life_has_answered (offer ∷ offers) b (passes kept) = life_has_answered offers b kept
+
+-- What is kept of all lives holds all that was answered, in its order.
+pub has_answered : (all : List Life) (b : List Input) → AreKept all b → HasInOrder (all_answered all) b
+has_answered all b all_kept = no_others
+has_answered all b (and_life {life = life} {lives = more_lives} {here = here} {more = more} kept rest) =
+    in_order_both (answered_in life.offers) here (all_answered more_lives) more (life_has_answered life.offers here kept) (has_answered more_lives more rest)
