@@ -52,3 +52,4 @@ pub mod Stands
 pub mod Lives
 pub mod Finds
 pub mod Sessions
+pub mod Children

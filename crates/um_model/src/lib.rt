@@ -2,6 +2,7 @@
 //! share.
 #![tactic(auto)]
 
+mod children;
 mod commands;
 mod dependencies;
 mod frames;
@@ -22,6 +23,7 @@ mod units;
 mod warnings;
 mod words;
 
+pub use children::Fate;
 pub use commands::{JobMode, UnitVerb};
 pub use dependencies::{Demand, DependencyKind};
 pub use frames::Ending;

@@ -1,0 +1,130 @@
+ghost use Rattle.std.specs.Prelude.{◌≡◌, [], List, map, string_bytes};
+ghost use Rattle.std.specs.Vec.Iter.{into_iter_items};
+ghost use Rattle.um_model.specs.Children as children;
+ghost use Rattle.um_model.specs.Machine as machine;
+ghost use Rattle.um_model.specs.Service as service;
+ghost use Rattle.um_state.specs.View.{action_of, reply_of};
+
+use std::marker::Model;
+use std::vec;
+use um_model::{ProcessNumber, Signal};
+use um_state::{Action, Reply};
+
+/// An order to start a process. `Receipt::next_action` alone makes one, and nothing copies it: so no process is started but for an
+/// accepted input, and none twice.
+#[derive(Drop)]
+pub struct SpawnOrder {
+    number: ProcessNumber,
+    words: Vec<String>,
+    environment: Vec<String>,
+}
+
+impl Model for SpawnOrder {
+    ghost Value = { children.Spawn };
+
+    ghost view = { λ o. record { number = o.number; words = map string_bytes o.words.items; environment = map string_bytes o.environment.items } };
+}
+
+impl SpawnOrder {
+    /// The number of the process.
+    pub fn number(&self) -> ProcessNumber
+        ensures { result ≡ self.now.number }
+    {
+        self.number
+    }
+
+    /// The program and its arguments.
+    pub fn words(&self) -> &[String]
+        ensures { map string_bytes result.now ≡ self.now.words }
+    {
+        self.words.as_slice()
+    }
+
+    /// `NAME=value` each.
+    pub fn environment(&self) -> &[String]
+        ensures { map string_bytes result.now ≡ self.now.environment }
+    {
+        self.environment.as_slice()
+    }
+
+    /// The words and the environment, without a copy. The order is spent.
+    pub fn into_words(self) -> (Vec<String>, Vec<String>)
+        ensures words { map string_bytes result.0.items ≡ self.words }
+        ensures environment { map string_bytes result.1.items ≡ self.environment }
+    {
+        (self.words, self.environment)
+    }
+}
+
+/// An action as it is handed out.
+#[derive(Drop)]
+pub enum Handed {
+    Spawn(SpawnOrder),
+    Signal {
+        number: ProcessNumber,
+        signal: Signal,
+    },
+}
+
+/// What an accepted input answers: the reply, and the actions that are still to be done. It can't be copied or dropped: each action
+/// must be taken out, and then `finish` gives the reply.
+pub struct Receipt {
+    reply: Reply,
+    actions: vec::IntoIter<Action>,
+}
+
+impl Model for Receipt {
+    ghost Value = { machine.Reply × List service.Action };
+
+    ghost view = { λ r. (reply_of r.reply, map action_of (into_iter_items r.actions)) };
+}
+
+impl Receipt {
+    ghost use Rattle.um_keeper.specs.Receipts.{Hands};
+
+    /// The receipt of an input that was accepted with this reply and these actions.
+    pub(crate) fn new(reply: Reply, actions: Vec<Action>) -> Receipt
+        ensures reply { result.0 ≡ reply_of reply }
+        ensures actions { result.1 ≡ map action_of actions.items }
+    {
+        Receipt {
+            reply,
+            actions: actions.into_iter(),
+        }
+    }
+
+    /// The reply.
+    pub fn reply(&self) -> &Reply
+        ensures { reply_of result.now ≡ self.now.0 }
+    {
+        &self.reply
+    }
+
+    /// The next action, in their order, each once. None where none is left.
+    pub fn next_action(&mut self) -> Option<Handed>
+        ensures actions { Hands self.old.1 result self.new.1 }
+        ensures reply { self.new.0 ≡ self.old.0 }
+    {
+        match self.actions.next()? {
+            Action::Spawn {
+                number,
+                words,
+                environment,
+            } => Some(Handed::Spawn(SpawnOrder {
+                number,
+                words,
+                environment,
+            })),
+            Action::Signal { number, signal } => Some(Handed::Signal { number, signal }),
+        }
+    }
+
+    /// Ends a receipt of which each action was taken, and gives its reply.
+    pub fn finish(self) -> Reply
+        requires { self.1 ≡ [] }
+        ensures { reply_of result ≡ self.0 }
+    {
+        let Receipt { reply, actions: _ } = self;
+        reply
+    }
+}

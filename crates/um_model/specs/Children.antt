@@ -1,0 +1,130 @@
+-- What is asked of the children of the manager and what they tell, as one history of calls, the oldest first.
+-- No manual page has this: processes under numbers are the project's own (docs/FORMATS.md, "The runner's files").
+-- Receipts, children and the running manager stand on this file.
+use Rattle.std.specs.Prelude.{◌≡◌, ◌∷◌, ◌++◌, ◌==◌, ◌&&◌, [], List, ℕ, Bool, true, false, Option, Some, None, Result, Ok, Err, flat_map}
+use Rattle.std.specs.List.{list_any}
+use Rattle.um_model.specs.Service.{Action, SpawnProcess, SendSignal}
+use Rattle.um_model.specs.declared.children.Fate.{Fate}
+use Rattle.um_model.specs.declared.children.Fate.TheVariants.{Starting, Executed, Ended, Absent}
+use Rattle.um_model.specs.declared.service.Signal.{Signal}
+
+-- what is to be started: under which number, with which words and environment
+pub record Spawn : Type 0 where
+  pub number : ℕ
+  pub words : List (List ℕ)
+  pub environment : List (List ℕ)
+
+-- a start as an action
+abbrev pub spawn_action : Spawn → Action
+spawn_action spawn = SpawnProcess spawn.number spawn.words spawn.environment
+
+-- A call: a start, with whether it was answered Ok and whether its number starts; a signal; a fate that was asked, with what was told.
+pub data Call : Type 0 where
+  Spawned : (spawn : Spawn) (is_taken starts : Bool) → Call
+  Signalled : (number : ℕ) (signal : Signal) → Call
+  Asked : (number : ℕ) (claim : Bool) (told : Option Fate) → Call
+
+-- the order that a call asks, if any
+abbrev pub orders_in : Call → List Action
+orders_in (Spawned spawn is_taken starts) = spawn_action spawn ∷ []
+orders_in (Signalled number signal) = SendSignal number signal ∷ []
+orders_in (Asked number claim told) = []
+
+-- the orders asked, whatever they were answered
+abbrev pub orders : List Call → List Action
+orders calls = flat_map orders_in calls
+
+-- the number that a call starts, if any
+abbrev pub starts_in : Call → List ℕ
+starts_in (Spawned spawn is_taken true) = spawn.number ∷ []
+starts_in (Spawned spawn is_taken false) = []
+starts_in (Signalled number signal) = []
+starts_in (Asked number claim told) = []
+
+-- the numbers started
+abbrev pub started : List Call → List ℕ
+started calls = flat_map starts_in calls
+
+-- the number whose start a call refused, if any
+abbrev pub refusals_in : Call → List ℕ
+refusals_in (Spawned spawn true starts) = []
+refusals_in (Spawned spawn false starts) = spawn.number ∷ []
+refusals_in (Signalled number signal) = []
+refusals_in (Asked number claim told) = []
+
+-- the numbers whose start was refused
+abbrev pub refused : List Call → List ℕ
+refused calls = flat_map refusals_in calls
+
+-- a fate that was asked: of which number, whether with a claim, and what was told, nothing where the call failed
+pub record Tale : Type 0 where
+  pub number : ℕ
+  pub claim : Bool
+  pub told : Option Fate
+
+-- the fate that a call asks, if any
+abbrev pub tales_in : Call → List Tale
+tales_in (Asked number claim told) = record { number = number; claim = claim; told = told } ∷ []
+tales_in (Spawned spawn is_taken starts) = []
+tales_in (Signalled number signal) = []
+
+-- the fates asked
+abbrev pub tales : List Call → List Tale
+tales calls = flat_map tales_in calls
+
+abbrev pub is_absent : Fate → Bool
+is_absent Absent = true
+is_absent Starting = false
+is_absent Executed = false
+is_absent (Ended end) = false
+
+-- whether absence was told
+abbrev pub tells_absent : Option Fate → Bool
+tells_absent None = false
+tells_absent (Some fate) = is_absent fate
+
+-- whether a call starts the number
+abbrev pub is_start : ℕ → Call → Bool
+is_start n (Spawned spawn is_taken starts) = starts && (spawn.number == n)
+is_start n (Signalled number signal) = false
+is_start n (Asked number claim told) = false
+
+-- whether a call tells that the number is absent
+abbrev pub is_absence : ℕ → Call → Bool
+is_absence n (Asked number claim told) = tells_absent told && (number == n)
+is_absence n (Spawned spawn is_taken starts) = false
+is_absence n (Signalled number signal) = false
+
+-- whether the number was started
+abbrev pub has_started : List Call → ℕ → Bool
+has_started calls n = list_any (is_start n) calls
+
+-- whether the number was told absent
+abbrev pub was_absent : List Call → ℕ → Bool
+was_absent calls n = list_any (is_absence n) calls
+
+-- no number that was told absent starts
+abbrev pub IsFinal : List Call → Type 0
+IsFinal calls = (n : ℕ) → was_absent calls n ≡ true → has_started calls n ≡ false
+
+-- whether a call was answered Ok
+abbrev pub is_answered : {T E : Type 0} → Result T E → Bool
+is_answered (Ok x) = true
+is_answered (Err e) = false
+
+-- what a fate that was asked told
+abbrev pub told_by : {E : Type 0} → Result Fate E → Option Fate
+told_by (Ok fate) = Some fate
+told_by (Err e) = None
+
+-- A start is one call more, whatever it answered; only the children know whether its number starts.
+abbrev pub Spawns : {E : Type 0} → Spawn → Result Unit E → List Call → List Call → Type 0
+Spawns spawn result old new = (starts : Bool) × (new ≡ old ++ Spawned spawn (is_answered result) starts ∷ [])
+
+-- a signal is one call more, whatever it answered
+abbrev pub Signals : ℕ → Signal → List Call → List Call → Type 0
+Signals number signal old new = new ≡ old ++ Signalled number signal ∷ []
+
+-- a fate that was asked is one call more, with what was told
+abbrev pub Asks : {E : Type 0} → ℕ → Bool → Result Fate E → List Call → List Call → Type 0
+Asks number claim result old new = new ≡ old ++ Asked number claim (told_by result) ∷ []
