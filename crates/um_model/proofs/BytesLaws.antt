@@ -18,7 +18,7 @@ use Rattle.um_model.specs.Bytes.{Reading, Spelling, IsBytes, IsCanonical, nothin
 
 -- ---- bytes
 
-IsBytes-take : (n : ℕ) (bytes : List ℕ) → IsBytes bytes → IsBytes (take n bytes)
+pub IsBytes-take : (n : ℕ) (bytes : List ℕ) → IsBytes bytes → IsBytes (take n bytes)
 IsBytes-take n bytes h i = elim (cases_lt i n) [
   | inl lt ↦ rw (get_or-take n bytes i 0 lt) (h i)
   | inr le ↦ rw (get_or_past (take n bytes) i 0 (omega (arith, length-take n bytes))) (omega arith)

@@ -56,6 +56,8 @@ pub mod StoreLaws
 pub mod LogLaws
 pub mod ImageLaws
 pub mod StandsLaws
+pub mod SpelledLaws
+pub mod UnreadLaws
 pub mod LivesLaws
 pub mod FindsLaws
 pub mod SessionsLaws

@@ -5,37 +5,63 @@ use Rattle.um_model.specs.Machine.{State, Input, Reply, Step, Run, rests, goes, 
 use Rattle.um_model.specs.Stands.{StandsFor, IsStoreOf}
 use Rattle.um_model.specs.Store.{body_limit}
 use Rattle.um_model.specs.Lives.{Outcome, answered, turned_away, unanswered, Offer, Life, AreUnanswered, none, turned, lost, MayBeStep, MayLeave, holds, takes, turns_away, Lived, ended, lived, IsKept, no_more, keeps, passes, AreKept, all_kept, and_life}
-use Rattle.um_model.specs.Lives.{where_answered, answered_in, all_answered, HasInOrder, no_others, has, between}
+use Rattle.um_model.specs.Lives.{RunsOver, stays, steps, leaves_out, RunsThrough, at_end, and_on, where_answered, answered_in, all_answered, HasInOrder, no_others, has, between}
 use Rattle.um_model.specs.declared.layout.Layout.{Layout}
 use Rattle.um_model.proofs.MachineLaws.{run-append}
 use Rattle.um_model.proofs.StandsLaws.{one_state}
 
 -- ---- one life
 
--- the image that a life left is of a store of the state that what was kept comes to
+-- the image that a life left is of a store of the state that a run over what was kept comes to
 pub one_life : (layout : Layout) (s : State) (offers : List Offer) (image : Image) → MayLeave layout s offers image
-    → (b : List Input) × IsKept offers b × (t : State) × Run (body_limit layout) s b t × IsStoreOf layout image t
-one_life layout s offers image (holds store none_answered) = ([], no_more none_answered, s, rests, store)
+    → (b : List Input) × (t : State) × RunsOver (body_limit layout) s offers b t × IsStoreOf layout image t
+one_life layout s offers image (holds store none_answered) = ([], s, stays none_answered, store)
 one_life layout s (offer ∷ offers) image (takes reply actions may step leaves) =
-    let (b, kept, t, run, store) = one_life layout _ offers image leaves in
-    (offer.input ∷ b, keeps reply may kept, t, goes reply actions step run, store)
+    let (b, t, run, store) = one_life layout _ offers image leaves in
+    (offer.input ∷ b, t, steps reply actions may step run, store)
 one_life layout s (offer ∷ offers) image (turns_away leaves) =
-    let (b, kept, t, run, store) = one_life layout s offers image leaves in
-    (b, passes kept, t, run, store)
+    let (b, t, run, store) = one_life layout s offers image leaves in
+    (b, t, leaves_out run, store)
+
+-- what it runs over is kept, and it is a run
+pub kept_of : {size : ℕ} {s t : State} {offers : List Offer} {b : List Input} → RunsOver size s offers b t → IsKept offers b
+kept_of (stays none_answered) = no_more none_answered
+kept_of (steps reply actions may step run) = keeps reply may (kept_of run)
+kept_of (leaves_out run) = passes (kept_of run)
+
+pub run_of : {size : ℕ} {s t : State} {offers : List Offer} {b : List Input} → RunsOver size s offers b t → Run size s b t
+run_of (stays none_answered) = rests
+run_of (steps reply actions may step run) = goes reply actions step (run_of run)
+run_of (leaves_out run) = run_of run
 
 -- ---- all lives
 
--- The same of all lives, from the state on that the first image stands for.
+-- All lives are one run over what was kept of them, from the state on that the first image stands for, and the last image stands for its end.
+pub lives_run : (layout : Layout) (first last : Image) (lives : List Life) (s : State) → IsStoreOf layout first s → Lived layout first lives last
+    → (b : List Input) × (t : State) × RunsThrough (body_limit layout) s lives b t × IsStoreOf layout last t
+lives_run layout first last [] s store ended = ([], s, at_end, store)
+lives_run layout first last (life ∷ lives) s store (lived {s = begun} opened leaves more) =
+    let same : begun ≡ s = one_state layout first begun s opened.stands store.stands in
+    let (here, t, run, left) = one_life layout s life.offers life.image (subst (λ x. MayLeave layout x life.offers life.image) same leaves) in
+    let (others, u, later, stands) = lives_run layout life.image last lives t left more in
+    (here ++ others, u, and_on run later, stands)
+
+pub all_kept_of : {size : ℕ} {s t : State} {lives : List Life} {b : List Input} → RunsThrough size s lives b t → AreKept lives b
+all_kept_of at_end = all_kept
+all_kept_of (and_on run later) = and_life (kept_of run) (all_kept_of later)
+
+pub whole_run_of : {size : ℕ} {s t : State} {lives : List Life} {b : List Input} → RunsThrough size s lives b t → Run size s b t
+whole_run_of at_end = rests
+whole_run_of (and_on run later) = run-append _ _ _ _ _ _ (run_of run) (whole_run_of later)
+
+-- so the last image stands for the state that what was kept comes to
 pub lives_from : (layout : Layout) (first last : Image) (lives : List Life) (s : State) → IsStoreOf layout first s → Lived layout first lives last
     → (b : List Input) × AreKept lives b × (t : State) × Run (body_limit layout) s b t × IsStoreOf layout last t
-lives_from layout first last [] s store ended = ([], all_kept, s, rests, store)
-lives_from layout first last (life ∷ lives) s store (lived {s = begun} opened leaves more) =
-    let same : begun ≡ s = one_state layout first begun s opened.stands store.stands in
-    let (here, kept, t, run, left) = one_life layout s life.offers life.image (subst (λ x. MayLeave layout x life.offers life.image) same leaves) in
-    let (others, all, u, later, stands) = lives_from layout life.image last lives t left more in
-    (here ++ others, and_life kept all, u, run-append (body_limit layout) s t u here others run later, stands)
+lives_from layout first last all s store led =
+    let (b, t, run, stands) = lives_run layout first last all s store led in
+    (b, all_kept_of run, t, whole_run_of run, stands)
 
--- and of a store that was new
+-- What outlives any number of lives of a store that was new.
 pub lives : (layout : Layout) (first last : Image) (lives : List Life) → IsStoreOf layout first empty_state → Lived layout first lives last
     → (b : List Input) × AreKept lives b × (s : State) × Run (body_limit layout) empty_state b s × IsStoreOf layout last s
 lives layout first last all store led = lives_from layout first last all empty_state store led

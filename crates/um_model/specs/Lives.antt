@@ -66,6 +66,22 @@ pub data AreKept : List Life → List Input → Type 0 where
   all_kept : AreKept [] []
   and_life : {life : Life} {lives : List Life} {here more : List Input} → IsKept life.offers here → AreKept lives more → AreKept (life ∷ lives) (here ++ more)
 
+-- ---- one run of all that was kept
+
+-- A run over what is kept of a life: each offer that was answered got the reply of its step.
+pub data RunsOver (size : ℕ) : State → List Offer → List Input → State → Type 0 where
+  stays : {s : State} {offers : List Offer} → AreUnanswered offers → RunsOver size s offers [] s
+  steps : {s t u : State} {offer : Offer} {offers : List Offer} {inputs : List Input} (reply : Reply) (actions : List Action) → MayBeStep offer.outcome reply
+      → Step size s offer.input reply actions t → RunsOver size t offers inputs u → RunsOver size s (offer ∷ offers) (offer.input ∷ inputs) u
+  leaves_out : {s t : State} {input : Input} {offers : List Offer} {inputs : List Input} → RunsOver size s offers inputs t
+      → RunsOver size s (record { input = input; outcome = turned_away } ∷ offers) inputs t
+
+-- one such run through all lives
+pub data RunsThrough (size : ℕ) : State → List Life → List Input → State → Type 0 where
+  at_end : {s : State} → RunsThrough size s [] [] s
+  and_on : {s t u : State} {life : Life} {lives : List Life} {here more : List Input} → RunsOver size s life.offers here t → RunsThrough size t lives more u
+      → RunsThrough size s (life ∷ lives) (here ++ more) u
+
 -- ---- what was answered
 
 -- the input, where it was answered
