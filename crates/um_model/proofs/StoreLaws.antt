@@ -181,7 +181,7 @@ behind_slot layout A generation j low = omega (arith, low)
 behind_slot layout B generation j low = omega (arith, low)
 
 -- sector 0 lies before both
-before_slot : (layout : Layout) (slot : Slot) → 0 < slot_start layout slot
+pub before_slot : (layout : Layout) (slot : Slot) → 0 < slot_start layout slot
 before_slot layout A = omega arith
 before_slot layout B = omega arith
 

@@ -1,9 +1,9 @@
 -- One sector more of a body.
-use Rattle.std.specs.Prelude.{◌≡◌, ◌+◌, ◌-◌, ◌*◌, ◌<◌, ◌++◌, ℕ, suc, List, length, take}
+use Rattle.std.specs.Prelude.{◌≡◌, ◌+◌, ◌-◌, ◌*◌, ◌<◌, ◌++◌, min, ℕ, suc, List, length, take}
 use Rattle.std.proofs.Common.{sym, ◌∙◌, ap, ⊎_elim, arith, append_assoc}
 use Rattle.std.proofs.Math.Seq.{take-append-add}
 use Rattle.std.proofs.lemmas.Bool.{cases_lt}
-use Rattle.std.proofs.lemmas.List.{take-append-le, take_all, append-nil}
+use Rattle.std.proofs.lemmas.List.{take-append-le, take_all, append-nil, length-append, length-take}
 use Rattle.um_model.specs.Disk.{Sector, Image}
 use Rattle.um_model.specs.Store.{sector_count, joined}
 
@@ -15,6 +15,13 @@ take_over n sector rest long = ⊎_elim
     (λ i. take (count i) (sector ++ rest)) ∙ take-append-add sector rest (n - 512) ∙ ap (λ (l : List ℕ). l ++ take (n - 512) rest) (sym (take_all n sector (omega (arith, more, long)))))
     (cases_lt n 512)
 
+-- so many bytes were read
+pub long_more : (size i : ℕ) (body more sector : List ℕ) → i < sector_count size → length sector ≡ 512 → length body ≡ min (512 * i) size → more ≡ body ++ take (size - 512 * i) sector
+    → length more ≡ min (512 * (i + 1)) size
+long_more size i body more sector below long so_far grown =
+    omega (arith, below, long, so_far, ap length grown, length-append body (take (size - 512 * i) sector), length-take (size - 512 * i) sector)
+
+-- one sector more of what a body has
 pub body_more : (size i : ℕ) (image : Image) (at : ℕ) (body more sector all : List ℕ) → i < sector_count size → length sector ≡ 512 → sector ≡ image (at + i)
     → body ++ take (size - 512 * i) (joined (sector_count size - i) image (at + i)) ≡ all → more ≡ body ++ take (size - 512 * i) sector
     → more ++ take (size - 512 * (i + 1)) (joined (sector_count size - (i + 1)) image (at + (i + 1))) ≡ all

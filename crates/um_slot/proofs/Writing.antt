@@ -1,20 +1,26 @@
 -- What a crash leaves while a snapshot is written into a slot.
 use Rattle.std.specs.Prelude.{◌≡◌, ◌⊎◌, ◌+◌, ◌<◌, ◌≤◌, ℕ, List, [], ◌∷◌, length, slice_index_or}
-use Rattle.std.proofs.Common.{refl, sym, ◌∙◌, ap, subst, inl, inr, ⊎_elim, arith}
-use Rattle.um_model.specs.Disk.{Sector, Image, Past, seen, During, IsSettled, IsLaid, MaybeLaid}
+use Rattle.std.proofs.Common.{refl, sym, ◌∙◌, ap, inl, inr, ⊎_elim, arith}
+use Rattle.um_model.specs.Disk.{Sector, Image, Past, seen, IsImage, Images, During, IsLaid, MaybeLaid, AfterRun}
 use Rattle.um_model.proofs.DiskLaws.{started, weaker, followed}
 use Rattle.um_model.specs.declared.layout.Layout.{Layout}
 use Rattle.um_model.specs.declared.layout.Slot.{Slot}
-use Rattle.um_model.specs.Store.{slot_start, body_limit, sector_count, body_sector, header_sector, IsSnapshot, MaybeSnapshot}
+use Rattle.um_model.proofs.StoreLaws.{before_slot}
+use Rattle.um_model.specs.Store.{slot_start, body_limit, sector_count, body_sector, header_sector, IsSnapshot, MaybeSnapshot, AfterSnapshot}
 
 -- nothing of it is written yet
 pub nothing_written : (layout : Layout) (old : Image) (slot : Slot) (generation : ℕ) (body : List ℕ) → MaybeSnapshot layout old slot generation body old
 nothing_written layout old slot generation body = record { outside = λ j out. refl; inside = inl refl }
 
 -- before the first call
-pub before_snapshot : (layout : Layout) (past : Past) (slot : Slot) (generation : ℕ) (body : List ℕ) → IsSettled past → During past past (MaybeSnapshot layout (seen past) slot generation body)
-before_snapshot layout past slot generation body settled =
-    started past _ (λ image is. subst (MaybeSnapshot layout (seen past) slot generation body) (sym (settled image is)) (nothing_written layout (seen past) slot generation body))
+pub before_snapshot : (layout : Layout) (past : Past) (slot : Slot) (generation : ℕ) (body : List ℕ) → During past past (AfterSnapshot layout past slot generation body)
+before_snapshot layout past slot generation body =
+    started past _ (λ image is. record { from = image; was = is; maybe = nothing_written layout image slot generation body })
+
+-- sector 0 stays
+pub first_kept : (layout : Layout) (old new : Past) (slot : Slot) (generation : ℕ) (body : List ℕ) (first : Sector) → Images old (λ image. image 0 ≡ first)
+    → During old new (AfterSnapshot layout old slot generation body) → During old new (λ image. image 0 ≡ first)
+first_kept layout old new slot generation body first all run = weaker old new _ _ (λ image m. m.maybe.outside 0 (inl (before_slot layout slot)) ∙ all m.from m.was) run
 
 module _ (layout : Layout) (slot : Slot) (generation : ℕ) (body : List ℕ) (run : List Sector) (count : length run ≡ sector_count (length body))
     (each : (i : ℕ) → i < length run → slice_index_or run i [] ≡ body_sector body i) (fits : length body ≤ body_limit layout) where
@@ -68,7 +74,9 @@ module _ (layout : Layout) (slot : Slot) (generation : ℕ) (body : List ℕ) (r
     }
 
   -- both runs of calls
-  pub both_runs : (old mid new : Past) → During old mid (MaybeLaid (seen old) (start + 1) run) → IsLaid (seen old) (start + 1) run (seen mid)
-      → During mid new (MaybeLaid (seen mid) start (header_sector generation (length body) ∷ [])) → During old new (MaybeSnapshot layout (seen old) slot generation body)
-  both_runs old mid new first laid second =
-      followed old mid new (MaybeSnapshot layout (seen old) slot generation body) (weaker old mid _ _ (body_maybe (seen old)) first) (weaker mid new _ _ (header_maybe (seen old) (seen mid) laid) second)
+  pub both_runs : (old mid new : Past) → IsImage old (seen old) → During old mid (AfterRun old (start + 1) run) → IsLaid (seen old) (start + 1) run (seen mid)
+      → During mid new (MaybeLaid (seen mid) start (header_sector generation (length body) ∷ [])) → During old new (AfterSnapshot layout old slot generation body)
+  both_runs old mid new is first laid second =
+      followed old mid new (AfterSnapshot layout old slot generation body)
+      (weaker old mid _ _ (λ image m. record { from = m.from; was = m.was; maybe = body_maybe m.from image m.laid }) first)
+      (weaker mid new _ _ (λ image maybe. record { from = seen old; was = is; maybe = header_maybe (seen old) (seen mid) laid image maybe }) second)

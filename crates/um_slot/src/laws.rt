@@ -1,9 +1,9 @@
 //! What the definitions of the slots say together, as functions that do nothing.
-ghost use Rattle.std.specs.Prelude.{◌≡◌, ℕ, List};
+ghost use Rattle.std.specs.Prelude.{◌≡◌, ◌↔◌, ℕ, List, Some, None};
 ghost use Rattle.um_model.specs.Disk.{Image};
 ghost use Rattle.um_model.specs.declared.layout.Layout.{Layout};
 ghost use Rattle.um_model.specs.declared.layout.Slot.{Slot};
-ghost use Rattle.um_model.specs.Store.{IsNewest, HasNoHeader, IsSlotRead};
+ghost use Rattle.um_model.specs.Store.{IsNewest, HasNoHeader, Newest, newest_of, IsSlotRead};
 
 /// An image has one newest body at most.
 pub fn the_newest_body_is_one()
@@ -15,4 +15,10 @@ pub fn unread_sectors_of_the_slots_do_not_count()
     ensures one { (layout : Layout) (a b : Image) (slot : Slot) (generation : ℕ) (body : List ℕ) → ((j : ℕ) → IsSlotRead layout a j → b j ≡ a j)
         → IsNewest layout a slot generation body → IsNewest layout b slot generation body }
     ensures none { (layout : Layout) (a b : Image) → ((j : ℕ) → IsSlotRead layout a j → b j ≡ a j) → HasNoHeader layout a → HasNoHeader layout b }
+{}
+
+/// What the function tells of an image is its newest body, and it tells none exactly where there is none.
+pub fn the_newest_body_is_told()
+    ensures one { (layout : Layout) (image : Image) (n : Newest) → (newest_of layout image ≡ Some n) ↔ IsNewest layout image n.slot n.generation n.body }
+    ensures none { (layout : Layout) (image : Image) → (newest_of layout image ≡ None) ↔ HasNoHeader layout image }
 {}

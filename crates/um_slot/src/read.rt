@@ -1,6 +1,6 @@
-ghost use Rattle.std.specs.Prelude.{◌≡◌, ◌⊎◌, ◌^◌, ◌≤◌, ℕ, take, IfOk, IfErr, OnOk, IsErrOf, IsTrue};
+ghost use Rattle.std.specs.Prelude.{◌≡◌, ◌⊎◌, ◌+◌, ◌^◌, ◌≤◌, ℕ, length, take, IfOk, IfErr, IfSome, IsTrue};
 ghost use Rattle.um_model.specs.Disk.{seen};
-ghost use Rattle.um_model.specs.Store.{sector_count, joined, HasNoHeader, IsNewest};
+ghost use Rattle.um_model.specs.Store.{body_limit, sector_count, joined, HasNoHeader, IsNewest};
 ghost use Rattle.um_sector.specs.Refused.{CountsDevice, IsLost};
 ghost use Rattle.um_slot.specs.Reading.{newer_of, Finds};
 
@@ -38,7 +38,9 @@ fn newer(a: Option<Header>, b: Option<Header>) -> Option<(Slot, Header)>
 /// The newest well-formed header, and whose it is.
 fn newest_header<D: Disk>(disk: &mut D, layout: Layout) -> Result<Option<(Slot, Header)>, Refusal>
     ensures found { IfOk result (λ found. IsTrue (D.honest disk.old) → Finds layout (seen (D.past disk.old)) found) }
+    ensures fits { IfOk result (λ found. IfSome found (λ found. found.1.size ≤ body_limit layout)) }
     ensures past { IsTrue (D.honest disk.old) → D.past disk.new ≡ D.past disk.old }
+    ensures calls { D.calls disk.new ≤ D.calls disk.old + 2 }
     ensures failures { CountsDevice result (D.failures disk.old) (D.failures disk.new) }
     ensures lost { IfErr result IsLost }
     ensures size { D.size disk.new ≡ D.size disk.old }
@@ -71,6 +73,8 @@ fn read_body<D: Disk>(
     size: usize,
 ) -> Result<Vec<u8>, Refusal>
     requires { at ≤ 2 ^ 32 }
+    ensures long { IfOk result (λ body. length body.items ≡ size) }
+    ensures calls { D.calls disk.new ≤ D.calls disk.old + sector_count size }
     ensures body { IfOk result (λ body. IsTrue (D.honest disk.old) → body.items ≡ take size (joined (sector_count size) (seen (D.past disk.old)) at)) }
     ensures past { IsTrue (D.honest disk.old) → D.past disk.new ≡ D.past disk.old }
     ensures failures { CountsDevice result (D.failures disk.old) (D.failures disk.new) }
@@ -89,11 +93,14 @@ fn read_body<D: Disk>(
 
 /// Reads both headers and takes the well-formed one of the greater generation, of equal ones slot A's, with its body.
 ///
-/// E18 with sector 1 where no header is well-formed; E15; E16 where a read fails.
+/// E18 with sector 1 where no header is well-formed; E15; E16 where a read fails. It makes at most two disk calls more than the
+/// body has sectors, and also where it is refused at most two more than the longest body has.
 pub fn newest<D: Disk>(alloc: Global, disk: &mut D, layout: Layout) -> Result<Snapshot, Refusal>
     ensures ok { IfOk result (λ newest. IsTrue (D.honest disk.old) → IsNewest layout (seen (D.past disk.old)) newest.home.slot newest.home.generation newest.body.items) }
     ensures err { IfErr result (λ e. IsLost e ⊎ ((e ≡ Refusal.Damaged 1) × (IsTrue (D.honest disk.old) → HasNoHeader layout (seen (D.past disk.old))))) }
     ensures past { IsTrue (D.honest disk.old) → D.past disk.new ≡ D.past disk.old }
+    ensures calls { IfOk result (λ newest. D.calls disk.new ≤ D.calls disk.old + sector_count (length newest.body.items) + 2) }
+    ensures most_calls { D.calls disk.new ≤ D.calls disk.old + layout.slot_sectors + 1 }
     ensures failures { CountsDevice result (D.failures disk.old) (D.failures disk.new) }
     ensures size { D.size disk.new ≡ D.size disk.old }
     ensures honest { D.honest disk.new ≡ D.honest disk.old }

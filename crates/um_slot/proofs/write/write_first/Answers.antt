@@ -1,10 +1,19 @@
 use Rattle.std.proofs.Common.{arith}
 use Rattle.um_model.proofs.DiskLaws.{started}
 use Rattle.um_model.proofs.StoreLaws.{first_newest, kept_free}
+use Rattle.um_slot.proofs.Writing.{first_kept}
 use Rattle.um_slot.proofs.write.write_first.Goals as goal
 
 pub returns-then-body-body_limit-clause-during : goal.returns-then-body-body_limit-clause-during
-returns-then-body-body_limit-clause-during g c h settled = started (g.D.Disk.past c.args.disk.now) _ (λ image is. λ i. settled image is i 0)
+returns-then-body-body_limit-clause-during g c h first all = started (g.D.Disk.past c.args.disk.now) _ all
+
+pub returns-in_err-write_slot-clause-during : goal.returns-in_err-write_slot-clause-during
+returns-in_err-write_slot-clause-during g c h first all =
+    first_kept c.args.layout (g.D.Disk.past c.args.disk.now) (g.D.Disk.past c.write_slot.new.disk) _ _ c.args.body.now first all (c.write_slot.ensures.during h)
+
+pub returns-clause-during : goal.returns-clause-during
+returns-clause-during g c h first all =
+    first_kept c.args.layout (g.D.Disk.past c.args.disk.now) (g.D.Disk.past c.write_slot.new.disk) _ _ c.args.body.now first all (c.write_slot.ensures.during h)
 
 pub returns-clause-ok : goal.returns-clause-ok
 returns-clause-ok g c h nothing free =

@@ -1,6 +1,6 @@
 use Rattle.std.specs.Prelude.{List, ℕ, [], ◌∷◌, ◌+◌, ◌≡◌}
 use Rattle.std.proofs.Common.{◌∙◌, ap, subst}
-use Rattle.um_model.specs.Disk.{Sector, seen, During, IsLaid, MaybeLaid}
+use Rattle.um_model.specs.Disk.{Sector, seen, During, IsLaid, MaybeLaid, AfterRun}
 use Rattle.um_slot.proofs.Writing.{before_snapshot, both_runs, header_done, done_maybe}
 use Rattle.um_slot.proofs.write.write_slot.Goals as goal
 
@@ -9,30 +9,30 @@ abbrev moved : (P : ℕ → List Sector → Type 0) {at to : ℕ} {run items : L
 moved P {at} {to} {run} {items} is_at is_run p = subst (P to) is_run (subst (λ n. P n run) is_at p)
 
 pub returns-in_err-run-clause-during : goal.returns-in_err-run-clause-during
-returns-in_err-run-clause-during g c h settled = before_snapshot c.args.layout (g.D.Disk.past c.args.disk.now) c.args.slot c.args.generation c.args.body.now settled
+returns-in_err-run-clause-during g c h = before_snapshot c.args.layout (g.D.Disk.past c.args.disk.now) c.args.slot c.args.generation c.args.body.now
 
 pub returns-in_err-write_run_synced-2-clause-during : goal.returns-in_err-write_run_synced-2-clause-during
-returns-in_err-write_run_synced-2-clause-during g c h settled =
+returns-in_err-write_run_synced-2-clause-during g c h =
     let old = g.D.Disk.past c.args.disk.now in
     let mid = g.D.Disk.past c.write_run_synced.new.disk in
     let new = g.D.Disk.past c.write_run_synced-2.new.disk in
     let start = c.slot_start-start.ensures in
     let run = c.deref.ensures.value in
-    both_runs c.args.layout c.args.slot c.args.generation c.args.body.now c.in_ok-run.run'.items c.in_ok-run.ensures.count c.in_ok-run.ensures.each c.requires old mid new
-    (moved (λ n r. During old mid (MaybeLaid (seen old) (n + 1) r)) start run (c.write_run_synced.ensures.settled_during h settled))
+    both_runs c.args.layout c.args.slot c.args.generation c.args.body.now c.in_ok-run.run'.items c.in_ok-run.ensures.count c.in_ok-run.ensures.each c.requires old mid new (g.met.D.Disk.seen_is_image c.args.disk.now h)
+    (moved (λ n r. During old mid (AfterRun old (n + 1) r)) start run (c.write_run_synced.ensures.during h))
     (moved (λ n r. IsLaid (seen old) (n + 1) r (seen mid)) start run (c.in_ok-write_run_synced.ensures.ok h))
     (moved (λ n r. During mid new (MaybeLaid (seen mid) n r)) start (ap (λ (s : Sector). s ∷ []) c.header_sector.ensures)
     (c.write_run_synced-2.ensures.settled_during (c.write_run_synced.ensures.honest ∙ h) (c.in_ok-write_run_synced.ensures.settled h)))
 
 pub returns-clause-during : goal.returns-clause-during
-returns-clause-during g c h settled =
+returns-clause-during g c h =
     let old = g.D.Disk.past c.args.disk.now in
     let mid = g.D.Disk.past c.write_run_synced.new.disk in
     let new = g.D.Disk.past c.write_run_synced-2.new.disk in
     let start = c.slot_start-start.ensures in
     let run = c.deref.ensures.value in
-    both_runs c.args.layout c.args.slot c.args.generation c.args.body.now c.in_ok-run.run'.items c.in_ok-run.ensures.count c.in_ok-run.ensures.each c.requires old mid new
-    (moved (λ n r. During old mid (MaybeLaid (seen old) (n + 1) r)) start run (c.write_run_synced.ensures.settled_during h settled))
+    both_runs c.args.layout c.args.slot c.args.generation c.args.body.now c.in_ok-run.run'.items c.in_ok-run.ensures.count c.in_ok-run.ensures.each c.requires old mid new (g.met.D.Disk.seen_is_image c.args.disk.now h)
+    (moved (λ n r. During old mid (AfterRun old (n + 1) r)) start run (c.write_run_synced.ensures.during h))
     (moved (λ n r. IsLaid (seen old) (n + 1) r (seen mid)) start run (c.in_ok-write_run_synced.ensures.ok h))
     (moved (λ n r. During mid new (MaybeLaid (seen mid) n r)) start (ap (λ (s : Sector). s ∷ []) c.header_sector.ensures)
     (c.write_run_synced-2.ensures.settled_during (c.write_run_synced.ensures.honest ∙ h) (c.in_ok-write_run_synced.ensures.settled h)))
