@@ -2,7 +2,7 @@
 use crate::answers::{change, filled, is_refused, same, same_at, sector_at};
 use std::fmt::Debug;
 use std::process::Abort;
-use um_log::{Layout, Log, RECORD_LIMIT, scan};
+use um_log::{Layout, Log, scan};
 use um_sector::{Disk, Fuse, MemDisk};
 
 /// The first sector of the log, of slots of 64 sectors.
@@ -20,7 +20,8 @@ fn new_disk(rt: &(impl AllocGlobal + Abort)) -> MemDisk {
 
 /// Appends a record.
 fn append<D: Disk>(rt: &(impl AllocGlobal + Abort), disk: &mut D, log: &mut Log, record: &[u8]) {
-    log.append(rt.alloc(), disk, record).expect(rt, "no record");
+    let fits = log.append(rt.alloc(), disk, record).expect(rt, "no record");
+    same(rt, fits, true);
 }
 
 /// Appends so many records of one byte.
@@ -39,10 +40,20 @@ fn append_bytes<D: Disk>(
 fn lengths<D: Disk>(rt: &(impl AllocGlobal + Abort), disk: &mut D, log: &Log) -> Vec<usize> {
     let mut lengths = Vec::new(rt.alloc());
     let records = scan(rt.alloc(), disk, log.layout, log.generation).expect(rt, "no scan");
-    for bytes in &records {
-        lengths.push(bytes.len()).expect(rt, "no memory");
+    for record in &records {
+        lengths.push(record.bytes.len()).expect(rt, "no memory");
     }
     lengths
+}
+
+/// The first sectors of the records that a scan gives.
+fn places<D: Disk>(rt: &(impl AllocGlobal + Abort), disk: &mut D, log: &Log) -> Vec<usize> {
+    let mut places = Vec::new(rt.alloc());
+    let records = scan(rt.alloc(), disk, log.layout, log.generation).expect(rt, "no scan");
+    for record in &records {
+        places.push(record.first).expect(rt, "no memory");
+    }
+    places
 }
 
 /// Asserts that a scan gives records of these lengths, in this row.
@@ -117,20 +128,61 @@ fn a_record_takes_the_least_number_of_sectors(rt: HostRuntime) {
 }
 
 #[test]
+fn a_scan_tells_where_each_record_begins(rt: HostRuntime) {
+    let mut disk = new_disk(&rt);
+    let mut log = new_log(&rt);
+    append(&rt, &mut disk, &mut log, &[5; 480]);
+    append(&rt, &mut disk, &mut log, &[6; 481]);
+    append(&rt, &mut disk, &mut log, &[7]);
+    let places = places(&rt, &mut disk, &log);
+    same(&rt, places.as_slice(), &[START, START + 1, START + 3]);
+}
+
+#[test]
+fn each_call_makes_so_many_disk_calls(rt: HostRuntime) {
+    let mut log = new_log(&rt);
+    let mut disk = Fuse::new(new_disk(&rt), 0);
+    // a record's parts and a sync
+    append(&rt, &mut disk, &mut log, &[5; 480]);
+    same(&rt, disk.calls(), 2);
+    append(&rt, &mut disk, &mut log, &[6; 481]);
+    same(&rt, disk.calls(), 5);
+    // of each record its first sector and its parts; behind them one sector
+    has_lengths(&rt, &mut disk, &log, &[480, 481], "the end");
+    same(&rt, disk.calls(), 11);
+}
+
+#[test]
 fn a_record_has_1_to_131_072_bytes(rt: HostRuntime) {
     let log = new_log(&rt);
     same_at(&rt, log.fits(0), false, 0);
     same_at(&rt, log.fits(1), true, 1);
-    same_at(&rt, log.fits(RECORD_LIMIT), true, RECORD_LIMIT);
-    same_at(&rt, log.fits(RECORD_LIMIT + 1), false, RECORD_LIMIT + 1);
+    same_at(&rt, log.fits(131_072), true, 131_072);
+    same_at(&rt, log.fits(131_073), false, 131_073);
+}
+
+/// Asserts that this record doesn't fit, and that nothing is written.
+fn does_not_fit(rt: &(impl AllocGlobal + Abort), disk: &mut MemDisk, log: &mut Log, record: &[u8]) {
+    let before = (log.next, log.number, disk.syncs());
+    let fits = log.append(rt.alloc(), disk, record).expect(rt, "refused");
+    same(rt, fits, false);
+    same(rt, (log.next, log.number, disk.syncs()), before);
+    let unsynced = disk.unsynced(rt.alloc()).expect(rt, "no memory");
+    same(rt, unsynced, Vec::new(rt.alloc()));
 }
 
 #[test]
-fn an_empty_record_is_refused(rt: HostRuntime) {
+fn a_record_without_room_is_not_written(rt: HostRuntime) {
     let mut disk = new_disk(&rt);
-    let empty = new_log(&rt).append(rt.alloc(), &mut disk, &[]);
-    is_refused(&rt, empty, Some("E14 NoRoom"));
-    same(&rt, disk.syncs(), 0);
+    let mut log = new_log(&rt);
+    does_not_fit(&rt, &mut disk, &mut log, &[]);
+    // 274 sectors of 512
+    let long = vec![in rt.alloc(); 5u8; 131_072].expect(&rt, "no memory");
+    append(&rt, &mut disk, &mut log, &long);
+    same(&rt, log.next, START + 274);
+    does_not_fit(&rt, &mut disk, &mut log, &long);
+    append(&rt, &mut disk, &mut log, &[7]);
+    has_lengths(&rt, &mut disk, &log, &[131_072, 1], "the end");
 }
 
 /// Asserts that of three records only the first is left where this byte of the second is changed so.

@@ -39,7 +39,8 @@ fn empty(rt: &(impl AllocGlobal + Abort)) -> MemDisk {
 /// A disk with generation 1 in slot A: a body of 37 bytes.
 fn first(rt: &(impl AllocGlobal + Abort)) -> MemDisk {
     let mut disk = empty(rt);
-    write_first(rt.alloc(), &mut disk, small(rt), &[7; 37]).expect(rt, "not written");
+    let written = write_first(rt.alloc(), &mut disk, small(rt), &[7; 37]).expect(rt, "refused");
+    same(rt, written, Some(A1));
     disk
 }
 
@@ -62,14 +63,20 @@ const NEW: Stored = (B2, 513, Some(8));
 /// That disk with generation 2 in slot B, the second of these.
 fn second(rt: &(impl AllocGlobal + Abort)) -> MemDisk {
     let mut disk = first(rt);
-    write_other(rt.alloc(), &mut disk, small(rt), A1, &[8; 513]).expect(rt, "not written");
+    let written = write_other(rt.alloc(), &mut disk, small(rt), A1, &[8; 513]);
+    same(rt, written.expect(rt, "refused"), Some(B2));
     disk
 }
 
 #[test]
 fn sector_0_is_written_by_its_layout(rt: HostRuntime) {
     let layout = small(&rt);
-    same(&rt, layout.log_end(), 641);
+    same(&rt, (layout.log_start(1), layout.log_end(1)), (129, 641));
+    same(
+        &rt,
+        (layout.sectors(), layout.record_limit(1)),
+        (641, 131_072),
+    );
     let sector_0 = [
         0x55, 0x4d, 0x44, 0x49, 0x53, 0x4b, 0x30, 0x31, 0, 0, 0, 0x40, 0, 0, 2, 0,
     ];
@@ -157,23 +164,75 @@ fn of_equal_generations_slot_a_counts(rt: HostRuntime) {
     same(&rt, stored(&rt, &mut disk), OLD);
 }
 
-/// Asserts that behind this home no such body is written, and nothing is synced.
-fn is_not_written(rt: &(impl AllocGlobal + Abort), home: Home, body: &[u8], why: &str) {
-    let mut disk = first(rt);
-    let written = write_other(rt.alloc(), &mut disk, small(rt), home, body);
-    is_refused(rt, written, Some(why));
-    same(rt, disk.syncs(), 2);
-}
-
-#[test]
-fn the_last_generation_and_a_long_body_are_refused(rt: HostRuntime) {
+/// Asserts that behind the last generation this body is refused, with nothing written.
+fn is_spent(rt: &(impl AllocGlobal + Abort), body: &[u8]) {
     let last = Home {
         slot: Slot::A,
         generation: u64::MAX,
     };
-    is_not_written(&rt, last, &[8], "E20 GenerationsSpent");
+    let mut disk = first(rt);
+    let written = write_other(rt.alloc(), &mut disk, small(rt), last, body);
+    is_refused(rt, written, Some("E20 GenerationsSpent"));
+    same(rt, (disk.syncs(), stored(rt, &mut disk)), (2, OLD));
+}
+
+#[test]
+fn behind_the_last_generation_none_is_written(rt: HostRuntime) {
     let long = vec![in rt.alloc(); 8u8; 32_257].expect(&rt, "no memory");
-    is_not_written(&rt, A1, &long, "E14 NoRoom");
+    is_spent(&rt, &[8]);
+    is_spent(&rt, &long);
+}
+
+#[test]
+fn a_body_has_up_to_32_256_bytes(rt: HostRuntime) {
+    let long = vec![in rt.alloc(); 8u8; 32_257].expect(&rt, "no memory");
+    let mut disk = first(&rt);
+    let written = write_other(rt.alloc(), &mut disk, small(&rt), A1, &long);
+    same(&rt, written.expect(&rt, "refused"), None);
+    same(&rt, (disk.syncs(), stored(&rt, &mut disk)), (2, OLD));
+    let (whole, _) = long.split_at(32_256);
+    let written = write_other(rt.alloc(), &mut disk, small(&rt), A1, whole);
+    same(&rt, written.expect(&rt, "refused"), Some(B2));
+    same(&rt, stored(&rt, &mut disk), (B2, 32_256, Some(8)));
+}
+
+#[test]
+fn a_first_body_too_long_is_not_written(rt: HostRuntime) {
+    let long = vec![in rt.alloc(); 8u8; 32_257].expect(&rt, "no memory");
+    let mut disk = empty(&rt);
+    let written = write_first(rt.alloc(), &mut disk, small(&rt), &long);
+    same(&rt, written.expect(&rt, "refused"), None);
+    same(&rt, disk.syncs(), 0);
+    has_none(&rt, &mut disk);
+}
+
+#[test]
+fn each_call_makes_so_many_disk_calls(rt: HostRuntime) {
+    let mut disk = Fuse::new(first(&rt), 0);
+    // a body of two sectors, its sync, the header, its sync
+    let written = write_other(rt.alloc(), &mut disk, small(&rt), A1, &[8; 513]);
+    same(&rt, written.expect(&rt, "refused"), Some(B2));
+    same(&rt, disk.calls(), 5);
+    // two headers and the body
+    same(&rt, stored(&rt, &mut disk), NEW);
+    same(&rt, disk.calls(), 9);
+}
+
+/// A disk with generation 1 and a sector of the log that isn't synced.
+fn unsettled(rt: &(impl AllocGlobal + Abort)) -> MemDisk {
+    let mut disk = first(rt);
+    disk.write(200, &filled(&[7])).expect(rt, "not written");
+    disk
+}
+
+#[test]
+fn a_snapshot_is_written_over_a_log_that_is_not_synced(rt: HostRuntime) {
+    let mut disk = unsettled(&rt);
+    let written = write_other(rt.alloc(), &mut disk, small(&rt), A1, &[8; 513]);
+    same(&rt, written.expect(&rt, "refused"), Some(B2));
+    let unsynced = disk.unsynced(rt.alloc()).expect(&rt, "no memory");
+    same(&rt, unsynced, Vec::new(rt.alloc()));
+    same(&rt, stored(&rt, &mut disk), NEW);
 }
 
 /// Asserts that sector 0 with this byte changed is refused so.

@@ -3,13 +3,14 @@ use Rattle.std.specs.Cmp.Lexicographic.{pointwise, same_text, other_text}
 use Rattle.std.specs.Prelude.{Bool, true, false, not, nat_eq, ◌≡◌, ◌≢◌, ◌+◌, ◌-◌, ◌*◌, ◌<◌, ◌≤◌, min, ℕ, List, ◌++◌, ◌∷◌, [], suc, length, take, drop}
 use Rattle.std.proofs.Common.{refl, sym, ◌∙◌, ap, subst, ⊎_elim, arith, append_assoc}
 use Rattle.std.proofs.lemmas.Bool.{cases_eq, true≢false}
-use Rattle.std.proofs.lemmas.List.{length-append, length-drop, take-append-le, drop-append-le, drop_at, take_all, append-nil}
+use Rattle.std.proofs.lemmas.List.{length-append, length-drop, take-append-le, drop-append-le, drop_at, take_all, append-nil, map-append}
 use Rattle.byteorder.specs.Endian.{big_number}
 use Rattle.um_model.specs.Disk.{Sector, Image}
 use Rattle.um_model.specs.declared.layout.Layout.{Layout}
-use Rattle.um_model.specs.Store.{log_sector, part_count, part_of, log_end, IsRecord, AreRecords, stops, goes_on, HasRecords}
-use Rattle.um_model.proofs.LogLaws.{record_size, part_bytes}
-use Rattle.um_log.specs.Reading.{Fits}
+use Rattle.um_model.specs.Store.{log_sector, part_count, part_of, log_end, sectors_of, placed, IsRecord, AreRecords, stops, goes_on, HasRecords}
+use Rattle.um_model.proofs.LogLaws.{record_size, part_bytes, sectors_push, placed_push}
+use Rattle.um_log.specs.declared.read.Record.{Record}
+use Rattle.um_log.specs.Reading.{Fits, bytes_of, places_of}
 
 -- what a test that two texts differ has told
 pub differ : (xs ys : List ℕ) (r : Bool) → r ≡ not (pointwise nat_eq xs ys) → r ≡ true → xs ≢ ys
@@ -27,7 +28,7 @@ agree xs ys r is told = same_text xs ys (by_case (pointwise nat_eq xs ys) refl)
     by_case false e = absurd (true≢false (ap not e ∙ sym is ∙ told))
 
 -- a first sector that tells an impossible length begins no record
-pub none_fits : (layout : Layout) (generation number at size : ℕ) (image : Image) → size ≡ big_number 4 (drop 28 (image at)) → (Fits layout at size → ⊥) → (x : List ℕ) → IsRecord layout generation image number at x → ⊥
+pub none_fits : (layout : Layout) (generation number at size : ℕ) (image : Image) → size ≡ big_number 4 (drop 28 (image at)) → (Fits layout generation at size → ⊥) → (x : List ℕ) → IsRecord layout generation image number at x → ⊥
 none_fits layout generation number at size image told no_room x is =
     let long : length x ≡ size = sym (record_size is) ∙ sym told in
     let a = is.some in let b = is.short in let w = is.within in
@@ -71,7 +72,7 @@ parts_more sector_of image at part size bytes payload more below long last grown
         ∙ take-append-le 480 (drop (480 * i) bytes) payload (omega (arith, length-drop (480 * i) bytes, full, less))
 
 -- all parts are there
-pub all_parts : (layout : Layout) (generation number at size part : ℕ) (image : Image) (bytes : List ℕ) → Fits layout at size → part_count size ≤ part → length bytes ≡ min (480 * part) size
+pub all_parts : (layout : Layout) (generation number at size part : ℕ) (image : Image) (bytes : List ℕ) → Fits layout generation at size → part_count size ≤ part → length bytes ≡ min (480 * part) size
     → ((i : ℕ) → i < part → image (at + i) ≡ log_sector generation number i size (part_of bytes i)) → IsRecord layout generation image number at bytes
 all_parts layout generation number at size part image bytes fits done long parts =
     let whole : length bytes ≡ size = omega (arith, long, done) in
@@ -86,7 +87,7 @@ all_parts layout generation number at size part image bytes fits done long parts
 -- ---- the records one behind the other
 
 -- no record begins behind the log
-pub none_behind : (layout : Layout) (generation number at : ℕ) (image : Image) → log_end layout ≤ at → AreRecords layout generation image number at []
+pub none_behind : (layout : Layout) (generation number at : ℕ) (image : Image) → log_end layout generation ≤ at → AreRecords layout generation image number at []
 none_behind layout generation number at image high = stops (λ bytes is. let some = is.some in let within = is.within in omega (arith, some, within, high))
 
 -- one record more: whatever serves the rest serves the whole
@@ -103,3 +104,21 @@ serves_more layout generation number at next image bytes before grown is serves 
 pub serves_all : (layout : Layout) (generation number at : ℕ) (image : Image) (all : List (List ℕ)) → ((more : List (List ℕ)) → AreRecords layout generation image number at more → HasRecords layout generation image (all ++ more))
     → AreRecords layout generation image number at [] → HasRecords layout generation image all
 serves_all layout generation number at image all serves nothing = subst (HasRecords layout generation image) (append-nil all) (serves [] nothing)
+
+-- what was read of records, with one more
+pub records_grown : (before grown : List Record) (one : Record) → grown ≡ before ++ one ∷ []
+    → (bytes_of grown ≡ bytes_of before ++ one.bytes.items ∷ []) × (places_of grown ≡ places_of before ++ (one.first, one.bytes.items) ∷ [])
+records_grown before grown one is = (
+  ap bytes_of is ∙ map-append (λ (r : Record). r.bytes.items) before (one ∷ []),
+  ap places_of is ∙ map-append (λ (r : Record). (r.first, r.bytes.items)) before (one ∷ []),
+)
+
+-- each stands where those before it end
+pub places_more : (start at : ℕ) (bytes : List ℕ) (before grown : List (List ℕ)) (places more : List (ℕ × List ℕ)) → at ≡ start + sectors_of before → grown ≡ before ++ bytes ∷ []
+    → places ≡ placed start before → more ≡ places ++ (at, bytes) ∷ [] → more ≡ placed start grown
+places_more start at bytes before grown places more here all so_far told =
+    told ∙ (λ i. so_far i ++ (here i, bytes) ∷ []) ∙ sym (placed_push start before bytes) ∙ ap (placed start) (sym all)
+
+pub place_more : (start at next : ℕ) (bytes : List ℕ) (before grown : List (List ℕ)) → at ≡ start + sectors_of before → grown ≡ before ++ bytes ∷ [] → next ≡ at + part_count (length bytes)
+    → next ≡ start + sectors_of grown
+place_more start at next bytes before grown here all step = omega (arith, here, step, ap sectors_of all, sectors_push before bytes)

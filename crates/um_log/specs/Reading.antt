@@ -5,6 +5,7 @@ use Rattle.std.specs.Prelude.{ℕ, ◌<◌, ◌≤◌, ◌+◌, List, map, Optio
 use Rattle.std.specs.declared.alloc.Global.{Global}
 use Rattle.um_model.specs.Disk.{Image}
 use Rattle.um_model.specs.declared.layout.Layout.{Layout}
+use Rattle.um_log.specs.declared.read.Record.{Record}
 use Rattle.um_model.specs.Store.{IsRecord, part_count, record_limit, log_end}
 
 -- a whole record stands there, or none
@@ -12,12 +13,16 @@ abbrev pub ReadsRecord : Layout → ℕ → Image → ℕ → ℕ → Option (Ve
 ReadsRecord layout generation image number at None = (bytes : List ℕ) → IsRecord layout generation image number at bytes → ⊥
 ReadsRecord layout generation image number at (Some bytes) = IsRecord layout generation image number at bytes.items
 
--- records of so many bytes are possible at that sector
-pub record Fits (layout : Layout) (next size : ℕ) : Type 0 where
+-- a record of so many bytes is possible from that sector of a generation's log on
+pub record Fits (layout : Layout) (generation next size : ℕ) : Type 0 where
   pub some : 0 < size
-  pub short : size ≤ record_limit
-  pub within : next + part_count size ≤ log_end layout
+  pub short : size ≤ record_limit layout generation
+  pub within : next + part_count size ≤ log_end layout generation
 
 -- the bytes of records
-abbrev pub bytes_of : List (Vec ℕ Global) → List (List ℕ)
-bytes_of records = map (λ bytes. bytes.items) records
+abbrev pub bytes_of : List Record → List (List ℕ)
+bytes_of records = map (λ found. found.bytes.items) records
+
+-- and each with its first sector
+abbrev pub places_of : List Record → List (ℕ × List ℕ)
+places_of records = map (λ found. (found.first, found.bytes.items)) records

@@ -7,7 +7,9 @@ mod read;
 mod sectors;
 mod write;
 
-pub use laws::{records_have_one_reading, unread_sectors_of_the_log_do_not_count};
-pub use read::{RECORD_LIMIT, scan};
+pub use laws::{
+    records_are_told, records_have_one_reading, unread_sectors_of_the_log_do_not_count,
+};
+pub use read::{Record, scan};
 pub use um_model::Layout;
 pub use write::Log;

@@ -1,6 +1,6 @@
-ghost use Rattle.std.specs.Prelude.{◌≡◌, ◌-◌, ◌≤◌, ◌<◌, ℕ, [], min, length, take, drop, IfOk, slice_index_or};
+ghost use Rattle.std.specs.Prelude.{◌≡◌, ◌-◌, ◌^◌, ◌≤◌, ◌<◌, ℕ, [], min, length, take, drop, IfOk, slice_index_or};
 ghost use Rattle.um_model.specs.Store as store;
-ghost use Rattle.um_model.specs.Store.{record_limit, part_count, part_of};
+ghost use Rattle.um_model.specs.Store.{part_count, part_of};
 
 use std::alloc::{AllocError, Global};
 use um_sector::{Fields, Sector, next_chunk};
@@ -54,7 +54,7 @@ pub fn record_sectors(
     number: u64,
     bytes: &[u8],
 ) -> Result<Vec<Sector>, AllocError>
-    requires { length bytes.now ≤ record_limit }
+    requires { length bytes.now < 2 ^ 32 }
     ensures count { IfOk result (λ run. length run.items ≡ part_count (length bytes.now)) }
     ensures each { IfOk result (λ run. (i : ℕ) → i < length run.items
         → slice_index_or run.items i [] ≡ store.log_sector generation number i (length bytes.now) (part_of bytes.now i)) }

@@ -1,6 +1,6 @@
-ghost use Rattle.std.specs.Prelude.{◌≡◌, ◌⊎◌, ◌↔◌, ◌+◌, ◌<◌, ◌≤◌, ℕ, List, [], ◌∷◌, ◌++◌, length, Err, IfErr, OnOk, OnErr, IsTrue};
-ghost use Rattle.um_model.specs.Disk.{seen, During, IsSettled};
-ghost use Rattle.um_model.specs.Store.{log_start, log_end, part_count, IsReady, EitherRecord};
+ghost use Rattle.std.specs.Prelude.{◌≡◌, ◌⊎◌, ◌↔◌, ◌+◌, ◌<◌, ◌≤◌, ℕ, true, false, List, [], ◌∷◌, ◌++◌, length, Ok, IfErr, IsTrue};
+ghost use Rattle.um_model.specs.Disk.{During, IsSettled, IsElsewhere};
+ghost use Rattle.um_model.specs.Store.{log_start, log_end, part_count, GoesOn, EitherRecord};
 ghost use Rattle.um_model.specs.declared.layout.Slot.{Slot};
 ghost use Rattle.um_sector.specs.Refused.{CountsDevice, IsLost};
 ghost use Rattle.um_log.specs.Reading.{Fits};
@@ -21,65 +21,70 @@ pub struct Log {
     pub number: u64,
     /// The first sector of the next record.
     pub next: usize,
-    ghost low: { log_start layout + number ≤ next },
-    ghost high: { next ≤ log_end layout },
+    ghost low: { log_start layout generation + number ≤ next },
+    ghost high: { next ≤ log_end layout generation },
 }
 
 impl Log {
     /// The log of a generation that has no records yet.
     pub fn new(layout: Layout, generation: u64) -> Log
         ensures of { (result.layout ≡ layout) × (result.generation ≡ generation) }
-        ensures empty { (result.number ≡ 0) × (result.next ≡ log_start layout) }
+        ensures empty { (result.number ≡ 0) × (result.next ≡ log_start layout generation) }
     {
         Log {
             layout,
             generation,
             number: 0,
-            next: layout.log_start(),
+            next: layout.log_start(generation),
         }
     }
 
-    /// Whether a record of so many bytes fits: from 1 to 131,072 of them, with all its sectors in the log.
+    /// Whether a record of so many bytes fits: from 1 of them to the longest record, with all its sectors in the log.
     pub fn fits(&self, size: usize) -> bool
-        ensures { IsTrue result ↔ Fits self.now.layout self.now.next size }
+        ensures { IsTrue result ↔ Fits self.now.layout self.now.generation self.now.next size }
     {
-        fits(self.layout, self.next, size)
+        fits(self.layout, self.generation, self.next, size)
     }
 
-    /// Writes a record directly behind those of the generation, and syncs.
+    /// Writes a record directly behind those of the generation, and syncs. Answers whether it fits: where it doesn't, nothing is
+    /// written.
     ///
-    /// On a settled disk that holds a store, whose log goes on here, each image that a crash leaves meanwhile is that of the
-    /// store with the records as they were, or with this one behind them; after Ok it is the latter. No sector but those of the
-    /// record is written, and the next record goes behind them: so a sector of the log is written at most once a generation.
+    /// Where each image is that of a store whose log goes on here, each image that a crash leaves meanwhile is that of the store
+    /// with the records as they were, or with this one behind them; where it was written, each image is the latter, and the log
+    /// goes on behind it. No sector but those of the record is written, and the next record goes behind them: so a sector of the
+    /// log is written at most once a generation.
     ///
-    /// E14 where the record doesn't fit, with nothing written; E15, with nothing written; E16 where a disk call fails. After
-    /// each of them the log is as before, but after E16 its sectors may have been written.
+    /// E15, with nothing written; E16 where a disk call fails. After each of them, and where the record doesn't fit, the log is as
+    /// before, but after E16 its sectors may have been written. It makes at most one disk call more than the record has parts.
     pub fn append<D: Disk>(
         &mut self,
         alloc: Global,
         disk: &mut D,
         bytes: &[u8],
-    ) -> Result<(), Refusal>
+    ) -> Result<bool, Refusal>
         ensures during { IsTrue (D.honest disk.old) → (slot : Slot) (body : List ℕ) (records : List (List ℕ))
-            → IsReady self.old.layout (D.past disk.old) slot self.old.generation body records self.old.number self.old.next
+            → GoesOn self.old.layout (D.past disk.old) slot self.old.generation body records self.old.number self.old.next
             → During (D.past disk.old) (D.past disk.new) (EitherRecord self.old.layout slot self.old.generation body records bytes.now) }
-        ensures ok { OnOk result (IsTrue (D.honest disk.old) → (slot : Slot) (body : List ℕ) (records : List (List ℕ))
-            → IsReady self.old.layout (D.past disk.old) slot self.old.generation body records self.old.number self.old.next
-            → IsReady self.new.layout (D.past disk.new) slot self.new.generation body (records ++ bytes.now ∷ []) self.new.number self.new.next) }
-        ensures elsewhere { IsTrue (D.honest disk.old) → IsSettled (D.past disk.old) → During (D.past disk.old) (D.past disk.new)
-            (λ image. (j : ℕ) → (j < self.old.next) ⊎ (self.old.next + part_count (length bytes.now) ≤ j) → image j ≡ seen (D.past disk.old) j) }
-        ensures next { OnOk result ((self.new.next ≡ self.old.next + part_count (length bytes.now)) × (self.new.number ≡ self.old.number + 1)) }
+        ensures ok { result ≡ Ok true → IsTrue (D.honest disk.old) → (slot : Slot) (body : List ℕ) (records : List (List ℕ))
+            → GoesOn self.old.layout (D.past disk.old) slot self.old.generation body records self.old.number self.old.next
+            → GoesOn self.new.layout (D.past disk.new) slot self.new.generation body (records ++ bytes.now ∷ []) self.new.number self.new.next }
+        ensures settled { result ≡ Ok true → IsTrue (D.honest disk.old) → IsSettled (D.past disk.new) }
+        ensures elsewhere { IsTrue (D.honest disk.old) → During (D.past disk.old) (D.past disk.new)
+            (IsElsewhere (D.past disk.old) self.old.next (part_count (length bytes.now))) }
+        ensures next { result ≡ Ok true → (self.new.next ≡ self.old.next + part_count (length bytes.now)) × (self.new.number ≡ self.old.number + 1) }
         ensures of { (self.new.layout ≡ self.old.layout) × (self.new.generation ≡ self.old.generation) }
-        ensures same { OnErr result (self.new ≡ self.old) }
-        ensures room { (result ≡ Err Refusal.NoRoom) ↔ ¬ (Fits self.old.layout self.old.next (length bytes.now)) }
+        ensures same { (result ≡ Ok true) ⊎ (self.new ≡ self.old) }
+        ensures room { (result ≡ Ok false) ↔ ¬ (Fits self.old.layout self.old.generation self.old.next (length bytes.now)) }
+        ensures unwritten { result ≡ Ok false → disk.new ≡ disk.old }
         ensures kept { IfErr result (λ e. (e ≡ Refusal.Device) ⊎ (disk.new ≡ disk.old)) }
+        ensures calls { D.calls disk.new ≤ D.calls disk.old + part_count (length bytes.now) + 1 }
         ensures failures { CountsDevice result (D.failures disk.old) (D.failures disk.new) }
-        ensures err { IfErr result (λ e. IsLost e ⊎ (e ≡ Refusal.NoRoom)) }
+        ensures err { IfErr result IsLost }
         ensures size { D.size disk.new ≡ D.size disk.old }
         ensures honest { D.honest disk.new ≡ D.honest disk.old }
     {
         if !self.fits(bytes.len()) {
-            return Err(Refusal::NoRoom);
+            return Ok(false);
         }
         let run = record_sectors(alloc, self.generation, self.number, bytes)?;
         write_run_synced(disk, self.next, &run)?;
@@ -89,6 +94,6 @@ impl Log {
             number: self.number + 1,
             next: self.next + run.len(),
         };
-        Ok(())
+        Ok(true)
     }
 }

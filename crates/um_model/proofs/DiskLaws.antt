@@ -6,7 +6,7 @@ use Rattle.std.proofs.lemmas.Bool.{cases_eq}
 use Rattle.std.proofs.lemmas.List.{get_or-take}
 use Rattle.std.proofs.lemmas.Bool.Decides.{nat_tests}
 use Rattle.std.proofs.lemmas.List.Elements.{Contains-append_left, Contains-push, Contains-push_cases}
-use Rattle.um_model.specs.Disk.{Sector, Image, with_sector, Call, wrote, synced, Past, seen_after, seen, candidates_after, candidates, IsImage, moment, ImageSince, after, Wrote, Synced, Images, onto, During, IsSettled, IsLaid, MaybeLaid, AfterRun, one_more, more}
+use Rattle.um_model.specs.Disk.{Sector, Image, with_sector, Call, wrote, synced, Past, seen_after, seen, candidates_after, candidates, IsImage, moment, ImageSince, after, Wrote, Synced, Images, onto, During, IsSettled, IsLaid, MaybeLaid, AfterRun, IsElsewhere, one_more, more}
 
 -- images that agree are one
 pub same_image : (f g : Image) → ((k : ℕ) → f k ≡ g k) → f ≡ g
@@ -226,6 +226,14 @@ run_sync result first past new at run is laid so_far synced_it =
 -- on a settled disk there is one image to begin with
 pub from_settled : (first new : Past) (at : ℕ) (run : List Sector) → IsSettled first → During first new (AfterRun first at run) → During first new (MaybeLaid (seen first) at run)
 from_settled first new at run settled so_far = weaker first new _ _ (λ image m. subst (λ d. MaybeLaid d at run image) (settled m.from m.was) m.laid) so_far
+
+-- outside the run all is as in an image of before
+pub before_elsewhere : (past : Past) (at count : ℕ) → During past past (IsElsewhere past at count)
+before_elsewhere past at count = started past _ (λ image is. record { from = image; was = is; same = λ j out. refl })
+
+pub during_elsewhere : (old new : Past) (at count : ℕ) (run : List Sector) → length run ≡ count → During old new (AfterRun old at run) → During old new (IsElsewhere old at count)
+during_elsewhere old new at count run is =
+    weaker old new _ _ (λ image m. record { from = m.from; was = m.was; same = λ j out. m.laid.outside j (subst (λ (n : ℕ). (j < at) ⊎ (at + n ≤ j)) (sym is) out) })
 
 -- a count rises by no more than there were calls
 pub more-le : (count n : ℕ) → more count n ≤ count + n

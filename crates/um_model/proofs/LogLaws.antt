@@ -9,7 +9,7 @@ use Rattle.um_model.proofs.DiskLaws.{started, weaker, laid_maybe}
 use Rattle.um_model.specs.declared.layout.Layout.{Layout}
 use Rattle.um_model.specs.declared.layout.Slot.{Slot}
 use Rattle.um_model.specs.declared.layout.Slot.TheVariants.{A, B}
-use Rattle.um_model.specs.Store.{log_start, log_end, record_limit, part_count, part_of, log_sector, IsRecord, AreRecords, stops, goes_on, HasRecords, sectors_of, IsOf, IsFree, IsLogEnd, IsPart, IsLogRead, begins, part_behind, record_behind, IsStore, GoesOn, EitherRecord, IsSlotRead, head, behind}
+use Rattle.um_model.specs.Store.{log_start, log_end, record_limit, part_count, part_of, log_sector, IsRecord, AreRecords, stops, goes_on, HasRecords, sectors_of, placed, IsOf, IsFree, IsLogEnd, IsPart, IsLogRead, begins, part_behind, record_behind, IsStore, GoesOn, EitherRecord, IsSlotRead, head, behind}
 use Rattle.um_model.proofs.StoreLaws.{log_generation, log_size, log_payload, is_of, none_of, same_record, unread_newest, body_within}
 
 -- ---- one reading
@@ -136,9 +136,17 @@ records_front number at (bytes ∷ records) more count next (goes_on is rest) sa
     goes_on (same_record is (λ part below. same (at + part) (omega arith) (omega (arith, below))))
     (records_front (suc number) (at + part_count (length bytes)) records more count next rest (λ j low high. same j (omega (arith, low)) (omega (arith, high))) (omega (arith, counts)) (omega (arith, place)) behind_it)
 
-sectors_push : (records : List (List ℕ)) (bytes : List ℕ) → sectors_of (records ++ bytes ∷ []) ≡ sectors_of records + part_count (length bytes)
+pub sectors_push : (records : List (List ℕ)) (bytes : List ℕ) → sectors_of (records ++ bytes ∷ []) ≡ sectors_of records + part_count (length bytes)
 sectors_push [] bytes = omega arith
 sectors_push (x ∷ records) bytes = omega (arith, sectors_push records bytes)
+
+-- one record more has its place behind the others
+pub placed_push : (at : ℕ) (records : List (List ℕ)) (bytes : List ℕ) → placed at (records ++ bytes ∷ []) ≡ placed at records ++ (at + sectors_of records, bytes) ∷ []
+placed_push at [] bytes = let here : at ≡ at + 0 = omega arith in ap (λ (n : ℕ). (n, bytes) ∷ []) here
+placed_push at (x ∷ records) bytes =
+    let moved : at + part_count (length x) + sectors_of records ≡ at + (part_count (length x) + sectors_of records) = omega arith in
+    ap (λ (l : List (ℕ × List ℕ)). (at, x) ∷ l)
+    (placed_push (at + part_count (length x)) records bytes ∙ ap (λ (n : ℕ). placed (at + part_count (length x)) records ++ (n, bytes) ∷ []) moved)
 
 module _ (layout : Layout) (generation number next : ℕ) (bytes : List ℕ) (run : List Sector) (last : generation < 2 ^ 64) (some : 0 < length bytes) (short : length bytes ≤ record_limit layout generation)
     (room : next + part_count (length bytes) ≤ log_end layout generation) (count : length run ≡ part_count (length bytes))

@@ -249,6 +249,11 @@ abbrev pub sectors_of : List (List ℕ) → ℕ
 sectors_of [] = 0
 sectors_of (bytes ∷ records) = part_count (length bytes) + sectors_of records
 
+-- each record with its first sector, one directly behind the other from a sector on
+abbrev pub placed : ℕ → List (List ℕ) → List (ℕ × List ℕ)
+placed at [] = []
+placed at (bytes ∷ records) = (at, bytes) ∷ placed (at + part_count (length bytes)) records
+
 -- a sector that says of itself that it is of the log is of that generation, whole or not
 pub record IsOf (generation : ℕ) (sector : Sector) : Type 0 where
   pub name : take 4 sector ≡ record_format

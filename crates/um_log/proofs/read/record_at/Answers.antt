@@ -35,6 +35,7 @@ loop-part-preserved g c =
           parts_more (λ i. log_sector c.args.generation c.args.number i c.u32_at-size.result) (seen (past c.args.disk.now)) c.args.at c.loop-part.part c.u32_at-size.result c.loop-part.bytes.items c.payload-payload.result.now c.extend_from_slice.new.self.items
           low c.loop-part.invariant.long c.payload-payload.ensures.long grown (c.loop-part.invariant.parts h) (sym is ∙ same);
       long = long_more c.loop-part.bytes.items c.payload-payload.result.now c.extend_from_slice.new.self.items c.loop-part.part c.u32_at-size.result low c.loop-part.invariant.long c.payload-payload.ensures.long grown;
+      calls = omega (arith, c.read-in-loop-part.ensures.calls, c.loop-part.invariant.calls);
       past = λ h. c.read-in-loop-part.ensures.past (c.loop-part.invariant.honest ∙ h) ∙ c.loop-part.invariant.past h;
       failures = c.in_ok-read-2.ensures.failures ∙ c.loop-part.invariant.failures;
       disk_size = c.read-in-loop-part.ensures.size ∙ c.loop-part.invariant.disk_size;

@@ -1,0 +1,5 @@
+use Rattle.um_model.proofs.ImageLaws.{records_are}
+use Rattle.um_log.proofs.laws.records_are_told.Goals as goal
+
+pub returns : goal.returns
+returns c = λ layout generation image. records_are layout generation image
