@@ -203,7 +203,8 @@ fn a_body_has_up_to_32_256_bytes(rt: HostRuntime) {
 fn a_first_body_too_long_is_not_written(rt: HostRuntime) {
     let long = vec![in rt.alloc(); 8u8; 32_257].expect(&rt, "no memory");
     let mut disk = empty(&rt);
-    let written = write_first(rt.alloc(), &mut disk, small(&rt), &long);
+    let body = Body::new(rt.alloc(), long).expect(&rt, "no memory");
+    let written = write_first(&mut disk, small(&rt), &body);
     same(&rt, written.expect(&rt, "refused"), None);
     same(&rt, disk.syncs(), 0);
     has_none(&rt, &mut disk);

@@ -1,4 +1,4 @@
-use Rattle.std.specs.Prelude.{◌≡◌, ◌+◌, ◌<◌, ◌≤◌, ℕ, IsTrue}
+use Rattle.std.specs.Prelude.{◌≡◌, ◌+◌, ◌-◌, ◌<◌, ◌≤◌, ℕ, IsTrue}
 use Rattle.um_model.specs.Disk.{seen}
 use Rattle.um_model.specs.Store.{log_start, log_end}
 use Rattle.um_log.specs.Later.{IsLater}
