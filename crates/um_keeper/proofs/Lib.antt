@@ -1,2 +1,3 @@
+mod Reopening
 mod Results
 mod Wiping

@@ -2,6 +2,7 @@
 #![tactic(auto)]
 
 mod create;
+mod opening;
 mod receipt;
 
 pub use create::create;
