@@ -180,9 +180,10 @@ pub fn memory<R: Read, W: Write>(
     ensures ok { IfOk result (λ e. WritesFrom memory_size empty_state [] (R.remaining input.old) (W.contents output.old) (W.contents output.new) e) }
     ensures err { OnErr result (BeginsFrom memory_size empty_state [] (R.remaining input.old) (W.contents output.old) (W.contents output.new)) }
 {
-    // the empty state holds no unit and its tree names none: only memory can be wanting
-    let Ok(engine) = Engine::of(alloc, State::empty(alloc), MEMORY_SIZE) else {
-        return Err(Fault::NoMemory);
+    let engine = Engine::of(alloc, State::empty(alloc), MEMORY_SIZE)?;
+    let Some(engine) = engine else {
+        // a store of this size may hold the empty state
+        unreachable!()
     };
     let mut manager = Manager {
         engine,

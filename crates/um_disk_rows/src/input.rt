@@ -1,9 +1,12 @@
 //! The canonical bytes of inputs: each of the 18, typed from the format, and what is no input.
+use crate::answers::same;
 use crate::spelled::{hex, is_not_read_at, is_spelled};
 use std::process::Abort;
 use um_model::{End, InstallVerb, JobMode, Moment, UnitVerb};
 use um_name::UnitName;
 use um_state::{BootId, Command, Event, Happening, Input};
+use um_tree::Tree;
+use um_wire::spell;
 
 fn text(rt: &(impl AllocGlobal + Abort), text: &str) -> String {
     String::from_str(rt.alloc(), text).expect(rt, "no memory")
@@ -124,6 +127,29 @@ fn happenings_are_15_to_18(rt: HostRuntime) {
     let boot = BootId::new(text(&rt, "b1")).expect(&rt, "no boot");
     let row = ["01 12 000000000010c8e0", "00000002 6231"];
     happens(&rt, Happening::Booted { boot }, &row);
+}
+
+/// A text of so many letters.
+fn letters(rt: &(impl AllocGlobal + Abort), count: u32) -> String {
+    let mut text = String::new(rt.alloc());
+    for _ in 0..count {
+        text.push_str("a").expect(rt, "no memory");
+    }
+    text
+}
+
+#[test]
+fn the_longest_input_that_is_accepted_has_66078_bytes(rt: HostRuntime) {
+    let unit = letters(&rt, 247);
+    let path = format!(in rt.alloc(); "etc/{unit}.service.requires/{unit}.service");
+    let path = path.expect(&rt, "no memory");
+    let text = letters(&rt, 65_536);
+    let mut tree = Tree::new(rt.alloc());
+    let accepted: Result<_, _> = tree.put(path.as_str(), text.as_str());
+    accepted.expect(&rt, "no file");
+    let put = at(&rt, Event::Commanded(Command::PutFile { path, text }));
+    let bytes = spell(rt.alloc(), &put).expect(&rt, "no memory");
+    same(&rt, bytes.len(), 66_078);
 }
 
 /// What is no input, and why.

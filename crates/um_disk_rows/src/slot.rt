@@ -193,8 +193,8 @@ fn a_body_has_up_to_32_256_bytes(rt: HostRuntime) {
     let written = write_other(rt.alloc(), &mut disk, small(&rt), A1, &long);
     same(&rt, written.expect(&rt, "refused"), None);
     same(&rt, (disk.syncs(), stored(&rt, &mut disk)), (2, OLD));
-    let (whole, _) = long.split_at(32_256);
-    let written = write_other(rt.alloc(), &mut disk, small(&rt), A1, whole);
+    let whole = vec![in rt.alloc(); 8u8; 32_256].expect(&rt, "no memory");
+    let written = write_other(rt.alloc(), &mut disk, small(&rt), A1, &whole);
     same(&rt, written.expect(&rt, "refused"), Some(B2));
     same(&rt, stored(&rt, &mut disk), (B2, 32_256, Some(8)));
 }

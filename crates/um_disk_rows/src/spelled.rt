@@ -10,7 +10,7 @@ pub fn has_spelling<T: Canon>(rt: &(impl AllocGlobal + Abort), value: &T, bytes:
 }
 
 /// The bytes with others behind them.
-fn followed(rt: &(impl AllocGlobal + Abort), bytes: &[u8]) -> Vec<u8> {
+pub fn followed(rt: &(impl AllocGlobal + Abort), bytes: &[u8]) -> Vec<u8> {
     let mut longer = Vec::from_slice(rt.alloc(), bytes).expect(rt, "no memory");
     longer
         .extend_from_slice(&[7, 0, 255])
@@ -37,11 +37,6 @@ pub fn is_spelled<T: Canon + Drop>(rt: &(impl AllocGlobal + Abort), value: &T, b
 pub fn is_not_read<T: Canon + Drop>(rt: &(impl AllocGlobal + Abort), bytes: &[u8]) {
     let read = T::get(rt.alloc(), bytes).expect(rt, "no memory");
     assert!(rt; read.is_none(), "{bytes:?} are read");
-}
-
-/// Asserts that the value has no spelling.
-pub fn has_none<T: Canon>(rt: &(impl AllocGlobal + Abort), value: &T) {
-    same(rt, spell(rt.alloc(), value).is_err(), true);
 }
 
 /// The number of a hexadecimal digit; None for any other byte.

@@ -1,5 +1,6 @@
 //! The canonical bytes of the state: typed from the format, and each condition broken by one byte.
-use crate::spelled::{has_none, hex, is_not_read, is_not_read_at, is_read, is_spelled, with_byte};
+use crate::answers::{same, same_at};
+use crate::spelled::{followed, hex, is_not_read, is_read, is_spelled, with_byte};
 use std::process::Abort;
 use um_model::{
     Counted, Deadline, End, JobState, Moment, NextNumber, ProcessNumber, SubState, UnitJobs,
@@ -8,6 +9,7 @@ use um_model::{
 use um_name::UnitName;
 use um_state::{BootId, State};
 use um_tree::Tree;
+use um_wire::Canon;
 
 /// The bytes of the empty state: the version, two empty trees, no boot, the clock, the next number, no unit, no job.
 const EMPTY: &[&str] = &[
@@ -237,54 +239,74 @@ fn full(rt: &(impl AllocGlobal + Abort)) -> State {
     state
 }
 
+/// The bytes of the state.
+fn spelled(rt: &(impl AllocGlobal + Abort), state: &State) -> Vec<u8> {
+    let mut bytes = Vec::new(rt.alloc());
+    state.put(&mut bytes).expect(rt, "no memory");
+    bytes
+}
+
+/// Asserts that a state is read from the bytes with others behind them, and is spelled by the bytes.
+fn state_is_read(rt: &(impl AllocGlobal + Abort), bytes: &[u8]) {
+    let longer = followed(rt, bytes);
+    let found = State::get(rt.alloc(), longer.as_slice()).expect(rt, "no memory");
+    let (read, count) = found.expect(rt, "what is spelled isn't read");
+    same(rt, count, bytes.len());
+    same(rt, spelled(rt, &read).as_slice(), bytes);
+}
+
+/// Asserts that no front of the bytes spells a state, in this row.
+fn state_is_not_read(rt: &(impl AllocGlobal + Abort), bytes: &[u8], row: &str) {
+    let read = State::get(rt.alloc(), bytes).expect(rt, "no memory");
+    same_at(rt, read.is_none(), true, row);
+}
+
 #[test]
 fn the_empty_state_has_37_bytes(rt: HostRuntime) {
     let bytes = hex(&rt, EMPTY);
     assert!(&rt; bytes.len() == 37, "the empty state has other bytes");
-    is_spelled(&rt, &State::empty(rt.alloc()), bytes.as_slice());
-    is_not_read::<State>(&rt, &bytes.as_slice()[1..]);
+    let empty = State::empty(rt.alloc());
+    same(&rt, spelled(&rt, &empty).as_slice(), bytes.as_slice());
+    state_is_read(&rt, bytes.as_slice());
+    state_is_not_read(&rt, &bytes.as_slice()[1..], "no version");
 }
 
 #[test]
 fn a_state_is_its_fields_in_order(rt: HostRuntime) {
-    is_spelled(&rt, &full(&rt), hex(&rt, STATE).as_slice());
+    let bytes = hex(&rt, STATE);
+    same(&rt, spelled(&rt, &full(&rt)).as_slice(), bytes.as_slice());
+    state_is_read(&rt, bytes.as_slice());
 }
 
 #[test]
 fn no_byte_may_break_a_condition(rt: HostRuntime) {
     for (row, at, byte) in BROKEN {
         let bytes = with_byte(&rt, STATE, *at, *byte);
-        is_not_read_at::<State>(&rt, bytes.as_slice(), row);
+        state_is_not_read(&rt, bytes.as_slice(), row);
     }
 }
 
 #[test]
 fn a_dead_unit_of_which_nothing_is_known_stands_in_no_state(rt: HostRuntime) {
-    is_read::<State>(&rt, hex(&rt, DEAD).as_slice());
-    is_not_read::<State>(&rt, with_byte(&rt, DEAD, 47, 0).as_slice());
+    state_is_read(&rt, hex(&rt, DEAD).as_slice());
+    let broken = with_byte(&rt, DEAD, 47, 0);
+    state_is_not_read(&rt, broken.as_slice(), "a dead unit");
 }
 
 #[test]
-fn a_state_that_no_run_reaches_has_no_spelling(rt: HostRuntime) {
+fn a_state_that_no_run_reaches_is_not_read_again(rt: HostRuntime) {
     let mut twice = full(&rt);
-    set(
-        &rt,
-        &mut twice,
-        "9.target",
-        lives(SubState::Running, UnitResult::Success, 7),
-    );
-    has_none(&rt, &twice);
+    let again = lives(SubState::Running, UnitResult::Success, 7);
+    set(&rt, &mut twice, "9.target", again);
+    state_is_not_read(&rt, spelled(&rt, &twice).as_slice(), "a number twice");
     let mut later = full(&rt);
-    set(
-        &rt,
-        &mut later,
-        "9.target",
-        lives(SubState::Running, UnitResult::Success, 8),
-    );
-    has_none(&rt, &later);
+    let next = lives(SubState::Running, UnitResult::Success, 8);
+    set(&rt, &mut later, "9.target", next);
+    state_is_not_read(&rt, spelled(&rt, &later).as_slice(), "the next number");
     let mut sooner = full(&rt);
     sooner.set_clock(Moment::FIRST);
-    has_none(&rt, &sooner);
+    let bytes = spelled(&rt, &sooner);
+    state_is_not_read(&rt, bytes.as_slice(), "a window after the clock");
 }
 
 /// The bytes of a tree with one file of so many bytes.
@@ -303,6 +325,26 @@ fn tree_with_text(rt: &(impl AllocGlobal + Abort), length: &str, count: usize) -
 fn a_text_of_65536_bytes_is_the_longest_of_a_tree(rt: HostRuntime) {
     is_read::<Tree>(&rt, tree_with_text(&rt, "00010000", 65_536).as_slice());
     is_not_read::<Tree>(&rt, tree_with_text(&rt, "00010001", 65_537).as_slice());
+}
+
+/// The bytes of a tree with so many files, none of which holds anything.
+fn tree_of_files(rt: &(impl AllocGlobal + Abort), count: u32) -> Vec<u8> {
+    let mut bytes = Vec::new(rt.alloc());
+    count.put(&mut bytes).expect(rt, "no memory");
+    for number in 0..count {
+        let path = format!(in rt.alloc(); "etc/{number:04}.service").expect(rt, "no memory");
+        path.put(&mut bytes).expect(rt, "no memory");
+        bytes
+            .extend_from_slice(&[0, 0, 0, 0, 0])
+            .expect(rt, "no memory");
+    }
+    bytes
+}
+
+#[test]
+fn a_tree_has_4096_entries_at_most(rt: HostRuntime) {
+    is_read::<Tree>(&rt, tree_of_files(&rt, 4096).as_slice());
+    is_not_read::<Tree>(&rt, tree_of_files(&rt, 4097).as_slice());
 }
 
 /// The bytes of a boot's id of so many bytes.

@@ -5,6 +5,7 @@ pub mod Engine
 pub mod Falling
 pub mod Filled
 pub mod Known
+pub mod OfStore
 pub mod Over
 pub mod Planned
 pub mod Served

@@ -1,21 +1,25 @@
-ghost use Rattle.std.specs.Prelude.{◌≡◌, ◌↔◌, [], false, is_some, map, IfOk, IfErr};
+ghost use Rattle.std.specs.Prelude.{◌≡◌, ◌≢◌, ◌↔◌, [], false, is_some, map, IfOk, IfErr, IfSome, IsTrue};
 ghost use Rattle.um_engine.specs.Engine.{state_in, size_in, has_effect_in, state_at, state_after, reply_in, actions_in, state_before, SettlesTo};
+ghost use Rattle.um_engine.specs.OfStore.{is_of_store};
 ghost use Rattle.um_engine.specs.Planned.{Declines};
 ghost use Rattle.um_model.specs.Machine as model;
-ghost use Rattle.um_model.specs.Machine.{Step, Takes, LacksEffect, moment_of, IsCrowded, IsHeld, IsTooHeavy};
+ghost use Rattle.um_model.specs.Machine.{Step, Takes, LacksEffect, moment_of, IsTooHeavy};
+ghost use Rattle.um_model.specs.Refusals.{Refused};
+ghost use Rattle.um_model.specs.Servable.{IsServable};
 ghost use Rattle.um_state.specs.View.{state_of, input_of, query_of, reply_of, action_of, command_of};
-ghost use Rattle.um_wire.specs.Gives.{RefusesBy};
 ghost use Rattle.um_wire.specs.Refusal.{refused_of};
 ghost use Rattle.um_wire.specs.declared.refusal.Refusal.TheVariants.{NoMemory};
 
 use crate::answer::reply_to;
 use crate::commands::{Outcome, done};
 use crate::happenings::met;
+use crate::loading::known_of_loaded;
 use crate::room::check_room;
 use crate::served::Served;
 use crate::settling::settle;
 use std::alloc::{AllocError, Global};
 use std::mem;
+use std::rc::Rc;
 use um_model::Moment;
 use um_state::{Action, Command, Event, Input, Query, Reply, State};
 use um_wire::Refusal;
@@ -84,18 +88,29 @@ pub struct Back {
 }
 
 impl Engine {
-    /// The engine in this state, over a store of so many bytes. Refused are too many known units (E13).
-    pub fn of(alloc: Global, state: State, size: u64) -> Result<Engine, Refusal>
-        ensures state { IfOk result (λ e. state_in e ≡ state_of state) }
-        ensures size { IfOk result (λ e. size_in e ≡ size) }
-        ensures refused { RefusesBy (IsCrowded (state_of state).loaded (IsHeld (state_of state))) result }
+    /// The engine in this state, over a store of so many bytes. None where such a store may not hold the state: where it weighs too
+    /// much, where too many units are known by its loaded tree, or where its pending jobs wait for one another in a circle.
+    pub fn of(alloc: Global, state: State, size: u64) -> Result<Option<Engine>, AllocError>
+        ensures state { IfOk result (λ made. IfSome made (λ e. state_in e ≡ state_of state)) }
+        ensures size { IfOk result (λ made. IfSome made (λ e. size_in e ≡ size)) }
+        ensures some { IfOk result (λ made. IsTrue (is_some made) ↔ IsServable size (state_of state)) }
     {
-        let served = Served::of(alloc, state)?;
-        Ok(Engine {
-            alloc,
-            served,
-            size,
-        })
+        match servable(alloc, state, size) {
+            Ok(served) => Ok(Some(Engine {
+                alloc,
+                served,
+                size,
+            })),
+            Err(Refusal::NoMemory) => Err(AllocError),
+            Err(_) => Ok(None),
+        }
+    }
+
+    /// The state. It takes no memory.
+    pub fn state(&self) -> &State
+        ensures { state_of result.now ≡ state_in self.now }
+    {
+        self.served.state()
     }
 
     /// The moment of the last step.
@@ -129,15 +144,17 @@ impl Engine {
         })
     }
 
-    /// The step that the input is. It is refused as the machine refuses it, or for want of memory; nothing has changed then.
+    /// The step that the input is. It is refused as the machine refuses it, or for want of memory (E15); nothing has changed then.
     pub fn plan(&self, input: &Input) -> Result<Next, Refusal>
         ensures ok { IfOk result (λ next.
             Step (size_in self.now) (state_in self.now) (input_of input.now) (reply_in next) (actions_in next) (state_after next (state_in self.now))) }
+        ensures accepted { IfOk result (λ next. (r : Refused) → reply_in next ≢ model.Refusal r) }
         ensures effect { IfOk result (λ next. (has_effect_in next ≡ false)
             ↔ LacksEffect (moment_of (state_in self.now) (input_of input.now).moment) (state_in self.now) (input_of input.now).event) }
         ensures nothing { IfOk result (λ next. has_effect_in next ≡ false → (state_after next (state_in self.now) ≡ state_in self.now) × (actions_in next ≡ [])) }
         ensures refused { IfErr result (λ e. ¬ (e ≡ NoMemory)
             → Step (size_in self.now) (state_in self.now) (input_of input.now) (model.Refusal (refused_of e)) [] (state_in self.now)) }
+        ensures only { IfErr result (λ e. is_of_store e ≡ false) }
     {
         let moment = self.served.state().clock().or_later(input.moment());
         match input.event() {
@@ -200,6 +217,20 @@ impl Engine {
     {
         reply_to(self.alloc, self.served.state(), query)
     }
+}
+
+/// The state with what is known of its units, if a store of so many bytes may hold it. Refused are too many known units (E13), pending
+/// jobs that wait for one another in a circle (E9), and a weight beyond the size (E14).
+fn servable(alloc: Global, state: State, size: u64) -> Result<Served, Refusal>
+    ensures state { IfOk result (λ served. served.state ≡ state_of state) }
+    ensures servable { IfOk result (λ _. IsServable size (state_of state)) }
+    ensures refused { IfErr result (λ e. ¬ (e ≡ NoMemory) → ¬ IsServable size (state_of state)) }
+{
+    let known = known_of_loaded(alloc, &state, state.loaded())?;
+    let known = Rc::new(alloc, known)?;
+    let served = Served::with(state, known);
+    check_room(alloc, &served, size)?;
+    Ok(served)
 }
 
 /// The state in which jobs begin at the moment until none is ready, and what is asked of processes, behind the other actions.

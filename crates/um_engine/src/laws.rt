@@ -1,12 +1,16 @@
-ghost use Rattle.std.specs.Prelude.{◌≡◌, ◌↔◌, ◌++◌, ℕ, List, None};
+ghost use Rattle.std.specs.Prelude.{◌≡◌, ◌≢◌, ◌↔◌, ◌≤◌, ◌++◌, ℕ, List, length, None};
 ghost use Rattle.um_model.specs.Alike.{IsSameOutcome};
 ghost use Rattle.um_model.specs.Few.{IsFew};
 ghost use Rattle.um_model.specs.Finished.{Finishes, IsAtRest, PutsStart};
+ghost use Rattle.um_model.specs.InputSpellings.{FitInput, input_spelling};
 ghost use Rattle.um_model.specs.Jobs.{jobs_of_unit};
 ghost use Rattle.um_model.specs.Live.{IsFree, IsNotStuck, WeighsNoMore};
-ghost use Rattle.um_model.specs.Machine.{State, Happening, Happened, Input, Reply, Done, Step, Run, empty_state};
+ghost use Rattle.um_model.specs.Machine.{State, Happening, Happened, Input, Reply, Done, Refusal, Step, Run, empty_state};
 ghost use Rattle.um_model.specs.Numbers.{AreNew, started_numbers, actions_in};
+ghost use Rattle.um_model.specs.Refusals.{Refused};
+ghost use Rattle.um_model.specs.Servable.{IsServable};
 ghost use Rattle.um_model.specs.Service.{Action};
+ghost use Rattle.um_model.specs.StateSpellings.{FitState, state_spelling};
 
 /// Each state and input has a step.
 pub fn each_input_has_a_step()
@@ -52,6 +56,35 @@ pub fn no_more_units_are_known_than_may_be()
 pub fn what_happens_never_raises_the_weight()
     ensures { (size : ℕ) (s : State) (moment : ℕ) (happening : Happening) (reply : Reply) (actions : List Action) (t : State)
         → Step size s (record { moment = moment; event = Happened happening }) reply actions t → (reply ≡ Done) × WeighsNoMore t s }
+{}
+
+/// A store of 256 bytes or more may hold the empty state.
+pub fn a_store_may_hold_the_empty_state()
+    ensures { (size : ℕ) → 256 ≤ size → IsServable size empty_state }
+{}
+
+/// A step leaves a state that a store may hold such that it still may.
+pub fn a_step_leaves_a_state_that_a_store_may_hold()
+    ensures { (size : ℕ) (s : State) (input : Input) (reply : Reply) (actions : List Action) (t : State)
+        → Step size s input reply actions t → IsServable size s → IsServable size t }
+{}
+
+/// A step by an input that has bytes, from a state that has bytes and that a store may hold, leads to a state that has bytes.
+pub fn a_step_leads_to_a_state_that_has_bytes()
+    ensures { (size : ℕ) (s : State) (input : Input) (reply : Reply) (actions : List Action) (t : State)
+        → FitInput input → Step size s input reply actions t → FitState s → IsServable size s → FitState t }
+{}
+
+/// The bytes of a state that a store may hold have room in it.
+pub fn the_bytes_of_a_state_have_room()
+    ensures { (size : ℕ) (s : State) → FitState s → IsServable size s → length (state_spelling s) ≤ size }
+{}
+
+/// An input that isn't refused in a state that has bytes takes from 10 to 131,072 bytes itself.
+pub fn an_input_that_is_not_refused_is_short()
+    ensures { (size : ℕ) (s : State) (input : Input) (reply : Reply) (actions : List Action) (t : State)
+        → FitState s → FitInput input → Step size s input reply actions t → ((r : Refused) → reply ≢ Refusal r)
+        → (10 ≤ length (input_spelling input)) × (length (input_spelling input) ≤ 131072) }
 {}
 
 /// A finished job isn't repeated: where a oneshot finished in a step and no start of it is pending after that, it is at rest after

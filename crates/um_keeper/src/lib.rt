@@ -1,9 +1,16 @@
-//! The engine over a disk. So far: what an accepted input answers, to be spent action by action.
+//! The engine over a disk: what it answers outlives a crash.
 #![tactic(auto)]
 
 mod create;
+mod keeper;
+mod laws;
 mod opening;
 mod receipt;
 
 pub use create::create;
+pub use keeper::Keeper;
+pub use laws::{
+    an_image_stands_for_one_state, unread_sectors_of_a_store_do_not_count,
+    what_was_answered_outlives_crashes,
+};
 pub use receipt::{Handed, Receipt, SpawnOrder};

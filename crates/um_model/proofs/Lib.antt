@@ -56,9 +56,11 @@ pub mod StoreLaws
 pub mod LogLaws
 pub mod ImageLaws
 pub mod StandsLaws
-pub mod SpelledLaws
-pub mod UnreadLaws
 pub mod LivesLaws
+pub mod SpelledLaws
+pub mod FitOnceLaws
+pub mod UnreadLaws
+pub mod KeptLaws
 pub mod FindsLaws
 pub mod SessionsLaws
 pub mod WaitingLaws
@@ -92,3 +94,4 @@ pub mod LightLaws
 pub mod RefusesLaws
 pub mod ServableLaws
 pub mod FinishedLaws
+pub mod RunnerLaws

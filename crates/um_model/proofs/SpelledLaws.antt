@@ -1,9 +1,9 @@
 -- What a store's bodies and records spell: where its sectors are of bytes, they are the spellings of what is read from them.
-use Rattle.std.specs.Prelude.{◌+◌, ◌<◌, zero, suc, Bool, true, false, cond, take, drop, slice_index, map}
+use Rattle.std.specs.Prelude.{◌+◌, zero, suc, Bool, true, false, cond, take, drop, map}
 use Rattle.std.specs.List.{AllByRecursion}
-use Rattle.std.proofs.Common.{◌≡◌, ◌∙◌, ℕ, List, [], ◌∷◌, ◌++◌, length, Some, refl, sym, ap, subst, arith}
+use Rattle.std.proofs.Common.{◌≡◌, ℕ, List, [], ◌∷◌, ◌++◌, length, Some, refl, sym, subst, arith}
 use Rattle.std.proofs.lemmas.Option.{same_Some}
-use Rattle.um_model.specs.Bytes.{IsBytes, ◌>>=◌, nothing_left}
+use Rattle.um_model.specs.Bytes.{IsBytes, nothing_left}
 use Rattle.um_model.specs.Disk.{Image}
 use Rattle.um_model.specs.InputSpellings.{input_spelling, input_at, FitInput}
 use Rattle.um_model.specs.Machine.{State, Input}

@@ -8,7 +8,7 @@ use Rattle.std.proofs.lemmas.List.{append-nil}
 use Rattle.std.proofs.lemmas.Option.{same_Some, none-some}
 use Rattle.byteorder.specs.Endian.{big_number}
 use mathlib.Core.HLevel.{×_prop}
-use Rattle.um_model.specs.Bytes.{IsBytes, ◌>>=◌, nothing_left}
+use Rattle.um_model.specs.Bytes.{◌>>=◌, nothing_left}
 use Rattle.um_model.specs.Disk.{Sector, Image, Past, IsImage, Images}
 use Rattle.um_model.specs.InputSpellings.{input_spelling, input_at, FitInput}
 use Rattle.um_model.specs.Machine.{State, Input, Reply, Step, Run, rests, goes, empty_state}
@@ -16,11 +16,9 @@ use Rattle.um_model.specs.Servable.{IsServable}
 use Rattle.um_model.specs.Service.{Action}
 use Rattle.um_model.specs.Stands.{inputs_of, Contents, contents_of, StandsFor, IsStoreOf}
 use Rattle.um_model.specs.StateSpellings.{state_spelling, state_at, FitState}
-use Rattle.um_model.specs.Store.{superblock, other, body_limit, log_start, Newest, newest_of, records_of, IsNewest, HasRecords, IsFree, IsStore, IsStoreOf as HasStore, WasStore, EitherSnapshot, EitherRecord}
+use Rattle.um_model.specs.Store.{superblock, other, body_limit, log_start, Newest, newest_of, records_of, IsNewest, HasRecords, IsFree, IsStore, IsStoreOf as HasStore, EitherSnapshot, EitherRecord}
 use Rattle.um_model.specs.declared.layout.Layout.{Layout}
 use Rattle.um_model.specs.declared.layout.Slot.{Slot}
-use Rattle.um_model.specs.declared.layout.Slot.TheVariants.{A}
-use Rattle.um_model.proofs.BytesLaws.{whole_spelled}
 use Rattle.um_model.proofs.FewLaws.{empty_few}
 use Rattle.um_model.proofs.FitStateLaws.{fit_of_whole, empty_whole}
 use Rattle.um_model.proofs.ImageLaws.{newest_some, records_are, only_records}
@@ -278,10 +276,15 @@ comes_further {records} {inputs} {input} comes fit step = record {
 pub comes_anew : {size : ℕ} {s : State} → nothing_left (state_at (state_spelling s)) ≡ Some s → IsServable size s → ComesTo size (state_spelling s) [] s [] s
 comes_anew is may = record { start_is = is; inputs_are = refl; servable = may; run = rests }
 
--- so do spellings of a start and of inputs
-pub comes_spelled : {size : ℕ} {start s : State} {inputs : List Input} → FitState start → AllByRecursion FitInput inputs → IsServable size start → Run size start inputs s
-    → ComesTo size (state_spelling start) (map input_spelling inputs) start inputs s
-comes_spelled {start} {inputs} fit fits may run = record { start_is = state_back start fit; inputs_are = inputs_back inputs fits; servable = may; run = run }
+-- and so do spellings of a start and of inputs
+pub comes_spelled : {size : ℕ} {body : List ℕ} {records : List (List ℕ)} {start s : State} {inputs : List Input} → body ≡ state_spelling start → FitState start
+    → records ≡ map input_spelling inputs → AllByRecursion FitInput inputs → IsServable size start → Run size start inputs s → ComesTo size body records start inputs s
+comes_spelled {start = start} {inputs = inputs} is fit are fits may run = record {
+  start_is = ap (λ (b : List ℕ). nothing_left (state_at b)) is ∙ state_back start fit;
+  inputs_are = ap inputs_of are ∙ inputs_back inputs fits;
+  servable = may;
+  run = run;
+}
 
 -- With one record more it is a store of the state after the step.
 pub one_more : {layout : Layout} {image : Image} {slot : Slot} {generation : ℕ} {body : List ℕ} {records : List (List ℕ)} {start : State} {inputs : List Input} {s t : State} {input : Input} {reply : Reply}

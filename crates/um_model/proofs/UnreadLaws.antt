@@ -1,11 +1,11 @@
 -- What a store's reading doesn't look at doesn't count: images that agree in all else stand for the same state, or for none.
-use Rattle.std.proofs.Common.{◌≡◌, ◌↔◌, ◌∙◌, ℕ, List, Option, Some, None, refl, sym, ap, subst}
+use Rattle.std.proofs.Common.{◌≡◌, ◌↔◌, ◌∙◌, ℕ, List, Option, Some, None, refl, sym, ap}
 use Rattle.um_model.specs.Bytes.{◌>>=◌, nothing_left}
 use Rattle.um_model.specs.Disk.{Image}
 use Rattle.um_model.specs.Machine.{State}
 use Rattle.um_model.specs.StateSpellings.{state_at}
 use Rattle.um_model.specs.Stands.{Contents, inputs_of, contents_of, StandsFor, IsRead, is_first, of_slots, of_log}
-use Rattle.um_model.specs.Store.{superblock, Newest, newest_of, records_of, log_start, IsSlotRead, IsLogRead}
+use Rattle.um_model.specs.Store.{Newest, newest_of, records_of, log_start}
 use Rattle.um_model.specs.declared.layout.Layout.{Layout}
 use Rattle.um_model.proofs.ImageLaws.{newest_some, newest_none, records_are, only_records}
 use Rattle.um_model.proofs.LogLaws.{unread_records}

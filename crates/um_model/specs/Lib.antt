@@ -53,3 +53,4 @@ pub mod Lives
 pub mod Finds
 pub mod Sessions
 pub mod Children
+pub mod Runner

@@ -3,7 +3,7 @@
 -- The law of lives in proofs/LivesLaws and the keeper's contracts depend on this file.
 use Rattle.std.specs.Prelude.{◌≡◌, ⊤, ℕ, List, [], ◌∷◌, ◌++◌}
 use Rattle.um_model.specs.Disk.{Image}
-use Rattle.um_model.specs.Machine.{State, Input, Reply, Step, empty_state}
+use Rattle.um_model.specs.Machine.{State, Input, Reply, Step}
 use Rattle.um_model.specs.Service.{Action}
 use Rattle.um_model.specs.Stands.{IsStoreOf}
 use Rattle.um_model.specs.Store.{body_limit}

@@ -62,7 +62,8 @@ fn takes(rt: &(impl AllocGlobal + Abort), engine: &mut Engine, input: &Input) ->
 /// An engine in which `a.service` runs, whose file stands at the path.
 fn running(rt: &(impl AllocGlobal + Abort), path: &str) -> Engine {
     let state = State::empty(rt.alloc());
-    let mut engine = Engine::of(rt.alloc(), state, SIZE).expect(rt, "no engine");
+    let engine = Engine::of(rt.alloc(), state, SIZE).expect(rt, "no memory");
+    let mut engine = engine.expect(rt, "not served");
     for input in [
         put(rt, path),
         commanded(rt, Command::DaemonReload),

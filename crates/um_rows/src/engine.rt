@@ -54,7 +54,8 @@ fn put_service(rt: &(impl AllocGlobal + Abort)) -> Input {
 
 /// An engine in this state.
 fn engine_in(rt: &(impl AllocGlobal + Abort), state: State) -> Engine {
-    Engine::of(rt.alloc(), state, SIZE).expect(rt, "no engine")
+    let engine = Engine::of(rt.alloc(), state, SIZE).expect(rt, "no memory");
+    engine.expect(rt, "not served")
 }
 
 /// An engine that holds nothing.

@@ -1,5 +1,5 @@
 -- An input is read by the tag of its fields, behind its moment.
-use Rattle.std.proofs.Common.{◌≡◌, ℕ, zero, suc, ◌-◌, nat_lt, cond, Bool, true, false, List, [], ◌∷◌, ◌++◌, length, map as each, Option, Some, None, refl, sym, ap, ◌∙◌}
+use Rattle.std.proofs.Common.{◌≡◌, ℕ, zero, suc, ◌-◌, nat_lt, Bool, true, false, List, [], ◌∷◌, ◌++◌, length, map as each, Option, Some, None, refl, sym, ap, ◌∙◌}
 use Rattle.std.proofs.Common.{◌<◌, ◌≤◌, ◌+◌, drop, slice_index, arith}
 use Rattle.std.specs.Prelude.{⊤}
 use Rattle.std.proofs.lemmas.Bool.{ltb-true, ltb-false}

@@ -1,3 +1,4 @@
 pub mod Arms
+pub mod Short
 pub mod Shown
 pub mod View

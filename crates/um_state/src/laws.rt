@@ -1,8 +1,22 @@
-ghost use Rattle.std.specs.Prelude.{◌≡◌, ℕ, List};
+ghost use Rattle.std.specs.Prelude.{◌≡◌, ◌≢◌, ◌≤◌, ◌++◌, ℕ, List, Some, None, length};
+ghost use Rattle.std.specs.List.{AllByRecursion};
+ghost use Rattle.um_model.specs.Bytes.{IsBytes};
+ghost use Rattle.um_model.specs.Dependencies.{CountsFor};
+ghost use Rattle.um_model.specs.InputSpellings.{FitInput, input_spelling};
 ghost use Rattle.um_model.specs.Jobs.{AreTidyJobs, jobs_of_unit};
-ghost use Rattle.um_model.specs.Service.{AreTidyUnits, ByUnit, state_of_unit};
+ghost use Rattle.um_model.specs.Machine as model;
+ghost use Rattle.um_model.specs.Machine.{IsHeld, Run, Step, empty_state};
+ghost use Rattle.um_model.specs.Refusals.{Refused};
+ghost use Rattle.um_model.specs.Service.{AreTidyUnits, Action, ByUnit, state_of_unit};
+ghost use Rattle.um_model.specs.StateSpellings.{FitState, state_at, state_spelling};
+ghost use Rattle.um_model.specs.Weight.{weight_of};
 ghost use Rattle.um_model.specs.declared.jobs.UnitJobs.{UnitJobs};
 ghost use Rattle.um_model.specs.declared.service.UnitState.{UnitState};
+ghost use Rattle.um_state.specs.Short.{HasShortTexts};
+ghost use Rattle.um_state.specs.View.{input_of};
+
+use crate::fitting::{event_fits, moment_fits};
+use crate::input::Input;
 
 /// Units that are tidy are the same where each stands the same.
 pub fn units_are_told_apart_by_look_ups()
@@ -14,4 +28,56 @@ pub fn units_are_told_apart_by_look_ups()
 pub fn pending_jobs_are_told_apart_by_look_ups()
     ensures { (a b : ByUnit UnitJobs) → AreTidyJobs a → AreTidyJobs b
         → ((unit : List ℕ) → jobs_of_unit a unit ≡ jobs_of_unit b unit) → a ≡ b }
+{}
+
+/// A state that has a spelling is read again from it, whatever follows.
+pub fn a_spelled_state_is_read_again()
+    ensures { (s : model.State) (rest : List ℕ) → FitState s → state_at (state_spelling s ++ rest) ≡ Some (s, rest) }
+{}
+
+/// A state that is read stands in front of the bytes, spelled in the one way.
+pub fn a_state_that_is_read_is_spelled_so()
+    ensures { (bytes : List ℕ) (s : model.State) (rest : List ℕ) → IsBytes bytes → state_at bytes ≡ Some (s, rest)
+        → (bytes ≡ state_spelling s ++ rest) × FitState s }
+{}
+
+/// There is no reading only where no front of the bytes spells a state.
+pub fn no_state_is_read_only_where_none_is()
+    ensures { (bytes : List ℕ) → state_at bytes ≡ None → (s : model.State) (rest : List ℕ) → FitState s
+        → bytes ≡ state_spelling s ++ rest → ⊥ }
+{}
+
+/// No spelling of a state begins another, and it spells one state.
+pub fn no_spelling_of_a_state_begins_another()
+    ensures { (s t : model.State) (p q : List ℕ) → FitState s → FitState t → state_spelling s ++ p ≡ state_spelling t ++ q
+        → (s ≡ t) × (p ≡ q) }
+{}
+
+/// Each state of a run from the empty one has a spelling.
+pub fn each_state_of_a_run_has_a_spelling()
+    ensures { (size : ℕ) (inputs : List model.Input) (t : model.State) → AllByRecursion FitInput inputs
+        → Run size empty_state inputs t → FitState t }
+{}
+
+/// It has at most as many bytes as the state weighs.
+pub fn no_spelling_of_a_run_is_longer_than_the_weight()
+    ensures { (size : ℕ) (inputs : List model.Input) (t : model.State) (units : ℕ) → AllByRecursion FitInput inputs
+        → Run size empty_state inputs t → CountsFor t.loaded (IsHeld t) units
+        → length (state_spelling t) ≤ weight_of t.tree t.loaded units }
+{}
+
+/// Each input that can be made has a spelling, where its texts have fewer than 2^32 bytes. It only looks at the input, since its types
+/// keep what the spelling asks for.
+pub fn each_input_has_a_spelling(input: &Input)
+    ensures { HasShortTexts (input_of input.now).event → FitInput (input_of input.now) }
+{
+    moment_fits(input.moment);
+    event_fits(&input.event);
+}
+
+/// An input that is accepted after a run from the empty state has at most 131,072 bytes.
+pub fn an_accepted_input_is_short()
+    ensures { (size : ℕ) (inputs : List model.Input) (s t : model.State) (input : model.Input) (reply : model.Reply) (actions : List Action)
+        → AllByRecursion FitInput inputs → FitInput input → Run size empty_state inputs s → Step size s input reply actions t
+        → ((r : Refused) → reply ≢ model.Refusal r) → length (input_spelling input) ≤ 131072 }
 {}

@@ -2,6 +2,7 @@
 #![tactic(auto)]
 
 mod boot;
+mod fitting;
 mod input;
 mod input_bytes;
 mod job_bytes;
@@ -14,7 +15,13 @@ mod units;
 
 pub use boot::BootId;
 pub use input::{Command, Event, Happening, Input, Query};
-pub use laws::{pending_jobs_are_told_apart_by_look_ups, units_are_told_apart_by_look_ups};
+pub use laws::{
+    a_spelled_state_is_read_again, a_state_that_is_read_is_spelled_so, an_accepted_input_is_short,
+    each_input_has_a_spelling, each_state_of_a_run_has_a_spelling,
+    no_spelling_of_a_run_is_longer_than_the_weight, no_spelling_of_a_state_begins_another,
+    no_state_is_read_only_where_none_is, pending_jobs_are_told_apart_by_look_ups,
+    units_are_told_apart_by_look_ups,
+};
 pub use reply::{JobShown, Reply, UnitListed, UnitShown};
 pub use state::State;
 pub use um_service::Action;

@@ -1,8 +1,11 @@
-use Rattle.std.proofs.Common.{◌≡◌, ◌≢◌, ◌∙◌, [], true≢false, sym, ap, rules, map}
+use Rattle.std.proofs.Common.{◌≡◌, ◌≢◌, ◌∙◌, [], false, true≢false, sym, ap, rules, map}
 use Rattle.um_model.specs.Machine as model
 use Rattle.um_state.specs.View.{input_of, action_of, command_of, happening_of}
 use Rattle.um_wire.specs.Refusal.{refused_of}
 use Rattle.um_wire.specs.declared.refusal.Refusal.TheVariants.{NoMemory}
+use Rattle.um_engine.specs.OfStore.{is_of_store}
+use Rattle.um_engine.proofs.AcceptedLaws.{never_refused}
+use Rattle.um_engine.proofs.OnlyLaws.{declined_of_no_store}
 use Rattle.um_engine.proofs.Stepped.{declined_step, taken_step, met_step, met_effect, met_nothing, command_effect}
 use Rattle.um_engine.proofs.engine.Engine.plan.Goals as goal
 
@@ -17,6 +20,13 @@ returns-in_err-settled-in-Commanded-clause-refused c =
     λ differs.
     declined_step c.args.self.now.size s (input_of c.args.input.now) c.or_later-moment.result (command_of c.in-Commanded.command) _ event moment
     (c.in_err-settled-in-Commanded.ensures.refused differs) in
+    search (rules, step)
+
+pub returns-in_err-settled-in-Commanded-clause-only : goal.returns-in_err-settled-in-Commanded-clause-only
+returns-in_err-settled-in-Commanded-clause-only c =
+    let step : is_of_store c.in_err-settled-in-Commanded.field-0.0 ≡ false =
+    declined_of_no_store c.args.self.now.size c.or_later-moment.result c.args.self.now.served.state (command_of c.in-Commanded.command) c.in_err-settled-in-Commanded.field-0.0
+    c.in_err-settled-in-Commanded.ensures.refused in
     search (rules, step)
 
 pub returns-in_ok-settled-in-Commanded-clause-ok : goal.returns-in_ok-settled-in-Commanded-clause-ok
@@ -60,3 +70,7 @@ returns-in_ok-served-in-Happened-clause-nothing c =
     met_nothing c.or_later-moment.result c.args.self.now.served.state (happening_of c.in-Happened.happening) c.in_ok-served-in-Happened.served _
     (map action_of c.in_ok-served-in-Happened.actions.items) _ _ c.at-in-Happened.ensures.effect c.in_ok-served-in-Happened.ensures c.at-in-Happened.ensures.actions
     (c.at-in-Happened.ensures.state c.args.self.now.served.state)
+
+pub returns-in_ok-settled-in-Commanded-clause-accepted : goal.returns-in_ok-settled-in-Commanded-clause-accepted
+returns-in_ok-settled-in-Commanded-clause-accepted c = λ r e.
+    never_refused (command_of c.in-Commanded.command) _ _ r (sym (c.at.ensures.reply ∙ c.in_ok-settled-in-Commanded.ensures.reply) ∙ e)

@@ -1,0 +1,70 @@
+//! The program that `bench/bytes` measures: it makes a state, and writes it or reads it so many times.
+//!
+//! Its words: `write` or `read`, how many files stand in each tree, how many units are known, how many times. It prints how many
+//! bytes were written or read in all. The exit status is 2 for other words, and 1 where memory or the output fails.
+#![tactic(auto)]
+
+mod line;
+mod made;
+
+use line::{Deed, Line, read_line};
+use made::state_with;
+use std::alloc::{AllocError, Global};
+use std::env;
+use std::env::Env;
+use std::process::ExitCode;
+use um_state::State;
+
+/// Writes the state so many times, and gives the bytes of all times.
+fn write_times(alloc: Global, state: &State, times: u32) -> Result<u64, AllocError> {
+    let mut count: u64 = 0;
+    for _ in 0..times {
+        let mut bytes = Vec::new(alloc);
+        state.put(&mut bytes)?;
+        count = count.saturating_add(bytes.len() as u64);
+    }
+    Ok(count)
+}
+
+/// Reads the state so many times, and gives the bytes of all times.
+fn read_times(alloc: Global, bytes: &[u8], times: u32) -> Result<u64, AllocError> {
+    let mut count: u64 = 0;
+    for _ in 0..times {
+        if let Some((_, n)) = State::get(alloc, bytes)? {
+            count = count.saturating_add(n as u64);
+        }
+    }
+    Ok(count)
+}
+
+/// Does what the line asks for, and gives the count of bytes; None where the state can't be made.
+fn measured(alloc: Global, line: &Line) -> Option<u64> {
+    let state = state_with(alloc, line.files, line.units).ok()?;
+    match line.deed {
+        Deed::Write => write_times(alloc, &state, line.times).ok(),
+        Deed::Read => {
+            let mut bytes = Vec::new(alloc);
+            state.put(&mut bytes).ok()?;
+            read_times(alloc, bytes.as_slice(), line.times).ok()
+        }
+    }
+}
+
+/// The line that the words of the command line are, if they are one.
+fn line_of<R: AllocGlobal + Env>(rt: &R) -> Option<Line> {
+    let words: Vec<String> = env::args(rt).ok()?.collect(rt.alloc()).ok()?;
+    read_line(words.as_slice())
+}
+
+fn main(rt: HostRuntime) -> ExitCode {
+    let Some(line) = line_of(&rt) else {
+        return ExitCode::from(2);
+    };
+    let Some(count) = measured(rt.alloc(), &line) else {
+        return ExitCode::from(1);
+    };
+    match println!(&rt; "{count} bytes") {
+        Ok(()) => ExitCode::from(0),
+        Err(_) => ExitCode::from(1),
+    }
+}

@@ -1,0 +1,54 @@
+-- No number that was told absent starts: one call more keeps it.
+use Rattle.std.proofs.Common.{Option, ◌≡◌, ℕ, Bool, true, false, ◌||◌, ◌&&◌, not, cond, eqb, List, [], ◌∷◌, ◌++◌, refl, sym, subst, ◌∙◌}
+use Rattle.std.proofs.lemmas.Bool.{and_parts, eqb-true, true≢false}
+use Rattle.std.proofs.lemmas.List.{map-append}
+use Rattle.std.proofs.lemmas.List.Folds.{list_any-append}
+use Rattle.um_model.specs.Children.{Call, Spawned, Signalled, Asked, Spawn, IsFinal, has_started, was_absent, is_start, is_absence, tells_absent}
+use Rattle.um_model.specs.declared.children.Fate.{Fate}
+use Rattle.um_model.specs.declared.service.Signal.{Signal}
+use Rattle.um_children.specs.Calls.{Fits, call_of, calls_of}
+use Rattle.um_children.specs.declared.call.Call as told
+
+both : (c d : Bool) → c ≡ false → d ≡ false → (c || (d || false)) ≡ false
+both false false p q = refl
+both true d p q = absurd (true≢false p)
+both false true p q = absurd (true≢false q)
+
+joined : (a b c d : Bool) → (a ≡ true → c ≡ false) → (a ≡ true → d ≡ false) → (b ≡ true → c ≡ false) → (b ≡ true → d ≡ false) → (a || (b || false)) ≡ true → (c || (d || false)) ≡ false
+joined true b c d p q r s t = both c d (p refl) (q refl)
+joined false true c d p q r s t = both c d (r refl) (s refl)
+joined false false c d p q r s t = absurd (true≢false (sym t))
+
+not_both : (n : ℕ) (call : Call) → is_absence n call ≡ true → is_start n call ≡ false
+not_both n (Spawned spawn taken b) t = absurd (true≢false (sym t))
+not_both n (Signalled number signal) t = refl
+not_both n (Asked number claim told) t = refl
+
+final_noted : (call : Call) (calls : List Call) → IsFinal calls → Fits call calls → IsFinal (calls ++ call ∷ [])
+final_noted call calls kept fits n t =
+    list_any-append (is_start n) calls (call ∷ [])
+    ∙ joined (was_absent calls n) (is_absence n call) (has_started calls n) (is_start n call)
+    (kept n) (fits n).0 (fits n).1 (not_both n call) (sym (list_any-append (is_absence n) calls (call ∷ [])) ∙ t)
+
+pub fits_signal : (number : ℕ) (signal : Signal) (calls : List Call) → Fits (Signalled number signal) calls
+fits_signal number signal calls n = (λ _. refl, λ t. absurd (true≢false (sym t)))
+
+pub fits_asked : (number : ℕ) (claim : Bool) (told : Option Fate) (calls : List Call) → (tells_absent told ≡ true → has_started calls number ≡ false) → Fits (Asked number claim told) calls
+fits_asked number claim told calls h n = (λ _. refl, λ t. let p = and_parts _ _ t in subst (λ m. has_started calls m ≡ false) (eqb-true number n p.1) (h p.0))
+
+at_number : (number n : ℕ) (b : Bool) (calls : List Call) → (e : Bool) → eqb number n ≡ e → (b ≡ true → was_absent calls number ≡ false) → was_absent calls n ≡ true → (b && e) ≡ false
+at_number number n false calls e same h t = refl
+at_number number n true calls false same h t = refl
+at_number number n true calls true same h t = absurd (true≢false (sym t ∙ subst (λ m. was_absent calls m ≡ false) (eqb-true number n same) (h refl)))
+
+pub fits_spawn : (spawn : Spawn) (taken b : Bool) (calls : List Call) → (b ≡ true → was_absent calls spawn.number ≡ false) → Fits (Spawned spawn taken b) calls
+fits_spawn spawn taken b calls h n = (λ t. at_number spawn.number n b calls (eqb spawn.number n) refl h t, λ t. absurd (true≢false (sym t)))
+
+pub no_absence : (burns absent : Bool) → not (burns || absent) ≡ true → absent ≡ false
+no_absence true absent t = absurd (true≢false (sym t))
+no_absence false true t = absurd (true≢false (sym t))
+no_absence false false t = refl
+
+pub kept_if : (b : Bool) (call : told.Call) (calls new : List told.Call) → new ≡ cond b (calls ++ call ∷ []) calls → IsFinal (calls_of calls) → Fits (call_of call) (calls_of calls) → IsFinal (calls_of new)
+kept_if true call calls new e kept fits = subst (λ xs. IsFinal (calls_of xs)) (sym e) (subst IsFinal (sym (map-append call_of calls (call ∷ []))) (final_noted (call_of call) (calls_of calls) kept fits))
+kept_if false call calls new e kept fits = subst (λ xs. IsFinal (calls_of xs)) (sym e) kept

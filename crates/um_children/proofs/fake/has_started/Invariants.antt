@@ -1,0 +1,8 @@
+use Rattle.std.proofs.Common.{◌≡◌, drop}
+use Rattle.um_model.specs.Children.{has_started}
+use Rattle.um_children.specs.Calls.{calls_of}
+use Rattle.um_children.proofs.fake.has_started.Given as goal
+
+-- what is left of the calls decides
+abbrev pub invariant-loop-call : goal.invariant-loop-call
+invariant-loop-call l = has_started (calls_of (drop l.call-index l.calls)) l.number ≡ has_started (calls_of l.calls) l.number

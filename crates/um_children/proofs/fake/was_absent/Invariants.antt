@@ -1,0 +1,8 @@
+use Rattle.std.proofs.Common.{◌≡◌, drop}
+use Rattle.um_model.specs.Children.{was_absent}
+use Rattle.um_children.specs.Calls.{calls_of}
+use Rattle.um_children.proofs.fake.was_absent.Given as goal
+
+-- what is left of the calls decides
+abbrev pub invariant-loop-call : goal.invariant-loop-call
+invariant-loop-call l = was_absent (calls_of (drop l.call-index l.calls)) l.number ≡ was_absent (calls_of l.calls) l.number

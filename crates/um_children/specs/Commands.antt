@@ -1,0 +1,37 @@
+-- The command lines by which the manager starts a runner and signals a process.
+-- Follows sh(1) and kill(1); the runner's own words are the project's (docs/FORMATS.md, "The runner").
+-- Children through runners stand on this file.
+use Rattle.std.specs.Prelude.{◌≡◌, ◌∷◌, ◌++◌, [], List, ℕ, length, map, codes, decimal}
+use Rattle.std.specs.Borrow.{Bor}
+use Rattle.std.specs.Process.{command_program, command_args}
+use Rattle.std.specs.declared.process.command.Command.{Command}
+use Rattle.um_model.specs.Children.{Spawn}
+use Rattle.um_model.specs.declared.service.Signal.{Signal}
+use Rattle.um_model.specs.declared.service.Signal.TheVariants.{Term, Kill}
+
+-- what the shell runs: its words as a command of its own, which goes on by itself, with no stream of the manager
+abbrev pub detaching : List ℕ
+detaching = codes "\"$@\" </dev/null >/dev/null 2>&1 &"
+
+-- what the shell runs: the signal of its first word to the pid of its second
+abbrev pub signalling : List ℕ
+signalling = codes "kill -s \"$1\" \"$2\""
+
+-- the words of the runner for an order, without its program: the environment comes before the command, and is counted
+abbrev pub runner_words : List ℕ → Spawn → List (List ℕ)
+runner_words folder spawn =
+    codes "run" ∷ codes "--dir" ∷ folder ∷ codes "--number" ∷ decimal spawn.number ∷ codes "--env" ∷ decimal (length spawn.environment)
+    ∷ codes "--" ∷ (spawn.environment ++ spawn.words)
+
+-- texts that are lent
+abbrev pub lent : List (Bor (List ℕ)) → List (List ℕ)
+lent texts = map (λ text. text.now) texts
+
+-- the name of a signal as kill(1) has it
+abbrev pub signal_name : Signal → List ℕ
+signal_name Term = codes "TERM"
+signal_name Kill = codes "KILL"
+
+-- a shell that runs this text, with these words
+abbrev pub IsShell : {A : Type 0} → List ℕ → List (List ℕ) → Command A → Type 0
+IsShell text words command = (command_program command ≡ codes "sh") × (command_args command ≡ codes "-c" ∷ text ∷ codes "sh" ∷ words)

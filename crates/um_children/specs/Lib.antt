@@ -1,0 +1,5 @@
+pub mod Calls
+pub mod Commands
+pub mod Fakes
+pub mod Faults
+pub mod Standings

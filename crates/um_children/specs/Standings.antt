@@ -1,0 +1,41 @@
+-- How a number stands by the files of its runner, and what is told of it.
+-- No manual page has this: the runner's files are the project's own (docs/FORMATS.md, "The files of a process").
+-- Children through runners stand on this file.
+use Rattle.std.specs.Prelude.{ℕ, Bool, true, false, Option, Some, None, if◌then◌else◌}
+use Rattle.um_model.specs.declared.children.Fate.{Fate}
+use Rattle.um_model.specs.declared.children.Fate.TheVariants as fate
+use Rattle.um_model.specs.declared.service.Signal.{Signal}
+use Rattle.um_model.specs.declared.service.Signal.TheVariants.{Term, Kill}
+use Rattle.um_model.specs.declared.runner.Claimant.TheVariants.{Manager, Runner}
+use Rattle.um_runner.specs.declared.notes.Claiming.{Claiming}
+use Rattle.um_runner.specs.declared.notes.Claiming.TheVariants.{New, Stands}
+use Rattle.um_runner.specs.declared.notes.Told.{Told}
+use Rattle.um_runner.specs.declared.notes.Told.TheVariants.{Nothing, NoPid, Pid}
+use Rattle.um_children.specs.declared.standing.Standing.{Standing}
+use Rattle.um_children.specs.declared.standing.Standing.TheVariants.{Silent, Taken, Running, Ended, Barred}
+
+-- what is told of a number that stands so: one that the manager has claimed is absent where it is asked with a claim
+abbrev pub fate_of : Standing → Bool → Fate
+fate_of Silent claim = fate.Starting
+fate_of Taken claim = fate.Starting
+fate_of (Running pid) claim = fate.Executed
+fate_of (Ended end) claim = fate.Ended end
+fate_of Barred claim = if claim then fate.Absent else fate.Starting
+
+-- who has claimed a number decides: what the manager has claimed never starts
+abbrev pub claimed : Claiming → Standing
+claimed New = Barred
+claimed (Stands Manager) = Barred
+claimed (Stands Runner) = Taken
+
+-- what the pid file tells of a number that hasn't ended; where it isn't there the number stands as before
+abbrev pub by_pid : Told → Standing → Standing
+by_pid (Pid pid) before = Running (Some pid)
+by_pid NoPid before = Running None
+by_pid Nothing before = before
+
+-- of two signals the one that no process outlives
+abbrev pub stronger : Option Signal → Signal → Signal
+stronger (Some Kill) signal = Kill
+stronger (Some Term) signal = signal
+stronger None signal = signal

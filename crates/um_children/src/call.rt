@@ -1,0 +1,111 @@
+ghost use Rattle.std.specs.Prelude.{◌≡◌, ◌&&◌, false, IfOk, map, string_bytes};
+ghost use Rattle.um_model.specs.Children.{is_start, is_absence, tells_absent};
+ghost use Rattle.um_children.specs.Calls.{call_of};
+
+use std::alloc::{AllocError, Global};
+use um_model::{Fate, ProcessNumber, Signal};
+
+/// A call to the children.
+#[derive(Debug, Drop)]
+pub enum Call {
+    /// A start.
+    Spawned {
+        number: ProcessNumber,
+        words: Vec<String>,
+        /// `NAME=value` each.
+        environment: Vec<String>,
+        /// It was answered Ok.
+        is_taken: bool,
+        /// The process starts.
+        starts: bool,
+    },
+    Signalled {
+        number: ProcessNumber,
+        signal: Signal,
+    },
+    /// A fate that was asked.
+    Asked {
+        number: ProcessNumber,
+        claim: bool,
+        /// Nothing where the call failed.
+        told: Option<Fate>,
+    },
+}
+
+/// The texts again.
+fn copied(alloc: Global, texts: &[String]) -> Result<Vec<String>, AllocError>
+    ensures { IfOk result (λ copies. map string_bytes copies.items ≡ map string_bytes texts.now) }
+{
+    let mut copies = Vec::new(alloc);
+    for text in texts {
+        copies.push(text.clone()?)?;
+    }
+    Ok(copies)
+}
+
+/// Whether absence was told.
+fn tells_absent(told: Option<Fate>) -> bool
+    ensures { result ≡ tells_absent told }
+{
+    match told {
+        Some(Fate::Absent) => true,
+        Some(Fate::Starting) | Some(Fate::Executed) | Some(Fate::Ended(_)) | None => false,
+    }
+}
+
+impl Call {
+    /// Whether it starts the process.
+    pub fn is_start(&self, process: ProcessNumber) -> bool
+        ensures { result ≡ is_start process (call_of self.now) }
+    {
+        match self {
+            Call::Spawned { number, starts, .. } => *starts && number.get() == process.get(),
+            Call::Signalled { .. } | Call::Asked { .. } => false,
+        }
+    }
+
+    /// Whether it tells that the process is absent.
+    pub fn is_absence(&self, process: ProcessNumber) -> bool
+        ensures { result ≡ is_absence process (call_of self.now) }
+    {
+        match self {
+            Call::Asked { number, told, .. } => tells_absent(*told)
+                && number.get() == process.get(),
+            Call::Spawned { .. } | Call::Signalled { .. } => false,
+        }
+    }
+
+    /// The call again.
+    pub fn copy(&self, alloc: Global) -> Result<Call, AllocError>
+        ensures { IfOk result (λ call. call_of call ≡ call_of self.now) }
+    {
+        match self {
+            Call::Spawned {
+                number,
+                words,
+                environment,
+                is_taken,
+                starts,
+            } => Ok(Call::Spawned {
+                number: *number,
+                words: copied(alloc, words.as_slice())?,
+                environment: copied(alloc, environment.as_slice())?,
+                is_taken: *is_taken,
+                starts: *starts,
+            }),
+            Call::Signalled { number, signal } => Ok(Call::Signalled {
+                number: *number,
+                signal: *signal,
+            }),
+            Call::Asked {
+                number,
+                claim,
+                told,
+            } => Ok(Call::Asked {
+                number: *number,
+                claim: *claim,
+                told: *told,
+            }),
+        }
+    }
+}

@@ -1,0 +1,52 @@
+ghost use Rattle.std.specs.Prelude.{◌≡◌, ℕ, List, Bool, IsTrue, false, IfOk};
+ghost use Rattle.um_model.specs.Children.{Call, Spawns, Signals, Asks, IsFinal, is_absent};
+ghost use Rattle.um_children.specs.Faults.{CountsFault, KeepsWhole};
+
+use crate::fault::ChildFault;
+use um_keeper::SpawnOrder;
+use um_model::{Fate, ProcessNumber, Signal};
+
+/// The processes of a manager, each under its number. What they do is told by one history of calls.
+///
+/// The clauses on the history stand under `honest`, and under `whole`, since children that keep their history may find no memory for a
+/// call. Those on counts always stand. A call that isn't done answers `NoMemory` where a growth was refused, and `Device` where the
+/// children failed: then, and only then, the count of failures rises by one, up to the last value of a `u64`.
+pub trait Children {
+    /// The calls, the oldest first.
+    ghost past: { Self → List Call };
+
+    /// No call is missing from the history.
+    ghost whole: { Self → Bool };
+
+    /// How many calls failed.
+    ghost failures: { Self → ℕ };
+
+    /// They do what they answer.
+    ghost honest: { Self → Bool };
+
+    /// Starts the process of an order. At Err it may have started all the same; no order is asked twice, so whether it did is told by
+    /// its fate under a claim.
+    fn spawn(&mut self, order: SpawnOrder) -> Result<(), ChildFault>
+        ensures past { IsTrue (honest self.old) → IsTrue (whole self.new) → Spawns order result (past self.old) (past self.new) }
+        ensures whole { KeepsWhole result (whole self.old) (whole self.new) }
+        ensures failures { CountsFault result (failures self.old) (failures self.new) }
+        ensures honest { honest self.new ≡ honest self.old };
+
+    /// Signals the process of a number. One that isn't there gets none, and that is no failure.
+    fn signal(&mut self, number: ProcessNumber, signal: Signal) -> Result<(), ChildFault>
+        ensures past { IsTrue (honest self.old) → IsTrue (whole self.new) → Signals number signal (past self.old) (past self.new) }
+        ensures whole { KeepsWhole result (whole self.old) (whole self.new) }
+        ensures failures { CountsFault result (failures self.old) (failures self.new) }
+        ensures honest { honest self.new ≡ honest self.old };
+
+    /// What became of the process of a number. With a claim one that hasn't started never will, and is told to be absent.
+    fn fate(&mut self, number: ProcessNumber, claim: bool) -> Result<Fate, ChildFault>
+        ensures past { IsTrue (honest self.old) → IsTrue (whole self.new) → Asks number claim result (past self.old) (past self.new) }
+        ensures claim { claim ≡ false → IfOk result (λ fate. is_absent fate ≡ false) }
+        ensures whole { KeepsWhole result (whole self.old) (whole self.new) }
+        ensures failures { CountsFault result (failures self.old) (failures self.new) }
+        ensures honest { honest self.new ≡ honest self.old };
+
+    /// A number that was told to be absent never starts.
+    ghost absence_is_final: { (children : Self) → IsTrue (honest children) → IsFinal (past children) };
+}

@@ -1,0 +1,88 @@
+//! The command lines that the manager runs: one that starts a runner, and one that signals a process.
+
+ghost use Rattle.std.specs.Prelude.{◌≡◌, ◌∷◌, ◌++◌, [], List, ℕ, map, codes, decimal, string_bytes, IfOk, OnOk};
+ghost use Rattle.std.specs.Process.{command_program, command_args};
+ghost use Rattle.um_children.specs.Commands.{IsShell, lent, detaching, signalling, runner_words, signal_name};
+
+use std::alloc::{AllocError, Global};
+use std::process::Command;
+use um_keeper::SpawnOrder;
+use um_model::Signal;
+
+/// Its words become a command of its own, with no stream of the manager; nobody waits for it.
+const DETACHING: &str = "\"$@\" </dev/null >/dev/null 2>&1 &";
+
+const SIGNALLING: &str = "kill -s \"$1\" \"$2\"";
+
+/// Adds the words.
+fn add(command: &mut Command, words: &[&str]) -> Result<(), AllocError>
+    ensures program { OnOk result (command_program command.new ≡ command_program command.old) }
+    ensures args { OnOk result (command_args command.new ≡ command_args command.old ++ lent words.now) }
+{
+    for word in words {
+        command.arg(*word)?;
+    }
+    Ok(())
+}
+
+/// Adds the texts.
+fn add_texts(command: &mut Command, texts: &[String]) -> Result<(), AllocError>
+    ensures program { OnOk result (command_program command.new ≡ command_program command.old) }
+    ensures args { OnOk result (command_args command.new ≡ command_args command.old ++ map string_bytes texts.now) }
+{
+    for text in texts {
+        command.arg(text.as_str())?;
+    }
+    Ok(())
+}
+
+/// A shell that runs the text, with these words.
+fn shell(alloc: Global, text: &str, words: &[&str]) -> Result<Command, AllocError>
+    ensures { IfOk result (IsShell text.now (lent words.now)) }
+{
+    let mut command = Command::new(alloc, "sh")?;
+    add(&mut command, &["-c", text, "sh"])?;
+    add(&mut command, words)?;
+    Ok(command)
+}
+
+/// The command that starts the runner at `program` for an order, in the folder.
+pub fn start_command(
+    alloc: Global,
+    program: &str,
+    folder: &str,
+    order: &SpawnOrder,
+) -> Result<Command, AllocError>
+    ensures { IfOk result (IsShell detaching (program.now ∷ runner_words folder.now order.now)) }
+{
+    let number = order.number().get();
+    let number = format!(in alloc; "{number}")?;
+    let count = order.environment().len();
+    let count = format!(in alloc; "{count}")?;
+    let mut command = shell(alloc, DETACHING, &[program, "run", "--dir", folder])?;
+    add(
+        &mut command,
+        &["--number", number.as_str(), "--env", count.as_str(), "--"],
+    )?;
+    add_texts(&mut command, order.environment())?;
+    add_texts(&mut command, order.words())?;
+    Ok(command)
+}
+
+/// The name of the signal as kill(1) has it.
+fn signal_name(signal: Signal) -> &'static str
+    ensures { result.now ≡ signal_name signal }
+{
+    match signal {
+        Signal::Term => "TERM",
+        Signal::Kill => "KILL",
+    }
+}
+
+/// The command that sends the signal to the pid.
+pub fn signal_command(alloc: Global, signal: Signal, pid: u32) -> Result<Command, AllocError>
+    ensures { IfOk result (IsShell signalling (signal_name signal ∷ decimal pid ∷ [])) }
+{
+    let pid = format!(in alloc; "{pid}")?;
+    shell(alloc, SIGNALLING, &[signal_name(signal), pid.as_str()])
+}

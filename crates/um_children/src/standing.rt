@@ -1,0 +1,96 @@
+//! How a number stands by the files of its runner.
+
+ghost use Rattle.std.specs.Prelude.{◌≡◌, false};
+ghost use Rattle.um_children.specs.Standings.{by_pid, claimed, fate_of, stronger};
+ghost use Rattle.um_model.specs.Children.{is_absent};
+
+use um_model::{Claimant, End, Fate, Signal};
+use um_runner::{Claiming, Told};
+
+/// How a number stands.
+#[derive(Clone, Copy, Debug, PartialEq, Eq)]
+pub enum Standing {
+    /// No file tells anything.
+    Silent,
+    /// A runner has claimed it, and hasn't told more.
+    Taken,
+    /// Its program was executed, under this pid; none where the pid file tells none, and no signal can reach it.
+    Running(Option<u32>),
+    Ended(End),
+    /// The manager has claimed it: it never starts.
+    Barred,
+}
+
+/// What is known of a number.
+#[derive(Clone, Copy, Debug, PartialEq, Eq)]
+pub struct Known {
+    pub standing: Standing,
+    /// A signal that waits for the pid.
+    pub kept: Option<Signal>,
+    /// How often the folder had changed when its files were read; None where they weren't.
+    pub changes: Option<u64>,
+}
+
+impl Known {
+    /// What is known of a number that nobody asked for.
+    pub fn nothing() -> Known {
+        Known {
+            standing: Standing::Silent,
+            kept: None,
+            changes: None,
+        }
+    }
+}
+
+impl Standing {
+    /// How a number stands after the manager tried to claim it.
+    pub fn claimed(claiming: Claiming) -> Standing
+        ensures { result ≡ claimed claiming }
+    {
+        match claiming {
+            Claiming::New | Claiming::Stands(Claimant::Manager) => Standing::Barred,
+            Claiming::Stands(Claimant::Runner) => Standing::Taken,
+        }
+    }
+
+    /// How it stands by its pid file, where it hasn't ended.
+    pub fn by_pid(self, told: Told) -> Standing
+        ensures { result ≡ by_pid told self }
+    {
+        match told {
+            Told::Pid(pid) => Standing::Running(Some(pid)),
+            Told::NoPid => Standing::Running(None),
+            Told::Nothing => self,
+        }
+    }
+
+    /// What is told of a number that stands so.
+    pub fn fate(self, claim: bool) -> Fate
+        ensures { result ≡ fate_of self claim }
+    {
+        match self {
+            Standing::Silent | Standing::Taken => Fate::Starting,
+            Standing::Running(_) => Fate::Executed,
+            Standing::Ended(end) => Fate::Ended(end),
+            Standing::Barred => if claim { Fate::Absent } else { Fate::Starting },
+        }
+    }
+
+    /// Whether no file can change it any more.
+    pub fn is_final(self) -> bool {
+        match self {
+            Standing::Ended(_) | Standing::Barred => true,
+            Standing::Silent | Standing::Taken | Standing::Running(_) => false,
+        }
+    }
+}
+
+/// Of a signal that is kept and another one the stronger.
+pub fn stronger(kept: Option<Signal>, signal: Signal) -> Signal
+    ensures { result ≡ stronger kept signal }
+{
+    match kept {
+        Some(Signal::Kill) => Signal::Kill,
+        Some(Signal::Term) | None => signal,
+    }
+}

@@ -1,0 +1,71 @@
+-- What refuses a step is never of a store; and what a state needs to be served, by the tree that was loaded for it.
+use Rattle.std.proofs.Common.{◌≡◌, ◌≢◌, ◌⊎◌, inl, inr, ℕ, ◌≤◌, false, refl, sym, subst, arith}
+use Rattle.um_model.specs.Machine.{State, Command, CausesOfLoad, IsTooHeavy}
+use Rattle.um_model.specs.Refusals.{Refused}
+use Rattle.um_model.specs.Servable.{IsServable}
+use Rattle.um_model.specs.Tree.{Tree}
+use Rattle.um_model.proofs.RefusesLaws.{IsOfCommand, refused_of_command, no_room_of_command}
+use Rattle.um_model.proofs.ServableLaws.{loads_servable, refused_unservable}
+use Rattle.um_wire.specs.Refusal.{refused_of}
+use Rattle.um_wire.specs.declared.refusal.Refusal.{Refusal}
+use Rattle.um_wire.specs.declared.refusal.Refusal.TheVariants as refusal
+use Rattle.um_wire.specs.declared.refusal.Refusal.TheVariants.{NoMemory}
+use Rattle.um_engine.specs.OfStore.{is_of_store}
+use Rattle.um_engine.specs.Planned.{Declines, for_cause, for_room}
+
+-- ---- numbers
+
+declined_of_command : (size t : ℕ) (s : State) (command : Command) (r : Refused) → Declines size t s command r → IsOfCommand r
+declined_of_command size t s command r (for_cause h) = refused_of_command s command r h
+declined_of_command size t s command _ (for_room takes heavy) = no_room_of_command
+
+between : (n : ℕ) → (n ≤ 14) ⊎ (n ≡ 21) → 15 ≤ n → n ≤ 20 → ⊥
+between n (inl low) least most = omega (arith, low, least)
+between n (inr is) least most = omega (arith, is, most)
+
+beyond : (n : ℕ) → (n ≤ 14) ⊎ (n ≡ 21) → 22 ≤ n → ⊥
+beyond n (inl low) least = omega (arith, low, least)
+beyond n (inr is) least = omega (arith, is, least)
+
+-- a refusal with the number of a command's, but for want of memory, is of no store
+of_no_store : (e : Refusal) → (e ≢ NoMemory → IsOfCommand (refused_of e)) → is_of_store e ≡ false
+of_no_store refusal.BadRequest of = refl
+of_no_store (refusal.UnknownVerb verb) of = refl
+of_no_store (refusal.BadName text) of = refl
+of_no_store (refusal.NotFound unit) of = refl
+of_no_store (refusal.Masked unit) of = refl
+of_no_store (refusal.BadSetting unit reason) of = refl
+of_no_store (refusal.NotLoaded unit) of = refl
+of_no_store (refusal.Clash unit) of = refl
+of_no_store (refusal.OrderingCycle units) of = refl
+of_no_store (refusal.JobConflict unit) of = refl
+of_no_store (refusal.Exists path) of = refl
+of_no_store (refusal.BadPath path) of = refl
+of_no_store (refusal.TooLarge limit) of = refl
+of_no_store refusal.NoRoom of = refl
+of_no_store refusal.NoMemory of = refl
+of_no_store refusal.Device of = absurd (between 16 (of (λ e. cc)) (omega arith) (omega arith))
+of_no_store refusal.Reopen of = absurd (between 17 (of (λ e. cc)) (omega arith) (omega arith))
+of_no_store (refusal.Damaged sector) of = absurd (between 18 (of (λ e. cc)) (omega arith) (omega arith))
+of_no_store refusal.NotFormatted of = absurd (between 19 (of (λ e. cc)) (omega arith) (omega arith))
+of_no_store refusal.GenerationsSpent of = absurd (between 20 (of (λ e. cc)) (omega arith) (omega arith))
+of_no_store (refusal.NoSuchJob unit) of = refl
+of_no_store refusal.OtherLayout of = absurd (beyond 22 (of (λ e. cc)) (omega arith))
+
+pub declined_of_no_store : (size t : ℕ) (s : State) (command : Command) (e : Refusal) → (e ≢ NoMemory → Declines size t s command (refused_of e)) → is_of_store e ≡ false
+declined_of_no_store size t s command e declines = of_no_store e (λ differs. declined_of_command size t s command (refused_of e) (declines differs))
+
+pub memory_of_no_store : (e : Refusal) → e ≡ NoMemory → is_of_store e ≡ false
+memory_of_no_store e is = subst (λ x. is_of_store x ≡ false) (sym is) refl
+
+-- ---- a state that is served
+
+pub served_servable : (size : ℕ) (s v : State) (tree : Tree) → tree ≡ s.loaded → ((r : Refused) → ¬ CausesOfLoad s tree r) → v ≡ s → ¬ IsTooHeavy size v → IsServable size s
+served_servable size s v tree is none same light =
+    loads_servable size s (subst (λ t. (r : Refused) → ¬ CausesOfLoad s t r) is none) (subst (λ u. ¬ IsTooHeavy size u) same light)
+
+pub load_unservable : (size : ℕ) (s : State) (tree : Tree) (e : Refusal) → tree ≡ s.loaded → (e ≢ NoMemory → CausesOfLoad s tree (refused_of e)) → e ≢ NoMemory → ¬ IsServable size s
+load_unservable size s tree e is causes differs = refused_unservable size s (refused_of e) (subst (λ t. CausesOfLoad s t (refused_of e)) is (causes differs))
+
+pub heavy_unservable : (size : ℕ) (s v : State) → v ≡ s → IsTooHeavy size v → ¬ IsServable size s
+heavy_unservable size s v same heavy held = held.light (subst (IsTooHeavy size) same heavy)

@@ -1,0 +1,41 @@
+use Rattle.std.proofs.Common.{◌≢◌, Contains, sym, subst, rules}
+use Rattle.um_model.specs.Machine.{State, IsCrowded, IsHeld}
+use Rattle.um_model.specs.Refusals.{at_first}
+use Rattle.um_model.specs.Servable.{IsServable}
+use Rattle.um_state.specs.View.{state_of}
+use Rattle.um_wire.specs.declared.refusal.Refusal.TheVariants.{NoMemory}
+use Rattle.um_engine.specs.Known.{IsGraphFor, KnownView, KnowsFor}
+use Rattle.um_engine.proofs.OnlyLaws.{served_servable, load_unservable, heavy_unservable}
+use Rattle.um_engine.proofs.engine.servable.Goals as goal
+
+pub with-served-requires-clause-knows : goal.with-served-requires-clause-knows
+with-served-requires-clause-knows c =
+    let s = state_of c.args.state in
+    let known = c.in_ok-known.known in
+    let made = subst (λ tree. IsGraphFor tree (Contains known.extra) known.graph) c.loaded.ensures c.in_ok-known.ensures.made in
+    let knows : KnowsFor known s = record { made = made; held = c.in_ok-known.ensures.held } in
+    subst (λ (k : KnownView). KnowsFor k s) (sym c.in_ok-known-2.ensures.ok) knows
+
+pub with-served-requires-clause-few : goal.with-served-requires-clause-few
+with-served-requires-clause-few c =
+    let s = state_of c.args.state in
+    λ r crowded. c.in_ok-known.ensures.refused r (at_first (subst (λ tree. IsCrowded tree (IsHeld s) r) (sym c.loaded.ensures) crowded))
+
+pub returns-in_err-known-clause-refused : goal.returns-in_err-known-clause-refused
+returns-in_err-known-clause-refused c =
+    let s = state_of c.args.state in
+    let step : c.in_err-known.field-0.0 ≢ NoMemory → ¬ IsServable c.args.size s =
+    load_unservable c.args.size s c.loaded.result.now c.in_err-known.field-0.0 c.loaded.ensures c.in_err-known.ensures.refused in
+    search (rules, step)
+
+pub returns-in_err-check_room-clause-refused : goal.returns-in_err-check_room-clause-refused
+returns-in_err-check_room-clause-refused c =
+    let s = state_of c.args.state in
+    let step : c.in_err-check_room.field-0.0 ≢ NoMemory → ¬ IsServable c.args.size s =
+    λ differs. heavy_unservable c.args.size s c.with-served.result.state c.with-served.ensures.state (c.in_err-check_room.ensures.refused differs).1 in
+    search (rules, step, c.from_residual-in_err-check_room.ensures)
+
+pub returns-clause-servable : goal.returns-clause-servable
+returns-clause-servable c =
+    let s = state_of c.args.state in
+    served_servable c.args.size s c.with-served.result.state c.loaded.result.now c.loaded.ensures c.in_ok-known.ensures.refused c.with-served.ensures.state c.in_ok-check_room.ensures.room

@@ -1,0 +1,5 @@
+use Rattle.um_model.proofs.WholeLaws.{spelled_room}
+use Rattle.um_engine.proofs.laws.the_bytes_of_a_state_have_room.Goals as goal
+
+pub returns : goal.returns
+returns c = spelled_room

@@ -1,0 +1,118 @@
+-- The files by which a runner tells the manager of a process, and what a runner does.
+-- Follows wait(2) in codes, signals and pids; the files are this project's own (docs/FORMATS.md, "The files of a process").
+-- The runner and the manager's children stand on this file, and the laws in proofs/RunnerLaws.
+use Rattle.std.specs.Prelude.{ℕ, ◌<◌, ◌^◌, Bool, true, false, ◌&&◌, ◌==◌, if◌then◌else◌, List, [], ◌∷◌, ◌++◌, reverse, find}
+use Rattle.std.specs.Prelude.{Option, Some, None, option_map, codes, decimal, bytes_eq}
+use Rattle.std.specs.List.{before_first, after_first}
+use Rattle.um_model.specs.declared.runner.Claimant.{Claimant}
+use Rattle.um_model.specs.declared.runner.Claimant.TheVariants.{Manager, Runner}
+use Rattle.um_model.specs.declared.runner.RunnerFile.{RunnerFile}
+use Rattle.um_model.specs.declared.runner.RunnerFile.TheVariants.{Claim, Pid, Status, ManagerDraft, RunnerDraft, PidDraft, StatusDraft}
+use Rattle.um_model.specs.declared.service.End.{End}
+use Rattle.um_model.specs.declared.service.End.TheVariants.{Code, Signal, Lost}
+
+-- ---- names
+
+-- what the name of a file has behind the number
+abbrev pub ending_of : RunnerFile → List ℕ
+ending_of Claim = codes ".claim"
+ending_of Pid = codes ".pid"
+ending_of Status = codes ".status"
+ending_of ManagerDraft = codes ".claim.manager"
+ending_of RunnerDraft = codes ".claim.runner"
+ending_of PidDraft = codes ".pid.new"
+ending_of StatusDraft = codes ".status.new"
+
+-- the name of a file of this process number
+abbrev pub file_name : ℕ → RunnerFile → List ℕ
+file_name number file = decimal number ++ ending_of file
+
+-- its path, where the folder is this one
+abbrev pub file_path : List ℕ → ℕ → RunnerFile → List ℕ
+file_path folder number file = folder ++ (codes "/" ++ file_name number file)
+
+-- ---- texts
+
+-- the text of a claim
+abbrev pub claim_text : Claimant → List ℕ
+claim_text Manager = codes "manager\n"
+claim_text Runner = codes "runner\n"
+
+-- whose a claim is: with any text but the manager's it is a runner's
+abbrev pub claimant_of : List ℕ → Claimant
+claimant_of text = if bytes_eq text (claim_text Manager) then Manager else Runner
+
+-- the text for a pid
+abbrev pub pid_text : ℕ → List ℕ
+pid_text pid = decimal pid ++ codes "\n"
+
+-- pids are below this: no greater number is one of wait(2)
+abbrev pub pid_limit : ℕ
+pid_limit = 2 ^ 31
+
+-- the text tells this pid
+pub data IsPid : List ℕ → ℕ → Type 0 where
+  pid : (n : ℕ) → 0 < n → n < pid_limit → IsPid (pid_text n) n
+
+-- the text for an end; an end that nobody can tell has nothing
+abbrev pub status_text : End → List ℕ
+status_text (Code code) = codes "code " ++ (decimal code ++ codes "\n")
+status_text (Signal number) = codes "signal " ++ (decimal number ++ codes "\n")
+status_text Lost = []
+
+-- the text tells this end: by a code or a signal, each below 256
+pub data IsStatus : List ℕ → End → Type 0 where
+  exited : (code : ℕ) → code < 256 → IsStatus (status_text (Code code)) (Code code)
+  killed : (number : ℕ) → number < 256 → IsStatus (status_text (Signal number)) (Signal number)
+
+-- the end that a status file tells: nobody can tell it where the text is of another form
+pub data TellsEnd (text : List ℕ) : End → Type 0 where
+  told : {end : End} → IsStatus text end → TellsEnd text end
+  odd : ((end : End) → IsStatus text end → ⊥) → TellsEnd text Lost
+
+-- ---- the environment
+
+abbrev pub is_entry_sign : ℕ → Bool
+is_entry_sign b = b == 61
+
+-- the value that the entries NAME=value set the variable to: of equal names the later counts
+abbrev pub entry_value : List (List ℕ) → List ℕ → Option (List ℕ)
+entry_value entries name =
+    option_map (λ entry. after_first is_entry_sign entry) (find (λ entry. bytes_eq (before_first is_entry_sign entry) name) (reverse entries))
+
+-- ---- the life of a runner
+
+-- what came of claiming a number: it is this runner's, somebody's claim stood there, or the folder refused it
+pub data Claimed : Type 0 where
+  Ours : Claimed
+  Taken : Claimed
+  Refused : Claimed
+
+-- what a runner does, with what the system answers
+pub data Deed : Type 0 where
+  -- the number is claimed
+  Claims : (claimed : Claimed) → Deed
+  -- the words are started as a command, with these entries set over the runner's own environment; there is a pid where that went well
+  Starts : (words entries : List (List ℕ)) (pid : Option ℕ) → Deed
+  -- a file is given this text, whole; or the folder refuses it
+  Writes : (file : RunnerFile) (text : List ℕ) (is_done : Bool) → Deed
+  -- the process is waited for
+  Waits : (end : End) → Deed
+
+-- a command that can't be executed ends so
+abbrev pub not_executed : End
+not_executed = Code 203
+
+-- the whole life of a runner for these words and entries, and whether the folder took all that was to be told
+pub data Life (words entries : List (List ℕ)) : List Deed → Bool → Type 0 where
+  -- somebody has the number: nothing is started
+  yields : Life words entries (Claims Taken ∷ []) true
+  -- nobody may start what can't be claimed
+  fails : Life words entries (Claims Refused ∷ []) false
+  -- the command can't be executed: there is no pid
+  refuses : (told : Bool) → Life words entries (Claims Ours ∷ Starts words entries None ∷ Writes Status (status_text not_executed) told ∷ []) told
+  -- the command runs, and its end is told behind its pid, also where the pid couldn't be
+  runs : (pid : ℕ) (end : End) (told_pid told : Bool)
+      → Life words entries
+          (Claims Ours ∷ Starts words entries (Some pid) ∷ Writes Pid (pid_text pid) told_pid ∷ Waits end ∷ Writes Status (status_text end) told ∷ [])
+          (told_pid && told)

@@ -1,0 +1,4 @@
+mod Entries
+mod Numerals
+mod Lines
+mod Living

@@ -1,0 +1,11 @@
+use Rattle.std.proofs.Common.{◌≡◌, ◌++◌, map, take, string_bytes}
+use Rattle.std.specs.Process.{command_args, command_program, SameEnv}
+use Rattle.um_runner.proofs.job.add_arguments.Given as goal
+
+-- the arguments so far are added
+abbrev pub invariant-loop-argument : goal.invariant-loop-argument
+invariant-loop-argument l = record {
+  arguments : command_args l.command ≡ command_args l.initial.command ++ map string_bytes (take l.argument-index l.arguments);
+  program : command_program l.command ≡ command_program l.initial.command;
+  environment : SameEnv l.initial.command l.command;
+}

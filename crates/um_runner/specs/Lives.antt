@@ -1,0 +1,18 @@
+-- The life of a runner in what its host notes.
+-- The contracts of Host and run cite it.
+use Rattle.std.specs.Prelude.{◌≡◌, ℕ, Bool, true, false, List, ◌++◌, Result, Ok, Err}
+use Rattle.std.specs.Result.{is_ok}
+use Rattle.um_model.specs.Runner.{Claimed, Ours, Taken, Refused, Deed, Life}
+
+-- what came of claiming, by the answer
+abbrev pub claimed_when : Bool → Claimed
+claimed_when true = Ours
+claimed_when false = Taken
+
+abbrev pub claimed_of : {E : Type 0} → Result Bool E → Claimed
+claimed_of (Ok is_new) = claimed_when is_new
+claimed_of (Err e) = Refused
+
+-- behind what was noted before, a whole life is noted
+abbrev pub LivesOn : (words entries : List (List ℕ)) → List Deed → List Deed → Bool → Type 0
+LivesOn words entries before after told = (deeds : List Deed) × (after ≡ before ++ deeds) × Life words entries deeds told

@@ -1,0 +1,45 @@
+ghost use Rattle.std.specs.Prelude.{◌≡◌, ◌∷◌, ◌++◌, [], List, Bool, IsTrue, is_ok};
+ghost use Rattle.um_model.specs.Runner.{Deed, Claims, Starts, Writes, Waits, pid_text, status_text};
+ghost use Rattle.um_model.specs.declared.runner.RunnerFile.TheVariants as files;
+ghost use Rattle.um_runner.specs.Jobs.{words_of, entries_of};
+ghost use Rattle.um_runner.specs.Lives.{claimed_of};
+
+use crate::fault::FolderFault;
+use crate::job::Job;
+use um_model::End;
+
+/// What a runner does things with: its folder and its process. Each call is a deed with what was answered.
+///
+/// What a real folder holds and what a real process does no contract can say, so the clauses stand under `honest`.
+pub trait Host {
+    /// The deeds, in order.
+    ghost past: { Self → List Deed };
+
+    /// It does what it answers.
+    ghost honest: { Self → Bool };
+
+    /// Claims the number for this runner. False where somebody has claimed it; an error where the folder refuses it.
+    fn claim(&mut self) -> Result<bool, FolderFault>
+        ensures past { IsTrue (honest self.old) → past self.new ≡ past self.old ++ Claims (claimed_of result) ∷ [] }
+        ensures honest { honest self.new ≡ honest self.old };
+
+    /// Starts the job as a process, and gives its pid; None where it can't be executed.
+    fn start(&mut self, job: &Job<'_>) -> Option<u32>
+        ensures past { IsTrue (honest self.old) → past self.new ≡ past self.old ++ Starts (words_of job.now) (entries_of job.now) result ∷ [] }
+        ensures honest { honest self.new ≡ honest self.old };
+
+    /// Writes the pid file, whole or not at all.
+    fn write_pid(&mut self, pid: u32) -> Result<(), FolderFault>
+        ensures past { IsTrue (honest self.old) → past self.new ≡ past self.old ++ Writes files.Pid (pid_text pid) (is_ok result) ∷ [] }
+        ensures honest { honest self.new ≡ honest self.old };
+
+    /// Waits until the process has ended, and tells how; `End::Lost` where nobody can tell.
+    fn wait(&mut self) -> End
+        ensures past { IsTrue (honest self.old) → past self.new ≡ past self.old ++ Waits result ∷ [] }
+        ensures honest { honest self.new ≡ honest self.old };
+
+    /// Writes the status file, whole or not at all.
+    fn write_status(&mut self, end: End) -> Result<(), FolderFault>
+        ensures past { IsTrue (honest self.old) → past self.new ≡ past self.old ++ Writes files.Status (status_text end) (is_ok result) ∷ [] }
+        ensures honest { honest self.new ≡ honest self.old };
+}

@@ -1,0 +1,25 @@
+//! The files by which a runner tells the manager of a process, and the runner: each text has one reading, and a runner's life
+//! is a claim, a start, a pid, a wait and a status, or a beginning of it where somebody has the number or the folder fails.
+#![tactic(auto)]
+
+mod fault;
+mod files;
+mod folder;
+mod host;
+mod job;
+mod laws;
+mod life;
+mod notes;
+mod paths;
+mod texts;
+
+pub use fault::FolderFault;
+pub use folder::Folder;
+pub use host::Host;
+pub use job::Job;
+pub use laws::{a_text_has_one_reading, no_path_leads_out};
+pub use life::run;
+pub use notes::{Claiming, Told, claim, pid_in, status_in};
+pub use paths::{file_name, file_path};
+pub use texts::{pid_text, read_claim, read_pid, read_status, status_text};
+pub use um_model::{Claimant, End, ProcessNumber, RunnerFile};

@@ -1,0 +1,84 @@
+//! What the files of a process number tell.
+
+use crate::fault::FolderFault;
+use crate::files::{create_file, read_file};
+use crate::texts::{read_claim, read_pid, read_status};
+use std::alloc::Global;
+use std::fs::Files;
+use um_model::{Claimant, End, ProcessNumber, RunnerFile};
+
+/// What came of claiming a number.
+#[derive(Clone, Copy, Debug, PartialEq, Eq)]
+pub enum Claiming {
+    /// The claim is new: nobody else can have the number.
+    New,
+    /// It stood there, and is this one's.
+    Stands(Claimant),
+}
+
+/// What a pid file tells.
+#[derive(Clone, Copy, Debug, PartialEq, Eq)]
+pub enum Told {
+    /// It isn't there: the process isn't known to run.
+    Nothing,
+    /// It tells no pid: the process was started, and no signal can reach it.
+    NoPid,
+    Pid(u32),
+}
+
+/// Claims the number for this one. A claim that stands there is left as it was, and read.
+///
+/// `NoMemory` where memory is wanting, before the folder is touched; `System` where the folder can't be written or read. No claim
+/// is there then, but where it was made and couldn't be read.
+pub fn claim<R: Files>(
+    rt: &R,
+    alloc: Global,
+    folder: &str,
+    number: ProcessNumber,
+    claimant: Claimant,
+) -> Result<Claiming, FolderFault> {
+    let draft = match claimant {
+        Claimant::Manager => RunnerFile::ManagerDraft,
+        Claimant::Runner => RunnerFile::RunnerDraft,
+    };
+    let files = (RunnerFile::Claim, draft);
+    if create_file(rt, alloc, folder, number, files, claimant.text())? {
+        return Ok(Claiming::New);
+    }
+    let claimant = match read_file(rt, alloc, folder, number, RunnerFile::Claim)? {
+        Some(beginning) => read_claim(beginning.bytes()),
+        // It stood there a moment ago, and nobody removes a claim.
+        None => Claimant::Runner,
+    };
+    Ok(Claiming::Stands(claimant))
+}
+
+/// How the process ended, by its status file: `End::Lost` where the file tells no end, and None where there is no file.
+///
+/// `NoMemory` where memory is wanting, `System` where the system refuses the file.
+pub fn status_in<R: Files>(
+    rt: &R,
+    alloc: Global,
+    folder: &str,
+    number: ProcessNumber,
+) -> Result<Option<End>, FolderFault> {
+    let Some(beginning) = read_file(rt, alloc, folder, number, RunnerFile::Status)? else {
+        return Ok(None);
+    };
+    Ok(Some(read_status(beginning.bytes()).unwrap_or(End::Lost)))
+}
+
+/// What the pid file tells.
+///
+/// `NoMemory` where memory is wanting, `System` where the system refuses the file.
+pub fn pid_in<R: Files>(
+    rt: &R,
+    alloc: Global,
+    folder: &str,
+    number: ProcessNumber,
+) -> Result<Told, FolderFault> {
+    let Some(beginning) = read_file(rt, alloc, folder, number, RunnerFile::Pid)? else {
+        return Ok(Told::Nothing);
+    };
+    Ok(read_pid(beginning.bytes()).map_or(Told::NoPid, Told::Pid))
+}
