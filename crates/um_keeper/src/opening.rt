@@ -1,11 +1,11 @@
-ghost use Rattle.std.specs.Prelude.{◌≡◌, ◌⊎◌, ◌↔◌, ◌+◌, ◌-◌, ◌^◌, ◌<◌, ◌≤◌, Ok, None, IfOk, IfErr, IfSome, OnOk, IsTrue};
+ghost use Rattle.std.specs.Prelude.{◌≡◌, ◌⊎◌, ◌↔◌, ◌+◌, ◌-◌, ◌^◌, ◌<◌, ◌≤◌, Ok, None, false, IfOk, IfErr, IfSome, OnOk, IsTrue};
 ghost use Rattle.std.specs.Option.{option_map};
 ghost use Rattle.um_engine.specs.Engine.{state_in, size_in};
 ghost use Rattle.um_keeper.specs.Keeping.{Keeps};
 ghost use Rattle.um_keeper.specs.Opening.{HasLayout, IsStart, Leads, Replays, IsNoInput, IsUnread, IsTakenUp, IsKept, IsSomeStore, IsAsBefore};
 ghost use Rattle.um_log.specs.Reading.{bytes_of, places_of};
 ghost use Rattle.um_model.specs.Bytes.{nothing_left};
-ghost use Rattle.um_model.specs.Disk.{seen, Images, IsSettled, During};
+ghost use Rattle.um_model.specs.Disk.{seen, one_more, Images, IsSettled, During};
 ghost use Rattle.um_model.specs.InputSpellings.{input_at, FitInput};
 ghost use Rattle.um_model.specs.Machine as model;
 ghost use Rattle.um_model.specs.Servable.{IsServable};
@@ -15,6 +15,7 @@ ghost use Rattle.um_model.specs.declared.layout.Layout as declared;
 ghost use Rattle.um_sector.specs.Refused.{CountsDevice, IsLost};
 ghost use Rattle.um_state.specs.View.{state_of, input_of};
 
+use crate::keeper::Keeper;
 use std::alloc::{AllocError, Global};
 use um_engine::Engine;
 use um_log::{Log, Record, first_later, scan};
@@ -227,4 +228,38 @@ pub(crate) fn recover<D: Disk>(alloc: Global, disk: &mut D) -> Result<Held, Refu
     disk.sync()?;
     let found = take_up(alloc, disk)?;
     renew(alloc, disk, found)
+}
+
+impl<D: Disk> Keeper<D> {
+    /// Opens the store that a disk holds: it syncs, takes up what is read, and writes the state as the next generation into the other
+    /// slot, before anything is accepted. A refusal hands the disk back.
+    ///
+    /// E19 where there is no sector 0, or it doesn't begin as that of a store; E22 where it is of another format. E18 with sector 0
+    /// where it tells no layout for which the disk has room; with sector 1 where no slot has a header; with the newest body's first
+    /// sector where it spells no state that the store may hold; with a record's first sector where it spells no input; with a sector of
+    /// the log that is of a later generation than the newest header's. E20 where that generation is the last one. All of these come
+    /// before anything is written. E15; E16 where a disk call fails.
+    pub fn open(alloc: Global, mut disk: D) -> Result<Keeper<D>, (Refusal, D)>
+        ensures during { IfOk result (λ k. IsTrue (D.honest disk) → (layout : declared.Layout) → Images (D.past disk) (IsSomeStore layout)
+            → During (D.past disk) (D.past k.disk) (IsAsBefore layout (D.past disk))) }
+        ensures during_err { IfErr result (λ e. IsTrue (D.honest disk) → (layout : declared.Layout) → Images (D.past disk) (IsSomeStore layout)
+            → During (D.past disk) (D.past e.1) (IsAsBefore layout (D.past disk))) }
+        ensures ok { IfOk result (λ k. (k.failed ≡ false) × (k.log.number ≡ 0) × (D.honest k.disk ≡ D.honest disk) × (D.size k.disk ≡ D.size disk)) }
+        ensures err { IfErr result (λ e. IsLost e.0 ⊎ (IsTrue (D.honest disk) → IsUnread (D.size disk) (seen (D.past disk)) e.0)) }
+        ensures device { IfErr result (λ e. ((e.0 ≡ Refusal.Device) × (D.failures e.1 ≡ one_more (D.failures disk))) ⊎ ((¬ (e.0 ≡ Refusal.Device)) × (D.failures e.1 ≡ D.failures disk))) }
+        ensures quiet { IfOk result (λ k. D.failures k.disk ≡ D.failures disk) }
+        ensures back { IfErr result (λ e. (D.size e.1 ≡ D.size disk) × (D.honest e.1 ≡ D.honest disk)) }
+    {
+        match recover(alloc, &mut disk) {
+            Ok(held) => Ok(Keeper {
+                alloc,
+                disk,
+                engine: held.engine,
+                home: held.home,
+                log: held.log,
+                failed: false,
+            }),
+            Err(refusal) => Err((refusal, disk)),
+        }
+    }
 }
