@@ -1,5 +1,6 @@
 -- What refuses a step is never of a store; and what a state needs to be served, by the tree that was loaded for it.
-use Rattle.std.proofs.Common.{◌≡◌, ◌≢◌, ◌⊎◌, inl, inr, ℕ, ◌≤◌, false, refl, sym, subst, arith}
+use Rattle.std.proofs.Common.{◌≡◌, ◌≢◌, ◌⊎◌, inl, inr, ℕ, ◌≤◌, false, Result, Ok, Err, refl, sym, subst, arith}
+use Rattle.std.specs.Prelude.{IsErrAnd, IfErr}
 use Rattle.um_model.specs.Machine.{State, Command, CausesOfLoad, IsTooHeavy}
 use Rattle.um_model.specs.Refusals.{Refused}
 use Rattle.um_model.specs.Servable.{IsServable}
@@ -69,3 +70,9 @@ load_unservable size s tree e is causes differs = refused_unservable size s (ref
 
 pub heavy_unservable : (size : ℕ) (s v : State) → v ≡ s → IsTooHeavy size v → ¬ IsServable size s
 heavy_unservable size s v same heavy held = held.light (subst (IsTooHeavy size) same heavy)
+
+-- a call that hands on a refusal refuses an unservable state
+pub unservable_is : {X : Type 0} (size : ℕ) (s : State) (result : Result X Refusal) (e : Refusal) → IsErrAnd result (λ f. f ≡ e) → (e ≢ NoMemory → ¬ IsServable size s)
+    → IfErr result (λ f. f ≢ NoMemory → ¬ IsServable size s)
+unservable_is size s (Ok done) e h step = absurd h
+unservable_is size s (Err f) e h step = subst (λ g. g ≢ NoMemory → ¬ IsServable size s) (sym h) step

@@ -4,4 +4,6 @@
 #[cfg(test)]
 mod answers;
 #[cfg(test)]
+mod opening;
+#[cfg(test)]
 mod submitting;

@@ -5,7 +5,7 @@ use Rattle.um_model.specs.Servable.{IsServable}
 use Rattle.um_state.specs.View.{state_of}
 use Rattle.um_wire.specs.declared.refusal.Refusal.TheVariants.{NoMemory}
 use Rattle.um_engine.specs.Known.{IsGraphFor, KnownView, KnowsFor}
-use Rattle.um_engine.proofs.OnlyLaws.{served_servable, load_unservable, heavy_unservable}
+use Rattle.um_engine.proofs.OnlyLaws.{served_servable, load_unservable, heavy_unservable, unservable_is}
 use Rattle.um_engine.proofs.engine.servable.Goals as goal
 
 pub with-served-requires-clause-knows : goal.with-served-requires-clause-knows
@@ -33,7 +33,7 @@ returns-in_err-check_room-clause-refused c =
     let s = state_of c.args.state in
     let step : c.in_err-check_room.field-0.0 ≢ NoMemory → ¬ IsServable c.args.size s =
     λ differs. heavy_unservable c.args.size s c.with-served.result.state c.with-served.ensures.state (c.in_err-check_room.ensures.refused differs).1 in
-    search (rules, step, c.from_residual-in_err-check_room.ensures)
+    unservable_is c.args.size s c.from_residual-in_err-check_room.result c.in_err-check_room.field-0.0 c.from_residual-in_err-check_room.ensures.1 step
 
 pub returns-clause-servable : goal.returns-clause-servable
 returns-clause-servable c =
