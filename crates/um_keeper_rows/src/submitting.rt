@@ -131,7 +131,11 @@ fn a_full_log_makes_a_checkpoint_first(rt: HostRuntime) {
 #[test]
 fn a_text_past_the_store_is_refused_without_a_disk_call(rt: HostRuntime) {
     let mut keeper = opened(&rt, 0);
-    is_refused(&rt, keeper.submit(&put_long(&rt, 31_956)).map(starts), Some("E14 NoRoom"));
+    is_refused(
+        &rt,
+        keeper.submit(&put_long(&rt, 31_956)).map(starts),
+        Some("E14 NoRoom"),
+    );
     let before = opened(&rt, 0).into_disk().calls();
     same(&rt, keeper.into_disk().calls(), before);
     let mut keeper = opened(&rt, 0);
@@ -159,7 +163,11 @@ fn a_failed_checkpoint_wants_the_store_opened_again(rt: HostRuntime) {
     let mut keeper = opened(&rt, fails);
     is_refused(&rt, keeper.checkpoint(), Some("E16 Device"));
     is_refused(&rt, keeper.checkpoint(), Some("E17 Reopen"));
-    is_refused(&rt, keeper.submit(&put(&rt, "")).map(starts), Some("E17 Reopen"));
+    is_refused(
+        &rt,
+        keeper.submit(&put(&rt, "")).map(starts),
+        Some("E17 Reopen"),
+    );
     let again = over(&rt, keeper.into_disk());
     same(&rt, again.state().clock(), at(&rt, 0));
 }
@@ -194,7 +202,11 @@ fn a_record_in_the_place_of_a_torn_one_counts_alone(rt: HostRuntime) {
     take(&rt, &mut keeper, &put_long_at(&rt, "lib/b.service", 450));
     let again = over(&rt, keeper.into_disk());
     same(&rt, again.state().tree().len(), 1);
-    same(&rt, again.state().tree().get("lib/b.service").is_some(), true);
+    same(
+        &rt,
+        again.state().tree().get("lib/b.service").is_some(),
+        true,
+    );
 }
 
 /// How many disk calls the record of a file of so many bytes takes.

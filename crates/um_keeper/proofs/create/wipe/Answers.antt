@@ -43,9 +43,9 @@ returns-clause-ok g c =
     let p3 = g.D.Disk.past c.write_blank-3.new.disk in
     ok_from c.write_blank-3.result
     (λ laid h zero.
-        let h1 = c.write_blank.ensures.honest ∙ h in
-        wiped c.args.layout (seen p0) (seen p1) (seen p2) (seen p3) zero
-        (subst (λ (n : ℕ). IsLaid (seen p0) n (replicate 1 blank) (seen p1)) c.slot_start.ensures (c.in_ok-write_blank.ensures.ok h))
-        (subst (λ (n : ℕ). IsLaid (seen p1) n (replicate 1 blank) (seen p2)) c.slot_start-2.ensures (c.in_ok-write_blank-2.ensures.ok h1))
-        (subst (λ (n : ℕ). IsLaid (seen p2) n (replicate c.args.layout.log_sectors blank) (seen p3)) c.log_start.ensures (laid (c.write_blank-2.ensures.honest ∙ h1))))
+    let h1 = c.write_blank.ensures.honest ∙ h in
+    wiped c.args.layout (seen p0) (seen p1) (seen p2) (seen p3) zero
+    (subst (λ (n : ℕ). IsLaid (seen p0) n (replicate 1 blank) (seen p1)) c.slot_start.ensures (c.in_ok-write_blank.ensures.ok h))
+    (subst (λ (n : ℕ). IsLaid (seen p1) n (replicate 1 blank) (seen p2)) c.slot_start-2.ensures (c.in_ok-write_blank-2.ensures.ok h1))
+    (subst (λ (n : ℕ). IsLaid (seen p2) n (replicate c.args.layout.log_sectors blank) (seen p3)) c.log_start.ensures (laid (c.write_blank-2.ensures.honest ∙ h1))))
     c.write_blank-3.ensures.ok
