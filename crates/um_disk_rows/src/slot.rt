@@ -2,7 +2,7 @@
 use crate::answers::{change, changed, filled, is_refused, same, same_at, sector_at};
 use std::process::Abort;
 use um_sector::{Disk, Fuse, MemDisk};
-use um_slot::{Home, Layout, Slot, newest, read_superblock, superblock, write_first, write_other};
+use um_slot::{Body, Home, Layout, Slot, newest, read_superblock, superblock, write_first, write_other};
 
 /// Slots of 64 sectors, a log of 512.
 fn small(rt: &impl Abort) -> Layout {
@@ -39,7 +39,10 @@ fn empty(rt: &(impl AllocGlobal + Abort)) -> MemDisk {
 /// A disk with generation 1 in slot A: a body of 37 bytes.
 fn first(rt: &(impl AllocGlobal + Abort)) -> MemDisk {
     let mut disk = empty(rt);
-    let written = write_first(rt.alloc(), &mut disk, small(rt), &[7; 37]).expect(rt, "refused");
+    let mut bytes = Vec::new(rt.alloc());
+    bytes.extend_from_slice(&[7; 37]).expect(rt, "no memory");
+    let body = Body::new(rt.alloc(), bytes).expect(rt, "no memory");
+    let written = write_first(&mut disk, small(rt), &body).expect(rt, "refused");
     same(rt, written, Some(A1));
     disk
 }
@@ -200,7 +203,8 @@ fn a_body_has_up_to_32_256_bytes(rt: HostRuntime) {
 fn a_first_body_too_long_is_not_written(rt: HostRuntime) {
     let long = vec![in rt.alloc(); 8u8; 32_257].expect(&rt, "no memory");
     let mut disk = empty(&rt);
-    let written = write_first(rt.alloc(), &mut disk, small(&rt), &long);
+    let body = Body::new(rt.alloc(), long).expect(&rt, "no memory");
+    let written = write_first(&mut disk, small(&rt), &body);
     same(&rt, written.expect(&rt, "refused"), None);
     same(&rt, disk.syncs(), 0);
     has_none(&rt, &mut disk);

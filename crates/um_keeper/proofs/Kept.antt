@@ -61,26 +61,26 @@ module _ {past : Past} {sectors : ℕ} {layout : Layout} {slot : Slot} {generati
 
   with_contents : (c : Contents) → contents_of layout (seen past) ≡ Some c → HasContents layout (seen past) c → Unpacked past layout slot generation number next s
   with_contents c is h = record {
-      body = h.body;
-      start = c.start;
-      inputs = c.inputs;
-      goes_on = record {
-        store = λ image at. record {
-          first = k.first image at;
-          newest = (newest_some layout image (record { slot = slot; generation = generation; body = h.body })).0
-              (k.newest image at ∙ newest_there c (k.home c is).0 (k.home c is).1 h);
-          records_are = subst (HasRecords layout generation image) (k.records image at) (records_are layout generation image);
-          none_later = k.none_later image at;
-        };
-        end = λ image at. record { count = k.count; place = k.place; within = k.within; free = k.free image at };
+    body = h.body;
+    start = c.start;
+    inputs = c.inputs;
+    goes_on = record {
+      store = λ image at. record {
+        first = k.first image at;
+        newest = (newest_some layout image (record { slot = slot; generation = generation; body = h.body })).0
+            (k.newest image at ∙ newest_there c (k.home c is).0 (k.home c is).1 h);
+        records_are = subst (HasRecords layout generation image) (k.records image at) (records_are layout generation image);
+        none_later = k.none_later image at;
       };
-      comes = record {
-        start_is = h.start_is;
-        inputs_are = subst (λ g. inputs_of (records_of layout g (seen past)) ≡ Some c.inputs) (k.home c is).1 h.inputs_are;
-        servable = k.start c is;
-        run = run_to (k.run c is);
-      };
-    }
+      end = λ image at. record { count = k.count; place = k.place; within = k.within; free = k.free image at };
+    };
+    comes = record {
+      start_is = h.start_is;
+      inputs_are = subst (λ g. inputs_of (records_of layout g (seen past)) ≡ Some c.inputs) (k.home c is).1 h.inputs_are;
+      servable = k.start c is;
+      run = run_to (k.run c is);
+    };
+  }
 
   pub unpacked : Unpacked past layout slot generation number next s
   unpacked =
@@ -105,20 +105,20 @@ pub packed : {past : Past} {sectors : ℕ} {layout : Layout} {slot : Slot} {gene
     {start : State} {inputs : List Input} → IsImage past (seen past) → GoesOn layout past slot generation body records number next
     → ComesTo (body_limit layout) body records start inputs s → log_end layout generation ≤ sectors → Keeps past sectors layout slot generation number next s
 packed {past} {sectors} {layout} {slot} {generation} {number} {next} {s} {body} {records} {start} {inputs} is whole comes on_disk = record {
-    first = λ image at. (whole.store image at).first;
-    newest = λ image at. newest_told (whole.store image at) ∙ sym (newest_told (whole.store (seen past) is));
-    records = λ image at. records_told (whole.store image at) ∙ sym there;
-    none_later = λ image at. (whole.store image at).none_later;
-    free = λ image at. (whole.end image at).free;
-    holds = ap is_some told;
-    home = λ c e. let same = same_Some c (contents slot generation start inputs) (sym e ∙ told) in (ap (λ (d : Contents). d.slot) same, ap (λ (d : Contents). d.generation) same);
-    start = λ c e. subst (λ (d : Contents). IsServable (body_limit layout) d.start) (same_Some (contents slot generation start inputs) c (sym told ∙ e)) comes.servable;
-    run = λ c e. subst (λ (d : Contents). (t : State) → Run (body_limit layout) d.start d.inputs t → t ≡ s) (same_Some (contents slot generation start inputs) c (sym told ∙ e)) (only_end comes.run);
-    count = (whole.end (seen past) is).count ∙ ap length (sym there);
-    place = (whole.end (seen past) is).place ∙ ap (λ rs. log_start layout generation + sectors_of rs) (sym there);
-    within = (whole.end (seen past) is).within;
-    on_disk = on_disk;
-  }
+  first = λ image at. (whole.store image at).first;
+  newest = λ image at. newest_told (whole.store image at) ∙ sym (newest_told (whole.store (seen past) is));
+  records = λ image at. records_told (whole.store image at) ∙ sym there;
+  none_later = λ image at. (whole.store image at).none_later;
+  free = λ image at. (whole.end image at).free;
+  holds = ap is_some told;
+  home = λ c e. let same = same_Some c (contents slot generation start inputs) (sym e ∙ told) in (ap (λ (d : Contents). d.slot) same, ap (λ (d : Contents). d.generation) same);
+  start = λ c e. subst (λ (d : Contents). IsServable (body_limit layout) d.start) (same_Some (contents slot generation start inputs) c (sym told ∙ e)) comes.servable;
+  run = λ c e. subst (λ (d : Contents). (t : State) → Run (body_limit layout) d.start d.inputs t → t ≡ s) (same_Some (contents slot generation start inputs) c (sym told ∙ e)) (only_end comes.run);
+  count = (whole.end (seen past) is).count ∙ ap length (sym there);
+  place = (whole.end (seen past) is).place ∙ ap (λ rs. log_start layout generation + sectors_of rs) (sym there);
+  within = (whole.end (seen past) is).within;
+  on_disk = on_disk;
+}
   where
     there : records_of layout generation (seen past) ≡ records
     there = records_told (whole.store (seen past) is)
@@ -161,14 +161,14 @@ module _ {past : Past} {sectors : ℕ} {layout : Layout} {slot : Slot} {generati
     ready = subst (λ g. GoesOn layout past slot g (unpacked k).body (records_of layout generation (seen past)) number next) (sym same) (unpacked k).goes_on
 
     pub during_begun : {new : Past} → ((slot : Slot) (body : List ℕ) (records : List (List ℕ)) → GoesOn layout past slot of body records number next
-            → During past new (EitherRecord layout slot of body records bytes)) → During past new (IsBegun layout s (input ∷ []))
+        → During past new (EitherRecord layout slot of body records bytes)) → During past new (IsBegun layout s (input ∷ []))
     during_begun {new} written = weaker past new _ _ either_begun
         (subst (λ g. During past new (EitherRecord layout slot g (unpacked k).body (records_of layout generation (seen past)) (input_spelling input))) same
         (subst (λ b. During past new (EitherRecord layout slot of (unpacked k).body (records_of layout generation (seen past)) b)) is
         (written slot (unpacked k).body (records_of layout generation (seen past)) ready)))
 
     pub kept_recorded : {new : Past} {l : Layout} {later_of later further : ℕ} → ((slot : Slot) (body : List ℕ) (records : List (List ℕ)) → GoesOn layout past slot of body records number next
-            → GoesOn l new slot later_of body (records ++ bytes ∷ []) later further)
+        → GoesOn l new slot later_of body (records ++ bytes ∷ []) later further)
         → IsImage new (seen new) → l ≡ layout → later_of ≡ of → Keeps new sectors l slot generation later further t
     kept_recorded {new} {l} {later_of} {later} {further} written image on_layout of_generation =
         subst (λ (z : Layout). Keeps new sectors z slot generation later further t) (sym on_layout) (recorded image

@@ -1,1 +1,4 @@
 pub mod Kept
+mod Reopening
+mod Results
+mod Wiping

@@ -44,8 +44,7 @@ pub struct Keeper<D: Disk> {
     ghost same: { log.generation ≡ home.generation },
     ghost holds: { MayHold log.layout (machine.size_in engine) (machine.state_in engine) },
     ghost kept: { failed ≡ false → IsTrue (D.honest disk)
-        → Keeps (D.past disk) (D.size disk) log.layout home.slot home.generation log.number log.next (machine.state_in engine) }
-        by { Prim.hlevel (props, codes, maps.code, tree_code) },
+        → Keeps (D.past disk) (D.size disk) log.layout home.slot home.generation log.number log.next (machine.state_in engine) } by { Prim.hlevel (props, codes, maps.code, tree_code) },
 }
 
 /// The bytes of an input.

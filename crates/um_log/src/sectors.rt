@@ -6,7 +6,7 @@ use std::alloc::{AllocError, Global};
 use um_sector::{Fields, Sector, next_chunk};
 
 /// The first bytes of a sector of the log.
-const FORMAT: &[u8] = b"UMLG";
+pub const FORMAT: &[u8] = b"UMLG";
 
 /// The byte of a sector of the log at which the length of its record begins, in four bytes.
 pub const SIZE_AT: usize = 28;

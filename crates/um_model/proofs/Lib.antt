@@ -54,9 +54,9 @@ pub mod SpellingRows
 pub mod TransitionLaws
 pub mod StoreLaws
 pub mod LogLaws
+pub mod ImageLaws
 pub mod StandsLaws
 pub mod LivesLaws
-pub mod ImageLaws
 pub mod SpelledLaws
 pub mod FitOnceLaws
 pub mod UnreadLaws

@@ -1,7 +1,8 @@
-ghost use Rattle.std.specs.Prelude.{◌≡◌, ◌≤◌, ◌<◌, ℕ, [], length, IfOk, slice_index_or};
+ghost use Rattle.std.specs.Prelude.{◌≡◌, ◌≤◌, ◌<◌, ℕ, List, [], length, IfOk, slice_index_or};
 ghost use Rattle.um_model.specs.Store.{filled, body_sector, sector_count};
 
 use std::alloc::{AllocError, Global};
+use std::marker::Model;
 use um_sector::{Fields, SECTOR_BYTES, Sector, next_chunk};
 
 /// A sector of these bytes.
@@ -27,4 +28,43 @@ pub fn body_sectors(alloc: Global, body: &[u8]) -> Result<Vec<Sector>, AllocErro
         rest = behind;
     }
     Ok(run)
+}
+
+/// A body with its sectors, made before anything is written: to write it takes no more memory.
+#[derive(Drop)]
+pub struct Body {
+    bytes: Vec<u8>,
+    run: Vec<Sector>,
+}
+
+impl Model for Body {
+    ghost Value = { List ℕ };
+
+    ghost view = { λ b. b.bytes.items };
+
+    ghost invariant = { λ b. (length b.run.items ≡ sector_count (length b.bytes.items))
+        × ((i : ℕ) → i < length b.run.items → slice_index_or b.run.items i [] ≡ body_sector b.bytes.items i) };
+}
+
+impl Body {
+    /// The body of these bytes.
+    pub fn new(alloc: Global, bytes: Vec<u8>) -> Result<Body, AllocError>
+        ensures { IfOk result (λ body. body ≡ bytes.items) }
+    {
+        let run = body_sectors(alloc, &bytes)?;
+        Ok(Body { bytes, run })
+    }
+
+    pub(crate) fn bytes(&self) -> &[u8]
+        ensures { result.now ≡ self.now }
+    {
+        &self.bytes
+    }
+
+    pub(crate) fn run(&self) -> &[Sector]
+        ensures count { length result.now ≡ sector_count (length self.now) }
+        ensures each { (i : ℕ) → i < length result.now → slice_index_or result.now i [] ≡ body_sector self.now i }
+    {
+        &self.run
+    }
 }

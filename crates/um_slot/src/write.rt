@@ -1,42 +1,41 @@
-ghost use Rattle.std.specs.Prelude.{◌≡◌, ◌⊎◌, ◌↔◌, ◌+◌, ◌-◌, ◌<◌, ◌≤◌, ◌^◌, ℕ, List, [], length, Ok, Err, Some, None, IfOk, IfErr, IfSome, OnOk, IsErrOf, IsTrue};
+ghost use Rattle.std.specs.Prelude.{◌≡◌, ◌⊎◌, ◌↔◌, ◌+◌, ◌-◌, ◌<◌, ◌≤◌, ◌^◌, ℕ, List, [], length, Ok, Err, Some, None, IfOk, IfErr, IfSome, OnOk, IsTrue, slice_index_or};
 ghost use Rattle.um_model.specs.Disk.{Sector, seen, Images, During, IsSettled};
-ghost use Rattle.um_model.specs.Store.{other, body_limit, log_start, sector_count, HasNoHeader, IsNewest, IsSnapshot, MaybeSnapshot, AfterSnapshot, IsFree, IsStore, IsStoreOf, GoesOn, EitherSnapshot};
+ghost use Rattle.um_model.specs.Store.{other, body_limit, log_start, sector_count, body_sector, HasNoHeader, IsNewest, IsSnapshot, MaybeSnapshot, AfterSnapshot, IsFree, IsStore, IsStoreOf, GoesOn, EitherSnapshot};
 ghost use Rattle.um_model.specs.declared.layout.Slot.TheVariants.{A};
 ghost use Rattle.um_sector.specs.Refused.{CountsDevice, IsLost};
 
 use crate::header::{Home, header_sector};
-use crate::sectors::body_sectors;
+use crate::sectors::{Body, body_sectors};
 use std::alloc::Global;
 use um_model::{Layout, Slot};
 use um_sector::{Disk, Sector, write_run_synced};
 use um_wire::Refusal;
 
-/// Writes a body into a slot and syncs, then its header, and syncs.
+/// Writes the sectors of a body into a slot and syncs, then its header, and syncs.
 fn write_slot<D: Disk>(
-    alloc: Global,
     disk: &mut D,
     layout: Layout,
-    slot: Slot,
-    generation: u64,
+    to: Home,
     body: &[u8],
+    run: &[Sector],
 ) -> Result<(), Refusal>
-    requires { length body.now ≤ body_limit layout }
-    ensures during { IsTrue (D.honest disk.old) → During (D.past disk.old) (D.past disk.new) (AfterSnapshot layout (D.past disk.old) slot generation body.now) }
-    ensures written { OnOk result (IsTrue (D.honest disk.old) → IsSnapshot layout (seen (D.past disk.new)) slot generation body.now) }
-    ensures beside { OnOk result (IsTrue (D.honest disk.old) → MaybeSnapshot layout (seen (D.past disk.old)) slot generation body.now (seen (D.past disk.new))) }
+    requires count { length run.now ≡ sector_count (length body.now) }
+    requires each { (i : ℕ) → i < length run.now → slice_index_or run.now i [] ≡ body_sector body.now i }
+    requires fits { length body.now ≤ body_limit layout }
+    ensures during { IsTrue (D.honest disk.old) → During (D.past disk.old) (D.past disk.new) (AfterSnapshot layout (D.past disk.old) to.slot to.generation body.now) }
+    ensures written { OnOk result (IsTrue (D.honest disk.old) → IsSnapshot layout (seen (D.past disk.new)) to.slot to.generation body.now) }
+    ensures beside { OnOk result (IsTrue (D.honest disk.old) → MaybeSnapshot layout (seen (D.past disk.old)) to.slot to.generation body.now (seen (D.past disk.new))) }
     ensures settled { OnOk result (IsTrue (D.honest disk.old) → IsSettled (D.past disk.new)) }
-    ensures kept { IsErrOf result Refusal.NoMemory → disk.new ≡ disk.old }
     ensures calls { D.calls disk.new ≤ D.calls disk.old + sector_count (length body.now) + 3 }
     ensures failures { CountsDevice result (D.failures disk.old) (D.failures disk.new) }
-    ensures lost { IfErr result IsLost }
+    ensures lost { IfErr result (λ e. e ≡ Refusal.Device) }
     ensures size { D.size disk.new ≡ D.size disk.old }
     ensures honest { D.honest disk.new ≡ D.honest disk.old }
 {
-    let run = body_sectors(alloc, body)?;
-    let start = layout.slot_start(slot);
-    write_run_synced(disk, start + 1, &run)?;
+    let start = layout.slot_start(to.slot);
+    write_run_synced(disk, start + 1, run)?;
     // The body is on the disk before a header names it.
-    let header: [Sector; 1] = [header_sector(generation, body.len() as u64)];
+    let header: [Sector; 1] = [header_sector(to.generation, body.len() as u64)];
     write_run_synced(disk, start, &header)?;
     Ok(())
 }
@@ -83,7 +82,8 @@ pub fn write_other<D: Disk>(
         slot: home.slot.other(),
         generation: home.generation + 1,
     };
-    write_slot(alloc, disk, layout, to.slot, to.generation, body)?;
+    let run = body_sectors(alloc, body)?;
+    write_slot(disk, layout, to, body, &run)?;
     Ok(Some(to))
 }
 
@@ -93,12 +93,11 @@ pub fn write_other<D: Disk>(
 /// Where each image has the same sector 0, no image that a crash leaves meanwhile has another. After Ok, where a read gave no
 /// header and no sector of the log before, the body is the newest and the log is free.
 ///
-/// E15, with nothing written; E16 where a disk call fails. It makes at most three disk calls more than the body has sectors.
+/// E16 where a disk call fails: it takes no memory. It makes at most three disk calls more than the body has sectors.
 pub fn write_first<D: Disk>(
-    alloc: Global,
     disk: &mut D,
     layout: Layout,
-    body: &[u8],
+    body: &Body,
 ) -> Result<Option<Home>, Refusal>
     ensures during { IsTrue (D.honest disk.old) → (first : Sector) → Images (D.past disk.old) (λ image. image 0 ≡ first)
         → During (D.past disk.old) (D.past disk.new) (λ image. image 0 ≡ first) }
@@ -108,20 +107,20 @@ pub fn write_first<D: Disk>(
     ensures home { IfOk result (λ to. IfSome to (λ home. (home.slot ≡ A) × (home.generation ≡ 1))) }
     ensures long { (result ≡ Ok None) ↔ (body_limit layout < length body.now) }
     ensures unwritten { result ≡ Ok None → disk.new ≡ disk.old }
-    ensures kept { IfErr result (λ e. (e ≡ Refusal.Device) ⊎ (disk.new ≡ disk.old)) }
     ensures calls { D.calls disk.new ≤ D.calls disk.old + sector_count (length body.now) + 3 }
     ensures failures { CountsDevice result (D.failures disk.old) (D.failures disk.new) }
-    ensures err { IfErr result IsLost }
+    ensures err { IfErr result (λ e. e ≡ Refusal.Device) }
     ensures size { D.size disk.new ≡ D.size disk.old }
     ensures honest { D.honest disk.new ≡ D.honest disk.old }
 {
-    if body.len() > layout.body_limit() {
+    let content = body.bytes();
+    if content.len() > layout.body_limit() {
         return Ok(None);
     }
     let home = Home {
         slot: Slot::A,
         generation: 1,
     };
-    write_slot(alloc, disk, layout, home.slot, home.generation, body)?;
+    write_slot(disk, layout, home, content, body.run())?;
     Ok(Some(home))
 }

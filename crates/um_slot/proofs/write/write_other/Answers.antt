@@ -12,6 +12,9 @@ returns-then-home-eq18446744073709551615-clause-during g c h before stores = bef
 pub returns-then-body-body_limit-clause-during : goal.returns-then-body-body_limit-clause-during
 returns-then-body-body_limit-clause-during g c h before stores = before_other (g.D.Disk.past c.args.disk.now) stores c.args.body.now
 
+pub returns-in_err-run-clause-during : goal.returns-in_err-run-clause-during
+returns-in_err-run-clause-during g c h before stores = before_other (g.D.Disk.past c.args.disk.now) stores c.args.body.now
+
 pub returns-in_err-write_slot-clause-during : goal.returns-in_err-write_slot-clause-during
 returns-in_err-write_slot-clause-during g c h before stores =
     let old = g.D.Disk.past c.args.disk.now in

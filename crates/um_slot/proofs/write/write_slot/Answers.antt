@@ -1,15 +1,12 @@
 use Rattle.std.specs.Prelude.{List, ℕ, [], ◌∷◌, ◌+◌, ◌≡◌}
-use Rattle.std.proofs.Common.{◌∙◌, ap, subst}
+use Rattle.std.proofs.Common.{◌∙◌, refl, ap, subst}
 use Rattle.um_model.specs.Disk.{Sector, seen, During, IsLaid, MaybeLaid, AfterRun}
-use Rattle.um_slot.proofs.Writing.{before_snapshot, both_runs, header_done, done_maybe}
+use Rattle.um_slot.proofs.Writing.{both_runs, header_done, done_maybe}
 use Rattle.um_slot.proofs.write.write_slot.Goals as goal
 
 -- what a run at a place says, of the same run at the same place
 abbrev moved : (P : ℕ → List Sector → Type 0) {at to : ℕ} {run items : List Sector} → at ≡ to → run ≡ items → P at run → P to items
 moved P {at} {to} {run} {items} is_at is_run p = subst (P to) is_run (subst (λ n. P n run) is_at p)
-
-pub returns-in_err-run-clause-during : goal.returns-in_err-run-clause-during
-returns-in_err-run-clause-during g c h = before_snapshot c.args.layout (g.D.Disk.past c.args.disk.now) c.args.slot c.args.generation c.args.body.now
 
 pub returns-in_err-write_run_synced-2-clause-during : goal.returns-in_err-write_run_synced-2-clause-during
 returns-in_err-write_run_synced-2-clause-during g c h =
@@ -17,10 +14,9 @@ returns-in_err-write_run_synced-2-clause-during g c h =
     let mid = g.D.Disk.past c.write_run_synced.new.disk in
     let new = g.D.Disk.past c.write_run_synced-2.new.disk in
     let start = c.slot_start-start.ensures in
-    let run = c.deref.ensures.value in
-    both_runs c.args.layout c.args.slot c.args.generation c.args.body.now c.in_ok-run.run'.items c.in_ok-run.ensures.count c.in_ok-run.ensures.each c.requires old mid new (g.met.D.Disk.seen_is_image c.args.disk.now h)
-    (moved (λ n r. During old mid (AfterRun old (n + 1) r)) start run (c.write_run_synced.ensures.during h))
-    (moved (λ n r. IsLaid (seen old) (n + 1) r (seen mid)) start run (c.in_ok-write_run_synced.ensures.ok h))
+    both_runs c.args.layout c.args.to.slot c.args.to.generation c.args.body.now c.args.run.now c.requires.count c.requires.each c.requires.fits old mid new (g.met.D.Disk.seen_is_image c.args.disk.now h)
+    (moved (λ n r. During old mid (AfterRun old (n + 1) r)) start refl (c.write_run_synced.ensures.during h))
+    (moved (λ n r. IsLaid (seen old) (n + 1) r (seen mid)) start refl (c.in_ok-write_run_synced.ensures.ok h))
     (moved (λ n r. During mid new (MaybeLaid (seen mid) n r)) start (ap (λ (s : Sector). s ∷ []) c.header_sector.ensures)
     (c.write_run_synced-2.ensures.settled_during (c.write_run_synced.ensures.honest ∙ h) (c.in_ok-write_run_synced.ensures.settled h)))
 
@@ -30,10 +26,9 @@ returns-clause-during g c h =
     let mid = g.D.Disk.past c.write_run_synced.new.disk in
     let new = g.D.Disk.past c.write_run_synced-2.new.disk in
     let start = c.slot_start-start.ensures in
-    let run = c.deref.ensures.value in
-    both_runs c.args.layout c.args.slot c.args.generation c.args.body.now c.in_ok-run.run'.items c.in_ok-run.ensures.count c.in_ok-run.ensures.each c.requires old mid new (g.met.D.Disk.seen_is_image c.args.disk.now h)
-    (moved (λ n r. During old mid (AfterRun old (n + 1) r)) start run (c.write_run_synced.ensures.during h))
-    (moved (λ n r. IsLaid (seen old) (n + 1) r (seen mid)) start run (c.in_ok-write_run_synced.ensures.ok h))
+    both_runs c.args.layout c.args.to.slot c.args.to.generation c.args.body.now c.args.run.now c.requires.count c.requires.each c.requires.fits old mid new (g.met.D.Disk.seen_is_image c.args.disk.now h)
+    (moved (λ n r. During old mid (AfterRun old (n + 1) r)) start refl (c.write_run_synced.ensures.during h))
+    (moved (λ n r. IsLaid (seen old) (n + 1) r (seen mid)) start refl (c.in_ok-write_run_synced.ensures.ok h))
     (moved (λ n r. During mid new (MaybeLaid (seen mid) n r)) start (ap (λ (s : Sector). s ∷ []) c.header_sector.ensures)
     (c.write_run_synced-2.ensures.settled_during (c.write_run_synced.ensures.honest ∙ h) (c.in_ok-write_run_synced.ensures.settled h)))
 
@@ -42,8 +37,8 @@ returns-clause-written g c h =
     let old = g.D.Disk.past c.args.disk.now in
     let mid = g.D.Disk.past c.write_run_synced.new.disk in
     let new = g.D.Disk.past c.write_run_synced-2.new.disk in
-    header_done c.args.layout c.args.slot c.args.generation c.args.body.now c.in_ok-run.run'.items c.in_ok-run.ensures.count c.in_ok-run.ensures.each c.requires (seen old) (seen mid)
-    (moved (λ n r. IsLaid (seen old) (n + 1) r (seen mid)) c.slot_start-start.ensures c.deref.ensures.value (c.in_ok-write_run_synced.ensures.ok h)) (seen new)
+    header_done c.args.layout c.args.to.slot c.args.to.generation c.args.body.now c.args.run.now c.requires.count c.requires.each c.requires.fits (seen old) (seen mid)
+    (moved (λ n r. IsLaid (seen old) (n + 1) r (seen mid)) c.slot_start-start.ensures refl (c.in_ok-write_run_synced.ensures.ok h)) (seen new)
     (moved (λ n r. IsLaid (seen mid) n r (seen new)) c.slot_start-start.ensures (ap (λ (s : Sector). s ∷ []) c.header_sector.ensures) (c.in_ok-write_run_synced-2.ensures.ok (c.write_run_synced.ensures.honest ∙ h)))
 
 pub returns-clause-beside : goal.returns-clause-beside
@@ -51,6 +46,6 @@ returns-clause-beside g c h =
     let old = g.D.Disk.past c.args.disk.now in
     let mid = g.D.Disk.past c.write_run_synced.new.disk in
     let new = g.D.Disk.past c.write_run_synced-2.new.disk in
-    done_maybe c.args.layout c.args.slot c.args.generation c.args.body.now c.in_ok-run.run'.items c.in_ok-run.ensures.count c.in_ok-run.ensures.each c.requires (seen old) (seen mid)
-    (moved (λ n r. IsLaid (seen old) (n + 1) r (seen mid)) c.slot_start-start.ensures c.deref.ensures.value (c.in_ok-write_run_synced.ensures.ok h)) (seen new)
+    done_maybe c.args.layout c.args.to.slot c.args.to.generation c.args.body.now c.args.run.now c.requires.count c.requires.each c.requires.fits (seen old) (seen mid)
+    (moved (λ n r. IsLaid (seen old) (n + 1) r (seen mid)) c.slot_start-start.ensures refl (c.in_ok-write_run_synced.ensures.ok h)) (seen new)
     (moved (λ n r. IsLaid (seen mid) n r (seen new)) c.slot_start-start.ensures (ap (λ (s : Sector). s ∷ []) c.header_sector.ensures) (c.in_ok-write_run_synced-2.ensures.ok (c.write_run_synced.ensures.honest ∙ h)))
