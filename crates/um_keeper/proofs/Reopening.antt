@@ -13,7 +13,7 @@ use Rattle.um_model.specs.Servable.{IsServable}
 use Rattle.um_model.specs.InputSpellings.{input_at, FitInput}
 use Rattle.um_model.specs.StateSpellings.{state_at, state_spelling, FitState}
 use Rattle.um_model.specs.Stands.{contents_of, inputs_of, IsStoreOf}
-use Rattle.um_model.specs.Store.{store_name, store_format, superblock, body_limit, log_start, log_end, store_sectors, other, records_of, sectors_of, GoesOn, EitherSnapshot}
+use Rattle.um_model.specs.Store.{store_name, store_format, superblock, body_limit, log_start, log_end, store_sectors, filled, other, part_count, placed, records_of, sectors_of, GoesOn, EitherSnapshot}
 use Rattle.um_model.specs.Store as sectors
 use Rattle.um_model.specs.declared.layout.Layout.{Layout}
 use Rattle.um_model.specs.declared.layout.Slot.{Slot}
@@ -21,12 +21,14 @@ use Rattle.um_model.proofs.DiskLaws.{started, weaker, followed, during_sync, ima
 use Rattle.um_model.proofs.ImageLaws.{newest_some, newest_none, records_are, only_records}
 use Rattle.um_model.proofs.InputSpellingsLaws.{canonical_input}
 use Rattle.um_model.proofs.StateSpellingsLaws.{canonical_state}
-use Rattle.um_model.proofs.StandsLaws.{ComesTo, store_of, newest_told, records_told, contents_are, state_back, ends_of, anew, one_layout, still_state}
+use Rattle.um_model.proofs.StandsLaws.{ComesTo, store_of, newest_told, records_told, contents_are, state_back, ends_of, anew, one_layout, still_state, bound, held}
+use Rattle.um_model.proofs.StoreLaws.{superblock_name}
+use Rattle.byteorder.specs.Endian.{big_number}
 use Rattle.um_model.proofs.WholeLaws.{step_fits, spelled_room}
 use Rattle.um_wire.specs.declared.refusal.Refusal.{Refusal}
-use Rattle.um_wire.specs.declared.refusal.Refusal.TheVariants.{Damaged, Device, NotFormatted, OtherLayout}
+use Rattle.um_wire.specs.declared.refusal.Refusal.TheVariants.{Damaged, Device, NotFormatted, GenerationsSpent, OtherLayout}
 use Rattle.um_keeper.specs.Keeping.{Keeps}
-use Rattle.um_keeper.specs.Opening.{HasLayout, IsStart, Leads, Replays, no_more, and_then, IsNoInput, here, later, IsUnread, no_store, other_format, no_layout, no_header, IsTakenUp, IsKept, IsSomeStore, IsAsBefore}
+use Rattle.um_keeper.specs.Opening.{HasLayout, IsStart, Leads, Replays, no_more, and_then, IsNoInput, here, later, IsUnread, no_sector, no_store, other_format, no_layout, no_header, spent, no_state, no_input, later_sector, IsNextOf, IsTakenUp, IsKept, IsSomeStore, IsAsBefore}
 
 -- ---- sector 0
 
@@ -235,4 +237,101 @@ taken_up count image layout slot generation body start s has newest free starts 
   store = record { first = has.first; newest = newest; records_are = records_are layout generation image; none_later = free };
   starts = starts;
   replays = replays;
+}
+
+-- ---- a store is taken up
+
+name_six : (layout : Layout) → take 6 (superblock layout) ≡ store_name
+unfolding superblock filled
+name_six layout = refl
+
+-- the first of such places, and those behind it
+abbrev first_bytes : List (ℕ × List ℕ) → List ℕ
+first_bytes [] = []
+first_bytes (p ∷ ps) = p.1
+
+abbrev behind_first : List (ℕ × List ℕ) → List (ℕ × List ℕ)
+behind_first [] = []
+behind_first (p ∷ ps) = ps
+
+abbrev first_there : List (ℕ × List ℕ) → Bool
+first_there [] = false
+first_there (p ∷ ps) = true
+
+-- of records that spell inputs none spells none
+no_input_none : {places : List (ℕ × List ℕ)} {e : Refusal} → IsNoInput places e → (at : ℕ) (records : List (List ℕ)) (inputs : List Input) → places ≡ placed at records → inputs_of records ≡ Some inputs → ⊥
+no_input_none (here is) at [] inputs same are = absurd (false≢true (sym (ap first_there same)))
+no_input_none (here {bytes = b} is) at (bytes ∷ records) inputs same are =
+    let b_is : b ≡ bytes = ap first_bytes same in
+    let (i, some, more) = bound (nothing_left (input_at bytes)) _ inputs are in
+    none-some i (sym is ∙ ap (λ (l : List ℕ). nothing_left (input_at l)) b_is ∙ some)
+no_input_none (later is fails) at [] inputs same are = absurd (false≢true (sym (ap first_there same)))
+no_input_none (later {places = places} is fails) at (bytes ∷ records) inputs same are =
+    let rest : places ≡ placed (at + part_count (length bytes)) records = ap behind_first same in
+    let (i, some, more) = bound (nothing_left (input_at bytes)) _ inputs are in
+    let (others, all, last) = bound (inputs_of records) _ inputs more in
+    no_input_none fails (at + part_count (length bytes)) records others rest all
+
+module _ (count : ℕ) (layout : Layout) (image : Image) (room : store_sectors layout ≤ count) (slot : Slot) (generation : ℕ) (body : List ℕ) (records : List (List ℕ)) (start s : State) (inputs : List Input)
+    (store : sectors.IsStore layout image slot generation body records) (comes : ComesTo (body_limit layout) body records start inputs s) where
+  there : sectors.newest_of layout image ≡ Some (record { slot = slot; generation = generation; body = body })
+  there = newest_told store
+
+  -- whatever is told of it is told of this store
+  this : (other : Layout) (n : sectors.Newest) → image 0 ≡ superblock other → sectors.newest_of other image ≡ Some n
+      → (other ≡ layout) × (n.generation ≡ generation) × (n.body ≡ body)
+  this other n first newest =
+      let one = one_layout other layout image first store.first in
+      let same = same_Some n _ (sym (subst (λ l. sectors.newest_of l image ≡ Some n) one newest) ∙ there) in
+      (one, ap (λ (m : sectors.Newest). m.generation) same, ap (λ (m : sectors.Newest). m.body) same)
+
+  -- a store isn't refused but in the last generation
+  pub store_unread : {e : Refusal} → IsUnread count image e → (e ≡ GenerationsSpent) × (generation ≡ 2 ^ 64 - 1)
+  store_unread (no_sector none) = absurd (omega (arith, none, room))
+  store_unread (no_store some differs) = absurd (differs (ap (λ (x : Sector). take 6 x) store.first ∙ name_six layout))
+  store_unread (other_format some name differs) = absurd (differs (ap (λ (x : Sector). take 8 x) store.first ∙ superblock_name layout))
+  store_unread (no_layout some name none) = absurd (none layout (record { first = store.first; room = room }))
+  store_unread (no_header {layout = other} has none) =
+      absurd (none-some _ (sym (subst (λ l. sectors.newest_of l image ≡ None) (one_layout other layout image has.first store.first) none) ∙ there))
+  store_unread (spent {layout = other} {n = n} has newest last) = (refl, sym (this other n has.first newest).1 ∙ last)
+  store_unread (no_state {layout = other} {n = n} has newest early none) =
+      let same = this other n has.first newest in
+      absurd (none start (record {
+        read = ap (λ (b : List ℕ). nothing_left (state_at b)) same.2 ∙ comes.start_is;
+        servable = subst (λ l. IsServable (body_limit l) start) (sym same.0) comes.servable;
+      }))
+  store_unread (no_input {layout = other} {n = n} has newest early starts fails) =
+      let same = this other n has.first newest in
+      let are : records_of other n.generation image ≡ records = (λ k. records_of (same.0 k) (same.1 k) image) ∙ records_told store in
+      absurd (no_input_none fails (log_start other n.generation) (records_of other n.generation image) inputs refl (ap inputs_of are ∙ comes.inputs_are))
+  store_unread (later_sector {layout = other} {n = n} {j = j} has newest early starts replays first) =
+      let same = this other n has.first newest in
+      let low = first.low in
+      let high = first.high in
+      let is = first.is.later in
+      let below : big_number 8 (drop 4 (image j)) < generation + 1 =
+      store.none_later (big_number 8 (drop 4 (image j))) j (subst (λ l. log_start l n.generation ≤ j) same.0 low) (subst (λ l. j < log_end l n.generation) same.0 high)
+      (record { name = first.is.name; generation_is = refl }) in
+      absurd (omega (arith, below, is, same.1))
+
+-- as a law of what is told of a disk
+pub a_store_unread : (count : ℕ) (layout : Layout) (image : Image) (s : State) (e : Refusal) → store_sectors layout ≤ count → IsStoreOf layout image s → IsUnread count image e → e ≡ GenerationsSpent
+a_store_unread count layout image s e room is unread =
+    let h = held is in (store_unread count layout image room h.slot h.generation h.body h.records h.start s h.inputs h.store h.comes unread).0
+
+pub a_taken_read : (count : ℕ) (layout : Layout) (image : Image) (slot : Slot) (generation : ℕ) (s : State) (e : Refusal) → IsTakenUp count image layout slot generation s → generation < 2 ^ 64 - 1 → ¬ IsUnread count image e
+a_taken_read count layout image slot generation s e t early unread =
+    let (inputs, comes) = taken_comes t in
+    let last = (store_unread count layout image t.room slot generation t.body (records_of layout generation image) t.start s inputs t.store comes unread).1 in
+    omega (arith, last, early)
+
+-- the state that was taken up, one generation on
+pub next_of : (count : ℕ) (image : Image) (from layout : Layout) (before slot : Slot) (earlier generation : ℕ) (s t : State) → t ≡ s → layout ≡ from → slot ≡ other before → generation ≡ earlier + 1
+    → IsTakenUp count image from before earlier s → IsNextOf count image layout slot generation t
+next_of count image from layout before slot earlier generation s t state one turned next taken = record {
+  before = before;
+  earlier = earlier;
+  turned = turned;
+  next = next;
+  taken = subst (λ l. IsTakenUp count image l before earlier t) (sym one) (subst (IsTakenUp count image from before earlier) (sym state) taken);
 }

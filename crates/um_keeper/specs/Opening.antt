@@ -73,6 +73,14 @@ pub record IsTakenUp (count : ℕ) (image : Image) (layout : Layout) (slot : Slo
   pub starts : IsStart layout body start
   pub replays : Replays (body_limit layout) (records_of layout generation image) start s
 
+-- The state that was taken up of an image, in the other slot and one generation on.
+pub record IsNextOf (count : ℕ) (image : Image) (layout : Layout) (slot : Slot) (generation : ℕ) (s : State) : Type 0 where
+  pub before : Slot
+  pub earlier : ℕ
+  pub turned : slot ≡ sectors.other before
+  pub next : generation ≡ earlier + 1
+  pub taken : IsTakenUp count image layout before earlier s
+
 -- what a store of this layout may hold, and what has bytes
 pub record IsKept (layout : Layout) (size : ℕ) (s : State) : Type 0 where
   pub size_is : size ≡ body_limit layout

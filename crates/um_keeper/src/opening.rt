@@ -1,17 +1,20 @@
-ghost use Rattle.std.specs.Prelude.{◌≡◌, ◌⊎◌, ◌↔◌, ◌+◌, ◌-◌, ◌^◌, ◌<◌, ◌≤◌, Ok, None, false, IfOk, IfErr, IfSome, OnOk, IsTrue};
+ghost use Rattle.std.specs.Prelude.{◌≡◌, ◌⊎◌, ◌↔◌, ℕ, ◌+◌, ◌-◌, ◌^◌, ◌<◌, ◌≤◌, Ok, None, false, IfOk, IfErr, IfSome, OnOk, IsTrue};
 ghost use Rattle.std.specs.Option.{option_map};
 ghost use Rattle.um_engine.specs.Engine.{state_in, size_in};
 ghost use Rattle.um_keeper.specs.Keeping.{Keeps};
-ghost use Rattle.um_keeper.specs.Opening.{HasLayout, IsStart, Leads, Replays, IsNoInput, IsUnread, IsTakenUp, IsKept, IsSomeStore, IsAsBefore};
+ghost use Rattle.um_keeper.specs.Opening.{HasLayout, IsStart, Leads, Replays, IsNoInput, IsUnread, IsTakenUp, IsNextOf, IsKept, IsSomeStore, IsAsBefore};
 ghost use Rattle.um_log.specs.Reading.{bytes_of, places_of};
 ghost use Rattle.um_model.specs.Bytes.{nothing_left};
-ghost use Rattle.um_model.specs.Disk.{seen, one_more, Images, IsSettled, During};
+ghost use Rattle.um_model.specs.Disk.{Image, seen, one_more, Images, IsSettled, During};
 ghost use Rattle.um_model.specs.InputSpellings.{input_at, FitInput};
 ghost use Rattle.um_model.specs.Machine as model;
 ghost use Rattle.um_model.specs.Servable.{IsServable};
 ghost use Rattle.um_model.specs.StateSpellings.{state_at, FitState};
 ghost use Rattle.um_model.specs.Store.{body_limit, store_sectors, other, log_start};
+ghost use Rattle.um_model.specs.Stands.{IsStoreOf};
 ghost use Rattle.um_model.specs.declared.layout.Layout as declared;
+ghost use Rattle.um_model.specs.declared.layout.Slot as declared_slot;
+ghost use Rattle.um_wire.specs.declared.refusal.Refusal as declared_refusal;
 ghost use Rattle.um_sector.specs.Refused.{CountsDevice, IsLost};
 ghost use Rattle.um_state.specs.View.{state_of, input_of};
 
@@ -194,7 +197,7 @@ fn renew<D: Disk>(alloc: Global, disk: &mut D, found: Found) -> Result<Held, Ref
         → IsTakenUp (D.size disk.old) (seen (D.past disk.old)) found.layout found.home.slot found.home.generation (state_in found.engine)
         → Keeps (D.past disk.new) (D.size disk.new) held.log.layout held.home.slot held.home.generation held.log.number held.log.next (state_in held.engine)) }
     ensures held { IfOk result (λ held. (state_in held.engine ≡ state_in found.engine) × (size_in held.engine ≡ size_in found.engine)
-        × (held.log.layout ≡ found.layout) × (held.home.generation ≡ found.home.generation + 1) × (held.log.generation ≡ held.home.generation) × (held.log.number ≡ 0)) }
+        × (held.log.layout ≡ found.layout) × (held.home.slot ≡ other found.home.slot) × (held.home.generation ≡ found.home.generation + 1) × (held.log.generation ≡ held.home.generation) × (held.log.number ≡ 0)) }
     ensures failures { CountsDevice result (D.failures disk.old) (D.failures disk.new) }
     ensures err { IfErr result IsLost }
     ensures size { D.size disk.new ≡ D.size disk.old }
@@ -218,6 +221,8 @@ pub(crate) fn recover<D: Disk>(alloc: Global, disk: &mut D) -> Result<Held, Refu
         → During (D.past disk.old) (D.past disk.new) (IsAsBefore layout (D.past disk.old)) }
     ensures ok { IfOk result (λ held. IsTrue (D.honest disk.old)
         → Keeps (D.past disk.new) (D.size disk.new) held.log.layout held.home.slot held.home.generation held.log.number held.log.next (state_in held.engine)) }
+    ensures taken { IfOk result (λ held. IsTrue (D.honest disk.old)
+        → IsNextOf (D.size disk.old) (seen (D.past disk.old)) held.log.layout held.home.slot held.home.generation (state_in held.engine)) }
     ensures kept { IfOk result (λ held. IsKept held.log.layout (size_in held.engine) (state_in held.engine)) }
     ensures anew { IfOk result (λ held. (held.log.generation ≡ held.home.generation) × (held.log.number ≡ 0)) }
     ensures err { IfErr result (λ e. IsLost e ⊎ (IsTrue (D.honest disk.old) → IsUnread (D.size disk.old) (seen (D.past disk.old)) e)) }
@@ -238,13 +243,15 @@ impl<D: Disk> Keeper<D> {
     /// where it tells no layout for which the disk has room; with sector 1 where no slot has a header; with the newest body's first
     /// sector where it spells no state that the store may hold; with a record's first sector where it spells no input; with a sector of
     /// the log that is of a later generation than the newest header's. E20 where that generation is the last one. All of these come
-    /// before anything is written. E15; E16 where a disk call fails.
+    /// before anything is written, and none but E20 where the disk holds a store for which it has room. E15; E16 where a disk call fails.
     pub fn open(alloc: Global, mut disk: D) -> Result<Keeper<D>, (Refusal, D)>
         ensures during { IfOk result (λ k. IsTrue (D.honest disk) → (layout : declared.Layout) → Images (D.past disk) (IsSomeStore layout)
             → During (D.past disk) (D.past k.disk) (IsAsBefore layout (D.past disk))) }
         ensures during_err { IfErr result (λ e. IsTrue (D.honest disk) → (layout : declared.Layout) → Images (D.past disk) (IsSomeStore layout)
             → During (D.past disk) (D.past e.1) (IsAsBefore layout (D.past disk))) }
         ensures ok { IfOk result (λ k. (k.failed ≡ false) × (k.log.number ≡ 0) × (D.honest k.disk ≡ D.honest disk) × (D.size k.disk ≡ D.size disk)) }
+        ensures taken { IfOk result (λ k. IsTrue (D.honest disk)
+            → IsNextOf (D.size disk) (seen (D.past disk)) k.log.layout k.home.slot k.home.generation (state_in k.engine)) }
         ensures err { IfErr result (λ e. IsLost e.0 ⊎ (IsTrue (D.honest disk) → IsUnread (D.size disk) (seen (D.past disk)) e.0)) }
         ensures device { IfErr result (λ e. ((e.0 ≡ Refusal.Device) × (D.failures e.1 ≡ one_more (D.failures disk))) ⊎ ((¬ (e.0 ≡ Refusal.Device)) × (D.failures e.1 ≡ D.failures disk))) }
         ensures quiet { IfOk result (λ k. D.failures k.disk ≡ D.failures disk) }
@@ -263,3 +270,15 @@ impl<D: Disk> Keeper<D> {
         }
     }
 }
+
+/// A store for which the disk has room isn't refused but in its last generation.
+pub fn a_store_is_taken_up()
+    ensures { (count : ℕ) (layout : declared.Layout) (image : Image) (s : model.State) (e : declared_refusal.Refusal) → store_sectors layout ≤ count → IsStoreOf layout image s
+        → IsUnread count image e → e ≡ Refusal.GenerationsSpent }
+{}
+
+/// What is taken up isn't refused.
+pub fn what_is_taken_up_is_not_refused()
+    ensures { (count : ℕ) (layout : declared.Layout) (image : Image) (slot : declared_slot.Slot) (generation : ℕ) (s : model.State) (e : declared_refusal.Refusal)
+        → IsTakenUp count image layout slot generation s → generation < 2 ^ 64 - 1 → ¬ IsUnread count image e }
+{}

@@ -5,7 +5,7 @@ use Rattle.um_model.proofs.DiskLaws.{settled_after_sync}
 use Rattle.um_keeper.specs.Keeping.{Keeps}
 use Rattle.um_keeper.specs.Opening.{IsAsBefore, IsTakenUp}
 use Rattle.um_keeper.proofs.Results.{if_ok_from}
-use Rattle.um_keeper.proofs.Reopening.{synced_before, goes_on_before}
+use Rattle.um_keeper.proofs.Reopening.{synced_before, goes_on_before, next_of}
 use Rattle.um_keeper.proofs.opening.recover.Goals as goal
 
 pub returns-in_err-sync-clause-during : goal.returns-in_err-sync-clause-during
@@ -44,3 +44,17 @@ returns-clause-ok g c =
     (subst (λ n. IsTakenUp n (seen (g.D.Disk.past c.take_up.new.disk)) found.layout found.home.slot found.home.generation (state_in found.engine)) (sym c.take_up.ensures.size)
     (subst (λ p. IsTakenUp (g.D.Disk.size c.sync.new.self) (seen p) found.layout found.home.slot found.home.generation (state_in found.engine)) (sym same) (c.in_ok-found.ensures.found h1))))
     c.renew.ensures.ok
+
+pub returns-clause-taken : goal.returns-clause-taken
+returns-clause-taken g c =
+    if_ok_from c.renew.result _ _
+    (λ held facts h.
+    let p0 = g.D.Disk.past c.args.disk.now in
+    let found = c.in_ok-found.found in
+    let h1 = c.sync.ensures.honest ∙ h in
+    let synced_it : g.D.Disk.past c.sync.new.self ≡ after synced p0 = c.in_ok-sync.ensures.past h in
+    next_of (g.D.Disk.size c.args.disk.now) (seen p0) found.layout held.log.layout found.home.slot held.home.slot found.home.generation held.home.generation (state_in found.engine) (state_in held.engine)
+    facts.0 facts.2 facts.3 facts.4
+    (subst (λ n. IsTakenUp n (seen p0) found.layout found.home.slot found.home.generation (state_in found.engine)) c.sync.ensures.size
+    (subst (λ p. IsTakenUp (g.D.Disk.size c.sync.new.self) (seen p) found.layout found.home.slot found.home.generation (state_in found.engine)) synced_it (c.in_ok-found.ensures.found h1))))
+    c.renew.ensures.held
