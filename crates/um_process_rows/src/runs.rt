@@ -1,7 +1,8 @@
 //! Runners of real commands. A runner waits for its command, so a row waits for nothing else: no poll is needed.
 use crate::places::{folder, holds, number, put};
 use std::fs;
-use std::process::Abort;
+use std::fs::{File, Files};
+use std::process::{Abort, Processes};
 use std::test::Fail;
 use um_runner::{
     Claimant, Claiming, End, Folder, FolderFault, Job, Told, claim, pid_in, run, status_in,
@@ -9,7 +10,7 @@ use um_runner::{
 
 /// Runs the words, of which the first are so many entries, under this number.
 fn runs(
-    rt: &HostRuntime,
+    rt: &(impl AllocGlobal + Files<File = File> + Processes + Abort),
     folder: &str,
     n: u64,
     count: usize,
@@ -26,7 +27,12 @@ fn runs(
 }
 
 /// Asserts what the status file tells.
-fn ended(rt: &HostRuntime, folder: &str, n: u64, wanted: Option<End>) {
+fn ended(
+    rt: &(impl AllocGlobal + Files<File = File> + Abort),
+    folder: &str,
+    n: u64,
+    wanted: Option<End>,
+) {
     let end = status_in(rt, rt.alloc(), folder, number(rt, n)).expect(rt, "not read");
     assert_eq!(rt; end, wanted, "at {n}");
 }
