@@ -3,9 +3,10 @@
 # make test: the whole gate. Proves every crate and its tests from nothing, tries each must-fail edit, and runs the tests and
 # the program as two compilers build it.
 # make edits NAME ..: tries the further edits of these crates, which stand in edits/NAME; with no name those of every crate.
+# make runner-rows: plays the rows of a runner against the proved program, with real processes.
 # make bench: measures the proved program, and the writing and reading of states (um_bench); the figures that a document calls
 # measured come from it.
-.PHONY: run umd test edits bench
+.PHONY: run umd test edits bench runner-rows
 run:
 	@sh tools/show
 
@@ -30,3 +31,6 @@ bench: umd
 	@cd crates/um_bench && rt run >/dev/null
 	@bench/run crates/umd/out/umd
 	@bench/bytes crates/um_bench/out/um_bench
+
+runner-rows: umd
+	@tools/runner-rows crates/umd/out/umd

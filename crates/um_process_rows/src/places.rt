@@ -1,0 +1,60 @@
+//! Folders of tests, and what stands in them.
+use std::fs::{File, Files};
+use std::path::PathBuf;
+use std::process::Abort;
+use std::test::Fail;
+use std::{env, fs, process};
+use um_runner::ProcessNumber;
+
+/// A new folder of this name for a test, free of what an earlier process left there.
+pub fn folder(rt: &HostRuntime, name: &str) -> Result<PathBuf, Fail> {
+    let alloc = rt.alloc();
+    let number = process::id(rt.process());
+    let path = env::temp_dir(rt)?.join(alloc, format!(in alloc; "um_runner.{number}.{name}")?)?;
+    let _ = fs::remove_dir_all(rt, &path);
+    fs::create_dir(rt, &path)?;
+    Ok(path)
+}
+
+/// The process number.
+pub fn number(rt: &impl Abort, n: u64) -> ProcessNumber {
+    ProcessNumber::new(n).expect(rt, "no process number")
+}
+
+/// The text of a file; None where it isn't there.
+pub fn text_at(
+    rt: &(impl AllocGlobal + Files<File = File>),
+    folder: &str,
+    name: &str,
+) -> Result<Option<String>, Fail> {
+    let path = format!(in rt.alloc(); "{folder}/{name}")?;
+    if fs::exists(rt, path.as_str())? {
+        Ok(Some(fs::read_to_string(rt, path.as_str())?))
+    } else {
+        Ok(None)
+    }
+}
+
+/// Asserts that a file has this text, or isn't there.
+pub fn holds(
+    rt: &(impl AllocGlobal + Files<File = File> + Abort),
+    folder: &str,
+    name: &str,
+    wanted: Option<&str>,
+) -> Result<(), Fail> {
+    let text = text_at(rt, folder, name)?;
+    assert_eq!(rt; text.as_ref().map(|t| t.as_str()), wanted, "at {name}");
+    Ok(())
+}
+
+/// Puts a file there.
+pub fn put(
+    rt: &(impl AllocGlobal + Files<File = File>),
+    folder: &str,
+    name: &str,
+    bytes: &[u8],
+) -> Result<(), Fail> {
+    let path = format!(in rt.alloc(); "{folder}/{name}")?;
+    fs::write(rt, path.as_str(), bytes)?;
+    Ok(())
+}
