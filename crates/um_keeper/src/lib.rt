@@ -1,13 +1,13 @@
 //! The engine over a disk: what it answers outlives a crash.
 #![tactic(auto)]
 
-mod create;
+mod creating;
 mod keeper;
 mod laws;
 mod opening;
 mod receipt;
 
-pub use create::create;
+pub use creating::create;
 pub use keeper::Keeper;
 pub use laws::{
     an_image_stands_for_one_state, unread_sectors_of_a_store_do_not_count,

@@ -4,7 +4,7 @@ use Rattle.um_model.proofs.DiskLaws.{with_same}
 use Rattle.um_keeper.specs.Creating.{blank}
 use Rattle.um_keeper.proofs.Results.{err_from}
 use Rattle.um_keeper.proofs.Wiping.{unformat_write, unformat_sync, wrote_count, synced_count, failed_count, zeroed_ok}
-use Rattle.um_keeper.proofs.create.unformat.Goals as goal
+use Rattle.um_keeper.proofs.creating.unformat.Goals as goal
 
 pub returns-in_err-write-clause-during : goal.returns-in_err-write-clause-during
 returns-in_err-write-clause-during g c h = unformat_write c.write.result (g.D.Disk.past c.args.disk.now) (g.D.Disk.past c.write.new.self) (c.write.ensures.past h)

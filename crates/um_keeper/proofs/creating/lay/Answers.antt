@@ -8,7 +8,7 @@ use Rattle.um_model.specs.declared.layout.Slot.TheVariants.{A}
 use Rattle.um_model.proofs.DiskLaws.{at_end, followed, weaker}
 use Rattle.um_keeper.specs.Creating.{blank, unsynced, NoneOrEmpty, IsEmptyStore}
 use Rattle.um_keeper.proofs.Wiping.{IsZeroed, while_zeroed, while_made, wiped_none, wiped_free, empty_room, made, made_maybe}
-use Rattle.um_keeper.proofs.create.lay.Goals as goal
+use Rattle.um_keeper.proofs.creating.lay.Goals as goal
 
 pub returns-in_err-unformat-clause-during : goal.returns-in_err-unformat-clause-during
 returns-in_err-unformat-clause-during g c h = unsynced (c.in_err-unformat.ensures.unsynced h) (c.unformat.ensures.during h)

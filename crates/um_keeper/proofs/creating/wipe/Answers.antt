@@ -6,7 +6,7 @@ use Rattle.um_model.specs.Store.{slot_start, log_start}
 use Rattle.um_keeper.specs.Creating.{blank, IsWiped}
 use Rattle.um_keeper.proofs.Results.{ok_from}
 use Rattle.um_keeper.proofs.Wiping.{zero_first, zero_goes_on, wiped}
-use Rattle.um_keeper.proofs.create.wipe.Goals as goal
+use Rattle.um_keeper.proofs.creating.wipe.Goals as goal
 
 pub returns-in_err-write_blank-clause-during : goal.returns-in_err-write_blank-clause-during
 returns-in_err-write_blank-clause-during g c h all =
