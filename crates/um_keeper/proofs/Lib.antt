@@ -1,4 +1,0 @@
-pub mod Kept
-mod Reopening
-mod Results
-mod Wiping
