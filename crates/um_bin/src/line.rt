@@ -21,7 +21,8 @@ pub enum Line<'a> {
 }
 
 /// What `umd run --help` tells.
-const RUN_HELP: &str = "Runs a command as a process of the manager, and tells it by files in the manager's folder
+const RUN_HELP: &str =
+    "Runs a command as a process of the manager, and tells it by files in the manager's folder
 
 Usage: umd run --dir DIR --number N --env COUNT -- WORDS..
 
@@ -81,7 +82,9 @@ fn read_run_line(alloc: Global, words: &[String]) -> Result<Line<'_>, AllocError
         return Ok(Line::Run(line));
     }
     match words.first() {
-        Some(word) if word.as_str() == "--help" => Ok(Line::Told(String::from_str(alloc, RUN_HELP)?)),
+        Some(word) if word.as_str() == "--help" => Ok(Line::Told(String::from_str(
+            alloc, RUN_HELP,
+        )?)),
         _ => Ok(Line::Wrong(String::from_str(alloc, RUN_USAGE)?)),
     }
 }

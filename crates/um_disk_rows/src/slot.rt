@@ -2,7 +2,9 @@
 use crate::answers::{change, changed, filled, is_refused, same, same_at, sector_at};
 use std::process::Abort;
 use um_sector::{Disk, Fuse, MemDisk};
-use um_slot::{Body, Home, Layout, Slot, newest, read_superblock, superblock, write_first, write_other};
+use um_slot::{
+    Body, Home, Layout, Slot, newest, read_superblock, superblock, write_first, write_other,
+};
 
 /// Slots of 64 sectors, a log of 512.
 fn small(rt: &impl Abort) -> Layout {

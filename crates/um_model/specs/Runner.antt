@@ -121,5 +121,5 @@ pub data Life (words entries : List (List ℕ)) : List Deed → Bool → Type 0 
   -- the command runs, and its end is told behind its pid, also where the pid couldn't be
   runs : (pid : ℕ) (end : End) (told_pid told : Bool)
       → Life words entries
-          (Claims Ours ∷ Starts words entries (Some pid) ∷ Writes Pid (pid_text pid) told_pid ∷ Waits end ∷ Writes Status (status_text end) told ∷ [])
-          (told_pid && told)
+      (Claims Ours ∷ Starts words entries (Some pid) ∷ Writes Pid (pid_text pid) told_pid ∷ Waits end ∷ Writes Status (status_text end) told ∷ [])
+      (told_pid && told)

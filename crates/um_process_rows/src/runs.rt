@@ -71,7 +71,15 @@ fn entries_are_set_over_the_environment(rt: HostRuntime) -> Result<(), Fail> {
     let place = folder(&rt, "entries")?;
     let place = place.as_str();
     let script = "test \"$MARK\" = 'a b' && test \"$EMPTY\" = '' && test \"$EQUALS\" = 'a=b'";
-    let words = ["MARK=x", "EQUALS=a=b", "EMPTY=", "MARK=a b", "/bin/sh", "-c", script];
+    let words = [
+        "MARK=x",
+        "EQUALS=a=b",
+        "EMPTY=",
+        "MARK=a b",
+        "/bin/sh",
+        "-c",
+        script,
+    ];
     assert!(rt; runs(&rt, place, 1, 4, &words)?);
     holds(&rt, place, "1.status", Some("code 0\n"))?;
     fs::remove_dir_all(&rt, place)?;
@@ -82,18 +90,21 @@ fn entries_are_set_over_the_environment(rt: HostRuntime) -> Result<(), Fail> {
 fn a_claimed_number_starts_nothing(rt: HostRuntime) -> Result<(), Fail> {
     let place = folder(&rt, "claimed")?;
     let place = place.as_str();
-    let claiming =
-        claim(&rt, rt.alloc(), place, number(&rt, 1), Claimant::Manager).expect(&rt, "no claim");
+    let claiming = claim(&rt, rt.alloc(), place, number(&rt, 1), Claimant::Manager).expect(
+        &rt, "no claim",
+    );
     assert_eq!(rt; claiming, Claiming::New);
     assert!(rt; runs(&rt, place, 1, 0, &["/bin/sh", "-c", "exit 3"])?);
     holds(&rt, place, "1.claim", Some("manager\n"))?;
     holds(&rt, place, "1.status", None)?;
-    let again =
-        claim(&rt, rt.alloc(), place, number(&rt, 1), Claimant::Manager).expect(&rt, "no claim");
+    let again = claim(&rt, rt.alloc(), place, number(&rt, 1), Claimant::Manager).expect(
+        &rt, "no claim",
+    );
     assert_eq!(rt; again, Claiming::Stands(Claimant::Manager));
     put(&rt, place, "2.claim", b"x")?;
-    let other =
-        claim(&rt, rt.alloc(), place, number(&rt, 2), Claimant::Manager).expect(&rt, "no claim");
+    let other = claim(&rt, rt.alloc(), place, number(&rt, 2), Claimant::Manager).expect(
+        &rt, "no claim",
+    );
     assert_eq!(rt; other, Claiming::Stands(Claimant::Runner));
     fs::remove_dir_all(&rt, place)?;
     Ok(())
@@ -119,7 +130,12 @@ fn odd_files_are_read_safely(rt: HostRuntime) -> Result<(), Fail> {
     ended(&rt, place, 1, None);
     put(&rt, place, "1.status", b"")?;
     put(&rt, place, "2.status", [b'7'; 1_000_000].as_slice())?;
-    put(&rt, place, "3.status", b"code 3\n and more, up to what is read and past it")?;
+    put(
+        &rt,
+        place,
+        "3.status",
+        b"code 3\n and more, up to what is read and past it",
+    )?;
     fs::create_dir(&rt, format!(in rt.alloc(); "{place}/4.status")?)?;
     for n in 1..5 {
         ended(&rt, place, n, Some(End::Lost));
@@ -139,9 +155,23 @@ fn nothing_is_started_without_the_folder(rt: HostRuntime) -> Result<(), Fail> {
     let place = place.as_str();
     let script = format!(in rt.alloc(); "echo ran >{place}/ran")?;
     let gone = format!(in rt.alloc(); "{place}/gone")?;
-    assert!(rt; !runs(&rt, gone.as_str(), 1, 0, &["/bin/sh", "-c", script.as_str()])?);
+    assert!(rt;
+        !runs(
+            &rt,
+            gone.as_str(),
+            1,
+            0,
+            &["/bin/sh", "-c", script.as_str()]
+        )?
+    );
     holds(&rt, place, "ran", None)?;
-    let faulty = claim(&rt, rt.alloc(), gone.as_str(), number(&rt, 1), Claimant::Manager);
+    let faulty = claim(
+        &rt,
+        rt.alloc(),
+        gone.as_str(),
+        number(&rt, 1),
+        Claimant::Manager,
+    );
     assert!(rt; matches!(faulty, Err(FolderFault::System(_))));
     fs::remove_dir_all(&rt, place)?;
     Ok(())

@@ -58,4 +58,4 @@ pub can_be : {X : Type 0} (f : X → List ℕ) (count : ℕ) (xs : List X) → c
     → can_be_job count (map f xs) ≡ true
 can_be f count xs below all =
     and_from _ _ (lt-ltb count (length (map f xs)) (subst (λ n. count < n) (sym (length-map xs f)) below))
-        (ap (list_all is_entry) (take-map f count xs) ∙ list_all-map is_entry f (take count xs) ∙ all)
+    (ap (list_all is_entry) (take-map f count xs) ∙ list_all-map is_entry f (take count xs) ∙ all)

@@ -54,7 +54,7 @@ no_pid : (text : List ℕ) (n : ℕ) → text ≡ pid_text n → n < 2 ^ 64 → 
 no_pid text n is below never m told =
     let parts = pid_parts text m told in
     let same = number_behind [] m n (omega (arith, parts.2)) below (sym parts.0 ∙ is) in
-    elim never [ | inl none ↦ omega (arith, same, none, parts.1) | inr big ↦ omega (arith, same, big, parts.2) ]
+    elim never [ inl none ↦ omega (arith, same, none, parts.1) | inr big ↦ omega (arith, same, big, parts.2) ]
 
 -- a text with the number of a pid
 pub pid_read : (text : List ℕ) (n : ℕ) (o : Option ℕ) → n < 2 ^ 64 → text ≡ pid_text n → MatchOption o ((n ≡ 0) ⊎ (pid_limit ≤ n)) (λ p. (p ≡ n) × (0 < n) × (n < pid_limit))

@@ -63,4 +63,4 @@ pub read_same : {E : Type 0} (bs text : List ℕ) (r : Result ℕ E) (o : Option
     → MatchOption o ((n : ℕ) → n < 2 ^ 64 → bs ≢ decimal n) (λ n. bs ≡ decimal n)
 read_same bs text r o same plain parsed is =
     subst (λ o. MatchOption o ((n : ℕ) → n < 2 ^ 64 → bs ≢ decimal n) (λ n. bs ≡ decimal n)) (sym is)
-        (read_number bs r plain (subst (λ t. ParsesUnsigned 64 10 t r) same parsed))
+    (read_number bs r plain (subst (λ t. ParsesUnsigned 64 10 t r) same parsed))

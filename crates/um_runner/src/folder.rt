@@ -47,7 +47,14 @@ impl<'a, R: Files + Processes> Folder<'a, R> {
 
     /// Gives a file of the number its text.
     fn put(&self, file: RunnerFile, draft: RunnerFile, text: &str) -> Result<(), FolderFault> {
-        replace_file(self.rt, self.alloc, self.path, self.number, (file, draft), text)
+        replace_file(
+            self.rt,
+            self.alloc,
+            self.path,
+            self.number,
+            (file, draft),
+            text,
+        )
     }
 }
 
@@ -58,7 +65,13 @@ impl<'a, R: Files + Processes> Host for Folder<'a, R> {
     ghost honest = { λ _. false };
 
     fn claim(&mut self) -> Result<bool, FolderFault> {
-        let claiming = claim(self.rt, self.alloc, self.path, self.number, Claimant::Runner)?;
+        let claiming = claim(
+            self.rt,
+            self.alloc,
+            self.path,
+            self.number,
+            Claimant::Runner,
+        )?;
         Ok(claiming == Claiming::New)
     }
 

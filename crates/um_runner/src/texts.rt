@@ -18,8 +18,8 @@ fn is_plain(text: &[u8]) -> bool
     ensures { result ≡ is_plain text.now }
 {
     match text.split_first() {
-        Some((first, others)) =>
-            matches!(*first, b'1'..=b'9') || *first == b'0' && others.is_empty(),
+        Some((first, others)) => matches!(*first, b'1'..=b'9')
+            || *first == b'0' && others.is_empty(),
         None => false,
     }
 }

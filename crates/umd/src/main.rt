@@ -68,7 +68,9 @@ fn run_line<R: Input + Print + Eprint + Files + Processes>(
 }
 
 /// Runs the program, and gives its exit status.
-fn run<R: AllocGlobal + Env + Input + Print + Eprint + Files + Processes>(rt: &R) -> Result<u8, Fault> {
+fn run<R: AllocGlobal + Env + Input + Print + Eprint + Files + Processes>(
+    rt: &R,
+) -> Result<u8, Fault> {
     let alloc = rt.alloc();
     match env::args(rt) {
         Ok(args) => {

@@ -22,7 +22,7 @@ returns-in-Ok-clause-life g c = λ h.
     let told = subst IsTrue (sym c.write_pid-told.ensures.honest) started in
     let ended = subst IsTrue (sym c.wait-end.ensures.honest) told in
     ran _ _ _ _ true _ _ _ _ _ _ _ (ours _ _ _ c.if-not-branch.false (c.in_ok-claim.ensures.past h)) (c.in-Some.ensures.past claimed) (c.in-Ok.ensures.past started)
-        (c.wait-end.ensures.past told) (c.write_status-ended.ensures.past ended)
+    (c.wait-end.ensures.past told) (c.write_status-ended.ensures.past ended)
 
 pub returns-in-Err-clause-life : goal.returns-in-Err-clause-life
 returns-in-Err-clause-life g c = λ h.
@@ -31,4 +31,4 @@ returns-in-Err-clause-life g c = λ h.
     let told = subst IsTrue (sym c.write_pid-told.ensures.honest) started in
     let ended = subst IsTrue (sym c.wait-end.ensures.honest) told in
     ran _ _ _ _ false _ _ _ _ _ _ _ (ours _ _ _ c.if-not-branch.false (c.in_ok-claim.ensures.past h)) (c.in-Some.ensures.past claimed) (c.in-Err.ensures.past started)
-        (c.wait-end.ensures.past told) (c.write_status-ended.ensures.past ended)
+    (c.wait-end.ensures.past told) (c.write_status-ended.ensures.past ended)
