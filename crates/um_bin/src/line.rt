@@ -1,4 +1,4 @@
-ghost use Rattle.std.specs.Prelude.{◌≡◌, ◌∷◌, ℕ, List, [], IfOk, codes, map, option_map, string_bytes};
+ghost use Rattle.std.specs.Prelude.{◌≡◌, ◌↔◌, ◌∷◌, ℕ, List, [], Some, IfOk, IsTrue, codes, map, option_map, slice_get, string_bytes};
 ghost use Rattle.clap.specs.Words.{app_of};
 ghost use Rattle.um_bin.specs.Line.{IsLineOf, IsOtherLine, IsRunLine, behind_run, mistakes_of, umd_words};
 
@@ -74,6 +74,16 @@ fn behind_run<'a>(words: &'a [String]) -> Option<&'a [String]>
     }
 }
 
+/// Whether the first word is `--help`.
+fn asks_for_help(words: &[String]) -> bool
+    ensures { IsTrue result ↔ slice_get (map string_bytes words.now) 0 ≡ Some (codes "--help") }
+{
+    match words.split_first() {
+        Some((word, _)) => word.as_str() == "--help",
+        None => false,
+    }
+}
+
 /// Reads the words behind `run`.
 fn read_run_line(alloc: Global, words: &[String]) -> Result<Line<'_>, AllocError>
     ensures { IfOk result (IsRunLine (map string_bytes words.now)) }
@@ -81,11 +91,10 @@ fn read_run_line(alloc: Global, words: &[String]) -> Result<Line<'_>, AllocError
     if let Some(line) = RunnerLine::of(words) {
         return Ok(Line::Run(line));
     }
-    match words.first() {
-        Some(word) if word.as_str() == "--help" => Ok(Line::Told(String::from_str(
-            alloc, RUN_HELP,
-        )?)),
-        _ => Ok(Line::Wrong(String::from_str(alloc, RUN_USAGE)?)),
+    if asks_for_help(words) {
+        Ok(Line::Told(String::from_str(alloc, RUN_HELP)?))
+    } else {
+        Ok(Line::Wrong(String::from_str(alloc, RUN_USAGE)?))
     }
 }
 
