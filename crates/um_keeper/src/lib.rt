@@ -1,6 +1,17 @@
-//! The engine over a disk. So far: what an accepted input answers, to be spent action by action.
+//! The engine over a disk: what it answers outlives a crash.
 #![tactic(auto)]
 
+mod creating;
+mod keeper;
+mod laws;
+mod opening;
 mod receipt;
 
+pub use creating::create;
+pub use keeper::Keeper;
+pub use laws::{
+    an_image_stands_for_one_state, unread_sectors_of_a_store_do_not_count,
+    what_was_answered_outlives_crashes,
+};
+pub use opening::{a_store_is_taken_up, what_is_taken_up_is_not_refused};
 pub use receipt::{Handed, Receipt, SpawnOrder};

@@ -1,0 +1,289 @@
+-- What a keeper holds of its disk: what the log and the slots need of it, and what they give back.
+use Rattle.std.proofs.Common.{◌≡◌, ◌≢◌, ◌∙◌, ℕ, ◌+◌, ◌≤◌, true, List, [], ◌∷◌, ◌++◌, length, refl, sym, ap, subst, Option, Some, None, is_some, inl, inr, ◌⊎◌}
+use Rattle.std.specs.Prelude.{Result, Ok, Err, IfOk, IfSome}
+use Rattle.std.proofs.Math.Bridge.{le_prop}
+use Rattle.std.proofs.Math.Logic.{∥∥₁_elim, ∥∥₁_map}
+use Rattle.std.proofs.lemmas.Bool.{false≢true}
+use Rattle.std.proofs.lemmas.Option.{same_Some}
+use Rattle.std.specs.Coded.{Coded, Coded-set, codes}
+use Rattle.std.specs.FinMap as maps
+use Rattle.um_model.specs.Bytes.{nothing_left}
+use Rattle.um_model.specs.Disk.{Past, Image, IsImage, Images, During, seen}
+use Rattle.um_model.specs.InputSpellings.{FitInput, input_spelling}
+use Rattle.um_model.specs.Machine.{State, Input, Run, rests, goes, Step, Reply, Refusal}
+use Rattle.um_model.specs.Numbers.{AreNew, started_numbers}
+use Rattle.um_model.specs.Refusals.{Refused}
+use Rattle.um_model.specs.Servable.{IsServable}
+use Rattle.um_model.specs.Service.{Action}
+use Rattle.um_model.specs.StateSpellings.{state_at, state_spelling, FitState}
+use Rattle.um_model.specs.Stands.{Contents, contents_of, inputs_of, IsStoreOf}
+use Rattle.um_model.specs.Store as store
+use Rattle.um_model.specs.Store.{body_limit, log_start, log_end, newest_of, records_of, sectors_of, HasRecords, IsStore, GoesOn, EitherRecord, EitherSnapshot}
+use Rattle.um_model.specs.declared.layout.Layout.{Layout}
+use Rattle.um_model.specs.declared.layout.Slot.{Slot}
+use Rattle.um_model.proofs.DiskLaws.{started, weaker, followed}
+use Rattle.um_model.proofs.ImageLaws.{newest_some, records_are}
+use Rattle.um_model.proofs.NumbersLaws.{numbers_rise}
+use Rattle.um_model.proofs.ServableLaws.{step_servable}
+use Rattle.um_model.proofs.StandsLaws.{contents, ComesTo, HasContents, has_contents, contents_are, newest_told, records_told, store_of, comes_further, comes_anew, run_to, only_end, state_back, either_state, anew}
+use Rattle.um_model.proofs.WholeLaws.{step_fits, spelled_room, accepted_room}
+use Rattle.um_tree.specs.Code.{tree_code}
+use Rattle.um_keeper.specs.Keeping.{MayHold, Keeps, IsBegun}
+
+-- ---- answers
+
+-- what is said of an answer that has a value, at that value
+pub at_some : {A E : Type 0} (P : A → Type 0) (result : Result (Option A) E) (found : Option A) (x : A) → IfOk result (λ o. IfSome o P) → result ≡ Ok found → found ≡ Some x → P x
+at_some P result found x said is some = subst (λ o. IfSome o P) some (subst (λ r. IfOk r (λ o. IfSome o P)) is said)
+
+-- ---- what the log and the slots need
+
+-- what a keeper holds, with the snapshot's body, its state and the inputs
+pub record Unpacked (past : Past) (layout : Layout) (slot : Slot) (generation number next : ℕ) (s : State) : Type 0 where
+  pub body : List ℕ
+  pub start : State
+  pub inputs : List Input
+  pub goes_on : GoesOn layout past slot generation body (records_of layout generation (seen past)) number next
+  pub comes : ComesTo (body_limit layout) body (records_of layout generation (seen past)) start inputs s
+
+-- the contents that are there
+found : {X : Type 0} (o : Option X) → is_some o ≡ true → (x : X) × (o ≡ Some x)
+found None there = absurd (false≢true there)
+found (Some x) there = (x, refl)
+
+module _ {past : Past} {sectors : ℕ} {layout : Layout} {slot : Slot} {generation number next : ℕ} {s : State} (k : Keeps past sectors layout slot generation number next s) where
+  -- the newest snapshot, where a keeper says that it stands
+  newest_there : (c : Contents) → c.slot ≡ slot → c.generation ≡ generation → (h : HasContents layout (seen past) c)
+      → newest_of layout (seen past) ≡ Some (record { slot = slot; generation = generation; body = h.body })
+  newest_there c on of h = subst (λ g. newest_of layout (seen past) ≡ Some (record { slot = slot; generation = g; body = h.body })) of
+      (subst (λ x. newest_of layout (seen past) ≡ Some (record { slot = x; generation = c.generation; body = h.body })) on
+      ((newest_some layout (seen past) (record { slot = c.slot; generation = c.generation; body = h.body })).1 h.newest))
+
+  with_contents : (c : Contents) → contents_of layout (seen past) ≡ Some c → HasContents layout (seen past) c → Unpacked past layout slot generation number next s
+  with_contents c is h = record {
+    body = h.body;
+    start = c.start;
+    inputs = c.inputs;
+    goes_on = record {
+      store = λ image at. record {
+        first = k.first image at;
+        newest = (newest_some layout image (record { slot = slot; generation = generation; body = h.body })).0
+            (k.newest image at ∙ newest_there c (k.home c is).0 (k.home c is).1 h);
+        records_are = subst (HasRecords layout generation image) (k.records image at) (records_are layout generation image);
+        none_later = k.none_later image at;
+      };
+      end = λ image at. record { count = k.count; place = k.place; within = k.within; free = k.free image at };
+    };
+    comes = record {
+      start_is = h.start_is;
+      inputs_are = subst (λ g. inputs_of (records_of layout g (seen past)) ≡ Some c.inputs) (k.home c is).1 h.inputs_are;
+      servable = k.start c is;
+      run = run_to (k.run c is);
+    };
+  }
+
+  pub unpacked : Unpacked past layout slot generation number next s
+  unpacked =
+      let (c, is) = found (contents_of layout (seen past)) k.holds in
+      with_contents c is (has_contents layout (seen past) c is)
+
+  -- each image that a crash leaves is a store of the state
+  pub stores : Images past (λ image. IsStoreOf layout image s)
+  stores image is = store_of (unpacked.goes_on.store image is) unpacked.comes
+
+  -- each is that of its newest snapshot, as the slots need it
+  pub snapshots : Images past (store.IsStoreOf layout slot generation unpacked.body)
+  snapshots image is = subst (IsStore layout image slot generation unpacked.body) (sym (k.records image is)) (unpacked.goes_on.store image is)
+
+  -- where nothing is written
+  pub still : During past past (λ image. IsStoreOf layout image s)
+  still = started past _ stores
+
+-- ---- what they give back
+
+pub packed : {past : Past} {sectors : ℕ} {layout : Layout} {slot : Slot} {generation number next : ℕ} {s : State} {body : List ℕ} {records : List (List ℕ)}
+    {start : State} {inputs : List Input} → IsImage past (seen past) → GoesOn layout past slot generation body records number next
+    → ComesTo (body_limit layout) body records start inputs s → log_end layout generation ≤ sectors → Keeps past sectors layout slot generation number next s
+packed {past} {sectors} {layout} {slot} {generation} {number} {next} {s} {body} {records} {start} {inputs} is whole comes on_disk = record {
+  first = λ image at. (whole.store image at).first;
+  newest = λ image at. newest_told (whole.store image at) ∙ sym (newest_told (whole.store (seen past) is));
+  records = λ image at. records_told (whole.store image at) ∙ sym there;
+  none_later = λ image at. (whole.store image at).none_later;
+  free = λ image at. (whole.end image at).free;
+  holds = ap is_some told;
+  home = λ c e. let same = same_Some c (contents slot generation start inputs) (sym e ∙ told) in (ap (λ (d : Contents). d.slot) same, ap (λ (d : Contents). d.generation) same);
+  start = λ c e. subst (λ (d : Contents). IsServable (body_limit layout) d.start) (same_Some (contents slot generation start inputs) c (sym told ∙ e)) comes.servable;
+  run = λ c e. subst (λ (d : Contents). (t : State) → Run (body_limit layout) d.start d.inputs t → t ≡ s) (same_Some (contents slot generation start inputs) c (sym told ∙ e)) (only_end comes.run);
+  count = (whole.end (seen past) is).count ∙ ap length (sym there);
+  place = (whole.end (seen past) is).place ∙ ap (λ rs. log_start layout generation + sectors_of rs) (sym there);
+  within = (whole.end (seen past) is).within;
+  on_disk = on_disk;
+}
+  where
+    there : records_of layout generation (seen past) ≡ records
+    there = records_told (whole.store (seen past) is)
+
+    told : contents_of layout (seen past) ≡ Some (contents slot generation start inputs)
+    told = contents_are (whole.store (seen past) is) comes.start_is comes.inputs_are
+
+-- the same by equal numbers
+pub keeps_at : {past : Past} {sectors n m x y n' : ℕ} {layout l : Layout} {slot : Slot} {generation : ℕ} {s : State} → Keeps past sectors layout slot generation n x s
+    → n' ≡ sectors → l ≡ layout → m ≡ n → y ≡ x → Keeps past n' l slot generation m y s
+keeps_at {past} {sectors} {n} {m} {x} {y} {n'} {layout} {l} {slot} {generation} {s} k a b c d =
+    subst (λ z. Keeps past n' l slot generation m z s) (sym d) (subst (λ z. Keeps past n' l slot generation z x s) (sym c)
+    (subst (λ (z : Layout). Keeps past n' z slot generation n x s) (sym b) (subst (λ z. Keeps past z layout slot generation n x s) (sym a) k)))
+
+-- ---- a record
+
+module _ {past : Past} {sectors : ℕ} {layout : Layout} {slot : Slot} {generation number next size : ℕ} {s t : State} (held : MayHold layout size s)
+    (k : Keeps past sectors layout slot generation number next s) {input : Input} (fit : FitInput input) {reply : Reply} {actions : List Action} (step : Step size s input reply actions t) where
+  stepped : Step (body_limit layout) s input reply actions t
+  stepped = subst (λ n. Step n s input reply actions t) held.size_is step
+
+  begun : {image : Image} → IsStoreOf layout image s ⊎ IsStoreOf layout image t → IsBegun layout s (input ∷ []) image
+  begun (inl before) = record { count = 0; state = s; run = rests; store = before }
+  begun (inr behind) = record { count = 1; state = t; run = goes reply actions stepped rests; store = behind }
+
+  -- while it is written the image is a store of the state before or after the input
+  pub either_begun : (image : Image) → EitherRecord layout slot generation (unpacked k).body (records_of layout generation (seen past)) (input_spelling input) image
+      → IsBegun layout s (input ∷ []) image
+  either_begun image either = begun (either_state (unpacked k).comes fit stepped either)
+
+  -- behind it the keeper holds the state after the input
+  pub recorded : {new : Past} {later further : ℕ} → IsImage new (seen new)
+      → GoesOn layout new slot generation (unpacked k).body (records_of layout generation (seen past) ++ input_spelling input ∷ []) later further
+      → Keeps new sectors layout slot generation later further t
+  recorded is whole = packed is whole (comes_further (unpacked k).comes fit stepped) k.on_disk
+
+  -- the same of the calls that write it
+  module _ {of : ℕ} {bytes : List ℕ} (same : of ≡ generation) (is : bytes ≡ input_spelling input) where
+    ready : GoesOn layout past slot of (unpacked k).body (records_of layout generation (seen past)) number next
+    ready = subst (λ g. GoesOn layout past slot g (unpacked k).body (records_of layout generation (seen past)) number next) (sym same) (unpacked k).goes_on
+
+    pub during_begun : {new : Past} → ((slot : Slot) (body : List ℕ) (records : List (List ℕ)) → GoesOn layout past slot of body records number next
+        → During past new (EitherRecord layout slot of body records bytes)) → During past new (IsBegun layout s (input ∷ []))
+    during_begun {new} written = weaker past new _ _ either_begun
+        (subst (λ g. During past new (EitherRecord layout slot g (unpacked k).body (records_of layout generation (seen past)) (input_spelling input))) same
+        (subst (λ b. During past new (EitherRecord layout slot of (unpacked k).body (records_of layout generation (seen past)) b)) is
+        (written slot (unpacked k).body (records_of layout generation (seen past)) ready)))
+
+    pub kept_recorded : {new : Past} {l : Layout} {later_of later further : ℕ} → ((slot : Slot) (body : List ℕ) (records : List (List ℕ)) → GoesOn layout past slot of body records number next
+        → GoesOn l new slot later_of body (records ++ bytes ∷ []) later further)
+        → IsImage new (seen new) → l ≡ layout → later_of ≡ of → Keeps new sectors l slot generation later further t
+    kept_recorded {new} {l} {later_of} {later} {further} written image on_layout of_generation =
+        subst (λ (z : Layout). Keeps new sectors z slot generation later further t) (sym on_layout) (recorded image
+        (subst (λ b. GoesOn layout new slot generation (unpacked k).body (records_of layout generation (seen past) ++ b ∷ []) later further) is
+        (subst (λ g. GoesOn layout new slot g (unpacked k).body (records_of layout generation (seen past) ++ bytes ∷ []) later further) (of_generation ∙ same)
+        (subst (λ (z : Layout). GoesOn z new slot later_of (unpacked k).body (records_of layout generation (seen past) ++ bytes ∷ []) later further) on_layout
+        (written slot (unpacked k).body (records_of layout generation (seen past)) ready)))))
+
+-- the same by equal values
+pub held_at : {layout l : Layout} {size n : ℕ} {s t : State} → MayHold layout size s → l ≡ layout → n ≡ size → t ≡ s → MayHold l n t
+held_at {l = l} {size = size} {n = n} {s = s} held a b c =
+    subst (λ (z : State). MayHold l n z) (sym c) (subst (λ z. MayHold l z s) (sym b) (subst (λ (z : Layout). MayHold z size s) (sym a) held))
+
+pub keeps_for : {past : Past} {sectors more : ℕ} {layout : Layout} {slot : Slot} {generation number next : ℕ} {s t : State}
+    → Keeps past sectors layout slot generation number next s → more ≡ sectors → t ≡ s → Keeps past more layout slot generation number next t
+keeps_for {past} {sectors} {more} {layout} {slot} {generation} {number} {next} {s} k a b =
+    subst (λ (z : State). Keeps past more layout slot generation number next z) (sym b) (subst (λ z. Keeps past z layout slot generation number next s) (sym a) k)
+
+-- a state after a step may be held too
+pub held_after : {layout : Layout} {size : ℕ} {s t : State} {input : Input} {reply : Reply} {actions : List Action} → MayHold layout size s → FitInput input
+    → Step size s input reply actions t → MayHold layout size t
+held_after {size = size} {s = s} {t = t} {input} {reply} {actions} held fit step = record {
+  size_is = held.size_is;
+  servable = step_servable size s input reply actions t step held.servable;
+  fits = ∥∥₁_map held.fits (λ f. step_fits size s input reply actions t fit step f held.servable);
+}
+
+-- none of the inputs was taken
+none_begun : {layout : Layout} {s : State} {inputs : List Input} (image : Image) → IsStoreOf layout image s → IsBegun layout s inputs image
+none_begun {s = s} image store = record { count = 0; state = s; run = rests; store = store }
+
+pub not_begun : {past : Past} {sectors : ℕ} {layout : Layout} {slot : Slot} {generation number next : ℕ} {s : State} (inputs : List Input)
+    → Keeps past sectors layout slot generation number next s → During past past (IsBegun layout s inputs)
+not_begun {past} inputs k = weaker past past _ _ none_begun (still k)
+
+-- nor while a snapshot of the state was written
+pub room_begun : {past new : Past} {layout : Layout} {s : State} (inputs : List Input) → During past new (λ image. IsStoreOf layout image s) → During past new (IsBegun layout s inputs)
+room_begun {past} {new} inputs made = weaker past new _ _ none_begun made
+
+-- a snapshot first, and then the record
+pub room_and_record : {past mid new : Past} {layout l : Layout} {s t : State} (inputs : List Input) → During past mid (λ image. IsStoreOf layout image s)
+    → During mid new (IsBegun l t inputs) → l ≡ layout → t ≡ s → During past new (IsBegun layout s inputs)
+room_and_record {past} {mid} {new} {layout} {l} {s} {t} inputs made written on_layout of_state = followed past mid new _ (room_begun inputs made)
+    (subst (λ (z : State). During mid new (IsBegun layout z inputs)) of_state (subst (λ (z : Layout). During mid new (IsBegun z t inputs)) on_layout written))
+
+-- the record of an input that isn't refused is no longer than any record may be
+pub record_short : {layout : Layout} {size : ℕ} {s t : State} {input : Input} {reply : Reply} {actions : List Action} → MayHold layout size s → FitInput input
+    → Step size s input reply actions t → ((r : Refused) → reply ≢ Refusal r) → length (input_spelling input) ≤ 131072
+record_short {size = size} {s = s} {t = t} {input} {reply} {actions} held fit step accepted =
+    ∥∥₁_elim held.fits le_prop (λ f. (accepted_room size s input reply actions t f fit step accepted).1)
+
+-- ---- what a step answers
+
+-- what follows from what is said of a value
+pub if_ok : {A E : Type 0} {P Q : A → Type 0} (result : Result A E) → ((x : A) → P x → Q x) → IfOk result P → IfOk result Q
+if_ok (Ok x) more said = more x said
+if_ok (Err e) more said = said
+
+pub new_numbers : {size : ℕ} {s t u : State} {input : Input} {reply : Reply} {actions more : List Action} → Step size s input reply actions t → more ≡ actions → u ≡ t
+    → AreNew s.next u.next (started_numbers more)
+new_numbers {size} {s} {t} {u} {input} {reply} {actions} {more} step a b =
+    subst (λ (v : State). AreNew s.next v.next (started_numbers more)) (sym b)
+    (subst (λ l. AreNew s.next t.next (started_numbers l)) (sym a) (numbers_rise size s input reply actions t step))
+
+pub stores_at : {past : Past} {sectors : ℕ} {layout l : Layout} {slot : Slot} {generation number next : ℕ} {s : State} → Keeps past sectors l slot generation number next s
+    → l ≡ layout → Images past (λ image. IsStoreOf layout image s)
+stores_at {s = s} k same image is = subst (λ (z : Layout). IsStoreOf z image s) same (stores k image is)
+
+pub stores_for : {past : Past} {sectors : ℕ} {layout : Layout} {slot : Slot} {generation number next : ℕ} {s t : State} → Keeps past sectors layout slot generation number next s
+    → t ≡ s → Images past (λ image. IsStoreOf layout image t)
+stores_for {layout = layout} k same image is = subst (λ (z : State). IsStoreOf layout image z) (sym same) (stores k image is)
+
+-- ---- a snapshot
+
+-- a state's bytes are read again
+pub read_again : {layout : Layout} {size : ℕ} {s : State} → MayHold layout size s → nothing_left (state_at (state_spelling s)) ≡ Some s
+read_again {s = s} held = ∥∥₁_elim held.fits (Coded-set state_code (nothing_left (state_at (state_spelling s))) (Some s)) (state_back s)
+  where
+    state_code : Coded (Option State)
+    state_code = Prim.hlevel (codes, maps.code, tree_code)
+
+-- and have room in a slot
+pub spelled_fits : {layout : Layout} {size : ℕ} {s : State} → MayHold layout size s → length (state_spelling s) ≤ body_limit layout
+spelled_fits {size = size} {s = s} held = subst (λ n. length (state_spelling s) ≤ n) held.size_is (∥∥₁_elim held.fits le_prop (λ f. spelled_room size s f held.servable))
+
+module _ {past : Past} {sectors : ℕ} {layout : Layout} {slot : Slot} {generation number next size : ℕ} {s : State} (held : MayHold layout size s)
+    (k : Keeps past sectors layout slot generation number next s) where
+  may : IsServable (body_limit layout) s
+  may = subst (λ n. IsServable n s) held.size_is held.servable
+
+  -- while it is written the image is a store of the state
+  pub either_kept : (image : Image) → EitherSnapshot layout past slot generation (unpacked k).body (state_spelling s) image → IsStoreOf layout image s
+  either_kept image (inl was) = store_of (subst (IsStore layout image slot generation (unpacked k).body) (k.records was.from was.was) was.store) (unpacked k).comes
+  either_kept image (inr new) = anew new (read_again held) may
+
+  -- the same of the calls that write it
+  pub during_kept : {new : Past} {body : List ℕ} → body ≡ state_spelling s
+      → ((before : List ℕ) → Images past (store.IsStoreOf layout slot generation before) → During past new (EitherSnapshot layout past slot generation before body))
+      → During past new (λ image. IsStoreOf layout image s)
+  during_kept {new} {body} is written = weaker past new _ _ either_kept
+      (subst (λ b. During past new (EitherSnapshot layout past slot generation (unpacked k).body b)) is (written (unpacked k).body (snapshots k)))
+
+  -- behind it the keeper holds the same state, with no record
+  pub snapped : {new : Past} {to : Slot} {after later further : ℕ} → IsImage new (seen new) → log_end layout after ≤ sectors
+      → GoesOn layout new to after (state_spelling s) [] later further → Keeps new sectors layout to after later further s
+  snapped is on_disk whole = packed is whole (comes_anew (read_again held) may) on_disk
+
+  -- behind the calls that write it
+  module _ {new : Past} {to : Slot} {after later further : ℕ} {body : List ℕ} (is : body ≡ state_spelling s)
+      (written : (before : List ℕ) → Images past (store.IsStoreOf layout slot generation before) → GoesOn layout new to after body [] later further) where
+    behind : GoesOn layout new to after (state_spelling s) [] later further
+    behind = subst (λ b. GoesOn layout new to after b [] later further) is (written (unpacked k).body (snapshots k))
+
+    pub kept_behind : IsImage new (seen new) → log_end layout after ≤ sectors → Keeps new sectors layout to after later further s
+    kept_behind image on_disk = snapped image on_disk behind
+
+    pub told_behind : Images new (λ image. contents_of layout image ≡ Some (contents to after s []))
+    told_behind image at = contents_are (behind.store image at) (read_again held) refl

@@ -1,0 +1,4 @@
+pub mod Kept
+mod Reopening
+mod Results
+mod Wiping

@@ -1,0 +1,33 @@
+-- Of results.
+use Rattle.std.proofs.Common.{◌≡◌, ◌⊎◌, inr, ℕ, sym, subst}
+use Rattle.std.specs.Prelude.{Result, Ok, Err, OnOk, OnErr, IfOk, IfErr}
+use Rattle.std.specs.Result.{IsErrAnd}
+use Rattle.um_sector.specs.Refused.{CountsDevice}
+use Rattle.um_wire.specs.declared.refusal.Refusal.{Refusal}
+use Rattle.um_wire.specs.declared.refusal.Refusal.TheVariants.{Device}
+use Rattle.std.proofs.lemmas.Result.{err_from_is_err_and}
+
+-- what follows at Ok
+pub ok_from : {T E : Type 0} (result : Result T E) {P Q : Type 0} → (P → Q) → OnOk result P → OnOk result Q
+ok_from (Ok x) f p = f p
+ok_from (Err e) f p = tt
+
+-- what holds anyway
+pub err_from : {T E : Type 0} (result : Result T E) {P : Type 0} → P → OnErr result P
+err_from (Ok x) p = tt
+err_from (Err e) p = p
+
+-- what a `?` hands on as it is
+pub err_same : {T E : Type 0} (P : E → Type 0) (result : Result T E) (e : E) → IsErrAnd result (λ y. y ≡ e) → P e → IfErr result P
+err_same P result e is p = let (y, r, q) = err_from_is_err_and result is in subst (λ x. IfErr x P) (sym r) (subst P (sym q) p)
+
+-- the device didn't fail
+pub not_device : {T : Type 0} (result : Result T Refusal) (e : Refusal) (old new : ℕ) → IsErrAnd result (λ y. y ≡ e) → ¬ (e ≡ Device) → new ≡ old → CountsDevice result old new
+not_device result e old new is differs same =
+    let (y, r, q) = err_from_is_err_and result is in
+    subst (λ x. CountsDevice x old new) (sym r) (inr (subst (λ z. ¬ (z ≡ Device)) (sym q) differs, same))
+
+-- what follows of the value at Ok
+pub if_ok_from : {T E : Type 0} (result : Result T E) (P Q : T → Type 0) → ((x : T) → P x → Q x) → IfOk result P → IfOk result Q
+if_ok_from (Ok x) P Q f p = f x p
+if_ok_from (Err e) P Q f p = tt

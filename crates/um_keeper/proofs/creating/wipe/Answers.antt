@@ -1,0 +1,51 @@
+use Rattle.std.proofs.Common.{◌≡◌, ◌+◌, ◌∙◌, ℕ, subst, arith}
+use Rattle.std.specs.Prelude.{replicate, IsTrue}
+use Rattle.um_model.specs.Disk.{seen, Past, Images, During, AfterRun, IsLaid}
+use Rattle.um_model.specs.declared.layout.Slot.TheVariants.{A, B}
+use Rattle.um_model.specs.Store.{slot_start, log_start}
+use Rattle.um_keeper.specs.Creating.{blank, IsWiped}
+use Rattle.um_keeper.proofs.Results.{ok_from}
+use Rattle.um_keeper.proofs.Wiping.{zero_first, zero_goes_on, wiped}
+use Rattle.um_keeper.proofs.creating.wipe.Goals as goal
+
+pub returns-in_err-write_blank-clause-during : goal.returns-in_err-write_blank-clause-during
+returns-in_err-write_blank-clause-during g c h all =
+    let a : c.slot_start.result ≡ 1 = c.slot_start.ensures in
+    zero_first (g.D.Disk.past c.args.disk.now) (g.D.Disk.past c.write_blank.new.disk) c.slot_start.result (replicate 1 blank) (omega (arith, a)) all (c.write_blank.ensures.during h)
+
+pub returns-in_err-write_blank-2-clause-during : goal.returns-in_err-write_blank-2-clause-during
+returns-in_err-write_blank-2-clause-during g c h all =
+    let a : c.slot_start.result ≡ 1 = c.slot_start.ensures in
+    let b : c.slot_start-2.result ≡ c.args.layout.slot_sectors + 1 = c.slot_start-2.ensures in
+    zero_goes_on (g.D.Disk.past c.args.disk.now) (g.D.Disk.past c.write_blank.new.disk) (g.D.Disk.past c.write_blank-2.new.disk) c.slot_start-2.result (replicate 1 blank) (omega (arith, b))
+    (zero_first (g.D.Disk.past c.args.disk.now) (g.D.Disk.past c.write_blank.new.disk) c.slot_start.result (replicate 1 blank) (omega (arith, a)) all (c.write_blank.ensures.during h))
+    (c.write_blank-2.ensures.during (c.write_blank.ensures.honest ∙ h))
+
+pub returns-clause-during : goal.returns-clause-during
+returns-clause-during g c h all =
+    let a : c.slot_start.result ≡ 1 = c.slot_start.ensures in
+    let b : c.slot_start-2.result ≡ c.args.layout.slot_sectors + 1 = c.slot_start-2.ensures in
+    let l : c.log_start.result ≡ log_start c.args.layout 1 = c.log_start.ensures in
+    let p0 = g.D.Disk.past c.args.disk.now in
+    let p1 = g.D.Disk.past c.write_blank.new.disk in
+    let p2 = g.D.Disk.past c.write_blank-2.new.disk in
+    zero_goes_on p0 p2 (g.D.Disk.past c.write_blank-3.new.disk) c.log_start.result (replicate c.args.layout.log_sectors blank) (omega (arith, l))
+    (zero_goes_on p0 p1 p2 c.slot_start-2.result (replicate 1 blank) (omega (arith, b))
+    (zero_first p0 p1 c.slot_start.result (replicate 1 blank) (omega (arith, a)) all (c.write_blank.ensures.during h))
+    (c.write_blank-2.ensures.during (c.write_blank.ensures.honest ∙ h)))
+    (c.write_blank-3.ensures.during (c.write_blank-2.ensures.honest ∙ (c.write_blank.ensures.honest ∙ h)))
+
+pub returns-clause-ok : goal.returns-clause-ok
+returns-clause-ok g c =
+    let p0 = g.D.Disk.past c.args.disk.now in
+    let p1 = g.D.Disk.past c.write_blank.new.disk in
+    let p2 = g.D.Disk.past c.write_blank-2.new.disk in
+    let p3 = g.D.Disk.past c.write_blank-3.new.disk in
+    ok_from c.write_blank-3.result
+    (λ laid h zero.
+    let h1 = c.write_blank.ensures.honest ∙ h in
+    wiped c.args.layout (seen p0) (seen p1) (seen p2) (seen p3) zero
+    (subst (λ (n : ℕ). IsLaid (seen p0) n (replicate 1 blank) (seen p1)) c.slot_start.ensures (c.in_ok-write_blank.ensures.ok h))
+    (subst (λ (n : ℕ). IsLaid (seen p1) n (replicate 1 blank) (seen p2)) c.slot_start-2.ensures (c.in_ok-write_blank-2.ensures.ok h1))
+    (subst (λ (n : ℕ). IsLaid (seen p2) n (replicate c.args.layout.log_sectors blank) (seen p3)) c.log_start.ensures (laid (c.write_blank-2.ensures.honest ∙ h1))))
+    c.write_blank-3.ensures.ok

@@ -1,0 +1,60 @@
+-- What clauses say of a keeper: its disk, the layout of its store, where it stands on the disk, and its state.
+-- No manual page has it: it is the project's own.
+-- The keeper's calls stand on this file.
+use Rattle.std.specs.Prelude.{◌≡◌, ◌≢◌, ◌-◌, ◌^◌, ℕ, Bool}
+use Rattle.um_model.specs.Machine.{State, Refusal, Step}
+use Rattle.um_model.specs.Refusals.{Refused}
+use Rattle.um_model.specs.declared.layout.Layout.{Layout}
+use Rattle.um_model.specs.declared.layout.Slot.{Slot}
+use Rattle.um_engine.specs.Engine as engine
+use Rattle.um_engine.specs.declared.engine.Next.{Next}
+use Rattle.um_log.specs.Reading.{Fits}
+use Rattle.um_state.specs.View.{input_of}
+use Rattle.um_state.specs.declared.input.Input.{Input}
+use Rattle.um_keeper.specs.declared.keeper.Keeper.{Keeper}
+
+abbrev pub disk_in : {D : Type 0} {g : _} → Keeper D g → D
+disk_in k = k.disk
+
+-- the state, and the size of the store that may hold it, in bytes
+abbrev pub state_in : {D : Type 0} {g : _} → Keeper D g → State
+state_in k = engine.state_in k.engine
+
+abbrev pub size_in : {D : Type 0} {g : _} → Keeper D g → ℕ
+size_in k = engine.size_in k.engine
+
+abbrev pub layout_in : {D : Type 0} {g : _} → Keeper D g → Layout
+layout_in k = k.log.layout
+
+-- where the newest snapshot stands
+abbrev pub slot_in : {D : Type 0} {g : _} → Keeper D g → Slot
+slot_in k = k.home.slot
+
+abbrev pub generation_in : {D : Type 0} {g : _} → Keeper D g → ℕ
+generation_in k = k.home.generation
+
+-- the number and the first sector of the next record
+abbrev pub number_in : {D : Type 0} {g : _} → Keeper D g → ℕ
+number_in k = k.log.number
+
+abbrev pub next_in : {D : Type 0} {g : _} → Keeper D g → ℕ
+next_in k = k.log.next
+
+-- an earlier call failed on its disk
+abbrev pub has_failed : {D : Type 0} {g : _} → Keeper D g → Bool
+has_failed k = k.failed
+
+-- the same layout, and the same size of the store
+pub record IsSamePlace {D : Type 0} {g : _} (old new : Keeper D g) : Type 0 where
+  pub layout : layout_in new ≡ layout_in old
+  pub size : size_in new ≡ size_in old
+
+-- the log has no room for a record of so many bytes, and the generation is the last
+pub record HasNoRoom {D : Type 0} {g : _} (k : Keeper D g) (bytes : ℕ) : Type 0 where
+  pub no_room : ¬ Fits (layout_in k) (generation_in k) (next_in k) bytes
+  pub last : generation_in k ≡ 2 ^ 64 - 1
+
+-- it is the step of the machine that the input is, and no refusal
+pub record IsPlanned {D : Type 0} {g : _} (k : Keeper D g) (input : Input) (next : Next) : Type 0 where
+  pub step : Step (size_in k) (state_in k) (input_of input) (engine.reply_in next) (engine.actions_in next) (engine.state_after next (state_in k))
+  pub accepted : (r : Refused) → engine.reply_in next ≢ Refusal r

@@ -1,0 +1,101 @@
+-- What opening reads of a disk, and why it isn't taken up.
+-- No manual page has it: it is the project's own format (docs/FORMATS.md, "The store on its disk").
+-- `Keeper::open` stands on this file.
+use Rattle.std.specs.Prelude.{◌≡◌, ◌+◌, ◌-◌, ◌^◌, ◌<◌, ◌≤◌, ℕ, List, [], ◌∷◌, take, Option, Some, None}
+use Rattle.um_model.specs.Bytes.{nothing_left}
+use Rattle.um_model.specs.Disk.{Image, Past, IsImage}
+use Rattle.um_model.specs.InputSpellings.{input_at}
+use Rattle.um_model.specs.Machine.{State, Input, Reply, Step}
+use Rattle.um_model.specs.Servable.{IsServable}
+use Rattle.um_model.specs.Service.{Action}
+use Rattle.um_model.specs.Stands.{IsStoreOf}
+use Rattle.um_model.specs.StateSpellings.{state_at, FitState}
+use Rattle.um_model.specs.Store.{store_name, store_format, superblock, slot_start, body_limit, log_start, store_sectors, Newest, newest_of, records_of, placed}
+use Rattle.um_model.specs.Store as sectors
+use Rattle.um_model.specs.declared.layout.Layout.{Layout}
+use Rattle.um_model.specs.declared.layout.Slot.{Slot}
+use Rattle.um_wire.specs.declared.refusal.Refusal.{Refusal}
+use Rattle.um_wire.specs.declared.refusal.Refusal.TheVariants.{Damaged, NotFormatted, GenerationsSpent, OtherLayout}
+use Rattle.um_log.specs.Later.{IsFirstLater}
+
+-- sector 0 tells a layout for which a disk of so many sectors has room
+pub record HasLayout (count : ℕ) (image : Image) (layout : Layout) : Type 0 where
+  pub first : image 0 ≡ superblock layout
+  pub room : store_sectors layout ≤ count
+
+-- a body spells a state that a store of this layout may hold
+pub record IsStart (layout : Layout) (body : List ℕ) (s : State) : Type 0 where
+  pub read : nothing_left (state_at body) ≡ Some s
+  pub servable : IsServable (body_limit layout) s
+
+-- an input leads to a state, whatever it answers and asks for
+pub record Leads (size : ℕ) (s : State) (input : Input) (t : State) : Type 0 where
+  pub reply : Reply
+  pub actions : List Action
+  pub step : Step size s input reply actions t
+
+-- the inputs that records spell lead one behind the other to a state
+pub data Replays (size : ℕ) : List (List ℕ) → State → State → Type 0 where
+  no_more : {s : State} → Replays size [] s s
+  and_then : {bytes : List ℕ} {records : List (List ℕ)} {input : Input} {s t u : State} → nothing_left (input_at bytes) ≡ Some input
+      → Leads size s input t → Replays size records t u → Replays size (bytes ∷ records) s u
+
+-- the first of these records that spells no input is the cause, told by its first sector
+pub data IsNoInput : List (ℕ × List ℕ) → Refusal → Type 0 where
+  here : {first : ℕ} {bytes : List ℕ} {places : List (ℕ × List ℕ)} → nothing_left (input_at bytes) ≡ None → IsNoInput ((first, bytes) ∷ places) (Damaged first)
+  later : {first : ℕ} {bytes : List ℕ} {input : Input} {places : List (ℕ × List ℕ)} {e : Refusal} → nothing_left (input_at bytes) ≡ Some input
+      → IsNoInput places e → IsNoInput ((first, bytes) ∷ places) e
+
+-- Why what a read of a disk of so many sectors gives isn't taken up: the first of these that applies.
+pub data IsUnread (count : ℕ) (image : Image) : Refusal → Type 0 where
+  no_sector : count ≡ 0 → IsUnread count image NotFormatted
+  no_store : 0 < count → ¬ (take 6 (image 0) ≡ store_name) → IsUnread count image NotFormatted
+  other_format : 0 < count → take 6 (image 0) ≡ store_name → ¬ (take 8 (image 0) ≡ store_format) → IsUnread count image OtherLayout
+  no_layout : 0 < count → take 8 (image 0) ≡ store_format → ((layout : Layout) → ¬ HasLayout count image layout) → IsUnread count image (Damaged 0)
+  no_header : {layout : Layout} → HasLayout count image layout → newest_of layout image ≡ None → IsUnread count image (Damaged 1)
+  spent : {layout : Layout} {n : Newest} → HasLayout count image layout → newest_of layout image ≡ Some n → n.generation ≡ 2 ^ 64 - 1
+      → IsUnread count image GenerationsSpent
+  no_state : {layout : Layout} {n : Newest} → HasLayout count image layout → newest_of layout image ≡ Some n → n.generation < 2 ^ 64 - 1
+      → ((s : State) → ¬ IsStart layout n.body s) → IsUnread count image (Damaged (slot_start layout n.slot + 1))
+  no_input : {layout : Layout} {n : Newest} {s : State} {e : Refusal} → HasLayout count image layout → newest_of layout image ≡ Some n
+      → n.generation < 2 ^ 64 - 1 → IsStart layout n.body s
+      → IsNoInput (placed (log_start layout n.generation) (records_of layout n.generation image)) e → IsUnread count image e
+  later_sector : {layout : Layout} {n : Newest} {s t : State} {j : ℕ} → HasLayout count image layout → newest_of layout image ≡ Some n
+      → n.generation < 2 ^ 64 - 1 → IsStart layout n.body s → Replays (body_limit layout) (records_of layout n.generation image) s t
+      → IsFirstLater layout n.generation image j → IsUnread count image (Damaged j)
+
+-- What a read gives is taken up: a store of this layout on the disk, whose newest snapshot and its records come to the state.
+pub record IsTakenUp (count : ℕ) (image : Image) (layout : Layout) (slot : Slot) (generation : ℕ) (s : State) : Type 0 where
+  pub room : store_sectors layout ≤ count
+  pub body : List ℕ
+  pub start : State
+  pub store : sectors.IsStore layout image slot generation body (records_of layout generation image)
+  pub starts : IsStart layout body start
+  pub replays : Replays (body_limit layout) (records_of layout generation image) start s
+
+-- The state that was taken up of an image, in the other slot and one generation on.
+pub record IsNextOf (count : ℕ) (image : Image) (layout : Layout) (slot : Slot) (generation : ℕ) (s : State) : Type 0 where
+  pub before : Slot
+  pub earlier : ℕ
+  pub turned : slot ≡ sectors.other before
+  pub next : generation ≡ earlier + 1
+  pub taken : IsTakenUp count image layout before earlier s
+
+-- what a store of this layout may hold, and what has bytes
+pub record IsKept (layout : Layout) (size : ℕ) (s : State) : Type 0 where
+  pub size_is : size ≡ body_limit layout
+  pub servable : IsServable size s
+  pub fits : FitState s
+
+-- a store of some state
+pub record IsSomeStore (layout : Layout) (image : Image) : Type 0 where
+  pub state : State
+  pub store : IsStoreOf layout image state
+
+-- a store of a state that one of the images of before was a store of
+pub record IsAsBefore (layout : Layout) (past : Past) (image : Image) : Type 0 where
+  pub from : Image
+  pub was : IsImage past from
+  pub state : State
+  pub before : IsStoreOf layout from state
+  pub now : IsStoreOf layout image state

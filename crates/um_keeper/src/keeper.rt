@@ -1,0 +1,272 @@
+ghost use Rattle.std.specs.Prelude.{◌≡◌, ◌≢◌, ◌⊎◌, ◌↔◌, ◌+◌, ◌-◌, ◌^◌, ◌<◌, ◌≤◌, ◌∷◌, [], true, false, length, Err, Some, IfOk, IfErr, OnOk, OnErr, IsTrue};
+ghost use Rattle.std.proofs.Props.{props};
+ghost use Rattle.std.specs.Coded.{codes};
+ghost use Rattle.std.specs.FinMap as maps;
+ghost use Rattle.um_engine.specs.Engine as machine;
+ghost use Rattle.um_engine.specs.Engine.{reply_in, actions_in, state_after};
+ghost use Rattle.um_engine.specs.OfStore.{is_of_store};
+ghost use Rattle.um_keeper.specs.Keeping.{MayHold, Keeps, IsBegun, record_calls, snapshot_calls};
+ghost use Rattle.um_log.specs.Reading.{Fits};
+ghost use Rattle.um_model.specs.Disk.{During, Images};
+ghost use Rattle.um_model.specs.InputSpellings.{FitInput, input_spelling};
+ghost use Rattle.um_model.specs.Machine as model;
+ghost use Rattle.um_model.specs.Machine.{Step, LacksEffect, moment_of};
+ghost use Rattle.um_model.specs.Numbers.{AreNew, started_numbers};
+ghost use Rattle.um_model.specs.Refusals.{Refused};
+ghost use Rattle.um_model.specs.StateSpellings.{state_spelling};
+ghost use Rattle.um_model.specs.Stands.{contents_of, IsStoreOf};
+ghost use Rattle.um_model.specs.Store.{other, log_start};
+ghost use Rattle.um_sector.specs.Refused.{CountsDevice, IsLost};
+ghost use Rattle.um_state.specs.View.{state_of, input_of, query_of, reply_of};
+ghost use Rattle.um_tree.specs.Code.{tree_code};
+ghost use Rattle.um_wire.specs.Refusal.{refused_of};
+
+use crate::receipt::Receipt;
+use std::alloc::{AllocError, Global};
+use um_engine::{Engine, Next};
+use um_log::Log;
+use um_sector::Disk;
+use um_slot::{Home, write_other};
+use um_state::{Input, Query, Reply, State};
+use um_wire::{Canon, Refusal};
+
+/// The engine over its store on a disk. Whichever image a crash leaves of the disk, it is a store of the engine's state, as long as
+/// the disk does what it answers and no call on it failed.
+#[derive(Drop)]
+pub struct Keeper<D: Disk> {
+    pub(crate) alloc: Global,
+    pub(crate) disk: D,
+    pub(crate) engine: Engine,
+    pub(crate) home: Home,
+    pub(crate) log: Log,
+    /// A call on the disk failed, so that it isn't known what stands there.
+    pub(crate) failed: bool,
+    ghost same: { log.generation ≡ home.generation },
+    ghost holds: { MayHold log.layout (machine.size_in engine) (machine.state_in engine) },
+    ghost kept: { failed ≡ false → IsTrue (D.honest disk)
+        → Keeps (D.past disk) (D.size disk) log.layout home.slot home.generation log.number log.next (machine.state_in engine) } by { Prim.hlevel (props, codes, maps.code, tree_code) },
+}
+
+/// The bytes of an input.
+fn input_bytes(alloc: Global, input: &Input) -> Result<Vec<u8>, AllocError>
+    ensures bytes { IfOk result (λ bytes. bytes.items ≡ input_spelling (input_of input.now)) }
+    ensures fits { OnOk result (FitInput (input_of input.now)) }
+{
+    let mut bytes = Vec::new(alloc);
+    input.put(&mut bytes)?;
+    Ok(bytes)
+}
+
+/// The bytes of a state.
+fn state_bytes(alloc: Global, state: &State) -> Result<Vec<u8>, AllocError>
+    ensures { IfOk result (λ bytes. bytes.items ≡ state_spelling (state_of state.now)) }
+{
+    let mut bytes = Vec::new(alloc);
+    state.put(&mut bytes)?;
+    Ok(bytes)
+}
+
+/// The refusal of a call on the disk, noted where the disk failed.
+fn noted(failed: &mut bool, refusal: Refusal) -> Refusal
+    ensures same { result ≡ refusal }
+    ensures failed { (failed.new ≡ true) ↔ ((failed.old ≡ true) ⊎ (refusal ≡ Refusal.Device)) }
+{
+    if let Refusal::Device = refusal {
+        *failed = true;
+    }
+    refusal
+}
+
+impl<D: Disk> Keeper<D> {
+    ghost use Rattle.um_keeper.specs.Keepers.{disk_in, state_in, size_in, layout_in, slot_in, generation_in, number_in, next_in, has_failed, IsSamePlace, HasNoRoom, IsPlanned};
+
+    /// The state.
+    pub fn state(&self) -> &State
+        ensures { state_of result.now ≡ state_in self.now }
+    {
+        self.engine.state()
+    }
+
+    /// The reply to a query. It asks nothing of the disk.
+    pub fn query(&self, query: &Query) -> Result<Reply, AllocError>
+        ensures { IfOk result (λ reply. model.IsReplyTo (state_in self.now) (query_of query.now) (reply_of reply)) }
+    {
+        self.engine.query(query)
+    }
+
+    /// The disk, as the last call left it.
+    pub fn into_disk(self) -> D
+        ensures { result ≡ disk_in self }
+    {
+        self.disk
+    }
+
+    /// Writes the state as the next generation, so that no record is read.
+    ///
+    /// Each image of each moment meanwhile is a store of the state. E17 where an earlier call answered E16; E20 where the generation is
+    /// the last; E15, with nothing written; E16 where a disk call fails.
+    pub fn checkpoint(&mut self) -> Result<(), Refusal>
+        ensures during { has_failed self.old ≡ false → IsTrue (D.honest (disk_in self.old))
+            → During (D.past (disk_in self.old)) (D.past (disk_in self.new)) (λ image. IsStoreOf (layout_in self.old) image (state_in self.old)) }
+        ensures ok { OnOk result ((slot_in self.new ≡ other (slot_in self.old)) × (generation_in self.new ≡ generation_in self.old + 1)
+            × (number_in self.new ≡ 0) × (next_in self.new ≡ log_start (layout_in self.old) (generation_in self.new))) }
+        ensures stored { OnOk result (IsTrue (D.honest (disk_in self.old)) → Images (D.past (disk_in self.new)) (λ image. contents_of (layout_in self.old) image
+            ≡ Some (record { slot = slot_in self.new; generation = generation_in self.new; start = state_in self.old; inputs = [] }))) }
+        ensures state { state_in self.new ≡ state_in self.old }
+        ensures place { IsSamePlace self.old self.new }
+        ensures same { OnErr result ((slot_in self.new ≡ slot_in self.old) × (generation_in self.new ≡ generation_in self.old)
+            × (number_in self.new ≡ number_in self.old) × (next_in self.new ≡ next_in self.old)) }
+        ensures refused { IfErr result (λ e. IsLost e ⊎ (e ≡ Refusal.Reopen) ⊎ (e ≡ Refusal.GenerationsSpent)) }
+        ensures unwritten { IfErr result (λ e. (e ≡ Refusal.Device) ⊎ (disk_in self.new ≡ disk_in self.old)) }
+        ensures device { CountsDevice result (D.failures (disk_in self.old)) (D.failures (disk_in self.new)) }
+        ensures failed { (has_failed self.new ≡ true) ↔ ((has_failed self.old ≡ true) ⊎ (result ≡ Err Refusal.Device)) }
+        ensures reopen { (result ≡ Err Refusal.Reopen) ↔ (has_failed self.old ≡ true) }
+        ensures spent { (result ≡ Err Refusal.GenerationsSpent) ↔ ((has_failed self.old ≡ false) × (generation_in self.old ≡ 2 ^ 64 - 1)) }
+        ensures calls { D.calls (disk_in self.new) ≤ D.calls (disk_in self.old) + snapshot_calls (state_in self.old) }
+        ensures size { D.size (disk_in self.new) ≡ D.size (disk_in self.old) }
+        ensures honest { D.honest (disk_in self.new) ≡ D.honest (disk_in self.old) }
+    {
+        if self.failed {
+            return Err(Refusal::Reopen);
+        }
+        if self.home.generation == u64::MAX {
+            return Err(Refusal::GenerationsSpent);
+        }
+        let body = state_bytes(self.alloc, self.engine.state())?;
+        match write_other(
+            self.alloc,
+            &mut self.disk,
+            self.log.layout,
+            self.home,
+            &body,
+        ) {
+            Ok(Some(home)) => {
+                self.home = home;
+                self.log = Log::new(self.log.layout, home.generation);
+                Ok(())
+            }
+            Ok(None) => unreachable!(),
+            Err(refusal) => Err(noted(&mut self.failed, refusal)),
+        }
+    }
+
+    /// Sees that a record of so many bytes fits: where it doesn't, the state is written as the next generation first.
+    fn make_room(&mut self, bytes: usize) -> Result<(), Refusal>
+        requires working { self.old.failed ≡ false }
+        requires some { 0 < bytes }
+        requires short { bytes ≤ 131072 }
+        ensures during { IsTrue (D.honest (disk_in self.old))
+            → During (D.past (disk_in self.old)) (D.past (disk_in self.new)) (λ image. IsStoreOf (layout_in self.old) image (state_in self.old)) }
+        ensures fits { OnOk result (Fits (layout_in self.new) (generation_in self.new) (next_in self.new) bytes) }
+        ensures state { state_in self.new ≡ state_in self.old }
+        ensures place { IsSamePlace self.old self.new }
+        ensures refused { IfErr result (λ e. IsLost e ⊎ (e ≡ Refusal.GenerationsSpent)) }
+        ensures unwritten { IfErr result (λ e. (e ≡ Refusal.Device) ⊎ (disk_in self.new ≡ disk_in self.old)) }
+        ensures device { CountsDevice result (D.failures (disk_in self.old)) (D.failures (disk_in self.new)) }
+        ensures failed { (has_failed self.new ≡ true) ↔ (result ≡ Err Refusal.Device) }
+        ensures spent { result ≡ Err Refusal.GenerationsSpent → HasNoRoom self.old bytes }
+        ensures untouched { Fits (layout_in self.old) (generation_in self.old) (next_in self.old) bytes → disk_in self.new ≡ disk_in self.old }
+        ensures calls { D.calls (disk_in self.new) ≤ D.calls (disk_in self.old) + snapshot_calls (state_in self.old) }
+        ensures size { D.size (disk_in self.new) ≡ D.size (disk_in self.old) }
+        ensures honest { D.honest (disk_in self.new) ≡ D.honest (disk_in self.old) }
+    {
+        if self.log.fits(bytes) {
+            return Ok(());
+        }
+        self.checkpoint()
+    }
+
+    /// Takes a planned step, with the receipt of what it answers, once its record is on the disk.
+    fn append(&mut self, input: &Input, next: Next, bytes: &[u8]) -> Result<Receipt, Refusal>
+        requires working { self.old.failed ≡ false }
+        requires step { IsPlanned self.old input.now next }
+        requires bytes { bytes.now ≡ input_spelling (input_of input.now) }
+        requires has_bytes { FitInput (input_of input.now) }
+        requires fits { Fits (layout_in self.old) (generation_in self.old) (next_in self.old) (length bytes.now) }
+        ensures during { IsTrue (D.honest (disk_in self.old))
+            → During (D.past (disk_in self.old)) (D.past (disk_in self.new)) (IsBegun (layout_in self.old) (state_in self.old) (input_of input.now ∷ [])) }
+        ensures ok { IfOk result (λ receipt. (receipt.0 ≡ reply_in next) × (receipt.1 ≡ actions_in next) × (state_in self.new ≡ state_after next (state_in self.old))) }
+        ensures state { OnErr result (state_in self.new ≡ state_in self.old) }
+        ensures place { IsSamePlace self.old self.new }
+        ensures refused { IfErr result IsLost }
+        ensures device { CountsDevice result (D.failures (disk_in self.old)) (D.failures (disk_in self.new)) }
+        ensures failed { (has_failed self.new ≡ true) ↔ (result ≡ Err Refusal.Device) }
+        ensures calls { D.calls (disk_in self.new) ≤ D.calls (disk_in self.old) + record_calls (input_of input.now) }
+        ensures size { D.size (disk_in self.new) ≡ D.size (disk_in self.old) }
+        ensures honest { D.honest (disk_in self.new) ≡ D.honest (disk_in self.old) }
+    {
+        match self.log.append(self.alloc, &mut self.disk, bytes) {
+            Ok(true) => {
+                let (reply, actions, _) = self.engine.commit(next);
+                Ok(Receipt::new(reply, actions))
+            }
+            Ok(false) => unreachable!(),
+            Err(refusal) => Err(noted(&mut self.failed, refusal)),
+        }
+    }
+
+    /// Records a planned input and takes its step, behind a checkpoint where the log has no room for it.
+    fn record(&mut self, input: &Input, next: Next) -> Result<Receipt, Refusal>
+        requires working { self.old.failed ≡ false }
+        requires step { IsPlanned self.old input.now next }
+        ensures during { IsTrue (D.honest (disk_in self.old))
+            → During (D.past (disk_in self.old)) (D.past (disk_in self.new)) (IsBegun (layout_in self.old) (state_in self.old) (input_of input.now ∷ [])) }
+        ensures ok { IfOk result (λ receipt. (receipt.0 ≡ reply_in next) × (receipt.1 ≡ actions_in next) × (state_in self.new ≡ state_after next (state_in self.old))) }
+        ensures state { OnErr result (state_in self.new ≡ state_in self.old) }
+        ensures place { IsSamePlace self.old self.new }
+        ensures refused { IfErr result (λ e. IsLost e ⊎ (e ≡ Refusal.GenerationsSpent)) }
+        ensures device { CountsDevice result (D.failures (disk_in self.old)) (D.failures (disk_in self.new)) }
+        ensures failed { (has_failed self.new ≡ true) ↔ (result ≡ Err Refusal.Device) }
+        ensures spent { result ≡ Err Refusal.GenerationsSpent → HasNoRoom self.old (length (input_spelling (input_of input.now))) × (disk_in self.new ≡ disk_in self.old) }
+        ensures calls { Fits (layout_in self.old) (generation_in self.old) (next_in self.old) (length (input_spelling (input_of input.now)))
+            → D.calls (disk_in self.new) ≤ D.calls (disk_in self.old) + record_calls (input_of input.now) }
+        ensures most_calls { D.calls (disk_in self.new) ≤ D.calls (disk_in self.old) + snapshot_calls (state_in self.old) + record_calls (input_of input.now) }
+        ensures size { D.size (disk_in self.new) ≡ D.size (disk_in self.old) }
+        ensures honest { D.honest (disk_in self.new) ≡ D.honest (disk_in self.old) }
+    {
+        let bytes = input_bytes(self.alloc, input)?;
+        self.make_room(bytes.len())?;
+        self.append(input, next, &bytes)
+    }
+
+    /// Takes a step: plans it, records it and syncs, and only then answers.
+    ///
+    /// Each image of each moment meanwhile is a store of the state before, or of that with the input. The step's refusals (E1 to E14),
+    /// with nothing written; E17 where an earlier call answered E16; E20 where the record has no room and the generation is the last,
+    /// with nothing written; E15 and E16, after which the state is that from before.
+    pub fn submit(&mut self, input: &Input) -> Result<Receipt, Refusal>
+        ensures during { has_failed self.old ≡ false → IsTrue (D.honest (disk_in self.old))
+            → During (D.past (disk_in self.old)) (D.past (disk_in self.new)) (IsBegun (layout_in self.old) (state_in self.old) (input_of input.now ∷ [])) }
+        ensures ok { IfOk result (λ receipt. Step (size_in self.old) (state_in self.old) (input_of input.now) receipt.0 receipt.1 (state_in self.new)) }
+        ensures accepted { IfOk result (λ receipt. (r : Refused) → receipt.0 ≢ model.Refusal r) }
+        ensures order { IfOk result (λ receipt. AreNew (state_in self.old).next (state_in self.new).next (started_numbers receipt.1)) }
+        ensures stored { has_failed self.new ≡ false → IsTrue (D.honest (disk_in self.old))
+            → Images (D.past (disk_in self.new)) (λ image. IsStoreOf (layout_in self.old) image (state_in self.new)) }
+        ensures state { OnErr result (state_in self.new ≡ state_in self.old) }
+        ensures place { IsSamePlace self.old self.new }
+        ensures refused { IfErr result (λ e. IsLost e ⊎ (e ≡ Refusal.Reopen) ⊎ (e ≡ Refusal.GenerationsSpent) ⊎ ((is_of_store e ≡ false)
+            × Step (size_in self.old) (state_in self.old) (input_of input.now) (model.Refusal (refused_of e)) [] (state_in self.old))) }
+        ensures unwritten { IfErr result (λ e. IsLost e ⊎ (disk_in self.new ≡ disk_in self.old)) }
+        ensures idle { LacksEffect (moment_of (state_in self.old) (input_of input.now).moment) (state_in self.old) (input_of input.now).event
+            → disk_in self.new ≡ disk_in self.old }
+        ensures device { CountsDevice result (D.failures (disk_in self.old)) (D.failures (disk_in self.new)) }
+        ensures failed { (has_failed self.new ≡ true) ↔ ((has_failed self.old ≡ true) ⊎ (result ≡ Err Refusal.Device)) }
+        ensures reopen { (result ≡ Err Refusal.Reopen) ↔ (has_failed self.old ≡ true) }
+        ensures spent { result ≡ Err Refusal.GenerationsSpent → HasNoRoom self.old (length (input_spelling (input_of input.now))) }
+        ensures calls { Fits (layout_in self.old) (generation_in self.old) (next_in self.old) (length (input_spelling (input_of input.now)))
+            → D.calls (disk_in self.new) ≤ D.calls (disk_in self.old) + record_calls (input_of input.now) }
+        ensures most_calls { D.calls (disk_in self.new) ≤ D.calls (disk_in self.old) + snapshot_calls (state_in self.old) + record_calls (input_of input.now) }
+        ensures size { D.size (disk_in self.new) ≡ D.size (disk_in self.old) }
+        ensures honest { D.honest (disk_in self.new) ≡ D.honest (disk_in self.old) }
+    {
+        if self.failed {
+            return Err(Refusal::Reopen);
+        }
+        let next = self.engine.plan(input)?;
+        if next.has_effect() {
+            return self.record(input, next);
+        }
+        let (reply, actions, _) = self.engine.commit(next);
+        Ok(Receipt::new(reply, actions))
+    }
+}

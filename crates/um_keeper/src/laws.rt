@@ -1,0 +1,28 @@
+//! What the definitions of a store say together, as functions that do nothing.
+ghost use Rattle.std.specs.Prelude.{◌≡◌, ◌↔◌, ℕ, List};
+ghost use Rattle.um_model.specs.Disk.{Image};
+ghost use Rattle.um_model.specs.Lives.{Life, Lived, AreKept, HasInOrder, all_answered};
+ghost use Rattle.um_model.specs.Machine.{State, Input, Run, empty_state};
+ghost use Rattle.um_model.specs.Stands.{StandsFor, IsStoreOf, IsRead};
+ghost use Rattle.um_model.specs.Store.{superblock, body_limit};
+ghost use Rattle.um_model.specs.declared.layout.Layout.{Layout};
+
+/// An image stands for one state at most, of one layout.
+pub fn an_image_stands_for_one_state()
+    ensures state { (layout : Layout) (image : Image) (s t : State) → StandsFor layout image s → StandsFor layout image t → s ≡ t }
+    ensures layout { (l m : Layout) (image : Image) (s t : State) → StandsFor l image s → StandsFor m image t → l ≡ m }
+{}
+
+/// Images that agree in each sector that the reading of a store looks at stand for the same state, or for none.
+pub fn unread_sectors_of_a_store_do_not_count()
+    ensures { (layout : Layout) (a b : Image) → ((j : ℕ) → IsRead layout a j → b j ≡ a j) → (s : State) → StandsFor layout a s ↔ StandsFor layout b s }
+{}
+
+/// However many lives a store has, each opened on the image that the crash of the one before it left: from the image of a new store on,
+/// the last image is a store of the state that a run from the empty one over what was kept comes to, and that holds all that was
+/// answered, in its order.
+pub fn what_was_answered_outlives_crashes()
+    ensures state { (layout : Layout) (first last : Image) (lives : List Life) → IsStoreOf layout first empty_state → Lived layout first lives last
+        → (kept : List Input) × AreKept lives kept × (s : State) × Run (body_limit layout) empty_state kept s × IsStoreOf layout last s }
+    ensures answered { (lives : List Life) (kept : List Input) → AreKept lives kept → HasInOrder (all_answered lives) kept }
+{}
