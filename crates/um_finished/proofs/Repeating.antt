@@ -1,10 +1,10 @@
 -- A finished oneshot isn't started again: no start of a unit at rest begins, and it stays at rest, until a command puts one.
-use Rattle.std.proofs.Common.{ℕ, ◌≡◌, ◌≢◌, ◌∙◌, ◌⊎◌, List, [], ◌∷◌, ◌++◌, Option, Some, None, refl, sym, subst, inl, inr}
+use Rattle.std.proofs.Common.{ℕ, ◌≡◌, ◌≢◌, ◌∙◌, ◌⊎◌, List, ◌++◌, Option, Some, None, refl, sym, subst, inl, inr}
 use Rattle.std.proofs.lemmas.Option.{none-some}
 use Rattle.std.specs.FinMap as map
 use Rattle.um_model.specs.Disk.{Image}
 use Rattle.um_model.specs.Finished.{Finishes, IsAtRest}
-use Rattle.um_model.specs.Jobs.{Job, start_job, jobs_of_unit, state_of_job, cancelled}
+use Rattle.um_model.specs.Jobs.{Job, start_job, jobs_of_unit, state_of_job}
 use Rattle.um_model.specs.Lives.{Life, Lived, AreKept}
 use Rattle.um_model.specs.Machine.{State, Command, Happening, Event, Commanded, Input, Reply, Settles, unit_asked, jobs_asked, ForUnit, Done, Changes, Does, units_reset, end_of, Fires, Follows, Takes, reply_after, moment_of, Step, Run, goes, empty_state}
 use Rattle.um_model.specs.Service.{Action, is_number, is_success, state_of_unit}
@@ -22,7 +22,7 @@ use Rattle.um_model.proofs.FinishedLaws.{happens_rest, resets_rest, next_rests, 
 use Rattle.um_model.proofs.FreeLaws.{cancelled_fewer, fewer_at}
 use Rattle.um_model.proofs.LeastLaws.{Among}
 use Rattle.um_model.proofs.LivesLaws.{lives}
-use Rattle.um_finished.specs.Finished.{begun_settling, begun_firing, begun_following, begun_taking, begun_in, PutsStart, WaitsForCommand, RepeatsNone}
+use Rattle.um_finished.specs.Finished.{begun_settling, begun_firing, begun_following, begun_taking, begun_in, PlansStart, WaitsForCommand, RepeatsNone}
 
 -- x: the unit at rest
 module _ (x : List ℕ) where
@@ -64,7 +64,7 @@ module _ (x : List ℕ) where
 
   -- a command leaves the unit at rest, before any job begins, or puts a start of it
   changes_leave : (s : State) (moment : ℕ) (command : Command) (u : State) (tree : Tree) → Changes s command u → IsAtRest s x
-      → IsAtRest u x ⊎ PutsStart x s (record { moment = moment; event = Commanded command }) (reply_after (Commanded command) s.tree tree)
+      → IsAtRest u x ⊎ PlansStart x s (record { moment = moment; event = Commanded command }) (reply_after (Commanded command) s.tree tree)
   changes_leave s moment command u tree (Changes.puts e) rest = inl (record { none = rest.none; rests = rest.rests })
   changes_leave s moment command u tree (Changes.links e) rest = inl (record { none = rest.none; rests = rest.rests })
   changes_leave s moment command u tree (Changes.removes e) rest = inl (record { none = rest.none; rests = rest.rests })
@@ -77,7 +77,7 @@ module _ (x : List ℕ) where
       by (jobs_of_unit after x).start refl
     where
       by : (start : Option JobState) → (jobs_of_unit after x).start ≡ start
-          → IsAtRest (record s { pending = after }) x ⊎ PutsStart x s (record { moment = moment; event = Commanded (ForUnit verb asked mode) }) Done
+          → IsAtRest (record s { pending = after }) x ⊎ PlansStart x s (record { moment = moment; event = Commanded (ForUnit verb asked mode) }) Done
       by None same = inl (record { none = same; rests = rest.rests })
       by (Some state) same = inr (record {
         command = ForUnit verb asked mode;
@@ -90,13 +90,13 @@ module _ (x : List ℕ) where
       })
 
   does_leave : (t : ℕ) (s : State) (moment : ℕ) (command : Command) (actions : List Action) (u : State) (tree : Tree) → Does t s command actions u → IsAtRest s x
-      → IsAtRest u x ⊎ PutsStart x s (record { moment = moment; event = Commanded command }) (reply_after (Commanded command) s.tree tree)
+      → IsAtRest u x ⊎ PlansStart x s (record { moment = moment; event = Commanded command }) (reply_after (Commanded command) s.tree tree)
   does_leave t s moment command actions u tree (Does.changes h) rest = changes_leave s moment command u tree h rest
   does_leave t s moment command actions u tree (Does.resets {asked = asked} h) rest = inl (resets_rest x t (units_reset s asked) s actions u h rest)
 
   -- so an event leaves it, with none of its starts begun, or a command puts one
   takes_leave : (t : ℕ) (s : State) (moment : ℕ) (event : Event) (actions : List Action) (v : State) (tree : Tree) (h : Takes t s event actions v) → IsAtRest s x
-      → HasNone (begun_taking h) × IsAtRest v x ⊎ PutsStart x s (record { moment = moment; event = event }) (reply_after event s.tree tree)
+      → HasNone (begun_taking h) × IsAtRest v x ⊎ PlansStart x s (record { moment = moment; event = event }) (reply_after event s.tree tree)
   takes_leave t s moment event actions v tree (Takes.obeys {command = command} {first = first} {more = more} {u = u} isnt h k) rest =
       elim (does_leave t s moment command first u tree h rest) [
         | inl rests ↦ inl (settles_none t u more v k rests, settles_rest x t u more v k rests)
@@ -106,7 +106,7 @@ module _ (x : List ℕ) where
       inl (follows_none t s happening actions v h rest, follows_rest x t s happening actions v h rest)
 
   step_leaves : (size : ℕ) (s : State) (input : Input) (reply : Reply) (actions : List Action) (t : State) (h : Step size s input reply actions t) → IsAtRest s x
-      → HasNone (begun_in h) × IsAtRest t x ⊎ PutsStart x s input reply
+      → HasNone (begun_in h) × IsAtRest t x ⊎ PlansStart x s input reply
   step_leaves size s input reply actions t (Step.refused e) rest = inl ((λ none. none), rest)
   step_leaves size s input reply actions t (Step.crowded_out h heavy) rest = inl ((λ none. none), rest)
   step_leaves size s input reply actions t (Step.idle e) rest = inl ((λ none. none), rest)
@@ -118,7 +118,7 @@ module _ (x : List ℕ) where
 
   -- ---- a run
 
-  run_waits : {size : ℕ} {s t : State} {inputs : List Input} (run : Run size s inputs t) → IsAtRest s x → WaitsForCommand x run
+  pub run_waits : {size : ℕ} {s t : State} {inputs : List Input} (run : Run size s inputs t) → IsAtRest s x → WaitsForCommand x run
   run_waits Run.rests rest = tt
   run_waits {size = size} (goes {s = s} {t = t} {input = input} reply actions step run) rest =
       elim (step_leaves size s input reply actions t step rest) [

@@ -38,8 +38,8 @@ begun_in (Step.crowded_out takes heavy) = []
 begun_in (Step.idle effectless) = []
 begun_in (Step.taken takes light) = begun_taking takes
 
--- a command was done by which a start of the unit is pending, before any job begins, where none was
-pub record PutsStart (unit : List ℕ) (s : State) (input : Input) (reply : Reply) : Type 0 where
+-- a command was done, and its plan has a start of the unit where none was pending
+pub record PlansStart (unit : List ℕ) (s : State) (input : Input) (reply : Reply) : Type 0 where
   pub command : Command
   pub is : input.event ≡ Commanded command
   pub done : reply ≡ Done
@@ -52,7 +52,7 @@ pub record PutsStart (unit : List ℕ) (s : State) (input : Input) (reply : Repl
 abbrev pub WaitsForCommand : (unit : List ℕ) → {size : ℕ} {s t : State} {inputs : List Input} → Run size s inputs t → Type 0
 WaitsForCommand unit Run.rests = ⊤
 WaitsForCommand unit (goes {s = s} {input = input} reply actions step run) =
-    PutsStart unit s input reply ⊎ (¬ Contains (begun_in step) (start_job unit)) × WaitsForCommand unit run
+    PlansStart unit s input reply ⊎ (¬ Contains (begun_in step) (start_job unit)) × WaitsForCommand unit run
 
 -- wherever in the run a oneshot finishes and no start of it is pending then, none begins later before a command puts one
 abbrev pub RepeatsNone : {size : ℕ} {s t : State} {inputs : List Input} → Run size s inputs t → Type 0
