@@ -1,8 +1,10 @@
 -- What a list of inputs is answered that are taken one behind the other, and what a crash leaves of them.
 -- No manual page has it: it is the project's own (docs/CRASH.md tells it in plain words).
 -- `Keeper::submit_all` and the running manager stand on this file.
-use Rattle.std.specs.Prelude.{◌≡◌, ◌≢◌, ◌⊎◌, ◌+◌, ◌++◌, ℕ, Bool, true, false, if◌then◌else◌, List, [], ◌∷◌, Result, Ok, Err}
+use Rattle.std.specs.Prelude.{◌≡◌, ◌≢◌, ◌⊎◌, ◌+◌, ◌-◌, ◌^◌, ◌++◌, ℕ, Bool, true, false, if◌then◌else◌, List, [], ◌∷◌, Result, Ok, Err}
+use Rattle.um_engine.specs.Engine.{state_before}
 use Rattle.um_engine.specs.OfStore.{is_of_store}
+use Rattle.um_engine.specs.declared.engine.Back.{Back}
 use Rattle.um_keeper.specs.Keeping.{record_calls}
 use Rattle.um_model.specs.Machine.{State, Input, Reply, Refusal, Step, LacksEffect, moment_of}
 use Rattle.um_model.specs.Refusals.{Refused}
@@ -70,7 +72,16 @@ abbrev pub NeedNoRecord : State → List Input → List Answer → Type 0
 NeedNoRecord s (input ∷ inputs) (answer ∷ answers) = (IsIdle s input ⊎ IsRefusal answer) × NeedNoRecord s inputs answers
 NeedNoRecord s inputs answers = Unit {0}
 
+-- an input turned away for want of a generation was so in the last one
+abbrev pub IsSpentIn : ℕ → Answer → Type 0
+IsSpentIn generation answer = answer ≡ Err GenerationsSpent → generation ≡ 2 ^ 64 - 1
+
+-- the state before the steps that these ways lead back from, the last one first
+abbrev pub state_before_all : List Back → State → State
+state_before_all [] s = s
+state_before_all (back ∷ backs) s = state_before back (state_before_all backs s)
+
 -- The most calls on the disk that inputs take: of each its record, and a snapshot before it.
 abbrev pub most_calls : Layout → List Input → ℕ
 most_calls layout [] = 0
-most_calls layout (input ∷ inputs) = sector_count (body_limit layout) + 3 + record_calls input + most_calls layout inputs
+most_calls layout (input ∷ inputs) = (sector_count (body_limit layout) + 3) + record_calls input + most_calls layout inputs
