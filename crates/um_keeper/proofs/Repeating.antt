@@ -22,7 +22,7 @@ use Rattle.um_model.proofs.FinishedLaws.{happens_rest, resets_rest, next_rests, 
 use Rattle.um_model.proofs.FreeLaws.{cancelled_fewer, fewer_at}
 use Rattle.um_model.proofs.LeastLaws.{Among}
 use Rattle.um_model.proofs.LivesLaws.{lives}
-use Rattle.um_finished.specs.Finished.{begun_settling, begun_firing, begun_following, begun_taking, begun_in, PlansStart, WaitsForCommand, RepeatsNone}
+use Rattle.um_keeper.specs.Finished.{begun_settling, begun_firing, begun_following, begun_taking, begun_in, PlansStart, WaitsForCommand, RepeatsNone}
 
 -- x: the unit at rest
 module _ (x : List ℕ) where
