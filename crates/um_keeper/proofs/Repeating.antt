@@ -6,7 +6,7 @@ use Rattle.um_model.specs.Disk.{Image}
 use Rattle.um_model.specs.Finished.{Finishes, IsAtRest}
 use Rattle.um_model.specs.Jobs.{Job, start_job, jobs_of_unit, state_of_job}
 use Rattle.um_model.specs.Lives.{Life, Lived, AreKept}
-use Rattle.um_model.specs.Machine.{State, Command, Happening, Event, Commanded, Input, Reply, Settles, unit_asked, jobs_asked, ForUnit, Done, Changes, Does, units_reset, end_of, Fires, Follows, Takes, reply_after, moment_of, Step, Run, goes, empty_state}
+use Rattle.um_model.specs.Machine.{State, Command, Happening, Event, Commanded, Input, Reply, Settles, unit_asked, jobs_asked, ForUnit, Done, Changes, Does, units_reset, end_of, Fires, Follows, Takes, reply_after, moment_of, Step, Run, goes}
 use Rattle.um_model.specs.Service.{Action, is_number, is_success, state_of_unit}
 use Rattle.um_model.specs.Stands.{IsStoreOf}
 use Rattle.um_model.specs.Store.{body_limit}
@@ -21,7 +21,7 @@ use Rattle.um_model.proofs.AmongLaws.{among_either, among_contained}
 use Rattle.um_model.proofs.FinishedLaws.{happens_rest, resets_rest, next_rests, settles_rest, due_rest, follows_rest, end_apart, executed_apart, finished_rests}
 use Rattle.um_model.proofs.FreeLaws.{cancelled_fewer, fewer_at}
 use Rattle.um_model.proofs.LeastLaws.{Among}
-use Rattle.um_model.proofs.LivesLaws.{lives}
+use Rattle.um_model.proofs.LivesLaws.{lives_from}
 use Rattle.um_keeper.specs.Finished.{begun_settling, begun_firing, begun_following, begun_taking, begun_in, PlansStart, WaitsForCommand, RepeatsNone}
 
 -- x: the unit at rest
@@ -137,8 +137,9 @@ repeats_none (goes {s = s} {t = t} reply actions step run) = (waits, repeats_non
         run_waits unit run (record { none = none; rests = finished_rests o.sub (is_success o.result) o.asked finishes.finished })
 
 -- nor does the one run over all that was kept of any lives
-pub lives_repeat_none : (layout : Layout) (first last : Image) (all : List Life) → IsStoreOf layout first empty_state → Lived layout first all last
-    → (kept : List Input) × AreKept all kept × (s : State) × (run : Run (body_limit layout) empty_state kept s) × RepeatsNone run × IsStoreOf layout last s
-lives_repeat_none layout first last all store led =
-    let (kept, are, s, run, stands) = lives layout first last all store led in
-    (kept, are, s, run, repeats_none run, stands)
+pub lives_repeat_none : (layout : Layout) (first last : Image) (all : List Life) (s : State) → IsStoreOf layout first s → Lived layout first all last
+    → (kept : List Input) × AreKept all kept × (t : State) × (run : Run (body_limit layout) s kept t) × RepeatsNone run
+        × ((unit : List ℕ) → IsAtRest s unit → WaitsForCommand unit run) × IsStoreOf layout last t
+lives_repeat_none layout first last all s store led =
+    let (kept, are, t, run, stands) = lives_from layout first last all s store led in
+    (kept, are, t, run, repeats_none run, (λ unit rest. run_waits unit run rest), stands)
