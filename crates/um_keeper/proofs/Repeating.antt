@@ -139,7 +139,7 @@ repeats_none (goes {s = s} {t = t} reply actions step run) = (waits, repeats_non
 -- nor does the one run over all that was kept of any lives
 pub lives_repeat_none : (layout : Layout) (first last : Image) (all : List Life) (s : State) → IsStoreOf layout first s → Lived layout first all last
     → (kept : List Input) × AreKept all kept × (t : State) × (run : Run (body_limit layout) s kept t) × RepeatsNone run
-        × ((unit : List ℕ) → IsAtRest s unit → WaitsForCommand unit run) × IsStoreOf layout last t
+    × ((unit : List ℕ) → IsAtRest s unit → WaitsForCommand unit run) × IsStoreOf layout last t
 lives_repeat_none layout first last all s store led =
     let (kept, are, t, run, stands) = lives_from layout first last all s store led in
     (kept, are, t, run, repeats_none run, (λ unit rest. run_waits unit run rest), stands)

@@ -37,5 +37,5 @@ pub fn a_finished_oneshot_is_not_started_again()
     ensures rest { (size : ℕ) (s t : State) (inputs : List Input) (run : Run size s inputs t) (unit : List ℕ) → IsAtRest s unit → WaitsForCommand unit run }
     ensures crashes { (layout : Layout) (first last : Image) (lives : List Life) (s : State) → IsStoreOf layout first s → Lived layout first lives last
         → (kept : List Input) × AreKept lives kept × (t : State) × (run : Run (body_limit layout) s kept t) × RepeatsNone run
-            × ((unit : List ℕ) → IsAtRest s unit → WaitsForCommand unit run) × IsStoreOf layout last t }
+        × ((unit : List ℕ) → IsAtRest s unit → WaitsForCommand unit run) × IsStoreOf layout last t }
 {}
