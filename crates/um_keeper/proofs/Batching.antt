@@ -1,6 +1,6 @@
 -- Of inputs that are taken one behind the other.
-use Rattle.std.proofs.Common.{◌≡◌, ◌≢◌, ◌⊎◌, ◌∙◌, ℕ, zero, suc, ◌+◌, ◌≤◌, Bool, true, false, if◌then◌else◌, List, [], ◌∷◌, ◌++◌, take, refl, sym, ap, subst, inl, inr}
-use Rattle.std.specs.Prelude.{Ok, Err}
+use Rattle.std.proofs.Common.{◌≡◌, ◌≢◌, ◌⊎◌, ◌∙◌, ℕ, zero, suc, ◌+◌, ◌≤◌, Bool, true, false, if◌then◌else◌, List, [], ◌∷◌, ◌++◌, append_assoc, take, refl, sym, ap, subst, inl, inr}
+use Rattle.std.specs.Prelude.{Ok, Err, IsTrue}
 use Rattle.um_engine.specs.Engine.{state_before}
 use Rattle.um_engine.specs.declared.engine.Back.{Back}
 use Rattle.um_model.specs.Disk.{Past, Image, During}
@@ -12,7 +12,7 @@ use Rattle.um_model.specs.Store.{body_limit}
 use Rattle.um_model.specs.declared.layout.Layout.{Layout}
 use Rattle.um_model.proofs.DiskLaws.{weaker, followed}
 use Rattle.um_model.proofs.NumbersLaws.{run_numbers_rise}
-use Rattle.um_keeper.specs.Answering.{Answer, is_turned_away, Answered, accepted, refused, turned_away, AreAnswered, all_answered, and_next, where_step, all_asked, state_before_all}
+use Rattle.um_keeper.specs.Answering.{Answer, is_turned_away, Answered, accepted, refused, turned_away, AreAnswered, all_answered, and_next, where_step, taken, all_asked, state_before_all}
 use Rattle.um_keeper.specs.Keeping.{IsBegun}
 
 -- ---- beginnings
@@ -61,7 +61,7 @@ had_where true input some all h = between h
 had_where false input some all h = has h
 
 pub had_more : (answer : Answer) (input : Input) (some all : List Input) → HasInOrder some all → HasInOrder (where_step answer input ++ some) (input ∷ all)
-had_more (Ok accepted) input some all h = has h
+had_more (Ok given) input some all h = has h
 had_more (Err e) input some all h = had_where (is_turned_away e) input some all h
 
 -- ---- numbers
@@ -86,3 +86,27 @@ numbers_asked {size} {s} {t} answered =
 pub back_append : (xs ys : List Back) (s : State) → state_before_all (xs ++ ys) s ≡ state_before_all xs (state_before_all ys s)
 back_append [] ys s = refl
 back_append (x ∷ xs) ys s = ap (state_before x) (back_append xs ys s)
+
+-- ---- one input of those that are left
+
+-- the answers with one more, and those behind it
+pub appended : {more all : List Answer} {answer : Answer} (rest : List Answer) → all ≡ more ++ answer ∷ [] → all ++ rest ≡ more ++ (answer ∷ rest)
+appended {more} {all} {answer} rest is = ap (λ l. l ++ rest) is ∙ append_assoc more (answer ∷ []) rest
+
+module _ {size : ℕ} {s t : State} {input : Input} {left more : List Input} {answer : Answer} (is : left ≡ input ∷ more) (answered : Answered size s input answer t) where
+  pub one_answered : {n : ℕ} {rest : List Answer} {u : State} → n ≡ size → AreAnswered n t more rest u → AreAnswered size s left (answer ∷ rest) u
+  one_answered {rest = rest} {u} same others = subst (λ l. AreAnswered size s l (answer ∷ rest) u) (sym is)
+      (and_next answered (subst (λ n. AreAnswered n t more rest u) same others))
+
+  -- what a crash leaves meanwhile
+  module _ {old mid new : Past} {layout l : Layout} {h h' : Bool} (on : size ≡ body_limit layout) (same : l ≡ layout) (honest : h' ≡ h)
+      (one : IsTrue h → During old mid (IsBegun layout s (where_step answer input))) where
+    pub one_lost : {some : List Input} → (IsTrue h' → During mid new (IsBegun l t some)) → IsTrue h → During old new (IsBegun layout s (where_step answer input ++ some))
+    one_lost {some} others sure = taken_on (subst (λ n. Answered n s input answer t) on answered) (one sure)
+        (subst (λ (z : Layout). During mid new (IsBegun z t some)) same (others (honest ∙ sure)))
+
+    pub one_begun : (rest : List Answer) → (IsTrue h' → During mid new (IsBegun l t (taken more rest))) → IsTrue h → During old new (IsBegun layout s (taken left (answer ∷ rest)))
+    one_begun rest others sure = subst (λ z. During old new (IsBegun layout s (taken z (answer ∷ rest)))) (sym is) (one_lost others sure)
+
+  pub one_had : {some : List Input} → HasInOrder some more → HasInOrder (where_step answer input ++ some) left
+  one_had {some} h = subst (HasInOrder (where_step answer input ++ some)) (sym is) (had_more answer input some more h)

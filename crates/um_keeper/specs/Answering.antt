@@ -41,7 +41,7 @@ pub data AreAnswered (size : ℕ) : State → List Input → List Answer → Sta
 
 -- the input, where its answer is that of a step: it was accepted, or refused for a cause of its own
 abbrev pub where_step : Answer → Input → List Input
-where_step (Ok accepted) input = input ∷ []
+where_step (Ok given) input = input ∷ []
 where_step (Err e) input = if is_turned_away e then [] else input ∷ []
 
 -- the inputs that were taken: all but those that were turned away
@@ -64,7 +64,7 @@ IsIdle s input = LacksEffect (moment_of s input.moment) s input.event
 
 -- the answer is the refusal of a step
 abbrev pub IsRefusal : Answer → Type 0
-IsRefusal (Ok accepted) = ⊥
+IsRefusal (Ok given) = ⊥
 IsRefusal (Err e) = is_turned_away e ≡ false
 
 -- nothing of these inputs is to be recorded: each has no effect in the state, or is refused

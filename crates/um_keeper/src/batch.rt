@@ -47,13 +47,19 @@ fn keep(backs: &mut Vec<Back>, back: Back)
     }
 }
 
+/// Lets go of an answer that nobody was given.
+fn let_one_go(answer: Result<Receipt, Refusal>) {
+    match answer {
+        Ok(receipt) => receipt.let_go(),
+        Err(_) => {}
+    }
+}
+
 /// Lets go of answers that nobody was given.
 fn let_go(answers: Vec<Result<Receipt, Refusal>>) {
     let mut rest = answers.into_iter();
     while let Some(answer) = rest.next() {
-        if let Ok(receipt) = answer {
-            receipt.let_go();
-        }
+        let_one_go(answer);
     }
     rest.destroy_empty();
 }
