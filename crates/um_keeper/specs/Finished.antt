@@ -1,4 +1,4 @@
--- Which jobs begin in a run, and what it is that none in it starts a oneshot again that has finished.
+-- Which jobs begin in a run, and what it is that a oneshot which finished isn't started again in it.
 -- Follows systemd.service(5), "Type=oneshot", and systemctl(1), "start".
 -- The law of finished oneshots over all crashes depends on this file.
 use Rattle.std.specs.Prelude.{◌≡◌, ◌≢◌, ◌⊎◌, ⊤, ℕ, List, [], ◌∷◌, ◌++◌, None, Contains}
