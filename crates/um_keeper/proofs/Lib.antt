@@ -1,4 +1,6 @@
+mod Batching
 pub mod Kept
 mod Reopening
+mod Repeating
 mod Results
 mod Wiping

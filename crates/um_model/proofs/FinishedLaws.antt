@@ -6,8 +6,8 @@ use Rattle.std.specs.FinMap as map
 use Rattle.std.specs.Ordering.{nat_cmp}
 use Rattle.um_model.specs.Ends.{is_clean, is_restart_wanted}
 use Rattle.um_model.specs.Finished.{is_exited, Finishes, is_down_or_done, IsAtRest, PutsStart, now, later}
-use Rattle.um_model.specs.Jobs.{job_of, jobs, no_jobs, jobs_of_unit}
-use Rattle.um_model.specs.Machine.{State, Command, Happening, Event, Commanded, Input, Reply, TakesAlong, Becomes, Carries, change_of, changed, acting_in, around, begins, begun, FallDown, all_told, told_next, Happens, AreReset, all_reset, reset_next, Settles, unit_asked, jobs_asked, Refuses, Changes, Does, units_reset, end_of, awaits_restart, Restarts, has_a_job, closes_a_circle, ComesDue, Fires, booted, Follows, Takes, moment_of, Step, Run}
+use Rattle.um_model.specs.Jobs.{BeginsNext, Job, job_of, jobs, no_jobs, jobs_of_unit}
+use Rattle.um_model.specs.Machine.{IsBefore, State, Command, Happening, Event, Commanded, Input, Reply, TakesAlong, Becomes, Carries, change_of, changed, acting_in, around, begins, begun, FallDown, all_told, told_next, Happens, AreReset, all_reset, reset_next, Settles, unit_asked, jobs_asked, Refuses, Changes, Does, units_reset, end_of, awaits_restart, Restarts, has_a_job, closes_a_circle, ComesDue, Fires, booted, Follows, Takes, moment_of, Step, Run}
 use Rattle.um_model.specs.Refusals.{Refused}
 use Rattle.um_model.specs.Service.{Action, active_state_of, dead_unit, is_dead, is_number, is_success, state_of_unit}
 use Rattle.um_model.specs.Settings.{ServiceSettings, has_place}
@@ -160,11 +160,11 @@ module _ (s : ServiceSettings) (c : Around) where
 
 -- x: the unit at rest
 module _ (x : List ℕ) where
-  abbrev AtRest : State → Type 0
+  abbrev pub AtRest : State → Type 0
   AtRest s = IsAtRest s x
 
   -- what happens to the unit isn't that its start begins
-  abbrev IsOther : List ℕ → UnitEvent → Type 0
+  abbrev pub IsOther : List ℕ → UnitEvent → Type 0
   IsOther unit event = x ≡ unit → event ≢ StartBegins
 
   changed_rests : (s : State) (unit : List ℕ) (c : Change) → (x ≡ unit → Rests c.unit) → Rests (state_of_unit s.units x) → Rests (state_of_unit (changed s unit c).units x)
@@ -204,7 +204,7 @@ module _ (x : List ℕ) where
   falls_rest t (unit ∷ units) s actions v (told_next {falling = falling} {u = u} {first = first} {more = more} h among k) rest =
       falls_rest t (falling ++ units) u more v k (carried_rests t unit BoundStop s first u (λ same. bound_apart) h rest)
 
-  happens_rest : (t : ℕ) (unit : List ℕ) (event : UnitEvent) (s : State) (actions : List Action) (v : State) → IsOther unit event → Happens t unit event s actions v
+  pub happens_rest : (t : ℕ) (unit : List ℕ) (event : UnitEvent) (s : State) (actions : List Action) (v : State) → IsOther unit event → Happens t unit event s actions v
       → AtRest s → AtRest v
   happens_rest t unit event s actions v other (Happens.happens {falling = falling} {u = u} {first = first} {more = more} h among k) rest =
       falls_rest t falling u more v k (carried_rests t unit event s first u other h rest)
@@ -212,7 +212,7 @@ module _ (x : List ℕ) where
   reset_apart : Reset ≡ StartBegins → ⊥
   reset_apart e = cc
 
-  resets_rest : (t : ℕ) (units : List (List ℕ)) (s : State) (actions : List Action) (v : State) → AreReset t units s actions v → AtRest s → AtRest v
+  pub resets_rest : (t : ℕ) (units : List (List ℕ)) (s : State) (actions : List Action) (v : State) → AreReset t units s actions v → AtRest s → AtRest v
   resets_rest t units s actions v all_reset rest = rest
   resets_rest t (unit ∷ units) s actions v (reset_next {u = u} {first = first} {more = more} h k) rest =
       resets_rest t units u more v k (happens_rest t unit Reset s first u (λ same. reset_apart) h rest)
@@ -222,16 +222,21 @@ module _ (x : List ℕ) where
   begins_other job.Start j waits none = absurd (none-some Waiting (sym none ∙ waits))
   begins_other job.Stop j waits none = λ e. cc
 
-  settles_rest : (t : ℕ) (s : State) (actions : List Action) (v : State) → Settles t s actions v → AtRest s → AtRest v
-  settles_rest t s actions v (Settles.rests still) rest = rest
-  settles_rest t s actions v (Settles.begins_next {u = u} {first = first} {more = more} j n h k) rest =
-      settles_rest t u more v k (happens_rest t j.unit (begins j.kind) (begun s j) first u other h begun_rest)
+  -- the job that begins next isn't a start of the unit, and leaves it at rest
+  pub next_rests : (t : ℕ) (s : State) (j : Job) (actions : List Action) (u : State) → BeginsNext (IsBefore s.loaded) s.units s.pending j
+      → Happens t j.unit (begins j.kind) (begun s j) actions u → AtRest s → AtRest u
+  next_rests t s j actions u n h rest = happens_rest t j.unit (begins j.kind) (begun s j) actions u other h begun_rest
     where
       other : IsOther j.unit (begins j.kind)
       other same = begins_other j.kind (jobs_of_unit s.pending j.unit) n.has.waits (subst (λ q. (jobs_of_unit s.pending q).start ≡ None) same rest.none)
 
       begun_rest : AtRest (begun s j)
       begun_rest = record { none = ((begun_less s j n.has.waits).fewer x job.Start).none rest.none; rests = rest.rests }
+
+  pub settles_rest : (t : ℕ) (s : State) (actions : List Action) (v : State) → Settles t s actions v → AtRest s → AtRest v
+  settles_rest t s actions v (Settles.rests still) rest = rest
+  settles_rest t s actions v (Settles.begins_next {u = u} {first = first} {more = more} j n h k) rest =
+      settles_rest t u more v k (next_rests t s j first u n h rest)
 
   -- ---- what comes of deadlines
 
@@ -253,7 +258,7 @@ module _ (x : List ℕ) where
   deadline_apart : DeadlinePasses ≡ StartBegins → ⊥
   deadline_apart e = cc
 
-  due_rest : (t : ℕ) (s : State) (unit : List ℕ) (actions : List Action) (v : State) → ComesDue t s unit actions v → AtRest s → AtRest v
+  pub due_rest : (t : ℕ) (s : State) (unit : List ℕ) (actions : List Action) (v : State) → ComesDue t s unit actions v → AtRest s → AtRest v
   due_rest t s unit actions v (ComesDue.restarts awaits again) rest = restarts_rest s unit v awaits again rest
   due_rest t s unit actions v (ComesDue.passes isnt h) rest = happens_rest t unit DeadlinePasses s actions v (λ same. deadline_apart) h rest
 
@@ -265,11 +270,11 @@ module _ (x : List ℕ) where
 
   -- ---- a step
 
-  end_apart : (b : Bool) (e : End) → cond b (MainEnds e) (ControlEnds e) ≢ StartBegins
+  pub end_apart : (b : Bool) (e : End) → cond b (MainEnds e) (ControlEnds e) ≢ StartBegins
   end_apart true e = λ is. cc
   end_apart false e = λ is. cc
 
-  executed_apart : Executed ≡ StartBegins → ⊥
+  pub executed_apart : Executed ≡ StartBegins → ⊥
   executed_apart e = cc
 
   booted_rest : (boot : List ℕ) (s : State) → AtRest (booted boot s)
@@ -278,7 +283,7 @@ module _ (x : List ℕ) where
     rests = ap (λ o. is_down_or_done (unwrap_or o dead_unit).sub (unwrap_or o dead_unit).asked) (map.get-empty (slice_cmp nat_cmp) x);
   }
 
-  follows_rest : (t : ℕ) (s : State) (happening : Happening) (actions : List Action) (v : State) → Follows t s happening actions v → AtRest s → AtRest v
+  pub follows_rest : (t : ℕ) (s : State) (happening : Happening) (actions : List Action) (v : State) → Follows t s happening actions v → AtRest s → AtRest v
   follows_rest t s happening actions v (Follows.ends {number = number} {end = end} {first = first} {more = more} {u = u} unit is h k) rest =
       settles_rest t u more v k
       (happens_rest t unit (end_of (state_of_unit s.units unit) number end) s first u (λ same. end_apart (is_number number (state_of_unit s.units unit).main) end) h rest)
@@ -338,7 +343,7 @@ module _ (x : List ℕ) where
         run_rests v t inputs run (λ puts. none (later reply actions step puts))
         (step_rests s i reply actions v step (λ puts. none (puts_anyhow s (i ∷ []) inputs puts)) rest)
 
-finished_rests : (sub : SubState) (well asked : Bool) → (is_exited sub || is_dead sub && well) ≡ true → is_down_or_done sub asked ≡ true
+pub finished_rests : (sub : SubState) (well asked : Bool) → (is_exited sub || is_dead sub && well) ≡ true → is_down_or_done sub asked ≡ true
 finished_rests Dead well asked h = refl
 finished_rests Exited well asked h = refl
 finished_rests Failed well asked h = refl
