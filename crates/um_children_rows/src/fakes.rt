@@ -25,7 +25,9 @@ fn a_number_that_was_started_is_executed_until_its_end_is_told(rt: HostRuntime) 
     told(&rt, &mut children, 1, false, Fate::Executed);
     told(&rt, &mut children, 2, false, Fate::Starting);
     told(&rt, &mut children, 2, true, Fate::Absent);
-    children.ends(number(&rt, 1), End::Code(3)).expect(&rt, "no memory");
+    children
+        .ends(number(&rt, 1), End::Code(3))
+        .expect(&rt, "no memory");
     told(&rt, &mut children, 1, false, Fate::Ended(End::Code(3)));
     told(&rt, &mut children, 1, true, Fate::Ended(End::Code(3)));
     assert_eq!(rt; children.failures(), 0);
@@ -36,7 +38,10 @@ fn the_second_later_call_fails(rt: HostRuntime) {
     let mut children = started(&rt);
     children.fuse(2);
     told(&rt, &mut children, 1, false, Fate::Executed);
-    assert_eq!(rt; children.fate(number(&rt, 1), false), Err(ChildFault::Device));
+    assert_eq!(rt;
+        children.fate(number(&rt, 1), false),
+        Err(ChildFault::Device)
+    );
     assert_eq!(rt; children.failures(), 1);
     told(&rt, &mut children, 1, false, Fate::Executed);
     assert_eq!(rt; children.failures(), 1);
@@ -55,24 +60,34 @@ fn a_number_that_was_told_absent_never_starts(rt: HostRuntime) {
 #[test]
 fn each_call_is_noted_and_forgetting_is_none(rt: HostRuntime) {
     let mut children = started(&rt);
-    children.signal(number(&rt, 1), Signal::Term).expect(&rt, "not signalled");
+    children
+        .signal(number(&rt, 1), Signal::Term)
+        .expect(&rt, "not signalled");
     children.fuse(1);
     children.forget(number(&rt, 1)).expect(&rt, "not forgotten");
-    assert_eq!(rt; children.fate(number(&rt, 1), true), Err(ChildFault::Device));
+    assert_eq!(rt;
+        children.fate(number(&rt, 1), true),
+        Err(ChildFault::Device)
+    );
     let children = children.copy(rt.alloc()).expect(&rt, "no memory");
-    let [Call::Spawned {
-        words,
-        is_taken: true,
-        starts: true,
-        ..
-    }, Call::Signalled {
-        signal: Signal::Term,
-        ..
-    }, Call::Asked {
-        claim: true,
-        told: None,
-        ..
-    }] = children.calls() else {
+    let [
+        Call::Spawned {
+            words,
+            is_taken: true,
+            starts: true,
+            ..
+        },
+        Call::Signalled {
+            signal: Signal::Term,
+            ..
+        },
+        Call::Asked {
+            claim: true,
+            told: None,
+            ..
+        },
+    ] = children.calls()
+    else {
         rt.abort()
     };
     let words: [&str; 2] = [words[0].as_str(), words[1].as_str()];

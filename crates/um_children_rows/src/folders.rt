@@ -73,7 +73,9 @@ fn files_of_another_form_are_never_an_error(rt: HostRuntime) -> Result<(), Fail>
     told(&rt, &mut children, 4, Fate::Starting);
     told(&rt, &mut children, 5, Fate::Executed);
     told(&rt, &mut children, 9, Fate::Ended(End::Signal(9)));
-    children.signal(number(&rt, 5), Signal::Kill).expect(&rt, "a failure");
+    children
+        .signal(number(&rt, 5), Signal::Kill)
+        .expect(&rt, "a failure");
     assert_eq!(rt; children.failures(), 0);
     fs::remove_dir_all(&rt, place)?;
     Ok(())
@@ -88,7 +90,10 @@ fn what_the_manager_claims_first_is_absent_for_good(rt: HostRuntime) -> Result<(
     assert_eq!(rt; silent, Ok(Fate::Starting));
     assert!(rt; !is_there(&rt, place, "1.claim")?);
     told(&rt, &mut children, 1, Fate::Absent);
-    assert_eq!(rt; fs::read(&rt, format!(in rt.alloc(); "{place}/1.claim")?)?.as_slice(), b"manager\n".as_slice());
+    assert_eq!(rt;
+        fs::read(&rt, format!(in rt.alloc(); "{place}/1.claim")?)?.as_slice(),
+        b"manager\n".as_slice()
+    );
     assert!(rt; !is_there(&rt, place, "1.claim.manager")?);
     children.forget(number(&rt, 1)).expect(&rt, "not forgotten");
     assert!(rt; is_there(&rt, place, "1.claim")?);
@@ -101,17 +106,38 @@ fn what_the_manager_claims_first_is_absent_for_good(rt: HostRuntime) -> Result<(
 fn a_number_that_ended_is_forgotten_with_its_files(rt: HostRuntime) -> Result<(), Fail> {
     let place = folder(&rt, "forgotten")?;
     let place = place.as_str();
-    let names = ["claim", "pid", "status", "pid.new", "status.new", "claim.manager", "claim.runner"];
+    let names = [
+        "claim",
+        "pid",
+        "status",
+        "pid.new",
+        "status.new",
+        "claim.manager",
+        "claim.runner",
+    ];
     for name in names {
-        put(&rt, place, format!(in rt.alloc(); "1.{name}")?.as_str(), b"code 0\n")?;
-        put(&rt, place, format!(in rt.alloc(); "2.{name}")?.as_str(), b"code 0\n")?;
+        put(
+            &rt,
+            place,
+            format!(in rt.alloc(); "1.{name}")?.as_str(),
+            b"code 0\n",
+        )?;
+        put(
+            &rt,
+            place,
+            format!(in rt.alloc(); "2.{name}")?.as_str(),
+            b"code 0\n",
+        )?;
     }
     fs::remove_file(&rt, format!(in rt.alloc(); "{place}/2.status")?)?;
     let mut children = children(&rt, place);
     children.forget(number(&rt, 1)).expect(&rt, "not forgotten");
     children.forget(number(&rt, 2)).expect(&rt, "not forgotten");
     for name in names {
-        assert!(rt; !is_there(&rt, place, format!(in rt.alloc(); "1.{name}")?.as_str())?, "1.{name}");
+        assert!(rt;
+            !is_there(&rt, place, format!(in rt.alloc(); "1.{name}")?.as_str())?,
+            "1.{name}"
+        );
     }
     assert!(rt; is_there(&rt, place, "2.claim")?);
     assert!(rt; is_there(&rt, place, "2.pid")?);

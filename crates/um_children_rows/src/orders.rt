@@ -34,11 +34,7 @@ fn order_in(mut receipt: Receipt) -> Option<SpawnOrder> {
 }
 
 /// What came of a command at moment 0 that is accepted: its order, if any.
-fn take(
-    rt: &impl Abort,
-    keeper: &mut Keeper<MemDisk>,
-    command: Command,
-) -> Option<SpawnOrder> {
+fn take(rt: &impl Abort, keeper: &mut Keeper<MemDisk>, command: Command) -> Option<SpawnOrder> {
     let moment = Moment::new(0).expect(rt, "no moment");
     let input = Input::new(moment, Event::Commanded(command));
     order_in(keeper.submit(&input).expect(rt, "not taken"))

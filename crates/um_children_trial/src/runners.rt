@@ -32,7 +32,19 @@ pub fn start(
     let number = format!(in alloc; "{number}")?;
     let me = env::current_exe(rt)?;
     let mut command = Command::new(alloc, me.as_path())?;
-    let words = ["run", "--dir", FOLDER, "--number", number.as_str(), "--env", "0", "--", "/bin/sh", "-c", script];
+    let words = [
+        "run",
+        "--dir",
+        FOLDER,
+        "--number",
+        number.as_str(),
+        "--env",
+        "0",
+        "--",
+        "/bin/sh",
+        "-c",
+        script,
+    ];
     for word in words {
         command.arg(word)?;
     }
