@@ -47,6 +47,14 @@ pub trait Children {
         ensures failures { CountsFault result (failures self.old) (failures self.new) }
         ensures honest { honest self.new ≡ honest self.old };
 
+    /// Lets go what is kept of a number whose end is recorded, of which nothing is asked any more. Of one that hasn't ended nothing goes,
+    /// and a claim stays: a number that was told to be absent never starts, now as before. It is no call of the history.
+    fn forget(&mut self, number: ProcessNumber) -> Result<(), ChildFault>
+        ensures past { past self.new ≡ past self.old }
+        ensures whole { whole self.new ≡ whole self.old }
+        ensures failures { CountsFault result (failures self.old) (failures self.new) }
+        ensures honest { honest self.new ≡ honest self.old };
+
     /// A number that was told to be absent never starts.
     ghost absence_is_final: { (children : Self) → IsTrue (honest children) → IsFinal (past children) };
 }

@@ -1,4 +1,4 @@
-ghost use Rattle.std.specs.Prelude.{◌≡◌, ◌⊎◌, ◌∷◌, ◌++◌, [], List, IsTrue, true, false, not, if◌then◌else◌, IfOk, OnOk, OnErr};
+ghost use Rattle.std.specs.Prelude.{◌≡◌, ◌⊎◌, ◌∷◌, ◌++◌, [], List, IsTrue, true, false, not, if◌then◌else◌, is_ok, IfOk, OnOk, OnErr};
 ghost use Rattle.um_model.specs.Children.{IsFinal, is_absent, has_started, was_absent, Spawned, Asks, Spawns, Signals};
 ghost use Rattle.um_model.specs.Disk.{one_more};
 ghost use Rattle.um_children.specs.Calls.{call_of, calls_of, Fits};
@@ -315,5 +315,16 @@ impl Children for FakeChildren {
             return Err(self.lose());
         }
         Ok(fate)
+    }
+
+    /// Nothing is kept of a number but the notes, which stay. It never fails, and no fuse burns.
+    fn forget(&mut self, number: ProcessNumber) -> Result<(), ChildFault>
+        ensures past { calls_of self.new.calls.items ≡ calls_of self.old.calls.items }
+        ensures whole { not self.new.lost ≡ not self.old.lost }
+        ensures failures { CountsFault result self.old.failures self.new.failures }
+        ensures done { is_ok result ≡ true }
+        ensures same { self.new ≡ self.old }
+    {
+        Ok(())
     }
 }

@@ -273,20 +273,6 @@ impl<'a, R: Files + Processes + Clock> RunnerDir<'a, R> {
         Ok(())
     }
 
-    /// Removes the files of a number whose end is recorded, so that the folder doesn't grow with time. Its runner has ended, once its
-    /// status stands there; where it doesn't, nothing is removed. A claim of the manager stays, since a late runner must still find it.
-    ///
-    /// `NoMemory` where a growth was refused, `Device` where the system refuses: a later call removes what was left.
-    pub fn forget(&mut self, number: ProcessNumber) -> Result<(), ChildFault>
-        ensures failures { CountsFault result self.old.failures self.new.failures }
-    {
-        let answer = self.remove_files(number);
-        if self.known(number).standing.is_final() {
-            self.known.remove(&number.get());
-        }
-        self.count(answer)
-    }
-
     /// The numbers whose status stands in the folder.
     fn ended(&self) -> Result<Vec<ProcessNumber>, ChildFault> {
         let mut numbers = Vec::new(self.alloc);
@@ -338,6 +324,18 @@ impl<'a, R: Files + Processes + Clock> Children for RunnerDir<'a, R> {
 
     fn fate(&mut self, number: ProcessNumber, claim: bool) -> Result<Fate, ChildFault> {
         let answer = self.find(number, claim);
+        self.count(answer)
+    }
+
+    /// Removes the files of the number, so that the folder doesn't grow with time. Its runner has ended, once its status stands there;
+    /// where it doesn't, nothing is removed. A claim of the manager stays, since a late runner must still find it.
+    ///
+    /// `NoMemory` where a growth was refused, `Device` where the system refuses: a later call removes what was left.
+    fn forget(&mut self, number: ProcessNumber) -> Result<(), ChildFault> {
+        let answer = self.remove_files(number);
+        if self.known(number).standing.is_final() {
+            self.known.remove(&number.get());
+        }
         self.count(answer)
     }
 }

@@ -110,6 +110,28 @@ fn a_claimed_number_starts_nothing(rt: HostRuntime) -> Result<(), Fail> {
     Ok(())
 }
 
+/// A draft that was left behind is the claim under another name.
+#[test]
+fn a_claim_that_stands_is_not_written_again(rt: HostRuntime) -> Result<(), Fail> {
+    let place = folder(&rt, "drafts")?;
+    let place = place.as_str();
+    put(&rt, place, "1.claim", b"x")?;
+    let standing = format!(in rt.alloc(); "{place}/1.claim")?;
+    for draft in ["1.claim.manager", "1.claim.runner"] {
+        let draft = format!(in rt.alloc(); "{place}/{draft}")?;
+        fs::hard_link(&rt, standing.as_str(), draft.as_str())?;
+    }
+    for claimant in [Claimant::Manager, Claimant::Runner] {
+        let claiming = claim(&rt, rt.alloc(), place, number(&rt, 1), claimant).expect(
+            &rt, "no claim",
+        );
+        assert_eq!(rt; claiming, Claiming::Stands(Claimant::Runner));
+        holds(&rt, place, "1.claim", Some("x"))?;
+    }
+    fs::remove_dir_all(&rt, place)?;
+    Ok(())
+}
+
 #[test]
 fn two_runners_of_a_number_start_one_child(rt: HostRuntime) -> Result<(), Fail> {
     let place = folder(&rt, "twice")?;

@@ -1,3 +1,4 @@
+mod RunnerLines
 mod Entries
 mod Numerals
 mod Lines

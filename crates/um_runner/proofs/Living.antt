@@ -1,9 +1,9 @@
 -- The lives of a runner, deed by deed.
-use Rattle.std.proofs.Common.{◌≡◌, ℕ, Bool, true, false, ◌&&◌, List, [], ◌∷◌, ◌++◌, Option, Some, None, Result, Ok, Err, refl, ap, ◌∙◌, append_assoc}
+use Rattle.std.proofs.Common.{◌≡◌, ℕ, Bool, true, false, ◌&&◌, List, [], ◌∷◌, ◌++◌, Some, None, Result, Ok, Err, ap, ◌∙◌, append_assoc}
 use Rattle.std.specs.Prelude.{is_ok}
 use Rattle.std.specs.Result.{IsErr}
 use Rattle.std.proofs.lemmas.Bool.{true≢false, false≢true}
-use Rattle.um_model.specs.Runner.{Deed, Claims, Starts, Writes, Waits, Ours, Taken, Refused, Life, yields, fails, refuses, runs, pid_text, status_text, not_executed}
+use Rattle.um_model.specs.Runner.{Deed, Claims, Starts, Writes, Waits, Ours, Taken, Refused, yields, fails, refuses, runs, pid_text, status_text, not_executed}
 use Rattle.um_model.specs.declared.runner.RunnerFile.TheVariants.{Pid, Status}
 use Rattle.um_model.specs.declared.service.End.{End}
 use Rattle.um_runner.specs.Lives.{LivesOn, claimed_when}

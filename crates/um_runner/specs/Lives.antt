@@ -1,7 +1,6 @@
 -- The life of a runner in what its host notes.
 -- The contracts of Host and run cite it.
 use Rattle.std.specs.Prelude.{◌≡◌, ℕ, Bool, true, false, List, ◌++◌, Result, Ok, Err}
-use Rattle.std.specs.Result.{is_ok}
 use Rattle.um_model.specs.Runner.{Claimed, Ours, Taken, Refused, Deed, Life}
 
 -- what came of claiming, by the answer

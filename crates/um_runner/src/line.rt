@@ -1,9 +1,9 @@
 //! The words of a runner.
 
-ghost use Rattle.std.specs.Prelude.{◌≡◌, ◌∷◌, ℕ, List, map, true, IfSome, string_bytes};
-ghost use Rattle.std.specs.List.{list_all};
-ghost use Rattle.um_model.specs.Runner.{runner_words};
-ghost use Rattle.um_runner.specs.Jobs.{entries_of, words_of, is_entry};
+ghost use Rattle.std.specs.Prelude.{◌≡◌, ◌≢◌, ◌≤◌, ◌<◌, ◌∷◌, ℕ, List, map, decimal, string_bytes, MatchOption};
+ghost use Rattle.um_model.specs.Moments.{process_limit};
+ghost use Rattle.um_runner.specs.Jobs.{entries_of, words_of};
+ghost use Rattle.um_runner.specs.RunnerLines.{IsRunnerLine, line_words};
 
 use crate::job::Job;
 use crate::texts::number_in;
@@ -19,20 +19,33 @@ pub struct RunnerLine<'a> {
     pub job: Job<'a>,
 }
 
-/// The word behind this one, with which the words begin, and the words behind both.
+/// The words of a runner where they belong, before any is read as a number.
+#[derive(Clone, Copy)]
+struct Options<'a> {
+    folder: &'a String,
+    number: &'a String,
+    count: &'a String,
+    /// Those behind `--`.
+    words: &'a [String],
+}
+
+/// The word behind this one, with which the words begin, and the words behind both. None for other words.
 fn value_behind<'a>(option: &str, words: &'a [String]) -> Option<(&'a String, &'a [String])>
-    ensures { IfSome result (λ r. map string_bytes words.now ≡ option.now ∷ string_bytes r.0.now ∷ map string_bytes r.1.now) }
+    ensures { MatchOption result ((value : List ℕ) (others : List (List ℕ)) → map string_bytes words.now ≢ option.now ∷ value ∷ others)
+        (λ r. map string_bytes words.now ≡ option.now ∷ string_bytes r.0.now ∷ map string_bytes r.1.now) }
 {
     let (first, others) = words.split_first()?;
     if first.as_str() != option {
         return None;
     }
-    others.split_first()
+    let (value, others) = others.split_first()?;
+    Some((value, others))
 }
 
-/// The words behind this one, with which they begin.
+/// The words behind this one, with which they begin. None for other words.
 fn words_behind<'a>(word: &str, words: &'a [String]) -> Option<&'a [String]>
-    ensures { IfSome result (λ others. map string_bytes words.now ≡ word.now ∷ map string_bytes others.now) }
+    ensures { MatchOption result ((others : List (List ℕ)) → map string_bytes words.now ≢ word.now ∷ others)
+        (λ others. map string_bytes words.now ≡ word.now ∷ map string_bytes others.now) }
 {
     let (first, others) = words.split_first()?;
     if first.as_str() != word {
@@ -41,24 +54,50 @@ fn words_behind<'a>(word: &str, words: &'a [String]) -> Option<&'a [String]>
     Some(others)
 }
 
-impl<'a> RunnerLine<'a> {
-    /// Reads `--dir DIR --number N --env COUNT -- WORDS..`, of which the first COUNT words are entries NAME=value and the others the
-    /// command. None for other words: another order, a number that isn't in decimal digits without zeros in front, the number 0
-    /// or one from 2^63 on, and what can be no job (`Job::of`).
-    pub fn of(words: &'a [String]) -> Option<RunnerLine<'a>>
-        ensures words { IfSome result (λ line. map string_bytes words.now ≡ runner_words line.folder.now line.number (entries_of line.job) (words_of line.job)) }
-        ensures entries { IfSome result (λ line. list_all is_entry (entries_of line.job) ≡ true) }
+/// The number of a process that the word tells. None for a word that isn't a number in decimal digits without zeros in front, for 0
+/// and from 2^63 on.
+fn process_of(word: &str) -> Option<ProcessNumber>
+    ensures { MatchOption result ((n : ℕ) → 1 ≤ n → n < process_limit → word.now ≢ decimal n) (λ n. word.now ≡ decimal n) }
+{
+    ProcessNumber::new(number_in(word.as_bytes())?)
+}
+
+impl<'a> Options<'a> {
+    /// The options that the words are. None where they aren't in this order.
+    fn of(words: &'a [String]) -> Option<Options<'a>>
+        ensures { MatchOption result
+            ((folder number count : List ℕ) (words' : List (List ℕ)) → map string_bytes words.now ≢ line_words folder number count words')
+            (λ o. map string_bytes words.now ≡ line_words (string_bytes o.folder.now) (string_bytes o.number.now) (string_bytes o.count.now) (map string_bytes o.words.now)) }
     {
         let (folder, words) = value_behind("--dir", words)?;
         let (number, words) = value_behind("--number", words)?;
         let (count, words) = value_behind("--env", words)?;
         let words = words_behind("--", words)?;
-        let number = ProcessNumber::new(number_in(number.as_bytes())?)?;
-        let count = number_in(count.as_bytes())? as usize;
-        Some(RunnerLine {
-            folder: folder.as_str(),
+        Some(Options {
+            folder,
             number,
-            job: Job::of(count, words)?,
+            count,
+            words,
+        })
+    }
+}
+
+impl<'a> RunnerLine<'a> {
+    /// Reads `--dir DIR --number N --env COUNT -- WORDS..`, of which the first COUNT words are entries NAME=value and the others the
+    /// command. None for other words: another order, a number that isn't in decimal digits without zeros in front, the number 0
+    /// or one from 2^63 on, and what can be no job (`Job::of`).
+    pub fn of(words: &'a [String]) -> Option<RunnerLine<'a>>
+        ensures { MatchOption result
+            ((folder : List ℕ) (number : ℕ) (entries command : List (List ℕ)) → IsRunnerLine folder number entries command (map string_bytes words.now) → ⊥)
+            (λ line. IsRunnerLine line.folder.now line.number (entries_of line.job) (words_of line.job) (map string_bytes words.now)) }
+    {
+        let options = Options::of(words)?;
+        let number = process_of(options.number.as_str())?;
+        let count = number_in(options.count.as_bytes())? as usize;
+        Some(RunnerLine {
+            folder: options.folder.as_str(),
+            number,
+            job: Job::of(count, options.words)?,
         })
     }
 }

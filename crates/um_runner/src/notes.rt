@@ -26,6 +26,17 @@ pub enum Told {
     Pid(u32),
 }
 
+/// Whose the claim is that stands there; None where none does.
+fn claimant_in<R: Files>(
+    rt: &R,
+    alloc: Global,
+    folder: &str,
+    number: ProcessNumber,
+) -> Result<Option<Claimant>, FolderFault> {
+    let beginning = read_file(rt, alloc, folder, number, RunnerFile::Claim)?;
+    Ok(beginning.map(|beginning| read_claim(beginning.bytes())))
+}
+
 /// Claims the number for this one. A claim that stands there is left as it was, and read.
 ///
 /// `NoMemory` where memory is wanting, before the folder is touched; `System` where the folder can't be written or read. No claim
@@ -41,16 +52,17 @@ pub fn claim<R: Files>(
         Claimant::Manager => RunnerFile::ManagerDraft,
         Claimant::Runner => RunnerFile::RunnerDraft,
     };
+    // A draft that was left may be the claim under another name, so it is written only while no claim stands.
+    if let Some(standing) = claimant_in(rt, alloc, folder, number)? {
+        return Ok(Claiming::Stands(standing));
+    }
     let files = (RunnerFile::Claim, draft);
     if create_file(rt, alloc, folder, number, files, claimant.text())? {
         return Ok(Claiming::New);
     }
-    let claimant = match read_file(rt, alloc, folder, number, RunnerFile::Claim)? {
-        Some(beginning) => read_claim(beginning.bytes()),
-        // It stood there a moment ago, and nobody removes a claim.
-        None => Claimant::Runner,
-    };
-    Ok(Claiming::Stands(claimant))
+    // It stood there a moment ago, and nobody removes a claim.
+    let standing = claimant_in(rt, alloc, folder, number)?.unwrap_or(Claimant::Runner);
+    Ok(Claiming::Stands(standing))
 }
 
 /// How the process ended, by its status file: `End::Lost` where the file tells no end, and None where there is no file.

@@ -1,4 +1,4 @@
-use Rattle.std.proofs.Common.{arith, rules, get_or, ◌≡◌, ◌∙◌, sym, string_bytes}
+use Rattle.std.proofs.Common.{arith, rules, get_or, ◌≡◌, ◌∙◌, string_bytes}
 use Rattle.um_runner.proofs.Entries.{sets_next}
 use Rattle.um_runner.proofs.job.set_entries.Goals as goal
 

@@ -1,5 +1,5 @@
 use Rattle.std.proofs.Common.{sym, ◌∙◌}
-use Rattle.um_runner.proofs.Numerals.{other_text, no_utf8, read_same}
+use Rattle.um_runner.proofs.Numerals.{other_text, read_same}
 use Rattle.um_runner.proofs.texts.number_in.Goals as goal
 
 pub returns-then-not-is_plain : goal.returns-then-not-is_plain
