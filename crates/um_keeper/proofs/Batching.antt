@@ -130,18 +130,18 @@ one_spent : {g later : ℕ} (answers : List Answer) (answer : Answer) → g ≤ 
 one_spent [] answer more all one = each_spent (answer ∷ []) more (one, tt)
 one_spent (x ∷ answers) answer more all one = ((λ is. omega (arith, all.0 is, more)), one_spent answers answer more all.1 one)
 
-pub spent_more : {g later : ℕ} {answers all : List Answer} {answer : Answer} → AllByRecursion (IsSpentIn g) answers → g ≤ later → IsSpentIn g answer → all ≡ answers ++ answer ∷ []
+pub spent_more : {g later : ℕ} (answers : List Answer) {all : List Answer} (answer : Answer) → AllByRecursion (IsSpentIn g) answers → g ≤ later → IsSpentIn g answer → all ≡ answers ++ answer ∷ []
     → AllByRecursion (IsSpentIn later) all
-spent_more {later = later} {answers} {answer = answer} spent more one is = subst (AllByRecursion (IsSpentIn later)) (sym is) (one_spent answers answer more spent one)
+spent_more {later = later} answers answer spent more one is = subst (AllByRecursion (IsSpentIn later)) (sym is) (one_spent answers answer more spent one)
 
 -- ---- what is to be recorded
 
-pub idle_left : {s : State} {left more : List Input} {input : Input} → left ≡ input ∷ more → AllByRecursion (IsIdle s) left → IsIdle s input × AllByRecursion (IsIdle s) more
-idle_left {s} is all = subst (AllByRecursion (IsIdle s)) is all
+pub idle_left : (s : State) {left more : List Input} {input : Input} → left ≡ input ∷ more → AllByRecursion (IsIdle s) left → IsIdle s input × AllByRecursion (IsIdle s) more
+idle_left s is all = subst (AllByRecursion (IsIdle s)) is all
 
-pub unrecorded_left : {s : State} {left more : List Input} {input : Input} {answer : Answer} {rest : List Answer} → left ≡ input ∷ more → NeedNoRecord s left (answer ∷ rest)
+pub unrecorded_left : (s : State) {left more : List Input} {input : Input} (answer : Answer) (rest : List Answer) → left ≡ input ∷ more → NeedNoRecord s left (answer ∷ rest)
     → (IsIdle s input ⊎ IsRefusal answer) × NeedNoRecord s more rest
-unrecorded_left {s} {answer = answer} {rest} is all = subst (λ l. NeedNoRecord s l (answer ∷ rest)) is all
+unrecorded_left s answer rest is all = subst (λ l. NeedNoRecord s l (answer ∷ rest)) is all
 
 -- ---- one input
 

@@ -1,5 +1,5 @@
 -- Of results.
-use Rattle.std.proofs.Common.{◌≡◌, ◌⊎◌, inl, inr, ℕ, sym, subst}
+use Rattle.std.proofs.Common.{◌≡◌, ◌⊎◌, ◌↔◌, inl, inr, ℕ, Bool, true, false, refl, sym, subst}
 use Rattle.std.specs.Prelude.{Result, Ok, Err, OnOk, OnErr, IfOk, IfErr}
 use Rattle.std.specs.Result.{IsErrAnd}
 use Rattle.um_sector.specs.Refused.{CountsDevice}
@@ -49,13 +49,13 @@ or_more f (inr b) = inr (f b)
 
 -- the other of two cases
 pub the_other : {A B : Type 0} → ¬ A → A ⊎ B → B
-the_other no (inl a) = absurd (no a)
-the_other no (inr b) = b
+the_other not (inl a) = absurd (not a)
+the_other not (inr b) = b
 
 -- what is told exactly by a refusal isn't so at Ok
-pub not_so : {T E : Type 0} {b : Bool} {result : Result T E} {e : E} {x : T} → (b ≡ true) ↔ (result ≡ Err e) → result ≡ Ok x → b ≡ false
-not_so {b = true} iff is = absurd (ok_err (sym is ∙ iff.0 refl))
-  where
-    ok_err : {T E : Type 0} {x : T} {e : E} → ¬ (Ok {T} {E} x ≡ Err e)
-    ok_err is = cc
-not_so {b = false} iff is = refl
+ok_err : {T E : Type 0} {x : T} {e : E} {result : Result T E} → result ≡ Ok x → ¬ (result ≡ Err e)
+ok_err a b = cc
+
+pub not_so : {T E : Type 0} (b : Bool) (result : Result T E) (e : E) (x : T) → (b ≡ true) ↔ (result ≡ Err e) → result ≡ Ok x → b ≡ false
+not_so true result e x exactly is = absurd (ok_err is (exactly.0 refl))
+not_so false result e x exactly is = refl
