@@ -27,8 +27,8 @@ none_left xs i high = ap (map input_of) (nil_from_length (drop i xs) (omega (ari
 first_had : {left more : List model.Input} (input : model.Input) → left ≡ input ∷ more → HasInOrder (input ∷ []) left
 first_had {more = more} input is = subst (HasInOrder (input ∷ [])) (sym is) (has (none_had more))
 
-fewer : (now old sectors record left more first total : ℕ) → now ≤ old + sectors + record → left ≡ sectors + record + more → old + left ≤ first + total → now + more ≤ first + total
-fewer now old sectors record left more first total one is most = omega (arith, one, is, most)
+fewer : (now old sectors own left more first total : ℕ) → now ≤ old + sectors + own → left ≡ sectors + own + more → old + left ≤ first + total → now + more ≤ first + total
+fewer now old sectors own left more first total one is most = omega (arith, one, is, most)
 
 -- the calls of those behind it
 calls_left : {layout l : Layout} {left more : List model.Input} {input : model.Input} → l ≡ layout → left ≡ input ∷ more → (now old first total : ℕ)
