@@ -9,7 +9,7 @@ use Rattle.um_model.specs.Store.{body_limit, sector_count}
 use Rattle.um_model.specs.declared.layout.Layout.{Layout}
 use Rattle.um_state.specs.View.{input_of}
 use Rattle.um_state.specs.declared.input.Input.{Input}
-use Rattle.um_keeper.specs.Answering.{AreAnswered, all_answered, where_step, taken, IsIdle, IsRefusal, NeedNoRecord, most_calls}
+use Rattle.um_keeper.specs.Answering.{Answer, AreAnswered, all_answered, where_step, taken, IsIdle, IsRefusal, NeedNoRecord, most_calls}
 use Rattle.um_keeper.specs.Keepers.{disk_in, state_in, size_in, layout_in, generation_in}
 use Rattle.um_keeper.specs.Keeping.{IsBegun, record_calls}
 use Rattle.um_keeper.proofs.Batching.{appended, one_answered, one_begun, one_lost, one_had, none_had, idle_left, unrecorded_left, spent_more}
@@ -56,7 +56,7 @@ loop-input-preserved g c =
     let left = one_more c.args.inputs.now at.input-index c.input-item.result c.loop-input-test.true c.input-item.is in
     let step = ap (map input_of) left in
     let longer = one_longer c.input-item.result (drop (at.input-index + 1) c.args.inputs.now) (drop at.input-index c.args.inputs.now) left in
-    let more = λ rest. appended at.answers.items c.note.new.answers.items answer rest c.note.ensures.items in
+    let more : (rest : List Answer) → c.note.new.answers.items ++ rest ≡ at.answers.items ++ (answer ∷ rest) = λ rest. appended at.answers.items c.note.new.answers.items answer rest c.note.ensures.items in
     record {
       working = not_so _ _ _ _ c.take_one.ensures.failed c.in_ok-answer.was;
       answered = λ rest t h. subst (λ l. AreAnswered (size_in first) (state_in first) all l t) (sym (more rest))
@@ -74,7 +74,7 @@ loop-input-preserved g c =
       unrecorded = λ rest none.
           let (d, s, here) = inv.unrecorded (answer ∷ rest) (subst (NeedNoRecord (state_in first) all) (more rest) none) in
           let (one, others) = unrecorded_left (state_in first) answer rest step here in
-          let same = elim one [ inl idle ↦ c.take_one.ensures.idle (subst (λ z. IsIdle z input) (sym s) idle) | inr refusal ↦ told.unrecorded refusal ] in
+          let same : (disk_in c.take_one.new.self ≡ disk_in at.self) × (state_in c.take_one.new.self ≡ state_in at.self) = elim one [ inl idle ↦ c.take_one.ensures.idle (subst (λ z. IsIdle z input) (sym s) idle) | inr refusal ↦ told.unrecorded refusal ] in
           (same.0 ∙ d, same.1 ∙ s, others);
       spent = spent_more at.answers.items answer inv.spent c.take_one.ensures.grows told.spent c.note.ensures.items;
       calls = calls_left inv.layout step _ _ _ _ c.take_one.ensures.calls inv.calls;
