@@ -98,7 +98,7 @@ impl<D: Disk> Keeper<D> {
         ensures unrecorded { IfOk result (λ answer. IsRefusal answer → (disk_in self.new ≡ disk_in self.old) × (state_in self.new ≡ state_in self.old)) }
         ensures device { CountsDevice result (D.failures (disk_in self.old)) (D.failures (disk_in self.new)) }
         ensures failed { (has_failed self.new ≡ true) ↔ (result ≡ Err Refusal.Device) }
-        ensures spent { result ≡ Ok (Err Refusal.GenerationsSpent) → generation_in self.old ≡ 2 ^ 64 - 1 }
+        ensures spent { IfOk result (IsSpentIn (generation_in self.old)) }
         ensures calls { D.calls (disk_in self.new) ≤ D.calls (disk_in self.old) + (sector_count (body_limit (layout_in self.old)) + 3) + record_calls (input_of input.now) }
         ensures size { D.size (disk_in self.new) ≡ D.size (disk_in self.old) }
         ensures honest { D.honest (disk_in self.new) ≡ D.honest (disk_in self.old) }

@@ -58,7 +58,7 @@ fn input_bytes(alloc: Global, input: &Input) -> Result<Vec<u8>, AllocError>
 }
 
 /// The bytes of a state.
-fn state_bytes(alloc: Global, state: &State) -> Result<Vec<u8>, AllocError>
+pub(crate) fn state_bytes(alloc: Global, state: &State) -> Result<Vec<u8>, AllocError>
     ensures { IfOk result (λ bytes. bytes.items ≡ state_spelling (state_of state.now)) }
 {
     let mut bytes = Vec::new(alloc);
