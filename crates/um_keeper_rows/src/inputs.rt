@@ -67,6 +67,10 @@ pub fn starts(mut receipt: Receipt) -> usize {
 }
 
 /// Submits an input that is taken, and tells how many processes it asks for.
-pub fn take<D: Disk>(rt: &(impl AllocGlobal + Abort), keeper: &mut Keeper<D>, input: &Input) -> usize {
+pub fn take<D: Disk>(
+    rt: &(impl AllocGlobal + Abort),
+    keeper: &mut Keeper<D>,
+    input: &Input,
+) -> usize {
     starts(keeper.submit(input).expect(rt, "not taken"))
 }

@@ -39,7 +39,11 @@ fn calls_since<D: Disk + Drop>(rt: &(impl AllocGlobal + Abort), keeper: Keeper<F
 fn a_list_is_answered_in_its_order(rt: HostRuntime) {
     let mut keeper = opened(&rt, 0);
     let inputs = two(&rt, put(&rt, ""), put_at(&rt, "lib/b.service", ""));
-    same(&rt, accepted(&rt, keeper.submit_all(inputs)).as_slice(), &[true, true]);
+    same(
+        &rt,
+        accepted(&rt, keeper.submit_all(inputs)).as_slice(),
+        &[true, true],
+    );
     same(&rt, keeper.state().tree().len(), 2);
     // a record of one sector and a sync, twice
     same(&rt, calls_since(&rt, keeper), 4);
@@ -49,7 +53,9 @@ fn a_list_is_answered_in_its_order(rt: HostRuntime) {
 fn a_refused_input_touches_no_other(rt: HostRuntime) {
     let mut keeper = opened(&rt, 0);
     let mut inputs = two(&rt, put(&rt, ""), put_at(&rt, "a.service", ""));
-    inputs.push(put_at(&rt, "lib/b.service", "")).expect(&rt, "no memory");
+    inputs
+        .push(put_at(&rt, "lib/b.service", ""))
+        .expect(&rt, "no memory");
     let answers = accepted(&rt, keeper.submit_all(inputs));
     same(&rt, answers.as_slice(), &[true, false, true]);
     same(&rt, over(&rt, keeper.into_disk()).state().tree().len(), 2);
@@ -61,7 +67,11 @@ fn a_list_without_effect_makes_no_disk_call(rt: HostRuntime) {
     let none = Vec::new(rt.alloc());
     same(&rt, accepted(&rt, keeper.submit_all(none)).len(), 0);
     let ticks = two(&rt, tick(&rt, 1), tick(&rt, 2));
-    same(&rt, accepted(&rt, keeper.submit_all(ticks)).as_slice(), &[true, true]);
+    same(
+        &rt,
+        accepted(&rt, keeper.submit_all(ticks)).as_slice(),
+        &[true, true],
+    );
     same(&rt, calls_since(&rt, keeper), 0);
 }
 
@@ -80,13 +90,25 @@ fn count(answers: Vec<Result<Receipt, Refusal>>) -> usize {
 #[test]
 fn a_fault_in_a_list_refuses_all_of_it(rt: HostRuntime) {
     // the sync of the second record
-    let fails = opened(&rt, 0).into_disk().calls().checked_add(4).expect(&rt, "too many");
+    let fails = opened(&rt, 0)
+        .into_disk()
+        .calls()
+        .checked_add(4)
+        .expect(&rt, "too many");
     let mut keeper = opened(&rt, fails);
     let inputs = two(&rt, put(&rt, ""), put_at(&rt, "lib/b.service", ""));
-    is_refused(&rt, keeper.submit_all(inputs).map(count), Some("E16 Device"));
+    is_refused(
+        &rt,
+        keeper.submit_all(inputs).map(count),
+        Some("E16 Device"),
+    );
     same(&rt, keeper.state().tree().len(), 0);
     let inputs = two(&rt, put(&rt, ""), tick(&rt, 1));
-    is_refused(&rt, keeper.submit_all(inputs).map(count), Some("E17 Reopen"));
+    is_refused(
+        &rt,
+        keeper.submit_all(inputs).map(count),
+        Some("E17 Reopen"),
+    );
     // a crash that loses what wasn't synced leaves the first alone
     let disk = keeper.into_disk().into_inner();
     let left = disk.crash(rt.alloc(), &[]).expect(&rt, "no memory");

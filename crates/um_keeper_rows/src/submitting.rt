@@ -1,5 +1,5 @@
 //! Inputs that a keeper takes: what it writes of them, what a crash leaves, what it refuses.
-use crate::answers::{at, has_layout, is_refused, opened, over, same, sector_at, bytes_of};
+use crate::answers::{at, bytes_of, has_layout, is_refused, opened, over, same, sector_at};
 use crate::inputs::{AGAIN, commanded, put, put_long, put_long_at, start, starts, take, tick};
 use std::process::Abort;
 use um_keeper::Keeper;
@@ -51,7 +51,11 @@ fn a_tick_that_restarts_is_a_record(rt: HostRuntime) {
 fn is_opened_again<D: Disk + Drop>(rt: &(impl AllocGlobal + Abort), keeper: Keeper<D>) {
     let before = bytes_of(rt, keeper.state());
     let again = over(rt, keeper.into_disk());
-    same(rt, bytes_of(rt, again.state()).as_slice(), before.as_slice());
+    same(
+        rt,
+        bytes_of(rt, again.state()).as_slice(),
+        before.as_slice(),
+    );
 }
 
 #[test]
