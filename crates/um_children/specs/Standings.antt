@@ -34,6 +34,14 @@ by_pid (Pid pid) before = Running (Some pid)
 by_pid NoPid before = Running None
 by_pid Nothing before = before
 
+-- no file changes it any more
+abbrev pub is_final : Standing → Bool
+is_final Silent = false
+is_final Taken = false
+is_final (Running pid) = false
+is_final (Ended end) = true
+is_final Barred = true
+
 -- of two signals the one that no process outlives
 abbrev pub stronger : Option Signal → Signal → Signal
 stronger (Some Kill) signal = Kill

@@ -1,4 +1,4 @@
-ghost use Rattle.std.specs.Prelude.{◌≡◌, [], true, false, IfOk};
+ghost use Rattle.std.specs.Prelude.{◌≡◌, ◌⊎◌, [], true, false, None, IfOk};
 ghost use Rattle.std.proofs.lemmas.Bool.{false≢true};
 ghost use Rattle.um_model.specs.Children.{is_absent};
 ghost use Rattle.um_children.specs.Faults.{CountsFault};
@@ -204,7 +204,11 @@ impl<'a, R: Files + Processes + Clock> RunnerDir<'a, R> {
     }
 
     /// Sends a kept signal once the pid is there; where no shell can be started it is kept on.
-    fn send_kept(&self, known: Known) -> Known {
+    fn send_kept(&self, known: Known) -> Known
+        ensures standing { result.standing ≡ known.standing }
+        ensures changes { result.changes ≡ known.changes }
+        ensures kept { (result.kept ≡ known.kept) ⊎ (result.kept ≡ None) }
+    {
         match (known.standing, known.kept) {
             (Standing::Running(Some(pid)), Some(signal)) => Known {
                 kept: if self.send(pid, signal).is_ok() {

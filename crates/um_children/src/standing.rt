@@ -1,7 +1,7 @@
 //! How a number stands by the files of its runner.
 
 ghost use Rattle.std.specs.Prelude.{◌≡◌, false};
-ghost use Rattle.um_children.specs.Standings.{by_pid, claimed, fate_of, stronger};
+ghost use Rattle.um_children.specs.Standings.{by_pid, claimed, fate_of, is_final, stronger};
 ghost use Rattle.um_model.specs.Children.{is_absent};
 
 use um_model::{Claimant, End, Fate, Signal};
@@ -33,7 +33,11 @@ pub struct Known {
 
 impl Known {
     /// What is known of a number that nobody asked for.
-    pub fn nothing() -> Known {
+    pub fn nothing() -> Known
+        ensures standing { result.standing ≡ Standing.Silent }
+        ensures kept { result.kept ≡ None }
+        ensures changes { result.changes ≡ None }
+    {
         Known {
             standing: Standing::Silent,
             kept: None,
@@ -77,7 +81,9 @@ impl Standing {
     }
 
     /// Whether no file can change it any more.
-    pub fn is_final(self) -> bool {
+    pub fn is_final(self) -> bool
+        ensures { result ≡ is_final self }
+    {
         match self {
             Standing::Ended(_) | Standing::Barred => true,
             Standing::Silent | Standing::Taken | Standing::Running(_) => false,
