@@ -1,5 +1,5 @@
 -- Of inputs that are taken one behind the other.
-use Rattle.std.proofs.Common.{◌≡◌, ◌≢◌, ◌⊎◌, ◌∙◌, ℕ, zero, suc, ◌+◌, ◌≤◌, arith, Bool, true, false, if◌then◌else◌, List, [], ◌∷◌, ◌++◌, append_assoc, take, refl, sym, ap, subst, inl, inr}
+use Rattle.std.proofs.Common.{◌≡◌, ◌⊎◌, ◌∙◌, ℕ, zero, suc, ◌≤◌, arith, Bool, true, false, if◌then◌else◌, List, [], ◌∷◌, ◌++◌, append_assoc, take, refl, sym, ap, subst, inl, inr}
 use Rattle.std.specs.List.{AllByRecursion}
 use Rattle.std.specs.Prelude.{Ok, Err, IsTrue}
 use Rattle.um_engine.specs.Engine.{state_before}
@@ -15,9 +15,7 @@ use Rattle.um_model.proofs.DiskLaws.{weaker, followed}
 use Rattle.um_model.proofs.NumbersLaws.{run_numbers_rise}
 use Rattle.um_keeper.specs.Answering.{Answer, is_turned_away, Answered, accepted, refused, turned_away, AreAnswered, all_answered, and_next, where_step, taken, all_asked, IsIdle, IsRefusal, NeedNoRecord, IsSpentIn, state_before_all}
 use Rattle.um_keeper.specs.Keeping.{IsBegun}
-use Rattle.um_keeper.proofs.Kept.{room_begun}
 use Rattle.um_engine.specs.OfStore.{is_of_store}
-use Rattle.um_model.specs.Stands.{IsStoreOf}
 use Rattle.um_sector.specs.Refused.{IsLost}
 use Rattle.um_wire.specs.Refusal.{refused_of}
 use Rattle.um_wire.specs.declared.refusal.Refusal as declared

@@ -15,7 +15,7 @@ use Rattle.um_model.specs.Numbers.{AreNew, started_numbers}
 use Rattle.um_model.specs.Refusals.{Refused}
 use Rattle.um_model.specs.Servable.{IsServable}
 use Rattle.um_model.specs.Service.{Action}
-use Rattle.um_model.specs.StateSpellings.{state_at, state_spelling, FitState}
+use Rattle.um_model.specs.StateSpellings.{state_at, state_spelling}
 use Rattle.um_model.specs.Stands.{Contents, contents_of, inputs_of, IsStoreOf}
 use Rattle.um_model.specs.Store as store
 use Rattle.um_model.specs.Store.{body_limit, sector_count, log_start, log_end, newest_of, records_of, sectors_of, HasRecords, IsStore, GoesOn, EitherRecord, EitherSnapshot}

@@ -1,5 +1,4 @@
-use Rattle.std.proofs.Common.{◌≡◌, ◌⊎◌, ◌∙◌, ◌<◌, ◌≤◌, ◌+◌, ◌++◌, ℕ, List, [], ◌∷◌, append-nil, length, drop, map, get_or, inl, inr, refl, sym, ap, subst, arith}
-use Rattle.std.specs.List.{AllByRecursion}
+use Rattle.std.proofs.Common.{◌≡◌, ◌∙◌, ◌<◌, ◌≤◌, ◌+◌, ◌++◌, ℕ, List, [], ◌∷◌, append-nil, length, drop, map, get_or, inl, inr, sym, ap, subst, arith}
 use Rattle.std.specs.Prelude.{IsTrue}
 use Rattle.std.proofs.lemmas.List.{drop_more, nil_from_length, length-drop}
 use Rattle.um_model.specs.Disk.{During}
@@ -9,8 +8,8 @@ use Rattle.um_model.specs.Store.{body_limit, sector_count}
 use Rattle.um_model.specs.declared.layout.Layout.{Layout}
 use Rattle.um_state.specs.View.{input_of}
 use Rattle.um_state.specs.declared.input.Input.{Input}
-use Rattle.um_keeper.specs.Answering.{Answer, AreAnswered, all_answered, where_step, taken, IsIdle, IsRefusal, NeedNoRecord, most_calls}
-use Rattle.um_keeper.specs.Keepers.{disk_in, state_in, size_in, layout_in, generation_in}
+use Rattle.um_keeper.specs.Answering.{Answer, AreAnswered, all_answered, where_step, taken, IsIdle, NeedNoRecord, most_calls}
+use Rattle.um_keeper.specs.Keepers.{disk_in, state_in, size_in, layout_in}
 use Rattle.um_keeper.specs.Keeping.{IsBegun, record_calls}
 use Rattle.um_keeper.proofs.Batching.{appended, one_answered, one_begun, one_lost, one_had, none_had, idle_left, unrecorded_left, spent_more}
 use Rattle.um_keeper.proofs.Kept.{not_begun}

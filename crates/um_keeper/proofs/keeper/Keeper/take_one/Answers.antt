@@ -1,7 +1,6 @@
-use Rattle.std.proofs.Common.{◌≡◌, ◌∙◌, [], ◌∷◌, Err, sym, ap, subst}
+use Rattle.std.proofs.Common.{◌∙◌, [], ◌∷◌, Err, sym, ap, subst}
 use Rattle.std.proofs.lemmas.Bool.{false≢true}
 use Rattle.um_state.specs.View.{input_of}
-use Rattle.um_wire.specs.declared.refusal.Refusal.TheVariants.{Device}
 use Rattle.um_keeper.specs.Answering.{Answered, accepted, state_before_all}
 use Rattle.um_keeper.specs.Keepers.{state_in, size_in}
 use Rattle.um_keeper.proofs.Batching.{answered_refused, back_append}
