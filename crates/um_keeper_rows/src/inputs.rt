@@ -56,10 +56,10 @@ pub fn tick(rt: &impl Abort, micros: u64) -> Input {
 
 /// Spends a receipt, and tells how many processes it asks for.
 pub fn starts(mut receipt: Receipt) -> usize {
-    let mut starts = 0;
+    let mut starts: usize = 0;
     while let Some(handed) = receipt.next_action() {
         if let Handed::Spawn(_) = handed {
-            starts += 1;
+            starts = starts.saturating_add(1);
         }
     }
     receipt.finish();

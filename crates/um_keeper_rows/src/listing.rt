@@ -32,7 +32,9 @@ fn accepted(
 
 /// The number of disk calls since a keeper of a new store was made.
 fn calls_since<D: Disk + Drop>(rt: &(impl AllocGlobal + Abort), keeper: Keeper<Fuse<D>>) -> u64 {
-    keeper.into_disk().calls() - opened(rt, 0).into_disk().calls()
+    let before = opened(rt, 0).into_disk().calls();
+    let calls = keeper.into_disk().calls();
+    calls.checked_sub(before).expect(rt, "fewer calls")
 }
 
 #[test]
@@ -78,10 +80,10 @@ fn a_list_without_effect_makes_no_disk_call(rt: HostRuntime) {
 /// How many answers a list has that isn't refused.
 fn count(answers: Vec<Result<Receipt, Refusal>>) -> usize {
     let mut rest = answers.into_iter();
-    let mut count = 0;
+    let mut count: usize = 0;
     while let Some(answer) = rest.next() {
         answer.map(starts).is_ok();
-        count += 1;
+        count = count.saturating_add(1);
     }
     rest.destroy_empty();
     count

@@ -118,7 +118,7 @@ fn calls_of_open(rt: &(impl AllocGlobal + Abort)) -> u64 {
 #[test]
 fn a_failed_checkpoint_wants_the_store_opened_again(rt: HostRuntime) {
     // the header's sync: the body is one sector, a sync, the header, a sync
-    let fails = calls_of_open(&rt) + 4;
+    let fails = calls_of_open(&rt).checked_add(4).expect(&rt, "too many");
     let mut keeper = opened(&rt, fails);
     is_refused(&rt, keeper.checkpoint(), Some("E16 Device"));
     is_refused(&rt, keeper.checkpoint(), Some("E17 Reopen"));
@@ -134,7 +134,8 @@ fn a_failed_checkpoint_wants_the_store_opened_again(rt: HostRuntime) {
 /// What a crash within the record of 481 bytes leaves, opened again.
 fn left(rt: &(impl AllocGlobal + Abort), picks: [usize; 2]) -> Keeper<Fuse<MemDisk>> {
     // the record's sync: two sectors are written before it
-    let mut keeper = opened(rt, calls_of_open(rt) + 3);
+    let fails = calls_of_open(rt).checked_add(3).expect(rt, "too many");
+    let mut keeper = opened(rt, fails);
     let input = put_long(rt, 450);
     is_refused(rt, keeper.submit(&input).map(starts), Some("E16 Device"));
     let disk = keeper.into_disk().into_inner();
@@ -172,7 +173,10 @@ fn a_record_in_the_place_of_a_torn_one_counts_alone(rt: HostRuntime) {
 fn calls_of_record(rt: &(impl AllocGlobal + Abort), length: usize) -> u64 {
     let mut keeper = opened(rt, 0);
     take(rt, &mut keeper, &put_long(rt, length));
-    keeper.into_disk().calls() - calls_of_open(rt)
+    let calls = keeper.into_disk().calls();
+    calls
+        .checked_sub(calls_of_open(rt))
+        .expect(rt, "fewer calls")
 }
 
 #[test]
