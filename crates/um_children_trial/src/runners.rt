@@ -15,7 +15,7 @@ pub fn number(n: u64) -> anyhow::Result<ProcessNumber> {
 }
 
 /// Is the runner of these words.
-pub fn run(rt: &HostRuntime, alloc: Global, words: &[String]) -> anyhow::Result<()> {
+pub fn run<'a>(rt: &'a HostRuntime, alloc: Global, words: &'a [String]) -> anyhow::Result<()> {
     let line = RunnerLine::of(words).context("no runner")?;
     let mut folder = Folder::of(rt, alloc, line.folder, line.number);
     um_runner::run(&mut folder, &line.job)?;
