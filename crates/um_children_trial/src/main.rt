@@ -1,7 +1,6 @@
-//! A trial over real processes: a keeper orders them, this program is the runner of each, and their fates are asked through a folder.
+//! A trial over real processes: it starts itself as the runner of each, and asks for their fates through a folder.
 #![tactic(auto)]
 
-mod orders;
 mod rows;
 mod runners;
 
@@ -11,7 +10,13 @@ use std::process::ExitCode;
 fn trial(rt: &HostRuntime) -> anyhow::Result<()> {
     let words: Vec<String> = env::args(rt)?.collect(rt.alloc())?;
     match words.as_slice() {
-        [_, role, words @ ..] if role.as_str() == "run" => runners::run(rt, rt.alloc(), words),
+        [_, role, number, count, words @ ..] if role.as_str() == "run" => runners::run(
+            rt,
+            rt.alloc(),
+            number.as_str(),
+            count.as_str(),
+            words,
+        ),
         _ => rows::rows(rt, rt.alloc()),
     }
 }

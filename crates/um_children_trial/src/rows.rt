@@ -1,26 +1,15 @@
 //! What the trial does, a row a function. Each prints what it found.
 
-use crate::orders::{keeper, order};
 use crate::runners::{FOLDER, number, start};
-use anyhow::Context;
 use std::alloc::Global;
 use std::time::Duration;
-use std::{env, fs, thread};
-use um_children::{Children, Fate, RunnerDir, Signal};
-use um_keeper::Keeper;
-use um_sector::MemDisk;
+use std::{fs, thread};
+use um_children::{Children, End, FakeChildren, Fate, RunnerDir, Signal};
 
 /// Fates are asked so many times, every 10 ms.
 const POLLS: u32 = 500;
 
 type Dir<'a> = RunnerDir<'a, HostRuntime>;
-
-/// What orders processes, and what carries the orders out.
-#[derive(Drop)]
-struct Trial<'a> {
-    keeper: Keeper<MemDisk>,
-    children: Dir<'a>,
-}
 
 /// The fate of the number, once it has ended; else the last one.
 fn end(rt: &HostRuntime, children: &mut Dir<'_>, n: u64) -> anyhow::Result<Fate> {
@@ -48,24 +37,18 @@ fn wait_for_pid(rt: &HostRuntime, children: &mut Dir<'_>, n: u64) -> anyhow::Res
     Ok(())
 }
 
-/// Starts a service with these lines.
-fn start_service(
+/// Runs the words as the number to their end, and tells it.
+fn row(
     rt: &HostRuntime,
-    trial: &mut Trial<'_>,
+    children: &mut Dir<'_>,
+    n: u64,
     name: &str,
-    lines: &str,
-) -> anyhow::Result<u64> {
-    let order = order(rt.alloc(), &mut trial.keeper, name, lines)?;
-    let number = order.number().get();
-    trial.children.spawn(order)?;
-    Ok(number)
-}
-
-/// Runs a service with these lines to its end, and tells it.
-fn row(rt: &HostRuntime, trial: &mut Trial<'_>, name: &str, lines: &str) -> anyhow::Result<()> {
-    let number = start_service(rt, trial, name, lines)?;
-    let fate = end(rt, &mut trial.children, number)?;
-    println!(rt; "{number} {name}: {fate:?}")?;
+    words: &[&str],
+) -> anyhow::Result<()> {
+    let mut runner = start(rt, rt.alloc(), n, words)?;
+    let fate = end(rt, children, n)?;
+    runner.wait()?;
+    println!(rt; "{name}: {fate:?}")?;
     Ok(())
 }
 
@@ -73,56 +56,57 @@ fn is_there(rt: &HostRuntime, path: &str) -> bool {
     fs::symlink_metadata(rt, path).is_ok()
 }
 
-/// Whether a file comes within fifty polls.
-fn comes(rt: &HostRuntime, path: &str) -> bool {
-    for _ in 0..50 {
-        if is_there(rt, path) {
-            return true;
-        }
-        thread::sleep(rt, Duration::from_millis(10));
-    }
-    false
-}
-
-/// Numbers 1 to 3 end by themselves.
-fn ends(rt: &HostRuntime, trial: &mut Trial<'_>) -> anyhow::Result<()> {
-    row(rt, trial, "exits.service", "ExecStart=/bin/sh -c 'exit 3'")?;
-    row(rt, trial, "absent.service", "ExecStart=/nonexistent")?;
-    let pid = is_there(rt, "processes/2.pid");
+/// The files of numbers 1 to 4 come and tell.
+fn ends(rt: &HostRuntime, children: &mut Dir<'_>) -> anyhow::Result<()> {
+    row(rt, children, 1, "exit 3", &["0", "/bin/sh", "-c", "exit 3"])?;
+    row(rt, children, 3, "not there", &["0", "/nonexistent"])?;
+    let pid = is_there(rt, "processes/3.pid");
     println!(rt; "its pid file: {pid}")?;
-    let lines = "Environment=\"MARK=a b\"\nExecStart=/bin/sh -c 'test \"$$MARK\" = \"a b\"'";
-    row(rt, trial, "marked.service", lines)
+    let test = "test \"$MARK\" = 'a b'";
+    row(
+        rt,
+        children,
+        4,
+        "environment",
+        &["1", "MARK=a b", "/bin/sh", "-c", test],
+    )?;
+    Ok(())
 }
 
 /// A signal to a process that runs, and one that waits for its process.
-fn signals(rt: &HostRuntime, trial: &mut Trial<'_>) -> anyhow::Result<()> {
-    let sleeps = "ExecStart=/bin/sleep 9";
-    let running = start_service(rt, trial, "running.service", sleeps)?;
-    wait_for_pid(rt, &mut trial.children, running)?;
-    trial.children.signal(number(running)?, Signal::Term)?;
-    let fate = end(rt, &mut trial.children, running)?;
-    println!(rt; "{running} signalled: {fate:?}")?;
-    trial.children.signal(number(running + 1)?, Signal::Term)?;
-    row(rt, trial, "waiting.service", sleeps)
+fn signals(rt: &HostRuntime, children: &mut Dir<'_>) -> anyhow::Result<()> {
+    let mut runner = start(rt, rt.alloc(), 2, &["0", "/bin/sleep", "9"])?;
+    wait_for_pid(rt, children, 2)?;
+    children.signal(number(2)?, Signal::Term)?;
+    let fate = end(rt, children, 2)?;
+    runner.wait()?;
+    println!(rt; "signalled: {fate:?}")?;
+    children.signal(number(8)?, Signal::Term)?;
+    row(
+        rt,
+        children,
+        8,
+        "signalled before it started",
+        &["0", "/bin/sleep", "9"],
+    )
 }
 
 /// Who claims a number first has it.
-fn claims(rt: &HostRuntime, trial: &mut Trial<'_>) -> anyhow::Result<()> {
-    let fate = trial.children.fate(number(6)?, true)?;
-    let lines = "ExecStart=/bin/sh -c 'echo x >> six'";
-    let claimed = start_service(rt, trial, "claimed.service", lines)?;
-    let started = comes(rt, "six");
-    let later = trial.children.fate(number(6)?, true)?;
-    println!(rt; "{claimed} claimed: {fate:?}, then {later:?}; started: {started}")?;
-    trial.children.forget(number(6)?)?;
-    start(rt, rt.alloc(), 6, "echo x >> six")?.wait()?;
-    let started = is_there(rt, "six");
-    println!(rt; "a late runner of what is forgotten; started: {started}")?;
-    let mut first = start(rt, rt.alloc(), 7, "echo x >> seven")?;
-    start(rt, rt.alloc(), 7, "echo x >> seven")?.wait()?;
+fn claims(rt: &HostRuntime, children: &mut Dir<'_>) -> anyhow::Result<()> {
+    let touch = ["0", "/bin/sh", "-c", "echo x >> five"];
+    let fate = children.fate(number(5)?, true)?;
+    start(rt, rt.alloc(), 5, &touch)?.wait()?;
+    let later = children.fate(number(5)?, true)?;
+    children.forget(number(5)?)?;
+    start(rt, rt.alloc(), 5, &touch)?.wait()?;
+    let started = is_there(rt, "five");
+    println!(rt; "claimed: {fate:?}, then {later:?}; started: {started}")?;
+    let twice = ["0", "/bin/sh", "-c", "echo x >> six"];
+    let mut first = start(rt, rt.alloc(), 6, &twice)?;
+    start(rt, rt.alloc(), 6, &twice)?.wait()?;
     first.wait()?;
-    let size = fs::metadata(rt, "seven")?.len();
-    let fate = trial.children.fate(number(7)?, true)?;
+    let size = fs::metadata(rt, "six")?.len();
+    let fate = children.fate(number(6)?, true)?;
     println!(rt; "two runners: {fate:?}, bytes written: {size}")?;
     Ok(())
 }
@@ -131,11 +115,11 @@ fn claims(rt: &HostRuntime, trial: &mut Trial<'_>) -> anyhow::Result<()> {
 fn forgets(rt: &HostRuntime, children: &mut Dir<'_>) -> anyhow::Result<()> {
     children.forget(number(1)?)?;
     let left = is_there(rt, "processes/1.status") || is_there(rt, "processes/1.claim");
-    children.forget_others(&[number(4)?])?;
+    children.forget_others(&[number(2)?])?;
+    let two = is_there(rt, "processes/2.status");
     let three = is_there(rt, "processes/3.status");
-    let four = is_there(rt, "processes/4.status");
-    let six = is_there(rt, "processes/6.claim");
-    println!(rt; "left of 1: {left}; 3: {three}, 4: {four}, claim of 6: {six}")?;
+    let five = is_there(rt, "processes/5.claim");
+    println!(rt; "left of 1: {left}; 2: {two}, 3: {three}, claim of 5: {five}")?;
     Ok(())
 }
 
@@ -179,19 +163,32 @@ fn odd_files(rt: &HostRuntime, children: &mut Dir<'_>) -> anyhow::Result<()> {
     Ok(())
 }
 
+/// Children in memory, of which none was started.
+fn in_memory(rt: &HostRuntime, alloc: Global) -> anyhow::Result<()> {
+    let mut children = FakeChildren::new(alloc);
+    children.ends(number(2)?, End::Code(3))?;
+    let starting = children.fate(number(2)?, false)?;
+    let absent = children.fate(number(2)?, true)?;
+    children.fuse(2);
+    children.signal(number(2)?, Signal::Term)?;
+    let failed = children.fate(number(2)?, true);
+    let copy = children.copy(alloc)?;
+    let (calls, failures) = (copy.calls().len(), copy.failures());
+    println!(rt;
+        "in memory: {starting:?}, {absent:?}, {failed:?}; calls: {calls}, failures: {failures}"
+    )?;
+    Ok(())
+}
+
 pub fn rows(rt: &HostRuntime, alloc: Global) -> anyhow::Result<()> {
-    let me = env::current_exe(rt)?;
-    let program = me.as_path().to_str().context("no program")?;
-    let mut trial = Trial {
-        keeper: keeper(alloc)?,
-        children: RunnerDir::open(rt, alloc, program, FOLDER)?,
-    };
-    ends(rt, &mut trial)?;
-    signals(rt, &mut trial)?;
-    claims(rt, &mut trial)?;
-    forgets(rt, &mut trial.children)?;
-    odd_files(rt, &mut trial.children)?;
-    let failures = trial.children.failures();
+    let mut children = RunnerDir::open(rt, alloc, "umd", FOLDER)?;
+    ends(rt, &mut children)?;
+    signals(rt, &mut children)?;
+    claims(rt, &mut children)?;
+    forgets(rt, &mut children)?;
+    odd_files(rt, &mut children)?;
+    in_memory(rt, alloc)?;
+    let failures = children.failures();
     println!(rt; "failures: {failures}")?;
     Ok(())
 }
