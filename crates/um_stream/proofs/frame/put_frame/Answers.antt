@@ -1,9 +1,9 @@
 use Rattle.std.proofs.Common.{[], ◌++◌, append-nil, sym, subst, ◌∙◌}
 use Rattle.std.proofs.KnownBytes.{Appends-trans}
 use Rattle.std.specs.Io.KnownBytes.{Appends}
-use Rattle.um_bin.proofs.Written.{frame_front, frame_more, frame_whole, on_ok}
+use Rattle.um_stream.proofs.Written.{frame_front, frame_more, frame_whole, on_ok}
 use Rattle.um_model.specs.Frames.{frame_of}
-use Rattle.um_bin.proofs.frames.put_frame.Goals as goal
+use Rattle.um_stream.proofs.frame.put_frame.Goals as goal
 
 pub returns-in_err-put-clause-front : goal.returns-in_err-put-clause-front
 returns-in_err-put-clause-front g c =

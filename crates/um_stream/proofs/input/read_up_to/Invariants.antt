@@ -1,6 +1,6 @@
 use Rattle.std.proofs.Common.{◌≤◌, ◌-◌, length}
 use Rattle.std.specs.Io.KnownBytes.{Consumes}
-use Rattle.um_bin.proofs.input.read_up_to.Given as goal
+use Rattle.um_stream.proofs.input.read_up_to.Given as goal
 
 -- what was taken from the input so far
 abbrev pub invariant-parts : goal.invariant-parts

@@ -15,7 +15,7 @@ pub enum Fault {
 }
 
 impl From<AllocError> for Fault {
-    ghost use Rattle.um_bin.specs.declared.fault.Fault.TheVariants.{NoMemory};
+    ghost use Rattle.um_stream.specs.declared.fault.Fault.TheVariants.{NoMemory};
 
     ghost from_gives = { λ _ e. e ≡ NoMemory };
 

@@ -1,9 +1,9 @@
 use Rattle.std.proofs.Common.{◌+◌, take, drop, arith, sym, subst, take-append-drop}
 use Rattle.std.proofs.KnownBytes.{Appends-trans, Appends-kept}
 use Rattle.std.specs.Io.KnownBytes.{Appends}
-use Rattle.um_bin.proofs.Written.{take_more}
-use Rattle.um_bin.proofs.output.put.Goals as goal
-use Rattle.um_bin.proofs.output.put.Goals.{in-Ok, in-Err+else-ne}
+use Rattle.um_stream.proofs.Written.{take_more}
+use Rattle.um_stream.proofs.output.put.Goals as goal
+use Rattle.um_stream.proofs.output.put.Goals.{in-Ok, in-Err+else-ne}
 
 pub returns-in-Ok-eq0-clause-front : goal.returns-in-Ok-eq0-clause-front
 returns-in-Ok-eq0-clause-front g c =

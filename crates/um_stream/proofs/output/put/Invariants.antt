@@ -1,6 +1,6 @@
 use Rattle.std.proofs.Common.{◌≤◌, length, take}
 use Rattle.std.specs.Io.KnownBytes.{Appends}
-use Rattle.um_bin.proofs.output.put.Given as goal
+use Rattle.um_stream.proofs.output.put.Given as goal
 
 -- what was written so far
 abbrev pub invariant-parts : goal.invariant-parts

@@ -1,6 +1,6 @@
 use Rattle.std.proofs.Common.{◌≡◌, length}
 use Rattle.std.specs.Io.KnownBytes.{Keeps}
-use Rattle.um_bin.proofs.input.read_part.Given as goal
+use Rattle.um_stream.proofs.input.read_part.Given as goal
 
 -- nothing was taken from the input yet
 abbrev pub invariant-tries : goal.invariant-tries
