@@ -3,11 +3,9 @@
 
 mod frames;
 mod laws;
-mod line;
 mod serving;
 
 pub use laws::{a_stream_has_one_reading, a_stream_is_served_in_one_way};
-pub use line::{Line, read_line};
 pub use serving::memory;
 pub use um_model::Ending;
 pub use um_stream::Fault;

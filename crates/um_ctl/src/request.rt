@@ -1,6 +1,6 @@
 //! The request as JSON.
 
-ghost use Rattle.std.specs.Prelude.{◌≡◌, IfOk, OnOk, map, option_map, string_bytes};
+ghost use Rattle.std.specs.Prelude.{◌≡◌, IfOk, OnOk, map, option_map};
 ghost use Rattle.serde_json.specs.Data.{object};
 ghost use Rattle.serde_json.specs.View.{view, members_view};
 ghost use Rattle.serde_json.specs.Written.{compact_text};
@@ -48,9 +48,9 @@ fn tell_arguments(
     alloc: Global,
     members: &mut Map<String, Value>,
     names: &[&str],
-    arguments: &[String],
+    arguments: &[&str],
 ) -> Result<(), AllocError>
-    ensures { OnOk result (members_view members.new.entries ≡ model.with_arguments (map (λ s. s.now) names.now) (map string_bytes arguments.now) (members_view members.old.entries)) }
+    ensures { OnOk result (members_view members.new.entries ≡ model.with_arguments (map (λ s. s.now) names.now) (map (λ s. s.now) arguments.now) (members_view members.old.entries)) }
 {
     let Some((name, names)) = names.split_first() else {
         return Ok(());
@@ -58,7 +58,7 @@ fn tell_arguments(
     let Some((argument, arguments)) = arguments.split_first() else {
         return Ok(());
     };
-    tell(alloc, members, name, argument.as_str())?;
+    tell(alloc, members, name, argument)?;
     tell_arguments(alloc, members, names, arguments)
 }
 
@@ -69,7 +69,7 @@ fn request_value(
     words: &Words,
     text: Option<&str>,
 ) -> Result<Value, AllocError>
-    ensures { IfOk result (λ v. view v ≡ model.request_data verb (map string_bytes words.now.arguments.now) (option_map (λ s. s.now) text) (option_map (λ s. s.now) words.now.mode)) }
+    ensures { IfOk result (λ v. view v ≡ model.request_data verb (map (λ s. s.now) words.now.arguments.now) (option_map (λ s. s.now) text) (option_map (λ s. s.now) words.now.mode)) }
 {
     let row = row_of(verb);
     let names = argument_names(alloc, &row)?;
@@ -89,8 +89,8 @@ pub fn request(
     words: &Words,
     text: Option<&str>,
 ) -> Result<Vec<u8>, AllocError>
-    ensures text { IfOk result (λ bytes. bytes.items ≡ compact_text (model.request_data verb (map string_bytes words.now.arguments.now) (option_map (λ s. s.now) text) (option_map (λ s. s.now) words.now.mode))) }
-    ensures read { IfOk result (λ bytes. request_of mode.Service bytes.items ≡ request_of_data mode.Service (model.request_data verb (map string_bytes words.now.arguments.now) (option_map (λ s. s.now) text) (option_map (λ s. s.now) words.now.mode))) }
+    ensures text { IfOk result (λ bytes. bytes.items ≡ compact_text (model.request_data verb (map (λ s. s.now) words.now.arguments.now) (option_map (λ s. s.now) text) (option_map (λ s. s.now) words.now.mode))) }
+    ensures read { IfOk result (λ bytes. request_of mode.Service bytes.items ≡ request_of_data mode.Service (model.request_data verb (map (λ s. s.now) words.now.arguments.now) (option_map (λ s. s.now) text) (option_map (λ s. s.now) words.now.mode))) }
 {
     request_value(alloc, verb, words, text)?.to_vec(alloc)
 }

@@ -10,7 +10,7 @@ use um_proto::{Mode, Row, Verb, row_of, verb_in};
 #[derive(Clone, Copy, Debug)]
 pub struct Words<'a> {
     pub verb: &'a str,
-    pub arguments: &'a [String],
+    pub arguments: &'a [&'a str],
     /// What `--mode` told.
     pub mode: Option<&'a str>,
 }

@@ -2,11 +2,10 @@
 use std::process::Abort;
 use um_ctl::{CtlFault, Words, prepare};
 
-/// The words of a line behind `ctl`: `--mode WORD` may stand behind the others.
-fn words_of(rt: &(impl AllocGlobal + Abort), line: &str) -> Vec<String> {
+/// The words of a line behind `ctl`.
+fn words_of<'a>(rt: &(impl AllocGlobal + Abort), line: &'a str) -> Vec<&'a str> {
     let mut words = Vec::new(rt.alloc());
     for word in line.split(' ') {
-        let word = String::from_str(rt.alloc(), word).expect(rt, "no memory");
         words.push(word).expect(rt, "no memory");
     }
     words
@@ -24,7 +23,7 @@ fn prepared(
         return Err(0);
     };
     let words = Words {
-        verb: verb.as_str(),
+        verb,
         arguments,
         mode,
     };
