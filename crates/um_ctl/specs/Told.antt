@@ -1,11 +1,12 @@
 -- What is printed for a reply, and with which status the program ends.
 -- No manual page has this: texts and statuses are the project's own (docs/FORMATS.md, "The program").
 -- The client stands on this file.
-use Rattle.std.specs.Prelude.{ℕ, List, [], ◌∷◌, ◌++◌, Bool, true, false, ◌==◌, Option, Some, None, option_map, option_and_then, find, flat_map, codes, decimal, if◌then◌else◌}
-use Rattle.std.specs.Str.{bytes_eq}
+use Rattle.std.specs.Prelude.{ℕ, List, [], ◌∷◌, ◌++◌, Bool, true, false, not, ◌==◌, Option, Some, None, is_some, option_map, option_and_then, find, flat_map, codes, decimal, if◌then◌else◌}
+use Rattle.std.specs.List.{list_all}
 use Rattle.serde_json.specs.Data.{Data, Items, no_items, item}
 use Rattle.serde_json.specs.Find.{get, as_bool, as_str, as_number, as_u64, as_array}
-use Rattle.serde_json.specs.Written.{compact_text}
+use Rattle.serde_json.specs.Written.{compact_text, has_float}
+use Rattle.um_model.specs.Bytes.{◌>>=◌}
 use Rattle.um_model.specs.Refusals.{Refused, refused, bad_request, unknown_verb, bad_name, not_found, masked, bad_setting, not_loaded, clash, ordering_cycle, job_conflict, exists_at, bad_path, too_large, no_room, no_memory, device, reopen, damaged, not_formatted, generations_spent, no_such_job, other_layout}
 use Rattle.um_model.specs.Requests.{is_among}
 use Rattle.um_model.specs.declared.refusals.Limit.TheVariants.{Text}
@@ -49,24 +50,37 @@ all_refused =
 abbrev pub name_of : ℕ → Option (List ℕ)
 name_of n = option_map (λ r. r.name) (find (λ r. r.number == n) all_refused)
 
-abbrev pub more_text : Option (List ℕ) → Option (List (List ℕ)) → Option (List (List ℕ))
-more_text (Some text) (Some texts) = Some (text ∷ texts)
-more_text text texts = None
+-- the items of a list
+abbrev pub data_in : Items → List Data
+data_in no_items = []
+data_in (item d ds) = d ∷ data_in ds
 
--- the texts of a list, where each item is one
-abbrev pub texts_in : Items → Option (List (List ℕ))
-texts_in no_items = Some []
-texts_in (item d ds) = more_text (as_str d) (texts_in ds)
+-- the text, where the value is one
+abbrev pub text_in : Option (List ℕ) → List (List ℕ)
+text_in None = []
+text_in (Some text) = text ∷ []
 
-abbrev pub refused_by : ℕ → Option (List ℕ) → Option (List (List ℕ)) → Option Refused
-refused_by n (Some name) (Some detail) = Some (refused n name detail)
-refused_by n name detail = None
+abbrev pub is_text : Data → Bool
+is_text d = is_some (as_str d)
 
--- the refusal that a reply tells
-abbrev pub refused_in : Data → Option Refused
-refused_in d =
-    option_and_then (λ n. refused_by n (name_of n) (option_and_then texts_in (option_and_then as_array (get (codes "detail") d))))
-    (option_and_then as_u64 (option_and_then as_number (get (codes "error") d)))
+-- the texts among values
+abbrev pub texts_in : List Data → List (List ℕ)
+texts_in ds = flat_map (λ d. text_in (as_str d)) ds
+
+-- the details of a refusal
+abbrev pub details_in : Data → Option (List Data)
+details_in d = option_map data_in (option_and_then as_array (get (codes "detail") d))
+
+abbrev pub number_in : Data → Option ℕ
+number_in d = option_and_then as_u64 (option_and_then as_number (get (codes "error") d))
+
+-- the refusal that a reply tells: each of its details has to be a text
+unfoldable pub refused_in : Data → Option Refused
+refused_in d = do
+  n ← number_in d
+  name ← name_of n
+  details ← details_in d
+  if list_all is_text details then Some (refused n name (texts_in details)) else None
 
 -- whether a value is one of the words
 abbrev pub is_word : List (List ℕ) → Option (List ℕ) → Bool
@@ -97,3 +111,8 @@ told_by v d (Some false) = option_map refused_told (refused_in d)
 -- what is told of a reply to the verb; none where it is no reply
 abbrev pub told_of : Verb → Data → Option Told
 told_of v d = told_by v d (option_and_then as_bool (get (codes "ok") d))
+
+-- the value has no float, as none of a manager's replies has
+abbrev pub is_plain : Option Data → Bool
+is_plain None = true
+is_plain (Some d) = not (has_float d)

@@ -1,10 +1,10 @@
 -- What the words behind `umd ctl` ask for: arguments are the fields of the verb's row in their order.
 -- No manual page has this: the verbs are those of systemctl(1), the rest is the project's own (docs/FORMATS.md, "The program").
 -- The client stands on this file.
-use Rattle.std.specs.Prelude.{ℕ, List, [], ◌∷◌, ◌++◌, Bool, true, ◌&&◌, not, nat_le, Option, Some, None, is_some, option_and_then, filter, length, codes, if◌then◌else◌}
+use Rattle.std.specs.Prelude.{◌≡◌, ℕ, List, [], ◌∷◌, ◌++◌, Bool, true, ◌&&◌, not, nat_le, Option, Some, None, is_some, option_and_then, filter, length, codes, if◌then◌else◌}
 use Rattle.std.specs.Str.{bytes_eq}
 use Rattle.serde_json.specs.Data.{Data, Members, string, object, no_members, put}
-use Rattle.um_model.specs.Requests.{Row, row_of, verb_in, is_among, job_mode_of}
+use Rattle.um_model.specs.Requests.{Row, row_of, verb_in, is_among, job_mode_of, request_of, request_of_data}
 use Rattle.um_model.specs.declared.requests.Mode.TheVariants.{Service}
 use Rattle.um_model.specs.declared.requests.Verb.{Verb}
 
@@ -58,3 +58,7 @@ abbrev pub request_data : Verb → (arguments : List (List ℕ)) → (text mode 
 request_data v arguments text mode =
     object (with_told (codes "mode") mode (with_told (codes "text") text
     (with_arguments (argument_names (row_of v)) arguments (with_field (codes "verb") (row_of v).text no_members))))
+
+-- a manager reads the bytes as the request that the object is
+abbrev pub IsReadAs : List ℕ → Data → Type 0
+IsReadAs bytes d = request_of Service bytes ≡ request_of_data Service d

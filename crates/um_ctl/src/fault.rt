@@ -1,4 +1,5 @@
 ghost use Rattle.std.specs.Prelude.{◌≡◌};
+ghost use Rattle.um_ctl.specs.View.{status_of};
 
 use std::alloc::AllocError;
 use std::io;
@@ -30,6 +31,7 @@ pub enum CtlFault {
 impl CtlFault {
     /// The exit status: 1 refused, 2 for wrong words, 4 without a connection, 5 where reading or writing failed.
     pub fn status(&self) -> u8
+        ensures { result ≡ status_of self.now }
     {
         match self {
             CtlFault::TooLarge | CtlFault::NoMemory => 1,

@@ -1,5 +1,5 @@
-ghost use Rattle.std.specs.Prelude.{◌≡◌, ◌≤◌, ◌<◌, List, ℕ, IfOk, length, string_bytes};
-ghost use Rattle.std.specs.Io.KnownBytes.{Consumes, IsAtEnd};
+ghost use Rattle.std.specs.Prelude.{IfOk};
+ghost use Rattle.um_ctl.specs.Streams.{IsFileText};
 
 use std::alloc::Global;
 use std::io::Read;
@@ -20,6 +20,7 @@ pub enum FileText {
 
 /// Reads the text of a file from an input to its end, or 65,537 bytes of it.
 pub fn read_text<R: Read>(alloc: Global, input: &mut R) -> Result<FileText, Fault>
+    ensures { IfOk result (IsFileText (R.remaining input.old) (R.remaining input.new)) }
 {
     let bytes = read_up_to(alloc, input, TEXT_LIMIT + 1)?;
     if bytes.len() > TEXT_LIMIT {

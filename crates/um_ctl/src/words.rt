@@ -1,10 +1,10 @@
-ghost use Rattle.std.specs.Prelude.{◌≡◌, ◌++◌, IfOk, length, map, option_map, filter};
+ghost use Rattle.std.specs.Prelude.{◌≡◌, ◌++◌, IfOk, length, map, option_map, filter, is_some};
 ghost use Rattle.um_ctl.specs.Words as model;
 ghost use Rattle.um_model.specs.Requests.{job_mode_of, is_among as is_among_texts};
 ghost use Rattle.um_model.specs.Requests as table;
 
 use std::alloc::{AllocError, Global};
-use um_proto::{Mode, Row, Verb, row_of, verb_in};
+use um_proto::{Mode, Verb, row_of, verb_in};
 
 /// The words behind `umd ctl`, as they stand.
 #[derive(Clone, Copy, Debug)]
@@ -35,27 +35,29 @@ fn argument_count(names: &[&str]) -> usize
     count
 }
 
-/// Adds those fields that arguments tell.
-fn add_argument_names(
-    found: &mut Vec<&'static str>,
+/// The fields, and behind them those of these that arguments tell.
+fn with_argument_names(
+    found: Vec<&'static str>,
     names: &'static [&'static str],
-) -> Result<(), AllocError>
+) -> Result<Vec<&'static str>, AllocError>
+    ensures { IfOk result (λ all. map (λ s. s.now) all.items ≡ map (λ s. s.now) found.entry.items ++ filter model.is_argument (map (λ s. s.now) names.now)) }
 {
+    let mut all = found;
     for name in names {
         if is_argument(name) {
-            found.push(*name)?;
+            all.push(*name)?;
         }
     }
-    Ok(())
+    Ok(all)
 }
 
 /// The fields that arguments tell, in their order.
-pub(crate) fn argument_names(alloc: Global, row: &Row) -> Result<Vec<&'static str>, AllocError>
+pub(crate) fn argument_names(alloc: Global, verb: Verb) -> Result<Vec<&'static str>, AllocError>
+    ensures { IfOk result (λ names. map (λ s. s.now) names.items ≡ model.argument_names (table.row_of verb)) }
 {
-    let mut found = Vec::new(alloc);
-    add_argument_names(&mut found, row.required)?;
-    add_argument_names(&mut found, row.optional)?;
-    Ok(found)
+    let row = row_of(verb);
+    let names = with_argument_names(Vec::new(alloc), row.required)?;
+    with_argument_names(names, row.optional)
 }
 
 fn is_among(text: &str, texts: &[&str]) -> bool
@@ -71,24 +73,28 @@ pub(crate) fn takes_text(verb: Verb) -> bool
     is_among("text", row_of(verb).required)
 }
 
-/// Whether the row has fields for so many arguments.
-fn fits_count(row: &Row, count: usize) -> bool
+/// Whether the verb has fields for so many arguments.
+fn fits_count(verb: Verb, count: usize) -> bool
+    ensures { result ≡ model.fits_count (table.row_of verb) count }
 {
+    let row = row_of(verb);
     let required = argument_count(row.required);
     required <= count && count - required <= argument_count(row.optional)
 }
 
 /// Whether the word says what becomes of pending jobs in a command's way.
 fn is_job_mode(word: &str) -> bool
+    ensures { result ≡ is_some (job_mode_of word.now) }
 {
-    matches!(word, "replace" | "fail")
+    word == "replace" || word == "fail"
 }
 
 /// Whether such a mode may be told to the verb.
-fn fits_mode(row: &Row, mode: Option<&str>) -> bool
+fn fits_mode(verb: Verb, mode: Option<&str>) -> bool
+    ensures { result ≡ model.fits_mode (table.row_of verb) (option_map (λ s. s.now) mode.entry) }
 {
     match mode {
-        Some(mode) => is_among("mode", row.optional) && is_job_mode(mode),
+        Some(mode) => is_among("mode", row_of(verb).optional) && is_job_mode(mode),
         None => true,
     }
 }
@@ -100,8 +106,7 @@ impl<'a> Words<'a> {
         ensures { result ≡ model.verb_of self.now.verb.now (length self.now.arguments.now) (option_map (λ s. s.now) self.now.mode) }
     {
         let verb = verb_in(Mode::Service, self.verb)?;
-        let row = row_of(verb);
-        if fits_count(&row, self.arguments.len()) && fits_mode(&row, self.mode) {
+        if fits_count(verb, self.arguments.len()) && fits_mode(verb, self.mode) {
             Some(verb)
         } else {
             None

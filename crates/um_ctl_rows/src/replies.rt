@@ -60,8 +60,8 @@ fn replies_are_told(rt: HostRuntime) {
         let reply = value(&rt, reply);
         let told = told_of(rt.alloc(), *verb, &reply).expect(&rt, "no memory");
         let told = told.expect(&rt, "no reply");
-        assert!(rt; told.output.as_slice() == output.as_bytes(), "{output}: {told:?}");
-        assert!(rt; told.error.as_slice() == error.as_bytes(), "{error}: {told:?}");
+        assert!(rt; told.output.as_str() == *output, "{output}: {told:?}");
+        assert!(rt; told.error.as_str() == *error, "{error}: {told:?}");
         assert!(rt; told.status == *status, "{output}{error}: {told:?}");
     }
 }

@@ -5,8 +5,9 @@ ghost use Rattle.um_gate.specs.Events.{Ticks};
 
 use std::alloc::{AllocError, Global};
 use std::time::{Clock, SystemTime, UNIX_EPOCH};
+use um_model::Moment;
 
-/// The clock of a manager, in microseconds since 1970.
+/// The clock of a manager.
 ///
 /// The clauses on the moments stand under `honest`, and under `whole`, since a clock that keeps them may find no memory for one.
 pub trait Moments {
@@ -20,7 +21,7 @@ pub trait Moments {
     ghost honest: { Self → Bool };
 
     /// The moment that it is now. It may go back, and stand still.
-    fn moment(&mut self) -> u64
+    fn moment(&mut self) -> Moment
         ensures given { Ticks (honest self.old) (whole self.new) (given self.old) (given self.new) (result ∷ []) }
         ensures whole { IsTrue (whole self.new) → IsTrue (whole self.old) }
         ensures honest { honest self.new ≡ honest self.old };
@@ -29,18 +30,18 @@ pub trait Moments {
 /// A clock in memory, which gives the moments that it was told. It is honest, and keeps them.
 #[derive(Drop)]
 pub struct FakeMoments {
-    given: Vec<u64>,
+    given: Vec<Moment>,
     /// What it gives next.
-    next: u64,
-    /// So much later is each next one.
+    next: Moment,
+    /// So many microseconds later is each next one.
     step: u64,
     /// A moment is missing from those kept.
     lost: bool,
 }
 
 impl FakeMoments {
-    /// A clock that gives this moment first, and each next one so much later, up to the last of a `u64`. It takes no memory.
-    pub fn new(alloc: Global, first: u64, step: u64) -> FakeMoments
+    /// A clock that gives this moment first, and each next one so many microseconds later, up to the latest moment. It takes no memory.
+    pub fn new(alloc: Global, first: Moment, step: u64) -> FakeMoments
         ensures given { result.given.items ≡ [] }
         ensures next { result.next ≡ first }
         ensures step { result.step ≡ step }
@@ -55,7 +56,7 @@ impl FakeMoments {
     }
 
     /// The moments that it gave, the oldest first.
-    pub fn given(&self) -> &[u64]
+    pub fn given(&self) -> &[Moment]
         ensures { result.now ≡ self.now.given.items }
     {
         self.given.as_slice()
@@ -69,9 +70,9 @@ impl Moments for FakeMoments {
 
     ghost honest = { λ _. true };
 
-    fn moment(&mut self) -> u64 {
+    fn moment(&mut self) -> Moment {
         let moment = self.next;
-        self.next = moment.saturating_add(self.step);
+        self.next = Moment::new(moment.micros().saturating_add(self.step)).unwrap_or(moment);
         if self.given.push(moment).is_err() {
             self.lost = true;
         }
@@ -88,21 +89,17 @@ pub struct SystemMoments<'a, R> {
 }
 
 impl<'a, R: Clock> SystemMoments<'a, R> {
-    /// The clock of this runtime.
+    /// The clock of this runtime. Where the system tells no moment, it gives the first one.
     pub fn new(rt: &'a R) -> SystemMoments<'a, R> {
         SystemMoments { rt }
     }
 }
 
-/// The microseconds since 1970; 0 before, and where the system doesn't tell.
-fn microseconds<R: Clock>(rt: &R) -> u64 {
-    let Ok(now) = SystemTime::now(rt) else {
-        return 0;
-    };
-    match now.duration_since(UNIX_EPOCH) {
-        Ok(since) => u64::try_from(since.as_micros()).unwrap_or(u64::MAX),
-        Err(_) => 0,
-    }
+/// The moment that the system tells; none before 1970, from 2^62 microseconds on, and where it tells none.
+fn told<R: Clock>(rt: &R) -> Option<Moment> {
+    let now = SystemTime::now(rt).ok()?;
+    let since = now.duration_since(UNIX_EPOCH).ok()?;
+    Moment::new(u64::try_from(since.as_micros()).ok()?)
 }
 
 impl<'a, R: Clock> Moments for SystemMoments<'a, R> {
@@ -113,7 +110,7 @@ impl<'a, R: Clock> Moments for SystemMoments<'a, R> {
 
     ghost honest = { λ _. false };
 
-    fn moment(&mut self) -> u64 {
-        microseconds(self.rt)
+    fn moment(&mut self) -> Moment {
+        told(self.rt).unwrap_or(Moment::FIRST)
     }
 }

@@ -5,8 +5,6 @@ ghost use Rattle.serde_json.specs.Data.{object};
 ghost use Rattle.serde_json.specs.View.{view, members_view};
 ghost use Rattle.serde_json.specs.Written.{compact_text};
 ghost use Rattle.um_ctl.specs.Words as model;
-ghost use Rattle.um_model.specs.Requests.{request_of, request_of_data};
-ghost use Rattle.um_model.specs.declared.requests.Mode as mode;
 
 use crate::words::{Words, argument_names};
 use serde_json::{Map, Value};
@@ -35,7 +33,7 @@ fn tell_some(
     name: &str,
     text: Option<&str>,
 ) -> Result<(), AllocError>
-    ensures { OnOk result (members_view members.new.entries ≡ model.with_told name.now (option_map (λ s. s.now) text) (members_view members.old.entries)) }
+    ensures { OnOk result (members_view members.new.entries ≡ model.with_told name.now (option_map (λ s. s.now) text.entry) (members_view members.old.entries)) }
 {
     match text {
         Some(text) => tell(alloc, members, name, text),
@@ -69,12 +67,11 @@ fn request_value(
     words: &Words,
     text: Option<&str>,
 ) -> Result<Value, AllocError>
-    ensures { IfOk result (λ v. view v ≡ model.request_data verb (map (λ s. s.now) words.now.arguments.now) (option_map (λ s. s.now) text) (option_map (λ s. s.now) words.now.mode)) }
+    ensures { IfOk result (λ v. view v ≡ model.request_data verb (map (λ s. s.now) words.now.arguments.now) (option_map (λ s. s.now) text.entry) (option_map (λ s. s.now) words.now.mode)) }
 {
-    let row = row_of(verb);
-    let names = argument_names(alloc, &row)?;
+    let names = argument_names(alloc, verb)?;
     let mut members = Map::new(alloc);
-    tell(alloc, &mut members, "verb", row.text)?;
+    tell(alloc, &mut members, "verb", row_of(verb).text)?;
     tell_arguments(alloc, &mut members, names.as_slice(), words.arguments)?;
     tell_some(alloc, &mut members, "text", text)?;
     tell_some(alloc, &mut members, "mode", words.mode)?;
@@ -89,8 +86,8 @@ pub fn request(
     words: &Words,
     text: Option<&str>,
 ) -> Result<Vec<u8>, AllocError>
-    ensures text { IfOk result (λ bytes. bytes.items ≡ compact_text (model.request_data verb (map (λ s. s.now) words.now.arguments.now) (option_map (λ s. s.now) text) (option_map (λ s. s.now) words.now.mode))) }
-    ensures read { IfOk result (λ bytes. request_of mode.Service bytes.items ≡ request_of_data mode.Service (model.request_data verb (map (λ s. s.now) words.now.arguments.now) (option_map (λ s. s.now) text) (option_map (λ s. s.now) words.now.mode))) }
+    ensures text { IfOk result (λ bytes. bytes.items ≡ compact_text (model.request_data verb (map (λ s. s.now) words.now.arguments.now) (option_map (λ s. s.now) text.entry) (option_map (λ s. s.now) words.now.mode))) }
+    ensures read { IfOk result (λ bytes. model.IsReadAs bytes.items (model.request_data verb (map (λ s. s.now) words.now.arguments.now) (option_map (λ s. s.now) text.entry) (option_map (λ s. s.now) words.now.mode))) }
 {
     request_value(alloc, verb, words, text)?.to_vec(alloc)
 }
