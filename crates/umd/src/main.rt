@@ -2,7 +2,7 @@
 //! `run` runs a command for the manager.
 #![tactic(auto)]
 
-mod tell;
+mod messages;
 
 use std::alloc::Global;
 use std::env::Env;
@@ -11,7 +11,7 @@ use std::io::ErrorKind;
 use std::net::Net;
 use std::process::{ExitCode, Processes};
 use std::{env, io};
-use tell::{DEVICE, REFUSED, USAGE, ctl_fault, report, status_of, tell_create};
+use messages::{DEVICE, REFUSED, USAGE, ctl_fault, report, status_of, tell_create};
 use um_bin::{Ending, Fault, memory};
 use um_create::{Layout, create_store};
 use um_ctl::{Told, Words, ask};
