@@ -24,11 +24,14 @@ pub struct CreateLine<'a> {
 
 /// The least sectors of a slot, and of the log, and the most of both.
 const LEAST_SLOT: u32 = 64;
+
 const LEAST_LOG: u32 = 512;
+
 const MOST: u32 = 1 << 20;
 
 /// What is told of numbers outside their limits.
-const USAGE: &str = "error: a slot has 64 to 1048576 sectors, a log 512 to 1048576, in decimal digits
+const USAGE: &str =
+    "error: a slot has 64 to 1048576 sectors, a log 512 to 1048576, in decimal digits
 
 Usage: umd create --slot <N> --log <N> <FILE>
 
@@ -38,7 +41,8 @@ For more information, try '--help'.
 const SLOT_HELP: &str =
     "Sectors of 512 bytes of each of the two slots, 64 to 1048576; one of them holds the state, with a header";
 
-const LOG_HELP: &str = "Sectors of the log, 512 to 1048576; when it is full the state is written anew";
+const LOG_HELP: &str =
+    "Sectors of the log, 512 to 1048576; when it is full the state is written anew";
 
 /// The words that it takes.
 fn command<'a>(alloc: Global) -> Result<Command<'a>, AllocError>

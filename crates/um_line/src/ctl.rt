@@ -36,9 +36,19 @@ const MODE_HELP: &str =
 fn command<'a>(alloc: Global) -> Result<Command<'a>, AllocError>
     ensures { IfOk result (λ c. app_of c ≡ ctl_words) }
 {
-    let socket = option(alloc, "socket", "PATH", "The socket that the manager serves");
+    let socket = option(
+        alloc,
+        "socket",
+        "PATH",
+        "The socket that the manager serves",
+    );
     let mode = optional(alloc, "mode", "MODE", MODE_HELP);
-    let word = words(alloc, "word", "WORD", "A verb, and its fields in their order");
+    let word = words(
+        alloc,
+        "word",
+        "WORD",
+        "A verb, and its fields in their order",
+    );
     let command = Command::new(alloc, "umd ctl")
         .arg(socket)?
         .arg(mode)?

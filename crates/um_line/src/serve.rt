@@ -44,9 +44,19 @@ fn command<'a>(alloc: Global) -> Result<Command<'a>, AllocError>
     ensures { IfOk result (λ c. app_of c ≡ serve_words) }
 {
     let boot = option(alloc, "boot", "ID", BOOT_HELP);
-    let socket = option(alloc, "socket", "PATH", "The socket to serve; an entry that stands there is removed");
+    let socket = option(
+        alloc,
+        "socket",
+        "PATH",
+        "The socket to serve; an entry that stands there is removed",
+    );
     let dir = option(alloc, "dir", "DIR", "The folder of the files of processes");
-    let runner = option(alloc, "runner", "PATH", "The program that runs processes: the path of umd itself");
+    let runner = option(
+        alloc,
+        "runner",
+        "PATH",
+        "The program that runs processes: the path of umd itself",
+    );
     let file = word(alloc, "file", "FILE", "The store");
     let command = Command::new(alloc, "umd serve")
         .arg(boot)?
@@ -56,7 +66,9 @@ fn command<'a>(alloc: Global) -> Result<Command<'a>, AllocError>
         .arg(file)?
         .override_usage("umd serve --boot <ID> --socket <PATH> --dir <DIR> --runner <PATH> <FILE>")
         .about("Serves a store over a socket")
-        .after_help("For example:\n  umd serve --boot \"$(cat /proc/sys/kernel/random/boot_id)\" --socket /run/umd/socket --dir /run/umd --runner /usr/bin/umd /var/lib/umd/store");
+        .after_help(
+            "For example:\n  umd serve --boot \"$(cat /proc/sys/kernel/random/boot_id)\" --socket /run/umd/socket --dir /run/umd --runner /usr/bin/umd /var/lib/umd/store",
+        );
     Ok(command)
 }
 
