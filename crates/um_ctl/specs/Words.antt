@@ -1,7 +1,7 @@
 -- What the words behind `umd ctl` ask for: arguments are the fields of the verb's row in their order.
 -- No manual page has this: the verbs are those of systemctl(1), the rest is the project's own (docs/FORMATS.md, "The program").
 -- The client stands on this file.
-use Rattle.std.specs.Prelude.{◌≡◌, ℕ, List, [], ◌∷◌, ◌++◌, Bool, true, ◌&&◌, not, nat_le, Option, Some, None, is_some, option_and_then, filter, length, codes, if◌then◌else◌}
+use Rattle.std.specs.Prelude.{◌≡◌, ℕ, List, ◌∷◌, ◌++◌, Bool, true, ◌&&◌, not, nat_le, Option, Some, None, is_some, option_and_then, filter, length, codes, if◌then◌else◌}
 use Rattle.std.specs.Str.{bytes_eq}
 use Rattle.serde_json.specs.Data.{Data, Members, string, object, no_members, put}
 use Rattle.um_model.specs.Requests.{Row, row_of, verb_in, is_among, job_mode_of, request_of, request_of_data}

@@ -15,9 +15,9 @@ ghost use Rattle.um_model.specs.Requests.{row_of};
 
 use crate::fault::CtlFault;
 use crate::reply::{Told, told_of};
-use crate::writing::request;
 use crate::text::{FileText, read_text};
 use crate::words::{Words, takes_text};
+use crate::writing::request;
 use byteorder::{BigEndian, ByteOrder};
 use serde_json::Value;
 use std::alloc::Global;
@@ -32,11 +32,7 @@ use um_stream::{Fault, HEADER, put_frame, read_up_to};
 const REPLY_LIMIT: usize = 1 << 24;
 
 /// The text of the file that the verb takes, if it takes one.
-fn file_text<I: Read>(
-    alloc: Global,
-    verb: Verb,
-    input: &mut I,
-) -> Result<Option<String>, CtlFault>
+fn file_text<I: Read>(alloc: Global, verb: Verb, input: &mut I) -> Result<Option<String>, CtlFault>
     ensures ok { IfOk result (λ text. IsTextRead (takes_text_of (row_of verb)) (I.remaining input.old) (I.remaining input.new) (option_map string_bytes text)) }
     ensures never_usage { IfErr result (λ e. e ≢ CtlFault.Usage) }
     ensures too_large { result ≡ Err CtlFault.TooLarge → (bytes : List ℕ) × Consumes (I.remaining input.old) (I.remaining input.new) bytes × (text_limit < length bytes) }
@@ -132,8 +128,7 @@ pub fn ask<N: Net, I: Read>(
     socket: &str,
     words: &Words,
     input: &mut I,
-) -> Result<Told, CtlFault>
-{
+) -> Result<Told, CtlFault> {
     let (verb, request) = prepare(alloc, words, input)?;
     if request.len() > u32::MAX as usize {
         return Err(CtlFault::NoMemory);

@@ -86,12 +86,7 @@ fn details_in(reply: &Value) -> Option<&Vec<Value>>
 fn are_texts(values: &[Value]) -> bool
     ensures { result ≡ list_all model.is_text (map view values.now) }
 {
-    for value in values {
-        if !value.is_string() {
-            return false;
-        }
-    }
-    true
+    values.iter().all(Value::is_string)
 }
 
 /// What a reply tells of a refusal.

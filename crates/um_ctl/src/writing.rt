@@ -89,5 +89,7 @@ pub fn request(
     ensures text { IfOk result (λ bytes. bytes.items ≡ compact_text (model.request_data verb (map (λ s. s.now) words.now.arguments.now) (option_map (λ s. s.now) text.entry) (option_map (λ s. s.now) words.now.mode))) }
     ensures read { IfOk result (λ bytes. model.IsReadAs bytes.items (model.request_data verb (map (λ s. s.now) words.now.arguments.now) (option_map (λ s. s.now) text.entry) (option_map (λ s. s.now) words.now.mode))) }
 {
-    request_value(alloc, verb, words, text)?.to_vec(alloc)
+    let value = request_value(alloc, verb, words, text)?;
+    let bytes = value.to_vec(alloc)?;
+    Ok(bytes)
 }

@@ -49,29 +49,52 @@ const REQUESTS: &[(&str, Option<&str>, &str)] = &[
         "{\"mode\":\"replace\",\"unit\":\"a\",\"verb\":\"stop\"}",
     ),
     ("reset-failed", None, "{\"verb\":\"reset-failed\"}"),
-    ("reset-failed a", None, "{\"unit\":\"a\",\"verb\":\"reset-failed\"}"),
+    (
+        "reset-failed a",
+        None,
+        "{\"unit\":\"a\",\"verb\":\"reset-failed\"}",
+    ),
     (
         "put-link etc/z.service a.service",
         None,
         "{\"path\":\"etc/z.service\",\"target\":\"a.service\",\"verb\":\"put-link\"}",
     ),
-    ("remove lib/a.service", None, "{\"path\":\"lib/a.service\",\"verb\":\"remove\"}"),
-    ("is-enabled \"x\"", None, "{\"unit\":\"\\\"x\\\"\",\"verb\":\"is-enabled\"}"),
+    (
+        "remove lib/a.service",
+        None,
+        "{\"path\":\"lib/a.service\",\"verb\":\"remove\"}",
+    ),
+    (
+        "is-enabled \"x\"",
+        None,
+        "{\"unit\":\"\\\"x\\\"\",\"verb\":\"is-enabled\"}",
+    ),
 ];
 
 #[test]
 fn words_become_requests(rt: HostRuntime) {
     for (line, mode, text) in REQUESTS {
         let found = prepared(&rt, line, *mode, b"");
-        assert!(rt; found.as_ref().is_ok_and(|bytes| bytes.as_slice() == text.as_bytes()), "{line}: {found:?}");
+        assert!(rt;
+            found
+                .as_ref()
+                .is_ok_and(|bytes| bytes.as_slice() == text.as_bytes()),
+            "{line}: {found:?}"
+        );
     }
 }
 
 #[test]
 fn the_text_of_a_file_comes_on_the_input(rt: HostRuntime) {
     let found = prepared(&rt, "put-file lib/a.service", None, b"[Unit]\nA=\x01\n");
-    let text = "{\"path\":\"lib/a.service\",\"text\":\"[Unit]\\nA=\\u0001\\n\",\"verb\":\"put-file\"}";
-    assert!(rt; found.as_ref().is_ok_and(|bytes| bytes.as_slice() == text.as_bytes()), "{found:?}");
+    let text =
+        "{\"path\":\"lib/a.service\",\"text\":\"[Unit]\\nA=\\u0001\\n\",\"verb\":\"put-file\"}";
+    assert!(rt;
+        found
+            .as_ref()
+            .is_ok_and(|bytes| bytes.as_slice() == text.as_bytes()),
+        "{found:?}"
+    );
 }
 
 /// Words that are wrong, and the mode.
@@ -109,7 +132,17 @@ fn the_longest_text_is_taken_and_a_longer_one_refused(rt: HostRuntime) {
     let text = bytes_of(&rt, 65_536, b'x');
     assert!(rt; prepared(&rt, "put-file lib/a.service", None, text.as_slice()).is_ok());
     let longer = bytes_of(&rt, 65_537, 0xff);
-    assert!(rt; matches!(prepared(&rt, "put-file lib/a.service", None, longer.as_slice()), Err(1)));
-    assert!(rt; matches!(prepared(&rt, "put-file lib/a.service", None, b"a\xffb"), Err(2)));
+    assert!(rt;
+        matches!(
+            prepared(&rt, "put-file lib/a.service", None, longer.as_slice()),
+            Err(1)
+        )
+    );
+    assert!(rt;
+        matches!(
+            prepared(&rt, "put-file lib/a.service", None, b"a\xffb"),
+            Err(2)
+        )
+    );
     assert!(rt; CtlFault::NoReply.status() == 5);
 }

@@ -46,7 +46,13 @@ fn copied(alloc: Global, bytes: &[u8]) -> Option<Vec<u8>>
 }
 
 /// Notes a read, where there is memory.
-fn note_read(alloc: Global, notes: &mut Vec<Note>, number: usize, is_open: bool, bytes: &[u8]) -> bool
+fn note_read(
+    alloc: Global,
+    notes: &mut Vec<Note>,
+    number: usize,
+    is_open: bool,
+    bytes: &[u8],
+) -> bool
     ensures { result ≡ true → events_of notes.new.items ≡ events_of notes.old.items ++ read number (came is_open bytes.now) ∷ [] }
 {
     if !is_open {
@@ -69,8 +75,7 @@ fn note_write(alloc: Global, notes: &mut Vec<Note>, number: usize, bytes: &[u8])
 }
 
 /// The connections of these clients.
-fn open_of(clients: &[Client]) -> Open
-{
+fn open_of(clients: &[Client]) -> Open {
     let mut is_open = [false; CONNECTIONS];
     for client in clients {
         if client.number < CONNECTIONS {
@@ -81,8 +86,7 @@ fn open_of(clients: &[Client]) -> Open
 }
 
 /// Where the client of a connection stands.
-fn place_of(clients: &[Client], number: usize) -> Option<usize>
-{
+fn place_of(clients: &[Client], number: usize) -> Option<usize> {
     clients.iter().position(|client| client.number == number)
 }
 
@@ -109,8 +113,7 @@ fn next_part(clients: &mut Vec<Client>, number: usize, bytes: &mut Vec<u8>) -> b
 }
 
 /// How many bytes of a write the client of a connection takes at most.
-fn limit_of(clients: &[Client], number: usize) -> usize
-{
+fn limit_of(clients: &[Client], number: usize) -> usize {
     match clients.iter().find(|client| client.number == number) {
         Some(client) => client.limit,
         None => 0,
@@ -118,8 +121,7 @@ fn limit_of(clients: &[Client], number: usize) -> usize
 }
 
 /// Its client is gone.
-fn leave(clients: &mut [Client], number: usize)
-{
+fn leave(clients: &mut [Client], number: usize) {
     for client in clients {
         if client.number == number {
             client.parts.clear();

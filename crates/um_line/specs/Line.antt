@@ -1,7 +1,7 @@
 -- What the words of a command line ask for: the words as clap reads them, and what each of its mistakes becomes.
 -- No manual page has this: it is the program's own (docs/FORMATS.md, "The program").
 -- The program stands on this file.
-use Rattle.std.specs.Prelude.{◌≡◌, ◌≢◌, ◌⊎◌, ◌<◌, ◌≤◌, ◌^◌, ℕ, List, [], ◌∷◌, true, Option, Some, None, MatchOption, map, option_map, slice_get, bytes_eq, codes, decimal, drop, length, if◌then◌else◌}
+use Rattle.std.specs.Prelude.{⊤, ◌≡◌, ◌≢◌, ◌⊎◌, ◌<◌, ◌≤◌, ◌^◌, ℕ, List, [], ◌∷◌, true, Option, Some, None, MatchOption, map, option_map, slice_get, bytes_eq, codes, decimal, drop, length, if◌then◌else◌}
 use Rattle.clap.specs.Words.{App, Kinds, Row, Rule, IsAmong, all_of, fault_of, first_of, matches_of, new_app, new_rule, with_rule}
 use Rattle.clap.specs.Simple.{on_top}
 use Rattle.clap.specs.declared.builder.action.ArgAction.TheVariants.{SetTrue, Append}
@@ -27,6 +27,14 @@ option_rule name = record (new_rule name) { long = Some name; required = true; v
 abbrev pub word_rule : List ℕ → Rule
 word_rule name = record (new_rule name) { required = true; value_names = 1 }
 
+-- an option that may be left out
+abbrev pub optional_rule : List ℕ → Rule
+optional_rule name = record (new_rule name) { long = Some name; value_names = 1 }
+
+-- words of which one has to be given at least
+abbrev pub words_rule : List ℕ → Rule
+words_rule name = record (new_rule name) { required = true; value_names = 1; action = Some Append }
+
 -- the flag `--memory`, which has to be given
 abbrev pub memory_rule : Rule
 memory_rule = record (new_rule (codes "memory")) { long = Some (codes "memory"); required = true; action = Some SetTrue }
@@ -49,9 +57,7 @@ serve_words =
 -- the words of `umd ctl`: the socket, a mode that may be left out, and a verb with its arguments
 abbrev pub ctl_words : App
 ctl_words =
-    with_rule (with_rule (with_rule (new_app (codes "umd ctl")) (option_rule (codes "socket")))
-    (record (new_rule (codes "mode")) { long = Some (codes "mode"); value_names = 1 }))
-    (record (word_rule (codes "word")) { action = Some Append })
+    with_rule (with_rule (with_rule (new_app (codes "umd ctl")) (option_rule (codes "socket"))) (optional_rule (codes "mode"))) (words_rule (codes "word"))
 
 -- ---- mistakes
 
@@ -72,6 +78,16 @@ abbrev pub IsToldAs : ErrorKind → Line → Type 0
 IsToldAs kind (Told text) = (kind ≡ DisplayHelp) ⊎ (kind ≡ DisplayVersion)
 IsToldAs kind (Wrong text) = (kind ≢ DisplayHelp) × (kind ≢ DisplayVersion)
 IsToldAs kind other = ⊥
+
+-- what is told of words with these mistakes
+abbrev pub TellsMistake : Kinds → Line → Type 0
+TellsMistake mistakes (Told text) = IsTold mistakes
+TellsMistake mistakes (Wrong text) = IsMistake mistakes
+TellsMistake mistakes other = ⊥
+
+-- words without a mistake ask for what their values say; else the mistake is told
+abbrev pub IsReadLine : Kinds → (Line → Type 0) → Line → Type 0
+IsReadLine mistakes Takes line = ((mistakes ≡ []) × Takes line) ⊎ TellsMistake mistakes line
 
 -- ---- numbers
 
@@ -99,12 +115,13 @@ boot_limit = 64
 
 -- ---- lines
 
+abbrev pub IsMemory : Line → Type 0
+IsMemory Memory = ⊤
+IsMemory other = ⊥
+
 -- what the words of the program itself ask for
 abbrev pub IsTopLine : List (List ℕ) → Line → Type 0
-IsTopLine words Memory = mistakes_of words ≡ []
-IsTopLine words (Told text) = IsTold (mistakes_of words)
-IsTopLine words (Wrong text) = IsMistake (mistakes_of words)
-IsTopLine words other = ⊥
+IsTopLine words = IsReadLine (mistakes_of words) IsMemory
 
 -- what the words behind `run` ask for
 abbrev pub IsRunLine : List (List ℕ) → Line → Type 0
@@ -125,12 +142,15 @@ IsNoCreate rows =
     IsNoNumber least_slot most_sectors (first_of (codes "slot") rows) ⊎ IsNoNumber least_log most_sectors (first_of (codes "log") rows)
     ⊎ (first_of (codes "file") rows ≡ None)
 
+-- what they ask for by these values
+abbrev pub TakesCreate : List Row → Line → Type 0
+TakesCreate rows (Create line) = IsCreate rows line
+TakesCreate rows (Wrong text) = IsNoCreate rows
+TakesCreate rows other = ⊥
+
 -- what the words from `create` on ask for
 abbrev pub IsCreateLine : List (List ℕ) → Line → Type 0
-IsCreateLine words (Create line) = (fault_of create_words words ≡ []) × IsCreate (matches_of create_words words) line
-IsCreateLine words (Told text) = IsTold (fault_of create_words words)
-IsCreateLine words (Wrong text) = IsMistake (fault_of create_words words) ⊎ ((fault_of create_words words ≡ []) × IsNoCreate (matches_of create_words words))
-IsCreateLine words other = ⊥
+IsCreateLine words = IsReadLine (fault_of create_words words) (TakesCreate (matches_of create_words words))
 
 -- what is served, and where
 abbrev pub IsServe : List Row → ServeLine → Type 0
@@ -145,15 +165,16 @@ IsNoServe rows =
     (first_of (codes "boot") rows ≡ None) ⊎ (first_of (codes "socket") rows ≡ None) ⊎ (first_of (codes "dir") rows ≡ None)
     ⊎ (first_of (codes "runner") rows ≡ None) ⊎ (first_of (codes "file") rows ≡ None)
 
--- what the words from `serve` on ask for; a long id of a boot is refused as a request would be
+-- what they ask for by these values; a long id of a boot is refused as a request would be
+abbrev pub TakesServe : List Row → Line → Type 0
+TakesServe rows (Serve line) = IsServe rows line × (length line.boot.now ≤ boot_limit)
+TakesServe rows LongBoot = (boot : List ℕ) × (first_of (codes "boot") rows ≡ Some boot) × (boot_limit < length boot)
+TakesServe rows (Wrong text) = IsNoServe rows
+TakesServe rows other = ⊥
+
+-- what the words from `serve` on ask for
 abbrev pub IsServeLine : List (List ℕ) → Line → Type 0
-IsServeLine words (Serve line) =
-    (fault_of serve_words words ≡ []) × IsServe (matches_of serve_words words) line × (length line.boot.now ≤ boot_limit)
-IsServeLine words LongBoot =
-    (fault_of serve_words words ≡ []) × (boot : List ℕ) × (first_of (codes "boot") (matches_of serve_words words) ≡ Some boot) × (boot_limit < length boot)
-IsServeLine words (Told text) = IsTold (fault_of serve_words words)
-IsServeLine words (Wrong text) = IsMistake (fault_of serve_words words) ⊎ ((fault_of serve_words words ≡ []) × IsNoServe (matches_of serve_words words))
-IsServeLine words other = ⊥
+IsServeLine words = IsReadLine (fault_of serve_words words) (TakesServe (matches_of serve_words words))
 
 -- a verb with its arguments, for the manager at a socket
 abbrev pub IsCtl : List Row → CtlLine → Type 0
@@ -166,12 +187,15 @@ abbrev pub IsNoCtl : List Row → Type 0
 IsNoCtl rows =
     (first_of (codes "socket") rows ≡ None) ⊎ (all_of (codes "word") rows ≡ None) ⊎ (all_of (codes "word") rows ≡ Some [])
 
+-- what they ask for by these values
+abbrev pub TakesCtl : List Row → Line → Type 0
+TakesCtl rows (Ctl line) = IsCtl rows line
+TakesCtl rows (Wrong text) = IsNoCtl rows
+TakesCtl rows other = ⊥
+
 -- what the words from `ctl` on ask for
 abbrev pub IsCtlLine : List (List ℕ) → Line → Type 0
-IsCtlLine words (Ctl line) = (fault_of ctl_words words ≡ []) × IsCtl (matches_of ctl_words words) line
-IsCtlLine words (Told text) = IsTold (fault_of ctl_words words)
-IsCtlLine words (Wrong text) = IsMistake (fault_of ctl_words words) ⊎ ((fault_of ctl_words words ≡ []) × IsNoCtl (matches_of ctl_words words))
-IsCtlLine words other = ⊥
+IsCtlLine words = IsReadLine (fault_of ctl_words words) (TakesCtl (matches_of ctl_words words))
 
 -- ---- all of them
 
@@ -188,7 +212,7 @@ abbrev pub subcommand_of : List (List ℕ) → Subcommand
 subcommand_of words = named (slice_get words 1)
 
 abbrev pub IsLineBy : Subcommand → List (List ℕ) → Line → Type 0
-IsLineBy sub.Run words = IsRunLine (drop 2 words)
+IsLineBy sub.Run words = IsRunLine (drop 1 (drop 1 words))
 IsLineBy sub.Create words = IsCreateLine (drop 1 words)
 IsLineBy sub.Serve words = IsServeLine (drop 1 words)
 IsLineBy sub.Ctl words = IsCtlLine (drop 1 words)

@@ -9,6 +9,7 @@ mod numbers;
 mod run;
 mod serve;
 mod top;
+mod values;
 
 pub use create::CreateLine;
 pub use ctl::CtlLine;

@@ -1,4 +1,4 @@
-ghost use Rattle.std.specs.Prelude.{◌≡◌, IfOk, map, drop, string_bytes};
+ghost use Rattle.std.specs.Prelude.{◌≡◌, Some, IfOk, map, drop, string_bytes};
 ghost use Rattle.um_line.specs.Line as model;
 
 use crate::create::{CreateLine, read_create};
@@ -41,27 +41,41 @@ pub enum Subcommand {
     Nothing,
 }
 
+/// The subcommand of this name.
+fn named(word: &str) -> Subcommand
+    ensures { result ≡ model.named (Some word.now) }
+{
+    if word == "run" {
+        Subcommand::Run
+    } else if word == "create" {
+        Subcommand::Create
+    } else if word == "serve" {
+        Subcommand::Serve
+    } else if word == "ctl" {
+        Subcommand::Ctl
+    } else {
+        Subcommand::Nothing
+    }
+}
+
 /// The subcommand behind the program's name.
 fn subcommand_of(words: &[String]) -> Subcommand
     ensures { result ≡ model.subcommand_of (map string_bytes words.now) }
 {
-    let Some(word) = words.get(1) else {
-        return Subcommand::Nothing;
-    };
-    match word.as_str() {
-        "run" => Subcommand::Run,
-        "create" => Subcommand::Create,
-        "serve" => Subcommand::Serve,
-        "ctl" => Subcommand::Ctl,
-        _ => Subcommand::Nothing,
+    match words.get(1) {
+        Some(word) => named(word.as_str()),
+        None => Subcommand::Nothing,
     }
 }
 
-/// The words behind so many.
-fn behind<'a>(words: &'a [String], count: usize) -> &'a [String]
-    ensures { map string_bytes result.now ≡ drop count (map string_bytes words.now) }
+/// The words behind the first.
+fn behind(words: &[String]) -> &[String]
+    ensures { map string_bytes result.now ≡ drop 1 (map string_bytes words.now) }
 {
-    words.get(count..).unwrap_or_default()
+    match words.split_first() {
+        Some((_, others)) => others,
+        None => words,
+    }
 }
 
 /// Reads the words of a command line, of which the first is the program's own name: `--memory` alone, or `--help` or `--version`,
@@ -71,10 +85,10 @@ pub fn read_line<'a>(alloc: Global, words: &'a [String]) -> Result<Line<'a>, All
     ensures { IfOk result (model.IsLineOf (map string_bytes words.now)) }
 {
     match subcommand_of(words) {
-        Subcommand::Run => read_run(alloc, behind(words, 2)),
-        Subcommand::Create => read_create(alloc, behind(words, 1)),
-        Subcommand::Serve => read_serve(alloc, behind(words, 1)),
-        Subcommand::Ctl => read_ctl(alloc, behind(words, 1)),
+        Subcommand::Run => read_run(alloc, behind(behind(words))),
+        Subcommand::Create => read_create(alloc, behind(words)),
+        Subcommand::Serve => read_serve(alloc, behind(words)),
+        Subcommand::Ctl => read_ctl(alloc, behind(words)),
         Subcommand::Nothing => read_top(alloc, words),
     }
 }

@@ -1,6 +1,6 @@
 //! A mistake in the words, as it is told.
 
-ghost use Rattle.std.specs.Prelude.{◌≡◌, IfOk};
+ghost use Rattle.std.specs.Prelude.{◌≡◌, ◌≢◌, IfOk, OnOk};
 ghost use Rattle.clap.specs.Words.{kind_of};
 ghost use Rattle.um_line.specs.Line.{IsToldAs};
 
@@ -11,7 +11,8 @@ use std::alloc::{AllocError, Global};
 
 /// What is told of a mistake: the help or the version that was asked for, or what is wrong.
 pub fn line_of_mistake<'a>(alloc: Global, mistake: &Error) -> Result<Line<'a>, AllocError>
-    ensures { IfOk result (IsToldAs (kind_of mistake.now)) }
+    ensures line { IfOk result (IsToldAs (kind_of mistake.now)) }
+    ensures memory { OnOk result (kind_of mistake.now ≢ ErrorKind.OutOfMemory) }
 {
     if mistake.kind() == ErrorKind::OutOfMemory {
         return Err(AllocError);

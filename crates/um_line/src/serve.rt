@@ -2,12 +2,12 @@
 
 ghost use Rattle.std.specs.Prelude.{◌≡◌, IfOk, map, string_bytes};
 ghost use Rattle.clap.specs.Words.{app_of, found_of, rows_of};
-ghost use Rattle.um_line.specs.Line.{serve_words, IsServeLine};
-ghost use Rattle.um_line.specs.Takes.{TakesServe};
+ghost use Rattle.um_line.specs.Line.{serve_words, IsServeLine, TakesServe};
 
 use crate::line::Line;
 use crate::mistake::line_of_mistake;
-use clap::{Arg, ArgMatches, Command};
+use crate::values::{option, value, word};
+use clap::{ArgMatches, Command};
 use std::alloc::{AllocError, Global};
 
 /// A store to be served.
@@ -36,74 +36,75 @@ Usage: umd serve --boot <ID> --socket <PATH> --dir <DIR> --runner <PATH> <FILE>
 For more information, try '--help'.
 ";
 
+const BOOT_HELP: &str =
+    "The id of this boot of the machine, as /proc/sys/kernel/random/boot_id tells it; with another one all units start anew";
+
 /// The words that it takes.
 fn command<'a>(alloc: Global) -> Result<Command<'a>, AllocError>
     ensures { IfOk result (λ c. app_of c ≡ serve_words) }
 {
-    let boot = Arg::new(alloc, "boot")
-        .long("boot")
-        .value_name("ID")
-        .help("The id of this boot of the machine, as /proc/sys/kernel/random/boot_id tells it; with another one all units start anew")
-        .required(true);
-    let socket = Arg::new(alloc, "socket")
-        .long("socket")
-        .value_name("PATH")
-        .help("The socket to serve; an entry that stands there is removed")
-        .required(true);
-    let dir = Arg::new(alloc, "dir")
-        .long("dir")
-        .value_name("DIR")
-        .help("The folder of the files of processes")
-        .required(true);
-    let runner = Arg::new(alloc, "runner")
-        .long("runner")
-        .value_name("PATH")
-        .help("The program that runs processes: the path of umd itself")
-        .required(true);
-    let file = Arg::new(alloc, "file")
-        .value_name("FILE")
-        .help("The store")
-        .required(true);
+    let boot = option(alloc, "boot", "ID", BOOT_HELP);
+    let socket = option(
+        alloc,
+        "socket",
+        "PATH",
+        "The socket to serve; an entry that stands there is removed",
+    );
+    let dir = option(alloc, "dir", "DIR", "The folder of the files of processes");
+    let runner = option(
+        alloc,
+        "runner",
+        "PATH",
+        "The program that runs processes: the path of umd itself",
+    );
+    let file = word(alloc, "file", "FILE", "The store");
     let command = Command::new(alloc, "umd serve")
         .arg(boot)?
         .arg(socket)?
         .arg(dir)?
         .arg(runner)?
         .arg(file)?
+        .override_usage("umd serve --boot <ID> --socket <PATH> --dir <DIR> --runner <PATH> <FILE>")
         .about("Serves a store over a socket")
-        .after_help("For example:\n  umd serve --boot \"$(cat /proc/sys/kernel/random/boot_id)\" --socket /run/umd/socket --dir /run/umd --runner /usr/bin/umd /var/lib/umd/store");
+        .after_help(
+            "For example:\n  umd serve --boot \"$(cat /proc/sys/kernel/random/boot_id)\" --socket /run/umd/socket --dir /run/umd --runner /usr/bin/umd /var/lib/umd/store",
+        );
     Ok(command)
 }
 
-/// What is asked for with these texts.
-fn serve_with<'a>(line: ServeLine<'a>) -> Line<'a> {
-    if line.boot.len() > BOOT_LIMIT {
-        return Line::LongBoot;
-    }
-    Line::Serve(line)
+fn usage(alloc: Global) -> Result<String, AllocError> {
+    String::from_str(alloc, USAGE)
 }
 
 /// What the words ask for that hold these values.
 fn serve_line<'a>(alloc: Global, matches: &ArgMatches<'a>) -> Result<Line<'a>, AllocError>
     ensures { IfOk result (TakesServe (rows_of (found_of matches.now))) }
 {
-    let boot = matches.get_str("boot");
-    let socket = matches.get_str("socket");
-    let dir = matches.get_str("dir");
-    let runner = matches.get_str("runner");
-    let file = matches.get_str("file");
-    if let (Some(boot), Some(socket), Some(dir), Some(runner), Some(file)) =
-        (boot, socket, dir, runner, file)
-    {
-        return Ok(serve_with(ServeLine {
-            boot,
-            socket,
-            dir,
-            runner,
-            file,
-        }));
+    let Some(boot) = value(matches, "boot") else {
+        return Ok(Line::Wrong(usage(alloc)?));
+    };
+    let Some(socket) = value(matches, "socket") else {
+        return Ok(Line::Wrong(usage(alloc)?));
+    };
+    let Some(dir) = value(matches, "dir") else {
+        return Ok(Line::Wrong(usage(alloc)?));
+    };
+    let Some(runner) = value(matches, "runner") else {
+        return Ok(Line::Wrong(usage(alloc)?));
+    };
+    let Some(file) = value(matches, "file") else {
+        return Ok(Line::Wrong(usage(alloc)?));
+    };
+    if boot.len() > BOOT_LIMIT {
+        return Ok(Line::LongBoot);
     }
-    Ok(Line::Wrong(String::from_str(alloc, USAGE)?))
+    Ok(Line::Serve(ServeLine {
+        boot,
+        socket,
+        dir,
+        runner,
+        file,
+    }))
 }
 
 /// Reads the words from `serve` on.

@@ -2,8 +2,9 @@
 //! `run` runs a command for the manager.
 #![tactic(auto)]
 
-mod tell;
+mod messages;
 
+use messages::{DEVICE, REFUSED, USAGE, ctl_fault, report, status_of, tell_create};
 use std::alloc::Global;
 use std::env::Env;
 use std::fs::{File, Files};
@@ -11,7 +12,6 @@ use std::io::ErrorKind;
 use std::net::Net;
 use std::process::{ExitCode, Processes};
 use std::{env, io};
-use tell::{DEVICE, REFUSED, USAGE, ctl_fault, report, status_of, tell_create};
 use um_bin::{Ending, Fault, memory};
 use um_create::{Layout, create_store};
 use um_ctl::{Told, Words, ask};

@@ -1,8 +1,8 @@
 use Rattle.std.proofs.Common.{refl, ◌≡◌, ◌∷◌, ℕ, List, [], codes}
 use Rattle.clap.proofs.OnLiterals.{clap_on_literals}
 use Rattle.clap.specs.declared.error.kind.ErrorKind.TheVariants as kind
-use Rattle.um_bin.specs.Line.{mistakes_of}
-use Rattle.um_bin.proofs.line.common_lines.Goals as goal
+use Rattle.um_line.specs.Line.{mistakes_of}
+use Rattle.um_line.proofs.top.common_lines.Goals as goal
 
 memory_is : (name : List ℕ) → mistakes_of (name ∷ codes "--memory" ∷ []) ≡ []
 unfolding clap_on_literals

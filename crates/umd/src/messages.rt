@@ -46,7 +46,9 @@ pub fn ctl_fault<R: Eprint>(rt: &R, fault: &CtlFault, line: &CtlLine<'_>) {
     let socket = line.socket;
     let _unheard = match fault {
         CtlFault::Usage => {
-            eprintln!(rt; "error: {verb} isn't a verb with these arguments; 'umd ctl --help' tells of them")
+            eprintln!(rt;
+                "error: {verb} isn't a verb with these arguments; 'umd ctl --help' tells of them"
+            )
         }
         CtlFault::TooLarge => eprintln!(rt; "E13 TooLarge text"),
         CtlFault::NoText => eprintln!(rt; "error: the text of the file isn't UTF-8"),
