@@ -1,3 +1,4 @@
+mod Batching
 pub mod Kept
 mod Reopening
 mod Results

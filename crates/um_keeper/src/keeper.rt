@@ -3,7 +3,7 @@ ghost use Rattle.std.proofs.Props.{props};
 ghost use Rattle.std.specs.Coded.{codes};
 ghost use Rattle.std.specs.FinMap as maps;
 ghost use Rattle.um_engine.specs.Engine as machine;
-ghost use Rattle.um_engine.specs.Engine.{reply_in, actions_in, state_after};
+ghost use Rattle.um_engine.specs.Engine.{reply_in, actions_in, state_after, state_before};
 ghost use Rattle.um_engine.specs.OfStore.{is_of_store};
 ghost use Rattle.um_keeper.specs.Keeping.{MayHold, Keeps, IsBegun, record_calls, snapshot_calls};
 ghost use Rattle.um_log.specs.Reading.{Fits};
@@ -23,7 +23,7 @@ ghost use Rattle.um_wire.specs.Refusal.{refused_of};
 
 use crate::receipt::Receipt;
 use std::alloc::{AllocError, Global};
-use um_engine::{Engine, Next};
+use um_engine::{Back, Engine, Next};
 use um_log::Log;
 use um_sector::Disk;
 use um_slot::{Home, write_other};
@@ -160,6 +160,7 @@ impl<D: Disk> Keeper<D> {
         ensures fits { OnOk result (Fits (layout_in self.new) (generation_in self.new) (next_in self.new) bytes) }
         ensures state { state_in self.new ≡ state_in self.old }
         ensures place { IsSamePlace self.old self.new }
+        ensures grows { generation_in self.old ≤ generation_in self.new }
         ensures refused { IfErr result (λ e. IsLost e ⊎ (e ≡ Refusal.GenerationsSpent)) }
         ensures unwritten { IfErr result (λ e. (e ≡ Refusal.Device) ⊎ (disk_in self.new ≡ disk_in self.old)) }
         ensures device { CountsDevice result (D.failures (disk_in self.old)) (D.failures (disk_in self.new)) }
@@ -176,8 +177,8 @@ impl<D: Disk> Keeper<D> {
         self.checkpoint()
     }
 
-    /// Takes a planned step, with the receipt of what it answers, once its record is on the disk.
-    fn append(&mut self, input: &Input, next: Next, bytes: &[u8]) -> Result<Receipt, Refusal>
+    /// Takes a planned step, with the receipt of what it answers and the way back, once its record is on the disk.
+    fn append(&mut self, input: &Input, next: Next, bytes: &[u8]) -> Result<(Receipt, Back), Refusal>
         requires working { self.old.failed ≡ false }
         requires step { IsPlanned self.old input.now next }
         requires bytes { bytes.now ≡ input_spelling (input_of input.now) }
@@ -185,10 +186,13 @@ impl<D: Disk> Keeper<D> {
         requires fits { Fits (layout_in self.old) (generation_in self.old) (next_in self.old) (length bytes.now) }
         ensures during { IsTrue (D.honest (disk_in self.old))
             → During (D.past (disk_in self.old)) (D.past (disk_in self.new)) (IsBegun (layout_in self.old) (state_in self.old) (input_of input.now ∷ [])) }
-        ensures ok { IfOk result (λ receipt. (receipt.0 ≡ reply_in next) × (receipt.1 ≡ actions_in next) × (state_in self.new ≡ state_after next (state_in self.old))) }
+        ensures ok { IfOk result (λ taken. (taken.0.0 ≡ reply_in next) × (taken.0.1 ≡ actions_in next) × (state_in self.new ≡ state_after next (state_in self.old))) }
+        ensures back { IfOk result (λ taken. state_before taken.1 (state_in self.new) ≡ state_in self.old) }
         ensures state { OnErr result (state_in self.new ≡ state_in self.old) }
         ensures place { IsSamePlace self.old self.new }
+        ensures grows { generation_in self.old ≤ generation_in self.new }
         ensures refused { IfErr result IsLost }
+        ensures unwritten { IfErr result (λ e. (e ≡ Refusal.Device) ⊎ (disk_in self.new ≡ disk_in self.old)) }
         ensures device { CountsDevice result (D.failures (disk_in self.old)) (D.failures (disk_in self.new)) }
         ensures failed { (has_failed self.new ≡ true) ↔ (result ≡ Err Refusal.Device) }
         ensures calls { D.calls (disk_in self.new) ≤ D.calls (disk_in self.old) + record_calls (input_of input.now) }
@@ -197,8 +201,8 @@ impl<D: Disk> Keeper<D> {
     {
         match self.log.append(self.alloc, &mut self.disk, bytes) {
             Ok(true) => {
-                let (reply, actions, _) = self.engine.commit(next);
-                Ok(Receipt::new(reply, actions))
+                let (reply, actions, back) = self.engine.commit(next);
+                Ok((Receipt::new(reply, actions), back))
             }
             Ok(false) => unreachable!(),
             Err(refusal) => Err(noted(&mut self.failed, refusal)),
@@ -206,14 +210,18 @@ impl<D: Disk> Keeper<D> {
     }
 
     /// Records a planned input and takes its step, behind a checkpoint where the log has no room for it.
-    fn record(&mut self, input: &Input, next: Next) -> Result<Receipt, Refusal>
+    fn record(&mut self, input: &Input, next: Next) -> Result<(Receipt, Back), Refusal>
         requires working { self.old.failed ≡ false }
         requires step { IsPlanned self.old input.now next }
         ensures during { IsTrue (D.honest (disk_in self.old))
             → During (D.past (disk_in self.old)) (D.past (disk_in self.new)) (IsBegun (layout_in self.old) (state_in self.old) (input_of input.now ∷ [])) }
-        ensures ok { IfOk result (λ receipt. (receipt.0 ≡ reply_in next) × (receipt.1 ≡ actions_in next) × (state_in self.new ≡ state_after next (state_in self.old))) }
+        ensures ok { IfOk result (λ taken. (taken.0.0 ≡ reply_in next) × (taken.0.1 ≡ actions_in next) × (state_in self.new ≡ state_after next (state_in self.old))) }
+        ensures back { IfOk result (λ taken. state_before taken.1 (state_in self.new) ≡ state_in self.old) }
         ensures state { OnErr result (state_in self.new ≡ state_in self.old) }
+        ensures kept { IfErr result (λ e. (e ≡ Refusal.Device) ⊎ (IsTrue (D.honest (disk_in self.old))
+            → During (D.past (disk_in self.old)) (D.past (disk_in self.new)) (λ image. IsStoreOf (layout_in self.old) image (state_in self.old)))) }
         ensures place { IsSamePlace self.old self.new }
+        ensures grows { generation_in self.old ≤ generation_in self.new }
         ensures refused { IfErr result (λ e. IsLost e ⊎ (e ≡ Refusal.GenerationsSpent)) }
         ensures device { CountsDevice result (D.failures (disk_in self.old)) (D.failures (disk_in self.new)) }
         ensures failed { (has_failed self.new ≡ true) ↔ (result ≡ Err Refusal.Device) }
@@ -227,6 +235,46 @@ impl<D: Disk> Keeper<D> {
         let bytes = input_bytes(self.alloc, input)?;
         self.make_room(bytes.len())?;
         self.append(input, next, &bytes)
+    }
+
+    /// Takes a step, as `submit` does, and gives the way back with the receipt.
+    pub(crate) fn take_step(&mut self, input: &Input) -> Result<(Receipt, Back), Refusal>
+        requires working { self.old.failed ≡ false }
+        ensures during { IsTrue (D.honest (disk_in self.old))
+            → During (D.past (disk_in self.old)) (D.past (disk_in self.new)) (IsBegun (layout_in self.old) (state_in self.old) (input_of input.now ∷ [])) }
+        ensures ok { IfOk result (λ taken. Step (size_in self.old) (state_in self.old) (input_of input.now) taken.0.0 taken.0.1 (state_in self.new)) }
+        ensures accepted { IfOk result (λ taken. (r : Refused) → taken.0.0 ≢ model.Refusal r) }
+        ensures order { IfOk result (λ taken. AreNew (state_in self.old).next (state_in self.new).next (started_numbers taken.0.1)) }
+        ensures back { IfOk result (λ taken. state_before taken.1 (state_in self.new) ≡ state_in self.old) }
+        ensures stored { has_failed self.new ≡ false → IsTrue (D.honest (disk_in self.old))
+            → Images (D.past (disk_in self.new)) (λ image. IsStoreOf (layout_in self.old) image (state_in self.new)) }
+        ensures state { OnErr result (state_in self.new ≡ state_in self.old) }
+        ensures kept { IfErr result (λ e. (e ≡ Refusal.Device) ⊎ (IsTrue (D.honest (disk_in self.old))
+            → During (D.past (disk_in self.old)) (D.past (disk_in self.new)) (λ image. IsStoreOf (layout_in self.old) image (state_in self.old)))) }
+        ensures place { IsSamePlace self.old self.new }
+        ensures grows { generation_in self.old ≤ generation_in self.new }
+        ensures refused { IfErr result (λ e. IsLost e ⊎ (e ≡ Refusal.GenerationsSpent) ⊎ ((is_of_store e ≡ false)
+            × Step (size_in self.old) (state_in self.old) (input_of input.now) (model.Refusal (refused_of e)) [] (state_in self.old))) }
+        ensures unwritten { IfErr result (λ e. IsLost e ⊎ (disk_in self.new ≡ disk_in self.old)) }
+        ensures idle { LacksEffect (moment_of (state_in self.old) (input_of input.now).moment) (state_in self.old) (input_of input.now).event
+            → disk_in self.new ≡ disk_in self.old }
+        ensures still { LacksEffect (moment_of (state_in self.old) (input_of input.now).moment) (state_in self.old) (input_of input.now).event
+            → state_in self.new ≡ state_in self.old }
+        ensures device { CountsDevice result (D.failures (disk_in self.old)) (D.failures (disk_in self.new)) }
+        ensures failed { (has_failed self.new ≡ true) ↔ (result ≡ Err Refusal.Device) }
+        ensures spent { result ≡ Err Refusal.GenerationsSpent → HasNoRoom self.old (length (input_spelling (input_of input.now))) }
+        ensures calls { Fits (layout_in self.old) (generation_in self.old) (next_in self.old) (length (input_spelling (input_of input.now)))
+            → D.calls (disk_in self.new) ≤ D.calls (disk_in self.old) + record_calls (input_of input.now) }
+        ensures most_calls { D.calls (disk_in self.new) ≤ D.calls (disk_in self.old) + snapshot_calls (state_in self.old) + record_calls (input_of input.now) }
+        ensures size { D.size (disk_in self.new) ≡ D.size (disk_in self.old) }
+        ensures honest { D.honest (disk_in self.new) ≡ D.honest (disk_in self.old) }
+    {
+        let next = self.engine.plan(input)?;
+        if next.has_effect() {
+            return self.record(input, next);
+        }
+        let (reply, actions, back) = self.engine.commit(next);
+        Ok((Receipt::new(reply, actions), back))
     }
 
     /// Takes a step: plans it, records it and syncs, and only then answers.
@@ -244,6 +292,7 @@ impl<D: Disk> Keeper<D> {
             → Images (D.past (disk_in self.new)) (λ image. IsStoreOf (layout_in self.old) image (state_in self.new)) }
         ensures state { OnErr result (state_in self.new ≡ state_in self.old) }
         ensures place { IsSamePlace self.old self.new }
+        ensures grows { generation_in self.old ≤ generation_in self.new }
         ensures refused { IfErr result (λ e. IsLost e ⊎ (e ≡ Refusal.Reopen) ⊎ (e ≡ Refusal.GenerationsSpent) ⊎ ((is_of_store e ≡ false)
             × Step (size_in self.old) (state_in self.old) (input_of input.now) (model.Refusal (refused_of e)) [] (state_in self.old))) }
         ensures unwritten { IfErr result (λ e. IsLost e ⊎ (disk_in self.new ≡ disk_in self.old)) }
@@ -262,11 +311,7 @@ impl<D: Disk> Keeper<D> {
         if self.failed {
             return Err(Refusal::Reopen);
         }
-        let next = self.engine.plan(input)?;
-        if next.has_effect() {
-            return self.record(input, next);
-        }
-        let (reply, actions, _) = self.engine.commit(next);
-        Ok(Receipt::new(reply, actions))
+        let (receipt, _) = self.take_step(input)?;
+        Ok(receipt)
     }
 }

@@ -1,6 +1,7 @@
 //! The engine over a disk: what it answers outlives a crash.
 #![tactic(auto)]
 
+mod batch;
 mod creating;
 mod keeper;
 mod laws;

@@ -127,4 +127,12 @@ impl Receipt {
         let Receipt { reply, actions: _ } = self;
         reply
     }
+
+    /// Lets go of a receipt that nobody was given.
+    pub(crate) fn let_go(self) {
+        let Receipt {
+            reply: _,
+            actions: _,
+        } = self;
+    }
 }

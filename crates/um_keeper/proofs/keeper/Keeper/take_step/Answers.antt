@@ -1,10 +1,10 @@
 use Rattle.std.proofs.Common.{◌∙◌, [], ◌∷◌, sym}
 use Rattle.um_state.specs.View.{input_of}
 use Rattle.um_keeper.proofs.Kept.{not_begun, stores, stores_at, stores_for, if_ok, new_numbers}
-use Rattle.um_keeper.proofs.keeper.Keeper.submit.Goals as goal
+use Rattle.um_keeper.proofs.keeper.Keeper.take_step.Goals as goal
 
 pub returns-in_err-next-clause-during : goal.returns-in_err-next-clause-during
-returns-in_err-next-clause-during g c f h = not_begun (input_of c.args.input.now ∷ []) (c.args.self.now.kept f h)
+returns-in_err-next-clause-during g c h = not_begun (input_of c.args.input.now ∷ []) (c.args.self.now.kept c.requires.working h)
 
 pub returns-in_err-next-clause-stored : goal.returns-in_err-next-clause-stored
 returns-in_err-next-clause-stored g c f h = stores (c.args.self.now.kept f h)
@@ -16,7 +16,7 @@ pub returns-then-has_effect-clause-stored : goal.returns-then-has_effect-clause-
 returns-then-has_effect-clause-stored g c f h = stores_at (c.record.new.self.kept f (c.record.ensures.honest ∙ h)) c.record.ensures.place.layout
 
 pub returns-clause-during : goal.returns-clause-during
-returns-clause-during g c f h = not_begun (input_of c.args.input.now ∷ []) (c.args.self.now.kept f h)
+returns-clause-during g c h = not_begun (input_of c.args.input.now ∷ []) (c.args.self.now.kept c.requires.working h)
 
 pub returns-clause-stored : goal.returns-clause-stored
 returns-clause-stored g c f h = stores_for (c.args.self.now.kept f h) (c.commit-reply.ensures.state ∙ (c.in_ok-next.ensures.nothing (sym c.has_effect.ensures ∙ c.if-has_effect.false)).0)

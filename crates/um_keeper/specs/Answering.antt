@@ -1,0 +1,87 @@
+-- What a list of inputs is answered that are taken one behind the other, and what a crash leaves of them.
+-- No manual page has it: it is the project's own (docs/CRASH.md tells it in plain words).
+-- `Keeper::submit_all` and the running manager stand on this file.
+use Rattle.std.specs.Prelude.{◌≡◌, ◌≢◌, ◌⊎◌, ◌+◌, ◌-◌, ◌^◌, ◌++◌, ℕ, Bool, true, false, if◌then◌else◌, List, [], ◌∷◌, Result, Ok, Err}
+use Rattle.um_engine.specs.Engine.{state_before}
+use Rattle.um_engine.specs.OfStore.{is_of_store}
+use Rattle.um_engine.specs.declared.engine.Back.{Back}
+use Rattle.um_keeper.specs.Keeping.{record_calls}
+use Rattle.um_model.specs.Machine.{State, Input, Reply, Refusal, Step, LacksEffect, moment_of}
+use Rattle.um_model.specs.Refusals.{Refused}
+use Rattle.um_model.specs.Service.{Action}
+use Rattle.um_model.specs.Store.{body_limit, sector_count}
+use Rattle.um_model.specs.declared.layout.Layout.{Layout}
+use Rattle.um_wire.specs.Refusal.{refused_of}
+use Rattle.um_wire.specs.declared.refusal.Refusal as declared
+use Rattle.um_wire.specs.declared.refusal.Refusal.TheVariants.{NoMemory, GenerationsSpent}
+
+-- what one input is answered: the reply and the actions of its step, or a refusal
+abbrev pub Answer : Type 0
+Answer = Result (Reply × List Action) declared.Refusal
+
+-- E15 and E20 turn one input away: it is no step, and the others aren't touched
+abbrev pub is_turned_away : declared.Refusal → Bool
+is_turned_away NoMemory = true
+is_turned_away GenerationsSpent = true
+is_turned_away other = false
+
+-- The answer to an input in a state, and the state behind it.
+pub data Answered (size : ℕ) (s : State) (input : Input) : Answer → State → Type 0 where
+  accepted : {reply : Reply} {actions : List Action} {t : State} → Step size s input reply actions t → ((r : Refused) → reply ≢ Refusal r)
+      → Answered size s input (Ok (reply, actions)) t
+  refused : {e : declared.Refusal} → is_of_store e ≡ false → is_turned_away e ≡ false → Step size s input (Refusal (refused_of e)) [] s
+      → Answered size s input (Err e) s
+  turned_away : {e : declared.Refusal} → is_turned_away e ≡ true → Answered size s input (Err e) s
+
+-- The answers to inputs that are taken one behind the other from a state on, and the state behind them.
+pub data AreAnswered (size : ℕ) : State → List Input → List Answer → State → Type 0 where
+  all_answered : {s : State} → AreAnswered size s [] [] s
+  and_next : {s t u : State} {input : Input} {inputs : List Input} {answer : Answer} {answers : List Answer} → Answered size s input answer t
+      → AreAnswered size t inputs answers u → AreAnswered size s (input ∷ inputs) (answer ∷ answers) u
+
+-- the input, where its answer is that of a step: it was accepted, or refused for a cause of its own
+abbrev pub where_step : Answer → Input → List Input
+where_step (Ok accepted) input = input ∷ []
+where_step (Err e) input = if is_turned_away e then [] else input ∷ []
+
+-- the inputs that were taken: all but those that were turned away
+abbrev pub taken : List Input → List Answer → List Input
+taken (input ∷ inputs) (answer ∷ answers) = where_step answer input ++ taken inputs answers
+taken inputs answers = []
+
+-- what the answers ask of processes, in their order
+abbrev pub asked_by : Answer → List Action
+asked_by (Ok (reply, actions)) = actions
+asked_by (Err e) = []
+
+abbrev pub all_asked : List Answer → List Action
+all_asked [] = []
+all_asked (answer ∷ answers) = asked_by answer ++ all_asked answers
+
+-- an input that has no effect in the state
+abbrev pub IsIdle : State → Input → Type 0
+IsIdle s input = LacksEffect (moment_of s input.moment) s input.event
+
+-- the answer is the refusal of a step
+abbrev pub IsRefusal : Answer → Type 0
+IsRefusal (Ok accepted) = ⊥
+IsRefusal (Err e) = is_turned_away e ≡ false
+
+-- nothing of these inputs is to be recorded: each has no effect in the state, or is refused
+abbrev pub NeedNoRecord : State → List Input → List Answer → Type 0
+NeedNoRecord s (input ∷ inputs) (answer ∷ answers) = (IsIdle s input ⊎ IsRefusal answer) × NeedNoRecord s inputs answers
+NeedNoRecord s inputs answers = Unit {0}
+
+-- an input turned away for want of a generation was so in the last one
+abbrev pub IsSpentIn : ℕ → Answer → Type 0
+IsSpentIn generation answer = answer ≡ Err GenerationsSpent → generation ≡ 2 ^ 64 - 1
+
+-- the state before the steps that these ways lead back from, the last one first
+abbrev pub state_before_all : List Back → State → State
+state_before_all [] s = s
+state_before_all (back ∷ backs) s = state_before back (state_before_all backs s)
+
+-- The most calls on the disk that inputs take: of each its record, and a snapshot before it.
+abbrev pub most_calls : Layout → List Input → ℕ
+most_calls layout [] = 0
+most_calls layout (input ∷ inputs) = (sector_count (body_limit layout) + 3) + record_calls input + most_calls layout inputs

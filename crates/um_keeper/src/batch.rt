@@ -1,0 +1,202 @@
+//! Lists of inputs that are taken one behind the other.
+ghost use Rattle.std.specs.Prelude.{◌≡◌, ◌⊎◌, ◌↔◌, ◌+◌, ◌-◌, ◌^◌, ◌≤◌, ◌∷◌, ◌++◌, [], false, true, List, length, map, vec_len, vec_capacity, Ok, Err, IfOk, IfErr, OnOk, OnErr, IsTrue};
+ghost use Rattle.std.specs.List.{AllByRecursion};
+ghost use Rattle.um_engine.specs.Engine as machine;
+ghost use Rattle.um_keeper.specs.Answering.{Answered, AreAnswered, where_step, taken, all_asked, IsIdle, IsRefusal, NeedNoRecord, IsSpentIn, most_calls, state_before_all};
+ghost use Rattle.um_keeper.specs.Keepers.{disk_in, state_in, size_in, layout_in, generation_in, has_failed, IsSamePlace};
+ghost use Rattle.um_keeper.specs.Keeping.{IsBegun, record_calls};
+ghost use Rattle.um_model.specs.Disk.{During, Images};
+ghost use Rattle.um_model.specs.Lives.{HasInOrder};
+ghost use Rattle.um_model.specs.Machine as model;
+ghost use Rattle.um_model.specs.Numbers.{AreNew, started_numbers};
+ghost use Rattle.um_model.specs.Stands.{IsStoreOf};
+ghost use Rattle.um_model.specs.Store.{body_limit, sector_count};
+ghost use Rattle.um_sector.specs.Refused.{CountsDevice, IsLost};
+ghost use Rattle.um_state.specs.View.{input_of};
+
+use crate::keeper::Keeper;
+use crate::receipt::Receipt;
+use um_engine::{Back, Engine};
+use um_sector::Disk;
+use um_state::Input;
+use um_wire::Refusal;
+
+/// Notes an answer for which there is room.
+fn note(answers: &mut Vec<Result<Receipt, Refusal>>, answer: Result<Receipt, Refusal>)
+    requires { vec_len answers.old + 1 ≤ vec_capacity answers.old }
+    ensures items { answers.new.items ≡ answers.old.items ++ answer ∷ [] }
+    ensures len { vec_len answers.new ≡ vec_len answers.old + 1 }
+    ensures capacity { vec_capacity answers.old ≤ vec_capacity answers.new }
+{
+    match answers.push(answer) {
+        Ok(()) => {}
+        Err(_) => unreachable!(),
+    }
+}
+
+/// Keeps the way back from a step, for which there is room.
+fn keep(backs: &mut Vec<Back>, back: Back)
+    requires { vec_len backs.old + 1 ≤ vec_capacity backs.old }
+    ensures items { backs.new.items ≡ backs.old.items ++ back ∷ [] }
+    ensures len { vec_len backs.new ≡ vec_len backs.old + 1 }
+    ensures capacity { vec_capacity backs.old ≤ vec_capacity backs.new }
+{
+    match backs.push(back) {
+        Ok(()) => {}
+        Err(_) => unreachable!(),
+    }
+}
+
+/// Lets go of answers that nobody was given.
+fn let_go(answers: Vec<Result<Receipt, Refusal>>) {
+    let mut rest = answers.into_iter();
+    while let Some(answer) = rest.next() {
+        if let Ok(receipt) = answer {
+            receipt.let_go();
+        }
+    }
+    rest.destroy_empty();
+}
+
+/// Takes steps back, the last one first.
+fn go_back(engine: &mut Engine, mut backs: Vec<Back>)
+    ensures state { machine.state_in engine.new ≡ state_before_all backs.items (machine.state_in engine.old) }
+    ensures size { machine.size_in engine.new ≡ machine.size_in engine.old }
+{
+    while let Some(back) = backs.pop() {
+        engine.back(back);
+    }
+}
+
+impl<D: Disk> Keeper<D> {
+    /// Takes one input of a list and answers it, and keeps the way back from its step. It is refused where a disk call fails (E16).
+    fn take_one(
+        &mut self,
+        input: &Input,
+        backs: &mut Vec<Back>,
+    ) -> Result<Result<Receipt, Refusal>, Refusal>
+        requires working { self.old.failed ≡ false }
+        requires room { vec_len backs.old + 1 ≤ vec_capacity backs.old }
+        ensures ok { IfOk result (λ answer. Answered (size_in self.old) (state_in self.old) (input_of input.now) answer (state_in self.new)) }
+        ensures during { IfOk result (λ answer. IsTrue (D.honest (disk_in self.old))
+            → During (D.past (disk_in self.old)) (D.past (disk_in self.new)) (IsBegun (layout_in self.old) (state_in self.old) (where_step answer (input_of input.now)))) }
+        ensures lost { OnErr result (IsTrue (D.honest (disk_in self.old))
+            → During (D.past (disk_in self.old)) (D.past (disk_in self.new)) (IsBegun (layout_in self.old) (state_in self.old) (input_of input.now ∷ []))) }
+        ensures back { state_before_all backs.new.items (state_in self.new) ≡ state_before_all backs.old.items (state_in self.old) }
+        ensures one { vec_len backs.new ≤ vec_len backs.old + 1 }
+        ensures capacity { vec_capacity backs.old ≤ vec_capacity backs.new }
+        ensures place { IsSamePlace self.old self.new }
+        ensures grows { generation_in self.old ≤ generation_in self.new }
+        ensures refused { IfErr result (λ e. e ≡ Refusal.Device) }
+        ensures idle { IsIdle (state_in self.old) (input_of input.now) → (disk_in self.new ≡ disk_in self.old) × (state_in self.new ≡ state_in self.old) }
+        ensures unrecorded { IfOk result (λ answer. IsRefusal answer → (disk_in self.new ≡ disk_in self.old) × (state_in self.new ≡ state_in self.old)) }
+        ensures device { CountsDevice result (D.failures (disk_in self.old)) (D.failures (disk_in self.new)) }
+        ensures failed { (has_failed self.new ≡ true) ↔ (result ≡ Err Refusal.Device) }
+        ensures spent { result ≡ Ok (Err Refusal.GenerationsSpent) → generation_in self.old ≡ 2 ^ 64 - 1 }
+        ensures calls { D.calls (disk_in self.new) ≤ D.calls (disk_in self.old) + (sector_count (body_limit (layout_in self.old)) + 3) + record_calls (input_of input.now) }
+        ensures size { D.size (disk_in self.new) ≡ D.size (disk_in self.old) }
+        ensures honest { D.honest (disk_in self.new) ≡ D.honest (disk_in self.old) }
+    {
+        match self.take_step(input) {
+            Ok((receipt, back)) => {
+                keep(backs, back);
+                Ok(Ok(receipt))
+            }
+            Err(refusal) => {
+                if self.failed {
+                    return Err(refusal);
+                }
+                Ok(Err(refusal))
+            }
+        }
+    }
+
+    /// Takes the inputs of a list, up to the first at which a disk call fails (E16).
+    fn take_all(
+        &mut self,
+        inputs: &[Input],
+        answers: &mut Vec<Result<Receipt, Refusal>>,
+        backs: &mut Vec<Back>,
+    ) -> Result<(), Refusal>
+        requires working { self.old.failed ≡ false }
+        requires none { answers.old.items ≡ [] }
+        requires room { vec_len answers.old + length inputs.now ≤ vec_capacity answers.old }
+        requires ways { vec_len backs.old + length inputs.now ≤ vec_capacity backs.old }
+        ensures ok { OnOk result (AreAnswered (size_in self.old) (state_in self.old) (map input_of inputs.now) answers.new.items (state_in self.new)) }
+        ensures during { OnOk result (IsTrue (D.honest (disk_in self.old))
+            → During (D.past (disk_in self.old)) (D.past (disk_in self.new))
+                (IsBegun (layout_in self.old) (state_in self.old) (taken (map input_of inputs.now) answers.new.items))) }
+        ensures lost { OnErr result (IsTrue (D.honest (disk_in self.old))
+            → (some : List model.Input) × HasInOrder some (map input_of inputs.now)
+                × During (D.past (disk_in self.old)) (D.past (disk_in self.new)) (IsBegun (layout_in self.old) (state_in self.old) some)) }
+        ensures back { state_before_all backs.new.items (state_in self.new) ≡ state_before_all backs.old.items (state_in self.old) }
+        ensures place { IsSamePlace self.old self.new }
+        ensures refused { IfErr result (λ e. e ≡ Refusal.Device) }
+        ensures idle { AllByRecursion (IsIdle (state_in self.old)) (map input_of inputs.now) → disk_in self.new ≡ disk_in self.old }
+        ensures unrecorded { OnOk result (NeedNoRecord (state_in self.old) (map input_of inputs.now) answers.new.items → disk_in self.new ≡ disk_in self.old) }
+        ensures device { CountsDevice result (D.failures (disk_in self.old)) (D.failures (disk_in self.new)) }
+        ensures failed { (has_failed self.new ≡ true) ↔ (result ≡ Err Refusal.Device) }
+        ensures spent { OnOk result (AllByRecursion (IsSpentIn (generation_in self.new)) answers.new.items) }
+        ensures calls { D.calls (disk_in self.new) ≤ D.calls (disk_in self.old) + most_calls (layout_in self.old) (map input_of inputs.now) }
+        ensures size { D.size (disk_in self.new) ≡ D.size (disk_in self.old) }
+        ensures honest { D.honest (disk_in self.new) ≡ D.honest (disk_in self.old) }
+    {
+        for input in inputs {
+            let answer = self.take_one(input, backs)?;
+            note(answers, answer);
+        }
+        Ok(())
+    }
+
+    /// Takes a list of inputs one behind the other, each with its own record and sync, and answers each of them: by its receipt, by its
+    /// step's refusal (E1 to E14), or, with none of the others touched, by E15, or by E20 where its record has no room and the
+    /// generation is the last.
+    ///
+    /// Each image of each moment meanwhile is a store of the state after a beginning of the inputs that were taken, and behind it of all
+    /// of them. The list as a whole is refused with E17 where an earlier call answered E16; with E15 before anything is written or
+    /// taken; with E16 where a disk call fails: the state is that from before, no receipt is given, and some of the inputs may stand
+    /// on the disk.
+    pub fn submit_all(
+        &mut self,
+        inputs: Vec<Input>,
+    ) -> Result<Vec<Result<Receipt, Refusal>>, Refusal>
+        ensures ok { IfOk result (λ answers. AreAnswered (size_in self.old) (state_in self.old) (map input_of inputs.items) answers.items (state_in self.new)) }
+        ensures during { IfOk result (λ answers. IsTrue (D.honest (disk_in self.old))
+            → During (D.past (disk_in self.old)) (D.past (disk_in self.new))
+                (IsBegun (layout_in self.old) (state_in self.old) (taken (map input_of inputs.items) answers.items))) }
+        ensures lost { OnErr result (has_failed self.old ≡ false → IsTrue (D.honest (disk_in self.old))
+            → (some : List model.Input) × HasInOrder some (map input_of inputs.items)
+                × During (D.past (disk_in self.old)) (D.past (disk_in self.new)) (IsBegun (layout_in self.old) (state_in self.old) some)) }
+        ensures order { IfOk result (λ answers. AreNew (state_in self.old).next (state_in self.new).next (started_numbers (all_asked answers.items))) }
+        ensures stored { has_failed self.new ≡ false → IsTrue (D.honest (disk_in self.old))
+            → Images (D.past (disk_in self.new)) (λ image. IsStoreOf (layout_in self.old) image (state_in self.new)) }
+        ensures state { OnErr result (state_in self.new ≡ state_in self.old) }
+        ensures place { IsSamePlace self.old self.new }
+        ensures refused { IfErr result (λ e. IsLost e ⊎ (e ≡ Refusal.Reopen)) }
+        ensures unwritten { IfErr result (λ e. (e ≡ Refusal.Device) ⊎ (disk_in self.new ≡ disk_in self.old)) }
+        ensures idle { AllByRecursion (IsIdle (state_in self.old)) (map input_of inputs.items) → disk_in self.new ≡ disk_in self.old }
+        ensures unrecorded { IfOk result (λ answers. NeedNoRecord (state_in self.old) (map input_of inputs.items) answers.items
+            → disk_in self.new ≡ disk_in self.old) }
+        ensures device { CountsDevice result (D.failures (disk_in self.old)) (D.failures (disk_in self.new)) }
+        ensures failed { (has_failed self.new ≡ true) ↔ ((has_failed self.old ≡ true) ⊎ (result ≡ Err Refusal.Device)) }
+        ensures reopen { (result ≡ Err Refusal.Reopen) ↔ (has_failed self.old ≡ true) }
+        ensures spent { IfOk result (λ answers. AllByRecursion (IsSpentIn (generation_in self.new)) answers.items) }
+        ensures calls { D.calls (disk_in self.new) ≤ D.calls (disk_in self.old) + most_calls (layout_in self.old) (map input_of inputs.items) }
+        ensures size { D.size (disk_in self.new) ≡ D.size (disk_in self.old) }
+        ensures honest { D.honest (disk_in self.new) ≡ D.honest (disk_in self.old) }
+    {
+        if self.failed {
+            return Err(Refusal::Reopen);
+        }
+        let mut backs = Vec::with_capacity(self.alloc, inputs.len())?;
+        let mut answers = Vec::with_capacity(self.alloc, inputs.len())?;
+        match self.take_all(&inputs, &mut answers, &mut backs) {
+            Ok(()) => Ok(answers),
+            Err(refusal) => {
+                go_back(&mut self.engine, backs);
+                let_go(answers);
+                Err(refusal)
+            }
+        }
+    }
+}
