@@ -1,5 +1,5 @@
 -- The numbers of live processes: unit by unit, by look-ups, sorted.
-use Rattle.std.proofs.Common.{◌≡◌, ◌≢◌, ◌==◌, ℕ, List, [], ◌∷◌, ◌++◌, flat_map, map as each, Bool, true, false, not, ◌||◌, ◌&&◌, Option, Some, None, is_some, unwrap_or, cond, refl, sym, ap, subst, ◌∙◌, inl, inr}
+use Rattle.std.proofs.Common.{◌⊎◌, MatchOption, ◌≡◌, ◌≢◌, ◌==◌, ◌<◌, ℕ, List, [], ◌∷◌, ◌++◌, flat_map, map as each, Bool, true, false, not, ◌||◌, ◌&&◌, Option, Some, None, is_some, unwrap_or, cond, refl, sym, ap, subst, ◌∙◌, inl, inr}
 use Rattle.std.specs.FinMap as map
 use Rattle.std.specs.List.{list_any, list_all, dedup, dedup_from}
 use Rattle.std.proofs.lemmas.Bool.{eqb-true, eq-eqb, true≢false}
@@ -11,9 +11,19 @@ use Rattle.um_model.specs.Service.{ByUnit, state_of_unit, dead_unit}
 use Rattle.um_model.specs.StateSpellings.{numbers_in}
 use Rattle.um_model.specs.Transitions.{live_numbers, numbers, HasNumber}
 use Rattle.um_model.specs.declared.service.UnitState.{UnitState}
-use Rattle.um_manager.specs.Live.{has, is_live}
+use Rattle.um_model.proofs.MachineLaws.{one_process}
+use Rattle.um_model.specs.declared.service.SubState.{SubState}
+use Rattle.std.specs.List.{AllPairs}
+use Rattle.std.specs.List.Sorted.{IsPermutation, IsSorted}
+use Rattle.std.specs.Ordering.{nat_cmp}
+use Rattle.std.specs.List.Retain.{IsFiltered, DiffersFromLast}
+use Rattle.std.proofs.lemmas.List.Filters.{dedup_is}
+use Rattle.std.proofs.lemmas.List.Kept.{AllPairs-from_increasing}
+use Rattle.std.proofs.lemmas.List.Sorted.{list_any-IsPermutation}
+use Rattle.std.proofs.lemmas.Map.Keys.{IsStrictlyIncreasing-dedup}
+use Rattle.um_manager.specs.Live.{has, is_live, AreLive, IsIn}
 
-Entries : Type 0
+abbrev Entries : Type 0
 Entries = List (List ℕ × UnitState)
 
 or_true : (a : Bool) → (a || true) ≡ true
@@ -29,10 +39,10 @@ not_or true b = refl
 not_or false b = refl
 
 false_of : (a : Bool) → (a ≡ true → ⊥) → a ≡ false
-false_of true no = absurd (no refl)
-false_of false no = refl
+false_of true h = absurd (h refl)
+false_of false h = refl
 
-is_same : Bool → Bool → Bool
+abbrev is_same : Bool → Bool → Bool
 is_same true b = b
 is_same false b = not b
 
@@ -88,7 +98,7 @@ has_unit n u h = unlisted n u.main u.control h
 
 -- ---- entries
 
-lacks : ℕ → List ℕ × UnitState → Bool
+abbrev lacks : ℕ → List ℕ × UnitState → Bool
 lacks n e = not (has n (live_numbers e.1))
 
 all_lack : (n : ℕ) (es : Entries) → list_all (lacks n) es ≡ not (has n (flat_map (λ e. live_numbers e.1) es))
@@ -127,15 +137,15 @@ process_live units n unit h =
       true≢false (sym (at_each (lacks n) units all unit (state_of_unit units unit) at) ∙ ap not (unit_has n (state_of_unit units unit) h)))
   where
     not_false' : (b : Bool) → (b ≡ false → ⊥) → b ≡ true
-    not_false' true no = refl
-    not_false' false no = absurd (no refl)
+    not_false' true h = refl
+    not_false' false h = absurd (h refl)
 
 -- ---- unit by unit
 
-by_name : ByUnit UnitState → List ℕ → List ℕ
+abbrev by_name : ByUnit UnitState → List ℕ → List ℕ
 by_name units unit = live_numbers (state_of_unit units unit)
 
-agrees : ByUnit UnitState → ℕ → List ℕ × UnitState → Bool
+abbrev agrees : ByUnit UnitState → ℕ → List ℕ × UnitState → Bool
 agrees units n e = is_same (has n (by_name units e.0)) (has n (live_numbers e.1))
 
 all_agree : (units : ByUnit UnitState) (n : ℕ) (es : Entries) → list_all (agrees units n) es ≡ true
@@ -166,3 +176,37 @@ has_from n k (x ∷ ns) = by (x == k) refl (has_from n k ns) (has_from n x ns)
 pub has_dedup : (n : ℕ) (ns : List ℕ) → has n (dedup (λ a b. a == b) ns) ≡ has n ns
 has_dedup n [] = refl
 has_dedup n (x ∷ ns) = has_from n x ns
+
+-- ---- look-ups
+
+-- a look-up finds the unit just where the number is live
+pub looked_up : (units : ByUnit UnitState) (n : ℕ) {A : Type 0} (found : Option A) (name : A → List ℕ) → MatchOption found (IsOver units n) (λ a. IsProcessOf units n (name a)) → is_some found ≡ is_live units n
+looked_up units n None name over = sym (over_dead units n over)
+looked_up units n (Some a) name process = sym (process_live units n (name a) process.has)
+
+-- the unit of the number is the one that stands there
+pub stands_in : (units : ByUnit UnitState) (n : ℕ) (unit : List ℕ) (sub : SubState) → IsProcessOf units n unit → IsIn units sub n → (state_of_unit units unit).sub ≡ sub
+stands_in units n unit sub process is = ap (λ u. (state_of_unit units u).sub) (one_process units n unit is.unit process is.process) ∙ is.state
+
+-- ---- sorted
+
+dedup_from_same : (E : ℕ → ℕ → Bool) → ((a b : ℕ) → E a b ≡ (a == b)) → (k : ℕ) (ns : List ℕ) → dedup_from E k ns ≡ dedup_from (λ a b. a == b) k ns
+dedup_from_same E same k [] = refl
+dedup_from_same E same k (x ∷ ns) =
+    ap (λ b. cond b (dedup_from E k ns) (k ∷ dedup_from E x ns)) (same x k)
+    ∙ ap (λ l. cond (x == k) l (k ∷ dedup_from E x ns)) (dedup_from_same E same k ns)
+    ∙ ap (λ l. cond (x == k) (dedup_from (λ a b. a == b) k ns) (k ∷ l)) (dedup_from_same E same x ns)
+
+dedup_same : (E : ℕ → ℕ → Bool) → ((a b : ℕ) → E a b ≡ (a == b)) → (ns : List ℕ) → dedup E ns ≡ dedup (λ a b. a == b) ns
+dedup_same E same [] = refl
+dedup_same E same (x ∷ ns) = dedup_from_same E same x ns
+
+-- numbers that are those of the live processes, once they are sorted and none stands twice
+pub live_sorted : (units : ByUnit UnitState) (E : ℕ → ℕ → Bool) → ((a b : ℕ) → E a b ≡ (a == b)) → (found sorted new : List ℕ) → ((n : ℕ) → has n found ≡ is_live units n)
+    → IsPermutation found sorted → IsSorted nat_cmp sorted → IsFiltered (DiffersFromLast E) [] sorted new → AreLive units new
+live_sorted units E same found sorted new live moved order filtered =
+    let is = dedup_is E sorted new filtered ∙ dedup_same E same sorted in
+    record {
+      each = λ n. ap (has n) is ∙ has_dedup n sorted ∙ sym (list_any-IsPermutation (λ m. m == n) found sorted moved) ∙ live n;
+      ascending = subst (λ l. AllPairs (λ x y. x < y) l) (sym is) (AllPairs-from_increasing (dedup (λ a b. a == b) sorted) (IsStrictlyIncreasing-dedup sorted order));
+    }

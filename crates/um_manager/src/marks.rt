@@ -1,6 +1,7 @@
 //! The numbers whose fate is asked with a claim.
 
-ghost use Rattle.std.specs.Prelude.{◌≡◌, ◌||◌, ◌&&◌, ◌+◌, ◌≤◌, ◌++◌, ◌∷◌, [], ℕ, List, true, length, filter, vec_len, vec_capacity, IfOk, OnOk};
+ghost use Rattle.std.specs.Prelude.{◌≡◌, ◌||◌, ◌+◌, ◌≤◌, ◌++◌, ◌∷◌, [], ℕ, List, true, false, nat_lt, if◌then◌else◌, length, filter, vec_len, vec_capacity, IfOk};
+ghost use Rattle.std.specs.List.{list_all};
 ghost use Rattle.um_model.specs.StateSpellings.{are_distinct};
 ghost use Rattle.um_manager.specs.Live.{has, is_live, HasFewLive};
 
@@ -22,6 +23,7 @@ pub struct Marks {
     spare: Vec<ProcessNumber>,
     ghost room: { 2048 ≤ vec_capacity numbers },
     ghost spare_room: { 2048 ≤ vec_capacity spare },
+    ghost fits: { vec_len numbers ≤ vec_capacity spare },
     ghost once: { are_distinct numbers.items ≡ true },
 }
 
@@ -46,6 +48,7 @@ fn is_among(numbers: &[ProcessNumber], number: ProcessNumber) -> bool
 fn pick_live(numbers: &[ProcessNumber], units: &Units, picked: &mut Vec<ProcessNumber>)
     requires { vec_len picked.old + length numbers.now ≤ vec_capacity picked.old }
     ensures items { picked.new.items ≡ picked.old.items ++ filter (is_live units.now) numbers.now }
+    ensures len { vec_len picked.new ≤ vec_len picked.old + length numbers.now }
     ensures capacity { vec_capacity picked.old ≤ vec_capacity picked.new }
 {
     for number in numbers {
@@ -55,6 +58,25 @@ fn pick_live(numbers: &[ProcessNumber], units: &Units, picked: &mut Vec<ProcessN
                 Err(_) => unreachable!(),
             }
         }
+    }
+}
+
+/// Notes a number that isn't noted yet, where there is room.
+#[tactic(auto, using(crate::proofs::Marking::distinct_push))]
+fn note(noted: &mut Vec<ProcessNumber>, number: ProcessNumber)
+    requires once { are_distinct noted.old.items ≡ true }
+    requires room { vec_len noted.old + 1 ≤ vec_capacity noted.old }
+    ensures has { (n : ℕ) → has n noted.new.items ≡ (has n noted.old.items || has n (number ∷ [])) }
+    ensures once { are_distinct noted.new.items ≡ true }
+    ensures len { vec_len noted.new ≤ vec_len noted.old + 1 }
+    ensures capacity { vec_capacity noted.old ≤ vec_capacity noted.new }
+{
+    if is_among(noted.as_slice(), number) {
+        return;
+    }
+    match noted.push(number) {
+        Ok(()) => {}
+        Err(_) => unreachable!(),
     }
 }
 
@@ -68,24 +90,15 @@ impl Marks {
         } else {
             numbers.len()
         };
-        let mut marks = Marks {
-            numbers: Vec::with_capacity(alloc, room)?,
-            spare: Vec::with_capacity(alloc, room)?,
-        };
+        let mut noted = Vec::with_capacity(alloc, room)?;
+        let spare = Vec::with_capacity(alloc, room)?;
         for number in numbers {
-            marks.push(*number)?;
+            note(&mut noted, *number);
         }
-        Ok(marks)
-    }
-
-    /// Adds a number that isn't among the others.
-    fn push(&mut self, number: ProcessNumber) -> Result<(), AllocError>
-        ensures { OnOk result ((n : ℕ) → has n self.new ≡ (has n self.old || has n (number ∷ []))) }
-    {
-        if !self.contains(number) {
-            self.numbers.push(number)?;
-        }
-        Ok(())
+        Ok(Marks {
+            numbers: noted,
+            spare,
+        })
     }
 
     /// Whether it is marked.
@@ -103,12 +116,40 @@ impl Marks {
     }
 
     /// No number that isn't live stays marked.
+    #[tactic(auto, using(crate::proofs::Marking::distinct_filter))]
     fn forget_others(&mut self, units: &Units)
-        ensures { self.new ≡ filter (is_live units.now) self.old }
+        ensures same { self.new ≡ filter (is_live units.now) self.old }
+        ensures once { are_distinct self.new ≡ true }
     {
         self.spare.clear();
         pick_live(self.numbers.as_slice(), units, &mut self.spare);
         mem::swap(&mut self.numbers, &mut self.spare);
+    }
+
+    /// Where there is no more room, the numbers that aren't live go.
+    fn make_room(&mut self, units: &Units)
+        ensures live { (n : ℕ) → is_live units.now n ≡ true → has n self.new ≡ has n self.old }
+        ensures none { (n : ℕ) → has n self.old ≡ false → has n self.new ≡ false }
+        ensures full { 2048 ≤ length self.new → list_all (is_live units.now) self.new ≡ true }
+        ensures once { are_distinct self.new ≡ true }
+    {
+        if self.numbers.len() >= MOST_LIVE {
+            self.forget_others(units);
+        }
+    }
+
+    /// Adds a number that isn't among the others, where there is room.
+    #[tactic(auto, using(crate::proofs::Marking::distinct_push))]
+    fn add(&mut self, number: ProcessNumber)
+        requires { has number self.old ≡ false }
+        ensures { self.new ≡ (if nat_lt (length self.old) 2048 then self.old ++ number ∷ [] else self.old) }
+    {
+        if self.numbers.len() < MOST_LIVE {
+            match self.numbers.push(number) {
+                Ok(()) => {}
+                Err(_) => unreachable!(),
+            }
+        }
     }
 
     /// Marks a number. Where there is no more room those that aren't live go first. It takes no memory.
@@ -118,14 +159,7 @@ impl Marks {
         if self.contains(number) {
             return;
         }
-        if self.numbers.len() >= MOST_LIVE {
-            self.forget_others(units);
-        }
-        if self.numbers.len() < MOST_LIVE {
-            match self.numbers.push(number) {
-                Ok(()) => {}
-                Err(_) => unreachable!(),
-            }
-        }
+        self.make_room(units);
+        self.add(number);
     }
 }
