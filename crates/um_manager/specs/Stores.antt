@@ -1,7 +1,7 @@
 -- What a store answers that refuses all inputs of a list.
 -- No manual page has it: it is the project's own protocol (docs/FORMATS.md, "Refusals").
 -- The turn of the manager and its opening stand on this file.
-use Rattle.std.specs.Prelude.{◌≡◌, ℕ, List, Bool, Result, Ok, Err}
+use Rattle.std.specs.Prelude.{◌≡◌, ◌≢◌, ℕ, List, Bool, Result, Ok, Err}
 use Rattle.um_model.specs.Children.{Call}
 use Rattle.um_model.specs.Machine.{State, Input, Reply}
 use Rattle.um_wire.specs.declared.refusal.Refusal.{Refusal}
@@ -23,6 +23,5 @@ StoreAnswers fault.Reopen result = result ≡ Err refusal.Reopen
 
 -- the inputs were offered; want of memory is told of single inputs alone
 abbrev pub Submits : ℕ → Result Unit Refusal → State → List Input → State → List Call → List Call → List ℕ → List ℕ → List Reply → Bool → Bool → Type 0
-Submits size (Err refusal.NoMemory) s inputs t old new marks marked replies honest whole = ⊥
-Submits size store s inputs t old new marks marked replies honest whole =
-    Submitted size store s inputs t old new marks marked replies honest whole
+Submits size result s inputs t old new marks marked replies honest whole =
+    (result ≢ Err refusal.NoMemory) × Submitted size result s inputs t old new marks marked replies honest whole

@@ -1,7 +1,7 @@
 -- What a turn of the manager does.
 -- No manual page has this: it is the project's own (docs/ARCHITECTURE.md, "The way of one input").
 -- The manager's calls stand on this file.
-use Rattle.std.specs.Prelude.{◌≡◌, ◌||◌, ℕ, List, [], ◌∷◌, ◌++◌, length, drop, map, flat_map, replicate, Bool, true, IsTrue, Option, Result, Ok, Err}
+use Rattle.std.specs.Prelude.{◌≡◌, ◌≢◌, ◌||◌, ℕ, List, [], ◌∷◌, ◌++◌, length, drop, map, flat_map, replicate, Bool, true, IsTrue, Option, Result, Ok, Err}
 use Rattle.um_keeper.specs.Answering.{Answer, AreAnswered, all_asked}
 use Rattle.um_model.specs.Children.{Call, Tale, orders, tales, refused}
 use Rattle.um_model.specs.Machine.{State, Input, Reply}
@@ -78,6 +78,5 @@ pub record Untouched (a b : Now) : Type 0 where
 
 -- a turn that finds no memory for itself is none; a refusal of the store is told after the replies
 abbrev pub Turns : ℕ → Result Unit Refusal → Bool → Bool → ℕ → List Piece → Now → Now → Type 0
-Turns size (Ok done) honest whole moment pieces a b = IsTrue honest → IsTrue whole → Turned size (Ok done) moment pieces a b
-Turns size (Err NoMemory) honest whole moment pieces a b = Untouched a b
-Turns size (Err e) honest whole moment pieces a b = IsTrue honest → IsTrue whole → Turned size (Err e) moment pieces a b
+Turns size result honest whole moment pieces a b =
+    (result ≡ Err NoMemory → Untouched a b) × (result ≢ Err NoMemory → IsTrue honest → IsTrue whole → Turned size result moment pieces a b)

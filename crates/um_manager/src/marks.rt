@@ -108,13 +108,6 @@ impl Marks {
         is_among(self.numbers.as_slice(), number)
     }
 
-    /// No number stays marked.
-    pub fn clear(&mut self)
-        ensures { self.new ≡ [] }
-    {
-        self.numbers.clear();
-    }
-
     /// No number that isn't live stays marked.
     #[tactic(auto, using(crate::proofs::Marking::distinct_filter))]
     fn forget_others(&mut self, units: &Units)

@@ -1,16 +1,18 @@
 //! Opening: the boot, and then the processes that are live are adopted.
 
-ghost use Rattle.std.specs.Prelude.{◌≡◌, ◌≢◌, ◌+◌, ◌*◌, ◌≤◌, ◌++◌, ◌∷◌, [], ℕ, List, IsTrue, IfOk, OnOk, Ok, length, vec_len, vec_capacity};
+ghost use Rattle.std.specs.Prelude.{◌≡◌, ◌≢◌, ◌+◌, ◌*◌, ◌≤◌, ◌++◌, ◌∷◌, [], ℕ, List, IsTrue, IfOk, IfErr, OnOk, OnErr, length, vec_len, vec_capacity};
 ghost use Rattle.um_keeper.specs.Keepers.{state_in, size_in};
-ghost use Rattle.um_manager.specs.Live.{AreLive, AreIn, has};
-ghost use Rattle.um_manager.specs.Opening.{Adopts, Opened};
-ghost use Rattle.um_manager.specs.Orders.{Carries, signals};
+ghost use Rattle.um_manager.specs.Live.{AreLive, has};
+ghost use Rattle.um_manager.specs.Fates.{happens_at};
+ghost use Rattle.um_manager.specs.Opening.{Adopts, Opened, Signalled};
+ghost use Rattle.um_model.specs.Machine as model;
+ghost use Rattle.um_model.specs.Machine.{Booted, Step};
+ghost use Rattle.um_state.specs.View.{state_of};
 
 use crate::connection::CONNECTIONS;
 use crate::fates::claim_all;
 use crate::live::{is_in, live_numbers};
 use crate::marks::Marks;
-use crate::orders::carry_out;
 use crate::submitting::submit;
 use std::alloc::{AllocError, Global};
 use um_children::Children;
@@ -18,7 +20,7 @@ use um_keeper::Keeper;
 use um_model::{Moment, ProcessNumber, Signal, SubState};
 use um_sector::Disk;
 use um_session::Session;
-use um_state::{BootId, Event, Happening, Input, Reply, Units};
+use um_state::{BootId, Event, Happening, Input, Reply, State, Units};
 use um_wire::Refusal;
 
 /// What a manager has from its opening on.
@@ -41,7 +43,25 @@ fn new_sessions(alloc: Global) -> Result<Vec<Session>, AllocError>
     Ok(sessions)
 }
 
-/// Sends the signal to each of these numbers whose unit is in this state. One that fails isn't repeated.
+/// Sends the signal to the number, if its unit is in this state. One that fails isn't repeated.
+#[tactic(auto, using(crate::proofs::Adoption::signalled_it, crate::proofs::Adoption::signalled_not))]
+fn signal_one<C: Children>(
+    children: &mut C,
+    units: &Units,
+    sub: SubState,
+    signal: Signal,
+    number: ProcessNumber,
+)
+    ensures signals { IsTrue (C.honest children.old) → IsTrue (C.whole children.new) → Signalled units.now sub signal (number ∷ []) (C.past children.old) (C.past children.new) }
+    ensures whole { IsTrue (C.whole children.new) → IsTrue (C.whole children.old) }
+    ensures honest { C.honest children.new ≡ C.honest children.old }
+{
+    if is_in(units, sub, number) {
+        let _sent = children.signal(number, signal);
+    }
+}
+
+/// Sends the signal to each of these numbers whose unit is in this state.
 fn signal_all<C: Children>(
     children: &mut C,
     units: &Units,
@@ -49,17 +69,13 @@ fn signal_all<C: Children>(
     signal: Signal,
     numbers: &[ProcessNumber],
 )
-    ensures carries { IsTrue (C.honest children.old) → IsTrue (C.whole children.new) → Signalled units.now sub signal numbers.now (C.past children.old) (C.past children.new) }
+    ensures signals { IsTrue (C.honest children.old) → IsTrue (C.whole children.new) → Signalled units.now sub signal numbers.now (C.past children.old) (C.past children.new) }
     ensures whole { IsTrue (C.whole children.new) → IsTrue (C.whole children.old) }
     ensures honest { C.honest children.new ≡ C.honest children.old }
 {
-    let Some((number, numbers)) = numbers.split_first() else {
-        return;
-    };
-    if is_in(units, sub, *number) {
-        let _sent = children.signal(*number, signal);
+    for number in numbers {
+        signal_one(children, units, sub, signal, *number);
     }
-    signal_all(children, units, sub, signal, numbers);
 }
 
 /// Adopts the live numbers: it asks the fate of each with a claim, offers what is told, and ends those that were being ended.
@@ -78,6 +94,7 @@ fn adopt<D: Disk, C: Children>(
     requires no_replies { replies.old.items ≡ [] }
     requires room { 2 * length live.now ≤ vec_capacity inputs }
     requires replies_room { 2 * length live.now ≤ vec_capacity replies.old }
+    ensures memory { IfErr result (λ e. e ≢ Refusal.NoMemory) }
     ensures adopts { Adopts (size_in keeper.old) result (C.honest children.old) (C.whole children.new) moment (state_in keeper.old) (state_in keeper.new) (C.past children.old) (C.past children.new) marks.new }
     ensures whole { IsTrue (C.whole children.new) → IsTrue (C.whole children.old) }
     ensures honest { C.honest children.new ≡ C.honest children.old }
@@ -91,19 +108,32 @@ fn adopt<D: Disk, C: Children>(
     submitted
 }
 
-/// Offers the boot, and carries out what it asks.
-fn offer_boot<D: Disk, C: Children>(
+/// Offers the boot, which asks for nothing.
+fn offer_boot<D: Disk>(
     keeper: &mut Keeper<D>,
-    children: &mut C,
-    marks: &mut Marks,
     boot: BootId,
     moment: Moment,
 ) -> Result<(), Refusal>
+    ensures booted { OnOk result ((reply : model.Reply) × Step (size_in keeper.old) (state_in keeper.old) (happens_at moment (Booted boot)) reply [] (state_in keeper.new)) }
+    ensures state { OnErr result (state_in keeper.new ≡ state_in keeper.old) }
+    ensures size { size_in keeper.new ≡ size_in keeper.old }
 {
     let event = Event::Happened(Happening::Booted { boot });
     let receipt = keeper.submit(&Input::new(moment, event))?;
-    carry_out(children, marks, keeper.state().units(), receipt);
+    receipt.finish();
     Ok(())
+}
+
+/// The numbers that are live in this boot: those of another one are gone.
+fn live_in(alloc: Global, state: &State, boot: &BootId) -> Result<Vec<ProcessNumber>, AllocError>
+    ensures same { IfOk result (λ live. boot.now ≡ (state_of state.now).boot → AreLive (state_of state.now).units live.items) }
+    ensures other { IfOk result (λ live. boot.now ≢ (state_of state.now).boot → live.items ≡ []) }
+{
+    if state.boot().as_str() == boot.as_str() {
+        live_numbers(alloc, state.units())
+    } else {
+        Ok(Vec::new(alloc))
+    }
 }
 
 /// Offers the boot, and adopts the processes that are live then. Want of memory comes before the boot is offered, or is the boot's own.
@@ -114,17 +144,18 @@ pub fn begin<D: Disk, C: Children>(
     boot: BootId,
     moment: Moment,
 ) -> Result<Held, Refusal>
+    ensures opened { IfOk result (λ held. IsTrue (C.honest children.old) → IsTrue (C.whole children.new) → Opened (size_in keeper.old) moment boot (state_in keeper.old) (state_in keeper.new) (C.past children.old) (C.past children.new) held.marks) }
+    ensures sessions { IfOk result (λ held. length held.sessions.items ≡ 64) }
+    ensures early { IfErr result (λ e. e ≡ Refusal.NoMemory → (state_in keeper.new ≡ state_in keeper.old) × (C.past children.new ≡ C.past children.old)) }
+    ensures whole { IsTrue (C.whole children.new) → IsTrue (C.whole children.old) }
+    ensures honest { C.honest children.new ≡ C.honest children.old }
 {
     let sessions = new_sessions(alloc)?;
-    let mut live = live_numbers(alloc, keeper.state().units())?;
+    let live = live_in(alloc, keeper.state(), &boot)?;
     let mut marks = Marks::of(alloc, live.as_slice())?;
     let inputs = Vec::with_capacity(alloc, 2 * live.len())?;
     let mut replies = Vec::with_capacity(alloc, 2 * live.len())?;
-    if keeper.state().boot().as_str() != boot.as_str() {
-        live.clear();
-        marks.clear();
-    }
-    offer_boot(keeper, children, &mut marks, boot, moment)?;
+    offer_boot(keeper, boot, moment)?;
     let live = live.as_slice();
     adopt(keeper, children, &mut marks, live, moment, inputs, &mut replies)?;
     Ok(Held {

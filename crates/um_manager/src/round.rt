@@ -54,6 +54,7 @@ fn forget_ended<C: Children>(children: &mut C, units: &Units, numbers: &[Process
 }
 
 /// A turn: it hears the fates, takes the pieces, offers the inputs, carries out the actions, and puts out the replies.
+#[tactic(auto, using(crate::proofs::Turning::all_same))]
 pub fn turn<D: Disk, C: Children>(
     alloc: Global,
     keeper: &mut Keeper<D>,

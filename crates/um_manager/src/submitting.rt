@@ -1,11 +1,9 @@
 //! Inputs offered to the store.
 
-ghost use Rattle.std.specs.Prelude.{◌≡◌, ◌⊎◌, ◌+◌, ◌≤◌, ◌++◌, [], IfErr, OnOk, OnErr, IsTrue, false, length, map, replicate, vec_len, vec_capacity};
-ghost use Rattle.um_keeper.specs.Keepers.{disk_in, state_in, size_in, layout_in, has_failed};
-ghost use Rattle.um_model.specs.Disk.{Images};
+ghost use Rattle.std.specs.Prelude.{◌≡◌, ◌⊎◌, ◌+◌, ◌≤◌, ◌++◌, [], IsTrue, map, replicate, vec_len, vec_capacity};
+ghost use Rattle.um_keeper.specs.Keepers.{state_in, size_in};
 ghost use Rattle.um_model.specs.Machine as model;
-ghost use Rattle.um_model.specs.Stands.{IsStoreOf};
-ghost use Rattle.um_sector.specs.Refused.{CountsDevice, IsLost};
+ghost use Rattle.um_sector.specs.Refused.{IsLost};
 ghost use Rattle.um_state.specs.View.{reply_of};
 ghost use Rattle.um_wire.specs.Refusal.{refused_of};
 ghost use Rattle.um_manager.specs.Fates.{inputs_in};
@@ -83,7 +81,7 @@ pub fn submit<D: Disk, C: Children>(
     replies: &mut Vec<Reply>,
 ) -> Result<(), Refusal>
     requires empty { replies.old.items ≡ [] }
-    requires room { vec_len inputs ≤ vec_capacity replies.old }
+    requires room { vec_len replies.old + vec_len inputs ≤ vec_capacity replies.old }
     ensures len { vec_len replies.new ≡ vec_len inputs }
     ensures submits { Submits (size_in keeper.old) result (state_in keeper.old) (inputs_in inputs.items) (state_in keeper.new) (C.past children.old) (C.past children.new) marks.old marks.new (map reply_of replies.new.items) (C.honest children.old) (C.whole children.new) }
     ensures whole { IsTrue (C.whole children.new) → IsTrue (C.whole children.old) }
