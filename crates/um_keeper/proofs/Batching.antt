@@ -1,19 +1,25 @@
 -- Of inputs that are taken one behind the other.
-use Rattle.std.proofs.Common.{◌≡◌, ◌≢◌, ◌⊎◌, ◌∙◌, ℕ, zero, suc, ◌+◌, ◌≤◌, Bool, true, false, if◌then◌else◌, List, [], ◌∷◌, ◌++◌, take, refl, sym, ap, subst, inl, inr}
-use Rattle.std.specs.Prelude.{Ok, Err}
+use Rattle.std.proofs.Common.{◌≡◌, ◌⊎◌, ◌∙◌, ℕ, zero, suc, ◌≤◌, arith, Bool, true, false, if◌then◌else◌, List, [], ◌∷◌, ◌++◌, append_assoc, take, refl, sym, ap, subst, inl, inr}
+use Rattle.std.specs.List.{AllByRecursion}
+use Rattle.std.specs.Prelude.{Ok, Err, IsTrue}
 use Rattle.um_engine.specs.Engine.{state_before}
 use Rattle.um_engine.specs.declared.engine.Back.{Back}
 use Rattle.um_model.specs.Disk.{Past, Image, During}
 use Rattle.um_model.specs.Lives.{HasInOrder, no_others, has, between}
-use Rattle.um_model.specs.Machine.{State, Input, Reply, Run, rests, goes, Step}
+use Rattle.um_model.specs.Machine.{State, Input, Reply, Refusal, Run, rests, goes, Step}
 use Rattle.um_model.specs.Numbers.{AreNew, started_numbers, actions_in}
 use Rattle.um_model.specs.Service.{Action}
 use Rattle.um_model.specs.Store.{body_limit}
 use Rattle.um_model.specs.declared.layout.Layout.{Layout}
 use Rattle.um_model.proofs.DiskLaws.{weaker, followed}
 use Rattle.um_model.proofs.NumbersLaws.{run_numbers_rise}
-use Rattle.um_keeper.specs.Answering.{Answer, is_turned_away, Answered, accepted, refused, turned_away, AreAnswered, all_answered, and_next, where_step, all_asked, state_before_all}
+use Rattle.um_keeper.specs.Answering.{Answer, is_turned_away, Answered, accepted, refused, turned_away, AreAnswered, all_answered, and_next, where_step, taken, all_asked, IsIdle, IsRefusal, NeedNoRecord, IsSpentIn, state_before_all}
 use Rattle.um_keeper.specs.Keeping.{IsBegun}
+use Rattle.um_engine.specs.OfStore.{is_of_store}
+use Rattle.um_sector.specs.Refused.{IsLost}
+use Rattle.um_wire.specs.Refusal.{refused_of}
+use Rattle.um_wire.specs.declared.refusal.Refusal as declared
+use Rattle.um_wire.specs.declared.refusal.Refusal.TheVariants.{Device, GenerationsSpent}
 
 -- ---- beginnings
 
@@ -61,7 +67,7 @@ had_where true input some all h = between h
 had_where false input some all h = has h
 
 pub had_more : (answer : Answer) (input : Input) (some all : List Input) → HasInOrder some all → HasInOrder (where_step answer input ++ some) (input ∷ all)
-had_more (Ok accepted) input some all h = has h
+had_more (Ok given) input some all h = has h
 had_more (Err e) input some all h = had_where (is_turned_away e) input some all h
 
 -- ---- numbers
@@ -86,3 +92,66 @@ numbers_asked {size} {s} {t} answered =
 pub back_append : (xs ys : List Back) (s : State) → state_before_all (xs ++ ys) s ≡ state_before_all xs (state_before_all ys s)
 back_append [] ys s = refl
 back_append (x ∷ xs) ys s = ap (state_before x) (back_append xs ys s)
+
+-- ---- one input of those that are left
+
+-- the answers with one more, and those behind it
+pub appended : (more all : List Answer) (answer : Answer) (rest : List Answer) → all ≡ more ++ answer ∷ [] → all ++ rest ≡ more ++ (answer ∷ rest)
+appended more all answer rest is = ap (λ l. l ++ rest) is ∙ append_assoc more (answer ∷ []) rest
+
+module _ {size : ℕ} {s t : State} {input : Input} {left more : List Input} {answer : Answer} (is : left ≡ input ∷ more) (answered : Answered size s input answer t) where
+  pub one_answered : {n : ℕ} {rest : List Answer} {u : State} → n ≡ size → AreAnswered n t more rest u → AreAnswered size s left (answer ∷ rest) u
+  one_answered {rest = rest} {u} same others = subst (λ l. AreAnswered size s l (answer ∷ rest) u) (sym is)
+      (and_next answered (subst (λ n. AreAnswered n t more rest u) same others))
+
+  -- what a crash leaves meanwhile
+  module _ {old mid new : Past} {layout l : Layout} {h h' : Bool} (on : size ≡ body_limit layout) (same : l ≡ layout) (honest : h' ≡ h)
+      (one : IsTrue h → During old mid (IsBegun layout s (where_step answer input))) where
+    pub one_lost : {some : List Input} → (IsTrue h' → During mid new (IsBegun l t some)) → IsTrue h → During old new (IsBegun layout s (where_step answer input ++ some))
+    one_lost {some} others sure = taken_on (subst (λ n. Answered n s input answer t) on answered) (one sure)
+        (subst (λ (z : Layout). During mid new (IsBegun z t some)) same (others (honest ∙ sure)))
+
+    pub one_begun : (rest : List Answer) → (IsTrue h' → During mid new (IsBegun l t (taken more rest))) → IsTrue h → During old new (IsBegun layout s (taken left (answer ∷ rest)))
+    one_begun rest others sure = subst (λ z. During old new (IsBegun layout s (taken z (answer ∷ rest)))) (sym is) (one_lost others sure)
+
+  pub one_had : {some : List Input} → HasInOrder some more → HasInOrder (where_step answer input ++ some) left
+  one_had {some} h = subst (HasInOrder (where_step answer input ++ some)) (sym is) (had_more answer input some more h)
+
+-- ---- the last generation
+
+each_spent : {g later : ℕ} (answers : List Answer) → g ≤ later → AllByRecursion (IsSpentIn g) answers → AllByRecursion (IsSpentIn later) answers
+each_spent [] more all = tt
+each_spent (answer ∷ answers) more all = ((λ is. omega (arith, all.0 is, more)), each_spent answers more all.1)
+
+one_spent : {g later : ℕ} (answers : List Answer) (answer : Answer) → g ≤ later → AllByRecursion (IsSpentIn g) answers → IsSpentIn g answer
+    → AllByRecursion (IsSpentIn later) (answers ++ answer ∷ [])
+one_spent [] answer more all one = each_spent (answer ∷ []) more (one, tt)
+one_spent (x ∷ answers) answer more all one = ((λ is. omega (arith, all.0 is, more)), one_spent answers answer more all.1 one)
+
+pub spent_more : {g later : ℕ} (answers : List Answer) {all : List Answer} (answer : Answer) → AllByRecursion (IsSpentIn g) answers → g ≤ later → IsSpentIn g answer → all ≡ answers ++ answer ∷ []
+    → AllByRecursion (IsSpentIn later) all
+spent_more {later = later} answers answer spent more one is = subst (AllByRecursion (IsSpentIn later)) (sym is) (one_spent answers answer more spent one)
+
+-- ---- what is to be recorded
+
+pub idle_left : (s : State) {left more : List Input} {input : Input} → left ≡ input ∷ more → AllByRecursion (IsIdle s) left → IsIdle s input × AllByRecursion (IsIdle s) more
+idle_left s is all = subst (AllByRecursion (IsIdle s)) is all
+
+pub unrecorded_left : (s : State) {left more : List Input} {input : Input} (answer : Answer) (rest : List Answer) → left ≡ input ∷ more → NeedNoRecord s left (answer ∷ rest)
+    → (IsIdle s input ⊎ IsRefusal answer) × NeedNoRecord s more rest
+unrecorded_left s answer rest is all = subst (λ l. NeedNoRecord s l (answer ∷ rest)) is all
+
+-- ---- one input
+
+-- a refusal that is a step's, unless it turns the input away
+told_refused : {size : ℕ} {s : State} {input : Input} {e : declared.Refusal} (away : Bool) → is_turned_away e ≡ away → is_of_store e ≡ false
+    → Step size s input (Refusal (refused_of e)) [] s → Answered size s input (Err e) s
+told_refused true is of_step step = turned_away is
+told_refused false is of_step step = refused of_step is step
+
+pub answered_refused : {size : ℕ} {s : State} {input : Input} (e : declared.Refusal) → ¬ (e ≡ Device)
+    → IsLost e ⊎ (e ≡ GenerationsSpent) ⊎ ((is_of_store e ≡ false) × Step size s input (Refusal (refused_of e)) [] s) → Answered size s input (Err e) s
+answered_refused e other (inl (inl memory)) = turned_away (ap is_turned_away memory)
+answered_refused e other (inl (inr device)) = absurd (other device)
+answered_refused e other (inr (inl spent)) = turned_away (ap is_turned_away spent)
+answered_refused e other (inr (inr told)) = told_refused (is_turned_away e) refl told.0 told.1

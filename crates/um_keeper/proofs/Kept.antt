@@ -1,5 +1,5 @@
 -- What a keeper holds of its disk: what the log and the slots need of it, and what they give back.
-use Rattle.std.proofs.Common.{◌≡◌, ◌≢◌, ◌∙◌, ℕ, ◌+◌, ◌≤◌, true, List, [], ◌∷◌, ◌++◌, length, refl, sym, ap, subst, Option, Some, None, is_some, inl, inr, ◌⊎◌}
+use Rattle.std.proofs.Common.{◌≡◌, ◌≢◌, ◌∙◌, ℕ, ◌+◌, ◌≤◌, true, List, [], ◌∷◌, ◌++◌, length, refl, sym, ap, subst, arith, Option, Some, None, is_some, inl, inr, ◌⊎◌}
 use Rattle.std.specs.Prelude.{Result, Ok, Err, IfOk, IfSome}
 use Rattle.std.proofs.Math.Bridge.{le_prop}
 use Rattle.std.proofs.Math.Logic.{∥∥₁_elim, ∥∥₁_map}
@@ -15,10 +15,10 @@ use Rattle.um_model.specs.Numbers.{AreNew, started_numbers}
 use Rattle.um_model.specs.Refusals.{Refused}
 use Rattle.um_model.specs.Servable.{IsServable}
 use Rattle.um_model.specs.Service.{Action}
-use Rattle.um_model.specs.StateSpellings.{state_at, state_spelling, FitState}
+use Rattle.um_model.specs.StateSpellings.{state_at, state_spelling}
 use Rattle.um_model.specs.Stands.{Contents, contents_of, inputs_of, IsStoreOf}
 use Rattle.um_model.specs.Store as store
-use Rattle.um_model.specs.Store.{body_limit, log_start, log_end, newest_of, records_of, sectors_of, HasRecords, IsStore, GoesOn, EitherRecord, EitherSnapshot}
+use Rattle.um_model.specs.Store.{body_limit, sector_count, log_start, log_end, newest_of, records_of, sectors_of, HasRecords, IsStore, GoesOn, EitherRecord, EitherSnapshot}
 use Rattle.um_model.specs.declared.layout.Layout.{Layout}
 use Rattle.um_model.specs.declared.layout.Slot.{Slot}
 use Rattle.um_model.proofs.DiskLaws.{started, weaker, followed}
@@ -28,7 +28,7 @@ use Rattle.um_model.proofs.ServableLaws.{step_servable}
 use Rattle.um_model.proofs.StandsLaws.{contents, ComesTo, HasContents, has_contents, contents_are, newest_told, records_told, store_of, comes_further, comes_anew, run_to, only_end, state_back, either_state, anew}
 use Rattle.um_model.proofs.WholeLaws.{step_fits, spelled_room, accepted_room}
 use Rattle.um_tree.specs.Code.{tree_code}
-use Rattle.um_keeper.specs.Keeping.{MayHold, Keeps, IsBegun}
+use Rattle.um_keeper.specs.Keeping.{MayHold, Keeps, IsBegun, snapshot_calls}
 
 -- ---- answers
 
@@ -253,6 +253,17 @@ read_again {s = s} held = ∥∥₁_elim held.fits (Coded-set state_code (nothin
 -- and have room in a slot
 pub spelled_fits : {layout : Layout} {size : ℕ} {s : State} → MayHold layout size s → length (state_spelling s) ≤ body_limit layout
 spelled_fits {size = size} {s = s} held = subst (λ n. length (state_spelling s) ≤ n) held.size_is (∥∥₁_elim held.fits le_prop (λ f. spelled_room size s f held.servable))
+
+-- its snapshot takes no more calls than that of a full slot
+most_of_snapshot : {layout : Layout} {size : ℕ} {s : State} → MayHold layout size s → snapshot_calls s ≤ sector_count (body_limit layout) + 3
+most_of_snapshot held = let fits = spelled_fits held in omega (arith, fits)
+
+at_most : (a b now old more : ℕ) → a ≤ b → now ≤ old + a + more → now ≤ old + b + more
+at_most a b now old more least most = omega (arith, least, most)
+
+pub calls_at_most : {layout : Layout} {size : ℕ} {s : State} → MayHold layout size s → (now old more : ℕ) → now ≤ old + snapshot_calls s + more
+    → now ≤ old + (sector_count (body_limit layout) + 3) + more
+calls_at_most {layout} {s = s} held now old more = at_most (snapshot_calls s) (sector_count (body_limit layout) + 3) now old more (most_of_snapshot held)
 
 module _ {past : Past} {sectors : ℕ} {layout : Layout} {slot : Slot} {generation number next size : ℕ} {s : State} (held : MayHold layout size s)
     (k : Keeps past sectors layout slot generation number next s) where

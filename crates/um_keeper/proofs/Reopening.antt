@@ -12,23 +12,22 @@ use Rattle.um_model.specs.Machine.{State, Input, Run, rests, goes}
 use Rattle.um_model.specs.Servable.{IsServable}
 use Rattle.um_model.specs.InputSpellings.{input_at, FitInput}
 use Rattle.um_model.specs.StateSpellings.{state_at, state_spelling, FitState}
-use Rattle.um_model.specs.Stands.{contents_of, inputs_of, IsStoreOf}
+use Rattle.um_model.specs.Stands.{inputs_of, IsStoreOf}
 use Rattle.um_model.specs.Store.{store_name, store_format, superblock, body_limit, log_start, log_end, store_sectors, filled, other, part_count, placed, records_of, sectors_of, GoesOn, EitherSnapshot}
 use Rattle.um_model.specs.Store as sectors
 use Rattle.um_model.specs.declared.layout.Layout.{Layout}
 use Rattle.um_model.specs.declared.layout.Slot.{Slot}
-use Rattle.um_model.proofs.DiskLaws.{started, weaker, followed, during_sync, image_synced, at_end}
+use Rattle.um_model.proofs.DiskLaws.{weaker, followed, during_sync, image_synced}
 use Rattle.um_model.proofs.ImageLaws.{newest_some, newest_none, records_are, only_records}
 use Rattle.um_model.proofs.InputSpellingsLaws.{canonical_input}
 use Rattle.um_model.proofs.StateSpellingsLaws.{canonical_state}
 use Rattle.um_model.proofs.StandsLaws.{ComesTo, store_of, newest_told, records_told, contents_are, state_back, ends_of, anew, one_layout, still_state, bound, held}
 use Rattle.um_model.proofs.StoreLaws.{superblock_name}
 use Rattle.byteorder.specs.Endian.{big_number}
-use Rattle.um_model.proofs.WholeLaws.{step_fits, spelled_room}
 use Rattle.um_wire.specs.declared.refusal.Refusal.{Refusal}
 use Rattle.um_wire.specs.declared.refusal.Refusal.TheVariants.{Damaged, Device, NotFormatted, GenerationsSpent, OtherLayout}
 use Rattle.um_keeper.specs.Keeping.{Keeps}
-use Rattle.um_keeper.specs.Opening.{HasLayout, IsStart, Leads, Replays, no_more, and_then, IsNoInput, here, later, IsUnread, no_sector, no_store, other_format, no_layout, no_header, spent, no_state, no_input, later_sector, IsNextOf, IsTakenUp, IsKept, IsSomeStore, IsAsBefore}
+use Rattle.um_keeper.specs.Opening.{HasLayout, IsStart, Replays, no_more, and_then, IsNoInput, here, later, IsUnread, no_sector, no_store, other_format, no_layout, no_header, spent, no_state, no_input, later_sector, IsNextOf, IsTakenUp, IsSomeStore, IsAsBefore}
 
 -- ---- sector 0
 

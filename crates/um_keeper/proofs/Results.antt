@@ -1,5 +1,5 @@
 -- Of results.
-use Rattle.std.proofs.Common.{◌≡◌, ◌⊎◌, inr, ℕ, sym, subst}
+use Rattle.std.proofs.Common.{◌≡◌, ◌⊎◌, ◌↔◌, inl, inr, ℕ, Bool, true, false, refl, sym, subst}
 use Rattle.std.specs.Prelude.{Result, Ok, Err, OnOk, OnErr, IfOk, IfErr}
 use Rattle.std.specs.Result.{IsErrAnd}
 use Rattle.um_sector.specs.Refused.{CountsDevice}
@@ -31,3 +31,31 @@ not_device result e old new is differs same =
 pub if_ok_from : {T E : Type 0} (result : Result T E) (P Q : T → Type 0) → ((x : T) → P x → Q x) → IfOk result P → IfOk result Q
 if_ok_from (Ok x) P Q f p = f x p
 if_ok_from (Err e) P Q f p = tt
+
+-- what holds of each refusal
+pub if_err_all : {T E : Type 0} (result : Result T E) (P : E → Type 0) → ((e : E) → P e) → IfErr result P
+if_err_all (Ok x) P f = tt
+if_err_all (Err e) P f = f e
+
+-- what follows of the refusal
+pub if_err_from : {T E : Type 0} (result : Result T E) (P Q : E → Type 0) → ((e : E) → P e → Q e) → IfErr result P → IfErr result Q
+if_err_from (Ok x) P Q f p = tt
+if_err_from (Err e) P Q f p = f e p
+
+-- what follows of the second of two cases
+pub or_more : {A B C : Type 0} → (B → C) → A ⊎ B → A ⊎ C
+or_more f (inl a) = inl a
+or_more f (inr b) = inr (f b)
+
+-- the other of two cases
+pub the_other : {A B : Type 0} → ¬ A → A ⊎ B → B
+the_other not (inl a) = absurd (not a)
+the_other not (inr b) = b
+
+-- what is told exactly by a refusal isn't so at Ok
+ok_err : {T E : Type 0} {x : T} {e : E} {result : Result T E} → result ≡ Ok x → ¬ (result ≡ Err e)
+ok_err a b = cc
+
+pub not_so : {T E : Type 0} (b : Bool) (result : Result T E) (e : E) (x : T) → (b ≡ true) ↔ (result ≡ Err e) → result ≡ Ok x → b ≡ false
+not_so true result e x exactly is = absurd (ok_err is (exactly.0 refl))
+not_so false result e x exactly is = refl

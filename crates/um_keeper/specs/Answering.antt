@@ -1,7 +1,7 @@
 -- What a list of inputs is answered that are taken one behind the other, and what a crash leaves of them.
 -- No manual page has it: it is the project's own (docs/CRASH.md tells it in plain words).
 -- `Keeper::submit_all` and the running manager stand on this file.
-use Rattle.std.specs.Prelude.{◌≡◌, ◌≢◌, ◌⊎◌, ◌+◌, ◌-◌, ◌^◌, ◌++◌, ℕ, Bool, true, false, if◌then◌else◌, List, [], ◌∷◌, Result, Ok, Err}
+use Rattle.std.specs.Prelude.{◌≡◌, ◌≢◌, ◌⊎◌, ◌+◌, ◌-◌, ◌^◌, ◌≤◌, ◌++◌, ℕ, Bool, true, false, if◌then◌else◌, List, [], ◌∷◌, Result, Ok, Err}
 use Rattle.um_engine.specs.Engine.{state_before}
 use Rattle.um_engine.specs.OfStore.{is_of_store}
 use Rattle.um_engine.specs.declared.engine.Back.{Back}
@@ -41,7 +41,7 @@ pub data AreAnswered (size : ℕ) : State → List Input → List Answer → Sta
 
 -- the input, where its answer is that of a step: it was accepted, or refused for a cause of its own
 abbrev pub where_step : Answer → Input → List Input
-where_step (Ok accepted) input = input ∷ []
+where_step (Ok given) input = input ∷ []
 where_step (Err e) input = if is_turned_away e then [] else input ∷ []
 
 -- the inputs that were taken: all but those that were turned away
@@ -64,7 +64,7 @@ IsIdle s input = LacksEffect (moment_of s input.moment) s input.event
 
 -- the answer is the refusal of a step
 abbrev pub IsRefusal : Answer → Type 0
-IsRefusal (Ok accepted) = ⊥
+IsRefusal (Ok given) = ⊥
 IsRefusal (Err e) = is_turned_away e ≡ false
 
 -- nothing of these inputs is to be recorded: each has no effect in the state, or is refused
@@ -72,9 +72,9 @@ abbrev pub NeedNoRecord : State → List Input → List Answer → Type 0
 NeedNoRecord s (input ∷ inputs) (answer ∷ answers) = (IsIdle s input ⊎ IsRefusal answer) × NeedNoRecord s inputs answers
 NeedNoRecord s inputs answers = Unit {0}
 
--- an input turned away for want of a generation was so in the last one
+-- an input is turned away for want of a generation in none before the last
 abbrev pub IsSpentIn : ℕ → Answer → Type 0
-IsSpentIn generation answer = answer ≡ Err GenerationsSpent → generation ≡ 2 ^ 64 - 1
+IsSpentIn generation answer = answer ≡ Err GenerationsSpent → 2 ^ 64 - 1 ≤ generation
 
 -- the state before the steps that these ways lead back from, the last one first
 abbrev pub state_before_all : List Back → State → State

@@ -2,7 +2,7 @@
 -- No manual page has it: it is the project's own format (docs/FORMATS.md, "The store on its disk").
 -- `create` stands on this file.
 use Rattle.std.specs.Prelude.{◌≡◌, ◌⊎◌, ◌+◌, ◌<◌, ◌≤◌, ℕ, [], replicate, take, Some}
-use Rattle.um_model.specs.Disk.{Sector, Image, Past, IsImage, Images, During, sync_count}
+use Rattle.um_model.specs.Disk.{Sector, Image, Past, IsImage, During, sync_count}
 use Rattle.um_model.specs.Machine.{empty_state}
 use Rattle.um_model.specs.Stands.{contents_of, IsStoreOf}
 use Rattle.um_model.specs.Store.{sector_bytes, store_name, slot_start, log_start, log_end}

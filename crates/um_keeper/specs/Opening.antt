@@ -1,7 +1,7 @@
 -- What opening reads of a disk, and why it isn't taken up.
 -- No manual page has it: it is the project's own format (docs/FORMATS.md, "The store on its disk").
 -- `Keeper::open` stands on this file.
-use Rattle.std.specs.Prelude.{◌≡◌, ◌+◌, ◌-◌, ◌^◌, ◌<◌, ◌≤◌, ℕ, List, [], ◌∷◌, take, Option, Some, None}
+use Rattle.std.specs.Prelude.{◌≡◌, ◌+◌, ◌-◌, ◌^◌, ◌<◌, ◌≤◌, ℕ, List, [], ◌∷◌, take, Some, None}
 use Rattle.um_model.specs.Bytes.{nothing_left}
 use Rattle.um_model.specs.Disk.{Image, Past, IsImage}
 use Rattle.um_model.specs.InputSpellings.{input_at}

@@ -47,13 +47,19 @@ fn keep(backs: &mut Vec<Back>, back: Back)
     }
 }
 
+/// Lets go of an answer that nobody was given.
+fn let_one_go(answer: Result<Receipt, Refusal>) {
+    match answer {
+        Ok(receipt) => receipt.let_go(),
+        Err(_) => {}
+    }
+}
+
 /// Lets go of answers that nobody was given.
 fn let_go(answers: Vec<Result<Receipt, Refusal>>) {
     let mut rest = answers.into_iter();
     while let Some(answer) = rest.next() {
-        if let Ok(receipt) = answer {
-            receipt.let_go();
-        }
+        let_one_go(answer);
     }
     rest.destroy_empty();
 }
@@ -92,7 +98,7 @@ impl<D: Disk> Keeper<D> {
         ensures unrecorded { IfOk result (λ answer. IsRefusal answer → (disk_in self.new ≡ disk_in self.old) × (state_in self.new ≡ state_in self.old)) }
         ensures device { CountsDevice result (D.failures (disk_in self.old)) (D.failures (disk_in self.new)) }
         ensures failed { (has_failed self.new ≡ true) ↔ (result ≡ Err Refusal.Device) }
-        ensures spent { result ≡ Ok (Err Refusal.GenerationsSpent) → generation_in self.old ≡ 2 ^ 64 - 1 }
+        ensures spent { IfOk result (IsSpentIn (generation_in self.old)) }
         ensures calls { D.calls (disk_in self.new) ≤ D.calls (disk_in self.old) + (sector_count (body_limit (layout_in self.old)) + 3) + record_calls (input_of input.now) }
         ensures size { D.size (disk_in self.new) ≡ D.size (disk_in self.old) }
         ensures honest { D.honest (disk_in self.new) ≡ D.honest (disk_in self.old) }
@@ -125,10 +131,10 @@ impl<D: Disk> Keeper<D> {
         ensures ok { OnOk result (AreAnswered (size_in self.old) (state_in self.old) (map input_of inputs.now) answers.new.items (state_in self.new)) }
         ensures during { OnOk result (IsTrue (D.honest (disk_in self.old))
             → During (D.past (disk_in self.old)) (D.past (disk_in self.new))
-                (IsBegun (layout_in self.old) (state_in self.old) (taken (map input_of inputs.now) answers.new.items))) }
+            (IsBegun (layout_in self.old) (state_in self.old) (taken (map input_of inputs.now) answers.new.items))) }
         ensures lost { OnErr result (IsTrue (D.honest (disk_in self.old))
             → (some : List model.Input) × HasInOrder some (map input_of inputs.now)
-                × During (D.past (disk_in self.old)) (D.past (disk_in self.new)) (IsBegun (layout_in self.old) (state_in self.old) some)) }
+            × During (D.past (disk_in self.old)) (D.past (disk_in self.new)) (IsBegun (layout_in self.old) (state_in self.old) some)) }
         ensures back { state_before_all backs.new.items (state_in self.new) ≡ state_before_all backs.old.items (state_in self.old) }
         ensures place { IsSamePlace self.old self.new }
         ensures refused { IfErr result (λ e. e ≡ Refusal.Device) }
@@ -163,10 +169,10 @@ impl<D: Disk> Keeper<D> {
         ensures ok { IfOk result (λ answers. AreAnswered (size_in self.old) (state_in self.old) (map input_of inputs.items) answers.items (state_in self.new)) }
         ensures during { IfOk result (λ answers. IsTrue (D.honest (disk_in self.old))
             → During (D.past (disk_in self.old)) (D.past (disk_in self.new))
-                (IsBegun (layout_in self.old) (state_in self.old) (taken (map input_of inputs.items) answers.items))) }
+            (IsBegun (layout_in self.old) (state_in self.old) (taken (map input_of inputs.items) answers.items))) }
         ensures lost { OnErr result (has_failed self.old ≡ false → IsTrue (D.honest (disk_in self.old))
             → (some : List model.Input) × HasInOrder some (map input_of inputs.items)
-                × During (D.past (disk_in self.old)) (D.past (disk_in self.new)) (IsBegun (layout_in self.old) (state_in self.old) some)) }
+            × During (D.past (disk_in self.old)) (D.past (disk_in self.new)) (IsBegun (layout_in self.old) (state_in self.old) some)) }
         ensures order { IfOk result (λ answers. AreNew (state_in self.old).next (state_in self.new).next (started_numbers (all_asked answers.items))) }
         ensures stored { has_failed self.new ≡ false → IsTrue (D.honest (disk_in self.old))
             → Images (D.past (disk_in self.new)) (λ image. IsStoreOf (layout_in self.old) image (state_in self.new)) }

@@ -6,6 +6,7 @@ ghost use Rattle.um_model.specs.Store as store;
 ghost use Rattle.um_sector.specs.Refused.{CountsDevice, IsLost};
 ghost use Rattle.um_keeper.specs.Creating.{blank, WasOrIsNone, IsEmptyStore, WhileCreated, IsWiped};
 
+use crate::keeper::state_bytes;
 use std::alloc::Global;
 use um_model::{Layout, SECTOR_BYTES, Slot};
 use um_sector::{Disk, Fault, Sector, write_blank, write_run_synced};
@@ -78,8 +79,7 @@ pub fn create<D: Disk>(alloc: Global, disk: &mut D, layout: Layout) -> Result<()
     ensures honest { D.honest disk.new ≡ D.honest disk.old }
 {
     // All that takes memory comes before the first write.
-    let mut bytes = Vec::new(alloc);
-    State::empty(alloc).put(&mut bytes)?;
+    let bytes = state_bytes(alloc, &State::empty(alloc))?;
     let body = Body::new(alloc, bytes)?;
     lay(disk, layout, &body)
 }

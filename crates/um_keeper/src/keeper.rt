@@ -58,7 +58,7 @@ fn input_bytes(alloc: Global, input: &Input) -> Result<Vec<u8>, AllocError>
 }
 
 /// The bytes of a state.
-fn state_bytes(alloc: Global, state: &State) -> Result<Vec<u8>, AllocError>
+pub(crate) fn state_bytes(alloc: Global, state: &State) -> Result<Vec<u8>, AllocError>
     ensures { IfOk result (λ bytes. bytes.items ≡ state_spelling (state_of state.now)) }
 {
     let mut bytes = Vec::new(alloc);
@@ -178,7 +178,12 @@ impl<D: Disk> Keeper<D> {
     }
 
     /// Takes a planned step, with the receipt of what it answers and the way back, once its record is on the disk.
-    fn append(&mut self, input: &Input, next: Next, bytes: &[u8]) -> Result<(Receipt, Back), Refusal>
+    fn append(
+        &mut self,
+        input: &Input,
+        next: Next,
+        bytes: &[u8],
+    ) -> Result<(Receipt, Back), Refusal>
         requires working { self.old.failed ≡ false }
         requires step { IsPlanned self.old input.now next }
         requires bytes { bytes.now ≡ input_spelling (input_of input.now) }

@@ -4,7 +4,8 @@ use std::process::Abort;
 use um_keeper::{Keeper, create};
 use um_model::{Layout, Moment};
 use um_sector::{Disk, Fuse, MemDisk, Sector};
-use um_wire::Refusal;
+use um_state::State;
+use um_wire::{Canon, Refusal};
 
 /// Asserts that the value is the wanted one.
 pub fn same<T: PartialEq + Debug + Drop>(rt: &impl Abort, got: T, wanted: T) {
@@ -50,6 +51,13 @@ pub fn has_layout(rt: &impl Abort, sector: &Sector, bytes: &[u8]) {
         *place = *byte;
     }
     same(rt, *sector, wanted);
+}
+
+/// The bytes of a state.
+pub fn bytes_of(rt: &(impl AllocGlobal + Abort), state: &State) -> Vec<u8> {
+    let mut bytes = Vec::new(rt.alloc());
+    state.put(&mut bytes).expect(rt, "no memory");
+    bytes
 }
 
 /// The keeper that is opened over a disk.

@@ -4,6 +4,10 @@
 #[cfg(test)]
 mod answers;
 #[cfg(test)]
+mod inputs;
+#[cfg(test)]
+mod listing;
+#[cfg(test)]
 mod opening;
 #[cfg(test)]
 mod submitting;

@@ -1,9 +1,10 @@
 //! Stores that are made and opened: what stands there, and what is refused with which sector.
 use crate::answers::{has_layout, is_refused, opened, over, same, sector_at};
+use crate::inputs::{put, take};
 use std::process::Abort;
 use um_keeper::{Keeper, create};
 use um_model::Layout;
-use um_sector::{Disk, MemDisk, Sector};
+use um_sector::{Disk, Fuse, MemDisk, Sector};
 
 /// A disk of 641 sectors with a new store: slots of 64 sectors, a log of 512.
 fn made(rt: &(impl AllocGlobal + Abort)) -> MemDisk {
@@ -47,7 +48,7 @@ fn change(rt: &impl Abort, disk: &mut MemDisk, k: usize, at: usize, bytes: &[u8]
 /// Asserts that a disk isn't opened, and gives it back.
 fn refuses<D: Disk>(rt: &(impl AllocGlobal + Abort), disk: D, wanted: &str) -> D {
     match Keeper::open(rt.alloc(), disk) {
-        Ok(_) => rt.abort("opened"),
+        Ok(_) => rt.abort(),
         Err((refusal, disk)) => {
             is_refused::<()>(rt, Err(refusal), Some(wanted));
             disk
@@ -141,4 +142,37 @@ fn a_keeper_whose_disk_failed_is_opened_again(rt: HostRuntime) {
         0, 0x25,
     ];
     has_layout(&rt, &sector_at(&rt, &mut disk, 65), &header);
+}
+
+/// A disk whose store has one file, in its log.
+fn filed(rt: &(impl AllocGlobal + Abort)) -> MemDisk {
+    let mut keeper = over(rt, made(rt));
+    take(rt, &mut keeper, &put(rt, ""));
+    keeper.into_disk()
+}
+
+/// The number of disk calls of an open of that store.
+fn calls_of_open(rt: &(impl AllocGlobal + Abort)) -> u64 {
+    over(rt, Fuse::new(filed(rt), 0)).into_disk().calls()
+}
+
+/// What a crash leaves of an open whose last calls but so many fail.
+fn left(rt: &(impl AllocGlobal + Abort), disk: MemDisk, back: u64, pick: usize) -> MemDisk {
+    let fails = calls_of_open(rt).checked_sub(back).expect(rt, "no call");
+    let disk = refuses(rt, Fuse::new(disk, fails), "E16 Device").into_inner();
+    disk.crash(rt.alloc(), &[pick]).expect(rt, "no memory")
+}
+
+#[test]
+fn crashes_inside_an_open_add_no_state(rt: HostRuntime) {
+    // the body, its sync, the header, its sync
+    for back in 0..4 {
+        for pick in 0..2 {
+            let disk = left(&rt, filed(&rt), back, pick);
+            same(&rt, over(&rt, disk).state().tree().len(), 1);
+        }
+    }
+    // and an open that begins on what such a crash left
+    let disk = left(&rt, left(&rt, filed(&rt), 2, 1), 2, 1);
+    same(&rt, over(&rt, disk).state().tree().len(), 1);
 }

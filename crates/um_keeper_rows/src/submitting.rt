@@ -1,78 +1,14 @@
 //! Inputs that a keeper takes: what it writes of them, what a crash leaves, what it refuses.
-use crate::answers::{at, has_layout, is_refused, opened, over, same, sector_at, text};
+use crate::answers::{at, bytes_of, has_layout, is_refused, opened, over, same, sector_at};
+use crate::inputs::{AGAIN, commanded, put, put_long, put_long_at, start, starts, take, tick};
 use std::process::Abort;
-use um_keeper::{Handed, Keeper, Receipt};
-use um_model::{End, JobMode, UnitVerb};
-use um_name::UnitName;
+use um_keeper::Keeper;
+use um_model::End;
 use um_sector::{Disk, Fuse, MemDisk};
 use um_state::{Command, Event, Happening, Input};
 
 /// The first sector of the log, of slots of 64 sectors.
 const START: usize = 129;
-
-/// A service that is started again after its delay, of a tenth of a second.
-const AGAIN: &str = "[Service]\nExecStart=/bin/sleep 9\nRestart=on-failure\n";
-
-/// A command at the moment.
-fn commanded(rt: &impl Abort, micros: u64, command: Command) -> Input {
-    Input::new(at(rt, micros), Event::Commanded(command))
-}
-
-/// The input that puts a file.
-fn put_at(rt: &(impl AllocGlobal + Abort), path: &str, content: &str) -> Input {
-    let path = text(rt, path);
-    let text = text(rt, content);
-    commanded(rt, 0, Command::PutFile { path, text })
-}
-
-/// The input that puts the file `lib/a.service`.
-fn put(rt: &(impl AllocGlobal + Abort), content: &str) -> Input {
-    put_at(rt, "lib/a.service", content)
-}
-
-/// The input that puts so many bytes as a file.
-fn put_long_at(rt: &(impl AllocGlobal + Abort), path: &str, length: usize) -> Input {
-    let mut content = String::new(rt.alloc());
-    for _ in 0..length {
-        content.push('#').expect(rt, "no memory");
-    }
-    put_at(rt, path, content.as_str())
-}
-
-/// The input that puts so many bytes as the file `lib/a.service`.
-fn put_long(rt: &(impl AllocGlobal + Abort), length: usize) -> Input {
-    put_long_at(rt, "lib/a.service", length)
-}
-
-/// The input that starts `a.service`.
-fn start(rt: &(impl AllocGlobal + Abort)) -> Input {
-    let unit = UnitName::parse(rt.alloc(), "a.service").expect(rt, "no unit");
-    let verb = UnitVerb::Start;
-    let mode = JobMode::Replace;
-    commanded(rt, 0, Command::ForUnit { verb, unit, mode })
-}
-
-/// A tick at the moment.
-fn tick(rt: &impl Abort, micros: u64) -> Input {
-    Input::new(at(rt, micros), Event::Happened(Happening::Tick))
-}
-
-/// Spends a receipt, and tells how many processes it asks for.
-fn starts(mut receipt: Receipt) -> usize {
-    let mut starts = 0;
-    while let Some(handed) = receipt.next_action() {
-        if let Handed::Spawn(_) = handed {
-            starts += 1;
-        }
-    }
-    receipt.finish();
-    starts
-}
-
-/// Submits an input that is taken, and tells how many processes it asks for.
-fn take<D: Disk>(rt: &(impl AllocGlobal + Abort), keeper: &mut Keeper<D>, input: &Input) -> usize {
-    starts(keeper.submit(input).expect(rt, "not taken"))
-}
 
 /// A keeper whose service ended with code 1 at a second: four records.
 fn ended(rt: &(impl AllocGlobal + Abort)) -> Keeper<Fuse<MemDisk>> {
@@ -111,6 +47,27 @@ fn a_tick_that_restarts_is_a_record(rt: HostRuntime) {
     has_layout(&rt, &sector_at(&rt, &mut disk, START + 4), &written);
 }
 
+/// Asserts that the store is opened again in the state in which its keeper left it.
+fn is_opened_again<D: Disk + Drop>(rt: &(impl AllocGlobal + Abort), keeper: Keeper<D>) {
+    let before = bytes_of(rt, keeper.state());
+    let again = over(rt, keeper.into_disk());
+    same(
+        rt,
+        bytes_of(rt, again.state()).as_slice(),
+        before.as_slice(),
+    );
+}
+
+#[test]
+fn what_was_recorded_is_opened_again(rt: HostRuntime) {
+    let mut keeper = ended(&rt);
+    take(&rt, &mut keeper, &tick(&rt, 1_100_000));
+    is_opened_again(&rt, keeper);
+    let mut keeper = opened(&rt, 0);
+    take(&rt, &mut keeper, &put_long(&rt, 31_955));
+    is_opened_again(&rt, keeper);
+}
+
 /// The lowest bytes of the generation and the number that a sector of the log tells.
 fn record_in(rt: &impl Abort, disk: &mut impl Disk, k: usize) -> (u8, u8) {
     let sector = sector_at(rt, disk, k);
@@ -126,6 +83,8 @@ fn a_full_log_makes_a_checkpoint_first(rt: HostRuntime) {
     take(&rt, &mut keeper, &put(&rt, ""));
     let mut disk = keeper.into_disk();
     same(&rt, record_in(&rt, &mut disk, START), (3, 0));
+    let again = over(&rt, disk);
+    same(&rt, again.state().tree().len(), 1);
 }
 
 #[test]

@@ -1,11 +1,15 @@
-use Rattle.std.proofs.Common.{inl, refl}
+use Rattle.std.proofs.Common.{◌∙◌, inl, refl, ap}
 use Rattle.um_model.proofs.DiskLaws.{started}
+use Rattle.um_model.specs.StateSpellings.{state_spelling}
 use Rattle.um_keeper.specs.Creating.{unsynced}
 use Rattle.um_keeper.proofs.creating.create.Goals as goal
 
 -- nothing is written before all that takes memory
-pub returns-in_err-put-clause-during : goal.returns-in_err-put-clause-during
-returns-in_err-put-clause-during g c h = unsynced refl (started (g.D.Disk.past c.args.disk.now) _ (λ image at. inl at))
+pub returns-in_err-bytes-clause-during : goal.returns-in_err-bytes-clause-during
+returns-in_err-bytes-clause-during g c h = unsynced refl (started (g.D.Disk.past c.args.disk.now) _ (λ image at. inl at))
 
 pub returns-in_err-body-clause-during : goal.returns-in_err-body-clause-during
 returns-in_err-body-clause-during g c h = unsynced refl (started (g.D.Disk.past c.args.disk.now) _ (λ image at. inl at))
+
+pub lay-requires : goal.lay-requires
+lay-requires g c = record { empty = c.in_ok-body.ensures ∙ c.in_ok-bytes.ensures ∙ ap state_spelling c.empty.ensures }

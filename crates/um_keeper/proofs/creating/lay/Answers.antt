@@ -1,9 +1,9 @@
 use Rattle.std.proofs.Common.{◌≡◌, ◌≤◌, ◌∙◌, List, ℕ, [], ◌∷◌, ap, sym, subst, arith}
-use Rattle.std.specs.Prelude.{length, IfSome, IsTrue}
+use Rattle.std.specs.Prelude.{length, IfSome}
 use Rattle.um_model.specs.Disk.{seen, Past, Sector, Image, Images, During, IsLaid, MaybeLaid}
 use Rattle.um_model.specs.Machine.{empty_state}
 use Rattle.um_model.specs.StateSpellings.{state_spelling}
-use Rattle.um_model.specs.Store.{superblock, log_start, body_limit, HasNoHeader, IsNewest, IsFree}
+use Rattle.um_model.specs.Store.{superblock, log_start, IsNewest, IsFree}
 use Rattle.um_model.specs.declared.layout.Slot.TheVariants.{A}
 use Rattle.um_model.proofs.DiskLaws.{at_end, followed, weaker}
 use Rattle.um_keeper.specs.Creating.{blank, unsynced, NoneOrEmpty, IsEmptyStore}

@@ -1,4 +1,4 @@
-use Rattle.std.proofs.Common.{◌≡◌, ◌∙◌, ap}
+use Rattle.std.proofs.Common.{◌∙◌, ap}
 use Rattle.um_model.specs.Disk.{seen, Past}
 use Rattle.um_model.proofs.DiskLaws.{with_same}
 use Rattle.um_keeper.specs.Creating.{blank}

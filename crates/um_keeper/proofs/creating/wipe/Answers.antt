@@ -1,9 +1,8 @@
 use Rattle.std.proofs.Common.{◌≡◌, ◌+◌, ◌∙◌, ℕ, subst, arith}
-use Rattle.std.specs.Prelude.{replicate, IsTrue}
-use Rattle.um_model.specs.Disk.{seen, Past, Images, During, AfterRun, IsLaid}
-use Rattle.um_model.specs.declared.layout.Slot.TheVariants.{A, B}
-use Rattle.um_model.specs.Store.{slot_start, log_start}
-use Rattle.um_keeper.specs.Creating.{blank, IsWiped}
+use Rattle.std.specs.Prelude.{replicate}
+use Rattle.um_model.specs.Disk.{seen, IsLaid}
+use Rattle.um_model.specs.Store.{log_start}
+use Rattle.um_keeper.specs.Creating.{blank}
 use Rattle.um_keeper.proofs.Results.{ok_from}
 use Rattle.um_keeper.proofs.Wiping.{zero_first, zero_goes_on, wiped}
 use Rattle.um_keeper.proofs.creating.wipe.Goals as goal

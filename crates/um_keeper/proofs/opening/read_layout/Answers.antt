@@ -1,8 +1,8 @@
-use Rattle.std.proofs.Common.{◌≡◌, ◌<◌, inl, inr, sym, ◌∙◌, ap, arith}
+use Rattle.std.proofs.Common.{◌<◌, inr, sym, ◌∙◌, arith}
 use Rattle.um_model.specs.Disk.{seen}
-use Rattle.um_model.specs.Store.{store_sectors, superblock}
+use Rattle.um_model.specs.Store.{store_sectors}
 use Rattle.um_model.proofs.StoreLaws.{superblock_name}
-use Rattle.um_keeper.specs.Opening.{IsUnread, no_sector}
+use Rattle.um_keeper.specs.Opening.{no_sector}
 use Rattle.um_keeper.proofs.Results.{err_same}
 use Rattle.um_keeper.proofs.Reopening.{first_unread, too_small}
 use Rattle.um_keeper.proofs.opening.read_layout.Goals as goal

@@ -1,8 +1,7 @@
-use Rattle.std.proofs.Common.{◌≡◌, ◌∙◌, sym, ap, subst}
+use Rattle.std.proofs.Common.{◌≡◌, ◌∙◌, sym, subst}
 use Rattle.um_engine.specs.Engine.{state_in}
-use Rattle.um_model.specs.Disk.{seen, Past, IsSettled, During, after, synced}
+use Rattle.um_model.specs.Disk.{seen, IsSettled, During, after, synced}
 use Rattle.um_model.proofs.DiskLaws.{settled_after_sync}
-use Rattle.um_keeper.specs.Keeping.{Keeps}
 use Rattle.um_keeper.specs.Opening.{IsAsBefore, IsTakenUp}
 use Rattle.um_keeper.proofs.Results.{if_ok_from}
 use Rattle.um_keeper.proofs.Reopening.{synced_before, goes_on_before, next_of}

@@ -1,18 +1,15 @@
-use Rattle.std.proofs.Common.{◌≡◌, ◌≤◌, ◌∙◌, ◌+◌, ℕ, List, [], length, Ok, sym, ap, subst, refl, arith}
+use Rattle.std.proofs.Common.{◌≤◌, ◌∙◌, ℕ, List, [], length, Ok, sym, ap, subst, arith}
 use Rattle.std.specs.Prelude.{IfSome}
 use Rattle.um_engine.specs.Engine.{state_in}
 use Rattle.um_state.specs.View.{state_of}
-use Rattle.um_model.specs.Disk.{seen, Images}
-use Rattle.um_model.specs.Machine.{State}
+use Rattle.um_model.specs.Disk.{Images}
 use Rattle.um_model.specs.Servable.{IsServable}
 use Rattle.um_model.specs.Store.{body_limit, log_start, GoesOn}
 use Rattle.um_model.specs.Store as sectors
-use Rattle.um_model.specs.StateSpellings.{state_spelling}
 use Rattle.um_model.proofs.DiskLaws.{started}
 use Rattle.um_model.proofs.WholeLaws.{spelled_room}
 use Rattle.um_keeper.specs.Keeping.{Keeps}
-use Rattle.um_keeper.specs.Opening.{IsAsBefore, IsTakenUp}
-use Rattle.um_keeper.proofs.Reopening.{renewed, spelled, keeps_anew, as_before, taken_store}
+use Rattle.um_keeper.proofs.Reopening.{renewed, spelled, keeps_anew, taken_store}
 use Rattle.um_keeper.proofs.opening.renew.Goals as goal
 
 pub returns-in_err-put-clause-during : goal.returns-in_err-put-clause-during

@@ -7,13 +7,10 @@ use Rattle.um_log.specs.Reading.{bytes_of, places_of}
 use Rattle.um_log.specs.declared.read.Record.{Record}
 use Rattle.um_model.specs.Bytes.{nothing_left}
 use Rattle.um_model.specs.InputSpellings.{input_at, FitInput}
-use Rattle.um_model.specs.Machine.{State}
 use Rattle.um_model.specs.Servable.{IsServable}
-use Rattle.um_model.specs.StateSpellings.{FitState}
 use Rattle.um_model.proofs.ServableLaws.{step_servable}
 use Rattle.um_model.proofs.WholeLaws.{step_fits}
 use Rattle.um_state.specs.View.{input_of}
-use Rattle.um_wire.specs.declared.refusal.Refusal.{Refusal}
 use Rattle.um_wire.specs.declared.refusal.Refusal.TheVariants.{Damaged}
 use Rattle.um_keeper.specs.Opening.{Leads, Replays, no_more, and_then, IsNoInput, here, later}
 use Rattle.um_keeper.proofs.opening.replay.Goals as goal

@@ -6,9 +6,8 @@ use Rattle.um_model.specs.Disk.{seen}
 use Rattle.um_model.specs.Store as sectors
 use Rattle.um_wire.specs.declared.refusal.Refusal.TheVariants.{Damaged, NoMemory, Device}
 use Rattle.um_model.specs.Disk.{Past}
-use Rattle.um_model.specs.declared.layout.Slot.{Slot}
 use Rattle.um_log.specs.Later.{FindsLater, IsFirstLater}
-use Rattle.um_keeper.specs.Opening.{HasLayout, IsStart, Replays, IsNoInput, IsUnread, IsTakenUp, IsKept, spent, no_state, no_input, later_sector}
+use Rattle.um_keeper.specs.Opening.{IsStart, Replays, IsNoInput, IsUnread, IsKept, spent, no_state, no_input, later_sector}
 use Rattle.um_keeper.proofs.Results.{err_same, not_device}
 use Rattle.um_keeper.proofs.Reopening.{newest_there, header_unread, record_no_device, records_there, taken_up}
 use Rattle.um_keeper.proofs.opening.take_up.Goals as goal

@@ -1,4 +1,4 @@
-use Rattle.std.proofs.Common.{◌∙◌, Ok, length, refl, sym, ap, subst, arith}
+use Rattle.std.proofs.Common.{◌∙◌, Ok, length, refl, sym, ap, arith}
 use Rattle.um_model.specs.StateSpellings.{state_spelling}
 use Rattle.um_keeper.proofs.Kept.{at_some, still, spelled_fits, during_kept, kept_behind, told_behind, held_at, keeps_at}
 use Rattle.um_keeper.proofs.keeper.Keeper.checkpoint.Goals as goal

@@ -1,6 +1,10 @@
-use Rattle.std.proofs.Common.{◌∙◌, [], ◌∷◌, length, sym, ap, arith}
+use Rattle.std.proofs.Common.{◌∙◌, [], ◌∷◌, length, inr, sym, ap, subst, arith}
+use Rattle.um_model.specs.Disk.{During}
+use Rattle.um_model.specs.Stands.{IsStoreOf}
 use Rattle.um_state.specs.View.{input_of}
-use Rattle.um_keeper.proofs.Kept.{not_begun, record_short, room_begun, room_and_record}
+use Rattle.um_keeper.proofs.Results.{if_err_all, if_err_from, or_more}
+use Rattle.um_keeper.specs.Keepers.{disk_in, layout_in, state_in}
+use Rattle.um_keeper.proofs.Kept.{still, not_begun, record_short, room_begun, room_and_record}
 use Rattle.um_keeper.proofs.keeper.Keeper.record.Goals as goal
 
 pub returns-in_err-bytes-clause-during : goal.returns-in_err-bytes-clause-during
@@ -17,3 +21,13 @@ returns-in_err-make_room-clause-during g c h = room_begun (input_of c.args.input
 pub returns-clause-during : goal.returns-clause-during
 returns-clause-during g c h = room_and_record (input_of c.args.input.now ∷ []) (c.make_room.ensures.during h) (c.append.ensures.during (c.make_room.ensures.honest ∙ h))
     c.make_room.ensures.place.layout c.make_room.ensures.state
+
+pub returns-in_err-bytes-clause-kept : goal.returns-in_err-bytes-clause-kept
+returns-in_err-bytes-clause-kept g c = if_err_all c.from_residual.result _ (λ e. inr (λ h. still (c.args.self.now.kept c.requires.working h)))
+
+pub returns-clause-kept : goal.returns-clause-kept
+returns-clause-kept g c =
+    let past = g.D.Disk.past in
+    let first = c.args.self.now in
+    if_err_from c.append.result _ _ (λ e. or_more (λ same h.
+    subst (λ d. During (past (disk_in first)) (past d) (λ image. IsStoreOf (layout_in first) image (state_in first))) (sym same) (c.make_room.ensures.during h))) c.append.ensures.unwritten

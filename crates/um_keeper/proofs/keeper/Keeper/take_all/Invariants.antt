@@ -1,4 +1,4 @@
-use Rattle.std.proofs.Common.{◌≡◌, ◌+◌, ◌≤◌, ◌++◌, List, length, drop, map, true, false, IsTrue, vec_len, vec_capacity}
+use Rattle.std.proofs.Common.{◌≡◌, ◌+◌, ◌≤◌, ◌++◌, List, length, drop, map, false, IsTrue, vec_len, vec_capacity}
 use Rattle.std.specs.List.{AllByRecursion}
 use Rattle.um_model.specs.Disk.{Past, During}
 use Rattle.um_model.specs.Lives.{HasInOrder}
@@ -7,7 +7,7 @@ use Rattle.um_state.specs.View.{input_of}
 use Rattle.um_keeper.specs.Answering.{Answer, AreAnswered, taken, IsIdle, NeedNoRecord, IsSpentIn, most_calls, state_before_all}
 use Rattle.um_keeper.specs.Keepers.{disk_in, state_in, size_in, layout_in, generation_in, has_failed}
 use Rattle.um_keeper.specs.Keeping.{IsBegun}
-use Rattle.um_keeper.proofs.batch.Keeper.take_all.Given as goal
+use Rattle.um_keeper.proofs.keeper.Keeper.take_all.Given as goal
 
 abbrev pub invariant-loop-input : goal.invariant-loop-input
 invariant-loop-input g l =
