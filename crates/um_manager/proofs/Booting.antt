@@ -1,11 +1,15 @@
 -- What a boot does to the live processes, and that it asks for nothing.
-use Rattle.std.proofs.Common.{◌≡◌, ◌≢◌, ◌⊎◌, ◌==◌, ◌<◌, ℕ, List, [], ◌∷◌, Bool, true, false, ⊤, length, refl, sym, ap, subst, ◌∙◌, inl, inr, arith}
+use Rattle.std.proofs.Common.{◌≡◌, ◌≢◌, ◌⊎◌, ◌==◌, ◌<◌, ℕ, List, [], ◌∷◌, Bool, true, false, length, None, unwrap_or, refl, sym, ap, subst, ◌∙◌, inl, inr, arith}
+use Rattle.std.specs.Bool.{⊤}
 use Rattle.std.specs.FinMap as map
 use Rattle.std.specs.List.{AllPairs}
 use Rattle.um_model.specs.Machine.{State, Input, Reply, Event, Commanded, Happened, Happening, ProcessEnded, ProcessExecuted, Tick, Booted, HasNoEffect, is_over, isnt_awaited, is_idle, is_known, Follows, ends, reports, ticks, boots, Takes, obeys, meets, HasNoRoom, Step, refused, crowded_out, idle, taken}
 use Rattle.um_model.specs.Service.{Action, ByUnit}
 use Rattle.um_model.specs.StateSpellings.{numbers_in}
 use Rattle.um_model.specs.declared.service.UnitState.{UnitState}
+use Rattle.um_model.specs.Service.{dead_unit}
+use Rattle.um_model.specs.Transitions.{HasNumber}
+use Rattle.um_manager.proofs.Numbered.{over_dead}
 use Rattle.um_manager.specs.Fates.{happens_at}
 use Rattle.um_manager.specs.Live.{has, is_live, AreLive}
 
@@ -49,8 +53,12 @@ stepped size s t input reply actions (taken takes light) = takes_boot _ s _ _ ac
 pub asks_nothing : (size moment : ℕ) (boot : List ℕ) (s t : State) (reply : Reply) (actions : List Action) → Step size s (happens_at moment (Booted boot)) reply actions t → actions ≡ []
 asks_nothing size moment boot s t reply actions step = (stepped size s t (happens_at moment (Booted boot)) reply actions step).0
 
+none_held : (n : ℕ) (unit : List ℕ) → HasNumber (unwrap_or None dead_unit) n → ⊥
+none_held n unit (inl e) = cc
+none_held n unit (inr e) = cc
+
 none_live : (n : ℕ) → has n [] ≡ is_live map.empty n
-none_live n = refl
+none_live n = sym (over_dead map.empty n (λ unit h. none_held n unit (subst (λ o. HasNumber (unwrap_or o dead_unit) n) (map.get-empty unit) h)))
 
 -- the numbers that are live after a boot: those from before where it is the same, else none
 pub live_after : (size moment : ℕ) (boot : List ℕ) (s t : State) (reply : Reply) (actions : List Action) (live : List ℕ) → Step size s (happens_at moment (Booted boot)) reply actions t

@@ -1,5 +1,5 @@
 -- What the parts of a turn come to together.
-use Rattle.std.proofs.Common.{◌≡◌, ◌≢◌, ℕ, List, [], ◌∷◌, ◌++◌, length, drop, map, flat_map, Bool, IsTrue, Option, Result, Err, cond, refl, sym, ap, subst, ◌∙◌}
+use Rattle.std.proofs.Common.{◌≡◌, ◌≢◌, ℕ, List, [], ◌∷◌, ◌++◌, length, drop, map, flat_map, Bool, IsTrue, Option, Result, Ok, Err, cond, refl, sym, ap, subst, ◌∙◌}
 use Rattle.um_keeper.specs.Answering.{Answer, all_asked}
 use Rattle.um_model.specs.Children.{Call}
 use Rattle.um_model.specs.Machine.{State, Input, Reply}
@@ -72,3 +72,6 @@ turned size store moment pieces a b live past roomy cut heard ticked inputs coun
           (rest_is ∙ ap (λ n. drop n replies) (counted ∙ ap length first) ∙ ap (λ l. drop (length (firsts moment told.told)) l) sub.replies_are)
           (subst (λ l. PaysAll b.state l rest cut b.sessions) took.due_are pays);
     }
+
+pub not_refused : (r : Result Unit Refusal) (u : Unit) (e : Refusal) → r ≡ Ok u → r ≡ Err e → ⊥
+not_refused r u e p q = cc

@@ -95,6 +95,7 @@ fn adopt<D: Disk, C: Children>(
     requires room { 2 * length live.now ≤ vec_capacity inputs }
     requires replies_room { 2 * length live.now ≤ vec_capacity replies.old }
     ensures memory { IfErr result (λ e. e ≢ Refusal.NoMemory) }
+    ensures size { size_in keeper.new ≡ size_in keeper.old }
     ensures adopts { Adopts (size_in keeper.old) result (C.honest children.old) (C.whole children.new) moment (state_in keeper.old) (state_in keeper.new) (C.past children.old) (C.past children.new) marks.new }
     ensures whole { IsTrue (C.whole children.new) → IsTrue (C.whole children.old) }
     ensures honest { C.honest children.new ≡ C.honest children.old }
@@ -146,6 +147,7 @@ pub fn begin<D: Disk, C: Children>(
 ) -> Result<Held, Refusal>
     ensures opened { IfOk result (λ held. IsTrue (C.honest children.old) → IsTrue (C.whole children.new) → Opened (size_in keeper.old) moment boot (state_in keeper.old) (state_in keeper.new) (C.past children.old) (C.past children.new) held.marks) }
     ensures sessions { IfOk result (λ held. length held.sessions.items ≡ 64) }
+    ensures size { size_in keeper.new ≡ size_in keeper.old }
     ensures early { IfErr result (λ e. e ≡ Refusal.NoMemory → (state_in keeper.new ≡ state_in keeper.old) × (C.past children.new ≡ C.past children.old)) }
     ensures whole { IsTrue (C.whole children.new) → IsTrue (C.whole children.old) }
     ensures honest { C.honest children.new ≡ C.honest children.old }

@@ -1,8 +1,8 @@
-use Rattle.std.proofs.Common.{◌∙◌, ◌++◌, ◌∷◌, [], take, ap, sym, subst, rules}
+use Rattle.std.proofs.Common.{◌∙◌, ◌++◌, ◌∷◌, [], take, ap, refl, sym, subst, rules}
 use Rattle.std.specs.Bool.{IsTrue}
 use Rattle.std.proofs.lemmas.List.{take_more}
 use Rattle.um_manager.specs.Opening.{Signalled}
-use Rattle.um_manager.proofs.Adoption.{signalled_more}
+use Rattle.um_manager.proofs.Adoption.{signalled_none, signalled_more}
 use Rattle.um_manager.proofs.opening.signal_all.Goals as goal
 
 pub loop-number-preserved : goal.loop-number-preserved
@@ -12,4 +12,11 @@ loop-number-preserved g c = record {
       (signalled_more _ _ _ _ _ _ _ _ (c.loop-number.invariant.done h (c.signal_one.ensures.whole w)) (c.signal_one.ensures.signals (subst IsTrue (sym c.loop-number.invariant.honest) h) w));
   whole = search rules;
   honest = search rules;
+}
+
+pub loop-number-init : goal.loop-number-init
+loop-number-init g c = record {
+  done = λ h w. signalled_none c.args.units.now c.args.sub c.args.signal (g.C.Children.past c.args.children.now);
+  whole = λ w. w;
+  honest = refl;
 }
