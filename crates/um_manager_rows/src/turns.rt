@@ -1,22 +1,20 @@
-//! Turns over children whose processes end, fail to start, or are absent.
-use crate::answers::{InMemory, at, frame, opened, piece, pieces, puts_out, same, step};
-use std::process::Abort;
-use um_children::{Call, Children, End, FakeChildren, ProcessNumber};
-use um_manager::{Manager, Piece};
+//! Turns over children whose processes end, fail to start, or are absent; and connections that close.
+use crate::answers::{at, frame, opened, pieces, puts_out, step};
+use um_manager::{Piece, Step};
 
 #[test]
 fn a_piece_that_is_closed_ends_its_session(rt: HostRuntime) {
     let mut manager = opened(&rt);
     let whole = frame(&rt, "{\"verb\":\"daemon-reload\"}");
-    let (front, rest) = whole.as_slice().split_at(9);
+    let (front, _) = whole.as_slice().split_at(9);
     let steps = [
         step(&rt, 0, 0, front),
-        um_manager::Step {
+        Step {
             moment: at(&rt, 0),
             pieces: pieces(&rt, 0, Piece::Closed),
         },
         step(&rt, 0, 0, whole.as_slice()),
-        step(&rt, 0, 1, rest),
+        step(&rt, 0, 1, front),
     ];
     manager.run_script(&steps).expect(&rt, "refused");
     puts_out(&rt, &mut manager, 0, &["{\"ok\":true}"], "first");
