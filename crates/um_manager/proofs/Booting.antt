@@ -30,9 +30,9 @@ known t s happening (is_idle still) = tt
 known t s happening (is_known same) = (refl, inl (same, refl))
 
 followed : (t : ℕ) (s u : State) (happening : Happening) (actions : List Action) → ¬ HasNoEffect t s happening → Follows t s happening actions u → IsBooted s (Happened happening) actions (record u { clock = t })
-followed t s u happening actions effect (ends unit process happens settles) = tt
-followed t s u happening actions effect (reports unit process awaits happens settles) = tt
-followed t s u happening actions effect (ticks timers are fires) = tt
+followed t s u happening actions effect (ends unit process met settles) = tt
+followed t s u happening actions effect (reports unit process awaits met settles) = tt
+followed t s u happening actions effect (ticks timers are due) = tt
 followed t s u happening actions effect boots = (refl, inr ((λ same. effect (is_known same)), refl))
 
 takes_boot : (t : ℕ) (s u : State) (event : Event) (actions : List Action) → Takes t s event actions u → IsBooted s event actions (record u { clock = t })
@@ -58,7 +58,7 @@ none_held n unit (inl e) = cc
 none_held n unit (inr e) = cc
 
 none_live : (n : ℕ) → has n [] ≡ is_live map.empty n
-none_live n = sym (over_dead map.empty n (λ unit h. none_held n unit (subst (λ o. HasNumber (unwrap_or o dead_unit) n) (map.get-empty unit) h)))
+none_live n = sym (over_dead map.empty n (λ unit h. none_held n unit (subst (λ o. HasNumber (unwrap_or o dead_unit) n) (map.get-empty _ unit) h)))
 
 -- the numbers that are live after a boot: those from before where it is the same, else none
 pub live_after : (size moment : ℕ) (boot : List ℕ) (s t : State) (reply : Reply) (actions : List Action) (live : List ℕ) → Step size s (happens_at moment (Booted boot)) reply actions t

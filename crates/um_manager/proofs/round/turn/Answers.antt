@@ -15,8 +15,6 @@ use Rattle.um_manager.proofs.round.turn.Goals as goal
 pub returns-clause-turns : goal.returns-clause-turns
 returns-clause-turns g c =
     let live = subst (λ units. AreLive units c.in-Ok.live.items) (c.units.ensures ∙ ap (λ s. s.units) c.state.ensures) c.in-Ok.ensures in
-    let hears = λ h w. subst (λ xs. Heard unexecuted c.args.moment (λ n. has n c.args.marks.now) (g.C.Children.past c.args.children.now) (g.C.Children.past c.hear.new.children) c.in-Ok.live.items xs (inputs_in c.hear.new.inputs.items)) (ap inputs_in c.in-Ok-with_capacity.ensures.items)
-        (subst (λ l. Heard unexecuted c.args.moment (λ n. has n c.args.marks.now) (g.C.Children.past c.args.children.now) (g.C.Children.past c.hear.new.children) l (inputs_in c.in-Ok-with_capacity.inputs.items) (inputs_in c.hear.new.inputs.items)) c.as_slice.ensures.value (c.hear.ensures.hears h w)) in
     let tick = c.put.ensures.items ∙ ap (λ i. inputs_in c.hear.new.inputs.items ++ i ∷ []) c.tick.ensures in
     let count : c.len-firsts.result ≡ length c.put.new.inputs.items = search rules in
     let took = subst (λ l. Took c.args.moment c.room_all.new.sessions c.args.pieces.now c.take_all.new.sessions (inputs_in c.put.new.inputs.items) (inputs_in c.take_all.new.inputs.items) l c.take_all.new.owed.items) c.in-Ok-with_capacity-3.ensures.items c.take_all.ensures.took in
@@ -31,4 +29,7 @@ returns-clause-turns g c =
       (inputs_in c.hear.new.inputs.items) (inputs_in c.put.new.inputs.items) (inputs_in c.take_all.new.inputs.items) c.len-firsts.result c.take_all.new.owed.items
       (map reply_of c.submit-submitted.new.replies.items) (map reply_of c.behind-replies.result.now)
       (g.C.Children.honest c.args.children.now) (g.C.Children.honest c.hear.new.children) (g.C.Children.whole c.submit-submitted.new.children) (g.C.Children.whole c.hear.new.children)
-      live c.room_all.ensures.same hears tick (count ∙ sym (length-map c.put.new.inputs.items input_of)) took submits rest pays c.hear.ensures.honest c.submit-submitted.ensures.whole honest (subst IsTrue c.forget_ended.ensures.whole whole)))
+      live c.room_all.ensures.same
+      (λ h w. subst (λ xs. Heard unexecuted c.args.moment (λ n. has n c.args.marks.now) (g.C.Children.past c.args.children.now) (g.C.Children.past c.hear.new.children) c.in-Ok.live.items xs (inputs_in c.hear.new.inputs.items)) (ap inputs_in c.in-Ok-with_capacity.ensures.items)
+        (subst (λ l. Heard unexecuted c.args.moment (λ n. has n c.args.marks.now) (g.C.Children.past c.args.children.now) (g.C.Children.past c.hear.new.children) l (inputs_in c.in-Ok-with_capacity.inputs.items) (inputs_in c.hear.new.inputs.items)) c.as_slice.ensures.value (c.hear.ensures.hears h w)))
+      tick (count ∙ sym (length-map c.put.new.inputs.items input_of)) took submits rest pays c.hear.ensures.honest c.submit-submitted.ensures.whole honest (subst IsTrue c.forget_ended.ensures.whole whole)))
