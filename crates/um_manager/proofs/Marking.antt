@@ -47,10 +47,10 @@ pub distinct_push : (n : ℕ) (ns : List ℕ) → are_distinct ns ≡ true → h
 distinct_push n [] d e = refl
 distinct_push n (m ∷ ns) d e =
     both_true (list_all (λ k. not (k == m)) (ns ++ n ∷ [])) (are_distinct (ns ++ n ∷ []))
-      (list_all-append (λ k. not (k == m)) ns (n ∷ []) ∙ both_true (list_all (λ k. not (k == m)) ns) (list_all (λ k. not (k == m)) (n ∷ []))
-        (left_true (list_all (λ k. not (k == m)) ns) (are_distinct ns) d)
-        (both_true (not (n == m)) true (ap not (eqb_swap n m (n == m) (m == n) refl refl ∙ or_left (m == n) (has n ns) e)) refl))
-      (distinct_push n ns (right_true (list_all (λ k. not (k == m)) ns) (are_distinct ns) d) (or_right (m == n) (has n ns) e))
+    (list_all-append (λ k. not (k == m)) ns (n ∷ []) ∙ both_true (list_all (λ k. not (k == m)) ns) (list_all (λ k. not (k == m)) (n ∷ []))
+    (left_true (list_all (λ k. not (k == m)) ns) (are_distinct ns) d)
+    (both_true (not (n == m)) true (ap not (eqb_swap n m (n == m) (m == n) refl refl ∙ or_left (m == n) (has n ns) e)) refl))
+    (distinct_push n ns (right_true (list_all (λ k. not (k == m)) ns) (are_distinct ns) d) (or_right (m == n) (has n ns) e))
 
 all_filter : (test keep : ℕ → Bool) (ns : List ℕ) → list_all test ns ≡ true → list_all test (filter keep ns) ≡ true
 all_filter test keep [] h = refl

@@ -126,15 +126,15 @@ not_true false e = refl
 pub over_dead : (units : ByUnit UnitState) (n : ℕ) → IsOver units n → is_live units n ≡ false
 over_dead units n over =
     not_true (has n (numbers_in units)) (sym (all_lack n (map.entries units)) ∙ from_each (lacks n) units (λ k v at.
-      ap not (false_of (has n (live_numbers v)) (λ h. over k (subst (λ u. HasNumber u n) (sym (at_unit units k v at)) (has_unit n v h))))))
+    ap not (false_of (has n (live_numbers v)) (λ h. over k (subst (λ u. HasNumber u n) (sym (at_unit units k v at)) (has_unit n v h))))))
 
 -- a unit has it
 pub process_live : (units : ByUnit UnitState) (n : ℕ) (unit : List ℕ) → HasNumber (state_of_unit units unit) n → is_live units n ≡ true
 process_live units n unit h =
     let at = held_as units unit (map.get units unit) refl (held_with_number units unit n h) in
     not_false' (has n (numbers_in units)) (λ none.
-      let all = all_lack n (map.entries units) ∙ ap not none in
-      true≢false (sym (at_each (lacks n) units all unit (state_of_unit units unit) at) ∙ ap not (unit_has n (state_of_unit units unit) h)))
+    let all = all_lack n (map.entries units) ∙ ap not none in
+    true≢false (sym (at_each (lacks n) units all unit (state_of_unit units unit) at) ∙ ap not (unit_has n (state_of_unit units unit) h)))
   where
     not_false' : (b : Bool) → (b ≡ false → ⊥) → b ≡ true
     not_false' true h = refl
@@ -162,7 +162,6 @@ pub named_live : (units : ByUnit UnitState) (n : ℕ) → has n (flat_map (λ un
 named_live units n = all_agree units n (map.entries units) (from_each (agrees units n) units (λ k v at. same_is (has n (by_name units k)) (has n (live_numbers v)) (ap (λ u. has n (live_numbers u)) (at_unit units k v at))))
 
 -- ---- none twice
-
 
 has_from : (n k : ℕ) (ns : List ℕ) → has n (dedup_from (λ a b. a == b) k ns) ≡ ((k == n) || has n ns)
 has_from n k [] = refl

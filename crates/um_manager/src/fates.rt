@@ -61,13 +61,7 @@ fn put_end(inputs: &mut Vec<Input>, moment: Moment, number: ProcessNumber, end: 
 }
 
 /// Notes the inputs of a fate.
-fn put_fate(
-    inputs: &mut Vec<Input>,
-    moment: Moment,
-    number: ProcessNumber,
-    fate: Fate,
-    absent: End,
-)
+fn put_fate(inputs: &mut Vec<Input>, moment: Moment, number: ProcessNumber, fate: Fate, absent: End)
     requires { vec_len inputs.old + 2 ≤ vec_capacity inputs.old }
     ensures items { inputs_in inputs.new.items ≡ inputs_in inputs.old.items ++ inputs_of_fate absent moment number fate }
     ensures len { vec_len inputs.new ≤ vec_len inputs.old + 2 }

@@ -27,10 +27,7 @@ pub fn is_in(units: &Units, sub: SubState, number: ProcessNumber) -> bool
 }
 
 /// Adds the numbers of the unit's live processes behind the others.
-fn push_numbers(
-    numbers: &mut Vec<ProcessNumber>,
-    unit: UnitState,
-) -> Result<(), AllocError>
+fn push_numbers(numbers: &mut Vec<ProcessNumber>, unit: UnitState) -> Result<(), AllocError>
     ensures { OnOk result (numbers.new.items ≡ numbers.old.items ++ live_numbers_of unit) }
 {
     if let Some(number) = unit.main {

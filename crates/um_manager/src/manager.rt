@@ -61,11 +61,13 @@ impl<D: Disk, C: Children> Manager<D, C> {
             Err((refusal, disk)) => return Err((refusal, disk, children)),
         };
         match begin(alloc, &mut keeper, &mut children, boot, moment) {
-            Ok(Held {
-                marks,
-                sessions,
-                adopted,
-            }) => Ok(Manager {
+            Ok(
+                Held {
+                    marks,
+                    sessions,
+                    adopted,
+                },
+            ) => Ok(Manager {
                 alloc,
                 keeper,
                 children,
@@ -152,7 +154,9 @@ impl<D: Disk, C: Children> Manager<D, C> {
         ensures children { result.1 ≡ self.children }
     {
         let Manager {
-            keeper, children, ..
+            keeper,
+            children,
+            ..
         } = self;
         (keeper.into_disk(), children)
     }

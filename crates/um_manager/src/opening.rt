@@ -110,11 +110,7 @@ fn adopt<D: Disk, C: Children>(
 }
 
 /// Offers the boot, which asks for nothing.
-fn offer_boot<D: Disk>(
-    keeper: &mut Keeper<D>,
-    boot: BootId,
-    moment: Moment,
-) -> Result<(), Refusal>
+fn offer_boot<D: Disk>(keeper: &mut Keeper<D>, boot: BootId, moment: Moment) -> Result<(), Refusal>
     ensures booted { OnOk result ((reply : model.Reply) × Step (size_in keeper.old) (state_in keeper.old) (happens_at moment (Booted boot)) reply [] (state_in keeper.new)) }
     ensures state { OnErr result (state_in keeper.new ≡ state_in keeper.old) }
     ensures size { size_in keeper.new ≡ size_in keeper.old }
@@ -159,7 +155,15 @@ pub fn begin<D: Disk, C: Children>(
     let mut replies = Vec::with_capacity(alloc, 2 * live.len())?;
     offer_boot(keeper, boot, moment)?;
     let live = live.as_slice();
-    adopt(keeper, children, &mut marks, live, moment, inputs, &mut replies)?;
+    adopt(
+        keeper,
+        children,
+        &mut marks,
+        live,
+        moment,
+        inputs,
+        &mut replies,
+    )?;
     Ok(Held {
         marks,
         sessions,

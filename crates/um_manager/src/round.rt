@@ -87,7 +87,14 @@ pub fn turn<D: Disk, C: Children>(
     if room_all(sessions, pieces).is_err() {
         return Err(Refusal::NoMemory);
     }
-    hear(children, live.as_slice(), marks, UNEXECUTED, moment, &mut inputs);
+    hear(
+        children,
+        live.as_slice(),
+        marks,
+        UNEXECUTED,
+        moment,
+        &mut inputs,
+    );
     put(&mut inputs, tick(moment));
     let firsts = inputs.len();
     take_all(alloc, sessions, pieces, moment, &mut inputs, &mut owed);

@@ -40,7 +40,15 @@ pub fn run<D: Disk, C: Children>(
 {
     for step in steps {
         let pieces = step.pieces.as_slice();
-        turn(alloc, keeper, children, marks, sessions, step.moment, pieces)?;
+        turn(
+            alloc,
+            keeper,
+            children,
+            marks,
+            sessions,
+            step.moment,
+            pieces,
+        )?;
     }
     Ok(())
 }

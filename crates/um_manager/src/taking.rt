@@ -59,11 +59,7 @@ pub fn room_all(sessions: &mut [Session], pieces: &[Piece]) -> Result<(), AllocE
 }
 
 /// Takes a piece, and the request of the first whole frame.
-fn cut_one(
-    alloc: Global,
-    session: &mut Session,
-    piece: &Piece,
-) -> Option<Result<Request, Refusal>>
+fn cut_one(alloc: Global, session: &mut Session, piece: &Piece) -> Option<Result<Request, Refusal>>
     requires { piece_len piece.now ≤ session.old.room }
     ensures { Cuts session.old piece.now result session.new }
 {

@@ -12,6 +12,8 @@ finish-requires g c =
 
 pub returns-clause-booted : goal.returns-clause-booted
 returns-clause-booted g c =
-    let step = subst (λ i. Step (size_in c.args.keeper.now) (state_in c.args.keeper.now) i c.in_ok-receipt.receipt.0 c.in_ok-receipt.receipt.1 (state_in c.submit.new.self)) c.new.ensures c.in_ok-receipt.ensures.ok in
-    (c.in_ok-receipt.receipt.0, subst (λ actions. Step (size_in c.args.keeper.now) (state_in c.args.keeper.now) (happens_at c.args.moment (Booted c.args.boot)) c.in_ok-receipt.receipt.0 actions (state_in c.submit.new.self))
-    (asks_nothing (size_in c.args.keeper.now) c.args.moment c.args.boot (state_in c.args.keeper.now) (state_in c.submit.new.self) c.in_ok-receipt.receipt.0 c.in_ok-receipt.receipt.1 step) step)
+    let step = subst (λ i. Step (size_in c.args.keeper.now) (state_in c.args.keeper.now) i c.in_ok-receipt.receipt.0 c.in_ok-receipt.receipt.1 (state_in c.submit.new.self)) c.new.ensures c.in_ok-receipt.ensures.ok in (
+      c.in_ok-receipt.receipt.0,
+      subst (λ actions. Step (size_in c.args.keeper.now) (state_in c.args.keeper.now) (happens_at c.args.moment (Booted c.args.boot)) c.in_ok-receipt.receipt.0 actions (state_in c.submit.new.self))
+          (asks_nothing (size_in c.args.keeper.now) c.args.moment c.args.boot (state_in c.args.keeper.now) (state_in c.submit.new.self) c.in_ok-receipt.receipt.0 c.in_ok-receipt.receipt.1 step) step,
+    )
