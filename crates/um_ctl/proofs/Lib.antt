@@ -1,0 +1,4 @@
+pub mod Details
+pub mod Members
+pub mod Taken
+pub mod Texts

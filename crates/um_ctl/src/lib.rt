@@ -1,0 +1,16 @@
+//! The client of a manager: words become the frame of exactly the request that they mean, and a reply what is printed and the exit status.
+#![tactic(auto)]
+
+mod connection;
+mod fault;
+mod reply;
+mod text;
+mod words;
+mod writing;
+
+pub use connection::{ask, exchange, prepare};
+pub use fault::CtlFault;
+pub use reply::{Told, told_of};
+pub use text::{FileText, read_text};
+pub use words::Words;
+pub use writing::request;
