@@ -90,6 +90,8 @@ fn each_call_is_noted_and_forgetting_is_none(rt: HostRuntime) {
     else {
         rt.abort()
     };
-    let words: [&str; 2] = [words[0].as_str(), words[1].as_str()];
-    assert_eq!(rt; words, ["/bin/sleep", "9"]);
+    let [program, seconds] = words.as_slice() else {
+        rt.abort()
+    };
+    assert_eq!(rt; [program.as_str(), seconds.as_str()], ["/bin/sleep", "9"]);
 }
