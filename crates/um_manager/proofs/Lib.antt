@@ -1,0 +1,9 @@
+pub mod Adoption
+pub mod Booting
+pub mod Carrying
+pub mod Gathering
+pub mod Hearing
+pub mod Marking
+pub mod Numbered
+pub mod Offering
+pub mod Turning

@@ -1,0 +1,9 @@
+pub mod Connections
+pub mod Fates
+pub mod Live
+pub mod Opening
+pub mod Orders
+pub mod Replies
+pub mod Scripts
+pub mod Stores
+pub mod Turns
