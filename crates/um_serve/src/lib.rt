@@ -2,7 +2,10 @@
 #![tactic(auto)]
 
 mod backlog;
+mod blanks;
+mod pace;
 mod rounds;
+mod waiting;
 
-pub use backlog::Backlog;
+pub use pace::Pace;
 pub use rounds::{Rounds, serve};

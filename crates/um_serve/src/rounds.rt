@@ -1,10 +1,11 @@
 //! Rounds over a gate.
 
 use crate::backlog::Backlog;
+use crate::blanks::{Blank, fill_up, take_one};
 use std::alloc::{AllocError, Global};
 use um_children::Children;
-use um_gate::{CONNECTIONS, Gate, MOST_BYTES, Moments, Open};
-use um_manager::{Connection, Manager, Piece, Pieces};
+use um_gate::{CONNECTIONS, Gate, Moments, Open};
+use um_manager::{Connection, Manager, Output, Piece, Pieces};
 use um_sector::Disk;
 use um_wire::Refusal;
 
@@ -17,8 +18,29 @@ pub struct Rounds {
     /// A turn found no memory, and took the pieces not: they are offered again, before anything is read.
     is_owed: bool,
     backlog: Backlog,
-    /// The last round read or wrote something, or took a client.
+    blanks: Vec<Blank>,
+    /// The last round read something, or put something out.
     was_busy: bool,
+}
+
+/// The connection of this number.
+fn connection(number: usize) -> Connection {
+    match Connection::new(number) {
+        Some(connection) => connection,
+        None => unreachable!(),
+    }
+}
+
+/// What came of a connection.
+fn listen_one<G: Gate>(gate: &mut G, number: usize, blank: Blank) -> Piece {
+    let Blank { mut bytes } = blank;
+    if !gate.read(number, &mut bytes) {
+        Piece::Closed
+    } else if bytes.is_empty() {
+        Piece::Nothing
+    } else {
+        Piece::Bytes(bytes)
+    }
 }
 
 impl Rounds {
@@ -29,58 +51,62 @@ impl Rounds {
             pieces: Pieces::none(alloc)?,
             is_owed: false,
             backlog: Backlog::new(alloc)?,
+            blanks: Vec::new(alloc),
             was_busy: false,
         })
     }
 
-    /// Whether the last round read something: then another one may have more to do.
+    /// Whether the last round read something or put something out: then another one may have more to do.
     pub fn was_busy(&self) -> bool {
         self.was_busy
     }
 
-    /// What came of a connection.
-    fn listen_one<G: Gate>(&mut self, gate: &mut G, number: usize) -> Piece {
-        // Where there is no memory for the bytes they stay where they are.
-        let Ok(mut bytes) = Vec::with_capacity(self.alloc, MOST_BYTES) else {
-            return Piece::Nothing;
+    /// Reads a connection, where it is open.
+    fn hear<G: Gate>(&mut self, gate: &mut G, number: usize, is_open: bool) {
+        let piece = if is_open {
+            listen_one(gate, number, take_one(&mut self.blanks))
+        } else {
+            Piece::Nothing
         };
-        if !gate.read(number, &mut bytes) {
-            self.backlog.forget(number);
-            self.was_busy = true;
-            return Piece::Closed;
+        match piece {
+            Piece::Nothing => {}
+            Piece::Bytes(_) => self.was_busy = true,
+            Piece::Closed => {
+                self.was_busy = true;
+                self.backlog.forget(number);
+            }
         }
-        if bytes.is_empty() {
-            return Piece::Nothing;
-        }
-        self.was_busy = true;
-        Piece::Bytes(bytes)
+        self.pieces.set(connection(number), piece);
     }
 
     /// Reads each open connection, ascending.
     fn listen<G: Gate>(&mut self, gate: &mut G, open: Open) {
         for number in 0..CONNECTIONS {
-            let piece = if open.is_open[number] {
-                self.listen_one(gate, number)
-            } else {
-                Piece::Nothing
-            };
-            if let Some(connection) = Connection::new(number) {
-                self.pieces.set(connection, piece);
-            }
+            self.hear(gate, number, open.is_open[number]);
         }
     }
 
     /// Puts out what the manager has for each connection, as far as it is taken.
     fn speak<D: Disk, C: Children, G: Gate>(&mut self, manager: &mut Manager<D, C>, gate: &mut G) {
         for number in 0..CONNECTIONS {
-            if let Some(connection) = Connection::new(number) {
-                let output = manager.output(connection);
-                if !output.bytes.is_empty() || output.failed {
-                    self.backlog.put(gate, number, output.bytes, output.failed);
-                }
+            let Output { bytes, failed } = manager.output(connection(number));
+            if !bytes.is_empty() {
+                self.was_busy = true;
             }
+            self.backlog.put(gate, number, bytes, failed);
         }
-        self.backlog.hand_out(gate);
+    }
+
+    /// An accept and a read of each open connection, unless a turn is owed.
+    fn gather<G: Gate>(&mut self, gate: &mut G) -> Result<(), AllocError> {
+        self.was_busy = false;
+        if self.is_owed {
+            return Ok(());
+        }
+        fill_up(self.alloc, &mut self.blanks)?;
+        let open = gate.accept();
+        self.listen(gate, open);
+        Ok(())
     }
 
     /// An accept, a read of each open connection, a turn, and the writes. After a turn that found no memory for itself nothing is
@@ -91,10 +117,8 @@ impl Rounds {
         gate: &mut G,
         clock: &mut M,
     ) -> Result<(), Refusal> {
-        self.was_busy = false;
-        if !self.is_owed {
-            let open = gate.accept();
-            self.listen(gate, open);
+        if self.gather(gate).is_err() {
+            return Err(Refusal::NoMemory);
         }
         let turned = manager.turn(clock.moment(), &self.pieces);
         self.is_owed = matches!(turned, Err(Refusal::NoMemory));
@@ -107,8 +131,8 @@ impl Rounds {
 
 /// So many rounds; a refusal ends them.
 ///
-/// E15 where a turn found no memory for itself: the next call begins with that turn. E16 and E17 of the store, once the replies are
-/// handed out.
+/// E15 where a round found no memory, before anything was read, or a turn none for itself: the next call begins with that turn. E16 and
+/// E17 of the store, once the replies are handed out.
 pub fn serve<D: Disk, C: Children, G: Gate, M: Moments>(
     manager: &mut Manager<D, C>,
     gate: &mut G,
