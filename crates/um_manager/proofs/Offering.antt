@@ -98,6 +98,11 @@ failed_denied r e fault.Reopen q is of answers exactly = (
 
 -- ---- the disk
 
+-- the same of what is told of both
+pub or_ap : {A X Y : Type 0} {x y : X} (f : X → Y) → A ⊎ (x ≡ y) → A ⊎ (f x ≡ f y)
+or_ap f (inl a) = inl a
+or_ap f (inr same) = inr (ap f same)
+
 -- where the disk is to be trusted, it does what it answers and no call on it failed
 pub trusts : (honest failed : Bool) → IsTrue (is_trusted honest failed) → IsTrue honest × (failed ≡ false)
 trusts honest true t = absurd t

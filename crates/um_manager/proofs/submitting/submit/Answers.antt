@@ -8,7 +8,7 @@ use Rattle.um_manager.specs.Fates.{inputs_in}
 use Rattle.um_manager.specs.Places.{place_in}
 use Rattle.um_manager.specs.Replies.{reply_in}
 use Rattle.um_manager.specs.Stores.{refusal_of}
-use Rattle.um_manager.proofs.Offering.{length-answers, trusts, working_on, failed_answered, failed_denied, submitted_all, denied_held, denied_all}
+use Rattle.um_manager.proofs.Offering.{length-answers, trusts, working_on, failed_answered, failed_denied, submitted_all, denied_held, denied_all, or_ap}
 use Rattle.um_manager.proofs.submitting.submit.Goals as goal
 
 pub carry_all-requires : goal.carry_all-requires
@@ -58,7 +58,7 @@ returns-in-Err-clause-submits g c =
     (λ wants t.
         let (h, w) = trusts honest (has_failed old) t in
         denied_held c.submit_all.result c.in-Err.refusal f (has_failed old) (has_failed new) place (state_in old) (state_in new) (D.past (disk_in old)) (D.past (disk_in new))
-        c.in-Err.was c.fault_of-fault.ensures (ap D.past c.in-Err.ensures.unwritten) c.submit_all.ensures.failed c.in-Err.ensures.state w (λ working. c.submit_all.ensures.stored working h) wants)
+        c.in-Err.was c.fault_of-fault.ensures (or_ap D.past c.in-Err.ensures.unwritten) c.submit_all.ensures.failed c.in-Err.ensures.state w (λ working. c.submit_all.ensures.stored working h) wants)
 
 pub returns-in-Err-clause-failed : goal.returns-in-Err-clause-failed
 returns-in-Err-clause-failed g c =
