@@ -9,10 +9,28 @@ use Rattle.um_model.specs.Replies.{reply_text}
 use Rattle.um_model.specs.Sessions.{Session, Deed, Room, Feed, Read, Put, GiveUp, Does, Lives, rests, goes_on, Reads, waits, takes, refuses, bytes_fed, readings, IsReadOf}
 use Rattle.um_model.specs.Sessions as model
 use Rattle.um_model.proofs.SessionsLaws.{session_reads}
-use Rattle.um_model.specs.Refusals.{Refused, bad_request}
-use Rattle.um_model.specs.Requests.{Request, Asked, OfEvent, OfQuery, OfActions}
-use Rattle.law.specs.Stand.{Place, Now, Turned, Runs, Step, Piece, Nothing, Bytes, Closed, Gives, IsGiven, request_of, refused_of, query_of, reply_of, TellsOf, reply_in, inputs_asked, inputs_of_asked, due_of, due_of_asked, firsts, Answer, Due, DNothing, DInput, DQuery, DReply, TakesPiece, Cuts, CutsAll, Puts, replies_due, replies_owed, Pays, PaysAll}
-use Rattle.law.specs.Clients.{Exchange, place_of, IsReplyAsked, IsReplyOf, IsExchange, AllTurned, no_turn, and_turn, AreExchanges, bytes_in, bytes_of, StaysOpen, AreGiven, frame_in, ArePut, HasItsOwn}
+use Rattle.um_keeper.specs.Answering.{Answer}
+use Rattle.um_proto.specs.View.{request_of}
+use Rattle.um_proto.specs.declared.request.Asked.{Asked}
+use Rattle.um_proto.specs.declared.request.Asked.TheVariants as asks
+use Rattle.um_proto.specs.declared.request.Request.{Request}
+use Rattle.um_session.specs.Readings.{IsGiven}
+use Rattle.um_state.specs.View.{query_of, reply_of}
+use Rattle.um_wire.specs.Gives.{Gives}
+use Rattle.um_wire.specs.Refusal.{refused_of}
+use Rattle.um_wire.specs.declared.refusal.Refusal.{Refusal}
+use Rattle.um_wire.specs.declared.refusal.Refusal.TheVariants as refusal
+use Rattle.um_manager.specs.Clients.{Exchange, place_of, IsReplyAsked, IsReplyOf, IsExchange, AllTurned, no_turn, and_turn, AreExchanges, bytes_in, bytes_of, StaysOpen, AreGiven, frame_in, ArePut, HasItsOwn}
+use Rattle.um_manager.specs.Connections.{TakesPiece, Cuts, CutsAll, inputs_of_asked, inputs_asked, due_of_asked, due_of}
+use Rattle.um_manager.specs.Places.{Place}
+use Rattle.um_manager.specs.Replies.{reply_in, Puts, TellsOf, replies_due, replies_owed, Pays, PaysAll}
+use Rattle.um_manager.specs.Scripts.{Runs}
+use Rattle.um_manager.specs.Turns.{Now, firsts, Turned}
+use Rattle.um_manager.specs.declared.pieces.Piece.{Piece}
+use Rattle.um_manager.specs.declared.pieces.Piece.TheVariants.{Nothing, Bytes, Closed}
+use Rattle.um_manager.specs.declared.script.Step.{Step}
+use Rattle.um_manager.specs.declared.taking.Due.{Due}
+use Rattle.um_manager.specs.declared.taking.Due.TheVariants as owes
 
 none_some : {X : Type 0} {x : X} → None ≡ Some x → ⊥
 none_some e = cc
@@ -27,8 +45,8 @@ some_same {x = x} e = ap (or_else x) e
 -- ---- of all connections that of one
 
 -- what is taken of the connection
-cuts_at : (ts : List Session) (ps : List Piece) (rs : List (Option (Result Request Refused))) (us : List Session) (k : ℕ) (t : Session) → CutsAll ts ps rs us → slice_get ts k ≡ Some t
-    → (p : Piece) × (r : Option (Result Request Refused)) × (u : Session) × (slice_get ps k ≡ Some p) × (slice_get rs k ≡ Some r) × (slice_get us k ≡ Some u) × Cuts t p r u
+cuts_at : (ts : List Session) (ps : List Piece) (rs : List (Option (Result Request Refusal))) (us : List Session) (k : ℕ) (t : Session) → CutsAll ts ps rs us → slice_get ts k ≡ Some t
+    → (p : Piece) × (r : Option (Result Request Refusal)) × (u : Session) × (slice_get ps k ≡ Some p) × (slice_get rs k ≡ Some r) × (slice_get us k ≡ Some u) × Cuts t p r u
 cuts_at [] ps rs us k x cuts is = absurd (none_some is)
 cuts_at (t ∷ ts) [] [] [] k x cuts is = absurd cuts
 cuts_at (t ∷ ts) [] [] (u ∷ us) k x cuts is = absurd cuts
@@ -42,10 +60,10 @@ cuts_at (t ∷ ts) (p ∷ ps) (r ∷ rs) (u ∷ us) (suc k) x cuts is = cuts_at 
 
 -- what is paid, where the first reply at hand is the one at this place
 abbrev PaidAt : State → Due → List Reply → ℕ → Session → Session → Type 0
-PaidAt s DNothing replies at t u = u ≡ t
-PaidAt s DInput replies at t u = (reply : Reply) × (slice_get replies at ≡ Some reply) × Puts t reply u
-PaidAt s (DQuery query) replies at t u = (reply : Reply) × TellsOf s (query_of query) reply × Puts t reply u
-PaidAt s (DReply reply) replies at t u = Puts t (reply_of reply) u
+PaidAt s owes.Nothing replies at t u = u ≡ t
+PaidAt s owes.Input replies at t u = (reply : Reply) × (slice_get replies at ≡ Some reply) × Puts t reply u
+PaidAt s (owes.Query query) replies at t u = (reply : Reply) × TellsOf s (query_of query) reply × Puts t reply u
+PaidAt s (owes.Reply reply) replies at t u = Puts t (reply_of reply) u
 
 zero_more : (n : ℕ) → 0 + n ≡ n
 zero_more n = omega arith
@@ -57,22 +75,22 @@ suc_more : (m n : ℕ) → suc m + n ≡ suc (m + n)
 suc_more m n = omega arith
 
 paid_first : (s : State) (d : Due) (replies left : List Reply) (t u : Session) → Pays s d replies left t u → PaidAt s d replies 0 t u
-paid_first s DNothing replies left t u pays = pays.1
-paid_first s DInput replies left t u pays = (pays.0, ap (λ l. slice_get l 0) pays.1, pays.2)
-paid_first s (DQuery query) replies left t u pays = pays.1
-paid_first s (DReply reply) replies left t u pays = pays.1
+paid_first s owes.Nothing replies left t u pays = pays.1
+paid_first s owes.Input replies left t u pays = (pays.0, ap (λ l. slice_get l 0) pays.1, pays.2)
+paid_first s (owes.Query query) replies left t u pays = pays.1
+paid_first s (owes.Reply reply) replies left t u pays = pays.1
 
 at_left : (s : State) (d : Due) (replies left : List Reply) (t u : Session) (n : ℕ) → Pays s d replies left t u → slice_get left n ≡ slice_get replies (replies_due d + n)
-at_left s DNothing replies left t u n pays = ap (λ l. slice_get l n) pays.0 ∙ ap (slice_get replies) (sym (zero_more n))
-at_left s DInput replies left t u n pays = ap (slice_get (pays.0 ∷ left)) (sym (one_more n)) ∙ ap (λ l. slice_get l (1 + n)) (sym pays.1)
-at_left s (DQuery query) replies left t u n pays = ap (λ l. slice_get l n) pays.0 ∙ ap (slice_get replies) (sym (zero_more n))
-at_left s (DReply reply) replies left t u n pays = ap (λ l. slice_get l n) pays.0 ∙ ap (slice_get replies) (sym (zero_more n))
+at_left s owes.Nothing replies left t u n pays = ap (λ l. slice_get l n) pays.0 ∙ ap (slice_get replies) (sym (zero_more n))
+at_left s owes.Input replies left t u n pays = ap (slice_get (pays.0 ∷ left)) (sym (one_more n)) ∙ ap (λ l. slice_get l (1 + n)) (sym pays.1)
+at_left s (owes.Query query) replies left t u n pays = ap (λ l. slice_get l n) pays.0 ∙ ap (slice_get replies) (sym (zero_more n))
+at_left s (owes.Reply reply) replies left t u n pays = ap (λ l. slice_get l n) pays.0 ∙ ap (slice_get replies) (sym (zero_more n))
 
 paid_later : (s : State) (d : Due) (replies left : List Reply) (m n : ℕ) (t u : Session) → slice_get left n ≡ slice_get replies m → PaidAt s d left n t u → PaidAt s d replies m t u
-paid_later s DNothing replies left m n t u same paid = paid
-paid_later s DInput replies left m n t u same paid = (paid.0, sym same ∙ paid.1, paid.2)
-paid_later s (DQuery query) replies left m n t u same paid = paid
-paid_later s (DReply reply) replies left m n t u same paid = paid
+paid_later s owes.Nothing replies left m n t u same paid = paid
+paid_later s owes.Input replies left m n t u same paid = (paid.0, sym same ∙ paid.1, paid.2)
+paid_later s (owes.Query query) replies left m n t u same paid = paid
+paid_later s (owes.Reply reply) replies left m n t u same paid = paid
 
 pays_at : (s : State) (ds : List Due) (replies : List Reply) (ts us : List Session) (k : ℕ) (d : Due) (t : Session) → PaysAll s ds replies ts us → slice_get ds k ≡ Some d
     → slice_get ts k ≡ Some t → (u : Session) × (slice_get us k ≡ Some u) × PaidAt s d replies (replies_owed (take k ds)) t u
@@ -104,17 +122,17 @@ at_mapped f (y ∷ xs) zero x is = ap (λ z. Some (f z)) (some_same is)
 at_mapped f (y ∷ xs) (suc i) x is = at_mapped f xs i x is
 
 due_asked : (moment : ℕ) (asked : Asked) → replies_due (due_of_asked asked) ≡ length (inputs_of_asked moment asked)
-due_asked moment (OfEvent event) = refl
-due_asked moment (OfQuery query) = refl
-due_asked moment OfActions = refl
+due_asked moment (asks.Event event) = refl
+due_asked moment (asks.Query query) = refl
+due_asked moment asks.Actions = refl
 
-due_inputs : (moment : ℕ) (r : Option (Result Request Refused)) → replies_due (due_of r) ≡ length (inputs_asked moment r)
+due_inputs : (moment : ℕ) (r : Option (Result Request Refusal)) → replies_due (due_of r) ≡ length (inputs_asked moment r)
 due_inputs moment None = refl
 due_inputs moment (Some (Ok request)) = due_asked moment request.asked
 due_inputs moment (Some (Err e)) = refl
 
 -- as many replies as inputs are before a connection's
-owed_inputs : (moment : ℕ) (rs : List (Option (Result Request Refused))) (k : ℕ) → replies_owed (take k (map due_of rs)) ≡ length (flat_map (inputs_asked moment) (take k rs))
+owed_inputs : (moment : ℕ) (rs : List (Option (Result Request Refusal))) (k : ℕ) → replies_owed (take k (map due_of rs)) ≡ length (flat_map (inputs_asked moment) (take k rs))
 owed_inputs moment rs zero = refl
 owed_inputs moment [] (suc k) = refl
 owed_inputs moment (r ∷ rs) (suc k) =
@@ -126,11 +144,11 @@ owed_inputs moment (r ∷ rs) (suc k) =
 reply_asked : (s : State) (answers : List Answer) (at : ℕ) (replies : List Reply) (n : ℕ) (asked : Asked) (t u : Session)
     → ((reply : Reply) → slice_get replies n ≡ Some reply → (answer : Answer) × (slice_get answers at ≡ Some answer) × (reply ≡ reply_in answer))
     → PaidAt s (due_of_asked asked) replies n t u → (reply : Reply) × IsReplyAsked s answers at asked reply × Puts t reply u
-reply_asked s answers at replies n (OfEvent event) t u finds paid = (paid.0, finds paid.0 paid.1, paid.2)
-reply_asked s answers at replies n (OfQuery query) t u finds paid = paid
-reply_asked s answers at replies n OfActions t u finds paid = (model_machine.Refusal bad_request, refl, paid)
+reply_asked s answers at replies n (asks.Event event) t u finds paid = (paid.0, finds paid.0 paid.1, paid.2)
+reply_asked s answers at replies n (asks.Query query) t u finds paid = paid
+reply_asked s answers at replies n asks.Actions t u finds paid = (model_machine.Refusal (refused_of refusal.BadRequest), refl, paid)
 
-reply_paid : (s : State) (answers : List Answer) (at : ℕ) (replies : List Reply) (n : ℕ) (request : Result Request Refused) (t u : Session)
+reply_paid : (s : State) (answers : List Answer) (at : ℕ) (replies : List Reply) (n : ℕ) (request : Result Request Refusal) (t u : Session)
     → ((reply : Reply) → slice_get replies n ≡ Some reply → (answer : Answer) × (slice_get answers at ≡ Some answer) × (reply ≡ reply_in answer))
     → PaidAt s (due_of (Some request)) replies n t u → (reply : Reply) × IsReplyOf s answers at request reply × Puts t reply u
 reply_paid s answers at replies n (Ok request) t u finds paid = reply_asked s answers at replies n request.asked t u finds paid
@@ -222,7 +240,7 @@ waited t fed c u p f r same =
     }
 
 -- a frame was read, and its reply is put out
-put_out : (t fed c u : Session) (p : Piece) (asked : model.Asked) (request : Result Request Refused) (reply : Reply) → Fed t p fed → Reads fed c (Some asked)
+put_out : (t fed c u : Session) (p : Piece) (asked : model.Asked) (request : Result Request Refusal) (reply : Reply) → Fed t p fed → Reads fed c (Some asked)
     → Gives request_of request asked → Puts c reply u → Story t u (bytes_in (Some p)) ((request, reply) ∷ [])
 put_out t fed c u p asked request reply f r given (inl does) = record {
   deeds = f.deed ∷ Read (Some asked) ∷ Put (reply_text reply) ∷ [];
@@ -250,12 +268,12 @@ some_none e = cc
 
 -- ---- one turn for one connection
 
-record ToldOf (s : State) (answers : List Answer) (at : ℕ) (found : Option (Option (Result Request Refused))) (t u : Session) (bytes : List ℕ) : Type 0 where
+record ToldOf (s : State) (answers : List Answer) (at : ℕ) (found : Option (Option (Result Request Refusal))) (t u : Session) (bytes : List ℕ) : Type 0 where
   here : List Exchange
   is : IsExchange s answers at found here
   story : Story t u bytes here
 
-told : (s : State) (answers : List Answer) (at : ℕ) (replies : List Reply) (n : ℕ) (p : Piece) (r : Option (Result Request Refused)) (asked : Option model.Asked) (t fed c u : Session)
+told : (s : State) (answers : List Answer) (at : ℕ) (replies : List Reply) (n : ℕ) (p : Piece) (r : Option (Result Request Refusal)) (asked : Option model.Asked) (t fed c u : Session)
     → ((reply : Reply) → slice_get replies n ≡ Some reply → (answer : Answer) × (slice_get answers at ≡ Some answer) × (reply ≡ reply_in answer))
     → Fed t p fed → Reads fed c asked → IsGiven r asked → PaidAt s (due_of r) replies n c u → ToldOf s answers at (Some r) t u (bytes_in (Some p))
 told s answers at replies n p None None t fed c u finds f reads given paid = record { here = []; is = refl; story = waited t fed c u p f reads paid }
