@@ -2,6 +2,7 @@ pub mod Adoption
 pub mod Booting
 pub mod Carrying
 pub mod Clients
+pub mod Crashing
 pub mod Gathering
 pub mod Hearing
 pub mod Marking
