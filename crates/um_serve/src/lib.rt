@@ -3,6 +3,7 @@
 
 mod backlog;
 mod blanks;
+mod listening;
 mod pace;
 mod rounds;
 mod waiting;

@@ -1,5 +1,8 @@
 //! What is put out for one client and not taken by it yet.
 
+ghost use Rattle.std.specs.Prelude.{◌≡◌, ◌≤◌, IsTrue, length};
+ghost use Rattle.um_serve.specs.Rounds.{heard_of};
+
 use std::alloc::{AllocError, Global};
 use std::mem;
 use um_gate::Gate;
@@ -17,6 +20,7 @@ pub struct Waiting {
     is_last: bool,
     /// The connection was given up: nothing more is written to it, until it is told to be closed.
     is_over: bool,
+    ghost taken: { at ≤ length bytes.items },
 }
 
 impl Waiting {
@@ -54,7 +58,11 @@ impl Waiting {
     }
 
     /// Gives the connection up.
-    fn give_up<G: Gate>(&mut self, gate: &mut G, number: usize) {
+    fn give_up<G: Gate>(&mut self, gate: &mut G, number: usize)
+        ensures heard { IsTrue (G.honest gate.old) → IsTrue (G.whole gate.new) → heard_of (G.past gate.new) ≡ heard_of (G.past gate.old) }
+        ensures events { IsTrue (G.whole gate.new) → IsTrue (G.whole gate.old) }
+        ensures gate { G.honest gate.new ≡ G.honest gate.old }
+    {
         gate.drop_connection(number);
         self.bytes.clear();
         self.at = 0;
@@ -62,7 +70,11 @@ impl Waiting {
     }
 
     /// Bytes come for its client; with `is_last` nothing comes behind them. Where they find no memory the connection is given up.
-    pub fn put<G: Gate>(&mut self, gate: &mut G, number: usize, bytes: Vec<u8>, is_last: bool) {
+    pub fn put<G: Gate>(&mut self, gate: &mut G, number: usize, bytes: Vec<u8>, is_last: bool)
+        ensures heard { IsTrue (G.honest gate.old) → IsTrue (G.whole gate.new) → heard_of (G.past gate.new) ≡ heard_of (G.past gate.old) }
+        ensures events { IsTrue (G.whole gate.new) → IsTrue (G.whole gate.old) }
+        ensures gate { G.honest gate.new ≡ G.honest gate.old }
+    {
         self.is_last = is_last;
         if self.is_over || bytes.is_empty() {
             return;
@@ -73,14 +85,22 @@ impl Waiting {
     }
 
     /// Hands to the gate what it takes.
-    fn write<G: Gate>(&mut self, gate: &mut G, number: usize) {
+    fn write<G: Gate>(&mut self, gate: &mut G, number: usize)
+        ensures heard { IsTrue (G.honest gate.old) → IsTrue (G.whole gate.new) → heard_of (G.past gate.new) ≡ heard_of (G.past gate.old) }
+        ensures events { IsTrue (G.whole gate.new) → IsTrue (G.whole gate.old) }
+        ensures gate { G.honest gate.new ≡ G.honest gate.old }
+    {
         if self.len() > 0 {
             self.at += gate.write(number, &self.bytes[self.at..]);
         }
     }
 
     /// Hands to the gate what it takes. A client for which too much waits then, and one for which nothing comes any more, is given up.
-    pub fn hand_out<G: Gate>(&mut self, gate: &mut G, number: usize) {
+    pub fn hand_out<G: Gate>(&mut self, gate: &mut G, number: usize)
+        ensures heard { IsTrue (G.honest gate.old) → IsTrue (G.whole gate.new) → heard_of (G.past gate.new) ≡ heard_of (G.past gate.old) }
+        ensures events { IsTrue (G.whole gate.new) → IsTrue (G.whole gate.old) }
+        ensures gate { G.honest gate.new ≡ G.honest gate.old }
+    {
         self.write(gate, number);
         if self.is_over {
             return;

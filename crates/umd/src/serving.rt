@@ -4,6 +4,7 @@ use crate::messages::{DEVICE, REFUSED};
 use crate::standing::tell_standing;
 use crate::telling::{Tally, Telling};
 use std::alloc::Global;
+use std::fmt::Display;
 use std::fs::{File, Files};
 use std::net::Net;
 use std::process::Processes;
@@ -21,6 +22,7 @@ use um_wire::Refusal;
 const PAUSE: u64 = 10;
 
 /// Why nothing is served any more, as a line on standard error, and the exit status.
+#[derive(Clone, Copy)]
 struct End {
     status: u8,
 }
@@ -64,6 +66,7 @@ fn next_deadline<C: Children>(manager: &Manager<FileDisk, C>, known: Option<u64>
 }
 
 /// What goes from one round to the next in the program.
+#[derive(Drop)]
 struct Loop<'a, R> {
     gate: SocketGate,
     clock: SystemMoments<'a, R>,

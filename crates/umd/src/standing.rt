@@ -14,7 +14,7 @@ struct Standing {
 }
 
 /// The generation of a store, and how many records stand behind its state.
-fn standing<D: Disk>(alloc: Global, disk: &mut D) -> Result<Standing, Refusal> {
+fn read_standing<D: Disk>(alloc: Global, disk: &mut D) -> Result<Standing, Refusal> {
     let mut first: Sector = [0; 512];
     disk.read(0, &mut first)?;
     let layout = read_superblock(&first)?;
@@ -28,7 +28,7 @@ fn standing<D: Disk>(alloc: Global, disk: &mut D) -> Result<Standing, Refusal> {
 
 /// Says how a store stands. Why one can't be read is told when it is opened.
 pub fn tell_standing<D: Disk, R: Eprint>(rt: &R, alloc: Global, disk: &mut D) {
-    if let Ok(standing) = standing(alloc, disk) {
+    if let Ok(standing) = read_standing(alloc, disk) {
         let Standing {
             generation,
             records,

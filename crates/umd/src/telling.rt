@@ -7,6 +7,7 @@ use um_children::{ChildFault, Children, Fate, ProcessNumber, Signal};
 use um_keeper::SpawnOrder;
 
 /// What was seen of the children since it was looked at last.
+#[derive(Drop)]
 pub struct Tally {
     /// So many fates were asked, and so many processes started.
     live: Cell<u64>,
