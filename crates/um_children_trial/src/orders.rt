@@ -9,6 +9,7 @@ use um_sector::MemDisk;
 use um_state::{Command, Event, Input};
 
 /// A keeper over a new store in memory, whose orders have the numbers from 1 on.
+#[derive(Drop)]
 pub struct Orders {
     alloc: Global,
     keeper: Keeper<MemDisk>,
