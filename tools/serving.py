@@ -115,10 +115,10 @@ class Server:
 
     def run(self, *words, **how):
         """A call of the program, with what it wrote."""
-        how = {"stdin": subprocess.DEVNULL, "timeout": SECONDS, **({"stdin": None} if "input" in how else {}), **how}
-        if how["stdin"] is None:
-            del how["stdin"]
-        return subprocess.run([self.program, *words], stdout=subprocess.PIPE, stderr=subprocess.PIPE, text=True, errors="replace", **how)
+        if "input" not in how:
+            how["stdin"] = subprocess.DEVNULL
+        how = {"text": True, "errors": "replace", "timeout": SECONDS, **how}
+        return subprocess.run([self.program, *words], stdout=subprocess.PIPE, stderr=subprocess.PIPE, **how)
 
     def create(self, slot=1024, log=1024):
         made = self.run("create", "--slot", str(slot), "--log", str(log), self.file)
