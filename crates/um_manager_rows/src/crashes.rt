@@ -37,6 +37,12 @@ fn submit(
     keeper.submit(&Input::new(at(rt, 0), event)).map(let_go)
 }
 
+/// Submits an event that is taken, and asserts that it asks for so many actions.
+fn take(rt: &impl Abort, keeper: &mut Keeper<Fuse<MemDisk>>, event: Event, actions: usize) {
+    let count = submit(rt, keeper, event).expect(rt, "not taken");
+    same(rt, count, actions);
+}
+
 /// The command that puts a file of this text.
 fn put(rt: &(impl AllocGlobal + Abort), path: &str, text: &str) -> Event {
     let path = String::from_str(rt.alloc(), path).expect(rt, "no memory");
@@ -73,11 +79,10 @@ fn keeper(rt: &(impl AllocGlobal + Abort), fails: u64) -> Keeper<Fuse<MemDisk>> 
 fn with_order(rt: &(impl AllocGlobal + Abort), fails: u64) -> Keeper<Fuse<MemDisk>> {
     let mut keeper = keeper(rt, fails);
     let boot = Event::Happened(Happening::Booted { boot: boot(rt) });
-    same(rt, submit(rt, &mut keeper, boot), Ok(0));
-    same(rt, submit(rt, &mut keeper, put(rt, "lib/a.service", SLEEPS)), Ok(0));
-    let reload = Event::Commanded(Command::DaemonReload);
-    same(rt, submit(rt, &mut keeper, reload), Ok(0));
-    same(rt, submit(rt, &mut keeper, start(rt)), Ok(1));
+    take(rt, &mut keeper, boot, 0);
+    take(rt, &mut keeper, put(rt, "lib/a.service", SLEEPS), 0);
+    take(rt, &mut keeper, Event::Commanded(Command::DaemonReload), 0);
+    take(rt, &mut keeper, start(rt), 1);
     keeper
 }
 
@@ -89,7 +94,7 @@ fn left(rt: &(impl AllocGlobal + Abort), picks: [usize; 2]) -> MemDisk {
     let mut keeper = with_order(rt, fails);
     let text = long_text(rt);
     let torn = submit(rt, &mut keeper, put(rt, "lib/b.service", text.as_str()));
-    same(rt, torn, Err(Refusal::Device));
+    same(rt, matches!(torn, Err(Refusal::Device)), true);
     let disk = keeper.into_disk().into_inner();
     disk.crash(rt.alloc(), &picks).expect(rt, "no memory")
 }

@@ -21,7 +21,7 @@ fn is_answered_cut_at(rt: &(impl AllocGlobal + Abort), bytes: &[u8], place: usiz
     steps.push(step(rt, &bytes[..place])).expect(rt, "no memory");
     steps.push(step(rt, &bytes[place..])).expect(rt, "no memory");
     let steps = with_silent(rt, steps, 3);
-    same(rt, manager.run_script(&steps), Ok(()));
+    manager.run_script(&steps).expect(rt, "refused");
     has_output(rt, &mut manager, 0, &[DONE, DONE, DONE, RUNNING]);
     same(rt, started(rt, manager).as_slice(), [1].as_slice());
 }
@@ -42,11 +42,11 @@ fn a_query_is_answered_after_all_inputs_of_its_turn(rt: HostRuntime) {
     let mut pieces = Pieces::none(rt.alloc()).expect(&rt, "no memory");
     pieces.set(connection(&rt, 1), piece(&rt, &frames(&rt, &[SHOW, JOBS])));
     pieces.set(connection(&rt, 2), piece(&rt, &frames(&rt, &[START])));
-    same(&rt, manager.turn(at(&rt, 0), &pieces), Ok(()));
+    manager.turn(at(&rt, 0), &pieces).expect(&rt, "refused");
     has_output(&rt, &mut manager, 1, &[RUNNING]);
     has_output(&rt, &mut manager, 2, &[DONE]);
     let none = Pieces::none(rt.alloc()).expect(&rt, "no memory");
-    same(&rt, manager.turn(at(&rt, 0), &none), Ok(()));
+    manager.turn(at(&rt, 0), &none).expect(&rt, "refused");
     has_output(&rt, &mut manager, 1, &[NONE]);
     has_output(&rt, &mut manager, 2, &[]);
 }
