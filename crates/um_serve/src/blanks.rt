@@ -1,6 +1,6 @@
 //! Room for what comes.
 
-ghost use Rattle.std.specs.Prelude.{◌≡◌, ◌≤◌, ◌+◌, [], OnOk, IfOk, IfErr, vec_len, vec_capacity};
+ghost use Rattle.std.specs.Prelude.{◌≡◌, ◌≤◌, ◌+◌, [], OnOk, vec_len, vec_capacity};
 
 use std::alloc::{AllocError, Global};
 use um_gate::{CONNECTIONS, MOST_BYTES};
@@ -25,8 +25,10 @@ impl Blank {
 pub fn fill_up(alloc: Global, blanks: &mut Vec<Blank>) -> Result<(), AllocError>
     ensures { OnOk result (64 ≤ vec_len blanks.new) }
 {
-    for _ in blanks.len()..CONNECTIONS {
-        blanks.push(Blank::new(alloc)?)?;
+    for _ in 0..CONNECTIONS {
+        if blanks.len() < CONNECTIONS {
+            blanks.push(Blank::new(alloc)?)?;
+        }
     }
     Ok(())
 }

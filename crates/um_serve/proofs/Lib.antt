@@ -1,0 +1,2 @@
+mod Reads
+mod Serving
