@@ -1,25 +1,14 @@
--- Why nothing was told, by the step that failed.
-use Rattle.std.proofs.Common.{ℕ, List, Option, Vec, Global}
-use Rattle.um_ctl.specs.Prepares.{Prepares, IsUnprepared, IsUntold, IsNoReply}
+-- What was asked and told, and why nothing was told, by the step that failed.
+use Rattle.std.proofs.Common.{◌≡◌, ℕ, List, Option, Vec, Global, Result, Ok, Err, IfOk, IfErr, sym, subst}
+use Rattle.um_ctl.specs.Prepares.{Prepares, IsAsked, IsUnprepared, IsUntold, IsNoReply, TellsReply}
 use Rattle.um_ctl.specs.View.{fault_of}
 use Rattle.um_ctl.specs.declared.fault.CtlFault.{CtlFault}
 use Rattle.um_ctl.specs.declared.fault.CtlFault.TheVariants.{Usage, TooLarge, NoText, NoConnection, Input, Read, Write, NoReply, NoMemory}
+use Rattle.um_ctl.specs.declared.reply.Told.{Told}
 use Rattle.um_ctl.specs.declared.words.Words.{Words}
 use Rattle.um_model.specs.declared.requests.Verb.{Verb}
 use Rattle.um_stream.specs.declared.fault.Fault.{Fault}
 use Rattle.um_stream.specs.declared.fault.Fault.TheVariants as stream
-
--- nothing was prepared
-pub untold_before : (words : Words) (old new : Option (List ℕ)) (e : CtlFault) → IsUnprepared old new e → IsUntold words old new e
-untold_before words old new Usage h = h
-untold_before words old new TooLarge h = h
-untold_before words old new NoText h = h
-untold_before words old new (NoConnection e) h = absurd h
-untold_before words old new (Input e) h = tt
-untold_before words old new (Read e) h = absurd h
-untold_before words old new (Write e) h = absurd h
-untold_before words old new NoReply h = absurd h
-untold_before words old new NoMemory h = tt
 
 -- the connection failed
 pub untold_meanwhile : (words : Words) (old new : Option (List ℕ)) (p : Verb × Vec ℕ Global) (f : Fault) → Prepares words old new p
@@ -40,3 +29,19 @@ untold_after words old new p verb bytes (Read e) h none = absurd none
 untold_after words old new p verb bytes (Write e) h none = absurd none
 untold_after words old new p verb bytes NoReply h none = (p, h)
 untold_after words old new p verb bytes NoMemory h none = tt
+
+-- the same of what a function gives
+pub untold_by : {T : Type 0} (words : Words) (old new : Option (List ℕ)) (p : Verb × Vec ℕ Global) (f : Fault) (r : Result T CtlFault)
+    → Prepares words old new p → IfErr r (λ e. e ≡ fault_of f) → IfErr r (IsUntold words old new)
+untold_by words old new p f (Ok t) h is = tt
+untold_by words old new p f (Err e) h is = subst (IsUntold words old new) (sym is) (untold_meanwhile words old new p f h)
+
+pub untold_reply : {T : Type 0} (words : Words) (old new : Option (List ℕ)) (p : Verb × Vec ℕ Global) (verb : Verb) (bytes : List ℕ) (r : Result T CtlFault)
+    → Prepares words old new p → IfErr r (IsNoReply verb bytes) → IfErr r (IsUntold words old new)
+untold_reply words old new p verb bytes (Ok t) h none = tt
+untold_reply words old new p verb bytes (Err e) h none = untold_after words old new p verb bytes e h none
+
+pub asked : (words : Words) (old new : Option (List ℕ)) (p : Verb × Vec ℕ Global) (bytes : List ℕ) (r : Result Told CtlFault) → Prepares words old new p
+    → IfOk r (TellsReply p.0 bytes) → IfOk r (IsAsked words old new)
+asked words old new p bytes (Ok t) h told = (p, h, bytes, told)
+asked words old new p bytes (Err e) h told = tt
