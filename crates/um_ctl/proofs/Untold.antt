@@ -1,5 +1,6 @@
 -- What was asked and told, and why nothing was told, by the step that failed.
 use Rattle.std.proofs.Common.{◌≡◌, ℕ, List, Option, Vec, Global, Result, Ok, Err, IfOk, IfErr, sym, subst}
+use Rattle.std.specs.Result.{IsErrAnd}
 use Rattle.um_ctl.specs.Prepares.{Prepares, IsAsked, IsUnprepared, IsUntold, IsNoReply, TellsReply}
 use Rattle.um_ctl.specs.View.{fault_of}
 use Rattle.um_ctl.specs.declared.fault.CtlFault.{CtlFault}
@@ -32,7 +33,7 @@ untold_after words old new p verb bytes NoMemory h none = tt
 
 -- the same of what a function gives
 pub untold_by : {T : Type 0} (words : Words) (old new : Option (List ℕ)) (p : Verb × Vec ℕ Global) (f : Fault) (r : Result T CtlFault)
-    → Prepares words old new p → IfErr r (λ e. e ≡ fault_of f) → IfErr r (IsUntold words old new)
+    → Prepares words old new p → IsErrAnd r (λ e. e ≡ fault_of f) → IfErr r (IsUntold words old new)
 untold_by words old new p f (Ok t) h is = tt
 untold_by words old new p f (Err e) h is = subst (IsUntold words old new) (sym is) (untold_meanwhile words old new p f h)
 
