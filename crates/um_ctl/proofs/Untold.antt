@@ -1,7 +1,7 @@
 -- What was asked and told, and why nothing was told, by the step that failed.
 use Rattle.std.proofs.Common.{◌≡◌, ℕ, List, Option, Vec, Global, Result, Ok, Err, IfOk, IfErr, sym, subst}
 use Rattle.std.specs.Result.{IsErrAnd}
-use Rattle.um_ctl.specs.Prepares.{Prepares, IsAsked, IsUnprepared, IsUntold, IsNoReply, TellsReply}
+use Rattle.um_ctl.specs.Prepares.{Prepares, IsAsked, IsUntold, IsNoReply, TellsReply}
 use Rattle.um_ctl.specs.View.{fault_of}
 use Rattle.um_ctl.specs.declared.fault.CtlFault.{CtlFault}
 use Rattle.um_ctl.specs.declared.fault.CtlFault.TheVariants.{Usage, TooLarge, NoText, NoConnection, Input, Read, Write, NoReply, NoMemory}
