@@ -1,8 +1,7 @@
 -- What a crash leaves of turns that follow each other.
 use Rattle.std.proofs.Common.{◌≡◌, ◌∙◌, ◌++◌, ℕ, zero, suc, List, [], ◌∷◌, map, take, Bool, true, false, if◌then◌else◌, Result, Ok, Err, append_assoc, refl, sym, ap, subst}
 use Rattle.std.specs.Bool.{IsTrue}
-use Rattle.um_keeper.proofs.Batching.{none_had, had_more}
-use Rattle.um_keeper.specs.Answering.{Answer, Answered, accepted, refused, turned_away, AreAnswered, all_answered, and_next, is_turned_away, taken}
+use Rattle.um_keeper.specs.Answering.{Answer, Answered, accepted, refused, turned_away, AreAnswered, all_answered, and_next, is_turned_away, where_step, taken}
 use Rattle.um_keeper.specs.Keeping.{IsBegun}
 use Rattle.um_model.proofs.DiskLaws.{weaker}
 use Rattle.um_model.specs.Disk.{Image, Past, During}
@@ -41,10 +40,10 @@ answered_before layout s t inputs answers rest image (and_next {t = mid} {input 
 turns_before : (place : Place) (steps : List Step) (a b : Now) (turns : AllTurned place steps a b) (rest : List Offer) (image : Image) → place.size ≡ body_limit place.layout
     → MayLeave place.layout b.state rest image → MayLeave place.layout a.state (all_offers turns ++ rest) image
 turns_before place steps a b no_turn rest image on m = m
-turns_before place steps a b (and_turn {step} {steps = later} {mid = mid} turned turns) rest image on m =
-    subst (λ l. MayLeave place.layout a.state l image) (sym (append_assoc (offers (offered_in turned) turned.answers) (all_offers turns) rest))
-    (answered_before place.layout a.state mid.state (offered_in turned) turned.answers (all_offers turns ++ rest) image
-      (subst (λ n. AreAnswered n a.state (offered_in turned) turned.answers mid.state) on turned.answered)
+turns_before place steps a b (and_turn {step} {steps = later} {mid = mid} turn turns) rest image on m =
+    subst (λ l. MayLeave place.layout a.state l image) (sym (append_assoc (offers (offered_in turn) turn.answers) (all_offers turns) rest))
+    (answered_before place.layout a.state mid.state (offered_in turn) turn.answers (all_offers turns ++ rest) image
+      (subst (λ n. AreAnswered n a.state (offered_in turn) turn.answers mid.state) on turn.answered)
       (turns_before place later mid b turns rest image on m))
 
 -- ---- the turn that a crash meets
@@ -91,6 +90,18 @@ begun_left : (place : Place) (steps : List Step) (a b : Now) (turns : AllTurned 
 begun_left place steps a b turns some inputs image on order begun =
     let last = some_taken place.layout b.state begun.state some inputs begun.count image order begun.run begun.store in
     record { last = last.last; last_are = last.last_are; unanswered = last.unanswered; leaves = turns_before place steps a b turns last.last image on last.leaves }
+
+none_had : (inputs : List Input) → HasInOrder [] inputs
+none_had [] = no_others
+none_had (input ∷ inputs) = between (none_had inputs)
+
+had_where : (away : Bool) (input : Input) (some all : List Input) → HasInOrder some all → HasInOrder ((if away then [] else input ∷ []) ++ some) (input ∷ all)
+had_where true input some all had = between had
+had_where false input some all had = has had
+
+had_more : (answer : Answer) (input : Input) (some all : List Input) → HasInOrder some all → HasInOrder (where_step answer input ++ some) (input ∷ all)
+had_more (Ok given) input some all had = has had
+had_more (Err e) input some all had = had_where (is_turned_away e) input some all had
 
 taken_had : (inputs : List Input) (answers : List Answer) → HasInOrder (taken inputs answers) inputs
 taken_had [] answers = no_others

@@ -74,11 +74,11 @@ pub working_on : {T : Type 0} (r : Result T declared.Refusal) (x : T) (o n : Boo
 working_on r x o n is working failed = stays_working r o n working (no_device is) failed
 
 -- whether a call on the disk failed, told by what all inputs are answered
-pub failed_answered : {T : Type 0} (r : Result T declared.Refusal) (x : T) {o n : Bool} → r ≡ Ok x → ((n ≡ true) ↔ ((o ≡ true) ⊎ (r ≡ Err refusal.Device)))
-    → ((n ≡ true) ↔ ((o ≡ true) ⊎ (Ok tt ≡ Err refusal.Device)))
-failed_answered r x is exactly = (
+pub failed_answered : {T : Type 0} (r : Result T declared.Refusal) (x : T) (q : Result Unit declared.Refusal) {o n : Bool} → r ≡ Ok x → q ≡ Ok tt
+    → ((n ≡ true) ↔ ((o ≡ true) ⊎ (r ≡ Err refusal.Device))) → ((n ≡ true) ↔ ((o ≡ true) ⊎ (q ≡ Err refusal.Device)))
+failed_answered r x q is done exactly = (
   (λ n. elim (exactly.0 n) [ inl was ↦ inl was | inr device ↦ absurd (no_device is device) ]),
-  (λ either. elim either [ inl was ↦ exactly.1 (inl was) | inr device ↦ absurd (no_device refl device) ]),
+  (λ either. elim either [ inl was ↦ exactly.1 (inl was) | inr device ↦ absurd (no_device done device) ]),
 )
 
 pub failed_denied : {T : Type 0} (r : Result T declared.Refusal) (e : declared.Refusal) (f : StoreFault) (q : Result Unit declared.Refusal) {o n : Bool} → r ≡ Err e → e ≡ refusal_of f
@@ -105,7 +105,7 @@ or_ap f (inr same) = inr (ap f same)
 
 -- where the disk is to be trusted, it does what it answers and no call on it failed
 pub trusts : (honest failed : Bool) → IsTrue (is_trusted honest failed) → IsTrue honest × (failed ≡ false)
-trusts honest true t = absurd t
+trusts honest true t = absurd (true≢false (sym t))
 trusts honest false t = (t, refl)
 
 -- a store of the state is one of a beginning of any inputs

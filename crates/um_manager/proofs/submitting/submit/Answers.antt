@@ -1,4 +1,4 @@
-use Rattle.std.proofs.Common.{◌≡◌, ◌∙◌, ◌++◌, length, map, replicate, ap, sym, subst, rules}
+use Rattle.std.proofs.Common.{◌≡◌, ◌∙◌, ◌++◌, length, map, replicate, Ok, refl, ap, sym, subst, rules}
 use Rattle.std.proofs.lemmas.List.{length-map}
 use Rattle.um_model.specs.Machine.{Refusal}
 use Rattle.um_keeper.specs.Keepers.{disk_in, state_in, has_failed}
@@ -39,7 +39,7 @@ returns-in-Ok-clause-submits g c =
     (λ t. let (h, f) = trusts honest (has_failed old) t in c.submit_all.ensures.stored (working_on c.submit_all.result c.in-Ok.answers (has_failed old) (has_failed new) c.in-Ok.was f c.submit_all.ensures.failed) h)
 
 pub returns-in-Ok-clause-failed : goal.returns-in-Ok-clause-failed
-returns-in-Ok-clause-failed g c = failed_answered c.submit_all.result c.in-Ok.answers c.in-Ok.was c.submit_all.ensures.failed
+returns-in-Ok-clause-failed g c = failed_answered c.submit_all.result c.in-Ok.answers (Ok tt) c.in-Ok.was refl c.submit_all.ensures.failed
 
 pub returns-in-Err-clause-submits : goal.returns-in-Err-clause-submits
 returns-in-Err-clause-submits g c =
