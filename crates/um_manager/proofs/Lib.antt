@@ -1,4 +1,5 @@
 pub mod Adoption
+pub mod Anew
 pub mod Booting
 pub mod Carrying
 pub mod Clients
