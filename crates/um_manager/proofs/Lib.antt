@@ -1,5 +1,6 @@
 pub mod Adoption
 pub mod Anew
+pub mod Beginning
 pub mod Booting
 pub mod Carrying
 pub mod Clients
