@@ -2,7 +2,8 @@
 use Rattle.std.proofs.Common.{◌≡◌, ◌≢◌, ◌⊎◌, inl, inr, ◌∙◌, ◌++◌, ℕ, zero, suc, List, [], ◌∷◌, take, Bool, true, false, Result, Ok, Err, append-nil, refl, sym, ap, subst}
 use Rattle.std.specs.Bool.{IsTrue}
 use Rattle.std.specs.Prelude.{IfErr}
-use Rattle.um_keeper.specs.Answering.{taken}
+use Rattle.std.proofs.lemmas.Result.{err_from_is_err_and}
+use Rattle.std.specs.Result.{IsErrAnd}
 use Rattle.um_keeper.specs.Keeping.{IsBegun}
 use Rattle.um_keeper.specs.Opening.{IsSomeStore, IsAsBefore}
 use Rattle.um_model.proofs.DiskLaws.{weaker, followed}
@@ -23,6 +24,10 @@ use Rattle.um_manager.specs.Turns.{Now, now}
 pub if_err_all : {T E : Type 0} (result : Result T E) (P : E → Type 0) → ((e : E) → P e) → IfErr result P
 if_err_all (Ok x) P f = tt
 if_err_all (Err e) P f = f e
+
+-- what holds of the refusal that is handed on
+pub if_err_same : {T E : Type 0} (result : Result T E) (P : E → Type 0) (e : E) → IsErrAnd result (λ y. y ≡ e) → P e → IfErr result P
+if_err_same result P e is p = let (y, err, same) = err_from_is_err_and result is in subst (λ r. IfErr r P) (sym err) (subst P (sym same) p)
 
 -- the boot is refused, or never offered
 pub refuses_boot : {T : Type 0} {H W : Type 0} (result : Result T Refusal) (place : Place) (moment : ℕ) (boot : List ℕ) (s t : State) (past : List Call) (d e : Past) → t ≡ s
