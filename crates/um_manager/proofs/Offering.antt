@@ -108,6 +108,9 @@ pub trusts : (honest failed : Bool) → IsTrue (is_trusted honest failed) → Is
 trusts honest true t = absurd (true≢false (sym t))
 trusts honest false t = (t, refl)
 
+pub trusted_in : {honest sure failed : Bool} → honest ≡ sure → failed ≡ false → IsTrue sure → IsTrue (is_trusted honest failed)
+trusted_in {honest} {sure} {failed} same working is = subst (λ f. IsTrue (is_trusted honest f)) (sym working) (subst IsTrue (sym same) is)
+
 -- a store of the state is one of a beginning of any inputs
 pub none_begun : (layout : Layout) (s : State) (inputs : List Input) (image : Image) → IsStoreOf layout image s → IsBegun layout s inputs image
 none_begun layout s inputs image is = record { count = 0; state = s; run = rests; store = is }
