@@ -1,2 +1,2 @@
-mod Reads
-mod Serving
+mod BelowLaws
+mod RoundLaws

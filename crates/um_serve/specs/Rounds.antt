@@ -33,7 +33,7 @@ reads_one number (Some true) (Some piece) = read number (came_of piece) ∷ []
 reads_one number is_open piece = []
 
 -- a read of each open connection below a number, ascending
-abbrev pub reads_below : ℕ → List Bool → List Piece → List Event
+unfoldable pub reads_below : ℕ → List Bool → List Piece → List Event
 reads_below zero which pieces = []
 reads_below (suc n) which pieces = reads_below n which pieces ++ reads_one n (slice_get which n) (slice_get pieces n)
 
@@ -123,13 +123,9 @@ IsCount (Ok done) count limit = count ≡ limit
 IsCount (Err e) count limit = count ≤ limit
 
 -- what the clauses on rounds stand on: children, gate and clock that do what they tell, and whose lists are whole
-pub record Trusts (children calls gate events clock moments : Bool) : Type 0 where
-  pub children : IsTrue children
-  pub calls : IsTrue calls
-  pub gate : IsTrue gate
-  pub events : IsTrue events
-  pub clock : IsTrue clock
-  pub moments : IsTrue moments
+abbrev pub Trusts : (children calls gate events clock moments : Bool) → Type 0
+Trusts children calls gate events clock moments =
+    IsTrue children × IsTrue calls × IsTrue gate × IsTrue events × IsTrue clock × IsTrue moments
 
 abbrev pub is_want : Result Unit Refusal → Bool
 is_want (Err NoMemory) = true

@@ -53,15 +53,15 @@ fn hear<G: Gate>(gate: &mut G, number: usize, is_open: bool, blanks: &mut Vec<Bl
 }
 
 /// Reads each open connection, ascending.
-pub fn listen<G: Gate>(gate: &mut G, open: Open, blanks: &mut Vec<Blank>, pieces: &mut Pieces)
+pub fn listen<G: Gate>(gate: &mut G, accepted: Open, blanks: &mut Vec<Blank>, pieces: &mut Pieces)
     requires { 64 ≤ vec_len blanks.old }
-    ensures past { Logs (G.honest gate.old) (G.whole gate.new) (G.past gate.old) (G.past gate.new) (reads_below 64 open.is_open pieces.new) }
-    ensures only_open { OnlyOpen open.is_open pieces.new }
+    ensures past { Logs (G.honest gate.old) (G.whole gate.new) (G.past gate.old) (G.past gate.new) (reads_below 64 accepted.is_open pieces.new) }
+    ensures only_open { OnlyOpen accepted.is_open pieces.new }
     ensures whole { IsTrue (G.whole gate.new) → IsTrue (G.whole gate.old) }
     ensures honest { G.honest gate.new ≡ G.honest gate.old }
 {
     for number in 0..CONNECTIONS {
-        let piece = hear(gate, number, open.is_open[number], blanks);
+        let piece = hear(gate, number, accepted.is_open[number], blanks);
         pieces.set(connection(number), piece);
     }
 }

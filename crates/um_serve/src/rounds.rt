@@ -129,14 +129,15 @@ impl Rounds {
         ensures disk { D.honest (disk_in manager.new.keeper) ≡ D.honest (disk_in manager.old.keeper) }
         ensures failed { (has_failed manager.new.keeper ≡ true) ↔ ((has_failed manager.old.keeper ≡ true) ⊎ (result ≡ Err Refusal.Device)) }
     {
-        if self.gather(gate).is_err() {
-            return Err(Refusal::NoMemory);
+        match self.gather(gate) {
+            Ok(()) => {}
+            Err(_) => return Err(Refusal::NoMemory),
         }
         let turned = manager.turn(clock.moment(), &self.pieces);
         self.is_owed = wants_memory(&turned);
         if !self.is_owed {
             let has_spoken = speak(manager, gate, &mut self.backlog);
-            self.was_busy = self.was_busy || has_spoken;
+            self.was_busy |= has_spoken;
         }
         turned
     }

@@ -1,28 +1,19 @@
 -- One round after another.
-use Rattle.std.proofs.Common.{◌≡◌, ◌≢◌, ◌⊎◌, ◌↔◌, inl, inr, ◌∙◌, ◌++◌, ◌∷◌, [], ◌+◌, ◌≤◌, ℕ, zero, suc, List, Bool, true, false, IsTrue, Option, Some, None, Result, Ok, Err, is_ok, refl, sym, ap, subst, true≢false, append-nil, append_assoc, slice_get}
+use Rattle.std.proofs.Common.{◌≡◌, ◌≢◌, ◌⊎◌, ◌↔◌, inl, inr, ◌∙◌, ◌++◌, ◌∷◌, [], ◌+◌, ◌≤◌, ℕ, zero, suc, List, Bool, true, false, IsTrue, Option, Some, None, Result, Ok, Err, is_ok, refl, sym, ap, subst, true≢false, append-nil, length, rules, if◌then◌else◌}
 use Rattle.std.proofs.lemmas.List.Elements.{filter-append}
 use Rattle.um_gate.specs.Events.{Event, accepted}
 use Rattle.um_manager.specs.Places.{Place, place, is_trusted}
-use Rattle.um_manager.specs.Turns.{Now, Turned, Untouched}
+use Rattle.um_manager.specs.Turns.{Now, now, Turned, Turns, Untouched}
+use Rattle.um_model.specs.Children.{Call}
+use Rattle.um_model.specs.Disk.{Past}
+use Rattle.um_model.specs.Machine.{State}
+use Rattle.um_model.specs.Sessions.{Session}
 use Rattle.um_manager.specs.declared.pieces.Piece.{Piece}
 use Rattle.um_model.specs.declared.layout.Layout.{Layout}
-use Rattle.um_serve.specs.Rounds.{Round, Served, served, Hears, Gathers, IsRound, IsOwing, Stops, ServesOne, is_want, is_heard, heard_of, heard_in, reads_one, reads_below}
+use Rattle.um_serve.specs.Rounds.{Round, Served, served, Hears, Gathers, IsRound, IsOwing, Stops, ServesOne, Serves, EmptiesAll, is_want, is_heard, heard_of, reads_below}
+use Rattle.um_serve.proofs.BelowLaws.{all_heard}
 use Rattle.um_wire.specs.declared.refusal.Refusal.{Refusal}
 use Rattle.um_wire.specs.declared.refusal.Refusal.TheVariants as refusal
-
--- reads are heard
-one_heard : (n : ℕ) (is_open : Option Bool) (piece : Option Piece) → heard_of (reads_one n is_open piece) ≡ reads_one n is_open piece
-one_heard n None piece = refl
-one_heard n (Some false) piece = refl
-one_heard n (Some true) None = refl
-one_heard n (Some true) (Some piece) = refl
-
-all_heard : (n : ℕ) (which : List Bool) (pieces : List Piece) → heard_of (reads_below n which pieces) ≡ reads_below n which pieces
-all_heard zero which pieces = refl
-all_heard (suc n) which pieces =
-    let one = reads_one n (slice_get which n) (slice_get pieces n) in
-    filter-append is_heard (reads_below n which pieces) one ∙ ap (λ es. es ++ heard_of one) (all_heard n which pieces)
-    ∙ ap (λ es. reads_below n which pieces ++ es) (one_heard n (slice_get which n) (slice_get pieces n))
 
 -- what was gathered is heard, at a moment that the clock gave
 pub heard_round : (h w is_owed again : Bool) (before pieces : List Piece) (old new later : List Event) (given : List ℕ) (more : List ℕ) (moment : ℕ) (a b : Now)
@@ -93,3 +84,64 @@ pub same_failed : {r : Result Unit Refusal} {u : Unit} {o n : Bool} → r ≡ Ok
 same_failed {o = true} is failed = failed.1 (inl refl)
 same_failed {o = false} {n = false} is failed = refl
 same_failed {o = false} {n = true} is failed = elim (failed.0 refl) [ inl was ↦ sym was | inr device ↦ absurd (answered_no_device is device) ]
+
+-- ---- one round
+
+same_owed : (again : Bool) (pieces : List Piece) → again ≡ true → (if again then Some pieces else None) ≡ Some pieces
+same_owed again pieces is = ap (λ (b : Bool). if b then Some pieces else None) is
+
+none_owed : (again : Bool) (pieces : List Piece) → again ≡ false → (if again then Some pieces else None) ≡ None
+none_owed again pieces is = ap (λ (b : Bool). if b then Some pieces else None) is
+
+pub unserved : {old new : List Event} {given : List ℕ} {is_owed again : Bool} {before pieces : List Piece} {a : Now}
+    → new ≡ old → again ≡ is_owed → pieces ≡ before → served new given again pieces a ≡ served old given is_owed before a
+unserved {old} {new} {given} {is_owed} {again} {before} {pieces} {a} past owed same =
+    ap (λ es. served es given again pieces a) past ∙ ap (λ b. served old given b pieces a) owed ∙ ap (λ ps. served old given is_owed ps a) same
+
+pub same_now : {s t : State} {p q : List Call} {m n : List ℕ} {d e : Past} (us vs : List Session) → t ≡ s → q ≡ p → n ≡ m → e ≡ d
+    → now t q n vs e ≡ record (now s p m us d) { sessions = vs }
+same_now {s} {t} {p} {q} {m} {n} {d} {e} us vs state past marks disk =
+    ap (λ x. now x q n vs e) state ∙ ap (λ x. now s x n vs e) past ∙ ap (λ x. now s p x vs e) marks ∙ ap (λ x. now s p m vs x) disk
+
+-- a turn that found no memory
+pub owing_round : {h w is_owed again honest whole : Bool} {before pieces : List Piece} {old new : List Event} {given more : List ℕ} {moment : ℕ} {a b : Now}
+    → (place : Place) (result : Result Unit Refusal) → Gathers h w is_owed before pieces old new → IsTrue h → IsTrue w → more ≡ given ++ moment ∷ []
+    → Turns place result honest whole moment pieces a b → again ≡ is_want result → again ≡ true
+    → ServesOne place result (served old given is_owed before a) (served new more again pieces b)
+owing_round {h} {w} {is_owed} {again} {honest} {whole} {before} {pieces} {old} {new} {given} {more} {moment} {a} {b} place result g th tw ticks turns want is =
+    let p = heard_round h w is_owed again before pieces old new new given more moment a b g th tw refl ticks in
+    wanting place result p.0 _ _ (sym want ∙ is)
+    (record { hears = p.1; untouched = turns.0 (wanted result (sym want ∙ is)); owed = same_owed again pieces is ∙ ap Some (sym p.2) })
+
+-- a turn that was taken, and the replies that are put out
+pub done_round : {h w is_owed again honest whole : Bool} {before pieces : List Piece} {old new later : List Event} {given more : List ℕ} {moment : ℕ} {a b d : Now}
+    → (place : Place) (result : Result Unit Refusal) → Gathers h w is_owed before pieces old new → IsTrue h → IsTrue w → more ≡ given ++ moment ∷ []
+    → Turns place result honest whole moment pieces a b → again ≡ is_want result → again ≡ false → heard_of later ≡ heard_of new
+    → EmptiesAll b.sessions d.sessions → d ≡ record b { sessions = d.sessions } → IsTrue honest → IsTrue whole
+    → ServesOne place result (served old given is_owed before a) (served later more again pieces d)
+done_round {h} {w} {is_owed} {again} {honest} {whole} {before} {pieces} {old} {new} {later} {given} {more} {moment} {a} {b} {d}
+place result g th tw ticks turns want is same empties rest tc tl =
+    let p = heard_round h w is_owed again before pieces old new later given more moment a d g th tw same ticks in
+    gone place result p.0 _ _ (sym want ∙ is)
+    (λ not. record {
+      hears = p.1;
+      turn = b;
+      turned = subst (λ m. Turned place result m p.0.pieces a b) (sym p.3) (subst (λ ps. Turned place result moment ps a b) (sym p.2) (turns.1 not tc tl));
+      empties = empties;
+      rest = rest;
+      settled = none_owed again pieces is;
+    })
+
+-- ---- rounds
+
+-- a round that is answered is one
+pub round_of : (place : Place) (u : Unit) (x y : Served) → ServesOne place (Ok u) x y → ((r : Round) × IsRound place (Ok tt) r x y)
+round_of place tt x y (inl p) = absurd (true≢false (ap is_ok p.0))
+round_of place tt x y (inr (r, inl p)) = (r, p.1)
+round_of place tt x y (inr (r, inr p)) = absurd (p.refused refl)
+
+-- a round that is refused is the last
+pub last_of : (place : Place) (e : Refusal) (x y : Served) → ServesOne place (Err e) x y → ((rs : List Round) × (length rs ≤ 1) × Serves place rs (Err e) x y)
+last_of place e x y (inl p) = ([], search rules, inr p.0, p.1)
+last_of place e x y (inr (r, inl p)) = absurd (true≢false (sym (ap is_ok p.0)))
+last_of place e x y (inr (r, inr p)) = (r ∷ [], search rules, inr (refl, p))
