@@ -1,7 +1,7 @@
 -- Why no store was made, and the exit statuses of a program that makes one.
 -- No manual page has this: it is the program's own (docs/FORMATS.md, "The program").
 -- The making of stores stands on this file.
-use Rattle.std.specs.Prelude.{⊤, ◌×◌, ◌≢◌, ℕ}
+use Rattle.std.specs.Prelude.{⊤, ◌≢◌, ℕ}
 use Rattle.um_create.specs.declared.fault.CreateFault.{CreateFault}
 use Rattle.um_create.specs.declared.fault.CreateFault.TheVariants.{Exists, File, Store}
 use Rattle.um_filedisk.specs.declared.fault.FileFault.{FileFault}
