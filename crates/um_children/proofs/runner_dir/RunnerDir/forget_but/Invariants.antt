@@ -1,5 +1,5 @@
 use Rattle.std.proofs.Common.{◌≡◌}
-use Rattle.um_children.proofs.runner_dir.RunnerDir.forget_others.Given as goal
+use Rattle.um_children.proofs.runner_dir.RunnerDir.forget_but.Given as goal
 
 -- no call has failed yet
 abbrev pub invariant-loop-number : goal.invariant-loop-number
