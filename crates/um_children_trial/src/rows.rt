@@ -19,6 +19,9 @@ const FOLDER: &str = "processes";
 /// Another one, for numbers that two stores give.
 const TWICE: &str = "twice";
 
+/// A third one, for a start without a runner.
+const ALONE: &str = "alone";
+
 type Dir<'a> = RunnerDir<'a, HostRuntime>;
 
 fn number(n: u64) -> anyhow::Result<ProcessNumber> {
@@ -187,6 +190,18 @@ fn claims(rt: &HostRuntime, alloc: Global) -> anyhow::Result<()> {
     Ok(())
 }
 
+/// A start through a runner that isn't there is refused, and the number is the manager's from then on.
+fn no_runner(rt: &HostRuntime, alloc: Global) -> anyhow::Result<()> {
+    let mut children = RunnerDir::open(rt, alloc, "/nonexistent", ALONE)?;
+    let order = Orders::new(alloc)?.order("ExecStart=/bin/true")?;
+    let number = order.number();
+    let spawned = children.spawn(order);
+    let fate = children.fate(number, true)?;
+    let failures = children.failures();
+    println!(rt; "no runner: {spawned:?}, then {fate:?}; failures: {failures}")?;
+    Ok(())
+}
+
 /// A number that is forgotten leaves nothing.
 fn forgets(rt: &HostRuntime, children: &mut Dir<'_>) -> anyhow::Result<()> {
     children.forget(number(1)?)?;
@@ -262,6 +277,7 @@ pub fn rows(rt: &HostRuntime, alloc: Global) -> anyhow::Result<()> {
     ends(rt, &mut orders, &mut children)?;
     signals(rt, &mut orders, &mut children)?;
     claims(rt, alloc)?;
+    no_runner(rt, alloc)?;
     forgets(rt, &mut children)?;
     odd_files(rt, &mut children)?;
     in_memory(rt, alloc)?;
