@@ -30,10 +30,10 @@ pub if_err_same : {T E : Type 0} (result : Result T E) (P : E → Type 0) (e : E
 if_err_same result P e is p = let (y, err, same) = err_from_is_err_and result is in subst (λ r. IfErr r P) (sym err) (subst P (sym same) p)
 
 -- the boot is refused, or never offered
-pub refuses_boot : {T : Type 0} {H W : Type 0} (result : Result T Refusal) (place : Place) (moment : ℕ) (boot : List ℕ) (s t : State) (past : List Call) (d e : Past) → t ≡ s
+pub refuses_boot : {T : Type 0} (H W : Type 0) (result : Result T Refusal) (place : Place) (moment : ℕ) (boot : List ℕ) (s t : State) (past : List Call) (d e : Past) → t ≡ s
     → (IsTrue place.trusted → During d e (IsBegun place.layout s (boot_at moment boot ∷ [])))
     → IfErr result (λ x. H → W → (marks : List ℕ) × Refuses place x moment boot (now s past [] [] d) (now t past marks [] e))
-refuses_boot {H = H} {W} result place moment boot s t past d e same left =
+refuses_boot H W result place moment boot s t past d e same left =
     if_err_all result (λ x. H → W → (marks : List ℕ) × Refuses place x moment boot (now s past [] [] d) (now t past marks [] e))
     (λ x h w. ([], unbooted same refl left))
 

@@ -22,6 +22,11 @@ adopt-requires-clause-live g c =
 
 pub returns-clause-began : goal.returns-clause-began
 returns-clause-began g c = λ honest whole.
+    let booted = c.in_ok-offer_boot.ensures.booted in
+    let live = subst (λ l. AreLive (state_in c.offer_boot.new.keeper).units l) (sym c.as_slice-live.ensures.value)
+    (live_after (size_in c.args.keeper.now) c.args.moment c.args.boot (state_in c.args.keeper.now) (state_in c.offer_boot.new.keeper) booted.0 [] c.in_ok-live.live.items booted.1
+      (subst (λ s. c.args.boot ≡ s.boot → AreLive s.units c.in_ok-live.live.items) c.state.ensures c.in_ok-live.ensures.same)
+      (subst (λ s. c.args.boot ≢ s.boot → c.in_ok-live.live.items ≡ []) c.state.ensures c.in_ok-live.ensures.other)) in
     let D = g.D.Disk in
     let old = c.args.keeper.now in
     let mid = c.offer_boot.new.keeper in
@@ -40,6 +45,8 @@ returns-clause-began g c = λ honest whole.
       adopted =
           subst (λ (p : Place). Adopted p (Ok tt) c.args.moment before after) same
           (subst (λ r. Adopted there r c.args.moment before after) c.in_ok-adopt.was (c.adopt.ensures.adopts honest whole));
+      numbers = c.as_slice-live.result.now;
+      numbers_are = live;
       count_is = refl;
     }
 
@@ -47,39 +54,44 @@ pub returns-in_err-sessions-clause-refuses : goal.returns-in_err-sessions-clause
 returns-in_err-sessions-clause-refuses g c =
     let D = g.D.Disk in
     let old = c.args.keeper.now in
-    refuses_boot _ (place_in (D.honest (disk_in old)) old) c.args.moment c.args.boot (state_in old) (state_in old) (g.C.Children.past c.args.children.now) (D.past (disk_in old)) (D.past (disk_in old)) refl
+    refuses_boot _ _ _ (place_in (D.honest (disk_in old)) old) c.args.moment c.args.boot (state_in old) (state_in old) (g.C.Children.past c.args.children.now) (D.past (disk_in old)) (D.past (disk_in old)) refl
     (λ t. let (h, f) = trusts (D.honest (disk_in old)) (has_failed old) t in not_begun (boot_at c.args.moment c.args.boot ∷ []) (old.kept f h))
 
 pub returns-in_err-live-clause-refuses : goal.returns-in_err-live-clause-refuses
 returns-in_err-live-clause-refuses g c =
     let D = g.D.Disk in
     let old = c.args.keeper.now in
-    refuses_boot _ (place_in (D.honest (disk_in old)) old) c.args.moment c.args.boot (state_in old) (state_in old) (g.C.Children.past c.args.children.now) (D.past (disk_in old)) (D.past (disk_in old)) refl
+    refuses_boot _ _ _ (place_in (D.honest (disk_in old)) old) c.args.moment c.args.boot (state_in old) (state_in old) (g.C.Children.past c.args.children.now) (D.past (disk_in old)) (D.past (disk_in old)) refl
     (λ t. let (h, f) = trusts (D.honest (disk_in old)) (has_failed old) t in not_begun (boot_at c.args.moment c.args.boot ∷ []) (old.kept f h))
 
 pub returns-in_err-marks-clause-refuses : goal.returns-in_err-marks-clause-refuses
 returns-in_err-marks-clause-refuses g c =
     let D = g.D.Disk in
     let old = c.args.keeper.now in
-    refuses_boot _ (place_in (D.honest (disk_in old)) old) c.args.moment c.args.boot (state_in old) (state_in old) (g.C.Children.past c.args.children.now) (D.past (disk_in old)) (D.past (disk_in old)) refl
+    refuses_boot _ _ _ (place_in (D.honest (disk_in old)) old) c.args.moment c.args.boot (state_in old) (state_in old) (g.C.Children.past c.args.children.now) (D.past (disk_in old)) (D.past (disk_in old)) refl
     (λ t. let (h, f) = trusts (D.honest (disk_in old)) (has_failed old) t in not_begun (boot_at c.args.moment c.args.boot ∷ []) (old.kept f h))
 
 pub returns-in_err-inputs-clause-refuses : goal.returns-in_err-inputs-clause-refuses
 returns-in_err-inputs-clause-refuses g c =
     let D = g.D.Disk in
     let old = c.args.keeper.now in
-    refuses_boot _ (place_in (D.honest (disk_in old)) old) c.args.moment c.args.boot (state_in old) (state_in old) (g.C.Children.past c.args.children.now) (D.past (disk_in old)) (D.past (disk_in old)) refl
+    refuses_boot _ _ _ (place_in (D.honest (disk_in old)) old) c.args.moment c.args.boot (state_in old) (state_in old) (g.C.Children.past c.args.children.now) (D.past (disk_in old)) (D.past (disk_in old)) refl
     (λ t. let (h, f) = trusts (D.honest (disk_in old)) (has_failed old) t in not_begun (boot_at c.args.moment c.args.boot ∷ []) (old.kept f h))
 
 pub returns-in_err-replies-clause-refuses : goal.returns-in_err-replies-clause-refuses
 returns-in_err-replies-clause-refuses g c =
     let D = g.D.Disk in
     let old = c.args.keeper.now in
-    refuses_boot _ (place_in (D.honest (disk_in old)) old) c.args.moment c.args.boot (state_in old) (state_in old) (g.C.Children.past c.args.children.now) (D.past (disk_in old)) (D.past (disk_in old)) refl
+    refuses_boot _ _ _ (place_in (D.honest (disk_in old)) old) c.args.moment c.args.boot (state_in old) (state_in old) (g.C.Children.past c.args.children.now) (D.past (disk_in old)) (D.past (disk_in old)) refl
     (λ t. let (h, f) = trusts (D.honest (disk_in old)) (has_failed old) t in not_begun (boot_at c.args.moment c.args.boot ∷ []) (old.kept f h))
 
 pub returns-in_err-adopt-clause-refuses : goal.returns-in_err-adopt-clause-refuses
 returns-in_err-adopt-clause-refuses g c =
+    let booted = c.in_ok-offer_boot.ensures.booted in
+    let live = subst (λ l. AreLive (state_in c.offer_boot.new.keeper).units l) (sym c.as_slice-live.ensures.value)
+    (live_after (size_in c.args.keeper.now) c.args.moment c.args.boot (state_in c.args.keeper.now) (state_in c.offer_boot.new.keeper) booted.0 [] c.in_ok-live.live.items booted.1
+      (subst (λ s. c.args.boot ≡ s.boot → AreLive s.units c.in_ok-live.live.items) c.state.ensures c.in_ok-live.ensures.same)
+      (subst (λ s. c.args.boot ≢ s.boot → c.in_ok-live.live.items ≡ []) c.state.ensures c.in_ok-live.ensures.other)) in
     let D = g.D.Disk in
     let old = c.args.keeper.now in
     let mid = c.offer_boot.new.keeper in
@@ -92,7 +104,7 @@ returns-in_err-adopt-clause-refuses g c =
     let same : there ≡ here = same_place c.offer_boot.ensures.place.size c.offer_boot.ensures.place.layout c.offer_boot.ensures.disk (same_failed c.in_ok-offer_boot.was c.offer_boot.ensures.failed) in
     if_err_same _ (λ e. IsTrue (g.C.Children.honest c.args.children.now) → IsTrue (g.C.Children.whole c.adopt.new.children)
       → (marks : List ℕ) × Refuses here e c.args.moment c.args.boot start (now (state_in new) (g.C.Children.past c.adopt.new.children) marks [] (D.past (disk_in new))))
-    c.in_err-adopt.field-0.0 c.from_residual-in_err-adopt.ensures
+    c.in_err-adopt.field-0.0 c.from_residual-in_err-adopt.ensures.1
     (λ honest whole. (
       c.adopt.new.marks,
       unadopted c.in_err-adopt.ensures.memory (record {
@@ -104,6 +116,8 @@ returns-in_err-adopt-clause-refuses g c =
         adopted =
             subst (λ (p : Place). Adopted p (Err c.in_err-adopt.field-0.0) c.args.moment before after) same
             (subst (λ r. Adopted there r c.args.moment before after) c.in_err-adopt.was (c.adopt.ensures.adopts honest whole));
-        count_is = refl;
+        numbers = c.as_slice-live.result.now;
+      numbers_are = live;
+      count_is = refl;
       }),
     ))

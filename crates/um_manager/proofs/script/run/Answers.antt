@@ -57,7 +57,7 @@ returns-in_err-turn-clause-runs g c = λ h w.
     let place : there ≡ start = same_place inv.place.size inv.place.layout inv.disk inv.failed in
     let item : drop c.loop-step.step-index c.args.steps.now ≡ c.step-item.result ∷ drop (c.loop-step.step-index + 1) c.args.steps.now =
     drop_more c.args.steps.now c.loop-step.step-index c.step-item.result c.loop-step-test.true ∙ ap (λ s. s ∷ drop (c.loop-step.step-index + 1) c.args.steps.now) (search (rules, c.step-item.is)) in
-    let same : c.from_residual.result ≡ c.turn.result = same_err c.from_residual.result c.turn.result _ c.from_residual.ensures c.in_err-turn.was in
+    let same : c.from_residual.result ≡ c.turn.result = same_err c.from_residual.result c.turn.result _ c.from_residual.ensures.1 c.in_err-turn.was in
     inv.done c.from_residual.result after (c.turn.ensures.whole w) h
     (subst (λ l. Runs start l c.from_residual.result before after) (sym item)
     (inl (subst (λ r. Stops start c.step-item.result r before after) (sym same)
