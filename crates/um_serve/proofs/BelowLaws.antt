@@ -41,7 +41,7 @@ reads_more past0 past1 past2 n which old new is_open piece more before is_it pie
           ∙ ap (λ o. reads_below n which old ++ reads_one n o (slice_get new n)) is_it
           ∙ ap (λ p. reads_below n which old ++ reads_one n (Some is_open) p) piece_is))
 
-truth : Option Bool → Bool
+abbrev truth : Option Bool → Bool
 truth (Some b) = b
 truth None = true
 

@@ -104,29 +104,30 @@ same_now {s} {t} {p} {q} {m} {n} {d} {e} us vs state past marks disk =
     ap (λ x. now x q n vs e) state ∙ ap (λ x. now s x n vs e) past ∙ ap (λ x. now s p x vs e) marks ∙ ap (λ x. now s p m vs x) disk
 
 -- a turn that found no memory
-pub owing_round : {h w is_owed again honest whole : Bool} {before pieces : List Piece} {old new : List Event} {given more : List ℕ} {moment : ℕ} {a b : Now}
+pub owing_round : {h w again honest whole : Bool} {pieces : List Piece} {given more : List ℕ} {moment : ℕ} {a b : Now}
+    → (is_owed : Bool) (before : List Piece) (old new : List Event)
     → (place : Place) (result : Result Unit Refusal) → Gathers h w is_owed before pieces old new → IsTrue h → IsTrue w → more ≡ given ++ moment ∷ []
     → Turns place result honest whole moment pieces a b → again ≡ is_want result → again ≡ true
     → ServesOne place result (served old given is_owed before a) (served new more again pieces b)
-owing_round {h} {w} {is_owed} {again} {honest} {whole} {before} {pieces} {old} {new} {given} {more} {moment} {a} {b} place result g th tw ticks turns want is =
+owing_round {h} {w} {again} {honest} {whole} {pieces} {given} {more} {moment} {a} {b} is_owed before old new at result g th tw ticks turns want is =
     let p = heard_round h w is_owed again before pieces old new new given more moment a b g th tw refl ticks in
-    wanting place result p.0 _ _ (sym want ∙ is)
+    wanting at result p.0 _ _ (sym want ∙ is)
     (record { hears = p.1; untouched = turns.0 (wanted result (sym want ∙ is)); owed = same_owed again pieces is ∙ ap Some (sym p.2) })
 
 -- a turn that was taken, and the replies that are put out
-pub done_round : {h w is_owed again honest whole : Bool} {before pieces : List Piece} {old new later : List Event} {given more : List ℕ} {moment : ℕ} {a b d : Now}
+pub done_round : {h w again honest whole : Bool} {pieces : List Piece} {given more : List ℕ} {moment : ℕ} {a b d : Now}
+    → (is_owed : Bool) (before : List Piece) (old new later : List Event)
     → (place : Place) (result : Result Unit Refusal) → Gathers h w is_owed before pieces old new → IsTrue h → IsTrue w → more ≡ given ++ moment ∷ []
     → Turns place result honest whole moment pieces a b → again ≡ is_want result → again ≡ false → heard_of later ≡ heard_of new
     → EmptiesAll b.sessions d.sessions → d ≡ record b { sessions = d.sessions } → IsTrue honest → IsTrue whole
     → ServesOne place result (served old given is_owed before a) (served later more again pieces d)
-done_round {h} {w} {is_owed} {again} {honest} {whole} {before} {pieces} {old} {new} {later} {given} {more} {moment} {a} {b} {d}
-place result g th tw ticks turns want is same empties rest tc tl =
+done_round {h} {w} {again} {honest} {whole} {pieces} {given} {more} {moment} {a} {b} {d} is_owed before old new later at result g th tw ticks turns want is same empties rest tc tl =
     let p = heard_round h w is_owed again before pieces old new later given more moment a d g th tw same ticks in
-    gone place result p.0 _ _ (sym want ∙ is)
+    gone at result p.0 _ _ (sym want ∙ is)
     (λ not. record {
       hears = p.1;
       turn = b;
-      turned = subst (λ m. Turned place result m p.0.pieces a b) (sym p.3) (subst (λ ps. Turned place result moment ps a b) (sym p.2) (turns.1 not tc tl));
+      turned = subst (λ m. Turned at result m p.0.pieces a b) (sym p.3) (subst (λ ps. Turned at result moment ps a b) (sym p.2) (turns.1 not tc tl));
       empties = empties;
       rest = rest;
       settled = none_owed again pieces is;
@@ -136,12 +137,12 @@ place result g th tw ticks turns want is same empties rest tc tl =
 
 -- a round that is answered is one
 pub round_of : (place : Place) (u : Unit) (x y : Served) → ServesOne place (Ok u) x y → ((r : Round) × IsRound place (Ok tt) r x y)
-round_of place tt x y (inl p) = absurd (true≢false (ap is_ok p.0))
-round_of place tt x y (inr (r, inl p)) = (r, p.1)
-round_of place tt x y (inr (r, inr p)) = absurd (p.refused refl)
+round_of at tt x y (inl p) = absurd (true≢false (ap is_ok p.0))
+round_of at tt x y (inr (r, inl p)) = (r, p.1)
+round_of at tt x y (inr (r, inr p)) = absurd (p.refused refl)
 
 -- a round that is refused is the last
 pub last_of : (place : Place) (e : Refusal) (x y : Served) → ServesOne place (Err e) x y → ((rs : List Round) × (length rs ≤ 1) × Serves place rs (Err e) x y)
-last_of place e x y (inl p) = ([], search rules, inr p.0, p.1)
-last_of place e x y (inr (r, inl p)) = absurd (true≢false (sym (ap is_ok p.0)))
-last_of place e x y (inr (r, inr p)) = (r ∷ [], search rules, inr (refl, p))
+last_of at e x y (inl p) = ([], search rules, (inr p.0, p.1))
+last_of at e x y (inr (r, inl p)) = absurd (true≢false (sym (ap is_ok p.0)))
+last_of at e x y (inr (r, inr p)) = (r ∷ [], search rules, inr (refl, p))

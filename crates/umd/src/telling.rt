@@ -128,4 +128,8 @@ impl<'a, C: Children, R: Eprint> Children for Telling<'a, C, R> {
     fn forget(&mut self, number: ProcessNumber) -> Result<(), ChildFault> {
         self.children.forget(number)
     }
+
+    fn forget_others(&mut self, live: &[ProcessNumber]) -> Result<(), ChildFault> {
+        self.children.forget_others(live)
+    }
 }

@@ -36,7 +36,7 @@ loop-preserved g c =
       clock = search rules;
       place = record { layout = c.round.ensures.place.layout ∙ inv.place.layout; size = c.round.ensures.place.size ∙ inv.place.size };
       disk = c.round.ensures.disk ∙ inv.disk;
-      failed = same_failed c.in-Ok.was c.round.ensures.failed ∙ inv.failed;
+      failed = same_failed c.in-Ok.is c.round.ensures.failed ∙ inv.failed;
     }
 
 pub returns-clause-serves : goal.returns-clause-serves
@@ -50,10 +50,17 @@ returns-in-Err-clause-serves g c = λ trust.
     let D = g.D.Disk in
     let first = c.args.manager.now.keeper in
     let old = c.loop.manager.keeper in
+    let m = c.round.new.manager in
     let inv = c.loop.invariant in
-    let same = same_place inv.place.size inv.place.layout inv.disk inv.failed in
-    let last = last_of (place_in (D.honest (disk_in old)) old) c.in-Err.refusal _ _
+    let start = place_in (D.honest (disk_in first)) first in
+    let there = place_in (D.honest (disk_in old)) old in
+    let same : there ≡ start = same_place inv.place.size inv.place.layout inv.disk inv.failed in
+    let before = served (g.G.Gate.past c.loop.gate) (g.M.Moments.given c.loop.clock) c.loop.rounds.is_owed c.loop.rounds.pieces
+    (now (state_in old) (g.C.Children.past c.loop.manager.children) c.loop.manager.marks c.loop.manager.sessions.items (D.past (disk_in old))) in
+    let after = served (g.G.Gate.past c.round.new.gate) (g.M.Moments.given c.round.new.clock) c.round.new.self.is_owed c.round.new.self.pieces
+    (now (state_in m.keeper) (g.C.Children.past m.children) m.marks m.sessions.items (D.past (disk_in m.keeper))) in
+    let last = last_of there c.in-Err.refusal before after
     (c.in-Err.ensures.serves (subst IsTrue (sym inv.honest) trust.0, trust.1, subst IsTrue (sym inv.gate) trust.2, trust.3, subst IsTrue (sym inv.clock) trust.4, trust.5)) in
-    let p = inv.done last.0 (Err c.in-Err.refusal) _ (trust.0, c.round.ensures.whole trust.1, trust.2, c.round.ensures.events trust.3, trust.4, c.round.ensures.moments trust.5)
-    (subst (λ (s : Place). Serves s last.0 (Err c.in-Err.refusal) _ _) same last.2) in
+    let p = inv.done last.0 (Err c.in-Err.refusal) after (trust.0, c.round.ensures.whole trust.1, trust.2, c.round.ensures.events trust.3, trust.4, c.round.ensures.moments trust.5)
+    (subst (λ (s : Place). Serves s last.0 (Err c.in-Err.refusal) before after) same last.2) in
     (p.0, subst (λ n. n ≤ c.args.limit) (sym p.1) (omega (arith, last.1, c.loop-test.true)), p.2)
