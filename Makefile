@@ -4,9 +4,10 @@
 # the program as two compilers build it.
 # make edits NAME ..: tries the further edits of these crates, which stand in edits/NAME; with no name those of every crate.
 # make runner-rows: plays the rows of a runner against the proved program, with real processes.
+# make ctl-rows: plays the rows of the command line against the proved program: create and ctl, their faults, statuses and what is printed.
 # make bench: measures the proved program, and the writing and reading of states (um_bench); the figures that a document calls
 # measured come from it.
-.PHONY: run umd test edits bench runner-rows
+.PHONY: run umd test edits bench runner-rows ctl-rows
 run:
 	@sh tools/show
 
@@ -34,3 +35,6 @@ bench: umd
 
 runner-rows: umd
 	@tools/runner-rows crates/umd/out/umd
+
+ctl-rows: umd
+	@tools/ctl-rows crates/umd/out/umd

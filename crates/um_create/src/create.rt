@@ -1,3 +1,6 @@
+ghost use Rattle.std.specs.Prelude.{IfErr};
+ghost use Rattle.um_create.specs.Statuses.{IsMet};
+
 use crate::fault::CreateFault;
 use std::alloc::Global;
 use std::fs;
@@ -14,7 +17,9 @@ pub fn create_store<R: Files<File = File>>(
     alloc: Global,
     layout: Layout,
     path: &str,
-) -> Result<(), CreateFault> {
+) -> Result<(), CreateFault>
+    ensures { IfErr result IsMet }
+{
     let mut disk = FileDisk::create(rt, path, layout.sectors())?;
     match um_keeper::create(alloc, &mut disk, layout) {
         Ok(()) => Ok(()),

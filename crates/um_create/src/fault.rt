@@ -1,5 +1,5 @@
 ghost use Rattle.std.specs.Prelude.{◌≡◌};
-ghost use Rattle.um_create.specs.Statuses.{status_of};
+ghost use Rattle.um_create.specs.Statuses.{fault_of, status_of};
 
 use thiserror::Error;
 use um_filedisk::FileFault;
@@ -34,6 +34,8 @@ impl CreateFault {
 }
 
 impl From<FileFault> for CreateFault {
+    ghost from_gives = { λ fault e. e ≡ fault_of fault };
+
     fn from(fault: FileFault) -> CreateFault {
         match fault {
             FileFault::Exists => CreateFault::Exists,

@@ -2,3 +2,4 @@ pub mod Details
 pub mod Members
 pub mod Taken
 pub mod Texts
+pub mod Untold

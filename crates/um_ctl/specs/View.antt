@@ -4,6 +4,8 @@ use Rattle.um_ctl.specs.Told as model
 use Rattle.um_ctl.specs.declared.fault.CtlFault.{CtlFault}
 use Rattle.um_ctl.specs.declared.fault.CtlFault.TheVariants.{Usage, TooLarge, NoText, NoConnection, Input, Read, Write, NoReply, NoMemory}
 use Rattle.um_ctl.specs.declared.reply.Told.{Told}
+use Rattle.um_stream.specs.declared.fault.Fault.{Fault}
+use Rattle.um_stream.specs.declared.fault.Fault.TheVariants as stream
 
 abbrev pub told_view : Told → model.Told
 told_view t = record { output = string_bytes t.output; error = string_bytes t.error; status = t.status }
@@ -19,3 +21,9 @@ status_of (Read e) = 5
 status_of (Write e) = 5
 status_of NoReply = 5
 status_of NoMemory = 1
+
+-- a fault of the connection
+abbrev pub fault_of : Fault → CtlFault
+fault_of (stream.Read e) = Read e
+fault_of (stream.Write e) = Write e
+fault_of stream.NoMemory = NoMemory

@@ -1,15 +1,10 @@
 //! A request and its reply, over a connection.
 
-ghost use Rattle.std.specs.Prelude.{◌≡◌, ◌≢◌, ◌↔◌, ◌<◌, ◌^◌, List, ℕ, true, Some, None, Err, IfOk, OnOk, IfErr, IsErrOf, IsUtf8, codes, length, option_map, string_bytes};
-ghost use Rattle.std.specs.Io.KnownBytes.{Appends, Consumes, IsAtEnd};
-ghost use Rattle.serde_json.specs.Data.{Data};
-ghost use Rattle.serde_json.specs.Find.{get};
-ghost use Rattle.serde_json.specs.Read.{read};
-ghost use Rattle.um_ctl.specs.Prepares.{Prepares};
-ghost use Rattle.um_ctl.specs.Streams.{IsTextRead, TakesReply, text_limit};
-ghost use Rattle.um_ctl.specs.Told.{is_plain, told_of};
-ghost use Rattle.um_ctl.specs.View.{told_view};
-ghost use Rattle.um_ctl.specs.Words.{verb_of, takes_text as takes_text_of};
+ghost use Rattle.std.specs.Prelude.{◌≡◌, ◌≢◌, ◌↔◌, ◌<◌, ◌^◌, None, IfOk, OnOk, IfErr, IsErrOf, length, option_map, string_bytes};
+ghost use Rattle.std.specs.Io.KnownBytes.{Appends};
+ghost use Rattle.um_ctl.specs.Prepares.{Prepares, IsAsked, IsNoReply, IsUnprepared, IsUntold, TellsReply, verb_told};
+ghost use Rattle.um_ctl.specs.Streams.{BeginsFrame, IsTextRead, TakesReply};
+ghost use Rattle.um_ctl.specs.Words.{takes_text as takes_text_of};
 ghost use Rattle.um_model.specs.Frames.{frame_of};
 ghost use Rattle.um_model.specs.Requests.{row_of};
 
@@ -34,9 +29,7 @@ const REPLY_LIMIT: usize = 1 << 24;
 /// The text of the file that the verb takes, if it takes one.
 fn file_text<I: Read>(alloc: Global, verb: Verb, input: &mut I) -> Result<Option<String>, CtlFault>
     ensures ok { IfOk result (λ text. IsTextRead (takes_text_of (row_of verb)) (I.remaining input.old) (I.remaining input.new) (option_map string_bytes text)) }
-    ensures never_usage { IfErr result (λ e. e ≢ CtlFault.Usage) }
-    ensures too_large { result ≡ Err CtlFault.TooLarge → (bytes : List ℕ) × Consumes (I.remaining input.old) (I.remaining input.new) bytes × (text_limit < length bytes) }
-    ensures no_text { result ≡ Err CtlFault.NoText → (bytes : List ℕ) × Consumes (I.remaining input.old) (I.remaining input.new) bytes × (¬ IsUtf8 bytes) × IsAtEnd (I.remaining input.new) }
+    ensures err { IfErr result (λ e. (e ≢ CtlFault.Usage) × IsUnprepared (I.remaining input.old) (I.remaining input.new) e) }
 {
     if !takes_text(verb) {
         return Ok(None);
@@ -60,9 +53,8 @@ pub fn prepare<I: Read>(
     input: &mut I,
 ) -> Result<(Verb, Vec<u8>), CtlFault>
     ensures ok { IfOk result (Prepares words.now (I.remaining input.old) (I.remaining input.new)) }
-    ensures usage { IsErrOf result CtlFault.Usage ↔ verb_of words.now.verb.now (length words.now.arguments.now) (option_map (λ s. s.now) words.now.mode) ≡ None }
-    ensures too_large { result ≡ Err CtlFault.TooLarge → (bytes : List ℕ) × Consumes (I.remaining input.old) (I.remaining input.new) bytes × (text_limit < length bytes) }
-    ensures no_text { result ≡ Err CtlFault.NoText → (bytes : List ℕ) × Consumes (I.remaining input.old) (I.remaining input.new) bytes × (¬ IsUtf8 bytes) × IsAtEnd (I.remaining input.new) }
+    ensures usage { IsErrOf result CtlFault.Usage ↔ verb_told words.now ≡ None }
+    ensures err { IfErr result (IsUnprepared (I.remaining input.old) (I.remaining input.new)) }
 {
     let Some(verb) = words.verb() else {
         return Err(CtlFault::Usage);
@@ -86,6 +78,7 @@ pub fn exchange<R: Read, W: Write>(
 ) -> Result<Vec<u8>, Fault>
     requires { length request.now < 2 ^ 32 }
     ensures asked { OnOk result (Appends (W.contents output.old) (W.contents output.new) (frame_of request.now)) }
+    ensures front { BeginsFrame request.now (W.contents output.old) (W.contents output.new) }
     ensures answered { IfOk result (λ reply. TakesReply (R.remaining input.old) (R.remaining input.new) reply.items) }
 {
     put_frame(output, request)?;
@@ -106,7 +99,8 @@ pub fn exchange<R: Read, W: Write>(
 
 /// What is told of the text of a reply to the verb.
 fn tell_reply(alloc: Global, verb: Verb, bytes: &[u8]) -> Result<Told, CtlFault>
-    ensures { IfOk result (λ t. (d : Data) × (read bytes.now ≡ Some d) × (is_plain (get (codes "value") d) ≡ true → told_of verb d ≡ Some (told_view t))) }
+    ensures told { IfOk result (TellsReply verb bytes.now) }
+    ensures err { IfErr result (IsNoReply verb bytes.now) }
 {
     let reply = match Value::from_slice(alloc, bytes) {
         Ok(reply) => reply,
@@ -128,7 +122,11 @@ pub fn ask<N: Net, I: Read>(
     socket: &str,
     words: &Words,
     input: &mut I,
-) -> Result<Told, CtlFault> {
+) -> Result<Told, CtlFault>
+    ensures ok { IfOk result (IsAsked words.now (I.remaining input.old) (I.remaining input.new)) }
+    ensures usage { IsErrOf result CtlFault.Usage ↔ verb_told words.now ≡ None }
+    ensures err { IfErr result (IsUntold words.now (I.remaining input.old) (I.remaining input.new)) }
+{
     let (verb, request) = prepare(alloc, words, input)?;
     if request.len() > u32::MAX as usize {
         return Err(CtlFault::NoMemory);

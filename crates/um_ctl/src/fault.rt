@@ -1,5 +1,5 @@
 ghost use Rattle.std.specs.Prelude.{◌≡◌};
-ghost use Rattle.um_ctl.specs.View.{status_of};
+ghost use Rattle.um_ctl.specs.View.{fault_of, status_of};
 
 use std::alloc::AllocError;
 use std::io;
@@ -54,6 +54,8 @@ impl From<AllocError> for CtlFault {
 
 /// A fault of the connection.
 impl From<Fault> for CtlFault {
+    ghost from_gives = { λ fault e. e ≡ fault_of fault };
+
     fn from(fault: Fault) -> CtlFault {
         match fault {
             Fault::Read(e) => CtlFault::Read(e),

@@ -3,6 +3,7 @@
 
 mod connection;
 mod fault;
+mod laws;
 mod reply;
 mod text;
 mod words;
@@ -10,6 +11,7 @@ mod writing;
 
 pub use connection::{ask, exchange, prepare};
 pub use fault::CtlFault;
+pub use laws::a_reply_is_one_frame;
 pub use reply::{Told, told_of};
 pub use text::{FileText, read_text};
 pub use words::Words;

@@ -6,7 +6,7 @@ use um_stream::Fault;
 /// What is written for a request, and the text of the reply.
 fn exchanged(
     rt: &(impl AllocGlobal + Abort),
-    request: &[u8],
+    request: &[u8; 2],
     mut coming: &[u8],
 ) -> (Vec<u8>, Result<Vec<u8>, Fault>) {
     let mut written = Vec::new(rt.alloc());
