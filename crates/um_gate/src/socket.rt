@@ -1,6 +1,6 @@
 //! A gate over a Unix socket.
 
-ghost use Rattle.std.specs.Prelude.{◌≡◌, ◌≤◌, [], length, false, true, IfSome};
+ghost use Rattle.std.specs.Prelude.{◌≡◌, ◌≤◌, [], length, false, true, IfOk, IfSome, vec_capacity};
 
 use crate::gate::{CONNECTIONS, Gate, MOST_BYTES, Open};
 use mio::net::{UnixListener, UnixStream};
@@ -41,6 +41,9 @@ pub struct SocketGate {
     events: Events,
     listener: UnixListener,
     places: Vec<Place>,
+    /// Where a read puts its bytes first.
+    buffer: Vec<u8>,
+    ghost full: { length buffer.items ≡ 4096 },
 }
 
 /// Removes an entry that an earlier server left at the path.
@@ -66,6 +69,15 @@ fn free_places(alloc: Global) -> Result<Vec<Place>, AllocError> {
         places.push(Place::Free)?;
     }
     Ok(places)
+}
+
+/// A buffer of as many bytes as a read gives at most.
+fn full_buffer(alloc: Global) -> Result<Vec<u8>, AllocError>
+    ensures { IfOk result (λ buffer. length buffer.items ≡ MOST_BYTES) }
+{
+    let mut buffer = Vec::new(alloc);
+    buffer.resize(MOST_BYTES, 0)?;
+    Ok(buffer)
 }
 
 /// The least number that is free.
@@ -110,6 +122,7 @@ impl SocketGate {
         let poll = Poll::new(rt)?;
         let events = Events::with_capacity(alloc, EVENTS)?;
         let places = free_places(alloc)?;
+        let buffer = full_buffer(alloc)?;
         let mut listener = listener_at(rt, path)?;
         poll.registry()
             .register(&mut listener, Token(LISTENER), Interest::READABLE)?;
@@ -118,6 +131,7 @@ impl SocketGate {
             events,
             listener,
             places,
+            buffer,
         })
     }
 
@@ -174,24 +188,21 @@ fn read_place(place: &mut Place, buffer: &mut [u8]) -> Option<usize>
     }
 }
 
-/// Fills the vector with what is there of a place, and tells whether it is open still.
-fn fill(place: &mut Place, bytes: &mut Vec<u8>) -> bool
-    ensures { length bytes.new.items ≤ MOST_BYTES }
+/// Puts what is there of a place into the vector, by way of the buffer, and tells whether it is open still.
+fn fill(place: &mut Place, buffer: &mut [u8], bytes: &mut Vec<u8>) -> bool
+    requires empty { bytes.old.items ≡ [] }
+    requires room { MOST_BYTES ≤ vec_capacity bytes.old }
+    requires full { length buffer.old ≡ MOST_BYTES }
+    ensures bound { length bytes.new.items ≤ MOST_BYTES }
+    ensures full { length buffer.new ≡ MOST_BYTES }
 {
-    if bytes.resize(MOST_BYTES, 0).is_err() {
-        bytes.clear();
-        return true;
-    }
-    match read_place(place, bytes.as_mut_slice()) {
-        Some(count) => {
-            bytes.truncate(count);
-            true
-        }
-        None => {
-            bytes.clear();
-            *place = Place::Free;
-            false
-        }
+    let Some(count) = read_place(place, buffer) else {
+        *place = Place::Free;
+        return false;
+    };
+    match bytes.extend_from_slice(&buffer[..count]) {
+        Ok(()) => true,
+        Err(_) => unreachable!(),
     }
 }
 
@@ -229,7 +240,7 @@ impl Gate for SocketGate {
 
     fn read(&mut self, number: usize, bytes: &mut Vec<u8>) -> bool {
         match self.places.get_mut(number) {
-            Some(place) => fill(place, bytes),
+            Some(place) => fill(place, self.buffer.as_mut_slice(), bytes),
             None => false,
         }
     }
