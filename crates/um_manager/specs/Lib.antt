@@ -3,6 +3,7 @@ pub mod Fates
 pub mod Live
 pub mod Opening
 pub mod Orders
+pub mod Places
 pub mod Replies
 pub mod Scripts
 pub mod Stores

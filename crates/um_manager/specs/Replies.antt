@@ -1,12 +1,12 @@
 -- What is put out for the connections.
 -- No manual page has this: it is the project's own protocol (docs/FORMATS.md, "Replies").
 -- The turn of the manager stands on this file.
-use Rattle.std.specs.Prelude.{◌≡◌, ◌⊎◌, ◌+◌, ℕ, List, [], ◌∷◌, Result, Ok, Err, ⊤}
+use Rattle.std.specs.Prelude.{◌≡◌, ◌⊎◌, ◌+◌, ℕ, List, [], ◌∷◌, Bool, Option, Some, Result, Ok, Err, ⊤}
 use Rattle.um_keeper.specs.Answering.{Answer}
 use Rattle.um_model.specs.Machine.{State, Query, Reply, Refusal, IsReplyTo}
 use Rattle.um_model.specs.Refusals.{no_memory}
 use Rattle.um_model.specs.Replies.{reply_text}
-use Rattle.um_model.specs.Sessions.{Session, Does, Put, GiveUp}
+use Rattle.um_model.specs.Sessions.{Session, Does, Put, GiveUp, Take}
 use Rattle.um_state.specs.View.{query_of, reply_of}
 use Rattle.um_wire.specs.Refusal.{refused_of}
 use Rattle.um_manager.specs.declared.taking.Due.{Due}
@@ -46,3 +46,8 @@ abbrev pub PaysAll : State → List Due → List Reply → List Session → List
 PaysAll s [] replies [] [] = ⊤
 PaysAll s (d ∷ ds) replies (t ∷ ts) (u ∷ us) = (left : List Reply) × Pays s d replies left t u × PaysAll s ds left ts us
 PaysAll s ds replies ts us = ⊥
+
+-- what was put out for a connection is taken, with whether its session has failed
+abbrev pub IsOutput : Option Session → List ℕ → Bool → Option Session → Type 0
+IsOutput (Some t) bytes failed (Some u) = Does t (Take bytes) u × (failed ≡ u.failed)
+IsOutput t bytes failed u = ⊥

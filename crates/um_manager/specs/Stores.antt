@@ -1,12 +1,12 @@
 -- What a store answers that refuses all inputs of a list.
 -- No manual page has it: it is the project's own protocol (docs/FORMATS.md, "Refusals").
 -- The turn of the manager and its opening stand on this file.
-use Rattle.std.specs.Prelude.{◌≡◌, ◌≢◌, ℕ, List, Bool, Result, Ok, Err}
-use Rattle.um_model.specs.Children.{Call}
-use Rattle.um_model.specs.Machine.{State, Input, Reply}
+use Rattle.std.specs.Prelude.{◌≡◌, ◌≢◌, List, Bool, Result, Ok, Err}
+use Rattle.um_model.specs.Machine.{Input, Reply}
 use Rattle.um_wire.specs.declared.refusal.Refusal.{Refusal}
 use Rattle.um_wire.specs.declared.refusal.Refusal.TheVariants as refusal
-use Rattle.um_manager.specs.Turns.{Submitted}
+use Rattle.um_manager.specs.Places.{Place}
+use Rattle.um_manager.specs.Turns.{Now, Submitted}
 use Rattle.um_manager.specs.declared.submitting.StoreFault.{StoreFault}
 use Rattle.um_manager.specs.declared.submitting.StoreFault.TheVariants as fault
 
@@ -22,6 +22,5 @@ StoreAnswers fault.Device result = result ≡ Err refusal.Device
 StoreAnswers fault.Reopen result = result ≡ Err refusal.Reopen
 
 -- the inputs were offered; want of memory is told of single inputs alone
-abbrev pub Submits : ℕ → Result Unit Refusal → State → List Input → State → List Call → List Call → List ℕ → List ℕ → List Reply → Bool → Bool → Type 0
-Submits size result s inputs t old new marks marked replies honest whole =
-    (result ≢ Err refusal.NoMemory) × Submitted size result s inputs t old new marks marked replies honest whole
+abbrev pub Submits : Place → Result Unit Refusal → List Input → List Reply → (honest whole : Bool) → Now → Now → Type 0
+Submits place result inputs replies honest whole a b = (result ≢ Err refusal.NoMemory) × Submitted place result inputs replies honest whole a b

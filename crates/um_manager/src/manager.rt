@@ -1,10 +1,15 @@
-ghost use Rattle.std.specs.Prelude.{◌≡◌, ◌≢◌, ℕ, length, false, IsTrue, IfOk, IfErr, slice_get, Some};
-ghost use Rattle.um_keeper.specs.Keepers.{disk_in, state_in, size_in};
-ghost use Rattle.um_manager.specs.Opening.{Opened};
+ghost use Rattle.std.specs.Prelude.{◌≡◌, ◌≢◌, ◌⊎◌, ◌↔◌, ℕ, [], length, true, false, Err, IsTrue, IfOk, IfErr, slice_get};
+ghost use Rattle.std.specs.List.{AllByRecursion};
+ghost use Rattle.um_keeper.specs.Keepers.{disk_in, state_in, size_in, layout_in, has_failed, IsSamePlace};
+ghost use Rattle.um_keeper.specs.Opening.{IsSomeStore};
+ghost use Rattle.um_manager.specs.Connections.{IsNew};
+ghost use Rattle.um_manager.specs.Opening.{Opened, IsOfRefused};
+ghost use Rattle.um_manager.specs.Places.{place, place_in};
+ghost use Rattle.um_manager.specs.Replies.{IsOutput};
 ghost use Rattle.um_manager.specs.Scripts.{Runs};
 ghost use Rattle.um_manager.specs.Turns.{Turns, now};
-ghost use Rattle.um_model.specs.Machine as model;
-ghost use Rattle.um_model.specs.Sessions.{Does, Take};
+ghost use Rattle.um_model.specs.Disk.{Images, During};
+ghost use Rattle.um_model.specs.declared.layout.Layout.{Layout};
 ghost use Rattle.um_state.specs.View.{state_of};
 
 use crate::connection::Connection;
@@ -43,7 +48,11 @@ pub struct Manager<D: Disk, C: Children> {
 }
 
 impl<D: Disk, C: Children> Manager<D, C> {
-    /// Opens the store that a disk holds, offers the boot, and adopts the processes that are live. A refusal hands disk and children back.
+    /// Opens the store that a disk holds, offers the boot, and adopts the processes that are live: it asks the fate of each, offers what is
+    /// told, and ends those that were being ended. It starts nothing by itself. A refusal hands disk and children back.
+    ///
+    /// Those of `Keeper::open`; E15 until the boot is answered; E16 where a disk call fails; E20 where the boot's record has no room and
+    /// the generation is the last.
     pub fn open(
         alloc: Global,
         disk: D,
@@ -51,9 +60,19 @@ impl<D: Disk, C: Children> Manager<D, C> {
         boot: BootId,
         moment: Moment,
     ) -> Result<Manager<D, C>, (Refusal, D, C)>
-        ensures opened { IfOk result (λ m. (before : model.State) × (IsTrue (C.honest children) → IsTrue (C.whole m.children)
-            → Opened (size_in m.keeper) moment boot before (state_in m.keeper) (C.past children) (C.past m.children) m.marks)) }
-        ensures honest { IfOk result (λ m. C.honest m.children ≡ C.honest children) }
+        ensures opened { IfOk result (λ m. IsTrue (C.honest children) → IsTrue (C.whole m.children)
+            → Opened (place (size_in m.keeper) (layout_in m.keeper) (D.honest disk)) moment boot m.adopted (D.size disk) (D.past disk) (C.past children)
+            (now (state_in m.keeper) (C.past m.children) m.marks [] (D.past (disk_in m.keeper)))) }
+        ensures anew { IfOk result (λ m. AllByRecursion IsNew m.sessions.items) }
+        ensures working { IfOk result (λ m. has_failed m.keeper ≡ false) }
+        ensures same { IfOk result (λ m. (D.honest (disk_in m.keeper) ≡ D.honest disk) × (C.honest m.children ≡ C.honest children)) }
+        ensures whole { IfOk result (λ m. IsTrue (C.whole m.children) → IsTrue (C.whole children)) }
+        ensures err { IfErr result (λ e. IsTrue (C.honest children) → IsTrue (C.whole e.2) → IsTrue (D.honest disk) → (layout : Layout)
+            → Images (D.past disk) (IsSomeStore layout) → During (D.past disk) (D.past e.1)
+            (IsOfRefused layout moment boot (D.size disk) (D.past disk) (C.past children) (C.past e.2))) }
+        ensures early { IfErr result (λ e. e.0 ≡ Refusal.NoMemory → C.past e.2 ≡ C.past children) }
+        ensures back { IfErr result (λ e. (D.honest e.1 ≡ D.honest disk) × (C.honest e.2 ≡ C.honest children)) }
+        ensures whole_back { IfErr result (λ e. IsTrue (C.whole e.2) → IsTrue (C.whole children)) }
     {
         let mut children = children;
         let mut keeper = match Keeper::open(alloc, disk) {
@@ -83,12 +102,15 @@ impl<D: Disk, C: Children> Manager<D, C> {
     ///
     /// E15 before anything is taken, asked or offered. The store's E16 and E17, after the replies are put out.
     pub fn turn(&mut self, moment: Moment, pieces: &Pieces) -> Result<(), Refusal>
-        ensures turns { Turns (size_in self.old.keeper) result (C.honest self.old.children) (C.whole self.new.children) moment pieces.now
-            (now (state_in self.old.keeper) (C.past self.old.children) self.old.marks self.old.sessions.items)
-            (now (state_in self.new.keeper) (C.past self.new.children) self.new.marks self.new.sessions.items) }
+        ensures turns { Turns (place_in (D.honest (disk_in self.old.keeper)) self.old.keeper) result (C.honest self.old.children) (C.whole self.new.children) moment pieces.now
+            (now (state_in self.old.keeper) (C.past self.old.children) self.old.marks self.old.sessions.items (D.past (disk_in self.old.keeper)))
+            (now (state_in self.new.keeper) (C.past self.new.children) self.new.marks self.new.sessions.items (D.past (disk_in self.new.keeper))) }
         ensures whole { IsTrue (C.whole self.new.children) → IsTrue (C.whole self.old.children) }
         ensures honest { C.honest self.new.children ≡ C.honest self.old.children }
-        ensures size { size_in self.new.keeper ≡ size_in self.old.keeper }
+        ensures place { IsSamePlace self.old.keeper self.new.keeper }
+        ensures disk { D.honest (disk_in self.new.keeper) ≡ D.honest (disk_in self.old.keeper) }
+        ensures failed { (has_failed self.new.keeper ≡ true) ↔ ((has_failed self.old.keeper ≡ true) ⊎ (result ≡ Err Refusal.Device)) }
+        ensures adopted { self.new.adopted ≡ self.old.adopted }
     {
         turn(
             self.alloc,
@@ -103,12 +125,16 @@ impl<D: Disk, C: Children> Manager<D, C> {
 
     /// One turn a step, until one is refused.
     pub fn run_script(&mut self, steps: &[Step]) -> Result<(), Refusal>
-        ensures runs { IsTrue (C.honest self.old.children) → IsTrue (C.whole self.new.children) → Runs (size_in self.old.keeper) steps.now result
-            (now (state_in self.old.keeper) (C.past self.old.children) self.old.marks self.old.sessions.items)
-            (now (state_in self.new.keeper) (C.past self.new.children) self.new.marks self.new.sessions.items) }
+        ensures runs { IsTrue (C.honest self.old.children) → IsTrue (C.whole self.new.children)
+            → Runs (place_in (D.honest (disk_in self.old.keeper)) self.old.keeper) steps.now result
+            (now (state_in self.old.keeper) (C.past self.old.children) self.old.marks self.old.sessions.items (D.past (disk_in self.old.keeper)))
+            (now (state_in self.new.keeper) (C.past self.new.children) self.new.marks self.new.sessions.items (D.past (disk_in self.new.keeper))) }
         ensures whole { IsTrue (C.whole self.new.children) → IsTrue (C.whole self.old.children) }
         ensures honest { C.honest self.new.children ≡ C.honest self.old.children }
-        ensures size { size_in self.new.keeper ≡ size_in self.old.keeper }
+        ensures place { IsSamePlace self.old.keeper self.new.keeper }
+        ensures disk { D.honest (disk_in self.new.keeper) ≡ D.honest (disk_in self.old.keeper) }
+        ensures failed { (has_failed self.new.keeper ≡ true) ↔ ((has_failed self.old.keeper ≡ true) ⊎ (result ≡ Err Refusal.Device)) }
+        ensures adopted { self.new.adopted ≡ self.old.adopted }
     {
         run(
             self.alloc,
@@ -120,12 +146,14 @@ impl<D: Disk, C: Children> Manager<D, C> {
         )
     }
 
-    /// Takes what was put out for a connection.
+    /// Takes what was put out for a connection, and tells whether its session has failed.
     pub fn output(&mut self, connection: Connection) -> Output
+        ensures taken { IsOutput (slice_get self.old.sessions.items connection) result.bytes.items result.failed (slice_get self.new.sessions.items connection) }
         ensures others { (other : ℕ) → other ≢ connection → slice_get self.new.sessions.items other ≡ slice_get self.old.sessions.items other }
         ensures keeper { self.new.keeper ≡ self.old.keeper }
         ensures children { self.new.children ≡ self.old.children }
         ensures marks { self.new.marks ≡ self.old.marks }
+        ensures adopted { self.new.adopted ≡ self.old.adopted }
     {
         let session = &mut self.sessions[connection.get()];
         Output {

@@ -1,12 +1,17 @@
 //! Opening: the boot, and then the processes that are live are adopted.
 
-ghost use Rattle.std.specs.Prelude.{◌≡◌, ◌≢◌, ◌+◌, ◌*◌, ◌≤◌, ◌++◌, ◌∷◌, [], ℕ, List, IsTrue, IfOk, IfErr, OnOk, OnErr, length, vec_len, vec_capacity};
-ghost use Rattle.um_keeper.specs.Keepers.{state_in, size_in};
+ghost use Rattle.std.specs.Prelude.{◌≡◌, ◌≢◌, ◌⊎◌, ◌↔◌, ◌*◌, ◌≤◌, ◌∷◌, [], ℕ, List, true, Ok, Err, IsTrue, IfOk, IfErr, OnOk, OnErr, length, vec_capacity};
+ghost use Rattle.std.specs.List.{AllByRecursion};
+ghost use Rattle.um_keeper.specs.Keepers.{disk_in, state_in, size_in, layout_in, has_failed, IsSamePlace};
+ghost use Rattle.um_keeper.specs.Keeping.{IsBegun};
+ghost use Rattle.um_manager.specs.Connections.{IsNew};
 ghost use Rattle.um_manager.specs.Live.{AreLive, has};
-ghost use Rattle.um_manager.specs.Fates.{happens_at};
-ghost use Rattle.um_manager.specs.Opening.{Adopts, Opened, Signalled};
+ghost use Rattle.um_manager.specs.Opening.{Adopts, Began, Refuses, Signalled, boot_at};
+ghost use Rattle.um_manager.specs.Places.{place_in, is_trusted};
+ghost use Rattle.um_manager.specs.Turns.{now};
+ghost use Rattle.um_model.specs.Disk.{During};
 ghost use Rattle.um_model.specs.Machine as model;
-ghost use Rattle.um_model.specs.Machine.{Booted, Step};
+ghost use Rattle.um_model.specs.Machine.{Step};
 ghost use Rattle.um_state.specs.View.{state_of};
 
 use crate::connection::CONNECTIONS;
@@ -34,7 +39,8 @@ pub struct Held {
 
 /// A new session for each connection.
 fn new_sessions(alloc: Global) -> Result<Vec<Session>, AllocError>
-    ensures { IfOk result (λ sessions. length sessions.items ≡ 64) }
+    ensures each { IfOk result (λ sessions. length sessions.items ≡ 64) }
+    ensures anew { IfOk result (λ sessions. AllByRecursion IsNew sessions.items) }
 {
     let mut sessions = Vec::with_capacity(alloc, CONNECTIONS)?;
     for _ in 0..CONNECTIONS {
@@ -95,10 +101,14 @@ fn adopt<D: Disk, C: Children>(
     requires room { 2 * length live.now ≤ vec_capacity inputs }
     requires replies_room { 2 * length live.now ≤ vec_capacity replies.old }
     ensures memory { IfErr result (λ e. e ≢ Refusal.NoMemory) }
-    ensures size { size_in keeper.new ≡ size_in keeper.old }
-    ensures adopts { Adopts (size_in keeper.old) result (C.honest children.old) (C.whole children.new) moment (state_in keeper.old) (state_in keeper.new) (C.past children.old) (C.past children.new) marks.new }
+    ensures adopts { Adopts (place_in (D.honest (disk_in keeper.old)) keeper.old) result (C.honest children.old) (C.whole children.new) moment
+        (now (state_in keeper.old) (C.past children.old) marks.old [] (D.past (disk_in keeper.old)))
+        (now (state_in keeper.new) (C.past children.new) marks.new [] (D.past (disk_in keeper.new))) }
     ensures whole { IsTrue (C.whole children.new) → IsTrue (C.whole children.old) }
     ensures honest { C.honest children.new ≡ C.honest children.old }
+    ensures place { IsSamePlace keeper.old keeper.new }
+    ensures disk { D.honest (disk_in keeper.new) ≡ D.honest (disk_in keeper.old) }
+    ensures failed { (has_failed keeper.new ≡ true) ↔ ((has_failed keeper.old ≡ true) ⊎ (result ≡ Err Refusal.Device)) }
 {
     let mut inputs = inputs;
     claim_all(children, live, moment, &mut inputs);
@@ -111,9 +121,13 @@ fn adopt<D: Disk, C: Children>(
 
 /// Offers the boot, which asks for nothing.
 fn offer_boot<D: Disk>(keeper: &mut Keeper<D>, boot: BootId, moment: Moment) -> Result<(), Refusal>
-    ensures booted { OnOk result ((reply : model.Reply) × Step (size_in keeper.old) (state_in keeper.old) (happens_at moment (Booted boot)) reply [] (state_in keeper.new)) }
+    ensures booted { OnOk result ((reply : model.Reply) × Step (size_in keeper.old) (state_in keeper.old) (boot_at moment boot) reply [] (state_in keeper.new)) }
     ensures state { OnErr result (state_in keeper.new ≡ state_in keeper.old) }
-    ensures size { size_in keeper.new ≡ size_in keeper.old }
+    ensures left { IsTrue (is_trusted (D.honest (disk_in keeper.old)) (has_failed keeper.old)) → During (D.past (disk_in keeper.old)) (D.past (disk_in keeper.new))
+        (IsBegun (layout_in keeper.old) (state_in keeper.old) (boot_at moment boot ∷ [])) }
+    ensures place { IsSamePlace keeper.old keeper.new }
+    ensures disk { D.honest (disk_in keeper.new) ≡ D.honest (disk_in keeper.old) }
+    ensures failed { (has_failed keeper.new ≡ true) ↔ ((has_failed keeper.old ≡ true) ⊎ (result ≡ Err Refusal.Device)) }
 {
     let event = Event::Happened(Happening::Booted { boot });
     let receipt = keeper.submit(&Input::new(moment, event))?;
@@ -141,12 +155,22 @@ pub fn begin<D: Disk, C: Children>(
     boot: BootId,
     moment: Moment,
 ) -> Result<Held, Refusal>
-    ensures opened { IfOk result (λ held. IsTrue (C.honest children.old) → IsTrue (C.whole children.new) → Opened (size_in keeper.old) moment boot (state_in keeper.old) (state_in keeper.new) (C.past children.old) (C.past children.new) held.marks) }
+    ensures began { IfOk result (λ held. IsTrue (C.honest children.old) → IsTrue (C.whole children.new)
+        → Began (place_in (D.honest (disk_in keeper.old)) keeper.old) (Ok tt) moment boot held.adopted
+        (now (state_in keeper.old) (C.past children.old) [] [] (D.past (disk_in keeper.old)))
+        (now (state_in keeper.new) (C.past children.new) held.marks [] (D.past (disk_in keeper.new)))) }
+    ensures refuses { IfErr result (λ e. IsTrue (C.honest children.old) → IsTrue (C.whole children.new)
+        → (marks : List ℕ) × Refuses (place_in (D.honest (disk_in keeper.old)) keeper.old) e moment boot
+        (now (state_in keeper.old) (C.past children.old) [] [] (D.past (disk_in keeper.old)))
+        (now (state_in keeper.new) (C.past children.new) marks [] (D.past (disk_in keeper.new)))) }
     ensures sessions { IfOk result (λ held. length held.sessions.items ≡ 64) }
-    ensures size { size_in keeper.new ≡ size_in keeper.old }
+    ensures anew { IfOk result (λ held. AllByRecursion IsNew held.sessions.items) }
     ensures early { IfErr result (λ e. e ≡ Refusal.NoMemory → (state_in keeper.new ≡ state_in keeper.old) × (C.past children.new ≡ C.past children.old)) }
     ensures whole { IsTrue (C.whole children.new) → IsTrue (C.whole children.old) }
     ensures honest { C.honest children.new ≡ C.honest children.old }
+    ensures place { IsSamePlace keeper.old keeper.new }
+    ensures disk { D.honest (disk_in keeper.new) ≡ D.honest (disk_in keeper.old) }
+    ensures failed { (has_failed keeper.new ≡ true) ↔ ((has_failed keeper.old ≡ true) ⊎ (result ≡ Err Refusal.Device)) }
 {
     let sessions = new_sessions(alloc)?;
     let live = live_in(alloc, keeper.state(), &boot)?;

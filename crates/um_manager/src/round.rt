@@ -1,8 +1,9 @@
 //! One turn.
 
-ghost use Rattle.std.specs.Prelude.{◌≡◌, ◌⊎◌, ◌+◌, ◌*◌, ◌≤◌, ◌++◌, IfErr, IsTrue, length, drop};
-ghost use Rattle.um_keeper.specs.Keepers.{state_in, size_in};
-ghost use Rattle.um_manager.specs.Fates.{inputs_in, tick_at};
+ghost use Rattle.std.specs.Prelude.{◌≡◌, ◌⊎◌, ◌↔◌, ◌≤◌, true, Err, IsTrue, length, drop};
+ghost use Rattle.um_keeper.specs.Keepers.{disk_in, state_in, has_failed, IsSamePlace};
+ghost use Rattle.um_manager.specs.Fates.{tick_at};
+ghost use Rattle.um_manager.specs.Places.{place_in};
 ghost use Rattle.um_manager.specs.Turns.{Turns, now};
 ghost use Rattle.um_state.specs.View.{input_of};
 
@@ -66,10 +67,14 @@ pub fn turn<D: Disk, C: Children>(
 ) -> Result<(), Refusal>
     requires as_many { length sessions.old ≡ length pieces.now }
     requires few { length sessions.old ≤ 64 }
-    ensures turns { Turns (size_in keeper.old) result (C.honest children.old) (C.whole children.new) moment pieces.now (now (state_in keeper.old) (C.past children.old) marks.old sessions.old) (now (state_in keeper.new) (C.past children.new) marks.new sessions.new) }
+    ensures turns { Turns (place_in (D.honest (disk_in keeper.old)) keeper.old) result (C.honest children.old) (C.whole children.new) moment pieces.now
+        (now (state_in keeper.old) (C.past children.old) marks.old sessions.old (D.past (disk_in keeper.old)))
+        (now (state_in keeper.new) (C.past children.new) marks.new sessions.new (D.past (disk_in keeper.new))) }
     ensures whole { IsTrue (C.whole children.new) → IsTrue (C.whole children.old) }
     ensures honest { C.honest children.new ≡ C.honest children.old }
-    ensures size { size_in keeper.new ≡ size_in keeper.old }
+    ensures place { IsSamePlace keeper.old keeper.new }
+    ensures disk { D.honest (disk_in keeper.new) ≡ D.honest (disk_in keeper.old) }
+    ensures failed { (has_failed keeper.new ≡ true) ↔ ((has_failed keeper.old ≡ true) ⊎ (result ≡ Err Refusal.Device)) }
 {
     let Ok(live) = live_numbers(alloc, keeper.state().units()) else {
         return Err(Refusal::NoMemory);

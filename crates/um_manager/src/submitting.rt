@@ -1,13 +1,15 @@
 //! Inputs offered to the store.
 
-ghost use Rattle.std.specs.Prelude.{◌≡◌, ◌⊎◌, ◌+◌, ◌≤◌, ◌++◌, [], IsTrue, map, replicate, vec_len, vec_capacity};
-ghost use Rattle.um_keeper.specs.Keepers.{state_in, size_in};
+ghost use Rattle.std.specs.Prelude.{◌≡◌, ◌⊎◌, ◌↔◌, ◌+◌, ◌≤◌, ◌++◌, [], true, Err, IsTrue, map, replicate, vec_len, vec_capacity};
+ghost use Rattle.um_keeper.specs.Keepers.{disk_in, state_in, has_failed, IsSamePlace};
 ghost use Rattle.um_model.specs.Machine as model;
 ghost use Rattle.um_sector.specs.Refused.{IsLost};
 ghost use Rattle.um_state.specs.View.{reply_of};
 ghost use Rattle.um_wire.specs.Refusal.{refused_of};
 ghost use Rattle.um_manager.specs.Fates.{inputs_in};
+ghost use Rattle.um_manager.specs.Places.{place_in};
 ghost use Rattle.um_manager.specs.Stores.{refusal_of, StoreAnswers, Submits};
+ghost use Rattle.um_manager.specs.Turns.{now};
 
 use crate::marks::Marks;
 use crate::orders::{carry_all, put_reply};
@@ -83,10 +85,15 @@ pub fn submit<D: Disk, C: Children>(
     requires empty { replies.old.items ≡ [] }
     requires room { vec_len replies.old + vec_len inputs ≤ vec_capacity replies.old }
     ensures len { vec_len replies.new ≡ vec_len inputs }
-    ensures submits { Submits (size_in keeper.old) result (state_in keeper.old) (inputs_in inputs.items) (state_in keeper.new) (C.past children.old) (C.past children.new) marks.old marks.new (map reply_of replies.new.items) (C.honest children.old) (C.whole children.new) }
+    ensures submits { Submits (place_in (D.honest (disk_in keeper.old)) keeper.old) result (inputs_in inputs.items) (map reply_of replies.new.items)
+        (C.honest children.old) (C.whole children.new)
+        (now (state_in keeper.old) (C.past children.old) marks.old [] (D.past (disk_in keeper.old)))
+        (now (state_in keeper.new) (C.past children.new) marks.new [] (D.past (disk_in keeper.new))) }
     ensures whole { IsTrue (C.whole children.new) → IsTrue (C.whole children.old) }
     ensures honest { C.honest children.new ≡ C.honest children.old }
-    ensures size { size_in keeper.new ≡ size_in keeper.old }
+    ensures place { IsSamePlace keeper.old keeper.new }
+    ensures disk { D.honest (disk_in keeper.new) ≡ D.honest (disk_in keeper.old) }
+    ensures failed { (has_failed keeper.new ≡ true) ↔ ((has_failed keeper.old ≡ true) ⊎ (result ≡ Err Refusal.Device)) }
 {
     let count = inputs.len();
     match keeper.submit_all(inputs) {

@@ -2,7 +2,11 @@
 #![tactic(auto)]
 
 mod backlog;
+mod blanks;
+mod listening;
+mod pace;
 mod rounds;
+mod waiting;
 
-pub use backlog::Backlog;
+pub use pace::Pace;
 pub use rounds::{Rounds, serve};

@@ -1,16 +1,21 @@
 //! The program `umd`: `--memory` answers the frames of standard input on standard output, `create` makes a store, `ctl` asks a manager,
-//! `run` runs a command for the manager.
+//! `run` runs a command for the manager, `serve` serves a store over a socket.
 #![tactic(auto)]
 
 mod messages;
+mod serving;
+mod standing;
+mod telling;
 
 use messages::{DEVICE, REFUSED, USAGE, ctl_fault, report, status_of, tell_create};
+use serving::serve_store;
 use std::alloc::Global;
 use std::env::Env;
 use std::fs::{File, Files};
 use std::io::ErrorKind;
 use std::net::Net;
 use std::process::{ExitCode, Processes};
+use std::time::Clock;
 use std::{env, io};
 use um_bin::{Ending, Fault, memory};
 use um_create::{Layout, create_store};
@@ -93,20 +98,16 @@ fn ctl<R: Net + Input + Print + Eprint>(
     }
 }
 
-fn run_line<R: Input + Print + Eprint + Files<File = File> + Net + Processes>(
-    rt: &R,
-    alloc: Global,
-    line: &Line<'_>,
-) -> Result<u8, Fault> {
+fn run_line<R>(rt: &R, alloc: Global, line: &Line<'_>) -> Result<u8, Fault>
+where
+    R: Input + Print + Eprint + Files<File = File> + Net + Processes + Clock,
+{
     match line {
         Line::Memory => serve_memory(rt, alloc),
         Line::Run(line) => run_runner(rt, alloc, line),
         Line::Create(line) => Ok(create(rt, alloc, line)),
         Line::Ctl(line) => ctl(rt, alloc, line),
-        Line::Serve(_) => {
-            let _unheard = eprintln!(rt; "umd: serving a store is to come");
-            Ok(USAGE)
-        }
+        Line::Serve(line) => Ok(serve_store(rt, alloc, line)),
         Line::LongBoot => {
             let _unheard = eprintln!(rt; "E1 BadRequest");
             Ok(REFUSED)
@@ -126,7 +127,7 @@ fn run_line<R: Input + Print + Eprint + Files<File = File> + Net + Processes>(
 /// Runs the program, and gives its exit status.
 fn run<R>(rt: &R) -> Result<u8, Fault>
 where
-    R: AllocGlobal + Env + Input + Print + Eprint + Files<File = File> + Net + Processes,
+    R: AllocGlobal + Env + Input + Print + Eprint + Files<File = File> + Net + Processes + Clock,
 {
     let alloc = rt.alloc();
     match env::args(rt) {
