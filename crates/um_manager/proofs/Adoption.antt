@@ -3,6 +3,7 @@ use Rattle.std.proofs.Common.{◌≡◌, ◌||◌, ℕ, List, [], ◌∷◌, ◌
 use Rattle.std.proofs.lemmas.List.Concat.{flat_map-append}
 use Rattle.um_keeper.specs.Answering.{all_asked}
 use Rattle.um_model.specs.Children.{Call, Signalled as sent, orders, orders_in, tales, tales_in, refused, refusals_in}
+use Rattle.um_model.specs.Disk.{Past}
 use Rattle.um_model.specs.Machine.{State, Input, Reply}
 use Rattle.um_model.specs.Service.{ByUnit, SendSignal}
 use Rattle.um_model.specs.declared.service.Signal.{Signal}
@@ -15,8 +16,9 @@ use Rattle.um_manager.specs.Fates.{Heard, lost, inputs_of_tale}
 use Rattle.um_manager.specs.Live.{has, is_live, AreLive, HasFewLive, IsIn, AreIn, none, chosen_next, passed_over}
 use Rattle.um_manager.specs.Opening.{Signalled, Adopted}
 use Rattle.um_manager.specs.Orders.{signals}
+use Rattle.um_manager.specs.Places.{Place}
 use Rattle.um_manager.specs.Stores.{Submits}
-use Rattle.um_manager.specs.Turns.{Answers}
+use Rattle.um_manager.specs.Turns.{now, Answers, Leaves}
 
 joined : (units : ByUnit UnitState) (sub : SubState) (ms ks ns ls : List ℕ) → AreIn units sub ms ks → AreIn units sub ns ls → AreIn units sub (ms ++ ns) (ks ++ ls)
 joined units sub ms ks ns ls none q = q
@@ -51,12 +53,14 @@ signalled_it units sub signal n a b is e = record {
 pub signalled_not : (units : ByUnit UnitState) (sub : SubState) (signal : Signal) (n : ℕ) (a : List Call) → ¬ IsIn units sub n → Signalled units sub signal (n ∷ []) a a
 signalled_not units sub signal n a isnt = record { chosen = []; are = passed_over isnt none; orders_are = sym (append-nil _); no_tale = refl; no_refusal = refl }
 
-pub adopted : (size : ℕ) (store : Result Unit Refusal) (moment : ℕ) (s t : State) (old heard grown termed new : List Call) (live marks marked : List ℕ) (inputs : List Input) (replies : List Reply)
+pub adopted : (place : Place) (store : Result Unit Refusal) (moment : ℕ) (s t : State) (old heard grown termed new : List Call) (live marks marked : List ℕ) (d e : Past) (inputs : List Input) (replies : List Reply)
     (h k l w v m : Bool) → AreLive s.units live → ((n : ℕ) → has n marks ≡ has n live)
-    → (IsTrue h → IsTrue m → Heard lost moment (λ n. true) old heard live [] inputs) → Submits size store s inputs t heard grown marks marked replies k v
+    → (IsTrue h → IsTrue m → Heard lost moment (λ n. true) old heard live [] inputs)
+    → Submits place store inputs replies k v (now s heard marks [] d) (now t grown marked [] e)
     → (IsTrue l → IsTrue w → Signalled t.units StopSigterm Term live grown termed) → (IsTrue l → IsTrue w → Signalled t.units StopSigkill Kill live termed new)
-    → (IsTrue h → IsTrue k) → (IsTrue h → IsTrue l) → (IsTrue w → IsTrue v) → (IsTrue v → IsTrue m) → IsTrue h → IsTrue w → Adopted size store moment s t old new marked
-adopted size store moment s t old heard grown termed new live marks marked inputs replies h k l w v m are_live marks_live hears submits terms kills hk hl wv vm honest whole =
+    → (IsTrue h → IsTrue k) → (IsTrue h → IsTrue l) → (IsTrue w → IsTrue v) → (IsTrue v → IsTrue m) → IsTrue h → IsTrue w
+    → Adopted place store moment (now s old marks [] d) (now t new marked [] e)
+adopted place store moment s t old heard grown termed new live marks marked d e inputs replies h k l w v m are_live marks_live hears submits terms kills hk hl wv vm honest whole =
     let told = hears honest (vm (wv whole)) in
     let sub = submits.1 in
     let grew = sub.grew (hk honest) (wv whole) in
@@ -69,7 +73,7 @@ adopted size store moment s t old heard grown termed new live marks marked input
       of_live = told.of_live;
       tales_are = kill.no_tale ∙ term.no_tale ∙ grew.no_tale ∙ told.tales_are;
       answers = sub.answers;
-      answered = subst (λ l. Answers size store s l sub.answers t) told.inputs_are sub.answered;
+      answered = subst (λ l. Answers place.size store s l sub.answers t) told.inputs_are sub.answered;
       order = sub.order;
       termed = term.chosen;
       are_termed = term.are;
@@ -81,4 +85,6 @@ adopted size store moment s t old heard grown termed new live marks marked input
       refusals = grew.refusals;
       refusals_are = kill.no_refusal ∙ term.no_refusal ∙ grew.refusals_are ∙ ap (λ l. l ++ grew.refusals) told.no_refusal;
       marks_are = λ few n is. grew.marks_are few n is ∙ ap (λ b. b || has n grew.refusals) (marks_live n);
+      left = λ x. subst (λ l. Leaves place store s l sub.answers d e) told.inputs_are (sub.left x);
+      stored = sub.stored;
     }

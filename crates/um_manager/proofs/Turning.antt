@@ -10,9 +10,10 @@ use Rattle.um_wire.specs.declared.refusal.Refusal.TheVariants.{NoMemory}
 use Rattle.um_manager.specs.Connections.{AllSame, TakesPiece, Cuts, CutsAll, Took, inputs_asked, due_of}
 use Rattle.um_manager.specs.Fates.{Heard, inputs_of_tale, unexecuted, tick_at}
 use Rattle.um_manager.specs.Live.{has, AreLive}
+use Rattle.um_manager.specs.Places.{Place}
 use Rattle.um_manager.specs.Replies.{reply_in, PaysAll}
 use Rattle.um_manager.specs.Stores.{Submits}
-use Rattle.um_manager.specs.Turns.{Now, firsts, Answers, Submitted, Turned}
+use Rattle.um_manager.specs.Turns.{Now, now, firsts, Answers, Leaves, Submitted, Turned}
 use Rattle.um_manager.specs.declared.pieces.Piece.{Piece}
 use Rattle.um_manager.specs.declared.pieces.Piece.TheVariants.{Nothing, Bytes, Closed}
 use Rattle.um_manager.specs.declared.taking.Due.{Due}
@@ -41,17 +42,19 @@ cuts_roomy (t ∷ ts) (r ∷ rs) (u ∷ us) (p ∷ ps) [] same cuts = absurd cut
 cuts_roomy (t ∷ ts) (r ∷ rs) (u ∷ us) (p ∷ ps) (q ∷ qs) same cuts =
     ((cuts.0.0, takes_roomy t r cuts.0.0 p same.0 cuts.0.1, cuts.0.2), cuts_roomy ts rs us ps qs same.1 cuts.1)
 
-pub turned : (size : ℕ) (store : Result Unit Refusal) (moment : ℕ) (pieces : List Piece) (a b : Now) (live : List ℕ) (past : List Call) (roomy cut : List Session)
+pub turned : (place : Place) (store : Result Unit Refusal) (moment : ℕ) (pieces : List Piece) (a b : Now) (live : List ℕ) (past : List Call) (roomy cut : List Session)
     (heard ticked inputs : List Input) (count : ℕ) (owed : List Due) (replies rest : List Reply) (h k w m : Bool)
     → AreLive a.state.units live → AllSame a.sessions roomy
     → (IsTrue h → IsTrue m → Heard unexecuted moment (λ n. has n a.marks) a.past past live [] heard) → ticked ≡ heard ++ tick_at moment ∷ [] → count ≡ length ticked
-    → Took moment roomy pieces cut ticked inputs [] owed → Submits size store a.state inputs b.state past b.past a.marks b.marks replies k w
-    → rest ≡ drop count replies → PaysAll b.state owed rest cut b.sessions → k ≡ h → (IsTrue w → IsTrue m) → IsTrue h → IsTrue w → Turned size store moment pieces a b
-turned size store moment pieces a b live past roomy cut heard ticked inputs count owed replies rest h k w m are_live room hears tick counted took submits rest_is pays same fewer honest whole =
+    → Took moment roomy pieces cut ticked inputs [] owed
+    → Submits place store inputs replies k w (now a.state past a.marks [] a.disk) (now b.state b.past b.marks [] b.disk)
+    → rest ≡ drop count replies → PaysAll b.state owed rest cut b.sessions → k ≡ h → (IsTrue w → IsTrue m) → IsTrue h → IsTrue w → Turned place store moment pieces a b
+turned place store moment pieces a b live past roomy cut heard ticked inputs count owed replies rest h k w m are_live room hears tick counted took submits rest_is pays same fewer honest whole =
     let told = hears honest (fewer whole) in
     let sub = submits.1 in
     let grew = sub.grew (subst IsTrue (sym same) honest) whole in
     let first : ticked ≡ firsts moment told.told = tick ∙ ap (λ l. l ++ tick_at moment ∷ []) told.inputs_are in
+    let all : inputs ≡ firsts moment told.told ++ flat_map (inputs_asked moment) took.requests = took.inputs_are ∙ ap (λ l. l ++ flat_map (inputs_asked moment) took.requests) first in
     record {
       live = live;
       are_live = are_live;
@@ -62,7 +65,7 @@ turned size store moment pieces a b live past roomy cut heard ticked inputs coun
       cut = cut;
       cuts = cuts_roomy a.sessions roomy cut pieces took.requests room took.cuts;
       answers = sub.answers;
-      answered = subst (λ l. Answers size store a.state l sub.answers b.state) (took.inputs_are ∙ ap (λ l. l ++ flat_map (inputs_asked moment) took.requests) first) sub.answered;
+      answered = subst (λ l. Answers place.size store a.state l sub.answers b.state) all sub.answered;
       order = sub.order;
       orders_are = grew.orders_are ∙ ap (λ l. l ++ all_asked sub.answers) told.no_order;
       refusals = grew.refusals;
@@ -71,6 +74,8 @@ turned size store moment pieces a b live past roomy cut heard ticked inputs coun
       paid = subst (λ l. PaysAll b.state (map due_of took.requests) l cut b.sessions)
           (rest_is ∙ ap (λ n. drop n replies) (counted ∙ ap length first) ∙ ap (λ l. drop (length (firsts moment told.told)) l) sub.replies_are)
           (subst (λ l. PaysAll b.state l rest cut b.sessions) took.due_are pays);
+      left = λ t. subst (λ l. Leaves place store a.state l sub.answers a.disk b.disk) all (sub.left t);
+      stored = sub.stored;
     }
 
 pub not_refused : (r : Result Unit Refusal) (u : Unit) (e : Refusal) → r ≡ Ok u → r ≡ Err e → ⊥

@@ -69,7 +69,9 @@ pub record Began (place : Place) (store : Result Unit Refusal) (moment : ℕ) (b
   pub asked_none : mid.past ≡ a.past
   pub left : IsTrue place.trusted → During a.disk mid.disk (IsBegun place.layout a.state (boot_at moment boot ∷ []))
   pub adopted : Adopted place store moment mid b
-  pub count_is : count ≡ length adopted.live
+  pub numbers : List ℕ
+  pub numbers_are : AreLive mid.state.units numbers
+  pub count_is : count ≡ length numbers
 
 -- What an opening that is refused did, once the store was taken up: the boot was refused, and nothing was asked of the children; or it was
 -- taken, and the store failed while adoption's inputs were offered.

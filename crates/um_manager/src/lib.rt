@@ -4,6 +4,7 @@
 
 mod connection;
 mod fates;
+mod laws;
 mod live;
 mod manager;
 mod marks;
@@ -17,6 +18,7 @@ mod submitting;
 mod taking;
 
 pub use connection::{CONNECTIONS, Connection};
+pub use laws::{each_client_has_its_own_replies, what_a_crash_leaves};
 pub use manager::{Manager, Output};
 pub use pieces::{Piece, Pieces};
 pub use script::Step;

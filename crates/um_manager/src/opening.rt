@@ -38,6 +38,7 @@ pub struct Held {
 }
 
 /// A new session for each connection.
+#[tactic(auto, using(crate::proofs::Anew::one_more))]
 fn new_sessions(alloc: Global) -> Result<Vec<Session>, AllocError>
     ensures each { IfOk result (λ sessions. length sessions.items ≡ 64) }
     ensures anew { IfOk result (λ sessions. AllByRecursion IsNew sessions.items) }

@@ -1,11 +1,12 @@
 use Rattle.std.proofs.Common.{◌≡◌, ◌∙◌, ◌++◌, ◌∷◌, [], length, map, drop, ap, sym, subst, rules}
 use Rattle.std.specs.Bool.{IsTrue}
 use Rattle.std.proofs.lemmas.List.{length-map, drop-map}
-use Rattle.um_keeper.specs.Keepers.{state_in, size_in}
+use Rattle.um_keeper.specs.Keepers.{disk_in, state_in}
 use Rattle.um_state.specs.View.{input_of, reply_of}
 use Rattle.um_manager.specs.Connections.{Took}
 use Rattle.um_manager.specs.Fates.{Heard, inputs_in, unexecuted}
 use Rattle.um_manager.specs.Live.{has, AreLive}
+use Rattle.um_manager.specs.Places.{place_in}
 use Rattle.um_manager.specs.Replies.{PaysAll}
 use Rattle.um_manager.specs.Stores.{Submits}
 use Rattle.um_manager.specs.Turns.{now}
@@ -18,14 +19,19 @@ returns-clause-turns g c =
     let tick = c.put.ensures.items ∙ ap (λ i. inputs_in c.hear.new.inputs.items ++ i ∷ []) c.tick.ensures in
     let count : c.len-firsts.result ≡ length c.put.new.inputs.items = search rules in
     let took = subst (λ l. Took c.args.moment c.room_all.new.sessions c.args.pieces.now c.take_all.new.sessions (inputs_in c.put.new.inputs.items) (inputs_in c.take_all.new.inputs.items) l c.take_all.new.owed.items) c.in-Ok-with_capacity-3.ensures.items c.take_all.ensures.took in
-    let submits = subst (λ past. Submits (size_in c.args.keeper.now) c.submit-submitted.result (state_in c.args.keeper.now) (inputs_in c.take_all.new.inputs.items) (state_in c.submit-submitted.new.keeper) (g.C.Children.past c.hear.new.children) past c.args.marks.now c.submit-submitted.new.marks (map reply_of c.submit-submitted.new.replies.items) (g.C.Children.honest c.hear.new.children) (g.C.Children.whole c.submit-submitted.new.children)) (sym c.forget_ended.ensures.past) c.submit-submitted.ensures.submits in
+    let D = g.D.Disk in
+    let old = c.args.keeper.now in
+    let new = c.submit-submitted.new.keeper in
+    let here = place_in (D.honest (disk_in old)) old in
+    let submits = subst (λ past. Submits here c.submit-submitted.result (inputs_in c.take_all.new.inputs.items) (map reply_of c.submit-submitted.new.replies.items) (g.C.Children.honest c.hear.new.children) (g.C.Children.whole c.submit-submitted.new.children)
+        (now (state_in old) (g.C.Children.past c.hear.new.children) c.args.marks.now [] (D.past (disk_in old))) (now (state_in new) past c.submit-submitted.new.marks [] (D.past (disk_in new)))) (sym c.forget_ended.ensures.past) c.submit-submitted.ensures.submits in
     let rest = ap (map reply_of) (c.behind-replies.ensures ∙ ap (drop c.len-firsts.result) c.as_slice-2.ensures.value) ∙ sym (drop-map reply_of c.len-firsts.result c.submit-submitted.new.replies.items) in
     let pays = subst (λ l. PaysAll (state_in c.submit-submitted.new.keeper) l (map reply_of c.behind-replies.result.now) c.take_all.new.sessions c.pay_all.new.sessions) c.as_slice-3.ensures.value c.pay_all.ensures in (
       (λ e. absurd (c.submit-submitted.ensures.submits.0 e)),
       (λ ne honest whole.
-          turned (size_in c.args.keeper.now) c.submit-submitted.result c.args.moment c.args.pieces.now
-          (now (state_in c.args.keeper.now) (g.C.Children.past c.args.children.now) c.args.marks.now c.args.sessions.now)
-          (now (state_in c.submit-submitted.new.keeper) (g.C.Children.past c.forget_ended.new.children) c.submit-submitted.new.marks c.pay_all.new.sessions)
+          turned here c.submit-submitted.result c.args.moment c.args.pieces.now
+          (now (state_in old) (g.C.Children.past c.args.children.now) c.args.marks.now c.args.sessions.now (D.past (disk_in old)))
+          (now (state_in new) (g.C.Children.past c.forget_ended.new.children) c.submit-submitted.new.marks c.pay_all.new.sessions (D.past (disk_in new)))
           c.in-Ok.live.items (g.C.Children.past c.hear.new.children) c.room_all.new.sessions c.take_all.new.sessions
           (inputs_in c.hear.new.inputs.items) (inputs_in c.put.new.inputs.items) (inputs_in c.take_all.new.inputs.items) c.len-firsts.result c.take_all.new.owed.items
           (map reply_of c.submit-submitted.new.replies.items) (map reply_of c.behind-replies.result.now)
