@@ -1,22 +1,21 @@
 -- What the parts of an opening come to together.
-use Rattle.std.proofs.Common.{◌≡◌, ◌≢◌, ◌⊎◌, inl, inr, ◌∙◌, ◌++◌, ℕ, zero, suc, List, [], ◌∷◌, take, Bool, true, false, Result, Ok, Err, append-nil, refl, sym, ap, subst}
+use Rattle.std.proofs.Common.{◌≡◌, inl, inr, ◌∙◌, ◌++◌, ℕ, zero, suc, List, [], ◌∷◌, take, Bool, false, Result, Ok, Err, append-nil, refl, sym, ap, subst}
 use Rattle.std.specs.Bool.{IsTrue}
 use Rattle.std.specs.Prelude.{IfErr}
 use Rattle.std.proofs.lemmas.Result.{err_from_is_err_and}
 use Rattle.std.specs.Result.{IsErrAnd}
 use Rattle.um_keeper.specs.Keeping.{IsBegun}
-use Rattle.um_keeper.specs.Opening.{IsSomeStore, IsAsBefore}
+use Rattle.um_keeper.specs.Opening.{IsAsBefore}
 use Rattle.um_model.proofs.DiskLaws.{weaker, followed}
 use Rattle.um_model.specs.Children.{Call, Tale, tales}
-use Rattle.um_model.specs.Disk.{Past, Image, Images, During}
+use Rattle.um_model.specs.Disk.{Past, Image, During}
 use Rattle.um_model.specs.Lives.{HasInOrder, no_others}
 use Rattle.um_model.specs.Machine.{State, Input, Reply, Step, Run, goes}
 use Rattle.um_model.specs.Service.{Action}
-use Rattle.um_model.specs.Stands.{IsStoreOf}
 use Rattle.um_model.specs.Store.{body_limit}
 use Rattle.um_model.specs.declared.layout.Layout.{Layout}
 use Rattle.um_wire.specs.declared.refusal.Refusal.{Refusal}
-use Rattle.um_manager.specs.Opening.{adoptions, boot_at, Adopted, Began, Refuses, unbooted, unadopted, IsFound, IsOfOpening, IsOfRefused}
+use Rattle.um_manager.specs.Opening.{adoptions, boot_at, Refuses, unbooted, unadopted, IsFound, IsOfOpening, IsOfRefused}
 use Rattle.um_manager.specs.Places.{Place, place, is_trusted}
 use Rattle.um_manager.specs.Turns.{Now, now}
 
@@ -76,7 +75,7 @@ cut_short place moment boot sectors first a b told some found tales_are are befo
     followed first a.disk b.disk (IsOfRefused place.layout moment boot sectors first a.past b.past)
     (weaker first a.disk (IsAsBefore place.layout first) (IsOfRefused place.layout moment boot sectors first a.past b.past) (λ image is. inl is) before)
     (weaker a.disk b.disk (IsBegun place.layout a.state (boot_at moment boot ∷ some)) (IsOfRefused place.layout moment boot sectors first a.past b.past)
-      (λ image is. inr (record { state = a.state; found = found; told = told; tales_are = tales_are; some = some; are = are; begun = is })) then)
+    (λ image is. inr (record { state = a.state; found = found; told = told; tales_are = tales_are; some = some; are = are; begun = is })) then)
 
 -- what a crash leaves of an opening that is refused once the store is taken up
 pub refused_left : (place : Place) (moment : ℕ) (boot : List ℕ) (sectors : ℕ) (first : Past) (a b : Now) (e : Refusal) → place.size ≡ body_limit place.layout → IsTrue place.trusted

@@ -1,12 +1,9 @@
 -- What a boot does to the live processes, and that it asks for nothing.
-use Rattle.std.proofs.Common.{◌≡◌, ◌≢◌, ◌⊎◌, ◌==◌, ◌<◌, ℕ, List, [], ◌∷◌, Bool, true, false, length, None, unwrap_or, refl, sym, ap, subst, ◌∙◌, inl, inr, arith}
+use Rattle.std.proofs.Common.{◌≡◌, ◌≢◌, ◌⊎◌, ℕ, List, [], None, unwrap_or, refl, sym, subst, inl, inr, arith}
 use Rattle.std.specs.Bool.{⊤}
 use Rattle.std.specs.FinMap as map
-use Rattle.std.specs.List.{AllPairs}
 use Rattle.um_model.specs.Machine.{State, Input, Reply, Event, Commanded, Happened, Happening, ProcessEnded, ProcessExecuted, Tick, Booted, HasNoEffect, is_over, isnt_awaited, is_idle, is_known, Follows, ends, reports, ticks, boots, Takes, obeys, meets, HasNoRoom, Step, refused, crowded_out, idle, taken}
-use Rattle.um_model.specs.Service.{Action, ByUnit}
-use Rattle.um_model.specs.StateSpellings.{numbers_in}
-use Rattle.um_model.specs.declared.service.UnitState.{UnitState}
+use Rattle.um_model.specs.Service.{Action}
 use Rattle.um_model.specs.Service.{dead_unit}
 use Rattle.um_model.specs.Transitions.{HasNumber}
 use Rattle.um_manager.proofs.Numbered.{over_dead}

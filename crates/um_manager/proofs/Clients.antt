@@ -1,5 +1,5 @@
 -- What one client has of turns that follow each other.
-use Rattle.std.proofs.Common.{◌≡◌, ◌≢◌, ◌⊎◌, inl, inr, ◌∙◌, ◌+◌, ℕ, zero, suc, List, [], ◌∷◌, ◌++◌, map, take, drop, length, Bool, true, false, Option, Some, None, Result, Ok, Err, slice_get, append_assoc, append-nil, refl, sym, ap, subst, arith, true≢false}
+use Rattle.std.proofs.Common.{◌≡◌, ◌≢◌, inl, inr, ◌∙◌, ◌+◌, ℕ, zero, suc, List, [], ◌∷◌, ◌++◌, map, take, drop, length, true, false, Option, Some, None, Result, Ok, Err, slice_get, append_assoc, append-nil, refl, sym, ap, subst, arith, true≢false}
 use Rattle.std.specs.List.{flat_map}
 use Rattle.std.proofs.lemmas.List.{length-append}
 use Rattle.std.proofs.lemmas.List.Concat.{flat_map-append}
@@ -195,7 +195,10 @@ put_more : (o : List ℕ) (xs ys : List Reply) (u w : Session) → ArePut o xs u
 put_more o xs ys u w (inl e) (inl f) stuck =
     inl (f ∙ ap (λ l. l ++ flat_map frame_in ys) e ∙ append_assoc o (flat_map frame_in xs) (flat_map frame_in ys) ∙ ap (λ l. o ++ l) (sym (flat_map-append frame_in xs ys)))
 put_more o xs ys u w (inl e) (inr (failed, most, last, is, f)) stuck = inr (
-  failed, xs ++ most, last, ap (λ l. xs ++ l) is ∙ sym (append_assoc xs most (last ∷ [])),
+  failed,
+  xs ++ most,
+  last,
+  ap (λ l. xs ++ l) is ∙ sym (append_assoc xs most (last ∷ [])),
   f ∙ ap (λ l. l ++ flat_map frame_in most) e ∙ append_assoc o (flat_map frame_in xs) (flat_map frame_in most) ∙ ap (λ l. o ++ l) (sym (flat_map-append frame_in xs most)),
 )
 put_more o xs ys u w (inr (failed, most, last, is, e)) put stuck =
@@ -294,11 +297,14 @@ one_turn {moment = moment} {pieces} {a} {b} turned k t at stays =
     let (u, u_at, paid) = pays_at b.state (map due_of turned.requests) replies turned.cut b.sessions k (due_of r) c turned.paid (at_mapped due_of turned.requests k r r_at) c_at in
     let finds : (reply : Reply) → slice_get replies n ≡ Some reply → (answer : Answer) × (slice_get turned.answers (place_of turned k) ≡ Some answer) × (reply ≡ reply_in answer) =
     λ reply found. mapped_at reply_in turned.answers (place_of turned k) reply
-        (ap (λ m. slice_get (map reply_in turned.answers) (count + m)) (sym (owed_inputs moment turned.requests k)) ∙ sym (get_drop count (map reply_in turned.answers) n) ∙ found) in
+    (ap (λ m. slice_get (map reply_in turned.answers) (count + m)) (sym (owed_inputs moment turned.requests k)) ∙ sym (get_drop count (map reply_in turned.answers) n) ∙ found) in
     let one = told b.state turned.answers (place_of turned k) replies n p r asked t fed c u finds
-        (feeding t p fed (λ closed. stays (p_at ∙ ap Some closed)) came) reads given paid in
-    (u, u_at, subst (λ o. ToldOf b.state turned.answers (place_of turned k) (slice_get turned.requests k) t u (bytes_in o)) (sym p_at)
-    (subst (λ o. ToldOf b.state turned.answers (place_of turned k) o t u (bytes_in (Some p))) (sym r_at) one))
+    (feeding t p fed (λ closed. stays (p_at ∙ ap Some closed)) came) reads given paid in (
+      u,
+      u_at,
+      subst (λ o. ToldOf b.state turned.answers (place_of turned k) (slice_get turned.requests k) t u (bytes_in o)) (sym p_at)
+          (subst (λ o. ToldOf b.state turned.answers (place_of turned k) o t u (bytes_in (Some p))) (sym r_at) one),
+    )
 
 -- ---- all turns
 
@@ -352,13 +358,16 @@ pub has_its_own : {place : Place} {steps : List Step} {a b : Now} (k : ℕ) (tur
     → t.rest ≡ [] → t.failed ≡ false → StaysOpen k steps → (u : Session) × (slice_get b.sessions k ≡ Some u) × HasItsOwn k turns t u
 has_its_own {steps = steps} k turns t at rest working stays =
     let all = told_all k turns t at stays in
-    let story = all.story in
-    (all.u, all.at, record {
-      exchanges = all.exchanges;
-      are = all.are;
-      asked = story.asked;
-      given = story.given;
-      read = subst (λ l. IsReadOf (bytes_of k steps) l all.u) story.reads (subst (λ l. IsReadOf l (flat_map readings story.deeds) all.u) story.fed
-          (session_reads t all.u story.deeds rest working story.lives));
-      put = story.put;
-    })
+    let story = all.story in (
+      all.u,
+      all.at,
+      record {
+        exchanges = all.exchanges;
+        are = all.are;
+        asked = story.asked;
+        given = story.given;
+        read = subst (λ l. IsReadOf (bytes_of k steps) l all.u) story.reads (subst (λ l. IsReadOf l (flat_map readings story.deeds) all.u) story.fed
+            (session_reads t all.u story.deeds rest working story.lives));
+        put = story.put;
+      },
+    )

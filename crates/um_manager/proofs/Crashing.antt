@@ -1,5 +1,5 @@
 -- What a crash leaves of turns that follow each other.
-use Rattle.std.proofs.Common.{◌≡◌, ◌∙◌, ◌++◌, ℕ, zero, suc, List, [], ◌∷◌, map, take, Bool, true, false, if◌then◌else◌, Result, Ok, Err, append_assoc, refl, sym, ap, subst}
+use Rattle.std.proofs.Common.{◌≡◌, ◌++◌, ℕ, zero, suc, List, [], ◌∷◌, map, take, Bool, true, false, if◌then◌else◌, Result, Ok, Err, append_assoc, refl, sym, ap, subst}
 use Rattle.std.specs.Bool.{IsTrue}
 use Rattle.um_keeper.specs.Answering.{Answer, Answered, accepted, refused, turned_away, AreAnswered, all_answered, and_next, is_turned_away, where_step, taken}
 use Rattle.um_keeper.specs.Keeping.{IsBegun}
@@ -43,8 +43,8 @@ turns_before place steps a b no_turn rest image on m = m
 turns_before place steps a b (and_turn {step} {steps = later} {mid = mid} turn turns) rest image on m =
     subst (λ l. MayLeave place.layout a.state l image) (sym (append_assoc (offers (offered_in turn) turn.answers) (all_offers turns) rest))
     (answered_before place.layout a.state mid.state (offered_in turn) turn.answers (all_offers turns ++ rest) image
-      (subst (λ n. AreAnswered n a.state (offered_in turn) turn.answers mid.state) on turn.answered)
-      (turns_before place later mid b turns rest image on m))
+    (subst (λ n. AreAnswered n a.state (offered_in turn) turn.answers mid.state) on turn.answered)
+    (turns_before place later mid b turns rest image on m))
 
 -- ---- the turn that a crash meets
 

@@ -1,5 +1,5 @@
 -- What it comes to that connections are taken one behind the other.
-use Rattle.std.proofs.Common.{◌≡◌, ℕ, ◌+◌, List, [], ◌∷◌, ◌++◌, flat_map, map, Option, Result, refl, sym, ap, ◌∙◌, append_assoc, append-nil, arith}
+use Rattle.std.proofs.Common.{◌≡◌, ℕ, ◌+◌, List, [], ◌∷◌, ◌++◌, flat_map, map, Option, Result, ap, ◌∙◌, append_assoc, arith}
 use Rattle.um_model.specs.Machine.{Input}
 use Rattle.um_model.specs.Sessions.{Session}
 use Rattle.um_proto.specs.declared.request.Request.{Request}

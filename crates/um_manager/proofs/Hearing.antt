@@ -1,5 +1,5 @@
 -- What it comes to that one number's fate is asked behind those of others.
-use Rattle.std.proofs.Common.{◌≡◌, ℕ, List, [], ◌∷◌, ◌++◌, flat_map, Bool, Option, Some, None, refl, sym, ap, ◌∙◌, append_assoc, append-nil}
+use Rattle.std.proofs.Common.{◌≡◌, ℕ, List, [], ◌∷◌, ◌++◌, flat_map, Bool, Option, refl, sym, ap, ◌∙◌, append_assoc, append-nil}
 use Rattle.std.proofs.lemmas.List.Concat.{flat_map-append}
 use Rattle.um_model.specs.Children.{Call, Asked, Tale, orders, orders_in, tales, tales_in, refused, refusals_in}
 use Rattle.um_model.specs.Machine.{Input}

@@ -1,7 +1,7 @@
 -- The numbers of live processes: unit by unit, by look-ups, sorted.
-use Rattle.std.proofs.Common.{◌⊎◌, MatchOption, ◌≡◌, ◌≢◌, ◌==◌, ◌<◌, ℕ, List, [], ◌∷◌, ◌++◌, flat_map, map as each, Bool, true, false, not, ◌||◌, ◌&&◌, Option, Some, None, is_some, unwrap_or, cond, refl, sym, ap, subst, ◌∙◌, inl, inr}
+use Rattle.std.proofs.Common.{◌⊎◌, MatchOption, ◌≡◌, ◌==◌, ◌<◌, ℕ, List, [], ◌∷◌, ◌++◌, flat_map, map as each, Bool, true, false, not, ◌||◌, ◌&&◌, Option, Some, None, is_some, unwrap_or, cond, refl, sym, ap, subst, ◌∙◌, inl, inr}
 use Rattle.std.specs.FinMap as map
-use Rattle.std.specs.List.{list_any, list_all, dedup, dedup_from}
+use Rattle.std.specs.List.{list_all, dedup, dedup_from}
 use Rattle.std.proofs.lemmas.Bool.{eqb-true, eq-eqb, true≢false}
 use Rattle.std.proofs.lemmas.List.Folds.{list_any-append}
 use Rattle.um_model.proofs.EntriesLaws.{at_each, from_each, left_true, right_true}

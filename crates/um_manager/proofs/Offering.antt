@@ -1,6 +1,6 @@
 -- What it comes to that a list of inputs is offered: answered one behind the other, or refused as a whole.
-use Rattle.std.proofs.Common.{◌≡◌, ◌≢◌, ◌⊎◌, ◌↔◌, inl, inr, ◌≤◌, ◌<◌, ℕ, suc, List, [], ◌∷◌, ◌++◌, length, map, replicate, Bool, true, false, IsTrue, Result, Ok, Err, refl, sym, ap, subst, ◌∙◌, true≢false, arith}
-use Rattle.um_keeper.specs.Answering.{Answer, AreAnswered, all_answered, and_next, accepted, refused, turned_away, all_asked, taken}
+use Rattle.std.proofs.Common.{◌≡◌, ◌⊎◌, ◌↔◌, inl, inr, ℕ, suc, List, [], ◌∷◌, length, map, replicate, Bool, true, false, IsTrue, Result, Ok, Err, refl, sym, ap, subst, ◌∙◌, true≢false, arith}
+use Rattle.um_keeper.specs.Answering.{Answer, AreAnswered, all_answered, and_next, turned_away, all_asked, taken}
 use Rattle.um_keeper.specs.Keeping.{IsBegun}
 use Rattle.um_model.specs.Children.{Call}
 use Rattle.um_model.specs.Disk.{Past, Image, During}
@@ -141,10 +141,12 @@ denied_at : (place : Place) (f : StoreFault) (result : Result Unit declared.Refu
     → (f ≡ fault.NoMemory → IsTrue place.trusted → (e ≡ d) × Holds place s d)
     → Submits place result inputs replies h w (now s past marks [] d) (now s past marks [] e)
 denied_at place fault.NoMemory result s inputs past marks d e replies h w answers is lost held =
-    subst (λ r. Submits place r inputs replies h w (now s past marks [] d) (now s past marks [] e)) (sym answers)
-    ((λ x. cc), denied_as place refusal.NoMemory (Ok tt) s inputs past marks d e replies h w (all_denied place.size s inputs) is
-      (λ t. kept_on place s inputs (replicate (length inputs) (Err refusal.NoMemory)) d e (held refl t))
-      (λ t ok. let (same, holds) = held refl t in subst (λ x. Holds place s x) (sym same) holds))
+    subst (λ r. Submits place r inputs replies h w (now s past marks [] d) (now s past marks [] e)) (sym answers) (
+      (λ x. cc),
+      denied_as place refusal.NoMemory (Ok tt) s inputs past marks d e replies h w (all_denied place.size s inputs) is
+          (λ t. kept_on place s inputs (replicate (length inputs) (Err refusal.NoMemory)) d e (held refl t))
+          (λ t ok. let (same, holds) = held refl t in subst (λ x. Holds place s x) (sym same) holds),
+    )
 denied_at place fault.Device result s inputs past marks d e replies h w answers is lost held =
     subst (λ r. Submits place r inputs replies h w (now s past marks [] d) (now s past marks [] e)) (sym answers)
     ((λ x. cc), denied_as place refusal.Device (Err refusal.Device) s inputs past marks d e replies h w (refl, refl) is lost (λ t ok. absurd (err_not_ok ok)))

@@ -1,11 +1,11 @@
 -- Where a store stands from one call to the next.
-use Rattle.std.proofs.Common.{◌≡◌, ◌⊎◌, ◌↔◌, inl, inr, ◌∙◌, ℕ, Bool, true, false, Result, Ok, Err, refl, sym, ap, subst, true≢false}
+use Rattle.std.proofs.Common.{◌≡◌, ◌⊎◌, ◌↔◌, inl, inr, ◌∙◌, ℕ, Bool, true, false, Result, Ok, Err, refl, sym, ap}
 use Rattle.std.proofs.lemmas.Result.{err_from_is_err_and}
 use Rattle.std.specs.Result.{IsErrAnd}
 use Rattle.um_model.specs.declared.layout.Layout.{Layout}
 use Rattle.um_wire.specs.declared.refusal.Refusal.{Refusal}
 use Rattle.um_wire.specs.declared.refusal.Refusal.TheVariants.{Device}
-use Rattle.um_manager.specs.Places.{Place, place, is_trusted}
+use Rattle.um_manager.specs.Places.{place, is_trusted}
 
 pub same_place : {m n : ℕ} {k l : Layout} {h i f g : Bool} → n ≡ m → l ≡ k → i ≡ h → g ≡ f → place n l (is_trusted i g) ≡ place m k (is_trusted h f)
 same_place {m} {n} {k} {l} {h} {i} {f} {g} size layout honest failed =

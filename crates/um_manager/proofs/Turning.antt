@@ -1,19 +1,18 @@
 -- What the parts of a turn come to together.
-use Rattle.std.proofs.Common.{◌≡◌, ◌≢◌, ℕ, List, [], ◌∷◌, ◌++◌, length, drop, map, flat_map, Bool, IsTrue, Option, Result, Ok, Err, cond, refl, sym, ap, subst, ◌∙◌}
-use Rattle.um_keeper.specs.Answering.{Answer, all_asked}
+use Rattle.std.proofs.Common.{◌≡◌, ℕ, List, [], ◌∷◌, ◌++◌, length, drop, map, flat_map, Bool, IsTrue, Option, Result, Ok, Err, cond, refl, sym, ap, subst, ◌∙◌}
+use Rattle.um_keeper.specs.Answering.{all_asked}
 use Rattle.um_model.specs.Children.{Call}
-use Rattle.um_model.specs.Machine.{State, Input, Reply}
+use Rattle.um_model.specs.Machine.{Input, Reply}
 use Rattle.um_model.specs.Sessions.{Session, Does, Room}
 use Rattle.um_proto.specs.declared.request.Request.{Request}
 use Rattle.um_wire.specs.declared.refusal.Refusal.{Refusal}
-use Rattle.um_wire.specs.declared.refusal.Refusal.TheVariants.{NoMemory}
-use Rattle.um_manager.specs.Connections.{AllSame, TakesPiece, Cuts, CutsAll, Took, inputs_asked, due_of}
-use Rattle.um_manager.specs.Fates.{Heard, inputs_of_tale, unexecuted, tick_at}
+use Rattle.um_manager.specs.Connections.{AllSame, TakesPiece, CutsAll, Took, inputs_asked, due_of}
+use Rattle.um_manager.specs.Fates.{Heard, unexecuted, tick_at}
 use Rattle.um_manager.specs.Live.{has, AreLive}
 use Rattle.um_manager.specs.Places.{Place}
-use Rattle.um_manager.specs.Replies.{reply_in, PaysAll}
+use Rattle.um_manager.specs.Replies.{PaysAll}
 use Rattle.um_manager.specs.Stores.{Submits}
-use Rattle.um_manager.specs.Turns.{Now, now, firsts, Answers, Leaves, Submitted, Turned}
+use Rattle.um_manager.specs.Turns.{Now, now, firsts, Answers, Leaves, Turned}
 use Rattle.um_manager.specs.declared.pieces.Piece.{Piece}
 use Rattle.um_manager.specs.declared.pieces.Piece.TheVariants.{Nothing, Bytes, Closed}
 use Rattle.um_manager.specs.declared.taking.Due.{Due}

@@ -1,7 +1,7 @@
 -- What a crash leaves of a script: a life of the store, in which each turn that ended was answered.
 -- No manual page has it: crash safety is this project's own promise (docs/CRASH.md tells it in plain words).
 -- The law of crashes stands on this file.
-use Rattle.std.specs.Prelude.{◌≡◌, List, [], ◌∷◌, ◌++◌, map, flat_map, Bool, true, false, if◌then◌else◌, Result, Ok, Err}
+use Rattle.std.specs.Prelude.{◌≡◌, List, [], ◌∷◌, ◌++◌, map, flat_map, if◌then◌else◌, Result, Ok, Err}
 use Rattle.um_keeper.specs.Answering.{Answer, is_turned_away}
 use Rattle.um_model.specs.Disk.{Image}
 use Rattle.um_model.specs.Lives.{Outcome, answered, turned_away, Offer, AreUnanswered, MayLeave}

@@ -1,7 +1,7 @@
 -- What is put out for the connections.
 -- No manual page has this: it is the project's own protocol (docs/FORMATS.md, "Replies").
 -- The turn of the manager stands on this file.
-use Rattle.std.specs.Prelude.{◌≡◌, ◌⊎◌, ◌+◌, ℕ, List, [], ◌∷◌, Bool, Option, Some, Result, Ok, Err, ⊤}
+use Rattle.std.specs.Prelude.{◌≡◌, ◌⊎◌, ◌+◌, ℕ, List, [], ◌∷◌, Bool, Option, Some, Ok, Err, ⊤}
 use Rattle.um_keeper.specs.Answering.{Answer}
 use Rattle.um_model.specs.Machine.{State, Query, Reply, Refusal, IsReplyTo}
 use Rattle.um_model.specs.Refusals.{no_memory}

@@ -10,9 +10,7 @@ use Rattle.um_model.specs.Lives.{HasInOrder}
 use Rattle.um_model.specs.Machine.{State, Input, Reply}
 use Rattle.um_model.specs.Numbers.{AreNew, started_numbers}
 use Rattle.um_model.specs.Sessions.{Session}
-use Rattle.um_model.specs.Service.{ByUnit}
 use Rattle.um_model.specs.Stands.{IsStoreOf}
-use Rattle.um_model.specs.declared.service.UnitState.{UnitState}
 use Rattle.um_proto.specs.declared.request.Request.{Request}
 use Rattle.um_wire.specs.declared.refusal.Refusal.{Refusal}
 use Rattle.um_wire.specs.declared.refusal.Refusal.TheVariants.{NoMemory}

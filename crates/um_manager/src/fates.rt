@@ -85,7 +85,8 @@ fn hear_one<C: Children>(
     inputs: &mut Vec<Input>,
 )
     requires { vec_len inputs.old + 2 ≤ vec_capacity inputs.old }
-    ensures hears { Hears absent moment (λ n. claim) (C.honest children.old) (C.whole children.new) (C.past children.old) (C.past children.new) (number ∷ []) (inputs_in inputs.old.items) (inputs_in inputs.new.items) }
+    ensures hears { Hears absent moment (λ n. claim) (C.honest children.old) (C.whole children.new) (C.past children.old) (C.past children.new)
+        (number ∷ []) (inputs_in inputs.old.items) (inputs_in inputs.new.items) }
     ensures len { vec_len inputs.new ≤ vec_len inputs.old + 2 }
     ensures capacity { vec_capacity inputs.old ≤ vec_capacity inputs.new }
     ensures whole { IsTrue (C.whole children.new) → IsTrue (C.whole children.old) }
@@ -107,7 +108,8 @@ pub fn hear<C: Children>(
     inputs: &mut Vec<Input>,
 )
     requires { vec_len inputs.old + 2 * length live.now ≤ vec_capacity inputs.old }
-    ensures hears { Hears absent moment (λ n. has n marks.now) (C.honest children.old) (C.whole children.new) (C.past children.old) (C.past children.new) live.now (inputs_in inputs.old.items) (inputs_in inputs.new.items) }
+    ensures hears { Hears absent moment (λ n. has n marks.now) (C.honest children.old) (C.whole children.new) (C.past children.old)
+        (C.past children.new) live.now (inputs_in inputs.old.items) (inputs_in inputs.new.items) }
     ensures len { vec_len inputs.new ≤ vec_len inputs.old + 2 * length live.now }
     ensures capacity { vec_capacity inputs.old ≤ vec_capacity inputs.new }
     ensures whole { IsTrue (C.whole children.new) → IsTrue (C.whole children.old) }
@@ -127,7 +129,8 @@ pub fn claim_all<C: Children>(
     inputs: &mut Vec<Input>,
 )
     requires { vec_len inputs.old + 2 * length live.now ≤ vec_capacity inputs.old }
-    ensures hears { Hears lost moment (λ n. true) (C.honest children.old) (C.whole children.new) (C.past children.old) (C.past children.new) live.now (inputs_in inputs.old.items) (inputs_in inputs.new.items) }
+    ensures hears { Hears lost moment (λ n. true) (C.honest children.old) (C.whole children.new) (C.past children.old) (C.past children.new) live.now
+        (inputs_in inputs.old.items) (inputs_in inputs.new.items) }
     ensures len { vec_len inputs.new ≤ vec_len inputs.old + 2 * length live.now }
     ensures capacity { vec_capacity inputs.old ≤ vec_capacity inputs.new }
     ensures whole { IsTrue (C.whole children.new) → IsTrue (C.whole children.old) }

@@ -102,7 +102,8 @@ impl<D: Disk, C: Children> Manager<D, C> {
     ///
     /// E15 before anything is taken, asked or offered. The store's E16 and E17, after the replies are put out.
     pub fn turn(&mut self, moment: Moment, pieces: &Pieces) -> Result<(), Refusal>
-        ensures turns { Turns (place_in (D.honest (disk_in self.old.keeper)) self.old.keeper) result (C.honest self.old.children) (C.whole self.new.children) moment pieces.now
+        ensures turns { Turns (place_in (D.honest (disk_in self.old.keeper)) self.old.keeper) result (C.honest self.old.children)
+            (C.whole self.new.children) moment pieces.now
             (now (state_in self.old.keeper) (C.past self.old.children) self.old.marks self.old.sessions.items (D.past (disk_in self.old.keeper)))
             (now (state_in self.new.keeper) (C.past self.new.children) self.new.marks self.new.sessions.items (D.past (disk_in self.new.keeper))) }
         ensures whole { IsTrue (C.whole self.new.children) → IsTrue (C.whole self.old.children) }
@@ -148,7 +149,8 @@ impl<D: Disk, C: Children> Manager<D, C> {
 
     /// Takes what was put out for a connection, and tells whether its session has failed.
     pub fn output(&mut self, connection: Connection) -> Output
-        ensures taken { IsOutput (slice_get self.old.sessions.items connection) result.bytes.items result.failed (slice_get self.new.sessions.items connection) }
+        ensures taken { IsOutput (slice_get self.old.sessions.items connection) result.bytes.items result.failed
+            (slice_get self.new.sessions.items connection) }
         ensures others { (other : ℕ) → other ≢ connection → slice_get self.new.sessions.items other ≡ slice_get self.old.sessions.items other }
         ensures keeper { self.new.keeper ≡ self.old.keeper }
         ensures children { self.new.children ≡ self.old.children }

@@ -1,6 +1,7 @@
 //! The numbers whose fate is asked with a claim.
 
-ghost use Rattle.std.specs.Prelude.{◌≡◌, ◌||◌, ◌+◌, ◌≤◌, ◌++◌, ◌∷◌, [], ℕ, List, true, false, nat_lt, if◌then◌else◌, length, filter, vec_len, vec_capacity, IfOk};
+ghost use Rattle.std.specs.Prelude.{◌≡◌, ◌||◌, ◌+◌, ◌≤◌, ◌++◌, ◌∷◌, [], ℕ, List};
+ghost use Rattle.std.specs.Prelude.{true, false, nat_lt, if◌then◌else◌, length, filter, vec_len, vec_capacity, IfOk};
 ghost use Rattle.std.specs.List.{list_all};
 ghost use Rattle.um_model.specs.StateSpellings.{are_distinct};
 ghost use Rattle.um_manager.specs.Live.{has, is_live, HasFewLive};

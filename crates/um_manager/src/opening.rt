@@ -59,7 +59,8 @@ fn signal_one<C: Children>(
     signal: Signal,
     number: ProcessNumber,
 )
-    ensures signals { IsTrue (C.honest children.old) → IsTrue (C.whole children.new) → Signalled units.now sub signal (number ∷ []) (C.past children.old) (C.past children.new) }
+    ensures signals { IsTrue (C.honest children.old) → IsTrue (C.whole children.new) → Signalled units.now sub signal (number ∷ [])
+        (C.past children.old) (C.past children.new) }
     ensures whole { IsTrue (C.whole children.new) → IsTrue (C.whole children.old) }
     ensures honest { C.honest children.new ≡ C.honest children.old }
 {
@@ -76,7 +77,8 @@ fn signal_all<C: Children>(
     signal: Signal,
     numbers: &[ProcessNumber],
 )
-    ensures signals { IsTrue (C.honest children.old) → IsTrue (C.whole children.new) → Signalled units.now sub signal numbers.now (C.past children.old) (C.past children.new) }
+    ensures signals { IsTrue (C.honest children.old) → IsTrue (C.whole children.new) → Signalled units.now sub signal numbers.now
+        (C.past children.old) (C.past children.new) }
     ensures whole { IsTrue (C.whole children.new) → IsTrue (C.whole children.old) }
     ensures honest { C.honest children.new ≡ C.honest children.old }
 {
@@ -122,9 +124,11 @@ fn adopt<D: Disk, C: Children>(
 
 /// Offers the boot, which asks for nothing.
 fn offer_boot<D: Disk>(keeper: &mut Keeper<D>, boot: BootId, moment: Moment) -> Result<(), Refusal>
-    ensures booted { OnOk result ((reply : model.Reply) × Step (size_in keeper.old) (state_in keeper.old) (boot_at moment boot) reply [] (state_in keeper.new)) }
+    ensures booted { OnOk result ((reply : model.Reply) × Step (size_in keeper.old) (state_in keeper.old) (boot_at moment boot) reply []
+        (state_in keeper.new)) }
     ensures state { OnErr result (state_in keeper.new ≡ state_in keeper.old) }
-    ensures left { IsTrue (is_trusted (D.honest (disk_in keeper.old)) (has_failed keeper.old)) → During (D.past (disk_in keeper.old)) (D.past (disk_in keeper.new))
+    ensures left { IsTrue (is_trusted (D.honest (disk_in keeper.old)) (has_failed keeper.old)) → During (D.past (disk_in keeper.old)) (D.past
+        (disk_in keeper.new))
         (IsBegun (layout_in keeper.old) (state_in keeper.old) (boot_at moment boot ∷ [])) }
     ensures place { IsSamePlace keeper.old keeper.new }
     ensures disk { D.honest (disk_in keeper.new) ≡ D.honest (disk_in keeper.old) }

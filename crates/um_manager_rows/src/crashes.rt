@@ -132,7 +132,9 @@ fn starts_none_twice(rt: &(impl AllocGlobal + Abort), picks: [usize; 2]) {
 }
 
 #[test]
-fn a_start_whose_order_was_lost_with_a_crash_is_lost_and_no_number_is_started_twice(rt: HostRuntime) {
+fn a_start_whose_order_was_lost_with_a_crash_is_lost_and_no_number_is_started_twice(
+    rt: HostRuntime,
+) {
     starts_none_twice(&rt, [0, 0]);
     starts_none_twice(&rt, [1, 0]);
     starts_none_twice(&rt, [0, 1]);

@@ -98,7 +98,11 @@ pub fn step(rt: &(impl AllocGlobal + Abort), bytes: &[u8]) -> Step {
 }
 
 /// So many turns in which nothing comes, behind these.
-pub fn with_silent(rt: &(impl AllocGlobal + Abort), mut steps: Vec<Step>, count: usize) -> Vec<Step> {
+pub fn with_silent(
+    rt: &(impl AllocGlobal + Abort),
+    mut steps: Vec<Step>,
+    count: usize,
+) -> Vec<Step> {
     for _ in 0..count {
         let silent = step(rt, &[]);
         steps.push(silent).expect(rt, "no memory");

@@ -18,8 +18,12 @@ fn is_answered_cut_at(rt: &(impl AllocGlobal + Abort), bytes: &[u8], place: usiz
     let mut manager = over(rt, new_store(rt));
     let mut steps = Vec::new(rt.alloc());
     let place = place.min(bytes.len());
-    steps.push(step(rt, &bytes[..place])).expect(rt, "no memory");
-    steps.push(step(rt, &bytes[place..])).expect(rt, "no memory");
+    steps
+        .push(step(rt, &bytes[..place]))
+        .expect(rt, "no memory");
+    steps
+        .push(step(rt, &bytes[place..]))
+        .expect(rt, "no memory");
     let steps = with_silent(rt, steps, 3);
     manager.run_script(&steps).expect(rt, "refused");
     has_output(rt, &mut manager, 0, &[DONE, DONE, DONE, RUNNING]);

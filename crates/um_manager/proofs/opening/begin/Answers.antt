@@ -25,8 +25,8 @@ returns-clause-began g c = λ honest whole.
     let booted = c.in_ok-offer_boot.ensures.booted in
     let live = subst (λ l. AreLive (state_in c.offer_boot.new.keeper).units l) (sym c.as_slice-live.ensures.value)
     (live_after (size_in c.args.keeper.now) c.args.moment c.args.boot (state_in c.args.keeper.now) (state_in c.offer_boot.new.keeper) booted.0 [] c.in_ok-live.live.items booted.1
-      (subst (λ s. c.args.boot ≡ s.boot → AreLive s.units c.in_ok-live.live.items) c.state.ensures c.in_ok-live.ensures.same)
-      (subst (λ s. c.args.boot ≢ s.boot → c.in_ok-live.live.items ≡ []) c.state.ensures c.in_ok-live.ensures.other)) in
+    (subst (λ s. c.args.boot ≡ s.boot → AreLive s.units c.in_ok-live.live.items) c.state.ensures c.in_ok-live.ensures.same)
+    (subst (λ s. c.args.boot ≢ s.boot → c.in_ok-live.live.items ≡ []) c.state.ensures c.in_ok-live.ensures.other)) in
     let D = g.D.Disk in
     let old = c.args.keeper.now in
     let mid = c.offer_boot.new.keeper in
@@ -90,8 +90,8 @@ returns-in_err-adopt-clause-refuses g c =
     let booted = c.in_ok-offer_boot.ensures.booted in
     let live = subst (λ l. AreLive (state_in c.offer_boot.new.keeper).units l) (sym c.as_slice-live.ensures.value)
     (live_after (size_in c.args.keeper.now) c.args.moment c.args.boot (state_in c.args.keeper.now) (state_in c.offer_boot.new.keeper) booted.0 [] c.in_ok-live.live.items booted.1
-      (subst (λ s. c.args.boot ≡ s.boot → AreLive s.units c.in_ok-live.live.items) c.state.ensures c.in_ok-live.ensures.same)
-      (subst (λ s. c.args.boot ≢ s.boot → c.in_ok-live.live.items ≡ []) c.state.ensures c.in_ok-live.ensures.other)) in
+    (subst (λ s. c.args.boot ≡ s.boot → AreLive s.units c.in_ok-live.live.items) c.state.ensures c.in_ok-live.ensures.same)
+    (subst (λ s. c.args.boot ≢ s.boot → c.in_ok-live.live.items ≡ []) c.state.ensures c.in_ok-live.ensures.other)) in
     let D = g.D.Disk in
     let old = c.args.keeper.now in
     let mid = c.offer_boot.new.keeper in
@@ -103,7 +103,7 @@ returns-in_err-adopt-clause-refuses g c =
     let here = place_in (D.honest (disk_in old)) old in
     let same : there ≡ here = same_place c.offer_boot.ensures.place.size c.offer_boot.ensures.place.layout c.offer_boot.ensures.disk (same_failed c.in_ok-offer_boot.was c.offer_boot.ensures.failed) in
     if_err_same _ (λ e. IsTrue (g.C.Children.honest c.args.children.now) → IsTrue (g.C.Children.whole c.adopt.new.children)
-      → (marks : List ℕ) × Refuses here e c.args.moment c.args.boot start (now (state_in new) (g.C.Children.past c.adopt.new.children) marks [] (D.past (disk_in new))))
+    → (marks : List ℕ) × Refuses here e c.args.moment c.args.boot start (now (state_in new) (g.C.Children.past c.adopt.new.children) marks [] (D.past (disk_in new))))
     c.in_err-adopt.field-0.0 c.from_residual-in_err-adopt.ensures.1
     (λ honest whole. (
       c.adopt.new.marks,
@@ -117,7 +117,7 @@ returns-in_err-adopt-clause-refuses g c =
             subst (λ (p : Place). Adopted p (Err c.in_err-adopt.field-0.0) c.args.moment before after) same
             (subst (λ r. Adopted there r c.args.moment before after) c.in_err-adopt.was (c.adopt.ensures.adopts honest whole));
         numbers = c.as_slice-live.result.now;
-      numbers_are = live;
-      count_is = refl;
+        numbers_are = live;
+        count_is = refl;
       }),
     ))

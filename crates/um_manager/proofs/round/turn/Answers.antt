@@ -24,7 +24,7 @@ returns-clause-turns g c =
     let new = c.submit-submitted.new.keeper in
     let here = place_in (D.honest (disk_in old)) old in
     let submits = subst (λ past. Submits here c.submit-submitted.result (inputs_in c.take_all.new.inputs.items) (map reply_of c.submit-submitted.new.replies.items) (g.C.Children.honest c.hear.new.children) (g.C.Children.whole c.submit-submitted.new.children)
-        (now (state_in old) (g.C.Children.past c.hear.new.children) c.args.marks.now [] (D.past (disk_in old))) (now (state_in new) past c.submit-submitted.new.marks [] (D.past (disk_in new)))) (sym c.forget_ended.ensures.past) c.submit-submitted.ensures.submits in
+    (now (state_in old) (g.C.Children.past c.hear.new.children) c.args.marks.now [] (D.past (disk_in old))) (now (state_in new) past c.submit-submitted.new.marks [] (D.past (disk_in new)))) (sym c.forget_ended.ensures.past) c.submit-submitted.ensures.submits in
     let rest = ap (map reply_of) (c.behind-replies.ensures ∙ ap (drop c.len-firsts.result) c.as_slice-2.ensures.value) ∙ sym (drop-map reply_of c.len-firsts.result c.submit-submitted.new.replies.items) in
     let pays = subst (λ l. PaysAll (state_in c.submit-submitted.new.keeper) l (map reply_of c.behind-replies.result.now) c.take_all.new.sessions c.pay_all.new.sessions) c.as_slice-3.ensures.value c.pay_all.ensures in (
       (λ e. absurd (c.submit-submitted.ensures.submits.0 e)),

@@ -1,7 +1,7 @@
 use Rattle.std.proofs.Common.{◌≡◌, ◌∙◌, ◌∷◌, ◌+◌, drop, Ok, ap, sym, subst, inl, inr, rules}
 use Rattle.std.specs.Bool.{IsTrue}
 use Rattle.std.proofs.lemmas.List.{drop_more}
-use Rattle.um_keeper.specs.Keepers.{disk_in, state_in, size_in, layout_in, has_failed}
+use Rattle.um_keeper.specs.Keepers.{disk_in, state_in}
 use Rattle.um_manager.specs.Places.{Place, place_in}
 use Rattle.um_manager.specs.Scripts.{Runs, Stops}
 use Rattle.um_manager.specs.Turns.{Turned, now}

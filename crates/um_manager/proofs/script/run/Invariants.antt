@@ -1,4 +1,4 @@
-use Rattle.std.proofs.Common.{◌≡◌, ℕ, List, drop, length, IsTrue, Result}
+use Rattle.std.proofs.Common.{◌≡◌, drop, length, IsTrue, Result}
 use Rattle.um_keeper.specs.Keepers.{disk_in, state_in, has_failed, IsSamePlace}
 use Rattle.um_manager.specs.Places.{place_in}
 use Rattle.um_manager.specs.Scripts.{Runs}

@@ -37,8 +37,8 @@ returns-in-Ok-clause-submits g c =
     (g.C.Children.honest c.args.children.now) (g.C.Children.whole c.carry_all.new.children)
     c.in-Ok.ensures.ok c.in-Ok.ensures.order (c.carry_all.ensures.replies ∙ ap (λ l. map reply_of l ++ map reply_in c.in-Ok.answers.items) c.requires.empty)
     (subst (λ units. Carries (g.C.Children.honest c.args.children.now) (g.C.Children.whole c.carry_all.new.children) units (g.C.Children.past c.args.children.now)
-      (g.C.Children.past c.carry_all.new.children) c.args.marks.now c.carry_all.new.marks (all_asked c.in-Ok.answers.items))
-      (c.units.ensures ∙ ap (λ s. s.units) c.state.ensures) c.carry_all.ensures.carries)
+    (g.C.Children.past c.carry_all.new.children) c.args.marks.now c.carry_all.new.marks (all_asked c.in-Ok.answers.items))
+    (c.units.ensures ∙ ap (λ s. s.units) c.state.ensures) c.carry_all.ensures.carries)
     (λ t. c.in-Ok.ensures.during (trusts honest (has_failed old) t).0)
     (λ t. let (h, f) = trusts honest (has_failed old) t in c.submit_all.ensures.stored (working_on c.submit_all.result c.in-Ok.answers (has_failed old) (has_failed new) c.in-Ok.is f c.submit_all.ensures.failed) h)
 
@@ -60,9 +60,9 @@ returns-in-Err-clause-submits g c =
     ∙ ap (λ n. replicate n (Refusal (refused_of (refusal_of f)))) (count ∙ sym (length-map c.args.inputs.items input_of)))
     (λ t. let (h, w) = trusts honest (has_failed old) t in c.in-Err.ensures.lost w h)
     (λ wants t.
-        let (h, w) = trusts honest (has_failed old) t in
-        denied_held c.submit_all.result c.in-Err.refusal f (has_failed old) (has_failed new) place (state_in old) (state_in new) (D.past (disk_in old)) (D.past (disk_in new))
-        c.in-Err.is c.fault_of-fault.ensures (or_ap D.past c.in-Err.ensures.unwritten) c.submit_all.ensures.failed c.in-Err.ensures.state w (λ working. c.submit_all.ensures.stored working h) wants)
+    let (h, w) = trusts honest (has_failed old) t in
+    denied_held c.submit_all.result c.in-Err.refusal f (has_failed old) (has_failed new) place (state_in old) (state_in new) (D.past (disk_in old)) (D.past (disk_in new))
+    c.in-Err.is c.fault_of-fault.ensures (or_ap D.past c.in-Err.ensures.unwritten) c.submit_all.ensures.failed c.in-Err.ensures.state w (λ working. c.submit_all.ensures.stored working h) wants)
 
 pub returns-in-Err-clause-failed : goal.returns-in-Err-clause-failed
 returns-in-Err-clause-failed g c =

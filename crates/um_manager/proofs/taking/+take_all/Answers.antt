@@ -1,6 +1,5 @@
-use Rattle.std.proofs.Common.{◌≡◌, ◌+◌, ◌∙◌, ◌++◌, ◌∷◌, [], ap, subst, sym, rules}
-use Rattle.um_manager.specs.Connections.{Took, due_of, inputs_asked}
-use Rattle.um_manager.specs.Fates.{inputs_in}
+use Rattle.std.proofs.Common.{◌≡◌, ◌+◌, ◌∙◌, ◌++◌, ◌∷◌, [], ap, rules}
+use Rattle.um_manager.specs.Connections.{due_of}
 use Rattle.um_manager.specs.Replies.{replies_owed, replies_due}
 use Rattle.um_manager.proofs.Gathering.{took_more, owed_push}
 use Rattle.um_manager.proofs.taking.+take_all.Goals as goal

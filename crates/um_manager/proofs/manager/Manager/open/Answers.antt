@@ -1,14 +1,14 @@
-use Rattle.std.proofs.Common.{◌≡◌, ◌∷◌, [], Ok, inl, refl, sym, subst}
+use Rattle.std.proofs.Common.{◌≡◌, ◌∷◌, [], inl, refl, sym, subst}
 use Rattle.std.specs.Bool.{IsTrue}
-use Rattle.um_keeper.specs.Keepers.{disk_in, state_in, size_in, layout_in, has_failed}
-use Rattle.um_keeper.specs.Opening.{IsTakenUp, IsSomeStore, IsAsBefore}
+use Rattle.um_keeper.specs.Keepers.{disk_in, state_in, layout_in, has_failed}
+use Rattle.um_keeper.specs.Opening.{IsSomeStore}
 use Rattle.um_keeper.specs.Answering.{taken}
 use Rattle.um_model.proofs.DiskLaws.{weaker}
 use Rattle.um_model.proofs.StandsLaws.{one_layout}
 use Rattle.um_model.specs.Disk.{During, Images, seen}
 use Rattle.um_model.specs.declared.layout.Layout.{Layout}
-use Rattle.um_manager.specs.Opening.{Began, Opened, IsFound, IsOfRefused, adoptions, boot_at}
-use Rattle.um_manager.specs.Places.{Place, place, place_in}
+use Rattle.um_manager.specs.Opening.{Opened, IsOfRefused, adoptions, boot_at}
+use Rattle.um_manager.specs.Places.{Place, place_in}
 use Rattle.um_manager.specs.Turns.{now}
 use Rattle.um_manager.proofs.Beginning.{boot_then, opening_left, refused_left, opened_place}
 use Rattle.um_manager.proofs.Offering.{trusts, trusted_in}
@@ -41,7 +41,7 @@ returns-in-Ok-begin-clause-opened g c h w =
           opening_left (layout_in k) (state_in k) (boot_at c.args.moment c.args.boot ∷ taken (adoptions c.args.moment adopted.told) adopted.answers) first (D.past (disk_in k)) (D.past (disk_in l))
           (c.in-Ok.ensures.during (subst IsTrue ok.2 honest) (layout_in k) images)
           (boot_then there (state_in k) began.mid.state (boot_at c.args.moment c.args.boot) began.reply (taken (adoptions c.args.moment adopted.told) adopted.answers)
-            (D.past (disk_in k)) began.mid.disk (D.past (disk_in l)) k.holds.size_is began.booted (began.left t) (adopted.left t));
+          (D.past (disk_in k)) began.mid.disk (D.past (disk_in l)) k.holds.size_is began.booted (began.left t) (adopted.left t));
     })
 
 pub returns-in-Err-clause-err : goal.returns-in-Err-clause-err
@@ -64,5 +64,5 @@ returns-in-Err-begin-clause-err g c = λ h w sure layout images.
     subst (λ d. During first (D.past d) (IsOfRefused layout c.args.moment c.args.boot (D.size c.args.disk) first (g.C.Children.past c.args.children) (g.C.Children.past c.begin.new.children))) (sym c.into_disk.ensures)
     (subst (λ (z : Layout). During first (D.past (disk_in l)) (IsOfRefused z c.args.moment c.args.boot (D.size c.args.disk) first (g.C.Children.past c.args.children) (g.C.Children.past c.begin.new.children))) same
     (refused_left there c.args.moment c.args.boot (D.size c.args.disk) first a b _ k.holds.size_is trusted
-      (record { slot = next.before; generation = next.earlier; taken_up = next.taken })
-      (c.in-Ok.ensures.during sure (layout_in k) (subst (λ (z : Layout). Images first (IsSomeStore z)) (sym same) images)) refuses))
+    (record { slot = next.before; generation = next.earlier; taken_up = next.taken })
+    (c.in-Ok.ensures.during sure (layout_in k) (subst (λ (z : Layout). Images first (IsSomeStore z)) (sym same) images)) refuses))

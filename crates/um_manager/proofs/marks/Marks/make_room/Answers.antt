@@ -1,4 +1,4 @@
-use Rattle.std.proofs.Common.{◌∙◌, ap, subst, sym, true, ◌≡◌}
+use Rattle.std.proofs.Common.{◌∙◌, ap}
 use Rattle.std.specs.List.{list_all}
 use Rattle.um_manager.specs.Live.{has, is_live}
 use Rattle.um_manager.proofs.Marking.{live_stays, none_comes, all_kept}

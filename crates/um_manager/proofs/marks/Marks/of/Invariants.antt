@@ -1,4 +1,4 @@
-use Rattle.std.proofs.Common.{◌≡◌, ◌+◌, ◌≤◌, ℕ, true, take, length, vec_len, vec_capacity}
+use Rattle.std.proofs.Common.{◌≡◌, ◌≤◌, ℕ, true, take, length, vec_len, vec_capacity}
 use Rattle.um_model.specs.StateSpellings.{are_distinct}
 use Rattle.um_manager.specs.Live.{has}
 use Rattle.um_manager.proofs.marks.Marks.of.Given as goal

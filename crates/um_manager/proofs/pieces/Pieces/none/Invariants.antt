@@ -1,4 +1,4 @@
-use Rattle.std.proofs.Common.{◌≡◌, ◌≤◌, replicate, vec_capacity}
+use Rattle.std.proofs.Common.{◌≡◌, replicate}
 use Rattle.um_manager.specs.declared.pieces.Piece.TheVariants.{Nothing}
 use Rattle.um_manager.proofs.pieces.Pieces.none.Given as goal
 
