@@ -1,10 +1,11 @@
 //! Opening: the boot, and then the processes that are live are adopted.
 
-ghost use Rattle.std.specs.Prelude.{◌≡◌, ◌≢◌, ◌⊎◌, ◌↔◌, ◌*◌, ◌≤◌, ◌∷◌, [], ℕ, List, true, Ok, Err, IsTrue, IfOk, IfErr, OnOk, OnErr, length, vec_capacity};
+ghost use Rattle.std.specs.Prelude.{◌≡◌, ◌≢◌, ◌⊎◌, ◌↔◌, ◌+◌, ◌*◌, ◌≤◌, ◌∷◌, [], ℕ, List, true, Ok, Err, IsTrue, IfOk, IfErr, OnOk, OnErr, length, vec_len, vec_capacity};
 ghost use Rattle.std.specs.List.{AllByRecursion};
 ghost use Rattle.um_keeper.specs.Keepers.{disk_in, state_in, size_in, layout_in, has_failed, IsSamePlace};
 ghost use Rattle.um_keeper.specs.Keeping.{IsBegun};
 ghost use Rattle.um_manager.specs.Connections.{IsNew};
+ghost use Rattle.um_manager.specs.Fates.{Hears, inputs_in, lost};
 ghost use Rattle.um_manager.specs.Live.{AreLive, has};
 ghost use Rattle.um_manager.specs.Opening.{Adopts, Began, Refuses, Signalled, boot_at};
 ghost use Rattle.um_manager.specs.Places.{place_in, is_trusted};
@@ -18,6 +19,7 @@ use crate::connection::CONNECTIONS;
 use crate::fates::claim_all;
 use crate::live::{is_in, live_numbers};
 use crate::marks::Marks;
+use crate::round::forget_ended;
 use crate::submitting::submit;
 use std::alloc::{AllocError, Global};
 use um_children::Children;
@@ -87,6 +89,42 @@ fn signal_all<C: Children>(
     }
 }
 
+/// Lets go what is kept of processes that aren't live any more, and asks the fate of each that is, with a claim. What isn't let go for a fault is
+/// let go by a later opening.
+fn claim_live<C: Children>(
+    children: &mut C,
+    live: &[ProcessNumber],
+    moment: Moment,
+    inputs: &mut Vec<Input>,
+)
+    requires { vec_len inputs.old + 2 * length live.now ≤ vec_capacity inputs.old }
+    ensures hears { Hears lost moment (λ n. true) (C.honest children.old) (C.whole children.new) (C.past children.old) (C.past children.new) live.now
+        (inputs_in inputs.old.items) (inputs_in inputs.new.items) }
+    ensures len { vec_len inputs.new ≤ vec_len inputs.old + 2 * length live.now }
+    ensures capacity { vec_capacity inputs.old ≤ vec_capacity inputs.new }
+    ensures whole { IsTrue (C.whole children.new) → IsTrue (C.whole children.old) }
+    ensures honest { C.honest children.new ≡ C.honest children.old }
+{
+    let _forgotten = children.forget_others(live);
+    claim_all(children, live, moment, inputs);
+}
+
+/// Kills the numbers whose unit is in stop-sigkill, and lets go what is kept of those that aren't live any more.
+fn kill_all<C: Children>(children: &mut C, units: &Units, numbers: &[ProcessNumber])
+    ensures signals { IsTrue (C.honest children.old) → IsTrue (C.whole children.new) → Signalled units.now SubState.StopSigkill Signal.Kill numbers.now (C.past children.old) (C.past children.new) }
+    ensures whole { IsTrue (C.whole children.new) → IsTrue (C.whole children.old) }
+    ensures honest { C.honest children.new ≡ C.honest children.old }
+{
+    signal_all(
+        children,
+        units,
+        SubState::StopSigkill,
+        Signal::Kill,
+        numbers,
+    );
+    forget_ended(children, units, numbers);
+}
+
 /// Adopts the live numbers: it asks the fate of each with a claim, offers what is told, and ends those that were being ended.
 fn adopt<D: Disk, C: Children>(
     keeper: &mut Keeper<D>,
@@ -114,11 +152,11 @@ fn adopt<D: Disk, C: Children>(
     ensures failed { (has_failed keeper.new ≡ true) ↔ ((has_failed keeper.old ≡ true) ⊎ (result ≡ Err Refusal.Device)) }
 {
     let mut inputs = inputs;
-    claim_all(children, live, moment, &mut inputs);
+    claim_live(children, live, moment, &mut inputs);
     let submitted = submit(keeper, children, marks, inputs, replies);
     let units = keeper.state().units();
     signal_all(children, units, SubState::StopSigterm, Signal::Term, live);
-    signal_all(children, units, SubState::StopSigkill, Signal::Kill, live);
+    kill_all(children, units, live);
     submitted
 }
 

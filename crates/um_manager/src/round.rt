@@ -42,7 +42,7 @@ fn behind(replies: &[Reply], count: usize) -> &[Reply]
 }
 
 /// Forgets each of these numbers that isn't live any more. What isn't forgotten for a fault is forgotten by a later opening.
-fn forget_ended<C: Children>(children: &mut C, units: &Units, numbers: &[ProcessNumber])
+pub fn forget_ended<C: Children>(children: &mut C, units: &Units, numbers: &[ProcessNumber])
     ensures past { C.past children.new ≡ C.past children.old }
     ensures whole { C.whole children.new ≡ C.whole children.old }
     ensures honest { C.honest children.new ≡ C.honest children.old }
