@@ -27,7 +27,8 @@ offers (input ∷ inputs) (answer ∷ answers) = record { input = input; outcome
 offers inputs answers = []
 
 -- the inputs that a turn offered
-abbrev pub offered_in : {place : Place} {store : Result Unit Refusal} {moment : _} {pieces : List Piece} {a b : Now} → Turned place store moment pieces a b → List Input
+abbrev pub offered_in : {place : Place} {store : Result Unit Refusal} {moment : _} {pieces : List Piece} {a b : Now}
+    → Turned place store moment pieces a b → List Input
 offered_in {moment = moment} turned = firsts moment turned.told ++ flat_map (inputs_asked moment) turned.requests
 
 -- all that these turns offered, in their order, with what came of each

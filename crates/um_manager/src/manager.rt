@@ -9,6 +9,7 @@ ghost use Rattle.um_manager.specs.Replies.{IsOutput};
 ghost use Rattle.um_manager.specs.Scripts.{Runs};
 ghost use Rattle.um_manager.specs.Turns.{Turns, now};
 ghost use Rattle.um_model.specs.Disk.{Images, During};
+ghost use Rattle.um_model.specs.Store.{body_limit};
 ghost use Rattle.um_model.specs.declared.layout.Layout.{Layout};
 ghost use Rattle.um_state.specs.View.{state_of};
 
@@ -65,6 +66,7 @@ impl<D: Disk, C: Children> Manager<D, C> {
             (now (state_in m.keeper) (C.past m.children) m.marks [] (D.past (disk_in m.keeper)))) }
         ensures anew { IfOk result (λ m. AllByRecursion IsNew m.sessions.items) }
         ensures working { IfOk result (λ m. has_failed m.keeper ≡ false) }
+        ensures sized { IfOk result (λ m. size_in m.keeper ≡ body_limit (layout_in m.keeper)) }
         ensures same { IfOk result (λ m. (D.honest (disk_in m.keeper) ≡ D.honest disk) × (C.honest m.children ≡ C.honest children)) }
         ensures whole { IfOk result (λ m. IsTrue (C.whole m.children) → IsTrue (C.whole children)) }
         ensures err { IfErr result (λ e. IsTrue (C.honest children) → IsTrue (C.whole e.2) → IsTrue (D.honest disk) → (layout : Layout)

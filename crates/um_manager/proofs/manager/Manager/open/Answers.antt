@@ -66,3 +66,6 @@ returns-in-Err-begin-clause-err g c = λ h w sure layout images.
     (refused_left there c.args.moment c.args.boot (D.size c.args.disk) first a b _ k.holds.size_is trusted
     (record { slot = next.before; generation = next.earlier; taken_up = next.taken })
     (c.in-Ok.ensures.during sure (layout_in k) (subst (λ (z : Layout). Images first (IsSomeStore z)) (sym same) images)) refuses))
+
+pub returns-in-Ok-begin-clause-sized : goal.returns-in-Ok-begin-clause-sized
+returns-in-Ok-begin-clause-sized g c = c.begin.new.keeper.holds.size_is
