@@ -36,10 +36,10 @@ pub reads_more : (past0 past1 past2 : List Event) (n : ℕ) (which : List Bool) 
 reads_more past0 past1 past2 n which old new is_open piece more before is_it piece_is others =
     more ∙ ap (λ es. es ++ reads_one n (Some is_open) (Some piece)) before ∙ append_assoc past0 (reads_below n which old) (reads_one n (Some is_open) (Some piece))
     ∙ ap (λ es. past0 ++ es)
-        (sym
-          (one_more n which new ∙ ap (λ es. es ++ reads_one n (slice_get which n) (slice_get new n)) (reads_same n which old new (λ i below. others i (below_lt i n below)))
-          ∙ ap (λ o. reads_below n which old ++ reads_one n o (slice_get new n)) is_it
-          ∙ ap (λ p. reads_below n which old ++ reads_one n (Some is_open) p) piece_is))
+    (sym
+    (one_more n which new ∙ ap (λ es. es ++ reads_one n (slice_get which n) (slice_get new n)) (reads_same n which old new (λ i below. others i (below_lt i n below)))
+    ∙ ap (λ o. reads_below n which old ++ reads_one n o (slice_get new n)) is_it
+    ∙ ap (λ p. reads_below n which old ++ reads_one n (Some is_open) p) piece_is))
 
 abbrev truth : Option Bool → Bool
 truth (Some b) = b

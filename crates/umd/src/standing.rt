@@ -33,6 +33,8 @@ pub fn tell_standing<D: Disk, R: Eprint>(rt: &R, alloc: Global, disk: &mut D) {
             generation,
             records,
         } = standing;
-        let _unheard = eprintln!(rt; "umd: the store is of generation {generation}, {records} records are replayed");
+        let _unheard = eprintln!(rt;
+            "umd: the store is of generation {generation}, {records} records are replayed"
+        );
     }
 }
