@@ -1,17 +1,23 @@
 # make run: shows the program's main job; where no proved program stands, one is built without its proofs (two minutes).
+# make unproved: builds a program without its proofs, out/unproved/umd.
 # make umd: builds the proved program, crates/umd/out/umd, and tells crate by crate how far it is.
 # make test: the whole gate. Proves every crate and its tests from nothing, tries each must-fail edit, and runs the tests and
 # the program as two compilers build it.
 # make edits NAME ..: tries the further edits of these crates, which stand in edits/NAME; with no name those of every crate.
 # make runner-rows: plays the rows of a runner against the proved program, with real processes.
+# make serve-rows: plays the rows of a served store against the proved program, with real processes, sockets and files.
+# make ctl-rows: plays the rows of the command line against the proved program: create and ctl, their faults, statuses and what is printed.
 # make bench: measures the proved program, and the writing and reading of states (um_bench); the figures that a document calls
 # measured come from it.
-.PHONY: run umd test edits bench runner-rows
+.PHONY: run umd unproved test edits bench runner-rows serve-rows ctl-rows
 run:
 	@sh tools/show
 
 umd:
 	@sh tools/build
+
+unproved:
+	@tools/unproved umd
 
 test:
 	rt ci
@@ -30,7 +36,14 @@ edits:
 bench: umd
 	@cd crates/um_bench && rt run >/dev/null
 	@bench/run crates/umd/out/umd
+	@bench/serve crates/umd/out/umd
 	@bench/bytes crates/um_bench/out/um_bench
 
 runner-rows: umd
 	@tools/runner-rows crates/umd/out/umd
+
+serve-rows: umd
+	@tools/serve-rows crates/umd/out/umd
+
+ctl-rows: umd
+	@tools/ctl-rows crates/umd/out/umd

@@ -1,18 +1,11 @@
-ghost use Rattle.std.specs.Prelude.{◌≡◌, ◌<◌, ◌^◌, ◌++◌, ℕ, List, length, IfOk, OnOk};
-ghost use Rattle.std.specs.Io.KnownBytes.{Appends};
+ghost use Rattle.std.specs.Prelude.{IfOk};
 ghost use Rattle.um_bin.specs.Streams.{Comes, IsBodyOf};
-ghost use Rattle.um_model.specs.Frames.{frame_of};
 
-use crate::fault::Fault;
-use crate::input::read_up_to;
-use crate::output::{flush, put};
 use byteorder::{BigEndian, ByteOrder};
 use std::alloc::Global;
-use std::io::{Read, Write};
+use std::io::Read;
 use um_model::Ending;
-
-/// The length of a frame stands in so many bytes in front of it.
-const HEADER: usize = 4;
+use um_stream::{Fault, HEADER, read_up_to};
 
 /// The longest frame of a request, in bytes.
 const FRAME_LIMIT: usize = 524_288;
@@ -52,17 +45,4 @@ pub fn next_piece<R: Read>(alloc: Global, input: &mut R) -> Result<Piece, Fault>
         return Ok(Piece::End(Ending::TooLong));
     }
     next_body(alloc, input, size)
-}
-
-/// Writes a frame. Where it fails, a beginning of it was written.
-pub fn put_frame<W: Write>(output: &mut W, text: &[u8]) -> Result<(), Fault>
-    requires { length text.now < 2 ^ 32 }
-    ensures ok { OnOk result (Appends (W.contents output.old) (W.contents output.new) (frame_of text.now)) }
-    ensures front { (front more : List ℕ) × (frame_of text.now ≡ front ++ more) × Appends (W.contents output.old) (W.contents output.new) front }
-{
-    let mut header = [0u8; HEADER];
-    BigEndian::write_u32(&mut header, text.len() as u32);
-    put(output, &header)?;
-    put(output, text)?;
-    flush(output)
 }

@@ -8,8 +8,7 @@ ghost use Rattle.um_model.specs.Replies.{reply_text, reply_limit};
 ghost use Rattle.um_model.specs.declared.frames.Ending as ending;
 ghost use Rattle.um_state.specs.View.{action_of, event_of, reply_of};
 
-use crate::fault::Fault;
-use crate::frames::{Piece, next_piece, put_frame};
+use crate::frames::{Piece, next_piece};
 use std::alloc::{AllocError, Global};
 use std::io::{ErrorKind, Read, Write};
 use std::{io, mem};
@@ -17,6 +16,7 @@ use um_engine::Engine;
 use um_model::{Ending, Mode, Moment};
 use um_proto::{Asked, ReplyText, Request, read_request, write_reply};
 use um_state::{Action, Event, Input, Reply, State};
+use um_stream::{Fault, put_frame};
 use um_wire::{Limit, Refusal};
 
 /// The size of the store that `umd --memory` works over, in bytes.

@@ -9,9 +9,10 @@ use Rattle.um_model.specs.Children.{Spawn}
 use Rattle.um_model.specs.declared.service.Signal.{Signal}
 use Rattle.um_model.specs.declared.service.Signal.TheVariants.{Term, Kill}
 
--- what the shell runs: its words as a command of its own, which goes on by itself, with no stream of the manager
+-- what the shell runs: its words as a command of its own, which goes on by itself, with no stream of the manager; where the first word
+-- names no file that it can execute, it ends with 126 and runs nothing
 abbrev pub detaching : List ℕ
-detaching = codes "\"$@\" </dev/null >/dev/null 2>&1 &"
+detaching = codes "p=$(command -v \"$1\") && test -f \"$p\" && test -x \"$p\" || exit 126; \"$@\" </dev/null >/dev/null 2>&1 &"
 
 -- what the shell runs: the signal of its first word to the pid of its second
 abbrev pub signalling : List ℕ

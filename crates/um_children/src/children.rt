@@ -55,6 +55,14 @@ pub trait Children {
         ensures failures { CountsFault result (failures self.old) (failures self.new) }
         ensures honest { honest self.new ≡ honest self.old };
 
+    /// Lets go what is kept of each number that has ended and isn't among these, as a manager does that opens: of those nothing is asked any
+    /// more. As `forget` it is no call of the history, and a claim stays.
+    fn forget_others(&mut self, live: &[ProcessNumber]) -> Result<(), ChildFault>
+        ensures past { past self.new ≡ past self.old }
+        ensures whole { whole self.new ≡ whole self.old }
+        ensures failures { CountsFault result (failures self.old) (failures self.new) }
+        ensures honest { honest self.new ≡ honest self.old };
+
     /// A number that was told to be absent never starts.
     ghost absence_is_final: { (children : Self) → IsTrue (honest children) → IsFinal (past children) };
 }

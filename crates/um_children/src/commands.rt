@@ -9,8 +9,10 @@ use std::process::Command;
 use um_keeper::SpawnOrder;
 use um_model::Signal;
 
-/// Its words become a command of its own, with no stream of the manager; nobody waits for it.
-const DETACHING: &str = "\"$@\" </dev/null >/dev/null 2>&1 &";
+/// Its words become a command of its own, with no stream of the manager; nobody waits for it. One that isn't there, or that nobody can
+/// execute, is told by the status.
+const DETACHING: &str =
+    "p=$(command -v \"$1\") && test -f \"$p\" && test -x \"$p\" || exit 126; \"$@\" </dev/null >/dev/null 2>&1 &";
 
 const SIGNALLING: &str = "kill -s \"$1\" \"$2\"";
 

@@ -327,4 +327,15 @@ impl Children for FakeChildren {
     {
         Ok(())
     }
+
+    /// As `forget`.
+    fn forget_others(&mut self, live: &[ProcessNumber]) -> Result<(), ChildFault>
+        ensures past { calls_of self.new.calls.items ≡ calls_of self.old.calls.items }
+        ensures whole { not self.new.lost ≡ not self.old.lost }
+        ensures failures { CountsFault result self.old.failures self.new.failures }
+        ensures done { is_ok result ≡ true }
+        ensures same { self.new ≡ self.old }
+    {
+        Ok(())
+    }
 }

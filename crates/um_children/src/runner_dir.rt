@@ -288,10 +288,8 @@ impl<'a, R: Files + Processes + Clock> RunnerDir<'a, R> {
         Ok(numbers)
     }
 
-    /// Forgets each number that isn't live, as a manager does that has just opened.
-    ///
-    /// `NoMemory` where a growth was refused, `Device` where the system refuses: a later call removes what was left.
-    pub fn forget_others(&mut self, live: &[ProcessNumber]) -> Result<(), ChildFault>
+    /// Forgets each number whose status stands in the folder, but these.
+    fn forget_but(&mut self, live: &[ProcessNumber]) -> Result<(), ChildFault>
         ensures failures { CountsFault result self.old.failures self.new.failures }
     {
         let ended = self.ended();
@@ -341,5 +339,12 @@ impl<'a, R: Files + Processes + Clock> Children for RunnerDir<'a, R> {
             self.known.remove(&number.get());
         }
         self.count(answer)
+    }
+
+    /// Removes the files of each other number whose status stands in the folder, as `forget` does.
+    ///
+    /// `NoMemory` where a growth was refused, `Device` where the system refuses: a later call removes what was left.
+    fn forget_others(&mut self, live: &[ProcessNumber]) -> Result<(), ChildFault> {
+        self.forget_but(live)
     }
 }

@@ -1,8 +1,10 @@
-//! A trial over real processes: it starts itself as the runner of each, and asks for their fates through a folder.
+//! A trial over real processes: each is started by the order of a keeper's receipt, with this program as its runner, and its fate is asked
+//! through a folder.
 #![tactic(auto)]
 
+mod orders;
 mod rows;
-mod runners;
+mod runner;
 
 use std::env;
 use std::process::ExitCode;
@@ -10,13 +12,7 @@ use std::process::ExitCode;
 fn trial(rt: &HostRuntime) -> anyhow::Result<()> {
     let words: Vec<String> = env::args(rt)?.collect(rt.alloc())?;
     match words.as_slice() {
-        [_, role, number, count, words @ ..] if role.as_str() == "run" => runners::run(
-            rt,
-            rt.alloc(),
-            number.as_str(),
-            count.as_str(),
-            words,
-        ),
+        [_, role, words @ ..] if role.as_str() == "run" => runner::run(rt, rt.alloc(), words),
         _ => rows::rows(rt, rt.alloc()),
     }
 }

@@ -1,53 +1,93 @@
 //! What the trial does, a row a function. Each prints what it found.
 
-use crate::runners::{FOLDER, number, start};
+use crate::orders::Orders;
+use anyhow::Context;
 use std::alloc::Global;
 use std::time::Duration;
-use std::{fs, thread};
-use um_children::{Children, End, FakeChildren, Fate, RunnerDir, Signal};
+use std::{env, fs, thread};
+use um_children::{Children, End, FakeChildren, Fate, ProcessNumber, RunnerDir, Signal};
 
 /// Fates are asked so many times, every 10 ms.
 const POLLS: u32 = 500;
 
+/// So many times it is looked whether a process starts that must not.
+const FEW_POLLS: u32 = 50;
+
+/// The folder of the runners' files.
+const FOLDER: &str = "processes";
+
+/// Another one, for numbers that two stores give.
+const TWICE: &str = "twice";
+
+/// A third one, for a start without a runner.
+const ALONE: &str = "alone";
+
 type Dir<'a> = RunnerDir<'a, HostRuntime>;
 
+fn number(n: u64) -> anyhow::Result<ProcessNumber> {
+    ProcessNumber::new(n).context("no process number")
+}
+
+fn pause(rt: &HostRuntime) {
+    thread::sleep(rt, Duration::from_millis(10));
+}
+
+/// Children over the folder, with this program as the runner.
+fn open<'a>(rt: &'a HostRuntime, folder: &str) -> anyhow::Result<Dir<'a>> {
+    let program = env::current_exe(rt)?;
+    Ok(RunnerDir::open(rt, rt.alloc(), program.as_str(), folder)?)
+}
+
 /// The fate of the number, once it has ended; else the last one.
-fn end(rt: &HostRuntime, children: &mut Dir<'_>, n: u64) -> anyhow::Result<Fate> {
-    let number = number(n)?;
+fn end(rt: &HostRuntime, children: &mut Dir<'_>, number: ProcessNumber) -> anyhow::Result<Fate> {
     let mut fate = children.fate(number, false)?;
     for _ in 0..POLLS {
         if let Fate::Ended(_) = fate {
             return Ok(fate);
         }
-        thread::sleep(rt, Duration::from_millis(10));
+        pause(rt);
         fate = children.fate(number, false)?;
     }
     Ok(fate)
 }
 
 /// Waits until the number is executed.
-fn wait_for_pid(rt: &HostRuntime, children: &mut Dir<'_>, n: u64) -> anyhow::Result<()> {
-    let number = number(n)?;
+fn wait_for_pid(
+    rt: &HostRuntime,
+    children: &mut Dir<'_>,
+    number: ProcessNumber,
+) -> anyhow::Result<()> {
     for _ in 0..POLLS {
         if children.fate(number, false)? != Fate::Starting {
             return Ok(());
         }
-        thread::sleep(rt, Duration::from_millis(10));
+        pause(rt);
     }
     Ok(())
 }
 
-/// Runs the words as the number to their end, and tells it.
+/// Starts a service with these lines by the order of its receipt, and gives its number.
+fn start(
+    orders: &mut Orders,
+    children: &mut Dir<'_>,
+    lines: &str,
+) -> anyhow::Result<ProcessNumber> {
+    let order = orders.order(lines)?;
+    let number = order.number();
+    children.spawn(order)?;
+    Ok(number)
+}
+
+/// Runs a service with these lines to its end, and tells it.
 fn row(
     rt: &HostRuntime,
+    orders: &mut Orders,
     children: &mut Dir<'_>,
-    n: u64,
     name: &str,
-    words: &[&str],
+    lines: &str,
 ) -> anyhow::Result<()> {
-    let mut runner = start(rt, rt.alloc(), n, words)?;
-    let fate = end(rt, children, n)?;
-    runner.wait()?;
+    let number = start(orders, children, lines)?;
+    let fate = end(rt, children, number)?;
     println!(rt; "{name}: {fate:?}")?;
     Ok(())
 }
@@ -56,70 +96,121 @@ fn is_there(rt: &HostRuntime, path: &str) -> bool {
     fs::symlink_metadata(rt, path).is_ok()
 }
 
-/// The files of numbers 1 to 4 come and tell.
-fn ends(rt: &HostRuntime, children: &mut Dir<'_>) -> anyhow::Result<()> {
-    row(rt, children, 1, "exit 3", &["0", "/bin/sh", "-c", "exit 3"])?;
-    row(rt, children, 3, "not there", &["0", "/nonexistent"])?;
-    let pid = is_there(rt, "processes/3.pid");
+/// Whether something stands at the path, or comes there.
+fn comes(rt: &HostRuntime, path: &str) -> bool {
+    for _ in 0..FEW_POLLS {
+        if is_there(rt, path) {
+            return true;
+        }
+        pause(rt);
+    }
+    is_there(rt, path)
+}
+
+/// Processes 1 to 3 end and tell.
+fn ends(rt: &HostRuntime, orders: &mut Orders, children: &mut Dir<'_>) -> anyhow::Result<()> {
+    let exit = "ExecStart=/bin/sh -c 'exit 3'";
+    row(rt, orders, children, "exit 3", exit)?;
+    row(rt, orders, children, "not there", "ExecStart=/nonexistent")?;
+    let pid = is_there(rt, "processes/2.pid");
     println!(rt; "its pid file: {pid}")?;
-    let test = "test \"$MARK\" = 'a b'";
-    row(
-        rt,
-        children,
-        4,
-        "environment",
-        &["1", "MARK=a b", "/bin/sh", "-c", test],
-    )?;
+    let lines = "Environment=\"MARK=a b\"\nExecStart=/bin/sh -c 'test \"$MARK\" = \"a b\"'";
+    row(rt, orders, children, "environment", lines)
+}
+
+/// A signal to process 4, which runs, and one to process 5, before it is started.
+fn signals(rt: &HostRuntime, orders: &mut Orders, children: &mut Dir<'_>) -> anyhow::Result<()> {
+    let running = start(orders, children, "ExecStart=/bin/sleep 9")?;
+    wait_for_pid(rt, children, running)?;
+    children.signal(running, Signal::Term)?;
+    let fate = end(rt, children, running)?;
+    println!(rt; "signalled: {fate:?}")?;
+    let order = orders.order("ExecStart=/bin/sleep 9")?;
+    let number = order.number();
+    children.signal(number, Signal::Term)?;
+    children.spawn(order)?;
+    let fate = end(rt, children, number)?;
+    println!(rt; "signalled before it started: {fate:?}")?;
     Ok(())
 }
 
-/// A signal to a process that runs, and one that waits for its process.
-fn signals(rt: &HostRuntime, children: &mut Dir<'_>) -> anyhow::Result<()> {
-    let mut runner = start(rt, rt.alloc(), 2, &["0", "/bin/sleep", "9"])?;
-    wait_for_pid(rt, children, 2)?;
-    children.signal(number(2)?, Signal::Term)?;
-    let fate = end(rt, children, 2)?;
-    runner.wait()?;
-    println!(rt; "signalled: {fate:?}")?;
-    children.signal(number(8)?, Signal::Term)?;
-    row(
-        rt,
-        children,
-        8,
-        "signalled before it started",
-        &["0", "/bin/sleep", "9"],
-    )
+/// A runner that comes to a claim of the manager starts nothing, also one that comes after the number was forgotten: two stores give
+/// the number.
+fn late_runners(
+    rt: &HostRuntime,
+    orders: &mut Orders,
+    others: &mut Orders,
+    children: &mut Dir<'_>,
+) -> anyhow::Result<()> {
+    let lines = "ExecStart=/bin/sh -c 'echo x >>late'";
+    let first = orders.order(lines)?;
+    let second = others.order(lines)?;
+    let number = first.number();
+    let same = number == second.number();
+    let fate = children.fate(number, true)?;
+    children.spawn(first)?;
+    let started = comes(rt, "late");
+    let later = children.fate(number, true)?;
+    children.forget(number)?;
+    children.spawn(second)?;
+    let started = started || comes(rt, "late");
+    println!(rt; "claimed: {fate:?}, then {later:?}; the same number: {same}; started: {started}")?;
+    Ok(())
+}
+
+/// Two runners of a number start one child: two stores give the number.
+fn two_runners(
+    rt: &HostRuntime,
+    orders: &mut Orders,
+    others: &mut Orders,
+    children: &mut Dir<'_>,
+) -> anyhow::Result<()> {
+    let lines = "ExecStart=/bin/sh -c 'echo x >>two; sleep 1'";
+    let first = orders.order(lines)?;
+    let number = first.number();
+    let second = others.order(lines)?;
+    let same = number == second.number();
+    children.spawn(first)?;
+    children.spawn(second)?;
+    let fate = end(rt, children, number)?;
+    let size = fs::metadata(rt, "two")?.len();
+    println!(rt; "two runners: {fate:?}; the same number: {same}; bytes written: {size}")?;
+    Ok(())
 }
 
 /// Who claims a number first has it.
-fn claims(rt: &HostRuntime, children: &mut Dir<'_>) -> anyhow::Result<()> {
-    let touch = ["0", "/bin/sh", "-c", "echo x >> five"];
-    let fate = children.fate(number(5)?, true)?;
-    start(rt, rt.alloc(), 5, &touch)?.wait()?;
-    let later = children.fate(number(5)?, true)?;
-    children.forget(number(5)?)?;
-    start(rt, rt.alloc(), 5, &touch)?.wait()?;
-    let started = is_there(rt, "five");
-    println!(rt; "claimed: {fate:?}, then {later:?}; started: {started}")?;
-    let twice = ["0", "/bin/sh", "-c", "echo x >> six"];
-    let mut first = start(rt, rt.alloc(), 6, &twice)?;
-    start(rt, rt.alloc(), 6, &twice)?.wait()?;
-    first.wait()?;
-    let size = fs::metadata(rt, "six")?.len();
-    let fate = children.fate(number(6)?, true)?;
-    println!(rt; "two runners: {fate:?}, bytes written: {size}")?;
+fn claims(rt: &HostRuntime, alloc: Global) -> anyhow::Result<()> {
+    let mut children = open(rt, TWICE)?;
+    let mut orders = Orders::new(alloc)?;
+    let mut others = Orders::new(alloc)?;
+    late_runners(rt, &mut orders, &mut others, &mut children)?;
+    two_runners(rt, &mut orders, &mut others, &mut children)?;
+    let failures = children.failures();
+    println!(rt; "failures: {failures}")?;
     Ok(())
 }
 
-/// A number that is forgotten leaves nothing but a claim of the manager.
+/// A start through a runner that isn't there is refused, and the number is the manager's from then on.
+fn no_runner(rt: &HostRuntime, alloc: Global) -> anyhow::Result<()> {
+    let mut children = RunnerDir::open(rt, alloc, "/nonexistent", ALONE)?;
+    let order = Orders::new(alloc)?.order("ExecStart=/bin/true")?;
+    let number = order.number();
+    let spawned = children.spawn(order);
+    let fate = children.fate(number, true)?;
+    let failures = children.failures();
+    println!(rt; "no runner: {spawned:?}, then {fate:?}; failures: {failures}")?;
+    Ok(())
+}
+
+/// A number that is forgotten leaves nothing.
 fn forgets(rt: &HostRuntime, children: &mut Dir<'_>) -> anyhow::Result<()> {
     children.forget(number(1)?)?;
     let left = is_there(rt, "processes/1.status") || is_there(rt, "processes/1.claim");
     children.forget_others(&[number(2)?])?;
     let two = is_there(rt, "processes/2.status");
     let three = is_there(rt, "processes/3.status");
-    let five = is_there(rt, "processes/5.claim");
-    println!(rt; "left of 1: {left}; 2: {two}, 3: {three}, claim of 5: {five}")?;
+    let claim = is_there(rt, "twice/1.claim");
+    println!(rt; "left of 1: {left}; 2: {two}, 3: {three}; the manager's claim: {claim}")?;
     Ok(())
 }
 
@@ -181,10 +272,12 @@ fn in_memory(rt: &HostRuntime, alloc: Global) -> anyhow::Result<()> {
 }
 
 pub fn rows(rt: &HostRuntime, alloc: Global) -> anyhow::Result<()> {
-    let mut children = RunnerDir::open(rt, alloc, "umd", FOLDER)?;
-    ends(rt, &mut children)?;
-    signals(rt, &mut children)?;
-    claims(rt, &mut children)?;
+    let mut children = open(rt, FOLDER)?;
+    let mut orders = Orders::new(alloc)?;
+    ends(rt, &mut orders, &mut children)?;
+    signals(rt, &mut orders, &mut children)?;
+    claims(rt, alloc)?;
+    no_runner(rt, alloc)?;
     forgets(rt, &mut children)?;
     odd_files(rt, &mut children)?;
     in_memory(rt, alloc)?;

@@ -74,7 +74,7 @@ impl Row {
     }
 }
 
-/// The table of requests.
+/// The row of a verb in the table of requests.
 pub fn row_of(verb: Verb) -> Row
     ensures text { result.text.now ≡ (model.row_of verb).text }
     ensures known { known_where result.known ≡ (model.row_of verb).is_known }

@@ -23,5 +23,5 @@ pub use life::run;
 pub use line::RunnerLine;
 pub use notes::{Claiming, Told, claim, pid_in, status_in};
 pub use paths::{file_name, file_path};
-pub use texts::{pid_text, read_claim, read_pid, read_status, status_text};
+pub use texts::{number_in, pid_text, read_claim, read_pid, read_status, status_text};
 pub use um_model::{Claimant, End, ProcessNumber, RunnerFile};

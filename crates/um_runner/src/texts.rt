@@ -26,7 +26,7 @@ fn is_plain(text: &[u8]) -> bool
 
 #[tactic(auto, using(crate::proofs::Numerals::no_utf8))]
 /// The number that the text is in decimal digits, without zeros in front. None for another text, and from 2^64 on.
-pub(crate) fn number_in(text: &[u8]) -> Option<u64>
+pub fn number_in(text: &[u8]) -> Option<u64>
     ensures { MatchOption result ((n : ℕ) → n < 2 ^ 64 → text.now ≢ decimal n) (λ n. text.now ≡ decimal n) }
 {
     if !is_plain(text) {

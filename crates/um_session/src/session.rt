@@ -171,6 +171,13 @@ impl Session {
         Ok(())
     }
 
+    /// Fails the session, where a reply finds no memory before it comes here.
+    pub fn give_up(&mut self)
+        ensures { model.Does self.old model.GiveUp self.new }
+    {
+        self.fail();
+    }
+
     /// Takes what was put out.
     pub fn take_output(&mut self) -> Vec<u8>
         ensures { model.Does self.old (model.Take result.items) self.new }

@@ -1,23 +1,27 @@
-//! The program `umd`: `--memory` answers the frames of standard input on standard output, `run` runs a command for the manager.
+//! The program `umd`: `--memory` answers the frames of standard input on standard output, `create` makes a store, `ctl` asks a manager,
+//! `run` runs a command for the manager, `serve` serves a store over a socket.
 #![tactic(auto)]
 
+mod messages;
+mod serving;
+mod standing;
+mod telling;
+
+use messages::{DEVICE, REFUSED, USAGE, ctl_fault, report, status_of, tell_create};
+use serving::serve_store;
 use std::alloc::Global;
 use std::env::Env;
-use std::fs::Files;
+use std::fs::{File, Files};
 use std::io::ErrorKind;
+use std::net::Net;
 use std::process::{ExitCode, Processes};
+use std::time::Clock;
 use std::{env, io};
-use um_bin::{Ending, Fault, Line, memory, read_line};
+use um_bin::{Ending, Fault, memory};
+use um_create::{Layout, create_store};
+use um_ctl::{Told, Words, ask};
+use um_line::{CreateLine, CtlLine, Line, read_line};
 use um_runner::{Folder, FolderFault, RunnerLine};
-
-/// The exit status at a length past the limit, and where a growth of memory was refused.
-const REFUSED: u8 = 1;
-
-/// The exit status at an end inside a frame, and at wrong words.
-const USAGE: u8 = 2;
-
-/// The exit status where standard input or output failed, or the folder of a runner.
-const DEVICE: u8 = 5;
 
 fn serve_memory<R: Input + Print>(rt: &R, alloc: Global) -> Result<u8, Fault> {
     let mut input = rt.reader();
@@ -47,14 +51,67 @@ fn run_runner<R: Files + Processes + Eprint>(
     }
 }
 
-fn run_line<R: Input + Print + Eprint + Files + Processes>(
+/// Makes a new store.
+fn create<R: Files<File = File> + Eprint>(rt: &R, alloc: Global, line: &CreateLine<'_>) -> u8 {
+    let Some(layout) = Layout::new(line.slot, line.log) else {
+        return USAGE;
+    };
+    match create_store(rt, alloc, layout, line.file) {
+        Ok(()) => 0,
+        Err(fault) => {
+            tell_create(rt, &fault, line.file);
+            fault.status()
+        }
+    }
+}
+
+/// Puts out what a reply tells.
+fn tell<R: Print + Eprint>(rt: &R, told: &Told) -> Result<u8, Fault> {
+    let Told {
+        output,
+        error,
+        status,
+    } = told;
+    match print!(rt; "{output}").and(eprint!(rt; "{error}")) {
+        Ok(()) => Ok(*status),
+        Err(e) => Err(Fault::Write(e)),
+    }
+}
+
+/// Asks the manager at a socket.
+fn ctl<R: Net + Input + Print + Eprint>(
     rt: &R,
     alloc: Global,
-    line: &Line<'_>,
+    line: &CtlLine<'_>,
 ) -> Result<u8, Fault> {
+    let words = Words {
+        verb: line.verb,
+        arguments: line.arguments.as_slice(),
+        mode: line.mode,
+    };
+    match ask(rt, alloc, line.socket, &words, &mut rt.reader()) {
+        Ok(told) => tell(rt, &told),
+        Err(fault) => {
+            ctl_fault(rt, &fault, line);
+            Ok(fault.status())
+        }
+    }
+}
+
+fn run_line<R>(rt: &R, alloc: Global, line: &Line<'_>) -> Result<u8, Fault>
+where
+    R: Input + Print + Eprint + Files<File = File> + Net + Processes + Clock,
+{
     match line {
         Line::Memory => serve_memory(rt, alloc),
         Line::Run(line) => run_runner(rt, alloc, line),
+        Line::Create(line) => Ok(create(rt, alloc, line)),
+        Line::Ctl(line) => ctl(rt, alloc, line),
+        Line::Serve(line) => Ok(serve_store(rt, alloc, line)),
+        Line::LongBoot => {
+            let _unheard = eprintln!(rt; "E1 BadRequest");
+            Ok(REFUSED)
+        }
         Line::Told(text) => match print!(rt; "{text}") {
             Ok(()) => Ok(0),
             Err(e) => Err(Fault::Write(e)),
@@ -68,9 +125,10 @@ fn run_line<R: Input + Print + Eprint + Files + Processes>(
 }
 
 /// Runs the program, and gives its exit status.
-fn run<R: AllocGlobal + Env + Input + Print + Eprint + Files + Processes>(
-    rt: &R,
-) -> Result<u8, Fault> {
+fn run<R>(rt: &R) -> Result<u8, Fault>
+where
+    R: AllocGlobal + Env + Input + Print + Eprint + Files<File = File> + Net + Processes + Clock,
+{
     let alloc = rt.alloc();
     match env::args(rt) {
         Ok(args) => {
@@ -88,28 +146,11 @@ fn run<R: AllocGlobal + Env + Input + Print + Eprint + Files + Processes>(
     }
 }
 
-/// Says what failed.
-fn report<R: Eprint>(rt: &R, fault: &Fault) -> io::Result<()> {
-    match fault {
-        Fault::NoMemory => eprintln!(rt; "E15 NoMemory"),
-        Fault::Read(e) => eprintln!(rt; "umd: reading: {e}"),
-        Fault::Write(e) => eprintln!(rt; "umd: writing: {e}"),
-    }
-}
-
-/// The exit status for what failed.
-fn status_of(fault: &Fault) -> u8 {
-    match fault {
-        Fault::NoMemory => REFUSED,
-        Fault::Read(_) | Fault::Write(_) => DEVICE,
-    }
-}
-
 fn main(rt: HostRuntime) -> ExitCode {
     let status = match run(&rt) {
         Ok(status) => status,
         Err(fault) => {
-            let _unheard = report(&rt, &fault);
+            report(&rt, &fault);
             status_of(&fault)
         }
     };

@@ -1,7 +1,7 @@
 use Rattle.std.proofs.Common.{true≢false, ◌∙◌, is_some, sym, ap, subst, arith}
 use Rattle.std.proofs.KnownBytes.{Appends-nil}
 use Rattle.um_bin.proofs.Served.{begins_nothing}
-use Rattle.um_bin.proofs.Written.{on_err}
+use Rattle.um_stream.proofs.Written.{on_err}
 use Rattle.um_model.specs.Frames.{memory_size}
 use Rattle.um_model.specs.Servable.{IsServable}
 use Rattle.um_model.proofs.ServableLaws.{empty_servable}

@@ -1,6 +1,6 @@
 use Rattle.std.proofs.KnownBytes.{Appends-nil}
 use Rattle.um_bin.proofs.Served.{replies_more, replies_end, begins_more, begins_nothing, begins_frame, begins_end}
-use Rattle.um_bin.proofs.Written.{on_err}
+use Rattle.um_stream.proofs.Written.{on_err}
 use Rattle.um_bin.proofs.serving.serve_one.Goals as goal
 
 pub returns-in_err-bytes-clause-err : goal.returns-in_err-bytes-clause-err

@@ -1,0 +1,5 @@
+pub mod Words
+pub mod Told
+pub mod Streams
+pub mod View
+pub mod Prepares

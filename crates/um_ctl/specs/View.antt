@@ -1,0 +1,29 @@
+-- What the client tells, and its faults, as those of the definitions.
+use Rattle.std.specs.Prelude.{ℕ, string_bytes}
+use Rattle.um_ctl.specs.Told as model
+use Rattle.um_ctl.specs.declared.fault.CtlFault.{CtlFault}
+use Rattle.um_ctl.specs.declared.fault.CtlFault.TheVariants.{Usage, TooLarge, NoText, NoConnection, Input, Read, Write, NoReply, NoMemory}
+use Rattle.um_ctl.specs.declared.reply.Told.{Told}
+use Rattle.um_stream.specs.declared.fault.Fault.{Fault}
+use Rattle.um_stream.specs.declared.fault.Fault.TheVariants as stream
+
+abbrev pub told_view : Told → model.Told
+told_view t = record { output = string_bytes t.output; error = string_bytes t.error; status = t.status }
+
+-- the exit status of a fault: 1 refused, 2 wrong words, 4 no connection, 5 reading or writing failed
+abbrev pub status_of : CtlFault → ℕ
+status_of Usage = 2
+status_of TooLarge = 1
+status_of NoText = 2
+status_of (NoConnection e) = 4
+status_of (Input e) = 5
+status_of (Read e) = 5
+status_of (Write e) = 5
+status_of NoReply = 5
+status_of NoMemory = 1
+
+-- a fault of the connection
+abbrev pub fault_of : Fault → CtlFault
+fault_of (stream.Read e) = Read e
+fault_of (stream.Write e) = Write e
+fault_of stream.NoMemory = NoMemory

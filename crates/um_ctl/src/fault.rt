@@ -1,0 +1,66 @@
+ghost use Rattle.std.specs.Prelude.{◌≡◌};
+ghost use Rattle.um_ctl.specs.View.{fault_of, status_of};
+
+use std::alloc::AllocError;
+use std::io;
+use um_stream::Fault;
+
+/// Why the client ends without a reply.
+#[derive(Debug, Drop)]
+pub enum CtlFault {
+    /// An unknown verb, another number of arguments, or a mode out of place.
+    Usage,
+    /// The text of a file has more than 65,536 bytes.
+    TooLarge,
+    /// The text of a file isn't UTF-8.
+    NoText,
+    /// Nobody serves the socket.
+    NoConnection(io::Error),
+    /// Standard input couldn't be read.
+    Input(io::Error),
+    /// The connection couldn't be read.
+    Read(io::Error),
+    /// The connection couldn't be written.
+    Write(io::Error),
+    /// What came is no reply.
+    NoReply,
+    /// A growth of memory was refused.
+    NoMemory,
+}
+
+impl CtlFault {
+    /// The exit status: 1 refused, 2 for wrong words, 4 without a connection, 5 where reading or writing failed.
+    pub fn status(&self) -> u8
+        ensures { result ≡ status_of self.now }
+    {
+        match self {
+            CtlFault::TooLarge | CtlFault::NoMemory => 1,
+            CtlFault::Usage | CtlFault::NoText => 2,
+            CtlFault::NoConnection(_) => 4,
+            CtlFault::Input(_) | CtlFault::Read(_) | CtlFault::Write(_) | CtlFault::NoReply => 5,
+        }
+    }
+}
+
+impl From<AllocError> for CtlFault {
+    ghost use Rattle.um_ctl.specs.declared.fault.CtlFault.TheVariants.{NoMemory};
+
+    ghost from_gives = { λ _ e. e ≡ NoMemory };
+
+    fn from(_refused: AllocError) -> CtlFault {
+        CtlFault::NoMemory
+    }
+}
+
+/// A fault of the connection.
+impl From<Fault> for CtlFault {
+    ghost from_gives = { λ fault e. e ≡ fault_of fault };
+
+    fn from(fault: Fault) -> CtlFault {
+        match fault {
+            Fault::Read(e) => CtlFault::Read(e),
+            Fault::Write(e) => CtlFault::Write(e),
+            Fault::NoMemory => CtlFault::NoMemory,
+        }
+    }
+}

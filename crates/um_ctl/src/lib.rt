@@ -1,0 +1,18 @@
+//! The client of a manager: words become the frame of exactly the request that they mean, and a reply what is printed and the exit status.
+#![tactic(auto)]
+
+mod connection;
+mod fault;
+mod laws;
+mod reply;
+mod text;
+mod words;
+mod writing;
+
+pub use connection::{ask, exchange, prepare};
+pub use fault::CtlFault;
+pub use laws::a_reply_is_one_frame;
+pub use reply::{Told, told_of};
+pub use text::{FileText, read_text};
+pub use words::Words;
+pub use writing::request;

@@ -1,0 +1,33 @@
+ghost use Rattle.std.specs.Prelude.{IfOk};
+ghost use Rattle.um_ctl.specs.Streams.{IsFileText};
+
+use std::alloc::Global;
+use std::io::Read;
+use um_stream::{Fault, read_up_to};
+
+/// The longest text of a file, in bytes.
+const TEXT_LIMIT: usize = 65_536;
+
+/// What came on standard input as the text of a file.
+#[derive(Debug, Drop)]
+pub enum FileText {
+    Text(String),
+    /// It has more than 65,536 bytes, which aren't all read.
+    TooLarge,
+    /// It is no text: not UTF-8.
+    NoText,
+}
+
+/// Reads the text of a file from an input to its end, or 65,537 bytes of it.
+pub fn read_text<R: Read>(alloc: Global, input: &mut R) -> Result<FileText, Fault>
+    ensures { IfOk result (IsFileText (R.remaining input.old) (R.remaining input.new)) }
+{
+    let bytes = read_up_to(alloc, input, TEXT_LIMIT + 1)?;
+    if bytes.len() > TEXT_LIMIT {
+        return Ok(FileText::TooLarge);
+    }
+    match String::from_utf8(bytes) {
+        Ok(text) => Ok(FileText::Text(text)),
+        Err(_) => Ok(FileText::NoText),
+    }
+}

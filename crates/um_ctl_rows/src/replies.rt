@@ -1,0 +1,153 @@
+//! Replies, and what is printed for them.
+use serde_json::Value;
+use std::process::Abort;
+use um_ctl::told_of;
+use um_proto::Verb;
+
+/// A verb, a reply to it, what is printed on standard output and standard error, and the exit status.
+const TOLD: &[(Verb, &str, &str, &str, u8)] = &[
+    (Verb::Start, "{\"ok\":true}", "", "", 0),
+    (Verb::ListJobs, "{\"ok\":true,\"value\":[]}", "[]\n", "", 0),
+    (
+        Verb::Enable,
+        "{ \"value\": {\"removed\":[],\"made\":[\"etc/a\"]}, \"ok\": true }",
+        "{\"made\":[\"etc/a\"],\"removed\":[]}\n",
+        "",
+        0,
+    ),
+    (
+        Verb::IsActive,
+        "{\"ok\":true,\"value\":\"active\"}",
+        "\"active\"\n",
+        "",
+        0,
+    ),
+    (
+        Verb::IsActive,
+        "{\"ok\":true,\"value\":\"activating\"}",
+        "\"activating\"\n",
+        "",
+        3,
+    ),
+    (
+        Verb::IsFailed,
+        "{\"ok\":true,\"value\":\"failed\"}",
+        "\"failed\"\n",
+        "",
+        0,
+    ),
+    (
+        Verb::IsFailed,
+        "{\"ok\":true,\"value\":\"active\"}",
+        "\"active\"\n",
+        "",
+        3,
+    ),
+    (
+        Verb::IsEnabled,
+        "{\"ok\":true,\"value\":\"enabled\"}",
+        "\"enabled\"\n",
+        "",
+        0,
+    ),
+    (
+        Verb::IsEnabled,
+        "{\"ok\":true,\"value\":\"static\"}",
+        "\"static\"\n",
+        "",
+        0,
+    ),
+    (
+        Verb::IsEnabled,
+        "{\"ok\":true,\"value\":\"not-found\"}",
+        "\"not-found\"\n",
+        "",
+        3,
+    ),
+    (
+        Verb::IsEnabled,
+        "{\"ok\":true,\"value\":\"masked\"}",
+        "\"masked\"\n",
+        "",
+        3,
+    ),
+    (
+        Verb::IsEnabled,
+        "{\"ok\":true,\"value\":\"disabled\"}",
+        "\"disabled\"\n",
+        "",
+        3,
+    ),
+    (
+        Verb::Start,
+        "{\"detail\":[\"b.service\"],\"error\":4,\"ok\":false}",
+        "",
+        "E4 NotFound b.service\n",
+        1,
+    ),
+    (
+        Verb::IsActive,
+        "{\"detail\":[\"a b\"],\"error\":3,\"ok\":false}",
+        "",
+        "E3 BadName a b\n",
+        1,
+    ),
+    (
+        Verb::Start,
+        "{\"detail\":[],\"error\":15,\"ok\":false}",
+        "",
+        "E15 NoMemory\n",
+        1,
+    ),
+    (
+        Verb::Start,
+        "{\"detail\":[\"a.service\",\"b.service\"],\"error\":9,\"ok\":false}",
+        "",
+        "E9 OrderingCycle a.service b.service\n",
+        1,
+    ),
+    (
+        Verb::Start,
+        "{\"detail\":[],\"error\":22,\"ok\":false}",
+        "",
+        "E22 OtherLayout\n",
+        1,
+    ),
+];
+
+/// The value of a text.
+fn value(rt: &(impl AllocGlobal + Abort), text: &str) -> Value {
+    Value::from_str(rt.alloc(), text).expect(rt, "no JSON")
+}
+
+#[test]
+fn replies_are_told(rt: HostRuntime) {
+    for (verb, reply, output, error, status) in TOLD {
+        let reply = value(&rt, reply);
+        let told = told_of(rt.alloc(), *verb, &reply).expect(&rt, "no memory");
+        let told = told.expect(&rt, "no reply");
+        assert!(rt; told.output.as_str() == *output, "{output}: {told:?}");
+        assert!(rt; told.error.as_str() == *error, "{error}: {told:?}");
+        assert!(rt; told.status == *status, "{output}{error}: {told:?}");
+    }
+}
+
+/// What is no reply.
+const NONE: &[&str] = &[
+    "[]",
+    "{}",
+    "{\"ok\":1}",
+    "{\"ok\":false}",
+    "{\"detail\":[],\"error\":0,\"ok\":false}",
+    "{\"detail\":[],\"error\":23,\"ok\":false}",
+    "{\"detail\":[7],\"error\":3,\"ok\":false}",
+    "{\"detail\":\"a\",\"error\":3,\"ok\":false}",
+];
+
+#[test]
+fn other_values_are_no_replies(rt: HostRuntime) {
+    for text in NONE {
+        let told = told_of(rt.alloc(), Verb::Start, &value(&rt, text)).expect(&rt, "no memory");
+        assert!(rt; told.is_none(), "{text}: {told:?}");
+    }
+}

@@ -1,0 +1,25 @@
+-- What a gate does for its clients, as one list of events, the oldest first.
+-- No manual page has this: connections are the project's own (docs/FORMATS.md, "The socket").
+-- Gates, and what is served over them, stand on this file.
+use Rattle.std.specs.Prelude.{◌≡◌, ◌++◌, ℕ, List, Bool, true, false, Option, Some, None, IsTrue}
+
+-- An accept, with which connections are open after it; a read of a connection, with the bytes that came, or that it is closed; a write,
+-- with the bytes that were taken; a connection given up.
+pub data Event : Type 0 where
+  accepted : (is_open : List Bool) → Event
+  read : (number : ℕ) (came : Option (List ℕ)) → Event
+  wrote : (number : ℕ) (taken : List ℕ) → Event
+  dropped : (number : ℕ) → Event
+
+-- what a read tells: its bytes, or that the connection is closed
+abbrev pub came : Bool → List ℕ → Option (List ℕ)
+came true bytes = Some bytes
+came false bytes = None
+
+-- the list grew by these, where the gate is honest and keeps its list whole
+abbrev pub Logs : (honest whole : Bool) (old new events : List Event) → Type 0
+Logs honest whole old new events = IsTrue honest → IsTrue whole → new ≡ old ++ events
+
+-- the moments grew by this one, where the clock is honest and keeps its list whole
+abbrev pub Ticks : (honest whole : Bool) (old new moments : List ℕ) → Type 0
+Ticks honest whole old new moments = IsTrue honest → IsTrue whole → new ≡ old ++ moments

@@ -1,0 +1,59 @@
+ghost use Rattle.std.specs.Prelude.{◌≡◌, ◌≤◌, ◌∷◌, [], List, Bool, IsTrue, length, take, vec_capacity};
+ghost use Rattle.um_gate.specs.Events.{Event, accepted, read, wrote, dropped, came, Logs};
+
+/// So many connections are open at most.
+pub const CONNECTIONS: usize = 64;
+
+/// A read gives at most so many bytes.
+pub const MOST_BYTES: usize = 4096;
+
+/// Which connections are open, by their numbers 0 to 63.
+#[derive(Clone, Copy, Debug)]
+pub struct Open {
+    pub is_open: [bool; CONNECTIONS],
+}
+
+/// The clients of a manager, each under the number of its connection. What is done is told by one list of events.
+///
+/// The clauses on the list stand under `honest`, and under `whole`, since a gate that keeps its list may find no memory for an
+/// event. No call takes memory otherwise, and none waits. A connection that fails is closed.
+pub trait Gate {
+    /// The accepts, reads and writes, the oldest first.
+    ghost past: { Self → List Event };
+
+    /// No event is missing from the list.
+    ghost whole: { Self → Bool };
+
+    /// It does what it tells.
+    ghost honest: { Self → Bool };
+
+    /// Takes one client where one waits, under the least number that is free, and tells which connections are open. Where none is
+    /// free the client's connection is closed unread.
+    fn accept(&mut self) -> Open
+        ensures past { Logs (honest self.old) (whole self.new) (past self.old) (past self.new) (accepted result.is_open ∷ []) }
+        ensures whole { IsTrue (whole self.new) → IsTrue (whole self.old) }
+        ensures honest { honest self.new ≡ honest self.old };
+
+    /// Reads what is there, at most `MOST_BYTES`, and tells whether the connection is open still. One that was dropped, or failed in
+    /// a write, is told closed here.
+    fn read(&mut self, number: usize, bytes: &mut Vec<u8>) -> bool
+        requires empty { bytes.old.items ≡ [] }
+        requires room { MOST_BYTES ≤ vec_capacity bytes.old }
+        ensures past { Logs (honest self.old) (whole self.new) (past self.old) (past self.new) (read number (came result bytes.new.items) ∷ []) }
+        ensures bound { length bytes.new.items ≤ MOST_BYTES }
+        ensures whole { IsTrue (whole self.new) → IsTrue (whole self.old) }
+        ensures honest { honest self.new ≡ honest self.old };
+
+    /// Takes some of the bytes, from the first on, and tells how many.
+    fn write(&mut self, number: usize, bytes: &[u8]) -> usize
+        ensures bound { result ≤ length bytes.now }
+        ensures past { Logs (honest self.old) (whole self.new) (past self.old) (past self.new) (wrote number (take result bytes.now) ∷ []) }
+        ensures whole { IsTrue (whole self.new) → IsTrue (whole self.old) }
+        ensures honest { honest self.new ≡ honest self.old };
+
+    /// Gives a connection up: nothing more is read of it or written to it, and its next read tells it closed.
+    fn drop_connection(&mut self, number: usize)
+        ensures past { Logs (honest self.old) (whole self.new) (past self.old) (past self.new) (dropped number ∷ []) }
+        ensures whole { IsTrue (whole self.new) → IsTrue (whole self.old) }
+        ensures honest { honest self.new ≡ honest self.old };
+}

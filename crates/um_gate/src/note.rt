@@ -1,0 +1,16 @@
+use crate::gate::Open;
+
+/// What a gate did.
+#[derive(Debug, Drop)]
+pub enum Note {
+    /// An accept, with which connections are open after it.
+    Accepted(Open),
+    /// A read of a connection, with the bytes that came.
+    Came(usize, Vec<u8>),
+    /// A read of a connection that is closed.
+    Closed(usize),
+    /// A write to a connection, with the bytes that it took.
+    Wrote(usize, Vec<u8>),
+    /// A connection given up.
+    Dropped(usize),
+}

@@ -1,0 +1,260 @@
+//! A gate over a Unix socket.
+
+ghost use Rattle.std.specs.Prelude.{◌≡◌, ◌≤◌, [], length, false, true, IfOk, IfSome, vec_capacity};
+
+use crate::gate::{CONNECTIONS, Gate, MOST_BYTES, Open};
+use mio::net::{UnixListener, UnixStream};
+use mio::{Events, Interest, Poll, Token};
+use std::alloc::{AllocError, Global};
+use std::fs::{Files, Permissions};
+use std::io::{ErrorKind, Read, Write};
+use std::net::Net;
+use std::os::unix::fs::PermissionsExt;
+use std::time::Duration;
+use std::{fs, io};
+
+/// The owner alone may connect.
+const MODE: u32 = 0o600;
+
+/// As many events are told by one wait at most.
+const EVENTS: usize = 128;
+
+/// The listener's events have this token; those of a connection its number.
+const LISTENER: usize = CONNECTIONS;
+
+/// What stands under the number of a connection.
+#[derive(Drop)]
+enum Place {
+    Free,
+    Open(UnixStream),
+    /// It failed in a write, or was given up: its next read tells it closed.
+    Broken,
+}
+
+/// A gate over a Unix socket, of which no call waits but `wait`.
+///
+/// No contract can say what a socket gives and takes. So `honest` isn't claimed of it, and of the clauses of `Gate` those on counts
+/// alone say something here: that a socket does what the list of events says is a premise of what is proved above.
+#[derive(Drop)]
+pub struct SocketGate {
+    poll: Poll,
+    events: Events,
+    listener: UnixListener,
+    places: Vec<Place>,
+    /// Where a read puts its bytes first.
+    buffer: Vec<u8>,
+    ghost full: { length buffer.items ≡ 4096 },
+}
+
+/// Removes an entry that an earlier server left at the path.
+fn remove_entry<R: Files>(rt: &R, path: &str) -> io::Result<()> {
+    match fs::remove_file(rt, path) {
+        Err(e) if e.kind() != ErrorKind::NotFound => Err(e),
+        _ => Ok(()),
+    }
+}
+
+/// A listener at the path, to which the owner alone may connect.
+fn listener_at<R: Files + Net>(rt: &R, path: &str) -> io::Result<UnixListener> {
+    remove_entry(rt, path)?;
+    let listener = UnixListener::bind(rt, path)?;
+    fs::set_permissions(rt, path, Permissions::from_mode(MODE))?;
+    Ok(listener)
+}
+
+/// So many places, all free.
+fn free_places(alloc: Global) -> Result<Vec<Place>, AllocError> {
+    let mut places = Vec::with_capacity(alloc, CONNECTIONS)?;
+    for _ in 0..CONNECTIONS {
+        places.push(Place::Free)?;
+    }
+    Ok(places)
+}
+
+/// A buffer of as many bytes as a read gives at most.
+fn full_buffer(alloc: Global) -> Result<Vec<u8>, AllocError>
+    ensures { IfOk result (λ buffer. length buffer.items ≡ MOST_BYTES) }
+{
+    let mut buffer = Vec::new(alloc);
+    buffer.resize(MOST_BYTES, 0)?;
+    Ok(buffer)
+}
+
+/// The least number that is free.
+fn free_number(places: &[Place]) -> Option<usize> {
+    places.iter().position(|place| matches!(place, Place::Free))
+}
+
+/// What is read of a stream: how many bytes stand in the buffer, or that it is closed.
+fn read_stream(stream: &mut UnixStream, buffer: &mut [u8]) -> Option<usize>
+    ensures { IfSome result (λ count. count ≤ length buffer.old) }
+{
+    match stream.read(buffer) {
+        Ok(0) => None,
+        Ok(count) => Some(count),
+        Err(e) => match e.kind() {
+            ErrorKind::WouldBlock | ErrorKind::Interrupted => Some(0),
+            _ => None,
+        },
+    }
+}
+
+/// How many of the bytes a stream takes; none where it failed.
+fn write_stream(stream: &mut UnixStream, bytes: &[u8]) -> Option<usize>
+    ensures { IfSome result (λ count. count ≤ length bytes.now) }
+{
+    if bytes.is_empty() {
+        return Some(0);
+    }
+    match stream.write(bytes) {
+        Ok(count) => Some(count),
+        Err(e) => match e.kind() {
+            ErrorKind::WouldBlock | ErrorKind::Interrupted => Some(0),
+            _ => None,
+        },
+    }
+}
+
+impl SocketGate {
+    /// Serves a socket at `path`, to which its owner alone may connect. An entry that stands there is removed first, so whoever calls this
+    /// has to know that nobody serves it. An error where the system refuses it, as for a path past 107 bytes, or where memory is.
+    pub fn open<R: Files + Net>(rt: &R, alloc: Global, path: &str) -> io::Result<SocketGate> {
+        let poll = Poll::new(rt)?;
+        let events = Events::with_capacity(alloc, EVENTS)?;
+        let places = free_places(alloc)?;
+        let buffer = full_buffer(alloc)?;
+        let mut listener = listener_at(rt, path)?;
+        poll.registry()
+            .register(&mut listener, Token(LISTENER), Interest::READABLE)?;
+        Ok(SocketGate {
+            poll,
+            events,
+            listener,
+            places,
+            buffer,
+        })
+    }
+
+    /// Waits until a client comes, bytes come, or a connection takes bytes again, but no longer than this. It is a hint alone: whoever
+    /// waited looks at each open connection.
+    pub fn wait(&mut self, longest: Duration) {
+        // Where the system refuses to wait, the round that follows looks all the same.
+        let _unheard = self.poll.poll(&mut self.events, Some(longest));
+    }
+
+    /// The next client, if one waits.
+    fn next_client(&mut self) -> Option<UnixStream> {
+        let (stream, _) = self.listener.accept().ok()?;
+        Some(stream)
+    }
+
+    /// Takes a client under a free number; without one it is let go, which closes its connection.
+    fn take_client(&mut self, mut stream: UnixStream) {
+        let Some(number) = free_number(self.places.as_slice()) else {
+            return;
+        };
+        let interest = Interest::READABLE | Interest::WRITABLE;
+        let registry = self.poll.registry();
+        if registry
+            .register(&mut stream, Token(number), interest)
+            .is_err()
+        {
+            return;
+        }
+        if let Some(place) = self.places.get_mut(number) {
+            *place = Place::Open(stream);
+        }
+    }
+}
+
+/// Which places aren't free.
+fn open_of(places: &[Place]) -> Open {
+    let mut is_open = [false; CONNECTIONS];
+    for (number, place) in places.iter().enumerate() {
+        if number < CONNECTIONS {
+            is_open[number] = !matches!(place, Place::Free);
+        }
+    }
+    Open { is_open }
+}
+
+/// Reads what is there of a place; none where it is closed.
+fn read_place(place: &mut Place, buffer: &mut [u8]) -> Option<usize>
+    ensures { IfSome result (λ count. count ≤ length buffer.old) }
+{
+    match place {
+        Place::Open(stream) => read_stream(stream, buffer),
+        Place::Free | Place::Broken => None,
+    }
+}
+
+/// Puts what is there of a place into the vector, by way of the buffer, and tells whether it is open still.
+fn fill(place: &mut Place, buffer: &mut [u8], bytes: &mut Vec<u8>) -> bool
+    requires empty { bytes.old.items ≡ [] }
+    requires room { MOST_BYTES ≤ vec_capacity bytes.old }
+    requires full { length buffer.old ≡ MOST_BYTES }
+    ensures bound { length bytes.new.items ≤ MOST_BYTES }
+    ensures full { length buffer.new ≡ MOST_BYTES }
+{
+    let Some(count) = read_place(place, buffer) else {
+        *place = Place::Free;
+        return false;
+    };
+    match bytes.extend_from_slice(&buffer[..count]) {
+        Ok(()) => true,
+        Err(_) => unreachable!(),
+    }
+}
+
+/// How many of the bytes a place takes.
+fn write_place(place: &mut Place, bytes: &[u8]) -> usize
+    ensures { result ≤ length bytes.now }
+{
+    let taken = match place {
+        Place::Open(stream) => write_stream(stream, bytes),
+        Place::Free | Place::Broken => Some(0),
+    };
+    match taken {
+        Some(count) => count,
+        None => {
+            *place = Place::Broken;
+            0
+        }
+    }
+}
+
+impl Gate for SocketGate {
+    // No clause reads it, since nothing is claimed of what a socket gives.
+    ghost past = { λ _. [] };
+
+    ghost whole = { λ _. true };
+
+    ghost honest = { λ _. false };
+
+    fn accept(&mut self) -> Open {
+        if let Some(stream) = self.next_client() {
+            self.take_client(stream);
+        }
+        open_of(self.places.as_slice())
+    }
+
+    fn read(&mut self, number: usize, bytes: &mut Vec<u8>) -> bool {
+        match self.places.get_mut(number) {
+            Some(place) => fill(place, self.buffer.as_mut_slice(), bytes),
+            None => false,
+        }
+    }
+
+    fn write(&mut self, number: usize, bytes: &[u8]) -> usize {
+        match self.places.get_mut(number) {
+            Some(place) => write_place(place, bytes),
+            None => 0,
+        }
+    }
+
+    fn drop_connection(&mut self, number: usize) {
+        if let Some(place) = self.places.get_mut(number) {
+            *place = Place::Broken;
+        }
+    }
+}

@@ -1,0 +1,96 @@
+-- What words are read as, by what clap answered.
+use Rattle.std.proofs.Common.{◌≡◌, ◌≢◌, ◌⊎◌, ◌<◌, ◌≤◌, ◌^◌, arith, Option, Some, ℕ, List, [], Result, Ok, Err, IfOk, OnOk, inl, inr, true, refl, sym, subst, ap, ◌∙◌}
+use Rattle.clap.proofs.OnLiterals.{clap_on_literals}
+use Rattle.clap.specs.Words.{App, Kinds, HasKind, IsAmong, Row, Rule, with_rule, fault_of, is_simple_and_free, is_simple, kind_of, matches_of}
+use Rattle.clap.specs.declared.error.Error.{Error}
+use Rattle.clap.specs.declared.error.kind.ErrorKind.{ErrorKind}
+use Rattle.clap.specs.declared.error.kind.ErrorKind.TheVariants.{DisplayHelp, DisplayVersion, OutOfMemory}
+use Rattle.std.proofs.lemmas.Fmt.{decimal_injective}
+use Rattle.std.specs.Prelude.{decimal}
+use Rattle.um_line.specs.Line.{IsNoNumber, IsReadLine, IsToldAs, TellsMistake, umd_words, create_words, serve_words, ctl_words}
+use Rattle.um_line.specs.declared.line.Line.{Line}
+use Rattle.um_line.specs.declared.line.Line.TheVariants.{Memory, Run, Create, Serve, LongBoot, Ctl, Told, Wrong}
+
+-- the words of the program are simple ones
+pub umd_simple : is_simple_and_free umd_words ≡ true
+unfolding clap_on_literals
+umd_simple = refl
+
+pub create_simple : is_simple_and_free create_words ≡ true
+unfolding clap_on_literals
+create_simple = refl
+
+pub create_plain : is_simple create_words ≡ true
+unfolding clap_on_literals
+create_plain = refl
+
+pub serve_simple : is_simple_and_free serve_words ≡ true
+unfolding clap_on_literals
+serve_simple = refl
+
+pub serve_plain : is_simple serve_words ≡ true
+unfolding clap_on_literals
+serve_plain = refl
+
+pub ctl_simple : is_simple_and_free ctl_words ≡ true
+unfolding clap_on_literals
+ctl_simple = refl
+
+pub ctl_plain : is_simple ctl_words ≡ true
+unfolding clap_on_literals
+ctl_plain = refl
+
+told : (mistakes : Kinds) (kind : ErrorKind) (line : Line) → IsAmong kind mistakes → IsToldAs kind line → TellsMistake mistakes line
+told mistakes kind (Told text) among (inl is) = inl (subst (λ k. IsAmong k mistakes) is among)
+told mistakes kind (Told text) among (inr is) = inr (subst (λ k. IsAmong k mistakes) is among)
+told mistakes kind (Wrong text) among (no_help, no_version) = (kind, among, no_help, no_version)
+told mistakes kind Memory among is = absurd is
+told mistakes kind (Run line) among is = absurd is
+told mistakes kind (Create line) among is = absurd is
+told mistakes kind (Serve line) among is = absurd is
+told mistakes kind LongBoot among is = absurd is
+told mistakes kind (Ctl line) among is = absurd is
+
+-- a mistake is told
+pub mistaken : {E : Type 0} (mistakes : Kinds) (Takes : Line → Type 0) (e : Error) (r : Result Line E) → HasKind mistakes e
+    → IfOk r (IsToldAs (kind_of e)) → OnOk r (kind_of e ≢ OutOfMemory) → IfOk r (IsReadLine mistakes Takes)
+mistaken mistakes Takes e (Ok line) (inl memory) is other = absurd (other memory)
+mistaken mistakes Takes e (Ok line) (inr among) is other = inr (told mistakes (kind_of e) line among is)
+mistaken mistakes Takes e (Err f) has is other = tt
+
+-- what words without a mistake ask for, by their rows
+pub read : {E : Type 0} (mistakes : Kinds) (Takes : List Row → Line → Type 0) (rows found : List Row) (r : Result Line E) → mistakes ≡ []
+    → found ≡ rows → IfOk r (Takes found) → IfOk r (IsReadLine mistakes (Takes rows))
+read mistakes Takes rows found (Ok line) none is takes = inl (none, subst (λ all. Takes all line) is takes)
+read mistakes Takes rows found (Err f) none is takes = tt
+
+-- the same by the command that has the words
+pub read_by : {E S : Type 0} (app : App) (wanted : App) (words : List (List ℕ)) (Takes : List Row → Line → Type 0) (found : List Row) (r : Result Line E)
+    → app ≡ wanted → is_simple_and_free wanted ≡ true → is_simple wanted ≡ true → (is_simple_and_free app ≡ true → fault_of app words ≡ [])
+    → (is_simple app ≡ true → (found ≡ matches_of app words) × S) → IfOk r (Takes found)
+    → IfOk r (IsReadLine (fault_of wanted words) (Takes (matches_of wanted words)))
+read_by {E} {S} app wanted words Takes found r is simple plain kinds matches takes =
+    let none = subst (λ a. is_simple_and_free a ≡ true → fault_of a words ≡ []) is kinds simple in
+    let rows = subst (λ a. is_simple a ≡ true → (found ≡ matches_of a words) × S) is matches plain in
+    read (fault_of wanted words) Takes (matches_of wanted words) found r none rows.0 takes
+
+pub mistaken_by : {E : Type 0} (app : App) (wanted : App) (words : List (List ℕ)) (Takes : Line → Type 0) (e : Error) (r : Result Line E)
+    → app ≡ wanted → is_simple_and_free wanted ≡ true → (is_simple_and_free app ≡ true → HasKind (fault_of app words) e)
+    → IfOk r (IsToldAs (kind_of e)) → OnOk r (kind_of e ≢ OutOfMemory) → IfOk r (IsReadLine (fault_of wanted words) Takes)
+mistaken_by app wanted words Takes e r is simple kinds told memory =
+    let has = subst (λ a. is_simple_and_free a ≡ true → HasKind (fault_of a words) e) is kinds simple in
+    mistaken (fault_of wanted words) Takes e r has told memory
+
+-- a command with one argument more
+pub added : (a b : App) (r s : Rule) (x : App) → b ≡ with_rule a r → a ≡ x → r ≡ s → b ≡ with_rule x s
+added a b r s x is old rule = is ∙ ap (λ y. with_rule y r) old ∙ ap (with_rule x) rule
+
+-- a number outside the limits is none within them
+pub outside : (low high m : ℕ) (bytes : List ℕ) (text : Option (List ℕ)) → text ≡ Some bytes → bytes ≡ decimal m → m < 2 ^ 64 → high < 2 ^ 64
+    → (m < low) ⊎ (high < m) → IsNoNumber low high text
+outside low high m bytes text some is below small (inl under) n least most same =
+    let e : decimal m ≡ decimal n = cc in
+    let eq = decimal_injective m n below (omega arith) e in omega arith
+outside low high m bytes text some is below small (inr over) n least most same =
+    let e : decimal m ≡ decimal n = cc in
+    let eq = decimal_injective m n below (omega arith) e in omega arith

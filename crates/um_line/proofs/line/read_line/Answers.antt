@@ -1,0 +1,9 @@
+use Rattle.std.proofs.Common.{IfOk, map, string_bytes, sym, subst, ◌∙◌}
+use Rattle.um_line.specs.Line.{IsLineBy, IsServeLine}
+use Rattle.um_line.proofs.line.read_line.Goals as goal
+
+pub returns-in-Serve : goal.returns-in-Serve
+returns-in-Serve c =
+    let named = sym c.subcommand_of.ensures ∙ c.in-Serve.is in
+    subst (λ s. IfOk c.read_serve.result (IsLineBy s (map string_bytes c.args.words.now))) (sym named)
+    (subst (λ ws. IfOk c.read_serve.result (IsServeLine ws)) c.behind-in-Serve.ensures c.read_serve.ensures)

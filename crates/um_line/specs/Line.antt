@@ -1,0 +1,223 @@
+-- What the words of a command line ask for: the words as clap reads them, and what each of its mistakes becomes.
+-- No manual page has this: it is the program's own (docs/FORMATS.md, "The program").
+-- The program stands on this file.
+use Rattle.std.specs.Prelude.{⊤, ◌≡◌, ◌≢◌, ◌⊎◌, ◌<◌, ◌≤◌, ◌^◌, ℕ, List, [], ◌∷◌, true, Option, Some, None, MatchOption, map, option_map, slice_get, bytes_eq, codes, decimal, drop, length, if◌then◌else◌}
+use Rattle.clap.specs.Words.{App, Kinds, Row, Rule, IsAmong, all_of, fault_of, first_of, matches_of, new_app, new_rule, with_rule}
+use Rattle.clap.specs.Simple.{on_top}
+use Rattle.clap.specs.declared.builder.action.ArgAction.TheVariants.{SetTrue, Append}
+use Rattle.clap.specs.declared.error.kind.ErrorKind.{ErrorKind}
+use Rattle.clap.specs.declared.error.kind.ErrorKind.TheVariants.{DisplayHelp, DisplayVersion}
+use Rattle.um_line.specs.declared.create.CreateLine.{CreateLine}
+use Rattle.um_line.specs.declared.ctl.CtlLine.{CtlLine}
+use Rattle.um_line.specs.declared.serve.ServeLine.{ServeLine}
+use Rattle.um_line.specs.declared.line.Line.{Line}
+use Rattle.um_line.specs.declared.line.Line.TheVariants.{Memory, Run, Create, Serve, LongBoot, Ctl, Told, Wrong}
+use Rattle.um_line.specs.declared.line.Subcommand.{Subcommand}
+use Rattle.um_line.specs.declared.line.Subcommand.TheVariants as sub
+use Rattle.um_model.specs.Runner.{runner_words}
+use Rattle.um_runner.specs.Jobs.{entries_of, words_of}
+
+-- ---- what the words may be
+
+-- an option that has to be given, with one value
+abbrev pub option_rule : List ℕ → Rule
+option_rule name = record (new_rule name) { long = Some name; required = true; value_names = 1 }
+
+-- a word in its place that has to be given
+abbrev pub word_rule : List ℕ → Rule
+word_rule name = record (new_rule name) { required = true; value_names = 1 }
+
+-- an option that may be left out
+abbrev pub optional_rule : List ℕ → Rule
+optional_rule name = record (new_rule name) { long = Some name; value_names = 1 }
+
+-- words of which one has to be given at least
+abbrev pub words_rule : List ℕ → Rule
+words_rule name = record (new_rule name) { required = true; value_names = 1; action = Some Append }
+
+-- the flag `--memory`, which has to be given
+abbrev pub memory_rule : Rule
+memory_rule = record (new_rule (codes "memory")) { long = Some (codes "memory"); required = true; action = Some SetTrue }
+
+-- the words of the program: `--memory`, and `--help` and `--version`, which clap adds
+abbrev pub umd_words : App
+umd_words = on_top (λ s. record s { has_version = true }) (with_rule (new_app (codes "umd")) memory_rule)
+
+-- the words of `umd create`
+abbrev pub create_words : App
+create_words =
+    with_rule (with_rule (with_rule (new_app (codes "umd create")) (option_rule (codes "slot"))) (option_rule (codes "log"))) (word_rule (codes "file"))
+
+-- the words of `umd serve`
+abbrev pub serve_words : App
+serve_words =
+    with_rule (with_rule (with_rule (with_rule (with_rule (new_app (codes "umd serve")) (option_rule (codes "boot"))) (option_rule (codes "socket")))
+    (option_rule (codes "dir"))) (option_rule (codes "runner"))) (word_rule (codes "file"))
+
+-- the words of `umd ctl`: the socket, a mode that may be left out, and a verb with its arguments
+abbrev pub ctl_words : App
+ctl_words =
+    with_rule (with_rule (with_rule (new_app (codes "umd ctl")) (option_rule (codes "socket"))) (optional_rule (codes "mode"))) (words_rule (codes "word"))
+
+-- ---- mistakes
+
+-- the first mistake of the words, of which the first is the program's name; none where they are right
+abbrev pub mistakes_of : List (List ℕ) → Kinds
+mistakes_of = fault_of umd_words
+
+-- asking for help or the version is a mistake in clap's words
+abbrev pub IsTold : Kinds → Type 0
+IsTold mistakes = IsAmong DisplayHelp mistakes ⊎ IsAmong DisplayVersion mistakes
+
+-- any other mistake
+abbrev pub IsMistake : Kinds → Type 0
+IsMistake mistakes = (kind : ErrorKind) × IsAmong kind mistakes × (kind ≢ DisplayHelp) × (kind ≢ DisplayVersion)
+
+-- a mistake of this kind is told so
+abbrev pub IsToldAs : ErrorKind → Line → Type 0
+IsToldAs kind (Told text) = (kind ≡ DisplayHelp) ⊎ (kind ≡ DisplayVersion)
+IsToldAs kind (Wrong text) = (kind ≢ DisplayHelp) × (kind ≢ DisplayVersion)
+IsToldAs kind other = ⊥
+
+-- what is told of words with these mistakes
+abbrev pub TellsMistake : Kinds → Line → Type 0
+TellsMistake mistakes (Told text) = IsTold mistakes
+TellsMistake mistakes (Wrong text) = IsMistake mistakes
+TellsMistake mistakes other = ⊥
+
+-- words without a mistake ask for what their values say; else the mistake is told
+abbrev pub IsReadLine : Kinds → (Line → Type 0) → Line → Type 0
+IsReadLine mistakes Takes line = ((mistakes ≡ []) × Takes line) ⊎ TellsMistake mistakes line
+
+-- ---- numbers
+
+-- the value of an option is this number in decimal digits, and within its limits
+abbrev pub IsNumber : (low high n : ℕ) → Option (List ℕ) → Type 0
+IsNumber low high n text = (text ≡ Some (decimal n)) × (low ≤ n) × (n ≤ high)
+
+-- it is none
+abbrev pub IsNoNumber : (low high : ℕ) → Option (List ℕ) → Type 0
+IsNoNumber low high text = (n : ℕ) → low ≤ n → n ≤ high → text ≢ Some (decimal n)
+
+-- the sectors of a slot, and of the log
+abbrev pub least_slot : ℕ
+least_slot = 64
+
+abbrev pub least_log : ℕ
+least_log = 512
+
+abbrev pub most_sectors : ℕ
+most_sectors = 2 ^ 20
+
+-- the longest id of a boot, in bytes
+abbrev pub boot_limit : ℕ
+boot_limit = 64
+
+-- ---- lines
+
+abbrev pub IsMemory : Line → Type 0
+IsMemory Memory = ⊤
+IsMemory other = ⊥
+
+-- what the words of the program itself ask for
+abbrev pub IsTopLine : List (List ℕ) → Line → Type 0
+IsTopLine words = IsReadLine (mistakes_of words) IsMemory
+
+-- what the words behind `run` ask for
+abbrev pub IsRunLine : List (List ℕ) → Line → Type 0
+IsRunLine words (Run line) = words ≡ runner_words line.folder.now line.number (entries_of line.job) (words_of line.job)
+IsRunLine words (Told text) = slice_get words 0 ≡ Some (codes "--help")
+IsRunLine words (Wrong text) = slice_get words 0 ≢ Some (codes "--help")
+IsRunLine words other = ⊥
+
+-- a store of so many sectors a slot and in its log, in a new file
+abbrev pub IsCreate : List Row → CreateLine → Type 0
+IsCreate rows line =
+    IsNumber least_slot most_sectors line.slot (first_of (codes "slot") rows) × IsNumber least_log most_sectors line.log (first_of (codes "log") rows)
+    × (first_of (codes "file") rows ≡ Some line.file.now)
+
+-- a number isn't within its limits, or a word is missing
+abbrev pub IsNoCreate : List Row → Type 0
+IsNoCreate rows =
+    IsNoNumber least_slot most_sectors (first_of (codes "slot") rows) ⊎ IsNoNumber least_log most_sectors (first_of (codes "log") rows)
+    ⊎ (first_of (codes "file") rows ≡ None)
+
+-- what they ask for by these values
+abbrev pub TakesCreate : List Row → Line → Type 0
+TakesCreate rows (Create line) = IsCreate rows line
+TakesCreate rows (Wrong text) = IsNoCreate rows
+TakesCreate rows other = ⊥
+
+-- what the words from `create` on ask for
+abbrev pub IsCreateLine : List (List ℕ) → Line → Type 0
+IsCreateLine words = IsReadLine (fault_of create_words words) (TakesCreate (matches_of create_words words))
+
+-- what is served, and where
+abbrev pub IsServe : List Row → ServeLine → Type 0
+IsServe rows line =
+    (first_of (codes "boot") rows ≡ Some line.boot.now) × (first_of (codes "socket") rows ≡ Some line.socket.now)
+    × (first_of (codes "dir") rows ≡ Some line.dir.now) × (first_of (codes "runner") rows ≡ Some line.runner.now)
+    × (first_of (codes "file") rows ≡ Some line.file.now)
+
+-- a word is missing
+abbrev pub IsNoServe : List Row → Type 0
+IsNoServe rows =
+    (first_of (codes "boot") rows ≡ None) ⊎ (first_of (codes "socket") rows ≡ None) ⊎ (first_of (codes "dir") rows ≡ None)
+    ⊎ (first_of (codes "runner") rows ≡ None) ⊎ (first_of (codes "file") rows ≡ None)
+
+-- what they ask for by these values; a long id of a boot is refused as a request would be
+abbrev pub TakesServe : List Row → Line → Type 0
+TakesServe rows (Serve line) = IsServe rows line × (length line.boot.now ≤ boot_limit)
+TakesServe rows LongBoot = (boot : List ℕ) × (first_of (codes "boot") rows ≡ Some boot) × (boot_limit < length boot)
+TakesServe rows (Wrong text) = IsNoServe rows
+TakesServe rows other = ⊥
+
+-- what the words from `serve` on ask for
+abbrev pub IsServeLine : List (List ℕ) → Line → Type 0
+IsServeLine words = IsReadLine (fault_of serve_words words) (TakesServe (matches_of serve_words words))
+
+-- a verb with its arguments, for the manager at a socket
+abbrev pub IsCtl : List Row → CtlLine → Type 0
+IsCtl rows line =
+    (first_of (codes "socket") rows ≡ Some line.socket.now) × (first_of (codes "mode") rows ≡ option_map (λ mode. mode.now) line.mode)
+    × (all_of (codes "word") rows ≡ Some (line.verb.now ∷ map (λ word. word.now) line.arguments.items))
+
+-- a word is missing
+abbrev pub IsNoCtl : List Row → Type 0
+IsNoCtl rows =
+    (first_of (codes "socket") rows ≡ None) ⊎ (all_of (codes "word") rows ≡ None) ⊎ (all_of (codes "word") rows ≡ Some [])
+
+-- what they ask for by these values
+abbrev pub TakesCtl : List Row → Line → Type 0
+TakesCtl rows (Ctl line) = IsCtl rows line
+TakesCtl rows (Wrong text) = IsNoCtl rows
+TakesCtl rows other = ⊥
+
+-- what the words from `ctl` on ask for
+abbrev pub IsCtlLine : List (List ℕ) → Line → Type 0
+IsCtlLine words = IsReadLine (fault_of ctl_words words) (TakesCtl (matches_of ctl_words words))
+
+-- ---- all of them
+
+abbrev pub named : Option (List ℕ) → Subcommand
+named None = sub.Nothing
+named (Some word) =
+    if bytes_eq word (codes "run") then sub.Run
+    else (if bytes_eq word (codes "create") then sub.Create
+    else (if bytes_eq word (codes "serve") then sub.Serve
+    else (if bytes_eq word (codes "ctl") then sub.Ctl else sub.Nothing)))
+
+-- the subcommand behind the program's name
+abbrev pub subcommand_of : List (List ℕ) → Subcommand
+subcommand_of words = named (slice_get words 1)
+
+abbrev pub IsLineBy : Subcommand → List (List ℕ) → Line → Type 0
+IsLineBy sub.Run words = IsRunLine (drop 1 (drop 1 words))
+IsLineBy sub.Create words = IsCreateLine (drop 1 words)
+IsLineBy sub.Serve words = IsServeLine (drop 1 words)
+IsLineBy sub.Ctl words = IsCtlLine (drop 1 words)
+IsLineBy sub.Nothing words = IsTopLine words
+
+-- what the words of a command line ask for
+abbrev pub IsLineOf : List (List ℕ) → Line → Type 0
+IsLineOf words line = IsLineBy (subcommand_of words) words line

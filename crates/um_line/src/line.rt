@@ -1,0 +1,94 @@
+ghost use Rattle.std.specs.Prelude.{◌≡◌, Some, IfOk, map, drop, string_bytes};
+ghost use Rattle.um_line.specs.Line as model;
+
+use crate::create::{CreateLine, read_create};
+use crate::ctl::{CtlLine, read_ctl};
+use crate::run::read_run;
+use crate::serve::{ServeLine, read_serve};
+use crate::top::read_top;
+use std::alloc::{AllocError, Global};
+use um_runner::RunnerLine;
+
+/// What the words of a command line ask for.
+#[derive(Debug, Drop)]
+pub enum Line<'a> {
+    /// To serve one client over standard input and output, with a store in memory.
+    Memory,
+    /// To run a command as a process of the manager.
+    Run(RunnerLine<'a>),
+    /// To make a new store.
+    Create(CreateLine<'a>),
+    /// To serve a store over a socket.
+    Serve(ServeLine<'a>),
+    /// To serve, but with an id of the boot past 64 bytes: `E1 BadRequest`.
+    LongBoot,
+    /// To ask the manager at a socket.
+    Ctl(CtlLine<'a>),
+    /// To be told something: the help or the version, for standard output.
+    Told(String),
+    /// The words are not those of the program: what is wrong and how it is used, for standard error.
+    Wrong(String),
+}
+
+/// The word behind the program's name.
+#[derive(Clone, Copy, Debug, PartialEq, Eq)]
+pub enum Subcommand {
+    Run,
+    Create,
+    Serve,
+    Ctl,
+    /// Another word, or none.
+    Nothing,
+}
+
+/// The subcommand of this name.
+fn named(word: &str) -> Subcommand
+    ensures { result ≡ model.named (Some word.now) }
+{
+    if word == "run" {
+        Subcommand::Run
+    } else if word == "create" {
+        Subcommand::Create
+    } else if word == "serve" {
+        Subcommand::Serve
+    } else if word == "ctl" {
+        Subcommand::Ctl
+    } else {
+        Subcommand::Nothing
+    }
+}
+
+/// The subcommand behind the program's name.
+fn subcommand_of(words: &[String]) -> Subcommand
+    ensures { result ≡ model.subcommand_of (map string_bytes words.now) }
+{
+    match words.get(1) {
+        Some(word) => named(word.as_str()),
+        None => Subcommand::Nothing,
+    }
+}
+
+/// The words behind the first.
+fn behind(words: &[String]) -> &[String]
+    ensures { map string_bytes result.now ≡ drop 1 (map string_bytes words.now) }
+{
+    match words.split_first() {
+        Some((_, others)) => others,
+        None => words,
+    }
+}
+
+/// Reads the words of a command line, of which the first is the program's own name: `--memory` alone, or `--help` or `--version`,
+/// or a subcommand with its words, of which each has `--help`. All else is wrong, as no words at all, a word that the program
+/// doesn't have, an option that stands twice, and numbers outside their limits.
+pub fn read_line<'a>(alloc: Global, words: &'a [String]) -> Result<Line<'a>, AllocError>
+    ensures { IfOk result (model.IsLineOf (map string_bytes words.now)) }
+{
+    match subcommand_of(words) {
+        Subcommand::Run => read_run(alloc, behind(behind(words))),
+        Subcommand::Create => read_create(alloc, behind(words)),
+        Subcommand::Serve => read_serve(alloc, behind(words)),
+        Subcommand::Ctl => read_ctl(alloc, behind(words)),
+        Subcommand::Nothing => read_top(alloc, words),
+    }
+}

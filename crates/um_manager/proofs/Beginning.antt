@@ -1,0 +1,95 @@
+-- What the parts of an opening come to together.
+use Rattle.std.proofs.Common.{◌≡◌, inl, inr, ◌∙◌, ◌++◌, ℕ, zero, suc, List, [], ◌∷◌, take, Bool, false, Result, Ok, Err, append-nil, refl, sym, ap, subst}
+use Rattle.std.specs.Bool.{IsTrue}
+use Rattle.std.specs.Prelude.{IfErr}
+use Rattle.std.proofs.lemmas.Result.{err_from_is_err_and}
+use Rattle.std.specs.Result.{IsErrAnd}
+use Rattle.um_keeper.specs.Keeping.{IsBegun}
+use Rattle.um_keeper.specs.Opening.{IsAsBefore}
+use Rattle.um_model.proofs.DiskLaws.{weaker, followed}
+use Rattle.um_model.specs.Children.{Call, Tale, tales}
+use Rattle.um_model.specs.Disk.{Past, Image, During}
+use Rattle.um_model.specs.Lives.{HasInOrder, no_others}
+use Rattle.um_model.specs.Machine.{State, Input, Reply, Step, Run, goes}
+use Rattle.um_model.specs.Service.{Action}
+use Rattle.um_model.specs.Store.{body_limit}
+use Rattle.um_model.specs.declared.layout.Layout.{Layout}
+use Rattle.um_wire.specs.declared.refusal.Refusal.{Refusal}
+use Rattle.um_manager.specs.Opening.{adoptions, boot_at, Refuses, unbooted, unadopted, IsFound, IsOfOpening, IsOfRefused}
+use Rattle.um_manager.specs.Places.{Place, place, is_trusted}
+use Rattle.um_manager.specs.Turns.{Now, now}
+
+-- what holds of each refusal
+pub if_err_all : {T E : Type 0} (result : Result T E) (P : E → Type 0) → ((e : E) → P e) → IfErr result P
+if_err_all (Ok x) P f = tt
+if_err_all (Err e) P f = f e
+
+-- what holds of the refusal that is handed on
+pub if_err_same : {T E : Type 0} (result : Result T E) (P : E → Type 0) (e : E) → IsErrAnd result (λ y. y ≡ e) → P e → IfErr result P
+if_err_same result P e is p = let (y, err, same) = err_from_is_err_and result is in subst (λ r. IfErr r P) (sym err) (subst P (sym same) p)
+
+-- the boot is refused, or never offered
+pub refuses_boot : {T : Type 0} (H W : Type 0) (result : Result T Refusal) (place : Place) (moment : ℕ) (boot : List ℕ) (s t : State) (past : List Call) (d e : Past) → t ≡ s
+    → (IsTrue place.trusted → During d e (IsBegun place.layout s (boot_at moment boot ∷ [])))
+    → IfErr result (λ x. H → W → (marks : List ℕ) × Refuses place x moment boot (now s past [] [] d) (now t past marks [] e))
+refuses_boot H W result place moment boot s t past d e same left =
+    if_err_all result (λ x. H → W → (marks : List ℕ) × Refuses place x moment boot (now s past [] [] d) (now t past marks [] e))
+    (λ x h w. ([], unbooted same refl left))
+
+-- ---- a beginning of the boot and what follows
+
+first_taken : (size : ℕ) (s t : State) (i : Input) (xs : List Input) (count : ℕ) → Run size s (take count (i ∷ [])) t → (n : ℕ) × Run size s (take n (i ∷ xs)) t
+first_taken size s t i xs zero run = (0, run)
+first_taken size s t i xs (suc zero) run = (1, run)
+first_taken size s t i xs (suc (suc n)) run = (1, run)
+
+begun_first : (layout : Layout) (s : State) (i : Input) (xs : List Input) (image : Image) → IsBegun layout s (i ∷ []) image → IsBegun layout s (i ∷ xs) image
+begun_first layout s i xs image b =
+    let (n, run) = first_taken (body_limit layout) s b.state i xs b.count b.run in
+    record { count = n; state = b.state; run = run; store = b.store }
+
+begun_then : (layout : Layout) (s t : State) (i : Input) (reply : Reply) (actions : List Action) (xs : List Input) (image : Image) → Step (body_limit layout) s i reply actions t
+    → IsBegun layout t xs image → IsBegun layout s (i ∷ xs) image
+begun_then layout s t i reply actions xs image step b = record { count = suc b.count; state = b.state; run = goes reply actions step b.run; store = b.store }
+
+-- what a crash leaves of the boot and of what follows
+pub boot_then : (place : Place) (s t : State) (i : Input) (reply : Reply) (xs : List Input) (d e f : Past) → place.size ≡ body_limit place.layout → Step place.size s i reply [] t
+    → During d e (IsBegun place.layout s (i ∷ [])) → During e f (IsBegun place.layout t xs) → During d f (IsBegun place.layout s (i ∷ xs))
+boot_then place s t i reply xs d e f on step first then =
+    followed d e f (IsBegun place.layout s (i ∷ xs))
+    (weaker d e (IsBegun place.layout s (i ∷ [])) (IsBegun place.layout s (i ∷ xs)) (begun_first place.layout s i xs) first)
+    (weaker e f (IsBegun place.layout t xs) (IsBegun place.layout s (i ∷ xs)) (λ image. begun_then place.layout s t i reply [] xs image (subst (λ n. Step n s i reply [] t) on step)) then)
+
+-- an opening as a whole
+pub opening_left : (layout : Layout) (s : State) (inputs : List Input) (d e f : Past) → During d e (IsAsBefore layout d) → During e f (IsBegun layout s inputs)
+    → During d f (IsOfOpening layout d s inputs)
+opening_left layout s inputs d e f first then =
+    followed d e f (IsOfOpening layout d s inputs)
+    (weaker d e (IsAsBefore layout d) (IsOfOpening layout d s inputs) (λ image is. inl is) first)
+    (weaker e f (IsBegun layout s inputs) (IsOfOpening layout d s inputs) (λ image is. inr is) then)
+
+cut_short : (place : Place) (moment : ℕ) (boot : List ℕ) (sectors : ℕ) (first : Past) (a b : Now) (told : List Tale) (some : List Input) → IsFound sectors first place.layout a.state
+    → tales b.past ≡ tales a.past ++ told → HasInOrder some (adoptions moment told) → During first a.disk (IsAsBefore place.layout first)
+    → During a.disk b.disk (IsBegun place.layout a.state (boot_at moment boot ∷ some)) → During first b.disk (IsOfRefused place.layout moment boot sectors first a.past b.past)
+cut_short place moment boot sectors first a b told some found tales_are are before then =
+    followed first a.disk b.disk (IsOfRefused place.layout moment boot sectors first a.past b.past)
+    (weaker first a.disk (IsAsBefore place.layout first) (IsOfRefused place.layout moment boot sectors first a.past b.past) (λ image is. inl is) before)
+    (weaker a.disk b.disk (IsBegun place.layout a.state (boot_at moment boot ∷ some)) (IsOfRefused place.layout moment boot sectors first a.past b.past)
+    (λ image is. inr (record { state = a.state; found = found; told = told; tales_are = tales_are; some = some; are = are; begun = is })) then)
+
+-- what a crash leaves of an opening that is refused once the store is taken up
+pub refused_left : (place : Place) (moment : ℕ) (boot : List ℕ) (sectors : ℕ) (first : Past) (a b : Now) (e : Refusal) → place.size ≡ body_limit place.layout → IsTrue place.trusted
+    → IsFound sectors first place.layout a.state → During first a.disk (IsAsBefore place.layout first) → Refuses place e moment boot a b
+    → During first b.disk (IsOfRefused place.layout moment boot sectors first a.past b.past)
+refused_left place moment boot sectors first a b e on sure found before (unbooted same past left) =
+    cut_short place moment boot sectors first a b [] [] found (ap tales past ∙ sym (append-nil (tales a.past))) no_others before (left sure)
+refused_left place moment boot sectors first a b e on sure found before (unadopted differs began) =
+    let mid = began.mid in
+    let adopted = began.adopted in
+    let (some, are, then) = adopted.left sure in
+    cut_short place moment boot sectors first a b adopted.told some found (adopted.tales_are ∙ ap (λ l. tales l ++ adopted.told) began.asked_none) are before
+    (boot_then place a.state mid.state (boot_at moment boot) began.reply some a.disk mid.disk b.disk on began.booted (began.left sure) then)
+
+pub opened_place : {m n : ℕ} {k l : Layout} {h i f : Bool} → n ≡ m → l ≡ k → i ≡ h → f ≡ false → place m k (is_trusted i f) ≡ place n l h
+opened_place {m} {n} {k} {l} {h} {i} {f} size layout honest working =
+    ap (λ x. place m k (is_trusted i x)) working ∙ ap (λ x. place m k x) honest ∙ ap (λ x. place x k h) (sym size) ∙ ap (λ (x : Layout). place n x h) (sym layout)

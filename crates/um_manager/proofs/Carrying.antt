@@ -1,0 +1,73 @@
+-- What it comes to that actions are carried out one behind the other.
+use Rattle.std.proofs.Common.{◌≡◌, ℕ, List, [], ◌∷◌, ◌++◌, Bool, true, false, ◌||◌, IsTrue, Result, Ok, Err, refl, sym, ap, ◌∙◌, append_assoc, append-nil, subst, length, arith}
+use Rattle.std.proofs.lemmas.List.Folds.{list_any-append}
+use Rattle.std.proofs.lemmas.List.Concat.{flat_map-append}
+use Rattle.um_children.specs.Faults.{KeepsWhole}
+use Rattle.um_children.specs.declared.fault.ChildFault.{ChildFault}
+use Rattle.um_children.specs.declared.fault.ChildFault.TheVariants as fault
+use Rattle.um_model.specs.Children.{Call, Spawn, Spawned, Signalled, spawn_action, orders, orders_in, tales, tales_in, refused, refusals_in}
+use Rattle.um_model.specs.Service.{ByUnit, Action, SendSignal}
+use Rattle.um_model.specs.declared.service.Signal.{Signal}
+use Rattle.um_model.specs.declared.service.UnitState.{UnitState}
+use Rattle.um_manager.specs.Live.{has, is_live, HasFewLive}
+use Rattle.um_manager.specs.Orders.{Grew}
+
+-- a history that is whole after a call was so before it
+pub keeps_whole : {T : Type 0} (result : Result T ChildFault) (old new : Bool) → KeepsWhole result old new → IsTrue new → IsTrue old
+keeps_whole (Ok x) old new same whole = subst (λ b. IsTrue b) same whole
+keeps_whole (Err fault.NoMemory) old new same whole = subst (λ b. IsTrue b) same whole
+keeps_whole (Err fault.Device) old new kept whole = kept whole
+
+or_false : (a : Bool) → (a || false) ≡ a
+or_false true = refl
+or_false false = refl
+
+or_assoc : (a b c : Bool) → ((a || b) || c) ≡ (a || (b || c))
+or_assoc true b c = refl
+or_assoc false b c = refl
+
+pub grew_none : (units : ByUnit UnitState) (past : List Call) (marks : List ℕ) → Grew units past past marks marks []
+grew_none units past marks = record { orders_are = sym (append-nil _); no_tale = refl; refusals = []; refusals_are = sym (append-nil _); marks_are = λ few n h. sym (or_false (has n marks)) }
+
+pub grew_more : (units : ByUnit UnitState) (a b c : List Call) (k l m : List ℕ) (xs ys : List Action) → Grew units a b k l xs → Grew units b c l m ys → Grew units a c k m (xs ++ ys)
+grew_more units a b c k l m xs ys p q = record {
+  orders_are = q.orders_are ∙ ap (λ l. l ++ ys) p.orders_are ∙ append_assoc (orders a) xs ys;
+  no_tale = q.no_tale ∙ p.no_tale;
+  refusals = p.refusals ++ q.refusals;
+  refusals_are = q.refusals_are ∙ ap (λ l. l ++ q.refusals) p.refusals_are ∙ append_assoc (refused a) p.refusals q.refusals;
+  marks_are = λ few n h. q.marks_are few n h ∙ ap (λ b. b || has n q.refusals) (p.marks_are few n h) ∙ or_assoc (has n k) (has n p.refusals) (has n q.refusals) ∙ ap (λ b. has n k || b) (sym (list_any-append _ p.refusals q.refusals));
+}
+
+-- an order that was taken
+pub grew_taken : (units : ByUnit UnitState) (a b : List Call) (s : Spawn) (starts : Bool) (marks : List ℕ) → b ≡ a ++ Spawned s true starts ∷ [] → Grew units a b marks marks (spawn_action s ∷ [])
+grew_taken units a b s starts marks e = record {
+  orders_are = ap orders e ∙ flat_map-append orders_in a (Spawned s true starts ∷ []);
+  no_tale = ap tales e ∙ flat_map-append tales_in a (Spawned s true starts ∷ []) ∙ append-nil (tales a);
+  refusals = [];
+  refusals_are = ap refused e ∙ flat_map-append refusals_in a (Spawned s true starts ∷ []);
+  marks_are = λ few n h. sym (or_false (has n marks));
+}
+
+-- one that was refused
+pub grew_refused : (units : ByUnit UnitState) (a b : List Call) (s : Spawn) (starts : Bool) (k m : List ℕ) → b ≡ a ++ Spawned s false starts ∷ []
+    → (HasFewLive units → (n : ℕ) → is_live units n ≡ true → has n m ≡ (has n k || has n (s.number ∷ []))) → Grew units a b k m (spawn_action s ∷ [])
+grew_refused units a b s starts k m e marked = record {
+  orders_are = ap orders e ∙ flat_map-append orders_in a (Spawned s false starts ∷ []);
+  no_tale = ap tales e ∙ flat_map-append tales_in a (Spawned s false starts ∷ []) ∙ append-nil (tales a);
+  refusals = s.number ∷ [];
+  refusals_are = ap refused e ∙ flat_map-append refusals_in a (Spawned s false starts ∷ []);
+  marks_are = marked;
+}
+
+pub grew_signal : (units : ByUnit UnitState) (a b : List Call) (n : ℕ) (signal : Signal) (marks : List ℕ) → b ≡ a ++ Signalled n signal ∷ [] → Grew units a b marks marks (SendSignal n signal ∷ [])
+grew_signal units a b n signal marks e = record {
+  orders_are = ap orders e ∙ flat_map-append orders_in a (Signalled n signal ∷ []);
+  no_tale = ap tales e ∙ flat_map-append tales_in a (Signalled n signal ∷ []) ∙ append-nil (tales a);
+  refusals = [];
+  refusals_are = ap refused e ∙ flat_map-append refusals_in a (Signalled n signal ∷ []);
+  marks_are = λ few n h. sym (or_false (has n marks));
+}
+
+pub nil_of : {X : Type 0} (xs : List X) → length xs ≡ 0 → xs ≡ []
+nil_of [] e = refl
+nil_of (x ∷ xs) e = absurd (omega arith)

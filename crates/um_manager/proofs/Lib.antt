@@ -1,0 +1,14 @@
+pub mod Adoption
+pub mod Anew
+pub mod Beginning
+pub mod Booting
+pub mod Carrying
+pub mod Clients
+pub mod Crashing
+pub mod Gathering
+pub mod Hearing
+pub mod Marking
+pub mod Numbered
+pub mod Offering
+pub mod Placing
+pub mod Turning

@@ -1,0 +1,71 @@
+use Rattle.std.proofs.Common.{◌≡◌, ◌∷◌, [], inl, refl, sym, subst}
+use Rattle.std.specs.Bool.{IsTrue}
+use Rattle.um_keeper.specs.Keepers.{disk_in, state_in, layout_in, has_failed}
+use Rattle.um_keeper.specs.Opening.{IsSomeStore}
+use Rattle.um_keeper.specs.Answering.{taken}
+use Rattle.um_model.proofs.DiskLaws.{weaker}
+use Rattle.um_model.proofs.StandsLaws.{one_layout}
+use Rattle.um_model.specs.Disk.{During, Images, seen}
+use Rattle.um_model.specs.declared.layout.Layout.{Layout}
+use Rattle.um_manager.specs.Opening.{Opened, IsOfRefused, adoptions, boot_at}
+use Rattle.um_manager.specs.Places.{Place, place_in}
+use Rattle.um_manager.specs.Turns.{now}
+use Rattle.um_manager.proofs.Beginning.{boot_then, opening_left, refused_left, opened_place}
+use Rattle.um_manager.proofs.Offering.{trusts, trusted_in}
+use Rattle.um_manager.proofs.manager.Manager.open.Goals as goal
+
+pub returns-in-Ok-begin-clause-opened : goal.returns-in-Ok-begin-clause-opened
+returns-in-Ok-begin-clause-opened g c h w =
+    let D = g.D.Disk in
+    let first = D.past c.args.disk in
+    let k = c.in-Ok.keeper in
+    let l = c.begin.new.keeper in
+    let there = place_in (D.honest (disk_in k)) k in
+    let ok = c.in-Ok.ensures.ok in
+    let a = now (state_in k) (g.C.Children.past c.args.children) [] [] (D.past (disk_in k)) in
+    let b = now (state_in l) (g.C.Children.past c.begin.new.children) c.in-Ok-begin.field-0.marks [] (D.past (disk_in l)) in
+    let began = c.in-Ok-begin.ensures.began h w in
+    subst (λ (p : Place). Opened p c.args.moment c.args.boot c.in-Ok-begin.field-0.adopted (D.size c.args.disk) first (g.C.Children.past c.args.children) b)
+    (opened_place c.begin.ensures.place.size c.begin.ensures.place.layout ok.2 ok.0)
+    (record {
+      a = a;
+      found = λ t.
+          let (honest, works) = trusts (D.honest (disk_in k)) (has_failed k) t in
+          let next = c.in-Ok.ensures.taken (subst IsTrue ok.2 honest) in
+          record { slot = next.before; generation = next.earlier; taken_up = next.taken };
+      unasked = refl;
+      began = began;
+      left = λ t images.
+          let (honest, works) = trusts (D.honest (disk_in k)) (has_failed k) t in
+          let adopted = began.adopted in
+          opening_left (layout_in k) (state_in k) (boot_at c.args.moment c.args.boot ∷ taken (adoptions c.args.moment adopted.told) adopted.answers) first (D.past (disk_in k)) (D.past (disk_in l))
+          (c.in-Ok.ensures.during (subst IsTrue ok.2 honest) (layout_in k) images)
+          (boot_then there (state_in k) began.mid.state (boot_at c.args.moment c.args.boot) began.reply (taken (adoptions c.args.moment adopted.told) adopted.answers)
+          (D.past (disk_in k)) began.mid.disk (D.past (disk_in l)) k.holds.size_is began.booted (began.left t) (adopted.left t));
+    })
+
+pub returns-in-Err-clause-err : goal.returns-in-Err-clause-err
+returns-in-Err-clause-err g c = λ h w sure layout images. weaker _ _ _ _ (λ image is. inl is) (c.in-Err.ensures.during_err sure layout images)
+
+pub returns-in-Err-begin-clause-err : goal.returns-in-Err-begin-clause-err
+returns-in-Err-begin-clause-err g c = λ h w sure layout images.
+    let D = g.D.Disk in
+    let first = D.past c.args.disk in
+    let k = c.in-Ok.keeper in
+    let l = c.begin.new.keeper in
+    let there = place_in (D.honest (disk_in k)) k in
+    let ok = c.in-Ok.ensures.ok in
+    let next = c.in-Ok.ensures.taken sure in
+    let same : layout_in k ≡ layout = one_layout (layout_in k) layout (seen first) next.taken.store.first (images (seen first) (g.met.D.Disk.seen_is_image c.args.disk sure)).store.stands.first in
+    let a = now (state_in k) (g.C.Children.past c.args.children) [] [] (D.past (disk_in k)) in
+    let (marks, refuses) = c.in-Err-begin.ensures.refuses h w in
+    let b = now (state_in l) (g.C.Children.past c.begin.new.children) marks [] (D.past (disk_in l)) in
+    let trusted = trusted_in ok.2 ok.0 sure in
+    subst (λ d. During first (D.past d) (IsOfRefused layout c.args.moment c.args.boot (D.size c.args.disk) first (g.C.Children.past c.args.children) (g.C.Children.past c.begin.new.children))) (sym c.into_disk.ensures)
+    (subst (λ (z : Layout). During first (D.past (disk_in l)) (IsOfRefused z c.args.moment c.args.boot (D.size c.args.disk) first (g.C.Children.past c.args.children) (g.C.Children.past c.begin.new.children))) same
+    (refused_left there c.args.moment c.args.boot (D.size c.args.disk) first a b _ k.holds.size_is trusted
+    (record { slot = next.before; generation = next.earlier; taken_up = next.taken })
+    (c.in-Ok.ensures.during sure (layout_in k) (subst (λ (z : Layout). Images first (IsSomeStore z)) (sym same) images)) refuses))
+
+pub returns-in-Ok-begin-clause-sized : goal.returns-in-Ok-begin-clause-sized
+returns-in-Ok-begin-clause-sized g c = c.begin.new.keeper.holds.size_is

@@ -1,0 +1,69 @@
+use Rattle.std.proofs.Common.{◌≡◌, ◌∙◌, ◌∷◌, ◌+◌, drop, Ok, ap, sym, subst, inl, inr, rules}
+use Rattle.std.specs.Bool.{IsTrue}
+use Rattle.std.proofs.lemmas.List.{drop_more}
+use Rattle.um_keeper.specs.Keepers.{disk_in, state_in}
+use Rattle.um_manager.specs.Places.{Place, place_in}
+use Rattle.um_manager.specs.Scripts.{Runs, Stops}
+use Rattle.um_manager.specs.Turns.{Turned, now}
+use Rattle.um_manager.proofs.Placing.{same_place, same_failed, same_err, refused_not_ok}
+use Rattle.um_manager.proofs.Turning.{not_refused}
+use Rattle.um_manager.proofs.script.run.Goals as goal
+
+pub loop-step-preserved : goal.loop-step-preserved
+loop-step-preserved g c =
+    let D = g.D.Disk in
+    let first = c.args.keeper.now in
+    let old = c.loop-step.keeper in
+    let new = c.turn.new.keeper in
+    let inv = c.loop-step.invariant in
+    let before = now (state_in old) (g.C.Children.past c.loop-step.children) c.loop-step.marks c.loop-step.sessions (D.past (disk_in old)) in
+    let after = now (state_in new) (g.C.Children.past c.turn.new.children) c.turn.new.marks c.turn.new.sessions (D.past (disk_in new)) in
+    let start = place_in (D.honest (disk_in first)) first in
+    let there = place_in (D.honest (disk_in old)) old in
+    let place : there ≡ start = same_place inv.place.size inv.place.layout inv.disk inv.failed in
+    let item : drop c.loop-step.step-index c.args.steps.now ≡ c.step-item.result ∷ drop (c.loop-step.step-index + 1) c.args.steps.now =
+    drop_more c.args.steps.now c.loop-step.step-index c.step-item.result c.loop-step-test.true ∙ ap (λ s. s ∷ drop (c.loop-step.step-index + 1) c.args.steps.now) (search (rules, c.step-item.is)) in
+    record {
+      done = λ result b w h rest.
+          let turned = c.turn.ensures.turns.1 (not_refused c.turn.result _ _ c.in_ok-turn.was) (subst IsTrue (sym inv.honest) h) w in
+          inv.done result b (c.turn.ensures.whole w) h
+          (subst (λ l. Runs start l result before b) (sym item)
+          (inr (
+            after,
+            subst (λ (p : Place). Turned p (Ok tt) c.step-item.result.moment c.step-item.result.pieces before after) place
+                (subst (λ r. Turned there r c.step-item.result.moment c.step-item.result.pieces before after) c.in_ok-turn.was
+                (subst (λ pieces. Turned there c.turn.result c.step-item.result.moment pieces before after) c.as_slice-pieces.ensures.pieces turned)),
+            rest,
+          )));
+      whole = search rules;
+      honest = search rules;
+      place = record { layout = c.turn.ensures.place.layout ∙ inv.place.layout; size = c.turn.ensures.place.size ∙ inv.place.size };
+      disk = c.turn.ensures.disk ∙ inv.disk;
+      failed = same_failed c.in_ok-turn.was c.turn.ensures.failed ∙ inv.failed;
+      each = search rules;
+    }
+
+pub returns-in_err-turn-clause-runs : goal.returns-in_err-turn-clause-runs
+returns-in_err-turn-clause-runs g c = λ h w.
+    let D = g.D.Disk in
+    let first = c.args.keeper.now in
+    let old = c.loop-step.keeper in
+    let new = c.turn.new.keeper in
+    let inv = c.loop-step.invariant in
+    let before = now (state_in old) (g.C.Children.past c.loop-step.children) c.loop-step.marks c.loop-step.sessions (D.past (disk_in old)) in
+    let after = now (state_in new) (g.C.Children.past c.turn.new.children) c.turn.new.marks c.turn.new.sessions (D.past (disk_in new)) in
+    let start = place_in (D.honest (disk_in first)) first in
+    let there = place_in (D.honest (disk_in old)) old in
+    let place : there ≡ start = same_place inv.place.size inv.place.layout inv.disk inv.failed in
+    let item : drop c.loop-step.step-index c.args.steps.now ≡ c.step-item.result ∷ drop (c.loop-step.step-index + 1) c.args.steps.now =
+    drop_more c.args.steps.now c.loop-step.step-index c.step-item.result c.loop-step-test.true ∙ ap (λ s. s ∷ drop (c.loop-step.step-index + 1) c.args.steps.now) (search (rules, c.step-item.is)) in
+    let same : c.from_residual.result ≡ c.turn.result = same_err c.from_residual.result c.turn.result _ c.from_residual.ensures.1 c.in_err-turn.was in
+    inv.done c.from_residual.result after (c.turn.ensures.whole w) h
+    (subst (λ l. Runs start l c.from_residual.result before after) (sym item)
+    (inl (subst (λ r. Stops start c.step-item.result r before after) (sym same)
+    (subst (λ (p : Place). Stops p c.step-item.result c.turn.result before after) place (
+      refused_not_ok c.in_err-turn.was,
+      c.turn.ensures.turns.0,
+      λ differs. subst (λ pieces. Turned there c.turn.result c.step-item.result.moment pieces before after) c.as_slice-pieces.ensures.pieces
+          (c.turn.ensures.turns.1 differs (subst IsTrue (sym inv.honest) h) w),
+    )))))

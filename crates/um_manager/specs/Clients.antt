@@ -1,0 +1,105 @@
+-- What one client has of the turns of a script: its own requests, each with its reply.
+-- No manual page has this: it is the project's own protocol (docs/FORMATS.md, "Frames", "Replies").
+-- The laws of clients stand on this file.
+use Rattle.std.specs.Prelude.{◌≡◌, ◌≢◌, ◌⊎◌, ◌+◌, ℕ, List, [], ◌∷◌, ◌++◌, map, flat_map, take, length, true, Option, Some, None, Result, Ok, Err, slice_get, ⊤}
+use Rattle.std.specs.List.{AllByRecursion}
+use Rattle.um_model.specs.Frames.{frame_of}
+use Rattle.um_model.specs.Machine.{State, Reply, Refusal}
+use Rattle.um_keeper.specs.Answering.{Answer}
+use Rattle.um_model.specs.Replies.{reply_text}
+use Rattle.um_model.specs.Sessions.{Session, IsReadOf}
+use Rattle.um_model.specs.Sessions as model
+use Rattle.um_proto.specs.View.{request_of}
+use Rattle.um_proto.specs.declared.request.Asked.{Asked}
+use Rattle.um_proto.specs.declared.request.Asked.TheVariants as asks
+use Rattle.um_proto.specs.declared.request.Request.{Request}
+use Rattle.um_state.specs.View.{query_of}
+use Rattle.um_wire.specs.Gives.{Gives}
+use Rattle.um_wire.specs.Refusal.{refused_of}
+use Rattle.um_wire.specs.declared.refusal.Refusal as declared
+use Rattle.um_wire.specs.declared.refusal.Refusal.TheVariants.{BadRequest}
+use Rattle.um_manager.specs.Connections.{inputs_asked}
+use Rattle.um_manager.specs.Places.{Place}
+use Rattle.um_manager.specs.Replies.{reply_in, TellsOf}
+use Rattle.um_manager.specs.Turns.{Now, firsts, Turned}
+use Rattle.um_manager.specs.declared.pieces.Piece.{Piece}
+use Rattle.um_manager.specs.declared.pieces.Piece.TheVariants.{Nothing, Bytes, Closed}
+use Rattle.um_manager.specs.declared.script.Step.{Step}
+
+-- a request that was taken of a client, as it was read, and the reply that it is due
+abbrev pub Exchange : Type 0
+Exchange = Result Request declared.Refusal × Reply
+
+-- where the input of a connection's request stands among those that the turn offered
+abbrev pub place_of : {place : Place} {moment : ℕ} {pieces : List Piece} {a b : Now} → Turned place (Ok tt) moment pieces a b → ℕ → ℕ
+place_of {moment = moment} turned k = length (firsts moment turned.told) + length (flat_map (inputs_asked moment) (take k turned.requests))
+
+-- the reply to what was asked: the answer to just this input, a query's from the state after all inputs; the actions aren't told
+abbrev pub IsReplyAsked : State → List Answer → ℕ → Asked → Reply → Type 0
+IsReplyAsked s answers at (asks.Event event) reply = (answer : Answer) × (slice_get answers at ≡ Some answer) × (reply ≡ reply_in answer)
+IsReplyAsked s answers at (asks.Query query) reply = TellsOf s (query_of query) reply
+IsReplyAsked s answers at asks.Actions reply = reply ≡ Refusal (refused_of BadRequest)
+
+-- the reply to a request, or why it is none
+abbrev pub IsReplyOf : State → List Answer → ℕ → Result Request declared.Refusal → Reply → Type 0
+IsReplyOf s answers at (Ok request) reply = IsReplyAsked s answers at request.asked reply
+IsReplyOf s answers at (Err e) reply = reply ≡ Refusal (refused_of e)
+
+-- what a turn took of a connection, with the reply: one request, or none
+abbrev pub IsExchange : State → List Answer → ℕ → Option (Option (Result Request declared.Refusal)) → List Exchange → Type 0
+IsExchange s answers at (Some (Some request)) here = (reply : Reply) × IsReplyOf s answers at request reply × (here ≡ (request, reply) ∷ [])
+IsExchange s answers at (Some None) here = here ≡ []
+IsExchange s answers at None here = ⊥
+
+-- one turn a step, each answered Ok, from where the one before it ended
+pub data AllTurned (place : Place) : List Step → Now → Now → Type 0 where
+  no_turn : {a : Now} → AllTurned place [] a a
+  and_turn : {step : Step} {steps : List Step} {a mid b : Now} → Turned place (Ok tt) step.moment step.pieces a mid → AllTurned place steps mid b
+      → AllTurned place (step ∷ steps) a b
+
+-- the requests that these turns took of a connection, in their order, each with its reply
+abbrev pub AreExchanges : {place : Place} {steps : List Step} {a b : Now} → ℕ → AllTurned place steps a b → List Exchange → Type 0
+AreExchanges k no_turn all = all ≡ []
+AreExchanges k (and_turn {mid = mid} turned turns) all =
+    (here : List Exchange) × (later : List Exchange) × IsExchange mid.state turned.answers (place_of turned k) (slice_get turned.requests k) here
+    × AreExchanges k turns later × (all ≡ here ++ later)
+
+-- the bytes of a piece
+abbrev pub bytes_in : Option Piece → List ℕ
+bytes_in (Some (Bytes bytes)) = bytes.items
+bytes_in (Some Nothing) = []
+bytes_in (Some Closed) = []
+bytes_in None = []
+
+-- all bytes that came of a connection
+abbrev pub bytes_of : ℕ → List Step → List ℕ
+bytes_of k steps = flat_map (λ (step : Step). bytes_in (slice_get step.pieces k)) steps
+
+-- it isn't closed
+abbrev pub StaysOpen : ℕ → List Step → Type 0
+StaysOpen k steps = AllByRecursion (λ (step : Step). slice_get step.pieces k ≢ Some Closed) steps
+
+-- each request is what was read, or reading it found no memory
+abbrev pub AreGiven : List (Result Request declared.Refusal) → List model.Asked → Type 0
+AreGiven [] [] = ⊤
+AreGiven (given ∷ more) (asked ∷ others) = Gives request_of given asked × AreGiven more others
+AreGiven given asked = ⊥
+
+-- a reply's frame
+abbrev pub frame_in : Reply → List ℕ
+frame_in reply = frame_of (reply_text reply)
+
+-- The frames of all replies are put out, one behind the other; only the last is wanting where the session failed for want of memory.
+abbrev pub ArePut : List ℕ → List Reply → Session → Type 0
+ArePut before replies u = (u.output ≡ before ++ flat_map frame_in replies)
+    ⊎ ((u.failed ≡ true) × (most : List Reply) × (last : Reply) × (replies ≡ most ++ last ∷ []) × (u.output ≡ before ++ flat_map frame_in most))
+
+-- The client of a connection over these turns: the requests taken of it are those of the frames of all its bytes, in their order, and behind
+-- what was put out before came just the frames of the replies to them.
+pub record HasItsOwn {place : Place} {steps : List Step} {a b : Now} (k : ℕ) (turns : AllTurned place steps a b) (t u : Session) : Type 0 where
+  pub exchanges : List Exchange
+  pub are : AreExchanges k turns exchanges
+  pub asked : List model.Asked
+  pub given : AreGiven (map (λ (x : Exchange). x.0) exchanges) asked
+  pub read : IsReadOf (bytes_of k steps) asked u
+  pub put : ArePut t.output (map (λ (x : Exchange). x.1) exchanges) u

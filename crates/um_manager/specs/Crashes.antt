@@ -1,0 +1,45 @@
+-- What a crash leaves of a script: a life of the store, in which each turn that ended was answered.
+-- No manual page has it: crash safety is this project's own promise (docs/CRASH.md tells it in plain words).
+-- The law of crashes stands on this file.
+use Rattle.std.specs.Prelude.{◌≡◌, List, [], ◌∷◌, ◌++◌, map, flat_map, if◌then◌else◌, Result, Ok, Err}
+use Rattle.um_keeper.specs.Answering.{Answer, is_turned_away}
+use Rattle.um_model.specs.Disk.{Image}
+use Rattle.um_model.specs.Lives.{Outcome, answered, turned_away, Offer, AreUnanswered, MayLeave}
+use Rattle.um_model.specs.Machine.{State, Input}
+use Rattle.um_model.specs.declared.layout.Layout.{Layout}
+use Rattle.um_wire.specs.declared.refusal.Refusal.{Refusal}
+use Rattle.um_manager.specs.Clients.{AllTurned, no_turn, and_turn}
+use Rattle.um_manager.specs.Connections.{inputs_asked}
+use Rattle.um_manager.specs.Places.{Place}
+use Rattle.um_manager.specs.Replies.{reply_in}
+use Rattle.um_manager.specs.Turns.{Now, firsts, Turned}
+use Rattle.um_manager.specs.declared.pieces.Piece.{Piece}
+use Rattle.um_manager.specs.declared.script.Step.{Step}
+
+-- what came of an input that was answered so
+abbrev pub outcome_of : Answer → Outcome
+outcome_of (Ok given) = answered given.0
+outcome_of (Err e) = if is_turned_away e then turned_away else answered (reply_in (Err e))
+
+-- inputs with what came of each
+abbrev pub offers : List Input → List Answer → List Offer
+offers (input ∷ inputs) (answer ∷ answers) = record { input = input; outcome = outcome_of answer } ∷ offers inputs answers
+offers inputs answers = []
+
+-- the inputs that a turn offered
+abbrev pub offered_in : {place : Place} {store : Result Unit Refusal} {moment : _} {pieces : List Piece} {a b : Now}
+    → Turned place store moment pieces a b → List Input
+offered_in {moment = moment} turned = firsts moment turned.told ++ flat_map (inputs_asked moment) turned.requests
+
+-- all that these turns offered, in their order, with what came of each
+abbrev pub all_offers : {place : Place} {steps : List Step} {a b : Now} → AllTurned place steps a b → List Offer
+all_offers no_turn = []
+all_offers (and_turn turned turns) = offers (offered_in turned) turned.answers ++ all_offers turns
+
+-- An image that a life leaves which began in this state: behind what was answered it takes a beginning of those of the inputs offered last that
+-- weren't turned away.
+pub record IsLeft (layout : Layout) (s : State) (before : List Offer) (inputs : List Input) (image : Image) : Type 0 where
+  pub last : List Offer
+  pub last_are : map (λ (offer : Offer). offer.input) last ≡ inputs
+  pub unanswered : AreUnanswered last
+  pub leaves : MayLeave layout s (before ++ last) image

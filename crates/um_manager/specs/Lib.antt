@@ -1,0 +1,12 @@
+pub mod Clients
+pub mod Connections
+pub mod Crashes
+pub mod Fates
+pub mod Live
+pub mod Opening
+pub mod Orders
+pub mod Places
+pub mod Replies
+pub mod Scripts
+pub mod Stores
+pub mod Turns

@@ -1,0 +1,25 @@
+-- Where the store of a manager stands, and whether its disk is to be trusted.
+-- No manual page has it: it is the project's own.
+-- The turn of the manager and its opening stand on this file.
+use Rattle.std.specs.Prelude.{ℕ, Bool, true, false}
+use Rattle.um_keeper.specs.Keepers.{size_in, layout_in, has_failed}
+use Rattle.um_keeper.specs.declared.keeper.Keeper.{Keeper}
+use Rattle.um_model.specs.declared.layout.Layout.{Layout}
+
+-- the layout of the store, the most bytes that a state in it has, and whether its disk is to be trusted
+pub record Place : Type 0 where
+  pub size : ℕ
+  pub layout : Layout
+  pub trusted : Bool
+
+abbrev pub place : ℕ → Layout → Bool → Place
+place size layout trusted = record { size = size; layout = layout; trusted = trusted }
+
+-- the disk does what it answers, and no call on it failed before
+abbrev pub is_trusted : (honest failed : Bool) → Bool
+is_trusted honest false = honest
+is_trusted honest true = false
+
+-- where a keeper's store stands, on a disk that does what it answers or doesn't
+abbrev pub place_in : {D : Type 0} {g : _} → (honest : Bool) → Keeper D g → Place
+place_in honest k = place (size_in k) (layout_in k) (is_trusted honest (has_failed k))

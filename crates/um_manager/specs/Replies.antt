@@ -1,0 +1,53 @@
+-- What is put out for the connections.
+-- No manual page has this: it is the project's own protocol (docs/FORMATS.md, "Replies").
+-- The turn of the manager stands on this file.
+use Rattle.std.specs.Prelude.{◌≡◌, ◌⊎◌, ◌+◌, ℕ, List, [], ◌∷◌, Bool, Option, Some, Ok, Err, ⊤}
+use Rattle.um_keeper.specs.Answering.{Answer}
+use Rattle.um_model.specs.Machine.{State, Query, Reply, Refusal, IsReplyTo}
+use Rattle.um_model.specs.Refusals.{no_memory}
+use Rattle.um_model.specs.Replies.{reply_text}
+use Rattle.um_model.specs.Sessions.{Session, Does, Put, GiveUp, Take}
+use Rattle.um_state.specs.View.{query_of, reply_of}
+use Rattle.um_wire.specs.Refusal.{refused_of}
+use Rattle.um_manager.specs.declared.taking.Due.{Due}
+use Rattle.um_manager.specs.declared.taking.Due.TheVariants as due
+
+-- the reply that an answer of the store tells
+abbrev pub reply_in : Answer → Reply
+reply_in (Ok accepted) = accepted.0
+reply_in (Err e) = Refusal (refused_of e)
+
+-- a reply's frame is put out; or it finds no memory, and its session has failed with nothing of it put out
+abbrev pub Puts : Session → Reply → Session → Type 0
+Puts t reply u = Does t (Put (reply_text reply)) u ⊎ Does t GiveUp u
+
+-- the reply to a query, or that it finds no memory
+abbrev pub TellsOf : State → Query → Reply → Type 0
+TellsOf s query reply = IsReplyTo s query reply ⊎ (reply ≡ Refusal no_memory)
+
+-- how many replies of inputs are due
+abbrev pub replies_due : Due → ℕ
+replies_due due.Input = 1
+replies_due other = 0
+
+abbrev pub replies_owed : List Due → ℕ
+replies_owed [] = 0
+replies_owed (d ∷ ds) = replies_due d + replies_owed ds
+
+-- what is due is put out: an input's is the first of the replies at hand, a query's is the one of the state
+abbrev pub Pays : State → Due → (replies left : List Reply) → Session → Session → Type 0
+Pays s due.Nothing replies left t u = (left ≡ replies) × (u ≡ t)
+Pays s due.Input replies left t u = (reply : Reply) × (replies ≡ reply ∷ left) × Puts t reply u
+Pays s (due.Query query) replies left t u = (left ≡ replies) × ((reply : Reply) × TellsOf s (query_of query) reply × Puts t reply u)
+Pays s (due.Reply reply) replies left t u = (left ≡ replies) × Puts t (reply_of reply) u
+
+-- the same of each connection, ascending
+abbrev pub PaysAll : State → List Due → List Reply → List Session → List Session → Type 0
+PaysAll s [] replies [] [] = ⊤
+PaysAll s (d ∷ ds) replies (t ∷ ts) (u ∷ us) = (left : List Reply) × Pays s d replies left t u × PaysAll s ds left ts us
+PaysAll s ds replies ts us = ⊥
+
+-- what was put out for a connection is taken, with whether its session has failed
+abbrev pub IsOutput : Option Session → List ℕ → Bool → Option Session → Type 0
+IsOutput (Some t) bytes failed (Some u) = Does t (Take bytes) u × (failed ≡ u.failed)
+IsOutput t bytes failed u = ⊥

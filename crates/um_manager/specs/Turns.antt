@@ -1,0 +1,101 @@
+-- What a turn of the manager does.
+-- No manual page has this: it is the project's own (docs/ARCHITECTURE.md, "The way of one input").
+-- The manager's calls stand on this file.
+use Rattle.std.specs.Prelude.{◌≡◌, ◌≢◌, ◌||◌, ℕ, List, [], ◌∷◌, ◌++◌, length, drop, map, flat_map, replicate, Bool, true, IsTrue, Option, Result, Ok, Err}
+use Rattle.um_keeper.specs.Answering.{Answer, AreAnswered, all_asked, taken}
+use Rattle.um_keeper.specs.Keeping.{IsBegun}
+use Rattle.um_model.specs.Children.{Call, Tale, orders, tales, refused}
+use Rattle.um_model.specs.Disk.{Past, During, Images}
+use Rattle.um_model.specs.Lives.{HasInOrder}
+use Rattle.um_model.specs.Machine.{State, Input, Reply}
+use Rattle.um_model.specs.Numbers.{AreNew, started_numbers}
+use Rattle.um_model.specs.Sessions.{Session}
+use Rattle.um_model.specs.Stands.{IsStoreOf}
+use Rattle.um_proto.specs.declared.request.Request.{Request}
+use Rattle.um_wire.specs.declared.refusal.Refusal.{Refusal}
+use Rattle.um_wire.specs.declared.refusal.Refusal.TheVariants.{NoMemory}
+use Rattle.um_manager.specs.Connections.{AllSame, CutsAll, inputs_asked, due_of}
+use Rattle.um_manager.specs.Fates.{AreTalesOf, inputs_of_tale, unexecuted, tick_at}
+use Rattle.um_manager.specs.Live.{has, is_live, AreLive, HasFewLive}
+use Rattle.um_manager.specs.Orders.{Grew}
+use Rattle.um_manager.specs.Places.{Place}
+use Rattle.um_manager.specs.Replies.{reply_in, PaysAll}
+use Rattle.um_manager.specs.declared.pieces.Piece.{Piece}
+
+-- a manager at a moment: its state, the children's calls, the numbers whose fate is asked with a claim, the sessions, and the disk's calls
+pub record Now : Type 0 where
+  pub state : State
+  pub past : List Call
+  pub marks : List ℕ
+  pub sessions : List Session
+  pub disk : Past
+
+abbrev pub now : State → List Call → List ℕ → List Session → Past → Now
+now state past marks sessions disk = record { state = state; past = past; marks = marks; sessions = sessions; disk = disk }
+
+-- the inputs that stand before the requests: those of the fates told, and a tick
+abbrev pub firsts : ℕ → List Tale → List Input
+firsts moment told = flat_map (inputs_of_tale unexecuted moment) told ++ tick_at moment ∷ []
+
+-- the answers of the store: to one input after another; or where it refuses all of them, that refusal to each
+abbrev pub Answers : ℕ → Result Unit Refusal → State → List Input → List Answer → State → Type 0
+Answers size (Ok done) s inputs answers t = AreAnswered size s inputs answers t
+Answers size (Err e) s inputs answers t = (answers ≡ replicate (length inputs) (Err e)) × (t ≡ s)
+
+-- What a crash leaves while inputs are offered: each image is a store of the state after a beginning of those that were taken; of some of
+-- them where the device failed.
+abbrev pub Leaves : Place → Result Unit Refusal → State → List Input → List Answer → Past → Past → Type 0
+Leaves place (Ok done) s inputs answers old new = During old new (IsBegun place.layout s (taken inputs answers))
+Leaves place (Err e) s inputs answers old new = (some : List Input) × HasInOrder some inputs × During old new (IsBegun place.layout s some)
+
+-- each image is a store of the state
+abbrev pub Holds : Place → State → Past → Type 0
+Holds place s disk = Images disk (λ image. IsStoreOf place.layout image s)
+
+-- The inputs were offered, the actions of the receipts carried out, and the replies noted.
+pub record Submitted (place : Place) (store : Result Unit Refusal) (inputs : List Input) (replies : List Reply) (honest whole : Bool) (a b : Now) : Type 0 where
+  pub answers : List Answer
+  pub answered : Answers place.size store a.state inputs answers b.state
+  pub order : AreNew a.state.next b.state.next (started_numbers (all_asked answers))
+  pub replies_are : replies ≡ map reply_in answers
+  pub grew : IsTrue honest → IsTrue whole → Grew b.state.units a.past b.past a.marks b.marks (all_asked answers)
+  pub left : IsTrue place.trusted → Leaves place store a.state inputs answers a.disk b.disk
+  pub stored : IsTrue place.trusted → store ≡ Ok tt → Holds place b.state b.disk
+
+-- What a turn did. It asked the fate of each live number once, ascending, of the marked ones with a claim. It took the pieces and of each
+-- connection the request of the first whole frame. It offered the inputs of the fates told, a tick and the requests, in this order. The
+-- orders asked are the actions of the receipts, and the numbers that they start are new. Each request's reply is put out for its own
+-- connection, a query's from the state after all inputs. Of the live numbers those whose start was refused are marked beside the others.
+-- A crash meanwhile leaves a store of the state after a beginning of the inputs taken, and one behind it, where the store failed none, of all.
+pub record Turned (place : Place) (store : Result Unit Refusal) (moment : ℕ) (pieces : List Piece) (a b : Now) : Type 0 where
+  pub live : List ℕ
+  pub are_live : AreLive a.state.units live
+  pub told : List Tale
+  pub of_live : AreTalesOf (λ n. has n a.marks) live told
+  pub tales_are : tales b.past ≡ tales a.past ++ told
+  pub requests : List (Option (Result Request Refusal))
+  pub cut : List Session
+  pub cuts : CutsAll a.sessions pieces requests cut
+  pub answers : List Answer
+  pub answered : Answers place.size store a.state (firsts moment told ++ flat_map (inputs_asked moment) requests) answers b.state
+  pub order : AreNew a.state.next b.state.next (started_numbers (all_asked answers))
+  pub orders_are : orders b.past ≡ orders a.past ++ all_asked answers
+  pub refusals : List ℕ
+  pub refusals_are : refused b.past ≡ refused a.past ++ refusals
+  pub marks_are : HasFewLive b.state.units → (n : ℕ) → is_live b.state.units n ≡ true → has n b.marks ≡ (has n a.marks || has n refusals)
+  pub paid : PaysAll b.state (map due_of requests) (drop (length (firsts moment told)) (map reply_in answers)) cut b.sessions
+  pub left : IsTrue place.trusted → Leaves place store a.state (firsts moment told ++ flat_map (inputs_asked moment) requests) answers a.disk b.disk
+  pub stored : IsTrue place.trusted → store ≡ Ok tt → Holds place b.state b.disk
+
+-- nothing was taken, asked or offered
+pub record Untouched (a b : Now) : Type 0 where
+  pub state : b.state ≡ a.state
+  pub past : b.past ≡ a.past
+  pub marks : b.marks ≡ a.marks
+  pub sessions : AllSame a.sessions b.sessions
+  pub disk : b.disk ≡ a.disk
+
+-- a turn that finds no memory for itself is none; a refusal of the store is told after the replies
+abbrev pub Turns : Place → Result Unit Refusal → Bool → Bool → ℕ → List Piece → Now → Now → Type 0
+Turns place result honest whole moment pieces a b =
+    (result ≡ Err NoMemory → Untouched a b) × (result ≢ Err NoMemory → IsTrue honest → IsTrue whole → Turned place result moment pieces a b)

@@ -1,0 +1,24 @@
+//! The running manager: one loop over a store, children and clients. A turn hears what became of processes, takes the pieces that came of
+//! each connection, offers all of it to the store in one list, carries out the actions of its receipts, and puts out the replies.
+#![tactic(auto)]
+
+mod connection;
+mod fates;
+mod laws;
+mod live;
+mod manager;
+mod marks;
+mod opening;
+mod orders;
+mod paying;
+mod pieces;
+mod round;
+mod script;
+mod submitting;
+mod taking;
+
+pub use connection::{CONNECTIONS, Connection};
+pub use laws::{each_client_has_its_own_replies, what_a_crash_leaves};
+pub use manager::{Manager, Output};
+pub use pieces::{Piece, Pieces};
+pub use script::Step;

@@ -1,0 +1,195 @@
+ghost use Rattle.std.specs.Prelude.{◌≡◌, ◌≢◌, ◌⊎◌, ◌↔◌, ℕ, [], length, true, false, Err, IsTrue, IfOk, IfErr, slice_get};
+ghost use Rattle.std.specs.List.{AllByRecursion};
+ghost use Rattle.um_keeper.specs.Keepers.{disk_in, state_in, size_in, layout_in, has_failed, IsSamePlace};
+ghost use Rattle.um_keeper.specs.Opening.{IsSomeStore};
+ghost use Rattle.um_manager.specs.Connections.{IsNew};
+ghost use Rattle.um_manager.specs.Opening.{Opened, IsOfRefused};
+ghost use Rattle.um_manager.specs.Places.{place, place_in};
+ghost use Rattle.um_manager.specs.Replies.{IsOutput};
+ghost use Rattle.um_manager.specs.Scripts.{Runs};
+ghost use Rattle.um_manager.specs.Turns.{Turns, now};
+ghost use Rattle.um_model.specs.Disk.{Images, During};
+ghost use Rattle.um_model.specs.Store.{body_limit};
+ghost use Rattle.um_model.specs.declared.layout.Layout.{Layout};
+ghost use Rattle.um_state.specs.View.{state_of};
+
+use crate::connection::Connection;
+use crate::marks::Marks;
+use crate::opening::{Held, begin};
+use crate::pieces::Pieces;
+use crate::round::turn;
+use crate::script::{Step, run};
+use std::alloc::Global;
+use um_children::Children;
+use um_keeper::Keeper;
+use um_model::Moment;
+use um_sector::Disk;
+use um_session::Session;
+use um_state::{BootId, State};
+use um_wire::Refusal;
+
+/// What a connection puts out.
+#[derive(Drop)]
+pub struct Output {
+    pub bytes: Vec<u8>,
+    /// Its session has failed, and takes no more: the connection is to be closed.
+    pub failed: bool,
+}
+
+/// The running manager over a store and children.
+#[derive(Drop)]
+pub struct Manager<D: Disk, C: Children> {
+    alloc: Global,
+    keeper: Keeper<D>,
+    children: C,
+    marks: Marks,
+    sessions: Vec<Session>,
+    adopted: usize,
+    ghost each: { length sessions.items ≡ 64 },
+}
+
+impl<D: Disk, C: Children> Manager<D, C> {
+    /// Opens the store that a disk holds, offers the boot, and adopts the processes that are live: it asks the fate of each, offers what is
+    /// told, and ends those that were being ended. It starts nothing by itself. A refusal hands disk and children back.
+    ///
+    /// Those of `Keeper::open`; E15 until the boot is answered; E16 where a disk call fails; E20 where the boot's record has no room and
+    /// the generation is the last.
+    pub fn open(
+        alloc: Global,
+        disk: D,
+        children: C,
+        boot: BootId,
+        moment: Moment,
+    ) -> Result<Manager<D, C>, (Refusal, D, C)>
+        ensures opened { IfOk result (λ m. IsTrue (C.honest children) → IsTrue (C.whole m.children)
+            → Opened (place (size_in m.keeper) (layout_in m.keeper) (D.honest disk)) moment boot m.adopted (D.size disk) (D.past disk) (C.past children)
+            (now (state_in m.keeper) (C.past m.children) m.marks [] (D.past (disk_in m.keeper)))) }
+        ensures anew { IfOk result (λ m. AllByRecursion IsNew m.sessions.items) }
+        ensures working { IfOk result (λ m. has_failed m.keeper ≡ false) }
+        ensures sized { IfOk result (λ m. size_in m.keeper ≡ body_limit (layout_in m.keeper)) }
+        ensures same { IfOk result (λ m. (D.honest (disk_in m.keeper) ≡ D.honest disk) × (C.honest m.children ≡ C.honest children)) }
+        ensures whole { IfOk result (λ m. IsTrue (C.whole m.children) → IsTrue (C.whole children)) }
+        ensures err { IfErr result (λ e. IsTrue (C.honest children) → IsTrue (C.whole e.2) → IsTrue (D.honest disk) → (layout : Layout)
+            → Images (D.past disk) (IsSomeStore layout) → During (D.past disk) (D.past e.1)
+            (IsOfRefused layout moment boot (D.size disk) (D.past disk) (C.past children) (C.past e.2))) }
+        ensures early { IfErr result (λ e. e.0 ≡ Refusal.NoMemory → C.past e.2 ≡ C.past children) }
+        ensures back { IfErr result (λ e. (D.honest e.1 ≡ D.honest disk) × (C.honest e.2 ≡ C.honest children)) }
+        ensures whole_back { IfErr result (λ e. IsTrue (C.whole e.2) → IsTrue (C.whole children)) }
+    {
+        let mut children = children;
+        let mut keeper = match Keeper::open(alloc, disk) {
+            Ok(keeper) => keeper,
+            Err((refusal, disk)) => return Err((refusal, disk, children)),
+        };
+        match begin(alloc, &mut keeper, &mut children, boot, moment) {
+            Ok(
+                Held {
+                    marks,
+                    sessions,
+                    adopted,
+                },
+            ) => Ok(Manager {
+                alloc,
+                keeper,
+                children,
+                marks,
+                sessions,
+                adopted,
+            }),
+            Err(refusal) => Err((refusal, keeper.into_disk(), children)),
+        }
+    }
+
+    /// One turn at this moment over what came of the connections.
+    ///
+    /// E15 before anything is taken, asked or offered. The store's E16 and E17, after the replies are put out.
+    pub fn turn(&mut self, moment: Moment, pieces: &Pieces) -> Result<(), Refusal>
+        ensures turns { Turns (place_in (D.honest (disk_in self.old.keeper)) self.old.keeper) result (C.honest self.old.children)
+            (C.whole self.new.children) moment pieces.now
+            (now (state_in self.old.keeper) (C.past self.old.children) self.old.marks self.old.sessions.items (D.past (disk_in self.old.keeper)))
+            (now (state_in self.new.keeper) (C.past self.new.children) self.new.marks self.new.sessions.items (D.past (disk_in self.new.keeper))) }
+        ensures whole { IsTrue (C.whole self.new.children) → IsTrue (C.whole self.old.children) }
+        ensures honest { C.honest self.new.children ≡ C.honest self.old.children }
+        ensures place { IsSamePlace self.old.keeper self.new.keeper }
+        ensures disk { D.honest (disk_in self.new.keeper) ≡ D.honest (disk_in self.old.keeper) }
+        ensures failed { (has_failed self.new.keeper ≡ true) ↔ ((has_failed self.old.keeper ≡ true) ⊎ (result ≡ Err Refusal.Device)) }
+        ensures adopted { self.new.adopted ≡ self.old.adopted }
+    {
+        turn(
+            self.alloc,
+            &mut self.keeper,
+            &mut self.children,
+            &mut self.marks,
+            self.sessions.as_mut_slice(),
+            moment,
+            pieces.as_slice(),
+        )
+    }
+
+    /// One turn a step, until one is refused.
+    pub fn run_script(&mut self, steps: &[Step]) -> Result<(), Refusal>
+        ensures runs { IsTrue (C.honest self.old.children) → IsTrue (C.whole self.new.children)
+            → Runs (place_in (D.honest (disk_in self.old.keeper)) self.old.keeper) steps.now result
+            (now (state_in self.old.keeper) (C.past self.old.children) self.old.marks self.old.sessions.items (D.past (disk_in self.old.keeper)))
+            (now (state_in self.new.keeper) (C.past self.new.children) self.new.marks self.new.sessions.items (D.past (disk_in self.new.keeper))) }
+        ensures whole { IsTrue (C.whole self.new.children) → IsTrue (C.whole self.old.children) }
+        ensures honest { C.honest self.new.children ≡ C.honest self.old.children }
+        ensures place { IsSamePlace self.old.keeper self.new.keeper }
+        ensures disk { D.honest (disk_in self.new.keeper) ≡ D.honest (disk_in self.old.keeper) }
+        ensures failed { (has_failed self.new.keeper ≡ true) ↔ ((has_failed self.old.keeper ≡ true) ⊎ (result ≡ Err Refusal.Device)) }
+        ensures adopted { self.new.adopted ≡ self.old.adopted }
+    {
+        run(
+            self.alloc,
+            &mut self.keeper,
+            &mut self.children,
+            &mut self.marks,
+            self.sessions.as_mut_slice(),
+            steps,
+        )
+    }
+
+    /// Takes what was put out for a connection, and tells whether its session has failed.
+    pub fn output(&mut self, connection: Connection) -> Output
+        ensures taken { IsOutput (slice_get self.old.sessions.items connection) result.bytes.items result.failed
+            (slice_get self.new.sessions.items connection) }
+        ensures others { (other : ℕ) → other ≢ connection → slice_get self.new.sessions.items other ≡ slice_get self.old.sessions.items other }
+        ensures keeper { self.new.keeper ≡ self.old.keeper }
+        ensures children { self.new.children ≡ self.old.children }
+        ensures marks { self.new.marks ≡ self.old.marks }
+        ensures adopted { self.new.adopted ≡ self.old.adopted }
+    {
+        let session = &mut self.sessions[connection.get()];
+        Output {
+            bytes: session.take_output(),
+            failed: session.failed(),
+        }
+    }
+
+    /// The state.
+    pub fn state(&self) -> &State
+        ensures { state_of result.now ≡ state_in self.now.keeper }
+    {
+        self.keeper.state()
+    }
+
+    /// So many processes were live when the manager was opened.
+    pub fn adopted(&self) -> usize
+        ensures { result ≡ self.now.adopted }
+    {
+        self.adopted
+    }
+
+    /// The disk and the children, as the last call left them.
+    pub fn into_parts(self) -> (D, C)
+        ensures disk { result.0 ≡ disk_in self.keeper }
+        ensures children { result.1 ≡ self.children }
+    {
+        let Manager {
+            keeper,
+            children,
+            ..
+        } = self;
+        (keeper.into_disk(), children)
+    }
+}

@@ -1,0 +1,239 @@
+//! Opening: the boot, and then the processes that are live are adopted.
+
+ghost use Rattle.std.specs.Prelude.{◌≡◌, ◌≢◌, ◌⊎◌, ◌↔◌, ◌+◌, ◌*◌, ◌≤◌, ◌∷◌, [], ℕ, List, true, Ok, Err, IsTrue, IfOk, IfErr, OnOk, OnErr, length, vec_len, vec_capacity};
+ghost use Rattle.std.specs.List.{AllByRecursion};
+ghost use Rattle.um_keeper.specs.Keepers.{disk_in, state_in, size_in, layout_in, has_failed, IsSamePlace};
+ghost use Rattle.um_keeper.specs.Keeping.{IsBegun};
+ghost use Rattle.um_manager.specs.Connections.{IsNew};
+ghost use Rattle.um_manager.specs.Fates.{Hears, inputs_in, lost};
+ghost use Rattle.um_manager.specs.Live.{AreLive, has};
+ghost use Rattle.um_manager.specs.Opening.{Adopts, Began, Refuses, Signalled, boot_at};
+ghost use Rattle.um_manager.specs.Places.{place_in, is_trusted};
+ghost use Rattle.um_manager.specs.Turns.{now};
+ghost use Rattle.um_model.specs.Disk.{During};
+ghost use Rattle.um_model.specs.Machine as model;
+ghost use Rattle.um_model.specs.Machine.{Step};
+ghost use Rattle.um_state.specs.View.{state_of};
+
+use crate::connection::CONNECTIONS;
+use crate::fates::claim_all;
+use crate::live::{is_in, live_numbers};
+use crate::marks::Marks;
+use crate::round::forget_ended;
+use crate::submitting::submit;
+use std::alloc::{AllocError, Global};
+use um_children::Children;
+use um_keeper::Keeper;
+use um_model::{Moment, ProcessNumber, Signal, SubState};
+use um_sector::Disk;
+use um_session::Session;
+use um_state::{BootId, Event, Happening, Input, Reply, State, Units};
+use um_wire::Refusal;
+
+/// What a manager has from its opening on.
+#[derive(Drop)]
+pub struct Held {
+    pub marks: Marks,
+    pub sessions: Vec<Session>,
+    /// So many processes were live.
+    pub adopted: usize,
+}
+
+/// A new session for each connection.
+#[tactic(auto, using(crate::proofs::Anew::one_more))]
+fn new_sessions(alloc: Global) -> Result<Vec<Session>, AllocError>
+    ensures each { IfOk result (λ sessions. length sessions.items ≡ 64) }
+    ensures anew { IfOk result (λ sessions. AllByRecursion IsNew sessions.items) }
+{
+    let mut sessions = Vec::with_capacity(alloc, CONNECTIONS)?;
+    for _ in 0..CONNECTIONS {
+        sessions.push(Session::new(alloc))?;
+    }
+    Ok(sessions)
+}
+
+/// Sends the signal to the number, if its unit is in this state. One that fails isn't repeated.
+#[tactic(auto, using(crate::proofs::Adoption::signalled_it, crate::proofs::Adoption::signalled_not))]
+fn signal_one<C: Children>(
+    children: &mut C,
+    units: &Units,
+    sub: SubState,
+    signal: Signal,
+    number: ProcessNumber,
+)
+    ensures signals { IsTrue (C.honest children.old) → IsTrue (C.whole children.new) → Signalled units.now sub signal (number ∷ [])
+        (C.past children.old) (C.past children.new) }
+    ensures whole { IsTrue (C.whole children.new) → IsTrue (C.whole children.old) }
+    ensures honest { C.honest children.new ≡ C.honest children.old }
+{
+    if is_in(units, sub, number) {
+        let _sent = children.signal(number, signal);
+    }
+}
+
+/// Sends the signal to each of these numbers whose unit is in this state.
+fn signal_all<C: Children>(
+    children: &mut C,
+    units: &Units,
+    sub: SubState,
+    signal: Signal,
+    numbers: &[ProcessNumber],
+)
+    ensures signals { IsTrue (C.honest children.old) → IsTrue (C.whole children.new) → Signalled units.now sub signal numbers.now
+        (C.past children.old) (C.past children.new) }
+    ensures whole { IsTrue (C.whole children.new) → IsTrue (C.whole children.old) }
+    ensures honest { C.honest children.new ≡ C.honest children.old }
+{
+    for number in numbers {
+        signal_one(children, units, sub, signal, *number);
+    }
+}
+
+/// Lets go what is kept of processes that aren't live any more, and asks the fate of each that is, with a claim. What isn't let go for a fault is
+/// let go by a later opening.
+fn claim_live<C: Children>(
+    children: &mut C,
+    live: &[ProcessNumber],
+    moment: Moment,
+    inputs: &mut Vec<Input>,
+)
+    requires { vec_len inputs.old + 2 * length live.now ≤ vec_capacity inputs.old }
+    ensures hears { Hears lost moment (λ n. true) (C.honest children.old) (C.whole children.new) (C.past children.old) (C.past children.new) live.now
+        (inputs_in inputs.old.items) (inputs_in inputs.new.items) }
+    ensures len { vec_len inputs.new ≤ vec_len inputs.old + 2 * length live.now }
+    ensures capacity { vec_capacity inputs.old ≤ vec_capacity inputs.new }
+    ensures whole { IsTrue (C.whole children.new) → IsTrue (C.whole children.old) }
+    ensures honest { C.honest children.new ≡ C.honest children.old }
+{
+    let _forgotten = children.forget_others(live);
+    claim_all(children, live, moment, inputs);
+}
+
+/// Kills the numbers whose unit is in stop-sigkill, and lets go what is kept of those that aren't live any more.
+fn kill_all<C: Children>(children: &mut C, units: &Units, numbers: &[ProcessNumber])
+    ensures signals { IsTrue (C.honest children.old) → IsTrue (C.whole children.new) → Signalled units.now SubState.StopSigkill Signal.Kill numbers.now (C.past children.old) (C.past children.new) }
+    ensures whole { IsTrue (C.whole children.new) → IsTrue (C.whole children.old) }
+    ensures honest { C.honest children.new ≡ C.honest children.old }
+{
+    signal_all(
+        children,
+        units,
+        SubState::StopSigkill,
+        Signal::Kill,
+        numbers,
+    );
+    forget_ended(children, units, numbers);
+}
+
+/// Adopts the live numbers: it asks the fate of each with a claim, offers what is told, and ends those that were being ended.
+fn adopt<D: Disk, C: Children>(
+    keeper: &mut Keeper<D>,
+    children: &mut C,
+    marks: &mut Marks,
+    live: &[ProcessNumber],
+    moment: Moment,
+    inputs: Vec<Input>,
+    replies: &mut Vec<Reply>,
+) -> Result<(), Refusal>
+    requires live { AreLive (state_in keeper.old).units live.now }
+    requires marked { (n : ℕ) → has n marks.old ≡ has n live.now }
+    requires no_inputs { inputs.items ≡ [] }
+    requires no_replies { replies.old.items ≡ [] }
+    requires room { 2 * length live.now ≤ vec_capacity inputs }
+    requires replies_room { 2 * length live.now ≤ vec_capacity replies.old }
+    ensures memory { IfErr result (λ e. e ≢ Refusal.NoMemory) }
+    ensures adopts { Adopts (place_in (D.honest (disk_in keeper.old)) keeper.old) result (C.honest children.old) (C.whole children.new) moment
+        (now (state_in keeper.old) (C.past children.old) marks.old [] (D.past (disk_in keeper.old)))
+        (now (state_in keeper.new) (C.past children.new) marks.new [] (D.past (disk_in keeper.new))) }
+    ensures whole { IsTrue (C.whole children.new) → IsTrue (C.whole children.old) }
+    ensures honest { C.honest children.new ≡ C.honest children.old }
+    ensures place { IsSamePlace keeper.old keeper.new }
+    ensures disk { D.honest (disk_in keeper.new) ≡ D.honest (disk_in keeper.old) }
+    ensures failed { (has_failed keeper.new ≡ true) ↔ ((has_failed keeper.old ≡ true) ⊎ (result ≡ Err Refusal.Device)) }
+{
+    let mut inputs = inputs;
+    claim_live(children, live, moment, &mut inputs);
+    let submitted = submit(keeper, children, marks, inputs, replies);
+    let units = keeper.state().units();
+    signal_all(children, units, SubState::StopSigterm, Signal::Term, live);
+    kill_all(children, units, live);
+    submitted
+}
+
+/// Offers the boot, which asks for nothing.
+fn offer_boot<D: Disk>(keeper: &mut Keeper<D>, boot: BootId, moment: Moment) -> Result<(), Refusal>
+    ensures booted { OnOk result ((reply : model.Reply) × Step (size_in keeper.old) (state_in keeper.old) (boot_at moment boot) reply []
+        (state_in keeper.new)) }
+    ensures state { OnErr result (state_in keeper.new ≡ state_in keeper.old) }
+    ensures left { IsTrue (is_trusted (D.honest (disk_in keeper.old)) (has_failed keeper.old)) → During (D.past (disk_in keeper.old)) (D.past
+        (disk_in keeper.new))
+        (IsBegun (layout_in keeper.old) (state_in keeper.old) (boot_at moment boot ∷ [])) }
+    ensures place { IsSamePlace keeper.old keeper.new }
+    ensures disk { D.honest (disk_in keeper.new) ≡ D.honest (disk_in keeper.old) }
+    ensures failed { (has_failed keeper.new ≡ true) ↔ ((has_failed keeper.old ≡ true) ⊎ (result ≡ Err Refusal.Device)) }
+{
+    let event = Event::Happened(Happening::Booted { boot });
+    let receipt = keeper.submit(&Input::new(moment, event))?;
+    receipt.finish();
+    Ok(())
+}
+
+/// The numbers that are live in this boot: those of another one are gone.
+fn live_in(alloc: Global, state: &State, boot: &BootId) -> Result<Vec<ProcessNumber>, AllocError>
+    ensures same { IfOk result (λ live. boot.now ≡ (state_of state.now).boot → AreLive (state_of state.now).units live.items) }
+    ensures other { IfOk result (λ live. boot.now ≢ (state_of state.now).boot → live.items ≡ []) }
+{
+    if state.boot().as_str() == boot.as_str() {
+        live_numbers(alloc, state.units())
+    } else {
+        Ok(Vec::new(alloc))
+    }
+}
+
+/// Offers the boot, and adopts the processes that are live then. Want of memory comes before the boot is offered, or is the boot's own.
+pub fn begin<D: Disk, C: Children>(
+    alloc: Global,
+    keeper: &mut Keeper<D>,
+    children: &mut C,
+    boot: BootId,
+    moment: Moment,
+) -> Result<Held, Refusal>
+    ensures began { IfOk result (λ held. IsTrue (C.honest children.old) → IsTrue (C.whole children.new)
+        → Began (place_in (D.honest (disk_in keeper.old)) keeper.old) (Ok tt) moment boot held.adopted
+        (now (state_in keeper.old) (C.past children.old) [] [] (D.past (disk_in keeper.old)))
+        (now (state_in keeper.new) (C.past children.new) held.marks [] (D.past (disk_in keeper.new)))) }
+    ensures refuses { IfErr result (λ e. IsTrue (C.honest children.old) → IsTrue (C.whole children.new)
+        → (marks : List ℕ) × Refuses (place_in (D.honest (disk_in keeper.old)) keeper.old) e moment boot
+        (now (state_in keeper.old) (C.past children.old) [] [] (D.past (disk_in keeper.old)))
+        (now (state_in keeper.new) (C.past children.new) marks [] (D.past (disk_in keeper.new)))) }
+    ensures sessions { IfOk result (λ held. length held.sessions.items ≡ 64) }
+    ensures anew { IfOk result (λ held. AllByRecursion IsNew held.sessions.items) }
+    ensures early { IfErr result (λ e. e ≡ Refusal.NoMemory → (state_in keeper.new ≡ state_in keeper.old) × (C.past children.new ≡ C.past children.old)) }
+    ensures whole { IsTrue (C.whole children.new) → IsTrue (C.whole children.old) }
+    ensures honest { C.honest children.new ≡ C.honest children.old }
+    ensures place { IsSamePlace keeper.old keeper.new }
+    ensures disk { D.honest (disk_in keeper.new) ≡ D.honest (disk_in keeper.old) }
+    ensures failed { (has_failed keeper.new ≡ true) ↔ ((has_failed keeper.old ≡ true) ⊎ (result ≡ Err Refusal.Device)) }
+{
+    let sessions = new_sessions(alloc)?;
+    let live = live_in(alloc, keeper.state(), &boot)?;
+    let mut marks = Marks::of(alloc, live.as_slice())?;
+    let inputs = Vec::with_capacity(alloc, 2 * live.len())?;
+    let mut replies = Vec::with_capacity(alloc, 2 * live.len())?;
+    offer_boot(keeper, boot, moment)?;
+    let live = live.as_slice();
+    adopt(
+        keeper,
+        children,
+        &mut marks,
+        live,
+        moment,
+        inputs,
+        &mut replies,
+    )?;
+    Ok(Held {
+        marks,
+        sessions,
+        adopted: live.len(),
+    })
+}

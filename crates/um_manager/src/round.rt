@@ -1,0 +1,111 @@
+//! One turn.
+
+ghost use Rattle.std.specs.Prelude.{◌≡◌, ◌⊎◌, ◌↔◌, ◌≤◌, true, Err, IsTrue, length, drop};
+ghost use Rattle.um_keeper.specs.Keepers.{disk_in, state_in, has_failed, IsSamePlace};
+ghost use Rattle.um_manager.specs.Fates.{tick_at};
+ghost use Rattle.um_manager.specs.Places.{place_in};
+ghost use Rattle.um_manager.specs.Turns.{Turns, now};
+ghost use Rattle.um_state.specs.View.{input_of};
+
+use crate::connection::CONNECTIONS;
+use crate::fates::{hear, put};
+use crate::live::{is_live, live_numbers};
+use crate::marks::Marks;
+use crate::paying::pay_all;
+use crate::pieces::Piece;
+use crate::submitting::submit;
+use crate::taking::{room_all, take_all};
+use std::alloc::Global;
+use um_children::Children;
+use um_keeper::Keeper;
+use um_model::{End, Moment, ProcessNumber};
+use um_sector::Disk;
+use um_session::Session;
+use um_state::{Event, Happening, Input, Reply, Units};
+use um_wire::Refusal;
+
+/// The end of a process whose start was refused, and that is absent.
+const UNEXECUTED: End = End::Code(203);
+
+fn tick(moment: Moment) -> Input
+    ensures { input_of result ≡ tick_at moment }
+{
+    Input::new(moment, Event::Happened(Happening::Tick))
+}
+
+/// The replies behind so many.
+fn behind(replies: &[Reply], count: usize) -> &[Reply]
+    requires { count ≤ length replies.now }
+    ensures { result.now ≡ drop count replies.now }
+{
+    &replies[count..]
+}
+
+/// Forgets each of these numbers that isn't live any more. What isn't forgotten for a fault is forgotten by a later opening.
+pub fn forget_ended<C: Children>(children: &mut C, units: &Units, numbers: &[ProcessNumber])
+    ensures past { C.past children.new ≡ C.past children.old }
+    ensures whole { C.whole children.new ≡ C.whole children.old }
+    ensures honest { C.honest children.new ≡ C.honest children.old }
+{
+    for number in numbers {
+        if !is_live(units, *number) {
+            let _forgotten = children.forget(*number);
+        }
+    }
+}
+
+/// A turn: it hears the fates, takes the pieces, offers the inputs, carries out the actions, and puts out the replies.
+#[tactic(auto, using(crate::proofs::Turning::all_same))]
+pub fn turn<D: Disk, C: Children>(
+    alloc: Global,
+    keeper: &mut Keeper<D>,
+    children: &mut C,
+    marks: &mut Marks,
+    sessions: &mut [Session],
+    moment: Moment,
+    pieces: &[Piece],
+) -> Result<(), Refusal>
+    requires as_many { length sessions.old ≡ length pieces.now }
+    requires few { length sessions.old ≤ 64 }
+    ensures turns { Turns (place_in (D.honest (disk_in keeper.old)) keeper.old) result (C.honest children.old) (C.whole children.new) moment pieces.now
+        (now (state_in keeper.old) (C.past children.old) marks.old sessions.old (D.past (disk_in keeper.old)))
+        (now (state_in keeper.new) (C.past children.new) marks.new sessions.new (D.past (disk_in keeper.new))) }
+    ensures whole { IsTrue (C.whole children.new) → IsTrue (C.whole children.old) }
+    ensures honest { C.honest children.new ≡ C.honest children.old }
+    ensures place { IsSamePlace keeper.old keeper.new }
+    ensures disk { D.honest (disk_in keeper.new) ≡ D.honest (disk_in keeper.old) }
+    ensures failed { (has_failed keeper.new ≡ true) ↔ ((has_failed keeper.old ≡ true) ⊎ (result ≡ Err Refusal.Device)) }
+{
+    let Ok(live) = live_numbers(alloc, keeper.state().units()) else {
+        return Err(Refusal::NoMemory);
+    };
+    let room = 2 * live.len() + 1 + CONNECTIONS;
+    let Ok(mut inputs) = Vec::with_capacity(alloc, room) else {
+        return Err(Refusal::NoMemory);
+    };
+    let Ok(mut replies) = Vec::with_capacity(alloc, room) else {
+        return Err(Refusal::NoMemory);
+    };
+    let Ok(mut owed) = Vec::with_capacity(alloc, CONNECTIONS) else {
+        return Err(Refusal::NoMemory);
+    };
+    if room_all(sessions, pieces).is_err() {
+        return Err(Refusal::NoMemory);
+    }
+    hear(
+        children,
+        live.as_slice(),
+        marks,
+        UNEXECUTED,
+        moment,
+        &mut inputs,
+    );
+    put(&mut inputs, tick(moment));
+    let firsts = inputs.len();
+    take_all(alloc, sessions, pieces, moment, &mut inputs, &mut owed);
+    let submitted = submit(keeper, children, marks, inputs, &mut replies);
+    let replies = behind(replies.as_slice(), firsts);
+    pay_all(alloc, keeper, sessions, owed.as_slice(), replies);
+    forget_ended(children, keeper.state().units(), live.as_slice());
+    submitted
+}

@@ -1,0 +1,60 @@
+//! A script: one turn a step.
+
+ghost use Rattle.std.specs.Prelude.{◌≡◌, ◌⊎◌, ◌↔◌, true, Err, IsTrue, length};
+ghost use Rattle.um_keeper.specs.Keepers.{disk_in, state_in, has_failed, IsSamePlace};
+ghost use Rattle.um_manager.specs.Places.{place_in};
+ghost use Rattle.um_manager.specs.Scripts.{Runs};
+ghost use Rattle.um_manager.specs.Turns.{now};
+
+use crate::marks::Marks;
+use crate::pieces::Pieces;
+use crate::round::turn;
+use std::alloc::Global;
+use um_children::Children;
+use um_keeper::Keeper;
+use um_model::Moment;
+use um_sector::Disk;
+use um_session::Session;
+use um_wire::Refusal;
+
+/// The moment and the pieces of one turn.
+#[derive(Drop)]
+pub struct Step {
+    pub moment: Moment,
+    pub pieces: Pieces,
+}
+
+/// One turn a step, until one is refused.
+pub fn run<D: Disk, C: Children>(
+    alloc: Global,
+    keeper: &mut Keeper<D>,
+    children: &mut C,
+    marks: &mut Marks,
+    sessions: &mut [Session],
+    steps: &[Step],
+) -> Result<(), Refusal>
+    requires { length sessions.old ≡ 64 }
+    ensures runs { IsTrue (C.honest children.old) → IsTrue (C.whole children.new)
+        → Runs (place_in (D.honest (disk_in keeper.old)) keeper.old) steps.now result
+        (now (state_in keeper.old) (C.past children.old) marks.old sessions.old (D.past (disk_in keeper.old)))
+        (now (state_in keeper.new) (C.past children.new) marks.new sessions.new (D.past (disk_in keeper.new))) }
+    ensures whole { IsTrue (C.whole children.new) → IsTrue (C.whole children.old) }
+    ensures honest { C.honest children.new ≡ C.honest children.old }
+    ensures place { IsSamePlace keeper.old keeper.new }
+    ensures disk { D.honest (disk_in keeper.new) ≡ D.honest (disk_in keeper.old) }
+    ensures failed { (has_failed keeper.new ≡ true) ↔ ((has_failed keeper.old ≡ true) ⊎ (result ≡ Err Refusal.Device)) }
+{
+    for step in steps {
+        let pieces = step.pieces.as_slice();
+        turn(
+            alloc,
+            keeper,
+            children,
+            marks,
+            sessions,
+            step.moment,
+            pieces,
+        )?;
+    }
+    Ok(())
+}

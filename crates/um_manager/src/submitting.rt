@@ -1,0 +1,110 @@
+//! Inputs offered to the store.
+
+ghost use Rattle.std.specs.Prelude.{◌≡◌, ◌⊎◌, ◌↔◌, ◌+◌, ◌≤◌, ◌++◌, [], true, Err, IsTrue, map, replicate, vec_len, vec_capacity};
+ghost use Rattle.um_keeper.specs.Keepers.{disk_in, state_in, has_failed, IsSamePlace};
+ghost use Rattle.um_model.specs.Machine as model;
+ghost use Rattle.um_sector.specs.Refused.{IsLost};
+ghost use Rattle.um_state.specs.View.{reply_of};
+ghost use Rattle.um_wire.specs.Refusal.{refused_of};
+ghost use Rattle.um_manager.specs.Fates.{inputs_in};
+ghost use Rattle.um_manager.specs.Places.{place_in};
+ghost use Rattle.um_manager.specs.Stores.{refusal_of, StoreAnswers, Submits};
+ghost use Rattle.um_manager.specs.Turns.{now};
+
+use crate::marks::Marks;
+use crate::orders::{carry_all, put_reply};
+use um_children::Children;
+use um_keeper::Keeper;
+use um_sector::Disk;
+use um_state::{Input, Reply};
+use um_wire::Refusal;
+
+/// Why the store refuses a list of inputs as a whole.
+#[derive(Clone, Copy)]
+pub enum StoreFault {
+    NoMemory,
+    Device,
+    Reopen,
+}
+
+/// The cause of such a refusal.
+fn fault_of(refusal: Refusal) -> StoreFault
+    requires { IsLost refusal ⊎ (refusal ≡ Refusal.Reopen) }
+    ensures { refusal ≡ refusal_of result }
+{
+    match refusal {
+        Refusal::NoMemory => StoreFault::NoMemory,
+        Refusal::Device => StoreFault::Device,
+        _ => StoreFault::Reopen,
+    }
+}
+
+impl StoreFault {
+    fn refusal(self) -> Refusal
+        ensures { result ≡ refusal_of self }
+    {
+        match self {
+            StoreFault::NoMemory => Refusal::NoMemory,
+            StoreFault::Device => Refusal::Device,
+            StoreFault::Reopen => Refusal::Reopen,
+        }
+    }
+
+    /// What the manager answers: where the list as a whole found no memory each of its inputs did, and the store goes on.
+    fn answer(self) -> Result<(), Refusal>
+        ensures { StoreAnswers self result }
+    {
+        match self {
+            StoreFault::NoMemory => Ok(()),
+            StoreFault::Device => Err(Refusal::Device),
+            StoreFault::Reopen => Err(Refusal::Reopen),
+        }
+    }
+}
+
+/// So many replies are this refusal.
+fn deny(replies: &mut Vec<Reply>, count: usize, fault: StoreFault)
+    requires { vec_len replies.old + count ≤ vec_capacity replies.old }
+    ensures items { map reply_of replies.new.items ≡ map reply_of replies.old.items ++ replicate count (model.Refusal (refused_of (refusal_of fault))) }
+    ensures len { vec_len replies.new ≡ vec_len replies.old + count }
+{
+    for _ in 0..count {
+        put_reply(replies, Reply::Refused(fault.refusal()));
+    }
+}
+
+/// Offers the inputs, carries out the actions of the receipts, and notes the replies. Where the store refuses all of them each is
+/// answered so.
+pub fn submit<D: Disk, C: Children>(
+    keeper: &mut Keeper<D>,
+    children: &mut C,
+    marks: &mut Marks,
+    inputs: Vec<Input>,
+    replies: &mut Vec<Reply>,
+) -> Result<(), Refusal>
+    requires empty { replies.old.items ≡ [] }
+    requires room { vec_len replies.old + vec_len inputs ≤ vec_capacity replies.old }
+    ensures len { vec_len replies.new ≡ vec_len inputs }
+    ensures submits { Submits (place_in (D.honest (disk_in keeper.old)) keeper.old) result (inputs_in inputs.items) (map reply_of replies.new.items)
+        (C.honest children.old) (C.whole children.new)
+        (now (state_in keeper.old) (C.past children.old) marks.old [] (D.past (disk_in keeper.old)))
+        (now (state_in keeper.new) (C.past children.new) marks.new [] (D.past (disk_in keeper.new))) }
+    ensures whole { IsTrue (C.whole children.new) → IsTrue (C.whole children.old) }
+    ensures honest { C.honest children.new ≡ C.honest children.old }
+    ensures place { IsSamePlace keeper.old keeper.new }
+    ensures disk { D.honest (disk_in keeper.new) ≡ D.honest (disk_in keeper.old) }
+    ensures failed { (has_failed keeper.new ≡ true) ↔ ((has_failed keeper.old ≡ true) ⊎ (result ≡ Err Refusal.Device)) }
+{
+    let count = inputs.len();
+    match keeper.submit_all(inputs) {
+        Ok(answers) => {
+            carry_all(children, marks, keeper.state().units(), answers, replies);
+            Ok(())
+        }
+        Err(refusal) => {
+            let fault = fault_of(refusal);
+            deny(replies, count, fault);
+            fault.answer()
+        }
+    }
+}

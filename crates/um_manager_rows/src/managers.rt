@@ -1,0 +1,144 @@
+//! Managers over a disk and children in memory, and what is sent to them.
+use std::fmt::Debug;
+use std::process::Abort;
+use um_children::{Call, FakeChildren};
+use um_keeper::create;
+use um_manager::{Connection, Manager, Piece, Pieces, Step};
+use um_model::{Layout, Moment};
+use um_sector::MemDisk;
+use um_state::BootId;
+
+/// A manager in memory.
+pub type InMemory = Manager<MemDisk, FakeChildren>;
+
+/// A request that puts the file `lib/a.service`.
+pub const PUT: &str =
+    r#"{"verb":"put-file","path":"lib/a.service","text":"[Service]\nExecStart=/bin/sleep 9\n"}"#;
+
+/// A request to load the tree.
+pub const RELOAD: &str = r#"{"verb":"daemon-reload"}"#;
+
+/// A request to start `a.service`.
+pub const START: &str = r#"{"verb":"start","unit":"a"}"#;
+
+/// A request to show `a.service`.
+pub const SHOW: &str = r#"{"verb":"show","unit":"a"}"#;
+
+/// The reply to an event that was taken.
+pub const DONE: &str = r#"{"ok":true}"#;
+
+/// Asserts that the value is the wanted one.
+pub fn same<T: PartialEq + Debug + Drop>(rt: &impl Abort, got: T, wanted: T) {
+    assert_eq!(rt; got, wanted);
+}
+
+/// The moment of so many microseconds.
+pub fn at(rt: &impl Abort, micros: u64) -> Moment {
+    Moment::new(micros).expect(rt, "no moment")
+}
+
+/// The boot that all rows are in.
+pub fn boot(rt: &(impl AllocGlobal + Abort)) -> BootId {
+    let name = String::from_str(rt.alloc(), "one").expect(rt, "no memory");
+    BootId::new(name).expect(rt, "no boot")
+}
+
+/// A disk that holds a new store.
+pub fn new_store(rt: &(impl AllocGlobal + Abort)) -> MemDisk {
+    let mut disk = MemDisk::new(rt.alloc(), 641).expect(rt, "no memory");
+    let layout = Layout::new(64, 512).expect(rt, "no layout");
+    create(rt.alloc(), &mut disk, layout).expect(rt, "not created");
+    disk
+}
+
+/// The manager that is opened over a disk, with children of which none was started.
+pub fn over(rt: &(impl AllocGlobal + Abort), disk: MemDisk) -> InMemory {
+    let children = FakeChildren::new(rt.alloc());
+    match Manager::open(rt.alloc(), disk, children, boot(rt), at(rt, 0)) {
+        Ok(manager) => manager,
+        Err(_) => rt.abort(),
+    }
+}
+
+/// The connection of this number.
+pub fn connection(rt: &impl Abort, number: usize) -> Connection {
+    Connection::new(number).expect(rt, "no connection")
+}
+
+/// The frames of these texts, each behind its length in four bytes, the highest first.
+pub fn frames(rt: &(impl AllocGlobal + Abort), texts: &[&str]) -> Vec<u8> {
+    let mut bytes = Vec::new(rt.alloc());
+    for text in texts {
+        let length = u32::try_from(text.len()).unwrap_or(0);
+        bytes
+            .extend_from_slice(&length.to_be_bytes())
+            .expect(rt, "no memory");
+        bytes
+            .extend_from_slice(text.as_bytes())
+            .expect(rt, "no memory");
+    }
+    bytes
+}
+
+/// The bytes as what came of a connection.
+pub fn piece(rt: &(impl AllocGlobal + Abort), bytes: &[u8]) -> Piece {
+    let mut copy = Vec::new(rt.alloc());
+    copy.extend_from_slice(bytes).expect(rt, "no memory");
+    Piece::Bytes(copy)
+}
+
+/// A turn in which these bytes come of connection 0.
+pub fn step(rt: &(impl AllocGlobal + Abort), bytes: &[u8]) -> Step {
+    let mut pieces = Pieces::none(rt.alloc()).expect(rt, "no memory");
+    pieces.set(connection(rt, 0), piece(rt, bytes));
+    Step {
+        moment: at(rt, 0),
+        pieces,
+    }
+}
+
+/// So many turns in which nothing comes, behind these.
+pub fn with_silent(
+    rt: &(impl AllocGlobal + Abort),
+    mut steps: Vec<Step>,
+    count: usize,
+) -> Vec<Step> {
+    for _ in 0..count {
+        let silent = step(rt, &[]);
+        steps.push(silent).expect(rt, "no memory");
+    }
+    steps
+}
+
+/// Plays these requests of connection 0, and a turn for each.
+pub fn play(rt: &(impl AllocGlobal + Abort), manager: &mut InMemory, requests: &[&str]) {
+    let bytes = frames(rt, requests);
+    let mut steps = Vec::new(rt.alloc());
+    steps.push(step(rt, &bytes)).expect(rt, "no memory");
+    let steps = with_silent(rt, steps, requests.len());
+    manager.run_script(&steps).expect(rt, "refused");
+}
+
+/// Asserts that just the frames of these texts were put out for a connection, and that its session hasn't failed.
+pub fn has_output(
+    rt: &(impl AllocGlobal + Abort),
+    manager: &mut InMemory,
+    number: usize,
+    wanted: &[&str],
+) {
+    let output = manager.output(connection(rt, number));
+    same(rt, output.bytes.as_slice(), frames(rt, wanted).as_slice());
+    same(rt, output.failed, false);
+}
+
+/// The numbers that were started, in their order.
+pub fn started(rt: &(impl AllocGlobal + Abort), manager: InMemory) -> Vec<u64> {
+    let (_, children) = manager.into_parts();
+    let mut numbers = Vec::new(rt.alloc());
+    for call in children.calls() {
+        if let Call::Spawned { number, .. } = call {
+            numbers.push(number.get()).expect(rt, "no memory");
+        }
+    }
+    numbers
+}

@@ -1,0 +1,71 @@
+-- What was read of the connections below a number.
+use Rattle.std.proofs.Common.{◌≡◌, ◌≢◌, ◌<◌, ◌≤◌, ◌++◌, ◌+◌, ℕ, zero, suc, List, [], Bool, false, Option, Some, None, true, refl, ap, sym, ◌∙◌, append_assoc, append-nil, slice_get, arith, inl, inr}
+use Rattle.std.proofs.Math.Numerals.{add-one}
+use Rattle.std.proofs.lemmas.Bool.{cases_lt}
+use Rattle.std.proofs.lemmas.List.Elements.{filter-append}
+use Rattle.um_gate.specs.Events.{Event}
+use Rattle.um_manager.specs.declared.pieces.Piece.{Piece}
+use Rattle.um_manager.specs.declared.pieces.Piece.TheVariants.{Nothing}
+use Rattle.um_serve.specs.Rounds.{reads_below, reads_one, is_heard, heard_of}
+
+-- pieces that agree below it give the same reads
+reads_same : (n : ℕ) (which : List Bool) (old new : List Piece) → ((i : ℕ) → i < n → slice_get new i ≡ slice_get old i)
+    → reads_below n which new ≡ reads_below n which old
+unfolding reads_below
+reads_same zero which old new same = refl
+reads_same (suc n) which old new same =
+    ap (λ es. es ++ reads_one n (slice_get which n) (slice_get new n)) (reads_same n which old new (λ i below. same i (omega (arith, below))))
+    ∙ ap (λ p. reads_below n which old ++ reads_one n (slice_get which n) p) (same n (omega arith))
+
+one_more : (n : ℕ) (which : List Bool) (pieces : List Piece) → reads_below (n + 1) which pieces ≡ reads_below n which pieces ++ reads_one n (slice_get which n) (slice_get pieces n)
+unfolding reads_below
+one_more n which pieces = ap (λ k. reads_below k which pieces) (add-one n)
+
+-- no read is below the first
+pub reads_none : (past : List Event) (which : List Bool) (pieces : List Piece) → past ≡ past ++ reads_below 0 which pieces
+unfolding reads_below
+reads_none past which pieces = sym (append-nil past)
+
+below_lt : (i n : ℕ) → i < n → i ≡ n → ⊥
+below_lt i n below same = omega (arith, below, same)
+
+-- one more read
+pub reads_more : (past0 past1 past2 : List Event) (n : ℕ) (which : List Bool) (old new : List Piece) (is_open : Bool) (piece : Piece)
+    → past2 ≡ past1 ++ reads_one n (Some is_open) (Some piece) → past1 ≡ past0 ++ reads_below n which old → slice_get which n ≡ Some is_open
+    → slice_get new n ≡ Some piece → ((i : ℕ) → i ≢ n → slice_get new i ≡ slice_get old i) → past2 ≡ past0 ++ reads_below (n + 1) which new
+reads_more past0 past1 past2 n which old new is_open piece more before is_it piece_is others =
+    more ∙ ap (λ es. es ++ reads_one n (Some is_open) (Some piece)) before ∙ append_assoc past0 (reads_below n which old) (reads_one n (Some is_open) (Some piece))
+    ∙ ap (λ es. past0 ++ es)
+    (sym
+    (one_more n which new ∙ ap (λ es. es ++ reads_one n (slice_get which n) (slice_get new n)) (reads_same n which old new (λ i below. others i (below_lt i n below)))
+    ∙ ap (λ o. reads_below n which old ++ reads_one n o (slice_get new n)) is_it
+    ∙ ap (λ p. reads_below n which old ++ reads_one n (Some is_open) p) piece_is))
+
+abbrev truth : Option Bool → Bool
+truth (Some b) = b
+truth None = true
+
+-- nothing came of one more that isn't open
+pub only_more : (k : ℕ) (which : List Bool) (old new : List Piece) (is_open : Bool) (piece : Piece)
+    → ((n : ℕ) → n < k → slice_get which n ≡ Some false → slice_get old n ≡ Some Nothing) → slice_get which k ≡ Some is_open
+    → slice_get new k ≡ Some piece → (is_open ≡ false → piece ≡ Nothing) → ((i : ℕ) → i ≢ k → slice_get new i ≡ slice_get old i)
+    → (n : ℕ) → n < k + 1 → slice_get which n ≡ Some false → slice_get new n ≡ Some Nothing
+only_more k which old new is_open piece before is_it piece_is closed others n below shut =
+    let same : k ≤ n → n ≡ k = λ ge. omega (arith, below, ge) in
+    let last : n ≡ k → slice_get new n ≡ Some Nothing = λ e. ap (λ i. slice_get new i) e ∙ piece_is ∙ ap Some (closed (ap truth (sym is_it ∙ ap (λ i. slice_get which i) (sym e) ∙ shut))) in
+    elim (cases_lt n k) [ inl lt ↦ others n (below_lt n k lt) ∙ before n lt shut | inr ge ↦ last (same ge) ]
+
+-- reads are heard
+one_heard : (n : ℕ) (is_open : Option Bool) (piece : Option Piece) → heard_of (reads_one n is_open piece) ≡ reads_one n is_open piece
+one_heard n None piece = refl
+one_heard n (Some false) piece = refl
+one_heard n (Some true) None = refl
+one_heard n (Some true) (Some piece) = refl
+
+pub all_heard : (n : ℕ) (which : List Bool) (pieces : List Piece) → heard_of (reads_below n which pieces) ≡ reads_below n which pieces
+unfolding reads_below
+all_heard zero which pieces = refl
+all_heard (suc n) which pieces =
+    filter-append is_heard (reads_below n which pieces) (reads_one n (slice_get which n) (slice_get pieces n))
+    ∙ ap (λ es. es ++ heard_of (reads_one n (slice_get which n) (slice_get pieces n))) (all_heard n which pieces)
+    ∙ ap (λ es. reads_below n which pieces ++ es) (one_heard n (slice_get which n) (slice_get pieces n))

@@ -1,0 +1,2 @@
+mod BelowLaws
+mod RoundLaws

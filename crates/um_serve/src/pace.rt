@@ -1,0 +1,64 @@
+//! When to look again.
+
+ghost use Rattle.std.specs.Prelude.{◌≡◌, ◌≤◌, ◌+◌, ◌-◌, ◌/◌, min, if◌then◌else◌};
+
+use std::time::Duration;
+use um_model::Moment;
+
+/// Behind a start or an end it looks again after so many microseconds.
+const SOONEST: u64 = 500;
+
+/// While processes are live it looks again after so many microseconds at most.
+const LATEST: u64 = 10_000;
+
+/// Without a live process, and without a deadline, it sleeps so many microseconds.
+const IDLE: u64 = 1_000_000;
+
+/// How long is slept between rounds in which nothing came.
+///
+/// Nothing wakes a manager when a process starts or ends. So while any is live it looks again soon behind a start or an end, and then ever
+/// later.
+#[derive(Clone, Copy, Debug)]
+pub struct Pace {
+    /// In microseconds.
+    wait: u64,
+    ghost bound: { wait ≤ 10000 },
+}
+
+/// How long it is from one moment to another, in microseconds; 0 where that is past.
+fn until(now: Moment, micros: u64) -> u64
+    ensures { result ≡ micros - now }
+{
+    micros.saturating_sub(now.micros())
+}
+
+impl Pace {
+    /// Behind a start.
+    pub fn new() -> Pace
+        ensures { result.wait ≡ 500 }
+    {
+        Pace { wait: SOONEST }
+    }
+
+    /// A process started or ended.
+    pub fn begin(&mut self)
+        ensures { self.new.wait ≡ 500 }
+    {
+        self.wait = SOONEST;
+    }
+
+    /// How long is slept now, where processes are live or none is, and the next deadline is at so many microseconds.
+    pub fn next(&mut self, is_live: bool, now: Moment, deadline: Option<u64>) -> Duration
+        ensures { self.new.wait ≡ (if is_live then min (self.old.wait + self.old.wait / 2) 10000 else self.old.wait) }
+    {
+        let longest = match deadline {
+            Some(micros) => until(now, micros).min(IDLE),
+            None => IDLE,
+        };
+        let wait = if is_live { self.wait } else { IDLE };
+        if is_live {
+            self.wait = (self.wait + self.wait / 2).min(LATEST);
+        }
+        Duration::from_micros(wait.min(longest))
+    }
+}

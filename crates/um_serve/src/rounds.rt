@@ -1,0 +1,180 @@
+//! Rounds over a gate.
+
+ghost use Rattle.std.specs.Prelude.{◌≡◌, ◌⊎◌, ◌↔◌, List, true, false, Err, IsTrue, IfOk, OnOk, OnErr, length};
+ghost use Rattle.um_keeper.specs.Keepers.{disk_in, state_in, has_failed, IsSamePlace};
+ghost use Rattle.um_manager.specs.Places.{place_in};
+ghost use Rattle.um_manager.specs.Turns.{now};
+ghost use Rattle.um_serve.specs.Rounds.{Round, Trusts, Serves, ServesOne, IsCount, Gathers, served, heard_of, EmptiesAll, is_want};
+
+use crate::backlog::Backlog;
+use crate::blanks::{Blank, fill_up};
+use crate::listening::{connection, has_come, listen};
+use std::alloc::{AllocError, Global};
+use um_children::Children;
+use um_gate::{CONNECTIONS, Gate, Moments};
+use um_manager::{Manager, Output, Pieces};
+use um_sector::Disk;
+use um_wire::Refusal;
+
+/// What goes from one round to the next.
+#[derive(Drop)]
+pub struct Rounds {
+    alloc: Global,
+    /// What came of the connections.
+    pieces: Pieces,
+    /// A turn found no memory, and took the pieces not: they are offered again, before anything is read.
+    is_owed: bool,
+    backlog: Backlog,
+    blanks: Vec<Blank>,
+    /// The last round read something, or put something out.
+    was_busy: bool,
+}
+
+/// A turn found no memory for itself.
+fn wants_memory(turned: &Result<(), Refusal>) -> bool
+    ensures { result ≡ is_want turned.now }
+{
+    matches!(turned, Err(Refusal::NoMemory))
+}
+
+/// Puts out what the manager has for each connection, as far as it is taken, and tells whether there was anything.
+fn speak<D: Disk, C: Children, G: Gate>(
+    manager: &mut Manager<D, C>,
+    gate: &mut G,
+    backlog: &mut Backlog,
+) -> bool
+    ensures empties { EmptiesAll manager.old.sessions.items manager.new.sessions.items }
+    ensures keeper { manager.new.keeper ≡ manager.old.keeper }
+    ensures children { manager.new.children ≡ manager.old.children }
+    ensures marks { manager.new.marks ≡ manager.old.marks }
+    ensures heard { IsTrue (G.honest gate.old) → IsTrue (G.whole gate.new) → heard_of (G.past gate.new) ≡ heard_of (G.past gate.old) }
+    ensures events { IsTrue (G.whole gate.new) → IsTrue (G.whole gate.old) }
+    ensures gate { G.honest gate.new ≡ G.honest gate.old }
+{
+    let mut has_spoken = false;
+    for number in 0..CONNECTIONS {
+        let Output { bytes, failed } = manager.output(connection(number));
+        if !bytes.is_empty() {
+            has_spoken = true;
+        }
+        backlog.put(gate, number, bytes, failed);
+    }
+    has_spoken
+}
+
+impl Rounds {
+    /// No round was yet.
+    pub fn new(alloc: Global) -> Result<Rounds, AllocError>
+        ensures { IfOk result (λ rounds. rounds.is_owed ≡ false) }
+    {
+        Ok(Rounds {
+            alloc,
+            pieces: Pieces::none(alloc)?,
+            is_owed: false,
+            backlog: Backlog::new(alloc)?,
+            blanks: Vec::new(alloc),
+            was_busy: false,
+        })
+    }
+
+    /// Whether the last round read something or put something out: then another one may have more to do.
+    pub fn was_busy(&self) -> bool
+        ensures { result ≡ self.now.was_busy }
+    {
+        self.was_busy
+    }
+
+    /// An accept and a read of each open connection, unless pieces are owed. Where there is no room for what a read may give nothing is
+    /// done.
+    fn gather<G: Gate>(&mut self, gate: &mut G) -> Result<(), AllocError>
+        ensures gathers { OnOk result (Gathers (G.honest gate.old) (G.whole gate.new) self.old.is_owed self.old.pieces self.new.pieces (G.past gate.old) (G.past gate.new)) }
+        ensures owed { self.new.is_owed ≡ self.old.is_owed }
+        ensures pieces { OnErr result (self.new.pieces ≡ self.old.pieces) }
+        ensures past { OnErr result (G.past gate.new ≡ G.past gate.old) }
+        ensures events { IsTrue (G.whole gate.new) → IsTrue (G.whole gate.old) }
+        ensures gate { G.honest gate.new ≡ G.honest gate.old }
+    {
+        self.was_busy = false;
+        if self.is_owed {
+            return Ok(());
+        }
+        fill_up(self.alloc, &mut self.blanks)?;
+        let open = gate.accept();
+        listen(gate, open, &mut self.blanks, &mut self.pieces);
+        self.was_busy = has_come(&self.pieces, &mut self.backlog);
+        Ok(())
+    }
+
+    /// An accept, a read of each open connection, a turn, and the writes. After a turn that found no memory for itself nothing is
+    /// read until it was taken.
+    fn round<D: Disk, C: Children, G: Gate, M: Moments>(
+        &mut self,
+        manager: &mut Manager<D, C>,
+        gate: &mut G,
+        clock: &mut M,
+    ) -> Result<(), Refusal>
+        ensures serves { Trusts (C.honest manager.old.children) (C.whole manager.new.children) (G.honest gate.old) (G.whole gate.new) (M.honest clock.old) (M.whole clock.new)
+            → ServesOne (place_in (D.honest (disk_in manager.old.keeper)) manager.old.keeper) result
+            (served (G.past gate.old) (M.given clock.old) self.old.is_owed self.old.pieces
+            (now (state_in manager.old.keeper) (C.past manager.old.children) manager.old.marks manager.old.sessions.items (D.past (disk_in manager.old.keeper))))
+            (served (G.past gate.new) (M.given clock.new) self.new.is_owed self.new.pieces
+            (now (state_in manager.new.keeper) (C.past manager.new.children) manager.new.marks manager.new.sessions.items (D.past (disk_in manager.new.keeper)))) }
+        ensures whole { IsTrue (C.whole manager.new.children) → IsTrue (C.whole manager.old.children) }
+        ensures honest { C.honest manager.new.children ≡ C.honest manager.old.children }
+        ensures events { IsTrue (G.whole gate.new) → IsTrue (G.whole gate.old) }
+        ensures gate { G.honest gate.new ≡ G.honest gate.old }
+        ensures moments { IsTrue (M.whole clock.new) → IsTrue (M.whole clock.old) }
+        ensures clock { M.honest clock.new ≡ M.honest clock.old }
+        ensures place { IsSamePlace manager.old.keeper manager.new.keeper }
+        ensures disk { D.honest (disk_in manager.new.keeper) ≡ D.honest (disk_in manager.old.keeper) }
+        ensures failed { (has_failed manager.new.keeper ≡ true) ↔ ((has_failed manager.old.keeper ≡ true) ⊎ (result ≡ Err Refusal.Device)) }
+    {
+        match self.gather(gate) {
+            Ok(()) => {}
+            Err(_) => return Err(Refusal::NoMemory),
+        }
+        let turned = manager.turn(clock.moment(), &self.pieces);
+        self.is_owed = wants_memory(&turned);
+        if !self.is_owed {
+            let has_spoken = speak(manager, gate, &mut self.backlog);
+            self.was_busy |= has_spoken;
+        }
+        turned
+    }
+}
+
+/// So many rounds; a refusal ends them.
+///
+/// E15 where a round found no memory, before anything was read, or a turn none for itself: the next call begins with that turn. E16 and
+/// E17 of the store, once the replies are handed out.
+pub fn serve<D: Disk, C: Children, G: Gate, M: Moments>(
+    manager: &mut Manager<D, C>,
+    gate: &mut G,
+    clock: &mut M,
+    rounds: &mut Rounds,
+    limit: usize,
+) -> Result<(), Refusal>
+    ensures serves { Trusts (C.honest manager.old.children) (C.whole manager.new.children) (G.honest gate.old) (G.whole gate.new) (M.honest clock.old) (M.whole clock.new)
+        → (all : List Round) × IsCount result (length all) limit × Serves (place_in (D.honest (disk_in manager.old.keeper)) manager.old.keeper) all result
+        (served (G.past gate.old) (M.given clock.old) rounds.old.is_owed rounds.old.pieces
+        (now (state_in manager.old.keeper) (C.past manager.old.children) manager.old.marks manager.old.sessions.items (D.past (disk_in manager.old.keeper))))
+        (served (G.past gate.new) (M.given clock.new) rounds.new.is_owed rounds.new.pieces
+        (now (state_in manager.new.keeper) (C.past manager.new.children) manager.new.marks manager.new.sessions.items (D.past (disk_in manager.new.keeper)))) }
+    ensures whole { IsTrue (C.whole manager.new.children) → IsTrue (C.whole manager.old.children) }
+    ensures honest { C.honest manager.new.children ≡ C.honest manager.old.children }
+    ensures events { IsTrue (G.whole gate.new) → IsTrue (G.whole gate.old) }
+    ensures gate { G.honest gate.new ≡ G.honest gate.old }
+    ensures moments { IsTrue (M.whole clock.new) → IsTrue (M.whole clock.old) }
+    ensures clock { M.honest clock.new ≡ M.honest clock.old }
+    ensures place { IsSamePlace manager.old.keeper manager.new.keeper }
+    ensures disk { D.honest (disk_in manager.new.keeper) ≡ D.honest (disk_in manager.old.keeper) }
+    ensures failed { (has_failed manager.new.keeper ≡ true) ↔ ((has_failed manager.old.keeper ≡ true) ⊎ (result ≡ Err Refusal.Device)) }
+{
+    for _ in 0..limit {
+        match rounds.round(manager, gate, clock) {
+            Ok(()) => {}
+            Err(refusal) => return Err(refusal),
+        }
+    }
+    Ok(())
+}
