@@ -1,4 +1,4 @@
-# make run: shows the program's main job; where no proved program stands, one is built without its proofs (two minutes).
+# make run: shows the program's main job; where no proved program stands, one is built without its proofs (some two minutes).
 # make unproved: builds a program without its proofs, out/unproved/umd.
 # make umd: builds the proved program, crates/umd/out/umd, and tells crate by crate how far it is.
 # make test: the whole gate. Proves every crate and its tests from nothing, tries each must-fail edit, and runs the tests and
