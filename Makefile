@@ -1,8 +1,8 @@
 # make run: shows the program's main job; where no proved program stands, one is built without its proofs (some two minutes).
 # make unproved: builds a program without its proofs, out/unproved/umd.
 # make umd: builds the proved program, crates/umd/out/umd, and tells crate by crate how far it is.
-# make test: the whole gate. Proves every crate and its tests from nothing, tries each must-fail edit, and runs the tests and
-# the program as two compilers build it.
+# make test: the whole gate. Plays the rows with real processes, sockets and files against a program built without its proofs; then proves
+# every crate and its tests from nothing, tries each must-fail edit, and runs the tests and the program as two compilers build it.
 # make edits NAME ..: tries the further edits of these crates, which stand in edits/NAME; with no name those of every crate.
 # make runner-rows: plays the rows of a runner against the proved program, with real processes.
 # make serve-rows: plays the rows of a served store against the proved program, with real processes, sockets and files.
@@ -20,6 +20,10 @@ unproved:
 	@tools/unproved umd
 
 test:
+	@tools/unproved umd
+	@tools/runner-rows out/unproved/umd
+	@tools/ctl-rows out/unproved/umd
+	@tools/serve-rows out/unproved/umd
 	rt ci
 
 # the words behind 'edits' name crates, and aren't built

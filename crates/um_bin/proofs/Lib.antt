@@ -1,2 +1,4 @@
+mod Opened
 pub mod Pieces
+mod Results
 pub mod Served

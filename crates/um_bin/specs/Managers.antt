@@ -6,16 +6,16 @@ use Rattle.um_model.specs.Service.{Action}
 use Rattle.um_model.specs.Frames.{Answers, frame_of, input_of}
 use Rattle.um_model.specs.Replies.{reply_text}
 use Rattle.um_model.specs.declared.frames.Ending.{Ending}
-use Rattle.um_engine.specs.Engine.{state_in, size_in}
+use Rattle.um_keeper.specs.Keepers.{state_in, size_in}
 use Rattle.um_state.specs.View.{action_of}
 use Rattle.um_bin.specs.Streams.{WritesFrom, BeginsFrom}
 use Rattle.um_bin.specs.declared.serving.Manager.{Manager}
 
 abbrev pub state_of : Manager → State
-state_of m = state_in m.engine
+state_of m = state_in m.keeper
 
 abbrev pub size_of : Manager → ℕ
-size_of m = size_in m.engine
+size_of m = size_in m.keeper
 
 abbrev pub kept_of : Manager → List Action
 kept_of m = map action_of m.kept.items

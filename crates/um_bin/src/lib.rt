@@ -1,9 +1,11 @@
 //! The parts of the program `umd`: `memory` writes exactly the frames of the replies to what it reads, however that is cut.
 #![tactic(auto)]
 
+mod actions;
 mod frames;
 mod laws;
 mod serving;
+mod store;
 
 pub use laws::{a_stream_has_one_reading, a_stream_is_served_in_one_way};
 pub use serving::memory;

@@ -42,6 +42,15 @@ is_final (Running pid) = false
 is_final (Ended end) = true
 is_final Barred = true
 
+-- it runs, and no signal waits for its pid: what is told of it changes by a file alone
+abbrev pub is_settled : Standing → Option Signal → Bool
+is_settled (Running pid) None = true
+is_settled (Running pid) (Some signal) = false
+is_settled Silent kept = false
+is_settled Taken kept = false
+is_settled (Ended end) kept = false
+is_settled Barred kept = false
+
 -- of two signals the one that no process outlives
 abbrev pub stronger : Option Signal → Signal → Signal
 stronger (Some Kill) signal = Kill

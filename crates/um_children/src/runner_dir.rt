@@ -1,4 +1,4 @@
-ghost use Rattle.std.specs.Prelude.{◌≡◌, ◌⊎◌, [], true, false, None, IfOk};
+ghost use Rattle.std.specs.Prelude.{◌≡◌, ◌⊎◌, [], true, false, None, Ok, IfOk};
 ghost use Rattle.std.proofs.lemmas.Bool.{false≢true};
 ghost use Rattle.um_model.specs.Children.{is_absent};
 ghost use Rattle.um_children.specs.Faults.{CountsFault};
@@ -15,7 +15,7 @@ use std::io::{ErrorKind, Read};
 use std::os::unix::fs::{DirBuilderExt, PermissionsExt};
 use std::process::{Command, Processes, Stdio};
 use std::time::Clock;
-use std::{fs, io};
+use std::{fs, io, mem};
 use um_keeper::SpawnOrder;
 use um_model::{Claimant, Fate, ProcessNumber, RunnerFile, Signal};
 use um_runner::{claim, file_path, pid_in, read_claim, status_in};
@@ -29,7 +29,7 @@ const MODE: u32 = 0o700;
 /// and claims alone say something here: that a runner does what its files tell is a premise of what is proved above.
 ///
 /// Fates are asked in rounds, each in ascending order: a number that isn't above the last one begins a round, and the folder is looked
-/// at once a round. Where nothing came, a fate costs no call of the system.
+/// at once a round. Where nothing came, a fate costs no call of the system; and `has_news` tells whether a round is worth its while.
 #[derive(Drop)]
 pub struct RunnerDir<'a, R: Files + Processes + Clock> {
     rt: &'a R,
@@ -41,6 +41,8 @@ pub struct RunnerDir<'a, R: Files + Processes + Clock> {
     watch: Watch,
     /// The number that was asked last.
     last: u64,
+    /// The next round may tell or do something even where no file comes.
+    is_restless: bool,
     failures: u64,
 }
 
@@ -127,6 +129,7 @@ impl<'a, R: Files + Processes + Clock> RunnerDir<'a, R> {
             known: BTreeMap::new(alloc),
             watch: Watch::NEW,
             last: u64::MAX,
+            is_restless: true,
             failures: 0,
         })
     }
@@ -136,6 +139,17 @@ impl<'a, R: Files + Processes + Clock> RunnerDir<'a, R> {
         ensures { result ≡ self.now.failures }
     {
         self.failures
+    }
+
+    /// Whether a round of fates may tell or do anything that the last one didn't: a file may have come, a number is starting or has an end
+    /// or an absence that is told again, a signal waits for its pid, a call of the last round failed, or one was started or signalled behind
+    /// it. It costs one look at the folder's time, and none where one of the others is known.
+    ///
+    /// What is kept of the last round has to be that of all numbers whose fate is asked.
+    pub fn has_news(&self) -> bool
+        ensures { self.now.is_restless ≡ true → result ≡ true }
+    {
+        self.is_restless || self.watch.has_changed(self.rt, self.folder.as_str())
     }
 
     /// Counts the call where it failed.
@@ -222,21 +236,37 @@ impl<'a, R: Files + Processes + Clock> RunnerDir<'a, R> {
         }
     }
 
-    fn find(&mut self, number: ProcessNumber, claim: bool) -> Result<Fate, ChildFault>
-        ensures claim { claim ≡ false → IfOk result (λ fate. is_absent fate ≡ false) }
+    /// Looks at the folder where the number begins a round.
+    fn begin(&mut self, number: ProcessNumber)
         ensures failures { self.new.failures ≡ self.old.failures }
     {
         if number.get() <= self.last {
             self.watch.look(self.rt, self.folder.as_str());
+            self.is_restless = false;
         }
         self.last = number.get();
+    }
+
+    /// What is known of the number, once it was claimed where it has to be, and a kept signal was sent where it can be.
+    fn learn(&self, number: ProcessNumber, claim: bool) -> Result<Known, ChildFault> {
         let mut known = self.look(number)?;
         if claim && known.standing == Standing::Silent {
             known.standing = self.bar(number)?;
         }
-        let known = self.send_kept(known);
+        Ok(self.send_kept(known))
+    }
+
+    fn find(&mut self, number: ProcessNumber, claim: bool) -> Result<Fate, ChildFault>
+        ensures claim { claim ≡ false → IfOk result (λ fate. is_absent fate ≡ false) }
+        ensures failures { self.new.failures ≡ self.old.failures }
+        ensures restless { self.new.is_restless ≡ false → result ≡ Ok Fate.Executed }
+    {
+        self.begin(number);
+        let was_restless = mem::replace(&mut self.is_restless, true);
+        let known = self.learn(number, claim)?;
         // where there is no memory for it the files are read again
-        let _unkept = self.known.insert(number.get(), known);
+        let is_kept = self.known.insert(number.get(), known).is_ok();
+        self.is_restless = was_restless || !is_kept || !known.is_settled();
         Ok(known.standing.fate(claim))
     }
 
@@ -315,11 +345,13 @@ impl<'a, R: Files + Processes + Clock> Children for RunnerDir<'a, R> {
     ghost absence_is_final = { λ _ never. absurd (false≢true never) };
 
     fn spawn(&mut self, order: SpawnOrder) -> Result<(), ChildFault> {
+        self.is_restless = true;
         let answer = self.start(&order);
         self.count(answer)
     }
 
     fn signal(&mut self, number: ProcessNumber, signal: Signal) -> Result<(), ChildFault> {
+        self.is_restless = true;
         let answer = self.deliver(number, signal);
         self.count(answer)
     }

@@ -1,7 +1,7 @@
 //! How a number stands by the files of its runner.
 
 ghost use Rattle.std.specs.Prelude.{◌≡◌, false};
-ghost use Rattle.um_children.specs.Standings.{by_pid, claimed, fate_of, is_final, stronger};
+ghost use Rattle.um_children.specs.Standings.{by_pid, claimed, fate_of, is_final, is_settled, stronger};
 ghost use Rattle.um_model.specs.Children.{is_absent};
 
 use um_model::{Claimant, End, Fate, Signal};
@@ -43,6 +43,13 @@ impl Known {
             kept: None,
             changes: None,
         }
+    }
+
+    /// Whether nothing but a file can change what is told of it, or what is done for it: it runs, and no signal waits.
+    pub fn is_settled(self) -> bool
+        ensures { result ≡ is_settled self.standing self.kept }
+    {
+        matches!(self.standing, Standing::Running(_)) && self.kept.is_none()
     }
 }
 

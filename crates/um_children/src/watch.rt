@@ -17,11 +17,15 @@ pub struct Watch {
     changes: u64,
 }
 
+fn folder_time<R: Files>(rt: &R, folder: &str) -> io::Result<SystemTime> {
+    fs::metadata(rt, folder)?.modified()
+}
+
 /// The folder's time, where it isn't young.
 fn settled_time<R: Files + Clock>(rt: &R, folder: &str) -> io::Result<Option<SystemTime>> {
     // read first, so that the time may only look younger than it is
     let now = SystemTime::now(rt)?;
-    let time = fs::metadata(rt, folder)?.modified()?;
+    let time = folder_time(rt, folder)?;
     let is_old = match now.duration_since(time) {
         Ok(age) => age.as_millis() >= YOUNG_MILLIS,
         Err(_) => false,
@@ -39,6 +43,15 @@ impl Watch {
     /// How often anything may have come into the folder.
     pub fn changes(&self) -> u64 {
         self.changes
+    }
+
+    /// Whether anything may have come since the last look. Where the folder's time can't be seen, it may.
+    pub fn has_changed<R: Files>(&self, rt: &R, folder: &str) -> bool {
+        match (self.time, folder_time(rt, folder)) {
+            // it wasn't young at that look, and so whatever came since has a later time
+            (Some(seen), Ok(time)) => time != seen,
+            _ => true,
+        }
     }
 
     /// Looks at the folder's time: files that were read before have to be read again, unless it is as at the last look.

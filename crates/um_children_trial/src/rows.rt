@@ -22,6 +22,9 @@ const TWICE: &str = "twice";
 /// A third one, for a start without a runner.
 const ALONE: &str = "alone";
 
+/// A fourth one, for a process of which nothing but its files tell.
+const SEEN: &str = "seen";
+
 type Dir<'a> = RunnerDir<'a, HostRuntime>;
 
 fn number(n: u64) -> anyhow::Result<ProcessNumber> {
@@ -116,6 +119,52 @@ fn ends(rt: &HostRuntime, orders: &mut Orders, children: &mut Dir<'_>) -> anyhow
     println!(rt; "its pid file: {pid}")?;
     let lines = "Environment=\"MARK=a b\"\nExecStart=/bin/sh -c 'test \"$MARK\" = \"a b\"'";
     row(rt, orders, children, "environment", lines)
+}
+
+/// Waits until a round of fates leaves no news, and tells whether there is any.
+fn wait_for_quiet(
+    rt: &HostRuntime,
+    children: &mut Dir<'_>,
+    number: ProcessNumber,
+) -> anyhow::Result<bool> {
+    for _ in 0..POLLS {
+        children.fate(number, false)?;
+        if !children.has_news() {
+            return Ok(false);
+        }
+        pause(rt);
+    }
+    Ok(true)
+}
+
+/// Waits until there is news, without asking a fate, and tells whether there is any.
+fn wait_for_news(rt: &HostRuntime, children: &Dir<'_>) -> bool {
+    for _ in 0..POLLS {
+        if children.has_news() {
+            return true;
+        }
+        pause(rt);
+    }
+    false
+}
+
+/// A process is news from its start until it runs, and once it has ended.
+fn news(rt: &HostRuntime, alloc: Global) -> anyhow::Result<()> {
+    let mut children = open(rt, SEEN)?;
+    let number = start(
+        &mut Orders::new(alloc)?,
+        &mut children,
+        "ExecStart=/bin/sleep 1",
+    )?;
+    let starting = children.has_news();
+    wait_for_pid(rt, &mut children, number)?;
+    let running = wait_for_quiet(rt, &mut children, number)?;
+    let ended = wait_for_news(rt, &children);
+    let fate = end(rt, &mut children, number)?;
+    println!(rt;
+        "news at the start: {starting}, while it runs: {running}, at its end: {ended}; {fate:?}"
+    )?;
+    Ok(())
 }
 
 /// A signal to process 4, which runs, and one to process 5, before it is started.
@@ -278,6 +327,7 @@ pub fn rows(rt: &HostRuntime, alloc: Global) -> anyhow::Result<()> {
     signals(rt, &mut orders, &mut children)?;
     claims(rt, alloc)?;
     no_runner(rt, alloc)?;
+    news(rt, alloc)?;
     forgets(rt, &mut children)?;
     odd_files(rt, &mut children)?;
     in_memory(rt, alloc)?;

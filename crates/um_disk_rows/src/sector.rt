@@ -107,6 +107,15 @@ fn a_candidate_that_is_not_there_is_the_first(rt: HostRuntime) {
     leaves(&rt, &disk, &[2], [4, 0, 0]);
 }
 
+#[test]
+fn a_settled_disk_is_the_disk_as_it_stands(rt: HostRuntime) {
+    let mut disk = written(&rt).settled();
+    ends(&rt, &mut disk, [4, 0, 3]);
+    is_unsynced(&rt, &disk, &[]);
+    same(&rt, disk.syncs(), 0);
+    leaves(&rt, &disk, &[0, 0], [4, 0, 3]);
+}
+
 /// A disk whose third call failed: 1 stands in its first sector.
 fn failed(rt: &(impl AllocGlobal + Abort)) -> Fuse<MemDisk> {
     let mut disk = Fuse::new(empty(rt), 3);

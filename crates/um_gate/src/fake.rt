@@ -120,12 +120,13 @@ fn limit_of(clients: &[Client], number: usize) -> usize {
     }
 }
 
-/// Its client is gone.
+/// Its client is gone: it sends nothing more, and takes nothing.
 fn leave(clients: &mut [Client], number: usize) {
     for client in clients {
         if client.number == number {
             client.parts.clear();
             client.leaves = true;
+            client.limit = 0;
         }
     }
 }

@@ -11,7 +11,7 @@ use std::io::{ErrorKind, Read, Write};
 use std::net::Net;
 use std::os::unix::fs::PermissionsExt;
 use std::time::Duration;
-use std::{fs, io};
+use std::{fs, io, mem};
 
 /// The owner alone may connect.
 const MODE: u32 = 0o600;
@@ -40,6 +40,8 @@ pub struct SocketGate {
     poll: Poll,
     events: Events,
     listener: UnixListener,
+    /// The last accept took a client: another one may wait behind it, of which no event tells any more.
+    has_accepted: bool,
     places: Vec<Place>,
     /// Where a read puts its bytes first.
     buffer: Vec<u8>,
@@ -130,16 +132,23 @@ impl SocketGate {
             poll,
             events,
             listener,
+            has_accepted: false,
             places,
             buffer,
         })
     }
 
-    /// Waits until a client comes, bytes come, or a connection takes bytes again, but no longer than this. It is a hint alone: whoever
-    /// waited looks at each open connection.
-    pub fn wait(&mut self, longest: Duration) {
-        // Where the system refuses to wait, the round that follows looks all the same.
-        let _unheard = self.poll.poll(&mut self.events, Some(longest));
+    /// Waits until a client comes, bytes come, or a connection takes bytes again, but no longer than this, and tells whether any of it may
+    /// be. It is a hint alone: whoever was told so looks at each open connection, and is told it of the same client or bytes no second time.
+    pub fn wait(&mut self, longest: Duration) -> bool {
+        if mem::replace(&mut self.has_accepted, false) {
+            return true;
+        }
+        match self.poll.poll(&mut self.events, Some(longest)) {
+            Ok(()) => !self.events.is_empty(),
+            // where the system refuses to wait, a look tells what is there
+            Err(_) => true,
+        }
     }
 
     /// The next client, if one waits.
@@ -232,7 +241,9 @@ impl Gate for SocketGate {
     ghost honest = { λ _. false };
 
     fn accept(&mut self) -> Open {
-        if let Some(stream) = self.next_client() {
+        let client = self.next_client();
+        self.has_accepted = client.is_some();
+        if let Some(stream) = client {
             self.take_client(stream);
         }
         open_of(self.places.as_slice())

@@ -156,11 +156,16 @@ fn calls_of_open(rt: &(impl AllocGlobal + Abort)) -> u64 {
     over(rt, Fuse::new(filed(rt), 0)).into_disk().calls()
 }
 
-/// What a crash leaves of an open whose last calls but so many fail.
-fn left(rt: &(impl AllocGlobal + Abort), disk: MemDisk, back: u64, pick: usize) -> MemDisk {
-    let fails = calls_of_open(rt).checked_sub(back).expect(rt, "no call");
+/// What a crash leaves of an open whose call of that number fails.
+fn crashed(rt: &(impl AllocGlobal + Abort), disk: MemDisk, fails: u64, pick: usize) -> MemDisk {
     let disk = refuses(rt, Fuse::new(disk, fails), "E16 Device").into_inner();
     disk.crash(rt.alloc(), &[pick]).expect(rt, "no memory")
+}
+
+/// What a crash leaves of an open whose last call but so many fails.
+fn left(rt: &(impl AllocGlobal + Abort), disk: MemDisk, back: u64, pick: usize) -> MemDisk {
+    let fails = calls_of_open(rt).checked_sub(back).expect(rt, "no call");
+    crashed(rt, disk, fails, pick)
 }
 
 #[test]
@@ -175,4 +180,45 @@ fn crashes_inside_an_open_add_no_state(rt: HostRuntime) {
     // and an open that begins on what such a crash left
     let disk = left(&rt, left(&rt, filed(&rt), 2, 1), 2, 1);
     same(&rt, over(&rt, disk).state().tree().len(), 1);
+}
+
+/// That store, behind a checkpoint whose last sync failed: its header was written, and isn't synced.
+fn half_checkpointed(rt: &(impl AllocGlobal + Abort)) -> MemDisk {
+    // the body, a sync, the header, and the sync that fails
+    let fails = calls_of_open(rt).checked_add(4).expect(rt, "too many");
+    let mut keeper = over(rt, Fuse::new(filed(rt), fails));
+    is_refused(rt, keeper.checkpoint(), Some("E16 Device"));
+    is_refused(rt, keeper.checkpoint(), Some("E17 Reopen"));
+    keeper.into_disk().into_inner()
+}
+
+#[test]
+fn crashes_inside_the_open_behind_a_failed_checkpoint_add_no_state(rt: HostRuntime) {
+    same(
+        &rt,
+        over(&rt, half_checkpointed(&rt)).state().tree().len(),
+        1,
+    );
+    // its first sync and its first read: the header of the checkpoint stands, or the one before
+    for fails in 1..3 {
+        for pick in 0..2 {
+            let disk = crashed(&rt, half_checkpointed(&rt), fails, pick);
+            same(&rt, over(&rt, disk).state().tree().len(), 1);
+        }
+    }
+}
+
+#[test]
+fn crashes_at_the_end_of_the_open_behind_a_failed_checkpoint_add_no_state(rt: HostRuntime) {
+    let calls = over(&rt, Fuse::new(half_checkpointed(&rt), 0))
+        .into_disk()
+        .calls();
+    // the body, its sync, the header, its sync
+    for back in 0..4 {
+        let fails = calls.checked_sub(back).expect(&rt, "no call");
+        for pick in 0..2 {
+            let disk = crashed(&rt, half_checkpointed(&rt), fails, pick);
+            same(&rt, over(&rt, disk).state().tree().len(), 1);
+        }
+    }
 }

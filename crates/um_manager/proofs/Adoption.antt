@@ -12,8 +12,8 @@ use Rattle.um_model.specs.declared.service.SubState.{SubState}
 use Rattle.um_model.specs.declared.service.SubState.TheVariants.{StopSigterm, StopSigkill}
 use Rattle.um_model.specs.declared.service.UnitState.{UnitState}
 use Rattle.um_wire.specs.declared.refusal.Refusal.{Refusal}
-use Rattle.um_manager.specs.Fates.{Heard, lost}
-use Rattle.um_manager.specs.Live.{has, AreLive, IsIn, AreIn, none, chosen_next, passed_over}
+use Rattle.um_fates.specs.Fates.{Heard, lost}
+use Rattle.um_fates.specs.Live.{has, AreLive, IsIn, AreIn, none, chosen_next, passed_over}
 use Rattle.um_manager.specs.Opening.{Signalled, Adopted}
 use Rattle.um_manager.specs.Orders.{signals}
 use Rattle.um_manager.specs.Places.{Place}

@@ -6,9 +6,9 @@ use Rattle.um_model.specs.Machine.{State, Input, Reply, Event, Commanded, Happen
 use Rattle.um_model.specs.Service.{Action}
 use Rattle.um_model.specs.Service.{dead_unit}
 use Rattle.um_model.specs.Transitions.{HasNumber}
-use Rattle.um_manager.proofs.Numbered.{over_dead}
-use Rattle.um_manager.specs.Fates.{happens_at}
-use Rattle.um_manager.specs.Live.{has, is_live, AreLive}
+use Rattle.um_fates.proofs.Numbered.{over_dead}
+use Rattle.um_fates.specs.Fates.{happens_at}
+use Rattle.um_fates.specs.Live.{has, is_live, AreLive}
 
 abbrev Boots : State → List ℕ → List Action → State → Type 0
 Boots s boot actions t = (actions ≡ []) × (((boot ≡ s.boot) × (t.units ≡ s.units)) ⊎ ((boot ≢ s.boot) × (t.units ≡ map.empty)))

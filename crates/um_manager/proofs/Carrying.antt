@@ -9,7 +9,7 @@ use Rattle.um_model.specs.Children.{Call, Spawn, Spawned, Signalled, spawn_actio
 use Rattle.um_model.specs.Service.{ByUnit, Action, SendSignal}
 use Rattle.um_model.specs.declared.service.Signal.{Signal}
 use Rattle.um_model.specs.declared.service.UnitState.{UnitState}
-use Rattle.um_manager.specs.Live.{has, is_live, HasFewLive}
+use Rattle.um_fates.specs.Live.{has, is_live, HasFewLive}
 use Rattle.um_manager.specs.Orders.{Grew}
 
 -- a history that is whole after a call was so before it

@@ -6,9 +6,6 @@ pub mod Carrying
 pub mod Clients
 pub mod Crashing
 pub mod Gathering
-pub mod Hearing
-pub mod Marking
-pub mod Numbered
 pub mod Offering
 pub mod Placing
 pub mod Turning

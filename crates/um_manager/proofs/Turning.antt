@@ -7,8 +7,8 @@ use Rattle.um_model.specs.Sessions.{Session, Does, Room}
 use Rattle.um_proto.specs.declared.request.Request.{Request}
 use Rattle.um_wire.specs.declared.refusal.Refusal.{Refusal}
 use Rattle.um_manager.specs.Connections.{AllSame, TakesPiece, CutsAll, Took, inputs_asked, due_of}
-use Rattle.um_manager.specs.Fates.{Heard, unexecuted, tick_at}
-use Rattle.um_manager.specs.Live.{has, AreLive}
+use Rattle.um_fates.specs.Fates.{Heard, unexecuted, tick_at}
+use Rattle.um_fates.specs.Live.{has, AreLive}
 use Rattle.um_manager.specs.Places.{Place}
 use Rattle.um_manager.specs.Replies.{PaysAll}
 use Rattle.um_manager.specs.Stores.{Submits}

@@ -1,8 +1,6 @@
 pub mod Clients
 pub mod Connections
 pub mod Crashes
-pub mod Fates
-pub mod Live
 pub mod Opening
 pub mod Orders
 pub mod Places

@@ -20,8 +20,8 @@ use Rattle.um_model.specs.declared.service.Signal.TheVariants.{Term, Kill}
 use Rattle.um_model.specs.declared.service.SubState.TheVariants.{StopSigterm, StopSigkill}
 use Rattle.um_wire.specs.declared.refusal.Refusal.{Refusal}
 use Rattle.um_wire.specs.declared.refusal.Refusal.TheVariants.{NoMemory}
-use Rattle.um_manager.specs.Fates.{AreTalesOf, inputs_of_tale, lost, happens_at}
-use Rattle.um_manager.specs.Live.{has, is_live, AreLive, HasFewLive, AreIn}
+use Rattle.um_fates.specs.Fates.{AreTalesOf, inputs_of_tale, lost, happens_at}
+use Rattle.um_fates.specs.Live.{has, is_live, AreLive, HasFewLive, AreIn}
 use Rattle.um_manager.specs.Orders.{signals}
 use Rattle.um_manager.specs.Places.{Place}
 use Rattle.um_manager.specs.Turns.{Now, Answers, Leaves, Holds}

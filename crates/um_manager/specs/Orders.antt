@@ -6,7 +6,7 @@ use Rattle.um_model.specs.Children.{Call, orders, tales, refused}
 use Rattle.um_model.specs.Service.{ByUnit, Action, SendSignal}
 use Rattle.um_model.specs.declared.service.Signal.{Signal}
 use Rattle.um_model.specs.declared.service.UnitState.{UnitState}
-use Rattle.um_manager.specs.Live.{has, is_live, HasFewLive}
+use Rattle.um_fates.specs.Live.{has, is_live, HasFewLive}
 
 -- Just these orders were asked, and no fate; of the live numbers those whose start was refused are marked beside the others.
 pub record Grew (units : ByUnit UnitState) (old new : List Call) (marks marked : List ℕ) (actions : List Action) : Type 0 where

@@ -15,8 +15,8 @@ use Rattle.um_proto.specs.declared.request.Request.{Request}
 use Rattle.um_wire.specs.declared.refusal.Refusal.{Refusal}
 use Rattle.um_wire.specs.declared.refusal.Refusal.TheVariants.{NoMemory}
 use Rattle.um_manager.specs.Connections.{AllSame, CutsAll, inputs_asked, due_of}
-use Rattle.um_manager.specs.Fates.{AreTalesOf, inputs_of_tale, unexecuted, tick_at}
-use Rattle.um_manager.specs.Live.{has, is_live, AreLive, HasFewLive}
+use Rattle.um_fates.specs.Fates.{AreTalesOf, inputs_of_tale, unexecuted, tick_at}
+use Rattle.um_fates.specs.Live.{has, is_live, AreLive, HasFewLive}
 use Rattle.um_manager.specs.Orders.{Grew}
 use Rattle.um_manager.specs.Places.{Place}
 use Rattle.um_manager.specs.Replies.{reply_in, PaysAll}

@@ -3,11 +3,8 @@
 #![tactic(auto)]
 
 mod connection;
-mod fates;
 mod laws;
-mod live;
 mod manager;
-mod marks;
 mod opening;
 mod orders;
 mod paying;

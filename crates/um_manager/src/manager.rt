@@ -14,13 +14,13 @@ ghost use Rattle.um_model.specs.declared.layout.Layout.{Layout};
 ghost use Rattle.um_state.specs.View.{state_of};
 
 use crate::connection::Connection;
-use crate::marks::Marks;
 use crate::opening::{Held, begin};
 use crate::pieces::Pieces;
 use crate::round::turn;
 use crate::script::{Step, run};
 use std::alloc::Global;
 use um_children::Children;
+use um_fates::Marks;
 use um_keeper::Keeper;
 use um_model::Moment;
 use um_sector::Disk;
@@ -171,6 +171,13 @@ impl<D: Disk, C: Children> Manager<D, C> {
         ensures { state_of result.now ≡ state_in self.now.keeper }
     {
         self.keeper.state()
+    }
+
+    /// The children, which are the manager's alone to call.
+    pub fn children(&self) -> &C
+        ensures { result.now ≡ self.now.children }
+    {
+        &self.children
     }
 
     /// So many processes were live when the manager was opened.

@@ -7,8 +7,8 @@ ghost use Rattle.um_state.specs.View.{reply_of};
 ghost use Rattle.um_manager.specs.Orders.{Carries};
 ghost use Rattle.um_manager.specs.Replies.{reply_in};
 
-use crate::marks::Marks;
 use um_children::Children;
+use um_fates::Marks;
 use um_keeper::{Handed, Receipt};
 use um_state::{Reply, Units};
 use um_wire::Refusal;

@@ -2,21 +2,19 @@
 
 ghost use Rattle.std.specs.Prelude.{◌≡◌, ◌⊎◌, ◌↔◌, ◌≤◌, true, Err, IsTrue, length, drop};
 ghost use Rattle.um_keeper.specs.Keepers.{disk_in, state_in, has_failed, IsSamePlace};
-ghost use Rattle.um_manager.specs.Fates.{tick_at};
+ghost use Rattle.um_fates.specs.Fates.{tick_at};
 ghost use Rattle.um_manager.specs.Places.{place_in};
 ghost use Rattle.um_manager.specs.Turns.{Turns, now};
 ghost use Rattle.um_state.specs.View.{input_of};
 
 use crate::connection::CONNECTIONS;
-use crate::fates::{hear, put};
-use crate::live::{is_live, live_numbers};
-use crate::marks::Marks;
 use crate::paying::pay_all;
 use crate::pieces::Piece;
 use crate::submitting::submit;
 use crate::taking::{room_all, take_all};
 use std::alloc::Global;
 use um_children::Children;
+use um_fates::{Marks, hear, is_live, live_numbers, put};
 use um_keeper::Keeper;
 use um_model::{End, Moment, ProcessNumber};
 use um_sector::Disk;

@@ -6,11 +6,11 @@ ghost use Rattle.um_manager.specs.Places.{place_in};
 ghost use Rattle.um_manager.specs.Scripts.{Runs};
 ghost use Rattle.um_manager.specs.Turns.{now};
 
-use crate::marks::Marks;
 use crate::pieces::Pieces;
 use crate::round::turn;
 use std::alloc::Global;
 use um_children::Children;
+use um_fates::Marks;
 use um_keeper::Keeper;
 use um_model::Moment;
 use um_sector::Disk;

@@ -6,14 +6,14 @@ ghost use Rattle.um_model.specs.Machine as model;
 ghost use Rattle.um_sector.specs.Refused.{IsLost};
 ghost use Rattle.um_state.specs.View.{reply_of};
 ghost use Rattle.um_wire.specs.Refusal.{refused_of};
-ghost use Rattle.um_manager.specs.Fates.{inputs_in};
+ghost use Rattle.um_fates.specs.Fates.{inputs_in};
 ghost use Rattle.um_manager.specs.Places.{place_in};
 ghost use Rattle.um_manager.specs.Stores.{refusal_of, StoreAnswers, Submits};
 ghost use Rattle.um_manager.specs.Turns.{now};
 
-use crate::marks::Marks;
 use crate::orders::{carry_all, put_reply};
 use um_children::Children;
+use um_fates::Marks;
 use um_keeper::Keeper;
 use um_sector::Disk;
 use um_state::{Input, Reply};

@@ -2,13 +2,13 @@
 
 ghost use Rattle.std.specs.Prelude.{◌≡◌, ◌≤◌, ◌+◌, ◌++◌, ◌∷◌, [], OnOk, length, vec_len, vec_capacity};
 ghost use Rattle.um_manager.specs.Connections.{AllSame, AllFit, piece_len, Cuts, Took, inputs_asked, due_of};
-ghost use Rattle.um_manager.specs.Fates.{inputs_in};
+ghost use Rattle.um_fates.specs.Fates.{inputs_in};
 ghost use Rattle.um_manager.specs.Replies.{replies_due, replies_owed};
 ghost use Rattle.um_model.specs.Sessions.{Does, Room};
 
-use crate::fates::put;
 use crate::pieces::Piece;
 use std::alloc::{AllocError, Global};
+use um_fates::put;
 use um_model::Moment;
 use um_proto::{Asked, Request};
 use um_session::Session;

@@ -36,6 +36,8 @@ mod proto;
 #[cfg(test)]
 mod refusals;
 #[cfg(test)]
+mod renewals;
+#[cfg(test)]
 mod restarts;
 #[cfg(test)]
 mod script;

@@ -105,6 +105,30 @@ impl MemDisk {
         })
     }
 
+    /// The same disk as it stands, with nothing kept of the calls before: so much as a crash may leave where all is synced. It takes no
+    /// memory.
+    pub fn settled(self) -> MemDisk
+        ensures start { result.start.items ≡ self.held.items }
+        ensures fresh { result.noted.items ≡ [] }
+        ensures counts { (result.calls ≡ 0) × (result.failures ≡ 0) }
+    {
+        let MemDisk {
+            mut start,
+            held,
+            mut noted,
+            ..
+        } = self;
+        start.copy_from_slice(held.as_slice());
+        noted.clear();
+        MemDisk {
+            start,
+            held,
+            noted,
+            calls: 0,
+            failures: 0,
+        }
+    }
+
     /// How many syncs answered Ok.
     pub fn syncs(&self) -> usize
         ensures { result ≡ model.sync_count (history self.now) }

@@ -1,12 +1,11 @@
 -- What was read of the connections below a number.
-use Rattle.std.proofs.Common.{◌≡◌, ◌≢◌, ◌<◌, ◌≤◌, ◌++◌, ◌+◌, ℕ, zero, suc, List, [], Bool, false, Option, Some, None, true, refl, ap, sym, ◌∙◌, append_assoc, append-nil, slice_get, arith, inl, inr}
+use Rattle.std.proofs.Common.{◌≡◌, ◌≢◌, ◌<◌, ◌≤◌, ◌++◌, ◌+◌, ℕ, zero, suc, List, Bool, false, Option, Some, None, true, refl, ap, sym, ◌∙◌, append_assoc, append-nil, slice_get, arith, inl, inr}
 use Rattle.std.proofs.Math.Numerals.{add-one}
 use Rattle.std.proofs.lemmas.Bool.{cases_lt}
-use Rattle.std.proofs.lemmas.List.Elements.{filter-append}
 use Rattle.um_gate.specs.Events.{Event}
 use Rattle.um_manager.specs.declared.pieces.Piece.{Piece}
 use Rattle.um_manager.specs.declared.pieces.Piece.TheVariants.{Nothing}
-use Rattle.um_serve.specs.Rounds.{reads_below, reads_one, is_heard, heard_of}
+use Rattle.um_serve.specs.Rounds.{reads_below, reads_one}
 
 -- pieces that agree below it give the same reads
 reads_same : (n : ℕ) (which : List Bool) (old new : List Piece) → ((i : ℕ) → i < n → slice_get new i ≡ slice_get old i)
@@ -54,18 +53,3 @@ only_more k which old new is_open piece before is_it piece_is closed others n be
     let same : k ≤ n → n ≡ k = λ ge. omega (arith, below, ge) in
     let last : n ≡ k → slice_get new n ≡ Some Nothing = λ e. ap (λ i. slice_get new i) e ∙ piece_is ∙ ap Some (closed (ap truth (sym is_it ∙ ap (λ i. slice_get which i) (sym e) ∙ shut))) in
     elim (cases_lt n k) [ inl lt ↦ others n (below_lt n k lt) ∙ before n lt shut | inr ge ↦ last (same ge) ]
-
--- reads are heard
-one_heard : (n : ℕ) (is_open : Option Bool) (piece : Option Piece) → heard_of (reads_one n is_open piece) ≡ reads_one n is_open piece
-one_heard n None piece = refl
-one_heard n (Some false) piece = refl
-one_heard n (Some true) None = refl
-one_heard n (Some true) (Some piece) = refl
-
-pub all_heard : (n : ℕ) (which : List Bool) (pieces : List Piece) → heard_of (reads_below n which pieces) ≡ reads_below n which pieces
-unfolding reads_below
-all_heard zero which pieces = refl
-all_heard (suc n) which pieces =
-    filter-append is_heard (reads_below n which pieces) (reads_one n (slice_get which n) (slice_get pieces n))
-    ∙ ap (λ es. es ++ heard_of (reads_one n (slice_get which n) (slice_get pieces n))) (all_heard n which pieces)
-    ∙ ap (λ es. reads_below n which pieces ++ es) (one_heard n (slice_get which n) (slice_get pieces n))

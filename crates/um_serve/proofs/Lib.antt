@@ -1,2 +1,4 @@
 mod BelowLaws
+mod ClientLaws
 mod RoundLaws
+mod SaidLaws

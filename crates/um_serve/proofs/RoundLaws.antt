@@ -1,39 +1,39 @@
 -- One round after another.
-use Rattle.std.proofs.Common.{◌≡◌, ◌≢◌, ◌⊎◌, ◌↔◌, inl, inr, ◌∙◌, ◌++◌, ◌∷◌, [], ◌+◌, ◌≤◌, ℕ, zero, suc, List, Bool, true, false, IsTrue, Option, Some, None, Result, Ok, Err, is_ok, refl, sym, ap, subst, true≢false, append-nil, length, rules, if◌then◌else◌}
-use Rattle.std.proofs.lemmas.List.Elements.{filter-append}
-use Rattle.um_gate.specs.Events.{Event, accepted}
+use Rattle.std.proofs.Common.{◌≡◌, ◌≢◌, ◌⊎◌, ◌↔◌, inl, inr, ◌∙◌, ◌++◌, ◌∷◌, [], ◌≤◌, ℕ, List, Bool, true, false, IsTrue, Option, Some, None, Result, Ok, Err, is_ok, refl, sym, ap, subst, true≢false, append-nil, ◌||◌, length, rules, if◌then◌else◌}
+use Rattle.um_backlog.specs.Backlog.{Waits}
+use Rattle.um_gate.specs.Events.{Event}
 use Rattle.um_manager.specs.Places.{Place, place, is_trusted}
-use Rattle.um_manager.specs.Turns.{Now, now, Turned, Turns, Untouched}
+use Rattle.um_manager.specs.Turns.{Now, now, Turned, Turns}
 use Rattle.um_model.specs.Children.{Call}
 use Rattle.um_model.specs.Disk.{Past}
 use Rattle.um_model.specs.Machine.{State}
 use Rattle.um_model.specs.Sessions.{Session}
 use Rattle.um_manager.specs.declared.pieces.Piece.{Piece}
 use Rattle.um_model.specs.declared.layout.Layout.{Layout}
-use Rattle.um_serve.specs.Rounds.{Round, Served, served, Hears, Gathers, IsRound, IsOwing, Stops, ServesOne, Serves, EmptiesAll, is_want, is_heard, heard_of, reads_below}
-use Rattle.um_serve.proofs.BelowLaws.{all_heard}
+use Rattle.um_serve.specs.Rounds.{Round, Served, served, Gathers, IsOffered, ForgetsWhere, heard_in, is_heard, SaysBelow, has_spoken, IsRound, IsOwing, ServesOne, Serves, EmptiesAll, is_want}
 use Rattle.um_wire.specs.declared.refusal.Refusal.{Refusal}
 use Rattle.um_wire.specs.declared.refusal.Refusal.TheVariants as refusal
 
--- what was gathered is heard, at a moment that the clock gave
-pub heard_round : (h w is_owed again : Bool) (before pieces : List Piece) (old new later : List Event) (given : List ℕ) (more : List ℕ) (moment : ℕ) (a b : Now)
-    → Gathers h w is_owed before pieces old new → IsTrue h → IsTrue w → heard_of later ≡ heard_of new → more ≡ given ++ moment ∷ []
-    → ((r : Round) × Hears r (served old given is_owed before a) (served later more again pieces b) × (r.pieces ≡ pieces) × (r.moment ≡ moment))
-heard_round h w true again before pieces old new later given more moment a b g th tw same ticks =
-    let r : Round = record { is_owed = true; which = []; pieces = pieces; moment = moment } in
-    (r, record { offered = (refl, g.0); heard = same ∙ ap heard_of g.1 ∙ sym (append-nil (heard_of old)); given = ticks }, refl, refl)
-heard_round h w false again before pieces old new later given more moment a b g th tw same ticks =
-    let r : Round = record { is_owed = false; which = g.0; pieces = pieces; moment = moment } in
-    let reads = reads_below 64 g.0 pieces in (
-      r,
-      record {
-        offered = (refl, g.1);
-        heard = same ∙ ap heard_of (g.2 th tw) ∙ filter-append is_heard old (accepted g.0 ∷ reads) ∙ ap (λ es. heard_of old ++ accepted g.0 ∷ es) (all_heard 64 g.0 pieces);
-        given = ticks;
-      },
-      refl,
-      refl,
-    )
+-- what a round hears of what was gathered
+record Heard (r : Round) (owed : Option (List Piece)) (pieces : List Piece) (moment : ℕ) (old new : List Event) (waits left : List Waits) (busy : Bool) : Type 0 where
+  offered : IsOffered owed r
+  past : new ≡ old ++ heard_in r
+  forgets : ForgetsWhere r.is_owed r.pieces waits left
+  busy_is : busy ≡ is_heard r
+  pieces_are : r.pieces ≡ pieces
+  moment_is : r.moment ≡ moment
+
+heard_round : (h w is_owed : Bool) (before pieces : List Piece) (old new : List Event) (waits left : List Waits) (busy : Bool) (moment : ℕ)
+    → Gathers h w is_owed before pieces old new waits left busy → IsTrue h → IsTrue w
+    → (r : Round) × Heard r (if is_owed then Some before else None) pieces moment old new waits left busy
+heard_round h w true before pieces old new waits left busy moment g th tw = (
+  record { is_owed = true; which = []; pieces = pieces; moment = moment },
+  record { offered = (refl, g.0); past = g.1 ∙ sym (append-nil old); forgets = g.2; busy_is = g.3; pieces_are = refl; moment_is = refl },
+)
+heard_round h w false before pieces old new waits left busy moment g th tw = (
+  record { is_owed = false; which = g.0; pieces = pieces; moment = moment },
+  record { offered = (refl, g.1); past = g.2 th tw; forgets = g.3; busy_is = g.4; pieces_are = refl; moment_is = refl },
+)
 
 wanted : (result : Result Unit Refusal) → is_want result ≡ true → result ≡ Err refusal.NoMemory
 wanted (Ok u) w = absurd (true≢false (sym w))
@@ -93,10 +93,11 @@ same_owed again pieces is = ap (λ (b : Bool). if b then Some pieces else None) 
 none_owed : (again : Bool) (pieces : List Piece) → again ≡ false → (if again then Some pieces else None) ≡ None
 none_owed again pieces is = ap (λ (b : Bool). if b then Some pieces else None) is
 
-pub unserved : {old new : List Event} {given : List ℕ} {is_owed again : Bool} {before pieces : List Piece} {a : Now}
-    → new ≡ old → again ≡ is_owed → pieces ≡ before → served new given again pieces a ≡ served old given is_owed before a
-unserved {old} {new} {given} {is_owed} {again} {before} {pieces} {a} past owed same =
-    ap (λ es. served es given again pieces a) past ∙ ap (λ b. served old given b pieces a) owed ∙ ap (λ ps. served old given is_owed ps a) same
+pub unserved : {old new : List Event} {given : List ℕ} {is_owed again : Bool} {before pieces : List Piece} {waits left : List Waits} {was busy : Bool} {a : Now}
+    → new ≡ old → again ≡ is_owed → pieces ≡ before → left ≡ waits → busy ≡ was → served new given again pieces left busy a ≡ served old given is_owed before waits was a
+unserved {old} {new} {given} {is_owed} {again} {before} {pieces} {waits} {left} {was} {busy} {a} past owed same rest quiet =
+    ap (λ es. served es given again pieces left busy a) past ∙ ap (λ b. served old given b pieces left busy a) owed ∙ ap (λ ps. served old given is_owed ps left busy a) same
+    ∙ ap (λ ws. served old given is_owed before ws busy a) rest ∙ ap (λ b. served old given is_owed before waits b a) quiet
 
 pub same_now : {s t : State} {p q : List Call} {m n : List ℕ} {d e : Past} (us vs : List Session) → t ≡ s → q ≡ p → n ≡ m → e ≡ d
     → now t q n vs e ≡ record (now s p m us d) { sessions = vs }
@@ -104,33 +105,53 @@ same_now {s} {t} {p} {q} {m} {n} {d} {e} us vs state past marks disk =
     ap (λ x. now x q n vs e) state ∙ ap (λ x. now s x n vs e) past ∙ ap (λ x. now s p x vs e) marks ∙ ap (λ x. now s p m vs x) disk
 
 -- a turn that found no memory
-pub owing_round : {h w again honest whole : Bool} {pieces : List Piece} {given more : List ℕ} {moment : ℕ} {a b : Now}
-    → (is_owed : Bool) (before : List Piece) (old new : List Event)
-    → (place : Place) (result : Result Unit Refusal) → Gathers h w is_owed before pieces old new → IsTrue h → IsTrue w → more ≡ given ++ moment ∷ []
+pub owing_round : {h w again honest whole busy : Bool} {pieces : List Piece} {waits left : List Waits} {given more : List ℕ} {moment : ℕ} {a b : Now}
+    → (is_owed was : Bool) (before : List Piece) (old new : List Event)
+    → (place : Place) (result : Result Unit Refusal) → Gathers h w is_owed before pieces old new waits left busy → IsTrue h → IsTrue w → more ≡ given ++ moment ∷ []
     → Turns place result honest whole moment pieces a b → again ≡ is_want result → again ≡ true
-    → ServesOne place result (served old given is_owed before a) (served new more again pieces b)
-owing_round {h} {w} {again} {honest} {whole} {pieces} {given} {more} {moment} {a} {b} is_owed before old new at result g th tw ticks turns want is =
-    let p = heard_round h w is_owed again before pieces old new new given more moment a b g th tw refl ticks in
+    → ServesOne place result (served old given is_owed before waits was a) (served new more again pieces left busy b)
+owing_round {h} {w} {again} {honest} {whole} {busy} {pieces} {waits} {left} {given} {more} {moment} {a} {b} is_owed was before old new at result g th tw ticks turns want is =
+    let p = heard_round h w is_owed before pieces old new waits left busy moment g th tw in
     wanting at result p.0 _ _ (sym want ∙ is)
-    (record { hears = p.1; untouched = turns.0 (wanted result (sym want ∙ is)); owed = same_owed again pieces is ∙ ap Some (sym p.2) })
+    (record {
+      hears = record {
+        offered = p.1.offered;
+        past = p.1.past ∙ sym (append-nil (old ++ heard_in p.0));
+        given = ticks ∙ ap (λ m. given ++ m ∷ []) (sym p.1.moment_is);
+        forgets = p.1.forgets;
+      };
+      untouched = turns.0 (wanted result (sym want ∙ is));
+      owed = same_owed again pieces is ∙ ap Some (sym p.1.pieces_are);
+      busy = p.1.busy_is;
+    })
 
--- a turn that was taken, and the replies that are put out
-pub done_round : {h w again honest whole : Bool} {pieces : List Piece} {given more : List ℕ} {moment : ℕ} {a b d : Now}
-    → (is_owed : Bool) (before : List Piece) (old new later : List Event)
-    → (place : Place) (result : Result Unit Refusal) → Gathers h w is_owed before pieces old new → IsTrue h → IsTrue w → more ≡ given ++ moment ∷ []
-    → Turns place result honest whole moment pieces a b → again ≡ is_want result → again ≡ false → heard_of later ≡ heard_of new
+-- a turn that was taken, and what is handed to the gate then
+pub done_round : {h w again honest whole busy spoken : Bool} {pieces : List Piece} {waits left : List Waits} {given more : List ℕ} {moment : ℕ} {a b d : Now}
+    → (is_owed was came : Bool) (before : List Piece) (forgot : List Waits) (old new later said : List Event)
+    → (place : Place) (result : Result Unit Refusal) → Gathers h w is_owed before pieces old new waits forgot came → IsTrue h → IsTrue w → more ≡ given ++ moment ∷ []
+    → Turns place result honest whole moment pieces a b → again ≡ is_want result → again ≡ false
+    → SaysBelow 64 b.sessions forgot said left → later ≡ new ++ said → busy ≡ (came || spoken) → spoken ≡ has_spoken b.sessions
     → EmptiesAll b.sessions d.sessions → d ≡ record b { sessions = d.sessions } → IsTrue honest → IsTrue whole
-    → ServesOne place result (served old given is_owed before a) (served later more again pieces d)
-done_round {h} {w} {again} {honest} {whole} {pieces} {given} {more} {moment} {a} {b} {d} is_owed before old new later at result g th tw ticks turns want is same empties rest tc tl =
-    let p = heard_round h w is_owed again before pieces old new later given more moment a d g th tw same ticks in
+    → ServesOne place result (served old given is_owed before waits was a) (served later more again pieces left busy d)
+done_round {h} {w} {again} {honest} {whole} {busy} {spoken} {pieces} {waits} {left} {given} {more} {moment} {a} {b} {d} is_owed was came before forgot old new later said at result g th tw ticks turns want is says handed was_busy spoke empties rest tc tl =
+    let p = heard_round h w is_owed before pieces old new waits forgot came moment g th tw in
     gone at result p.0 _ _ (sym want ∙ is)
     (λ not. record {
-      hears = p.1;
+      said = said;
+      waits = forgot;
+      hears = record {
+        offered = p.1.offered;
+        past = handed ∙ ap (λ es. es ++ said) p.1.past;
+        given = ticks ∙ ap (λ m. given ++ m ∷ []) (sym p.1.moment_is);
+        forgets = p.1.forgets;
+      };
       turn = b;
-      turned = subst (λ m. Turned at result m p.0.pieces a b) (sym p.3) (subst (λ ps. Turned at result moment ps a b) (sym p.2) (turns.1 not tc tl));
+      turned = subst (λ m. Turned at result m p.0.pieces a b) (sym p.1.moment_is) (subst (λ ps. Turned at result moment ps a b) (sym p.1.pieces_are) (turns.1 not tc tl));
+      says = says;
       empties = empties;
       rest = rest;
       settled = none_owed again pieces is;
+      busy = was_busy ∙ ap (λ x. x || spoken) p.1.busy_is ∙ ap (λ x. is_heard p.0 || x) spoke;
     })
 
 -- ---- rounds

@@ -1,8 +1,11 @@
--- Rounds over a gate: each an accept, a read of each open connection, ascending, and a turn of the manager, whose replies are put out.
+-- Rounds over a gate: each an accept, a read of each open connection, ascending, a turn of the manager, and the writes of what it put out for
+-- each client.
 -- No manual page has this: it is the project's own (docs/FORMATS.md, "The socket").
 -- `serve` stands on this file.
-use Rattle.std.specs.Prelude.{◌≡◌, ◌≢◌, ◌⊎◌, ◌≤◌, ◌<◌, ℕ, zero, suc, List, [], ◌∷◌, ◌++◌, filter, Bool, true, false, if◌then◌else◌, IsTrue, Option, Some, None, Result, Ok, Err, slice_get}
-use Rattle.um_gate.specs.Events.{Event, accepted, read, wrote, dropped, Logs}
+use Rattle.std.specs.Prelude.{◌≡◌, ◌≢◌, ◌⊎◌, ◌≤◌, ◌<◌, ◌||◌, ℕ, zero, suc, List, [], ◌∷◌, ◌++◌, Bool, true, false, if◌then◌else◌, IsTrue, Option, Some, None, Result, Ok, Err, slice_get}
+use Rattle.std.specs.List.{list_any}
+use Rattle.um_backlog.specs.Backlog.{Waits, gone, HandsAt}
+use Rattle.um_gate.specs.Events.{Event, accepted, read, Logs}
 use Rattle.um_manager.specs.Places.{Place}
 use Rattle.um_manager.specs.Turns.{Now, Turned, Untouched}
 use Rattle.um_manager.specs.declared.pieces.Piece.{Piece}
@@ -16,16 +19,6 @@ abbrev pub came_of : Piece → Option (List ℕ)
 came_of Nothing = Some []
 came_of (Bytes bytes) = Some bytes.items
 came_of Closed = None
-
--- accepts and reads are heard
-abbrev pub is_heard : Event → Bool
-is_heard (accepted which) = true
-is_heard (read number came) = true
-is_heard (wrote number taken) = false
-is_heard (dropped number) = false
-
-abbrev pub heard_of : List Event → List Event
-heard_of events = filter is_heard events
 
 -- a read of a connection, where it is open
 abbrev pub reads_one : ℕ → Option Bool → Option Piece → List Event
@@ -51,32 +44,66 @@ pub record Round : Type 0 where
 abbrev pub heard_in : Round → List Event
 heard_in r = if r.is_owed then [] else accepted r.which ∷ reads_below 64 r.which r.pieces
 
--- what is served, at a moment: what was heard of the gate, the moments that the clock gave, the pieces that are owed, and the manager
+-- what is served, at a moment: what the gate did, the moments that the clock gave, the pieces that are owed, what waits for each client, whether
+-- the last round was busy, and the manager
 pub record Served : Type 0 where
-  pub heard : List Event
+  pub past : List Event
   pub given : List ℕ
   pub owed : Option (List Piece)
+  pub waits : List Waits
+  pub busy : Bool
   pub now : Now
 
-abbrev pub served : List Event → List ℕ → Bool → List Piece → Now → Served
-served past given is_owed pieces now = record { heard = heard_of past; given = given; owed = if is_owed then Some pieces else None; now = now }
+abbrev pub served : List Event → List ℕ → Bool → List Piece → List Waits → Bool → Now → Served
+served past given is_owed pieces waits busy now =
+    record { past = past; given = given; owed = if is_owed then Some pieces else None; waits = waits; busy = busy; now = now }
 
 -- a round's pieces are the owed ones; where none are, they are what came of its accept and reads
 abbrev pub IsOffered : Option (List Piece) → Round → Type 0
 IsOffered None r = (r.is_owed ≡ false) × OnlyOpen r.which r.pieces
 IsOffered (Some pieces) r = (r.is_owed ≡ true) × (r.pieces ≡ pieces)
 
--- what a round hears, and its moment
-pub record Hears (r : Round) (x y : Served) : Type 0 where
+-- what waits for a client is forgotten where it is told closed
+abbrev pub after_piece : Option Piece → Option Waits → Option Waits
+after_piece (Some Closed) waits = gone waits
+after_piece (Some Nothing) waits = waits
+after_piece (Some (Bytes bytes)) waits = waits
+after_piece None waits = waits
+
+abbrev pub Forgets : List Piece → List Waits → List Waits → Type 0
+Forgets pieces old new = (n : ℕ) → slice_get new n ≡ after_piece (slice_get pieces n) (slice_get old n)
+
+-- that is done once: not again where the pieces were heard in an earlier round
+abbrev pub ForgetsWhere : (is_owed : Bool) → List Piece → List Waits → List Waits → Type 0
+ForgetsWhere true pieces old new = new ≡ old
+ForgetsWhere false pieces old new = Forgets pieces old new
+
+-- something came of a connection
+abbrev pub is_something : Piece → Bool
+is_something Nothing = false
+is_something (Bytes bytes) = true
+is_something Closed = true
+
+abbrev pub has_come : List Piece → Bool
+has_come pieces = list_any is_something pieces
+
+-- something was heard, in this round or in the one that left it owed: more may stand behind it
+abbrev pub is_heard : Round → Bool
+is_heard r = if r.is_owed then true else has_come r.pieces
+
+-- What a round hears, what it says then to the clients, and its moment; these wait for them before anything is said.
+pub record Hears (r : Round) (said : List Event) (waits : List Waits) (x y : Served) : Type 0 where
   pub offered : IsOffered x.owed r
-  pub heard : y.heard ≡ x.heard ++ heard_in r
+  pub past : y.past ≡ x.past ++ heard_in r ++ said
   pub given : y.given ≡ x.given ++ r.moment ∷ []
+  pub forgets : ForgetsWhere r.is_owed r.pieces x.waits waits
 
 -- what came is offered: what was owed, or what an accept and the reads heard
-abbrev pub Gathers : (honest whole is_owed : Bool) → (before pieces : List Piece) → List Event → List Event → Type 0
-Gathers honest whole true before pieces old new = (pieces ≡ before) × (new ≡ old)
-Gathers honest whole false before pieces old new =
-    (which : List Bool) × OnlyOpen which pieces × Logs honest whole old new (accepted which ∷ reads_below 64 which pieces)
+abbrev pub Gathers : (honest whole is_owed : Bool) → (before pieces : List Piece) → List Event → List Event → List Waits → List Waits → Bool → Type 0
+Gathers honest whole true before pieces old new waits left busy = (pieces ≡ before) × (new ≡ old) × (left ≡ waits) × (busy ≡ true)
+Gathers honest whole false before pieces old new waits left busy =
+    (which : List Bool) × OnlyOpen which pieces × Logs honest whole old new (accepted which ∷ reads_below 64 which pieces) × Forgets pieces waits left
+    × (busy ≡ has_come pieces)
 
 -- what was put out for a connection is taken
 abbrev pub Empties : Option Session → Option Session → Type 0
@@ -86,20 +113,49 @@ Empties t u = ⊥
 abbrev pub EmptiesAll : List Session → List Session → Type 0
 EmptiesAll ts us = (n : ℕ) → n < 64 → Empties (slice_get ts n) (slice_get us n)
 
--- A round: the accept and the reads, a turn over what came, and then what was put out for each connection is taken.
+-- just what a turn put out for a client goes to it, and where its session has failed nothing comes behind that
+abbrev pub SaysTo : ℕ → Option Session → Option Waits → List Event → Option Waits → Type 0
+SaysTo number (Some t) old said new = HandsAt number old t.output t.failed said new
+SaysTo number None old said new = ⊥
+
+-- the same to each client below a number, ascending
+unfoldable pub SaysBelow : ℕ → List Session → List Waits → List Event → List Waits → Type 0
+SaysBelow zero ts old said new = said ≡ []
+SaysBelow (suc n) ts old said new =
+    (before : List Event) × (here : List Event) × SaysBelow n ts old before new × SaysTo n (slice_get ts n) (slice_get old n) here (slice_get new n)
+    × (said ≡ before ++ here)
+
+-- something was put out for a client
+abbrev pub has_bytes : List ℕ → Bool
+has_bytes [] = false
+has_bytes (b ∷ bs) = true
+
+abbrev pub has_output : Session → Bool
+has_output t = has_bytes t.output
+
+abbrev pub has_spoken : List Session → Bool
+has_spoken ts = list_any has_output ts
+
+-- A round: the accept and the reads, a turn over what came, and then what it put out for each client is taken of its session and handed to the
+-- gate, as far as that takes it. It was busy where something was heard or put out.
 pub record IsRound (place : Place) (store : Result Unit Refusal) (r : Round) (x y : Served) : Type 0 where
-  pub hears : Hears r x y
+  pub said : List Event
+  pub waits : List Waits
+  pub hears : Hears r said waits x y
   pub turn : Now
   pub turned : Turned place store r.moment r.pieces x.now turn
+  pub says : SaysBelow 64 turn.sessions waits said y.waits
   pub empties : EmptiesAll turn.sessions y.now.sessions
   pub rest : y.now ≡ record turn { sessions = y.now.sessions }
   pub settled : y.owed ≡ None
+  pub busy : y.busy ≡ (is_heard r || has_spoken turn.sessions)
 
--- a round whose turn found no memory: what it heard is owed
+-- a round whose turn found no memory: nothing is said, and what it heard is owed
 pub record IsOwing (r : Round) (x y : Served) : Type 0 where
-  pub hears : Hears r x y
+  pub hears : Hears r [] y.waits x y
   pub untouched : Untouched x.now y.now
   pub owed : y.owed ≡ Some r.pieces
+  pub busy : y.busy ≡ is_heard r
 
 -- the last round of those that a refusal ends
 pub record Stops (place : Place) (result : Result Unit Refusal) (r : Round) (x y : Served) : Type 0 where

@@ -1,12 +1,12 @@
 //! What a round hears of the gate.
 
-ghost use Rattle.std.specs.Prelude.{◌≡◌, ◌≢◌, ◌+◌, ◌<◌, ◌≤◌, ◌∷◌, [], true, false, IsTrue, vec_len, slice_get, Some};
+ghost use Rattle.std.specs.Prelude.{◌≡◌, ◌≢◌, ◌+◌, ◌<◌, ◌≤◌, ◌∷◌, [], ℕ, true, false, IsTrue, vec_len, slice_get, Some};
 ghost use Rattle.um_gate.specs.Events.{Logs, read};
 ghost use Rattle.um_manager.specs.declared.pieces.Piece.TheVariants.{Nothing};
-ghost use Rattle.um_serve.specs.Rounds.{came_of, reads_one, reads_below, OnlyOpen};
+ghost use Rattle.um_serve.specs.Rounds.{came_of, reads_one, reads_below, OnlyOpen, has_come, after_piece, Forgets};
 
-use crate::backlog::Backlog;
 use crate::blanks::{Blank, take_one};
+use um_backlog::Backlog;
 use um_gate::{CONNECTIONS, Gate, Open};
 use um_manager::{Connection, Piece, Pieces};
 
@@ -66,18 +66,33 @@ pub fn listen<G: Gate>(gate: &mut G, accepted: Open, blanks: &mut Vec<Blank>, pi
     }
 }
 
-/// Whether anything came. What waits for a client that is gone is forgotten.
-pub fn has_come(pieces: &Pieces, backlog: &mut Backlog) -> bool {
-    let mut has_come = false;
-    for (number, piece) in pieces.as_slice().iter().enumerate() {
-        match piece {
-            Piece::Nothing => {}
-            Piece::Bytes(_) => has_come = true,
-            Piece::Closed => {
-                backlog.forget(number);
-                has_come = true;
-            }
-        }
+/// Whether anything came.
+pub fn has_come(pieces: &Pieces) -> bool
+    ensures { result ≡ has_come pieces.now }
+{
+    pieces
+        .as_slice()
+        .iter()
+        .any(|piece| !matches!(piece, Piece::Nothing))
+}
+
+/// What waits for a client is forgotten where it is told closed.
+fn forget_one(backlog: &mut Backlog, number: usize, piece: &Piece)
+    ensures here { slice_get backlog.new number ≡ after_piece (Some piece.now) (slice_get backlog.old number) }
+    ensures others { (other : ℕ) → other ≢ number → slice_get backlog.new other ≡ slice_get backlog.old other }
+{
+    match piece {
+        Piece::Closed => backlog.forget(number),
+        Piece::Nothing | Piece::Bytes(_) => {}
     }
-    has_come
+}
+
+/// What waits for clients that are told closed is forgotten.
+pub fn forget_closed(pieces: &Pieces, backlog: &mut Backlog)
+    ensures { Forgets pieces.now backlog.old backlog.new }
+{
+    let pieces = pieces.as_slice();
+    for number in 0..CONNECTIONS {
+        forget_one(backlog, number, &pieces[number]);
+    }
 }

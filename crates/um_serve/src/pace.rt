@@ -1,28 +1,33 @@
 //! When to look again.
 
-ghost use Rattle.std.specs.Prelude.{◌≡◌, ◌≤◌, ◌+◌, ◌-◌, ◌/◌, min, if◌then◌else◌};
+ghost use Rattle.std.specs.Prelude.{◌≡◌, ◌≤◌, ◌+◌, ◌-◌, ◌*◌, ◌/◌, min, if◌then◌else◌};
+ghost use Rattle.std.specs.Duration.{as_nanos};
+ghost use Rattle.um_serve.specs.Sleep.{slept};
 
 use std::time::Duration;
 use um_model::Moment;
 
-/// Behind a start or an end it looks again after so many microseconds.
+/// Behind a start, a signal or an end it looks again after so many microseconds.
 const SOONEST: u64 = 500;
 
 /// While processes are live it looks again after so many microseconds at most.
-const LATEST: u64 = 10_000;
+const LATEST: u64 = 20_000;
+
+/// And after so many at most where the last look left something open.
+const RESTLESS: u64 = 10_000;
 
 /// Without a live process, and without a deadline, it sleeps so many microseconds.
 const IDLE: u64 = 1_000_000;
 
 /// How long is slept between rounds in which nothing came.
 ///
-/// Nothing wakes a manager when a process starts or ends. So while any is live it looks again soon behind a start or an end, and then ever
-/// later.
+/// Nothing wakes a manager when a process starts or ends. So while any is live it looks again soon behind a start, a signal or an end, and
+/// then ever later.
 #[derive(Clone, Copy, Debug)]
 pub struct Pace {
     /// In microseconds.
     wait: u64,
-    ghost bound: { wait ≤ 10000 },
+    ghost bound: { wait ≤ 20000 },
 }
 
 /// How long it is from one moment to another, in microseconds; 0 where that is past.
@@ -40,16 +45,24 @@ impl Pace {
         Pace { wait: SOONEST }
     }
 
-    /// A process started or ended.
+    /// A process was started or signalled, or ended.
     pub fn begin(&mut self)
         ensures { self.new.wait ≡ 500 }
     {
         self.wait = SOONEST;
     }
 
+    /// The last look left something open.
+    pub fn hasten(&mut self)
+        ensures { self.new.wait ≡ min self.old.wait 10000 }
+    {
+        self.wait = self.wait.min(RESTLESS);
+    }
+
     /// How long is slept now, where processes are live or none is, and the next deadline is at so many microseconds.
     pub fn next(&mut self, is_live: bool, now: Moment, deadline: Option<u64>) -> Duration
-        ensures { self.new.wait ≡ (if is_live then min (self.old.wait + self.old.wait / 2) 10000 else self.old.wait) }
+        ensures sleeps { as_nanos result ≡ 1000 * slept self.old.wait is_live now deadline }
+        ensures later { self.new.wait ≡ (if is_live then min (self.old.wait + self.old.wait / 2) 20000 else self.old.wait) }
     {
         let longest = match deadline {
             Some(micros) => until(now, micros).min(IDLE),

@@ -1,15 +1,17 @@
 //! Rounds over a gate.
 
-ghost use Rattle.std.specs.Prelude.{◌≡◌, ◌⊎◌, ◌↔◌, List, true, false, Err, IsTrue, IfOk, OnOk, OnErr, length};
+ghost use Rattle.std.specs.Prelude.{◌≡◌, ◌⊎◌, ◌↔◌, List, true, false, Err, IsTrue, IfOk, OnOk, OnErr, length, replicate};
+ghost use Rattle.um_backlog.specs.Backlog.{nothing};
+ghost use Rattle.um_gate.specs.Events.{Event, Logs};
 ghost use Rattle.um_keeper.specs.Keepers.{disk_in, state_in, has_failed, IsSamePlace};
 ghost use Rattle.um_manager.specs.Places.{place_in};
 ghost use Rattle.um_manager.specs.Turns.{now};
-ghost use Rattle.um_serve.specs.Rounds.{Round, Trusts, Serves, ServesOne, IsCount, Gathers, served, heard_of, EmptiesAll, is_want};
+ghost use Rattle.um_serve.specs.Rounds.{Round, Trusts, Serves, ServesOne, IsCount, Gathers, served, SaysBelow, has_bytes, has_spoken, EmptiesAll, is_want};
 
-use crate::backlog::Backlog;
 use crate::blanks::{Blank, fill_up};
-use crate::listening::{connection, has_come, listen};
+use crate::listening::{connection, forget_closed, has_come, listen};
 use std::alloc::{AllocError, Global};
+use um_backlog::Backlog;
 use um_children::Children;
 use um_gate::{CONNECTIONS, Gate, Moments};
 use um_manager::{Manager, Output, Pieces};
@@ -37,7 +39,14 @@ fn wants_memory(turned: &Result<(), Refusal>) -> bool
     matches!(turned, Err(Refusal::NoMemory))
 }
 
-/// Puts out what the manager has for each connection, as far as it is taken, and tells whether there was anything.
+/// Whether there are any.
+fn has_bytes(bytes: &[u8]) -> bool
+    ensures { result ≡ has_bytes bytes.now }
+{
+    !bytes.is_empty()
+}
+
+/// Hands to the gate what the manager has for each connection, as far as it takes that, and tells whether there was anything.
 fn speak<D: Disk, C: Children, G: Gate>(
     manager: &mut Manager<D, C>,
     gate: &mut G,
@@ -47,16 +56,16 @@ fn speak<D: Disk, C: Children, G: Gate>(
     ensures keeper { manager.new.keeper ≡ manager.old.keeper }
     ensures children { manager.new.children ≡ manager.old.children }
     ensures marks { manager.new.marks ≡ manager.old.marks }
-    ensures heard { IsTrue (G.honest gate.old) → IsTrue (G.whole gate.new) → heard_of (G.past gate.new) ≡ heard_of (G.past gate.old) }
+    ensures says { (said : List Event) × SaysBelow 64 manager.old.sessions.items backlog.old said backlog.new
+        × Logs (G.honest gate.old) (G.whole gate.new) (G.past gate.old) (G.past gate.new) said }
+    ensures spoken { result ≡ has_spoken manager.old.sessions.items }
     ensures events { IsTrue (G.whole gate.new) → IsTrue (G.whole gate.old) }
     ensures gate { G.honest gate.new ≡ G.honest gate.old }
 {
     let mut has_spoken = false;
     for number in 0..CONNECTIONS {
         let Output { bytes, failed } = manager.output(connection(number));
-        if !bytes.is_empty() {
-            has_spoken = true;
-        }
+        has_spoken |= has_bytes(bytes.as_slice());
         backlog.put(gate, number, bytes, failed);
     }
     has_spoken
@@ -65,7 +74,9 @@ fn speak<D: Disk, C: Children, G: Gate>(
 impl Rounds {
     /// No round was yet.
     pub fn new(alloc: Global) -> Result<Rounds, AllocError>
-        ensures { IfOk result (λ rounds. rounds.is_owed ≡ false) }
+        ensures owed { IfOk result (λ rounds. rounds.is_owed ≡ false) }
+        ensures waits { IfOk result (λ rounds. rounds.backlog ≡ replicate 64 nothing) }
+        ensures busy { IfOk result (λ rounds. rounds.was_busy ≡ false) }
     {
         Ok(Rounds {
             alloc,
@@ -87,21 +98,26 @@ impl Rounds {
     /// An accept and a read of each open connection, unless pieces are owed. Where there is no room for what a read may give nothing is
     /// done.
     fn gather<G: Gate>(&mut self, gate: &mut G) -> Result<(), AllocError>
-        ensures gathers { OnOk result (Gathers (G.honest gate.old) (G.whole gate.new) self.old.is_owed self.old.pieces self.new.pieces (G.past gate.old) (G.past gate.new)) }
+        ensures gathers { OnOk result (Gathers (G.honest gate.old) (G.whole gate.new) self.old.is_owed self.old.pieces self.new.pieces (G.past gate.old) (G.past gate.new)
+            self.old.backlog self.new.backlog self.new.was_busy) }
         ensures owed { self.new.is_owed ≡ self.old.is_owed }
         ensures pieces { OnErr result (self.new.pieces ≡ self.old.pieces) }
+        ensures backlog { OnErr result (self.new.backlog ≡ self.old.backlog) }
+        ensures busy { OnErr result (self.new.was_busy ≡ self.old.was_busy) }
         ensures past { OnErr result (G.past gate.new ≡ G.past gate.old) }
         ensures events { IsTrue (G.whole gate.new) → IsTrue (G.whole gate.old) }
         ensures gate { G.honest gate.new ≡ G.honest gate.old }
     {
-        self.was_busy = false;
         if self.is_owed {
+            // more may stand behind the pieces, of which the gate tells no more
+            self.was_busy = true;
             return Ok(());
         }
         fill_up(self.alloc, &mut self.blanks)?;
         let open = gate.accept();
         listen(gate, open, &mut self.blanks, &mut self.pieces);
-        self.was_busy = has_come(&self.pieces, &mut self.backlog);
+        forget_closed(&self.pieces, &mut self.backlog);
+        self.was_busy = has_come(&self.pieces);
         Ok(())
     }
 
@@ -115,9 +131,9 @@ impl Rounds {
     ) -> Result<(), Refusal>
         ensures serves { Trusts (C.honest manager.old.children) (C.whole manager.new.children) (G.honest gate.old) (G.whole gate.new) (M.honest clock.old) (M.whole clock.new)
             → ServesOne (place_in (D.honest (disk_in manager.old.keeper)) manager.old.keeper) result
-            (served (G.past gate.old) (M.given clock.old) self.old.is_owed self.old.pieces
+            (served (G.past gate.old) (M.given clock.old) self.old.is_owed self.old.pieces self.old.backlog self.old.was_busy
             (now (state_in manager.old.keeper) (C.past manager.old.children) manager.old.marks manager.old.sessions.items (D.past (disk_in manager.old.keeper))))
-            (served (G.past gate.new) (M.given clock.new) self.new.is_owed self.new.pieces
+            (served (G.past gate.new) (M.given clock.new) self.new.is_owed self.new.pieces self.new.backlog self.new.was_busy
             (now (state_in manager.new.keeper) (C.past manager.new.children) manager.new.marks manager.new.sessions.items (D.past (disk_in manager.new.keeper)))) }
         ensures whole { IsTrue (C.whole manager.new.children) → IsTrue (C.whole manager.old.children) }
         ensures honest { C.honest manager.new.children ≡ C.honest manager.old.children }
@@ -156,9 +172,9 @@ pub fn serve<D: Disk, C: Children, G: Gate, M: Moments>(
 ) -> Result<(), Refusal>
     ensures serves { Trusts (C.honest manager.old.children) (C.whole manager.new.children) (G.honest gate.old) (G.whole gate.new) (M.honest clock.old) (M.whole clock.new)
         → (all : List Round) × IsCount result (length all) limit × Serves (place_in (D.honest (disk_in manager.old.keeper)) manager.old.keeper) all result
-        (served (G.past gate.old) (M.given clock.old) rounds.old.is_owed rounds.old.pieces
+        (served (G.past gate.old) (M.given clock.old) rounds.old.is_owed rounds.old.pieces rounds.old.backlog rounds.old.was_busy
         (now (state_in manager.old.keeper) (C.past manager.old.children) manager.old.marks manager.old.sessions.items (D.past (disk_in manager.old.keeper))))
-        (served (G.past gate.new) (M.given clock.new) rounds.new.is_owed rounds.new.pieces
+        (served (G.past gate.new) (M.given clock.new) rounds.new.is_owed rounds.new.pieces rounds.new.backlog rounds.new.was_busy
         (now (state_in manager.new.keeper) (C.past manager.new.children) manager.new.marks manager.new.sessions.items (D.past (disk_in manager.new.keeper)))) }
     ensures whole { IsTrue (C.whole manager.new.children) → IsTrue (C.whole manager.old.children) }
     ensures honest { C.honest manager.new.children ≡ C.honest manager.old.children }

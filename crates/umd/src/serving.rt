@@ -9,7 +9,7 @@ use std::fs::{File, Files};
 use std::net::Net;
 use std::process::Processes;
 use std::time::{Clock, Duration};
-use um_children::{Children, RunnerDir};
+use um_children::RunnerDir;
 use um_filedisk::FileDisk;
 use um_gate::{Moments, SocketGate, SystemMoments};
 use um_line::ServeLine;
@@ -17,6 +17,9 @@ use um_manager::Manager;
 use um_serve::{Pace, Rounds, serve};
 use um_state::BootId;
 use um_wire::Refusal;
+
+/// Behind a sleep of so many parts, of 20 ms at most while a process is live, comes a round in any case.
+const PARTS: u32 = 50;
 
 /// Where a round found no memory the next one comes so many milliseconds later.
 const PAUSE: u64 = 10;
@@ -54,8 +57,14 @@ fn boot_id(alloc: Global, boot: &str) -> Result<BootId, Refusal> {
     }
 }
 
+/// The manager of the program.
+type Served<'a, R> = Manager<FileDisk, Telling<'a, RunnerDir<'a, R>, R>>;
+
 /// The next deadline of the units, in microseconds; the last one that was known, where there is no memory to look.
-fn next_deadline<C: Children>(manager: &Manager<FileDisk, C>, known: Option<u64>) -> Option<u64> {
+fn next_deadline<R>(manager: &Served<'_, R>, known: Option<u64>) -> Option<u64>
+where
+    R: Files + Processes + Clock + Eprint,
+{
     match manager.state().units().deadlines() {
         Ok(timers) => match timers.next_due() {
             Some((deadline, _)) => Some(deadline.micros()),
@@ -75,13 +84,9 @@ struct Loop<'a, R> {
     deadline: Option<u64>,
 }
 
-impl<'a, R: Clock> Loop<'a, R> {
+impl<'a, R: Files + Processes + Clock + Eprint> Loop<'a, R> {
     /// One round, and a sleep where nothing came in it.
-    fn step<C: Children>(
-        &mut self,
-        manager: &mut Manager<FileDisk, C>,
-        tally: &Tally,
-    ) -> Result<(), Refusal> {
+    fn step(&mut self, manager: &mut Served<'a, R>, tally: &Tally) -> Result<(), Refusal> {
         tally.look();
         match serve(
             manager,
@@ -92,7 +97,7 @@ impl<'a, R: Clock> Loop<'a, R> {
         ) {
             Ok(()) => {}
             Err(Refusal::NoMemory) => {
-                self.gate.wait(Duration::from_millis(PAUSE));
+                let _is_hint = self.gate.wait(Duration::from_millis(PAUSE));
                 return Ok(());
             }
             Err(refusal) => return Err(refusal),
@@ -101,19 +106,37 @@ impl<'a, R: Clock> Loop<'a, R> {
         Ok(())
     }
 
-    /// Sleeps until the next deadline, a byte or a client, unless something came; while processes are live for a short time.
-    fn rest<C: Children>(&mut self, manager: &Manager<FileDisk, C>, tally: &Tally) {
+    /// Whether the next deadline has come.
+    fn is_due(&mut self) -> bool {
         let now = self.clock.moment();
+        self.deadline.is_some_and(|micros| micros <= now.micros())
+    }
+
+    /// Sleeps until there is something to do, unless something came.
+    fn rest(&mut self, manager: &Served<'a, R>, tally: &Tally) {
         if tally.has_turned() {
             self.pace.begin();
         }
-        let is_due = self.deadline.is_some_and(|micros| micros <= now.micros());
-        if tally.has_turned() || self.rounds.was_busy() || is_due {
+        if tally.has_turned() || self.rounds.was_busy() || self.is_due() {
             self.deadline = next_deadline(manager, self.deadline);
         }
-        if !self.rounds.was_busy() {
-            let wait = self.pace.next(tally.is_live(), now, self.deadline);
-            self.gate.wait(wait);
+        if self.rounds.was_busy() {
+            return;
+        }
+        if tally.is_live() && manager.children().has_news() {
+            self.pace.hasten();
+        }
+        self.sleep(manager, tally.is_live());
+    }
+
+    /// Sleeps until the next deadline, a byte, a client, or news of the processes that are live, a second at most. No round is needed before:
+    /// it would take nothing, and its fates would tell nothing new.
+    fn sleep(&mut self, manager: &Served<'a, R>, is_live: bool) {
+        for _ in 0..PARTS {
+            let wait = self.pace.next(is_live, self.clock.moment(), self.deadline);
+            if self.gate.wait(wait) || !is_live || manager.children().has_news() || self.is_due() {
+                return;
+            }
         }
     }
 }

@@ -3,7 +3,10 @@
 ghost use Rattle.std.specs.Prelude.{◌≡◌};
 
 use std::cell::Cell;
-use um_children::{ChildFault, Children, Fate, ProcessNumber, Signal};
+use std::fs::Files;
+use std::process::Processes;
+use std::time::Clock;
+use um_children::{ChildFault, Children, Fate, ProcessNumber, RunnerDir, Signal};
 use um_keeper::SpawnOrder;
 
 /// What was seen of the children since it was looked at last.
@@ -11,7 +14,7 @@ use um_keeper::SpawnOrder;
 pub struct Tally {
     /// So many fates were asked, and so many processes started.
     live: Cell<u64>,
-    /// So many processes started or ended.
+    /// So many processes were started or signalled, or ended.
     turned: Cell<u64>,
     /// Of so many it was told that they are absent.
     absent: Cell<u64>,
@@ -29,13 +32,17 @@ impl Tally {
 
     fn note_start(&self) {
         self.live.set(self.live.get().saturating_add(1));
+        self.note_turn();
+    }
+
+    fn note_turn(&self) {
         self.turned.set(self.turned.get().saturating_add(1));
     }
 
     fn note_fate(&self, answer: &Result<Fate, ChildFault>) {
         self.live.set(self.live.get().saturating_add(1));
         if let Ok(Fate::Ended(_) | Fate::Absent) = answer {
-            self.turned.set(self.turned.get().saturating_add(1));
+            self.note_turn();
         }
         if let Ok(Fate::Absent) = answer {
             self.absent.set(self.absent.get().saturating_add(1));
@@ -47,7 +54,7 @@ impl Tally {
         self.live.get() > 0
     }
 
-    /// Whether any process started or ended since the last look.
+    /// Whether any process was started or signalled, or ended, since the last look.
     pub fn has_turned(&self) -> bool {
         self.turned.get() > 0
     }
@@ -86,6 +93,13 @@ impl<'a, C: Children, R: Eprint> Telling<'a, C, R> {
     }
 }
 
+impl<'a, R: Files + Processes + Clock + Eprint> Telling<'a, RunnerDir<'a, R>, R> {
+    /// Whether a round of fates may tell or do anything that the last one didn't.
+    pub fn has_news(&self) -> bool {
+        self.children.has_news()
+    }
+}
+
 /// Says that something couldn't be done for a process. Where standard error fails too, nobody hears it.
 fn tell<R: Eprint>(rt: &R, deed: &str, number: ProcessNumber, answer: &Result<(), ChildFault>) {
     if let Err(fault) = answer {
@@ -115,6 +129,7 @@ impl<'a, C: Children, R: Eprint> Children for Telling<'a, C, R> {
 
     fn signal(&mut self, number: ProcessNumber, signal: Signal) -> Result<(), ChildFault> {
         let answer = self.children.signal(number, signal);
+        self.tally.note_turn();
         tell(self.rt, "signalling", number, &answer);
         answer
     }

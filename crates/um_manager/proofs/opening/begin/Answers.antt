@@ -2,7 +2,7 @@ use Rattle.std.proofs.Common.{◌≡◌, ◌≢◌, ℕ, List, ◌∷◌, [], Ok
 use Rattle.std.specs.Bool.{IsTrue}
 use Rattle.um_keeper.proofs.Kept.{not_begun}
 use Rattle.um_keeper.specs.Keepers.{disk_in, state_in, size_in, has_failed}
-use Rattle.um_manager.specs.Live.{AreLive}
+use Rattle.um_fates.specs.Live.{AreLive}
 use Rattle.um_manager.specs.Opening.{Adopted, Refuses, unadopted, boot_at}
 use Rattle.um_manager.specs.Places.{Place, place_in}
 use Rattle.um_manager.specs.Turns.{now}

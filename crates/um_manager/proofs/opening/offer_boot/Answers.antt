@@ -3,7 +3,7 @@ use Rattle.um_keeper.specs.Keepers.{disk_in, state_in, size_in, layout_in, has_f
 use Rattle.um_keeper.specs.Keeping.{IsBegun}
 use Rattle.um_model.specs.Disk.{During}
 use Rattle.um_model.specs.Machine.{Step, Booted}
-use Rattle.um_manager.specs.Fates.{happens_at}
+use Rattle.um_fates.specs.Fates.{happens_at}
 use Rattle.um_manager.proofs.Booting.{asks_nothing}
 use Rattle.um_manager.proofs.Offering.{trusts}
 use Rattle.um_manager.proofs.opening.offer_boot.Goals as goal

@@ -1,7 +1,7 @@
 use Rattle.std.proofs.Common.{◌≡◌, ◌||◌, ◌∷◌, [], ℕ, true, subst, sym}
 use Rattle.um_keeper.specs.Receipts.{handed_of}
 use Rattle.um_manager.specs.Orders.{Grew}
-use Rattle.um_manager.specs.Live.{has, is_live, HasFewLive}
+use Rattle.um_fates.specs.Live.{has, is_live, HasFewLive}
 use Rattle.um_manager.proofs.Carrying.{grew_refused}
 use Rattle.um_manager.proofs.orders.ask.Goals as goal
 

@@ -4,8 +4,8 @@ use Rattle.std.proofs.lemmas.List.{length-map, drop-map}
 use Rattle.um_keeper.specs.Keepers.{disk_in, state_in}
 use Rattle.um_state.specs.View.{input_of, reply_of}
 use Rattle.um_manager.specs.Connections.{Took}
-use Rattle.um_manager.specs.Fates.{Heard, inputs_in, unexecuted}
-use Rattle.um_manager.specs.Live.{has, AreLive}
+use Rattle.um_fates.specs.Fates.{Heard, inputs_in, unexecuted}
+use Rattle.um_fates.specs.Live.{has, AreLive}
 use Rattle.um_manager.specs.Places.{place_in}
 use Rattle.um_manager.specs.Replies.{PaysAll}
 use Rattle.um_manager.specs.Stores.{Submits}

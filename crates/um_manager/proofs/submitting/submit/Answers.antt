@@ -5,7 +5,7 @@ use Rattle.um_keeper.specs.Answering.{all_asked}
 use Rattle.um_keeper.specs.Keepers.{disk_in, state_in, has_failed}
 use Rattle.um_state.specs.View.{input_of, reply_of}
 use Rattle.um_wire.specs.Refusal.{refused_of}
-use Rattle.um_manager.specs.Fates.{inputs_in}
+use Rattle.um_fates.specs.Fates.{inputs_in}
 use Rattle.um_manager.specs.Orders.{Carries}
 use Rattle.um_manager.specs.Places.{place_in}
 use Rattle.um_manager.specs.Replies.{reply_in}

@@ -1,4 +1,4 @@
-use Rattle.std.proofs.Common.{◌≡◌, ◌<◌, ◌≤◌, ◌+◌, ℕ, Bool, false, IsTrue, Some, slice_get, vec_len}
+use Rattle.std.proofs.Common.{◌≡◌, ◌<◌, ◌≤◌, ◌+◌, ℕ, false, IsTrue, Some, slice_get, vec_len}
 use Rattle.um_gate.specs.Events.{Logs}
 use Rattle.um_manager.specs.declared.pieces.Piece.TheVariants.{Nothing}
 use Rattle.um_serve.specs.Rounds.{reads_below}

@@ -1,6 +1,7 @@
-use Rattle.std.proofs.Common.{◌≡◌, refl, rules, subst, Result, Ok, Err, List, ℕ, Option, sym}
+use Rattle.std.proofs.Common.{◌≡◌, refl, rules, subst, Ok, List, ℕ, Option, ap, sym}
 use Rattle.std.proofs.lemmas.Result.{IfOk-weaker}
-use Rattle.std.specs.Result.{IfOk, OnOk}
+use Rattle.um_bin.proofs.Results.{if_ok_with, at_ok}
+use Rattle.um_keeper.specs.Keepers.{state_in}
 use Rattle.um_bin.specs.Managers.{state_of, size_of, kept_of}
 use Rattle.um_model.specs.Frames.{Answers, unread, queried, told, stepped, kept_after}
 use Rattle.um_model.specs.Machine.{State, Told, Refusal}
@@ -10,10 +11,6 @@ use Rattle.um_model.specs.declared.requests.Mode.TheVariants.{Memory}
 use Rattle.um_state.specs.View.{reply_of}
 use Rattle.um_wire.specs.Refusal.{refused_of}
 use Rattle.um_bin.proofs.serving.Manager.answer.Goals as goal
-
-if_ok_with : {T E : Type 0} (r : Result T E) (P R : T → Type 0) (Q : Type 0) → IfOk r P → OnOk r Q → ((x : T) → P x → Q → R x) → IfOk r R
-if_ok_with (Ok x) P R Q p q f = f x p q
-if_ok_with (Err e) P R Q p q f = tt
 
 told_answers : (size : ℕ) (s t : State) (kept left : List Action) (bytes : List ℕ) (at : Option ℕ) → request_of Memory bytes ≡ Ok (record { at = at; asked = OfActions })
     → t ≡ s → left ≡ kept_after kept → Answers size s kept bytes (Told kept) t left
@@ -38,7 +35,7 @@ returns-in-Actions-clause-reply c =
     (λ t is left. (
       Told (kept_of c.args.self.now),
       is,
-      told_answers (size_of c.args.self.now) (state_of c.args.self.now) (state_of c.tell_actions.new.self) (kept_of c.args.self.now) (kept_of c.tell_actions.new.self) c.args.bytes.now _ request c.tell_actions.ensures.state left,
+      told_answers (size_of c.args.self.now) (state_of c.args.self.now) (state_of c.tell_actions.new.self) (kept_of c.args.self.now) (kept_of c.tell_actions.new.self) c.args.bytes.now _ request (ap (λ k. state_in k) c.tell_actions.ensures.keeper) left,
     ))
 
 pub returns-in-Err : goal.returns-in-Err
@@ -46,4 +43,5 @@ returns-in-Err c = record {
   reply = IfOk-weaker c.text_of-in-Err.result _ _ (λ t is. (Refusal (refused_of c.in-Err.refusal), is, unread _ (c.in-Err.ensures (search rules)))) c.text_of-in-Err.ensures.text;
   short = c.text_of-in-Err.ensures.short;
   size = refl;
+  working = at_ok c.text_of-in-Err.result _ c.requires;
 }

@@ -9,10 +9,12 @@ returns-clause-gathers g c =
     let which = c.accept-open.result.is_open in
     let old = g.G.Gate.past c.args.gate.now in
     let reads = reads_below 64 which c.listen.new.pieces in
-    subst (λ is_owed. Gathers (g.G.Gate.honest c.args.gate.now) (g.G.Gate.whole c.listen.new.gate) is_owed c.args.self.now.pieces c.listen.new.pieces old (g.G.Gate.past c.listen.new.gate)) (sym c.if-self.false) (
+    subst (λ is_owed. Gathers (g.G.Gate.honest c.args.gate.now) (g.G.Gate.whole c.listen.new.gate) is_owed c.args.self.now.pieces c.listen.new.pieces old (g.G.Gate.past c.listen.new.gate) c.args.self.now.backlog c.forget_closed.new.backlog c.has_come-self.result) (sym c.if-self.false) (
       which,
       c.listen.ensures.only_open,
       λ h w.
           c.listen.ensures.past (subst IsTrue (sym c.accept-open.ensures.honest) h) w ∙ ap (λ es. es ++ reads) (c.accept-open.ensures.past h (c.listen.ensures.whole w))
           ∙ append_assoc old (accepted which ∷ []) reads,
+      c.forget_closed.ensures,
+      c.has_come-self.ensures,
     )

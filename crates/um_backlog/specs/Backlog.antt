@@ -1,0 +1,77 @@
+-- What waits for the clients of a gate, and what comes of bytes that are put out for one of them.
+-- No manual page has this: it is the project's own (docs/FORMATS.md, "The socket").
+-- The backlog, and what is served over it, stand on this file.
+use Rattle.std.specs.Prelude.{◌≡◌, ◌≢◌, ◌⊎◌, ℕ, List, [], ◌∷◌, ◌++◌, length, nat_lt, Bool, true, false, if◌then◌else◌, Option, Some, None}
+use Rattle.um_gate.specs.Events.{Event, wrote, dropped}
+
+-- what waits for a client
+pub record Waits : Type 0 where
+  pub bytes : List ℕ  -- what was put out for it and isn't taken yet
+  pub is_last : Bool  -- nothing comes behind them
+  pub is_over : Bool  -- its connection was given up
+
+-- nothing was put out for a client yet
+abbrev pub nothing : Waits
+nothing = record { bytes = []; is_last = false; is_over = false }
+
+-- another client may come: what waited for the one before it is gone
+abbrev pub gone : Option Waits → Option Waits
+gone (Some waits) = Some nothing
+gone None = None
+
+-- a client that was given up: nothing waits for it, and nothing comes
+abbrev pub given_up : Waits
+given_up = record { bytes = []; is_last = true; is_over = true }
+
+-- so many bytes wait for a client at most: 4 MiB
+abbrev pub most_waiting : ℕ
+most_waiting = 4194304
+
+-- a client is given up for which more than that waits, or nothing does and nothing comes any more
+abbrev pub is_given_up : Bool → List ℕ → Bool
+is_given_up is_last [] = is_last
+is_given_up is_last (b ∷ bs) = nat_lt most_waiting (length (b ∷ bs))
+
+-- the gate is offered all that waits, and takes some of it; it is offered nothing where nothing waits
+abbrev pub writes : ℕ → List ℕ → List ℕ → List Event
+writes number [] taken = []
+writes number (b ∷ bs) taken = wrote number taken ∷ []
+
+-- a connection that is given up
+abbrev pub drops : ℕ → Bool → List Event
+drops number true = dropped number ∷ []
+drops number false = []
+
+-- what waits then
+abbrev pub waits_then : Bool → List ℕ → Waits
+waits_then is_last left = if is_given_up is_last left then given_up else record { bytes = left; is_last = is_last; is_over = false }
+
+-- Bytes come behind those that wait, and of all of them a beginning is taken. The client is given up where too much is left, or nothing and
+-- nothing comes any more.
+pub record HandsOut (number : ℕ) (old : Waits) (bytes : List ℕ) (is_last : Bool) (events : List Event) (new : Waits) : Type 0 where
+  pub taken : List ℕ
+  pub left : List ℕ
+  pub all : taken ++ left ≡ old.bytes ++ bytes
+  pub events_are : events ≡ writes number (old.bytes ++ bytes) taken ++ drops number (is_given_up is_last left)
+  pub new_is : new ≡ waits_then is_last left
+
+-- the bytes find no memory behind those that wait: the client is given up
+pub record FindsNone (number : ℕ) (old : Waits) (bytes : List ℕ) (events : List Event) (new : Waits) : Type 0 where
+  pub waiting : old.bytes ≢ []
+  pub coming : bytes ≢ []
+  pub events_are : events ≡ dropped number ∷ []
+  pub new_is : new ≡ given_up
+
+-- what the gate is told where bytes are put out for a client, and what waits for it then; one that was given up before gets nothing more
+abbrev pub HandsWhere : (is_over : Bool) → ℕ → Waits → List ℕ → Bool → List Event → Waits → Type 0
+HandsWhere true number old bytes is_last events new = (events ≡ []) × (new ≡ old)
+HandsWhere false number old bytes is_last events new = HandsOut number old bytes is_last events new ⊎ FindsNone number old bytes events new
+
+abbrev pub Hands : ℕ → Waits → List ℕ → Bool → List Event → Waits → Type 0
+Hands number old bytes is_last events new = HandsWhere old.is_over number old bytes is_last events new
+
+-- the same in a backlog; there is no client past the last one
+abbrev pub HandsAt : ℕ → Option Waits → List ℕ → Bool → List Event → Option Waits → Type 0
+HandsAt number (Some old) bytes is_last events (Some new) = Hands number old bytes is_last events new
+HandsAt number None bytes is_last events None = events ≡ []
+HandsAt number old bytes is_last events new = ⊥

@@ -1,0 +1,58 @@
+ghost use Rattle.std.specs.Prelude.{◌≡◌, ◌≢◌, ℕ, List, length, replicate, slice_get, IsTrue, IfOk};
+ghost use Rattle.um_backlog.specs.Backlog.{Waits, nothing, gone, HandsAt};
+ghost use Rattle.um_gate.specs.Events.{Event, Logs};
+
+use crate::waiting::Waiting;
+use std::alloc::{AllocError, Global};
+use std::marker::Model;
+use um_gate::{CONNECTIONS, Gate};
+
+/// What waits for each client, by the numbers of their connections.
+#[derive(Drop)]
+pub struct Backlog {
+    waiting: Vec<Waiting>,
+}
+
+impl Model for Backlog {
+    ghost Value = { List Waits };
+
+    ghost view = { λ b. b.waiting.items };
+
+    ghost invariant = { λ b. length b.waiting.items ≡ 64 };
+}
+
+impl Backlog {
+    /// Nothing waits for anybody.
+    pub fn new(alloc: Global) -> Result<Backlog, AllocError>
+        ensures { IfOk result (λ backlog. backlog ≡ replicate 64 nothing) }
+    {
+        let mut waiting = Vec::with_capacity(alloc, CONNECTIONS)?;
+        for _ in 0..CONNECTIONS {
+            waiting.push(Waiting::new(alloc))?;
+        }
+        Ok(Backlog { waiting })
+    }
+
+    /// The client of a connection is gone, and another one may come.
+    pub fn forget(&mut self, number: usize)
+        ensures gone { slice_get self.new number ≡ gone (slice_get self.old number) }
+        ensures others { (other : ℕ) → other ≢ number → slice_get self.new other ≡ slice_get self.old other }
+    {
+        if number < CONNECTIONS {
+            self.waiting[number].forget();
+        }
+    }
+
+    /// Bytes come for a client; with `is_last` nothing comes behind them. The gate is handed as many as it takes.
+    pub fn put<G: Gate>(&mut self, gate: &mut G, number: usize, bytes: Vec<u8>, is_last: bool)
+        ensures hands { (events : List Event) × HandsAt number (slice_get self.old number) bytes.items is_last events (slice_get self.new number)
+            × Logs (G.honest gate.old) (G.whole gate.new) (G.past gate.old) (G.past gate.new) events }
+        ensures others { (other : ℕ) → other ≢ number → slice_get self.new other ≡ slice_get self.old other }
+        ensures whole { IsTrue (G.whole gate.new) → IsTrue (G.whole gate.old) }
+        ensures honest { G.honest gate.new ≡ G.honest gate.old }
+    {
+        if number < CONNECTIONS {
+            self.waiting[number].put(gate, number, bytes, is_last);
+        }
+    }
+}

@@ -1,0 +1,136 @@
+ghost use Rattle.std.specs.Prelude.{◌≡◌, ◌≤◌, ◌++◌, ◌∷◌, [], List, ℕ, drop, take, length, true, false, IsTrue, OnErr, OnOk, ◌≢◌};
+ghost use Rattle.um_backlog.specs.Backlog.{Waits, nothing, given_up, is_given_up, writes, Hands};
+ghost use Rattle.um_gate.specs.Events.{Event, dropped, Logs};
+
+use std::alloc::{AllocError, Global};
+use std::marker::Model;
+use um_gate::Gate;
+
+/// More than so many bytes wait for nobody: then the connection is given up.
+const MOST_WAITING: usize = 4 << 20;
+
+/// What waits for one client.
+#[derive(Drop)]
+pub struct Waiting {
+    bytes: Vec<u8>,
+    /// So many of them are taken.
+    at: usize,
+    /// Nothing comes behind them.
+    is_last: bool,
+    /// The connection was given up: nothing more is written to it, until it is told to be closed.
+    is_over: bool,
+}
+
+impl Model for Waiting {
+    ghost Value = { Waits };
+
+    ghost view = { λ w. record { bytes = drop w.at w.bytes.items; is_last = w.is_last; is_over = w.is_over } };
+
+    ghost invariant = { λ w. w.at ≤ length w.bytes.items };
+}
+
+impl Waiting {
+    /// Nothing waits for it.
+    pub fn new(alloc: Global) -> Waiting
+        ensures { result ≡ nothing }
+    {
+        Waiting {
+            bytes: Vec::new(alloc),
+            at: 0,
+            is_last: false,
+            is_over: false,
+        }
+    }
+
+    /// Its client is gone, and another one may come.
+    pub fn forget(&mut self)
+        ensures { self.new ≡ nothing }
+    {
+        self.bytes.clear();
+        self.at = 0;
+        self.is_last = false;
+        self.is_over = false;
+    }
+
+    /// Bytes come behind those that wait; where they find no memory none of them does. What is taken gives its place back.
+    fn push(&mut self, mut bytes: Vec<u8>) -> Result<(), AllocError>
+        ensures ok { OnOk result (self.new ≡ record self.old { bytes = self.old.bytes ++ bytes.items }) }
+        ensures err { OnErr result ((self.old.bytes ≢ []) × (bytes.items ≢ [])) }
+        ensures same { OnErr result (self.new ≡ self.old) }
+    {
+        if bytes.is_empty() {
+            return Ok(());
+        }
+        if self.at == self.bytes.len() {
+            self.bytes = bytes;
+            self.at = 0;
+            return Ok(());
+        }
+        self.bytes.append(&mut bytes)
+    }
+
+    /// Gives the connection up.
+    fn give_up<G: Gate>(&mut self, gate: &mut G, number: usize)
+        ensures value { self.new ≡ given_up }
+        ensures past { Logs (G.honest gate.old) (G.whole gate.new) (G.past gate.old) (G.past gate.new) (dropped number ∷ []) }
+        ensures whole { IsTrue (G.whole gate.new) → IsTrue (G.whole gate.old) }
+        ensures honest { G.honest gate.new ≡ G.honest gate.old }
+    {
+        gate.drop_connection(number);
+        self.bytes.clear();
+        self.at = 0;
+        self.is_last = true;
+        self.is_over = true;
+    }
+
+    /// Hands to the gate what it takes.
+    fn write<G: Gate>(&mut self, gate: &mut G, number: usize)
+        ensures taken { (taken : List ℕ) × (taken ++ self.new.bytes ≡ self.old.bytes)
+            × Logs (G.honest gate.old) (G.whole gate.new) (G.past gate.old) (G.past gate.new) (writes number self.old.bytes taken) }
+        ensures is_last { self.new.is_last ≡ self.old.is_last }
+        ensures is_over { self.new.is_over ≡ self.old.is_over }
+        ensures whole { IsTrue (G.whole gate.new) → IsTrue (G.whole gate.old) }
+        ensures honest { G.honest gate.new ≡ G.honest gate.old }
+    {
+        if self.at < self.bytes.len() {
+            self.at += gate.write(number, &self.bytes[self.at..]);
+        }
+    }
+
+    /// Whether its client is to be given up now.
+    fn is_done(&self) -> bool
+        ensures { result ≡ is_given_up self.now.is_last self.now.bytes }
+    {
+        let left = self.bytes.len() - self.at;
+        if left == 0 {
+            self.is_last
+        } else {
+            left > MOST_WAITING
+        }
+    }
+
+    /// Bytes come for its client; with `is_last` nothing comes behind them. The gate is handed as many as it takes. A client is given up
+    /// for which too much waits then, or nothing while nothing comes any more, and one whose bytes find no memory.
+    pub fn put<G: Gate>(&mut self, gate: &mut G, number: usize, bytes: Vec<u8>, is_last: bool)
+        ensures hands { (events : List Event) × Hands number self.old bytes.items is_last events self.new
+            × Logs (G.honest gate.old) (G.whole gate.new) (G.past gate.old) (G.past gate.new) events }
+        ensures whole { IsTrue (G.whole gate.new) → IsTrue (G.whole gate.old) }
+        ensures honest { G.honest gate.new ≡ G.honest gate.old }
+    {
+        if self.is_over {
+            return;
+        }
+        self.is_last = is_last;
+        match self.push(bytes) {
+            Ok(()) => {}
+            Err(_) => {
+                self.give_up(gate, number);
+                return;
+            }
+        }
+        self.write(gate, number);
+        if self.is_done() {
+            self.give_up(gate, number);
+        }
+    }
+}
