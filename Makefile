@@ -7,9 +7,10 @@
 # make runner-rows: plays the rows of a runner against the proved program, with real processes.
 # make serve-rows: plays the rows of a served store against the proved program, with real processes, sockets and files.
 # make ctl-rows: plays the rows of the command line against the proved program: create and ctl, their faults, statuses and what is printed.
+# make memory-rows: lets each single allocation of a manager in memory fail in turn, and asserts that nothing changes (three minutes; it needs cc).
 # make bench: measures the proved program, and the writing and reading of states (um_bench); the figures that a document calls
 # measured come from it.
-.PHONY: run umd unproved test edits bench runner-rows serve-rows ctl-rows
+.PHONY: run umd unproved test edits bench runner-rows serve-rows ctl-rows memory-rows
 run:
 	@sh tools/show
 
@@ -51,3 +52,6 @@ serve-rows: umd
 
 ctl-rows: umd
 	@tools/ctl-rows crates/umd/out/umd
+
+memory-rows:
+	@tools/memory-rows

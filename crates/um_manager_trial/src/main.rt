@@ -1,0 +1,27 @@
+//! A trial in which memory may be wanting at any place: a manager over a disk and children in memory puts, loads, starts and shows a service,
+//! whose process ends before the manager is opened anew. What finds no memory is asked again, so that one want of memory, wherever it
+//! is, changes nothing of what is shown at last: `rt try --fail-alloc 1..` plays all of them.
+#![tactic(auto)]
+
+mod life;
+mod managers;
+
+use std::process::ExitCode;
+use um_wire::Refusal;
+
+fn trial(rt: &HostRuntime) -> Result<String, Refusal> {
+    life::life(rt.alloc())
+}
+
+fn main(rt: HostRuntime) -> ExitCode {
+    match trial(&rt) {
+        Ok(shown) => match println!(rt; "{}", shown.as_str()) {
+            Ok(()) => ExitCode::SUCCESS,
+            Err(_) => ExitCode::FAILURE,
+        },
+        Err(refusal) => {
+            let _unheard = eprintln!(rt; "{refusal}");
+            ExitCode::FAILURE
+        }
+    }
+}

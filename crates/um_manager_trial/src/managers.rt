@@ -1,0 +1,134 @@
+//! Managers in memory, which are asked again where memory is wanting.
+
+use std::alloc::Global;
+use um_children::FakeChildren;
+use um_keeper::create;
+use um_manager::{Connection, Manager, Piece, Pieces};
+use um_model::{Layout, Moment};
+use um_sector::MemDisk;
+use um_state::BootId;
+use um_wire::Refusal;
+
+/// A manager in memory.
+pub type InMemory = Manager<MemDisk, FakeChildren>;
+
+/// What finds no memory is asked so many times.
+const TIMES: usize = 4;
+
+/// The bytes of a frame's length.
+const LENGTH: usize = 4;
+
+/// How the reply of a request ends that found no memory.
+const WANTING: &[u8] = b"\"error\":15,\"ok\":false}";
+
+fn moment() -> Result<Moment, Refusal> {
+    Moment::new(0).ok_or(Refusal::BadRequest)
+}
+
+fn boot(alloc: Global) -> Result<BootId, Refusal> {
+    BootId::new(String::from_str(alloc, "one")?).ok_or(Refusal::BadRequest)
+}
+
+fn store(alloc: Global) -> Result<MemDisk, Refusal> {
+    let mut disk = MemDisk::new(alloc, 641)?;
+    let layout = Layout::new(64, 512).ok_or(Refusal::BadRequest)?;
+    create(alloc, &mut disk, layout)?;
+    Ok(disk)
+}
+
+/// A disk that holds a new store. A disk that finds no memory fails, and another one is taken.
+pub fn new_store(alloc: Global) -> Result<MemDisk, Refusal> {
+    for _ in 1..TIMES {
+        match store(alloc) {
+            Err(Refusal::NoMemory | Refusal::Device) => {}
+            told => return told,
+        }
+    }
+    store(alloc)
+}
+
+/// The boot, which is asked for again once.
+fn some_boot(alloc: Global) -> Result<BootId, Refusal> {
+    match boot(alloc) {
+        Err(Refusal::NoMemory) => boot(alloc),
+        told => told,
+    }
+}
+
+/// The manager that is opened over a disk and children.
+pub fn opened(alloc: Global, disk: MemDisk, children: FakeChildren) -> Result<InMemory, Refusal> {
+    let (mut disk, mut children) = (disk, children);
+    for _ in 0..TIMES {
+        match Manager::open(alloc, disk, children, some_boot(alloc)?, moment()?) {
+            Ok(manager) => return Ok(manager),
+            Err((Refusal::NoMemory, disk_back, children_back)) => {
+                (disk, children) = (disk_back, children_back);
+            }
+            Err((refusal, _, _)) => return Err(refusal),
+        }
+    }
+    Err(Refusal::NoMemory)
+}
+
+/// What comes of a connection: the frame of this text, or nothing where there is none.
+fn pieces(alloc: Global, connection: Connection, text: &str) -> Result<Pieces, Refusal> {
+    let mut bytes = Vec::new(alloc);
+    if !text.is_empty() {
+        let length = u32::try_from(text.len()).unwrap_or(0);
+        bytes.extend_from_slice(&length.to_be_bytes())?;
+        bytes.extend_from_slice(text.as_bytes())?;
+    }
+    let mut pieces = Pieces::none(alloc)?;
+    pieces.set(connection, Piece::Bytes(bytes));
+    Ok(pieces)
+}
+
+/// A turn in which this request comes of a connection, and the text of what is put out for it.
+fn turn(
+    alloc: Global,
+    manager: &mut InMemory,
+    connection: usize,
+    text: &str,
+) -> Result<Vec<u8>, Refusal> {
+    let connection = Connection::new(connection).ok_or(Refusal::BadRequest)?;
+    let pieces = pieces(alloc, connection, text)?;
+    manager.turn(moment()?, &pieces)?;
+    let output = manager.output(connection);
+    if output.failed || output.bytes.ends_with(WANTING) {
+        return Err(Refusal::NoMemory);
+    }
+    Ok(output.bytes)
+}
+
+/// A turn in which nothing comes.
+pub fn silent_turn(alloc: Global, manager: &mut InMemory) -> Result<(), Refusal> {
+    for _ in 0..TIMES {
+        match turn(alloc, manager, 0, "") {
+            Err(Refusal::NoMemory) => {}
+            Err(refusal) => return Err(refusal),
+            Ok(_) => return Ok(()),
+        }
+    }
+    Err(Refusal::NoMemory)
+}
+
+/// The reply to a request, which is asked on another connection where it finds no memory.
+pub fn ask(alloc: Global, manager: &mut InMemory, text: &str) -> Result<String, Refusal> {
+    for connection in 1..TIMES {
+        match turn(alloc, manager, connection, text) {
+            Err(Refusal::NoMemory) => {}
+            Err(refusal) => return Err(refusal),
+            Ok(bytes) => return text_of(alloc, bytes.as_slice()),
+        }
+    }
+    Err(Refusal::NoMemory)
+}
+
+/// The text of a frame.
+fn text_of(alloc: Global, frame: &[u8]) -> Result<String, Refusal> {
+    let text = frame.get(LENGTH..).unwrap_or(&[]);
+    match String::from_utf8_lossy(alloc, text) {
+        Ok(text) => Ok(text),
+        Err(_) => Ok(String::from_utf8_lossy(alloc, text)?),
+    }
+}
