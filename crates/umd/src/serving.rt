@@ -2,14 +2,14 @@
 
 use crate::messages::{DEVICE, REFUSED};
 use crate::standing::tell_standing;
-use crate::telling::{Tally, Telling};
+use crate::telling::{News, Tally, Telling};
 use std::alloc::Global;
 use std::fmt::Display;
 use std::fs::{File, Files};
 use std::net::Net;
 use std::process::Processes;
 use std::time::{Clock, Duration};
-use um_children::RunnerDir;
+use um_children::{Children, RunnerDir};
 use um_filedisk::FileDisk;
 use um_gate::{Moments, SocketGate, SystemMoments};
 use um_line::ServeLine;
@@ -57,14 +57,8 @@ fn boot_id(alloc: Global, boot: &str) -> Result<BootId, Refusal> {
     }
 }
 
-/// The manager of the program.
-type Served<'a, R> = Manager<FileDisk, Telling<'a, RunnerDir<'a, R>, R>>;
-
 /// The next deadline of the units, in microseconds; the last one that was known, where there is no memory to look.
-fn next_deadline<R>(manager: &Served<'_, R>, known: Option<u64>) -> Option<u64>
-where
-    R: Files + Processes + Clock + Eprint,
-{
+fn next_deadline<C: Children>(manager: &Manager<FileDisk, C>, known: Option<u64>) -> Option<u64> {
     match manager.state().units().deadlines() {
         Ok(timers) => match timers.next_due() {
             Some((deadline, _)) => Some(deadline.micros()),
@@ -84,9 +78,13 @@ struct Loop<'a, R> {
     deadline: Option<u64>,
 }
 
-impl<'a, R: Files + Processes + Clock + Eprint> Loop<'a, R> {
+impl<'a, R: Clock> Loop<'a, R> {
     /// One round, and a sleep where nothing came in it.
-    fn step(&mut self, manager: &mut Served<'a, R>, tally: &Tally) -> Result<(), Refusal> {
+    fn step<C: Children + News>(
+        &mut self,
+        manager: &mut Manager<FileDisk, C>,
+        tally: &Tally,
+    ) -> Result<(), Refusal> {
         tally.look();
         match serve(
             manager,
@@ -113,7 +111,7 @@ impl<'a, R: Files + Processes + Clock + Eprint> Loop<'a, R> {
     }
 
     /// Sleeps until there is something to do, unless something came.
-    fn rest(&mut self, manager: &Served<'a, R>, tally: &Tally) {
+    fn rest<C: Children + News>(&mut self, manager: &Manager<FileDisk, C>, tally: &Tally) {
         if tally.has_turned() {
             self.pace.begin();
         }
@@ -131,7 +129,7 @@ impl<'a, R: Files + Processes + Clock + Eprint> Loop<'a, R> {
 
     /// Sleeps until the next deadline, a byte, a client, or news of the processes that are live, a second at most. No round is needed before:
     /// it would take nothing, and its fates would tell nothing new.
-    fn sleep(&mut self, manager: &Served<'a, R>, is_live: bool) {
+    fn sleep<C: Children + News>(&mut self, manager: &Manager<FileDisk, C>, is_live: bool) {
         for _ in 0..PARTS {
             let wait = self.pace.next(is_live, self.clock.moment(), self.deadline);
             if self.gate.wait(wait) || !is_live || manager.children().has_news() || self.is_due() {

@@ -93,9 +93,14 @@ impl<'a, C: Children, R: Eprint> Telling<'a, C, R> {
     }
 }
 
-impl<'a, R: Files + Processes + Clock + Eprint> Telling<'a, RunnerDir<'a, R>, R> {
+/// Children of which it can be seen, without asking any of them, that something may have happened.
+pub trait News {
     /// Whether a round of fates may tell or do anything that the last one didn't.
-    pub fn has_news(&self) -> bool {
+    fn has_news(&self) -> bool;
+}
+
+impl<'a, 'b, R: Files + Processes + Clock, E: Eprint> News for Telling<'a, RunnerDir<'b, R>, E> {
+    fn has_news(&self) -> bool {
         self.children.has_news()
     }
 }
