@@ -11,7 +11,7 @@ use um_model::Moment;
 const SOONEST: u64 = 500;
 
 /// While processes are live it looks again after so many microseconds at most.
-const LATEST: u64 = 20_000;
+const LATEST: u64 = 40_000;
 
 /// And after so many at most where the last look left something open.
 const RESTLESS: u64 = 10_000;
@@ -27,7 +27,7 @@ const IDLE: u64 = 1_000_000;
 pub struct Pace {
     /// In microseconds.
     wait: u64,
-    ghost bound: { wait ≤ 20000 },
+    ghost bound: { wait ≤ 40000 },
 }
 
 /// How long it is from one moment to another, in microseconds; 0 where that is past.
@@ -62,7 +62,7 @@ impl Pace {
     /// How long is slept now, where processes are live or none is, and the next deadline is at so many microseconds.
     pub fn next(&mut self, is_live: bool, now: Moment, deadline: Option<u64>) -> Duration
         ensures sleeps { as_nanos result ≡ 1000 * slept self.old.wait is_live now deadline }
-        ensures later { self.new.wait ≡ (if is_live then min (self.old.wait + self.old.wait / 2) 20000 else self.old.wait) }
+        ensures later { self.new.wait ≡ (if is_live then min (self.old.wait + self.old.wait / 2) 40000 else self.old.wait) }
     {
         let longest = match deadline {
             Some(micros) => until(now, micros).min(IDLE),

@@ -18,8 +18,8 @@ use um_serve::{Pace, Rounds, serve};
 use um_state::BootId;
 use um_wire::Refusal;
 
-/// Behind a sleep of so many parts, of 20 ms at most while a process is live, comes a round in any case.
-const PARTS: u32 = 50;
+/// Behind a sleep of so many parts, of 40 ms at most while a process is live, comes a round in any case.
+const PARTS: u32 = 25;
 
 /// Where a round found no memory the next one comes so many milliseconds later.
 const PAUSE: u64 = 10;
