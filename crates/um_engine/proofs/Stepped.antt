@@ -17,7 +17,7 @@ use Rattle.um_wire.specs.declared.refusal.Refusal.{Refusal}
 use Rattle.um_wire.specs.declared.refusal.Refusal.TheVariants.{NoMemory}
 use Rattle.um_engine.specs.Engine.{Met, MetBy, SettlesTo, state_at}
 use Rattle.um_engine.specs.Known.{KnownView, KnowsFor}
-use Rattle.um_engine.specs.Over.{Serves}
+use Rattle.um_falling.specs.Over.{Serves}
 use Rattle.um_engine.specs.Planned.{Declines, for_cause, for_room}
 use Rattle.um_engine.specs.Served.{ServedView}
 use Rattle.um_engine.proofs.KnownLaws.{knows_less, serves_for}

@@ -2,13 +2,9 @@
 //! from the state alone.
 #![tactic(auto)]
 
-mod acting;
-mod along;
 mod answer;
-mod carrying;
 mod commands;
 mod engine;
-mod falling;
 mod happenings;
 mod jobs;
 mod known;
