@@ -2,17 +2,13 @@
 //! from the state alone.
 #![tactic(auto)]
 
-mod answer;
 mod commands;
 mod engine;
 mod happenings;
 mod jobs;
 mod known;
 mod laws;
-mod listing;
 mod loading;
-mod missing;
-mod names;
 mod planning;
 mod resetting;
 mod restarting;

@@ -1,7 +1,7 @@
 use Rattle.std.proofs.Common.{◌≡◌}
 use Rattle.um_state.specs.View.{state_of}
-use Rattle.um_engine.proofs.ListedLaws.{lists_units_so}
-use Rattle.um_engine.proofs.listing.list_units.Goals as goal
+use Rattle.um_answer.proofs.ListedLaws.{lists_units_so}
+use Rattle.um_answer.proofs.listing.list_units.Goals as goal
 
 pub returns : goal.returns
 returns c =

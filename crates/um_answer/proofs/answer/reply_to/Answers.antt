@@ -2,8 +2,8 @@ use Rattle.std.proofs.Common.{inl, inr, ap, subst, sym}
 use Rattle.std.proofs.lemmas.Result.{IfOk-weaker}
 use Rattle.um_state.specs.View.{query_of, state_of, reply_of}
 use Rattle.um_model.specs.Machine.{IsReplyTo}
-use Rattle.um_engine.proofs.Answered.{shows_so, tells_activity_so, tells_failure_so, tells_files_so, tells_enabling_so, lists_jobs_so}
-use Rattle.um_engine.proofs.answer.reply_to.Goals as goal
+use Rattle.um_answer.proofs.Answered.{shows_so, tells_activity_so, tells_failure_so, tells_files_so, tells_enabling_so, lists_jobs_so}
+use Rattle.um_answer.proofs.answer.reply_to.Goals as goal
 
 pub returns-in-Show : goal.returns-in-Show
 returns-in-Show c =

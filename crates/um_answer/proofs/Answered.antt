@@ -1,14 +1,12 @@
 -- What is answered, from what the calls below tell.
-use Rattle.std.proofs.Common.{◌≡◌, ◌∙◌, ℕ, List, sym, ap, subst}
-use Rattle.um_model.proofs.KeepsLaws.{settles_keeps}
+use Rattle.std.proofs.Common.{◌≡◌, ℕ, List, sym, subst}
 use Rattle.um_model.specs.Install.{IsEnabledAs}
 use Rattle.um_model.specs.Jobs.{jobs_shown}
-use Rattle.um_model.specs.Machine.{State, Event, Reply, Shown, Activity, EnabledAs, Jobs, Query, Show, IsActive, IsFailed, Cat, IsEnabled, ListJobs, shown_of, state_asked, files_told, IsReplyTo, shows, tells_activity, tells_failure, tells_files, tells_enabling, lists_jobs, reply_after}
+use Rattle.um_model.specs.Machine.{State, Reply, Shown, Activity, EnabledAs, Jobs, Query, Show, IsActive, IsFailed, Cat, IsEnabled, ListJobs, shown_of, state_asked, files_told, IsReplyTo, shows, tells_activity, tells_failure, tells_files, tells_enabling, lists_jobs}
 use Rattle.um_model.specs.Resolution.{resolution_of}
-use Rattle.um_model.specs.Service.{Action, active_state_of}
+use Rattle.um_model.specs.Service.{active_state_of}
 use Rattle.um_model.specs.Units.{load}
 use Rattle.um_model.specs.declared.install.Enabling.{Enabling}
-use Rattle.um_engine.specs.Engine.{SettlesTo}
 
 pub shows_so : (s : State) (asked : List ℕ) (reply : Reply) → reply ≡ Shown (shown_of asked (load s.loaded asked) (state_asked s asked)) → IsReplyTo s (Show asked) reply
 shows_so s asked reply is = subst (IsReplyTo s (Show asked)) (sym is) shows
@@ -28,8 +26,3 @@ tells_enabling_so s asked reply (answer, enabled, is) = subst (IsReplyTo s (IsEn
 
 pub lists_jobs_so : (s : State) (reply : Reply) → reply ≡ Jobs (jobs_shown s.pending) → IsReplyTo s ListJobs reply
 lists_jobs_so s reply is = subst (IsReplyTo s ListJobs) (sym is) lists_jobs
-
--- jobs that begin leave the tree in hand, and with it what is answered
-pub same_answer : (t : ℕ) (event : Event) (s u v : State) (first all : List Action) (reply : Reply) → reply ≡ reply_after event s.tree u.tree
-    → SettlesTo t u first v all → reply ≡ reply_after event s.tree v.tree
-same_answer t event s u v first all reply is (more, settles, whole) = is ∙ ap (reply_after event s.tree) (sym (settles_keeps t u more v settles).tree)
