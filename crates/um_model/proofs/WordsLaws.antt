@@ -3,7 +3,7 @@ use Rattle.std.proofs.Common.{◌≡◌, ◌↔◌, ◌<◌, ◌≤◌, ℕ, zer
 use Rattle.std.specs.Prelude.{IfSome, ◌&&◌, nat_lt}
 use Rattle.std.specs.Option.{option_map_or}
 use Rattle.std.specs.List.{prefix_len, flat_map, slice_split, onto_first}
-use Rattle.std.proofs.lemmas.List.{drop-drop, length-drop, take-append-drop}
+use Rattle.std.proofs.lemmas.List.{drop-drop, length-drop}
 use Rattle.std.proofs.lemmas.Bool.{cases_Bool, true≢false, cond-true, cond-false, or_parts, or_cases, not-true, not-false, eqb-true}
 use Rattle.std.proofs.lemmas.Option.{some_pair_parts, none-some, same_Some}
 use Rattle.um_model.specs.Ascii.{is_space}
@@ -15,7 +15,7 @@ use Rattle.um_model.proofs.FindsLaws.{one_found}
 use Rattle.um_model.specs.Words.{is_quote, Spelling, Stop, Bad, Turn, Means, Kept, begins_escape, meaning_of, hex_value, hex_spelling, is_left_out, rare_escape, escape, bare, spelled_at, may_end, Word, before, word_front, piece_of_words, values_of, AreWords, words_of}
 use Rattle.um_model.specs.Commands.{Command, is_separator, value_in_command, command_of, commands_of, commands_read}
 use Rattle.um_model.specs.Pieces.{StandsForText, reading}
-use Rattle.um_model.proofs.PiecesLaws.{prefixed, read_by_front, reading_first, reading-StandsForText, StandsForText-reading, prefixed-nil, Follows, past_piece}
+use Rattle.um_model.proofs.PiecesLaws.{prefixed, reading_first, reading_unreadable, reading-StandsForText, StandsForText-reading, prefixed-nil, Follows, follows_more, past_piece}
 
 -- the byte ends or turns a word, outside quotes or in one
 abbrev pub marks : Option ℕ → ℕ → Bool
@@ -243,10 +243,6 @@ bare_goes b apart = ap is_stop (cond-false _ _ _ apart) ∙ goes_either (is_quot
 word_goes : (rules : WordRules) (b : ℕ) (bs : List ℕ) → is_space b ≡ false → spelled_at rules None b bs ≡ Stop → ⊥
 word_goes rules b bs apart e = true≢false (sym (ap is_stop e) ∙ goes_either (begins_escape rules b) (escape bs) (bare None b) (escape_goes bs) (bare_goes b apart))
 
-follows_more : (bs rest : List ℕ) (n : ℕ) → Follows (drop n bs) rest → Follows bs rest
-follows_more bs rest n later =
-    (take n bs ++ later.0, sym (take-append-drop n bs) ∙ ap (λ x. take n bs ++ x) later.1 ∙ sym (append_assoc (take n bs) later.0 rest))
-
 -- the rest stands at the end of the text
 rest_follows : (rules : WordRules) (quote : Option ℕ) (bs word rest : List ℕ) → InWord rules quote bs word rest → Follows bs rest
 rest_follows rules quote bs word rest (ends q e) = ([], refl)
@@ -267,35 +263,35 @@ rest_follows_first rules b bs word rest apart (keeps q c n more w r e inside) =
     follows_more more r (n - 1) (rest_follows rules q (drop (n - 1) more) w r inside)
 
 -- a text that begins with whitespace is as many words as what follows
-pub space_read : (rules : WordRules) (b : ℕ) (bs : List ℕ) → is_space b ≡ true → reading (piece_of_words rules) 0 (b ∷ bs) ≡ reading (piece_of_words rules) 0 bs
-space_read rules b bs white = reading_first (piece_of_words rules) b 1 bs [] (cond-true _ _ _ white) ∙ prefixed-nil (reading (piece_of_words rules) 0 bs)
+pub space_read : (rules : WordRules) (b : ℕ) (bs : List ℕ) → is_space b ≡ true → reading (piece_of_words rules) (b ∷ bs) ≡ reading (piece_of_words rules) bs
+space_read rules b bs white = reading_first (piece_of_words rules) b 1 bs [] (cond-true _ _ _ white) ∙ prefixed-nil (reading (piece_of_words rules) bs)
 
 -- a word that is read at the front of a text
 abbrev pub first_word : List ℕ → List ℕ → List ℕ → Word
 first_word text rest value = record { spelling = before rest text; value = value }
 
 first_read : (rules : WordRules) (b : ℕ) (bs value rest : List ℕ) → is_space b ≡ false → read rules 0 None (b ∷ bs) ≡ Some (value, rest)
-    → reading (piece_of_words rules) 0 (b ∷ bs) ≡ option_map (λ words. first_word (b ∷ bs) rest value ∷ words) (reading (piece_of_words rules) 0 rest)
+    → reading (piece_of_words rules) (b ∷ bs) ≡ option_map (λ words. first_word (b ∷ bs) rest value ∷ words) (reading (piece_of_words rules) rest)
 first_read rules b bs value rest apart found =
     let inside = InWord-read rules (length (b ∷ bs)) None (b ∷ bs) value rest (omega arith) found in
     let first = first_word (b ∷ bs) rest value in
     reading_first (piece_of_words rules) b (length (b ∷ bs) - length rest) bs (first ∷ []) (cond-false _ _ _ apart ∙ ap (word_front (b ∷ bs)) found)
-    ∙ ap (λ t. prefixed (first ∷ []) (reading (piece_of_words rules) 0 t)) (past_piece b bs rest (rest_follows_first rules b bs value rest apart inside))
+    ∙ ap (λ t. prefixed (first ∷ []) (reading (piece_of_words rules) t)) (past_piece b bs rest (rest_follows_first rules b bs value rest apart inside))
 
 -- a text that begins with a word is this word, and the words that follow it
 pub word_read : (rules : WordRules) (text rest later : List ℕ) (b : ℕ) (value : List ℕ) → text ≡ b ∷ later → is_space b ≡ false
     → read rules 0 None text ≡ Some (value, rest)
-    → reading (piece_of_words rules) 0 text ≡ option_map (λ words. first_word text rest value ∷ words) (reading (piece_of_words rules) 0 rest)
+    → reading (piece_of_words rules) text ≡ option_map (λ words. first_word text rest value ∷ words) (reading (piece_of_words rules) rest)
 word_read rules text rest later b value e apart found =
-    ap (reading (piece_of_words rules) 0) e
+    ap (reading (piece_of_words rules)) e
     ∙ first_read rules b later value rest apart (ap (read rules 0 None) (sym e) ∙ found)
-    ∙ ap (λ t. option_map (λ words. first_word t rest value ∷ words) (reading (piece_of_words rules) 0 rest)) (sym e)
+    ∙ ap (λ t. option_map (λ words. first_word t rest value ∷ words) (reading (piece_of_words rules) rest)) (sym e)
 
 -- where no word is read there are none
-pub none_read : (rules : WordRules) (text later : List ℕ) (b : ℕ) → text ≡ b ∷ later → is_space b ≡ false → read rules 0 None text ≡ None → reading (piece_of_words rules) 0 text ≡ None
+pub none_read : (rules : WordRules) (text later : List ℕ) (b : ℕ) → text ≡ b ∷ later → is_space b ≡ false → read rules 0 None text ≡ None → reading (piece_of_words rules) text ≡ None
 none_read rules text later b e apart nothing =
-    ap (reading (piece_of_words rules) 0) e
-    ∙ ap (λ f. read_by_front f (λ n. reading (piece_of_words rules) n later)) (cond-false _ _ _ apart ∙ ap (word_front (b ∷ later)) (ap (read rules 0 None) (sym e) ∙ nothing))
+    ap (reading (piece_of_words rules)) e
+    ∙ reading_unreadable (piece_of_words rules) b later (cond-false _ _ _ apart ∙ ap (word_front (b ∷ later)) (ap (read rules 0 None) (sym e) ∙ nothing))
 
 -- the same of what the words stand for
 pub words_of-AreWords : (rules : WordRules) (text : List ℕ) (words : List (List ℕ)) → AreWords rules text words → words_of rules text ≡ Some words
@@ -305,7 +301,7 @@ words_of-AreWords rules text words are = ap (option_map values_of) (reading-Stan
 pub AreWords-words_of : (rules : WordRules) (text : List ℕ) (words : List (List ℕ)) → words_of rules text ≡ Some words → AreWords rules text words
 unfolding words_of
 AreWords-words_of rules text words e =
-    let t = mapped values_of (reading (piece_of_words rules) 0 text) words e in
+    let t = mapped values_of (reading (piece_of_words rules) text) words e in
     (t.0, StandsForText-reading (piece_of_words rules) text t.0 t.1, t.2)
 
 -- the text reads as these commands
@@ -320,7 +316,7 @@ commands_read-AreCommands text commands are = ap (option_map commands_of) (readi
 pub AreCommands-commands_read : (text : List ℕ) (commands : List Command) → commands_read text ≡ Some commands → AreCommands text commands
 unfolding commands_read
 AreCommands-commands_read text commands e =
-    let t = mapped commands_of (reading (piece_of_words Escaped) 0 text) commands e in
+    let t = mapped commands_of (reading (piece_of_words Escaped) text) commands e in
     (t.0, StandsForText-reading (piece_of_words Escaped) text t.0 t.1, t.2)
 
 -- each function finds what its relation tells

@@ -45,7 +45,7 @@ commands_of words = flat_map (λ part. command_of (map value_in_command part)) (
 
 -- the commands that the text reads as, where it can be read
 unfoldable pub commands_read : List ℕ → Option (List Command)
-commands_read text = option_map commands_of (reading (piece_of_words Escaped) 0 text)
+commands_read text = option_map commands_of (reading (piece_of_words Escaped) text)
 
 -- the word can be run: an absolute path, or a name without `/`
 abbrev pub is_executable_word : List ℕ → Bool

@@ -42,8 +42,8 @@ as_text (Some bytes) = if is_utf8 bytes then Some bytes else None
 
 -- the text that the escapes of an instance stand for, where it is one
 abbrev pub unescaped_of : List ℕ → Option (List ℕ)
-unescaped_of escaped = as_text (reading unescape_front 0 escaped)
+unescaped_of escaped = as_text (reading unescape_front escaped)
 
 -- what the text stands for in the files of the unit of that name
 unfoldable pub expanded_of : List ℕ → List ℕ → Option (List ℕ)
-expanded_of name text = reading (specifier_front name (unescaped_of (instance_or_empty name))) 0 text
+expanded_of name text = reading (specifier_front name (unescaped_of (instance_or_empty name))) text

@@ -101,7 +101,7 @@ span_within n = if nat_le n span_limit then Some (Micros n) else None
 unfoldable pub span_of : List ℕ → Option TimeSpan
 span_of text =
     if bytes_eq text (codes "infinity") then Some Infinite
-    else (if is_blank text then None else option_and_then span_within (option_map sum (reading time_front 0 text)))
+    else (if is_blank text then None else option_and_then span_within (option_map sum (reading time_front text)))
 
 -- ---- sets of exits
 

@@ -129,4 +129,4 @@ AreWords rules text words = (spelled : List Word) × StandsForText (piece_of_wor
 
 -- the words that the text reads as, where it can be read
 unfoldable pub words_of : WordRules → List ℕ → Option (List (List ℕ))
-words_of rules text = option_map values_of (reading (piece_of_words rules) 0 text)
+words_of rules text = option_map values_of (reading (piece_of_words rules) text)

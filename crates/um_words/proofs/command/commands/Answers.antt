@@ -22,7 +22,7 @@ returns c =
     let words = map word_of c.in-Some.spelled.items in
     let seen = YieldsList-end (YieldsList-from_vec {s = c.into_iter-word-iterator.result} c.in-Some.spelled.items (search rules) (search rules)) c.loop-word.yielded c.loop-word.word-iterator c.loop-word.yielded_by c.next.result c.next.new.self c.in-None.is c.next.ensures.steps in
     let all : c.loop-word.yielded ≡ c.in-Some.spelled.items = sym (map-id c.loop-word.yielded) ∙ seen.0 in
-    let read : Some words ≡ reading (piece_of_words Escaped) 0 c.args.text.now = ap (option_map (λ w. map word_of w.items)) (sym c.in-Some.is) ∙ c.in_ok-spelled.ensures in
+    let read : Some words ≡ reading (piece_of_words Escaped) c.args.text.now = ap (option_map (λ w. map word_of w.items)) (sym c.in-Some.is) ∙ c.in_ok-spelled.ensures in
     let made : commands_of words ≡ commands_seen c.push_command-2.new.commands.items =
     sym (commands_are words)
     ∙ ap (commands_after []) (sym (append-nil words) ∙ ap (λ w. map word_of w ++ []) (sym all))

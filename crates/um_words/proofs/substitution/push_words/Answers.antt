@@ -21,7 +21,7 @@ pub returns : goal.returns
 returns c =
     let value = c.args.value.now in
     let words = map word_of c.in-Some.spelled.items in
-    let read : reading (piece_of_words Plain) 0 value ≡ Some words = sym c.in_ok-spelled.ensures ∙ ap (option_map (λ w. map word_of w.items)) c.in-Some.is in
+    let read : reading (piece_of_words Plain) value ≡ Some words = sym c.in_ok-spelled.ensures ∙ ap (option_map (λ w. map word_of w.items)) c.in-Some.is in
     let seen = YieldsList-end (YieldsList-from_vec {s = c.into_iter-word-iterator.result} c.in-Some.spelled.items (search rules) (search rules)) c.loop-word.yielded c.loop-word.word-iterator c.loop-word.yielded_by c.next.result c.next.new.self c.in-None.is c.next.ensures.steps in
     let all : c.loop-word.yielded ≡ c.in-Some.spelled.items = sym (map-id c.loop-word.yielded) ∙ seen.0 in (
       values_of words,
