@@ -1,7 +1,6 @@
 -- The laws of words: at most one reading, and the function that finds it.
 use Rattle.std.proofs.Common.{◌≡◌, ◌↔◌, ◌<◌, ◌≤◌, ℕ, zero, suc, ◌+◌, ◌-◌, Bool, true, false, ◌||◌, not, cond, eqb, List, [], ◌∷◌, ◌++◌, length, take, drop, map, Option, Some, None, option_map, refl, sym, ap, ◌∙◌, subst, inl, inr, append_assoc, append-nil, arith}
-use Rattle.std.specs.Prelude.{IfSome, ◌&&◌, nat_lt}
-use Rattle.std.specs.Option.{option_map_or}
+use Rattle.std.specs.Prelude.{IfSome}
 use Rattle.std.specs.List.{prefix_len, flat_map, slice_split, onto_first}
 use Rattle.std.proofs.lemmas.List.{drop-drop, length-drop}
 use Rattle.std.proofs.lemmas.Bool.{cases_Bool, true≢false, cond-true, cond-false, or_parts, or_cases, not-true, not-false, eqb-true}
@@ -10,9 +9,10 @@ use Rattle.um_model.specs.Ascii.{is_space}
 use Rattle.um_model.specs.Finds.{Finds}
 use Rattle.um_model.specs.declared.words.WordRules.{WordRules}
 use Rattle.um_model.specs.declared.words.WordRules.TheVariants.{Escaped, Plain, Names}
-pub use Rattle.um_model.specs.Words.{with_front, at_end, by_spelling, read}
+pub use Rattle.um_model.proofs.WordSteps.{with_front, at_end, by_spelling, read}
+use Rattle.um_model.proofs.WordSteps.{Spelling, Stop, Bad, Turn, Means, Kept, escape, bare, spelled_at, may_end, read_skip, front_of_front, no_front, is_piece, escape_piece, begun-read}
 use Rattle.um_model.proofs.FindsLaws.{one_found}
-use Rattle.um_model.specs.Words.{is_quote, Spelling, Stop, Bad, Turn, Means, Kept, begins_escape, meaning_of, hex_value, hex_spelling, is_left_out, rare_escape, escape, bare, spelled_at, may_end, Word, before, word_front, piece_of_words, values_of, AreWords, words_of}
+use Rattle.um_model.specs.Words.{is_quote, begins_escape, Word, before, word_front, piece_of_words, values_of, AreWords, words_of}
 use Rattle.um_model.specs.Commands.{Command, is_separator, value_in_command, command_of, commands_of, commands_read}
 use Rattle.um_model.specs.Pieces.{StandsForText, reading}
 use Rattle.um_model.proofs.PiecesLaws.{prefixed, reading_first, reading_unreadable, reading-StandsForText, StandsForText-reading, prefixed-nil, Follows, follows_more, past_piece}
@@ -53,19 +53,6 @@ take_sum : (n p : ℕ) (xs : List ℕ) → take (n + p) xs ≡ take n xs ++ take
 take_sum zero p xs = ap (λ i. take i xs) (omega arith)
 take_sum (suc n) p [] = nil_take (suc n + p) ∙ sym (nil_take p)
 take_sum (suc n) p (x ∷ xs) = let e : suc n + p ≡ suc (n + p) = omega arith in ap (λ i. take i (x ∷ xs)) e ∙ ap (λ t. x ∷ t) (take_sum n p xs)
-
-read_skip : (rules : WordRules) (n : ℕ) (quote : Option ℕ) (bs : List ℕ) → read rules n quote bs ≡ read rules 0 quote (drop n bs)
-read_skip rules zero quote bs = refl
-read_skip rules (suc n) quote [] = refl
-read_skip rules (suc n) quote (b ∷ bs) = read_skip rules n quote bs
-
-front_of_front : (xs ys : List ℕ) (r : Option (List ℕ × List ℕ)) → with_front xs (with_front ys r) ≡ with_front (xs ++ ys) r
-front_of_front xs ys None = refl
-front_of_front xs ys (Some p) = ap (λ w. Some (w, p.1)) (sym (append_assoc xs ys p.0))
-
-no_front : (r : Option (List ℕ × List ℕ)) → with_front [] r ≡ r
-no_front None = refl
-no_front (Some p) = refl
 
 plain_bare : (quote : Option ℕ) (b : ℕ) → marks quote b ≡ false → bare quote b ≡ Kept 1
 plain_bare None b h = let r = or_parts (is_space b) (is_quote b) h in cond-false _ _ _ r.0 ∙ cond-false _ _ _ r.1
@@ -221,20 +208,16 @@ goes_either : (t : Bool) (f g : Spelling) → is_stop f ≡ false → is_stop g 
 goes_either true f g first second = first
 goes_either false f g first second = second
 
-goes_meant : (meaning : Option ℕ) (other : Spelling) → is_stop other ≡ false → is_stop (option_map_or (λ m. Means m 2) meaning other) ≡ false
-goes_meant (Some meaning) other goes = refl
-goes_meant None other goes = goes
-
-hex_goes : (value : ℕ) → is_stop (hex_spelling value) ≡ false
-hex_goes value = goes_either (nat_lt 0 value && nat_lt value 128) (Means value 4) Bad refl refl
+piece_goes : (f : Spelling) → is_piece f ≡ true → is_stop f ≡ false
+piece_goes Stop is = absurd (true≢false (sym is))
+piece_goes Bad is = refl
+piece_goes (Turn other) is = refl
+piece_goes (Means meaning n) is = refl
+piece_goes (Kept n) is = refl
 
 -- no escape ends a word
 escape_goes : (bs : List ℕ) → is_stop (escape bs) ≡ false
-escape_goes [] = refl
-escape_goes (b ∷ bs) =
-    goes_meant (meaning_of b) (rare_escape b bs)
-    (goes_either _ (hex_spelling (hex_value bs)) _ (hex_goes (hex_value bs))
-    (goes_either (is_left_out b bs) Bad _ refl (goes_either (is_space b) (Kept 2) (Kept 1) refl refl)))
+escape_goes bs = piece_goes (escape bs) (escape_piece bs)
 
 bare_goes : (b : ℕ) → is_space b ≡ false → is_stop (bare None b) ≡ false
 bare_goes b apart = ap is_stop (cond-false _ _ _ apart) ∙ goes_either (is_quote b) (Turn (Some b)) (Kept 1) refl refl
@@ -275,7 +258,7 @@ first_read : (rules : WordRules) (b : ℕ) (bs value rest : List ℕ) → is_spa
 first_read rules b bs value rest apart found =
     let inside = InWord-read rules (length (b ∷ bs)) None (b ∷ bs) value rest (omega arith) found in
     let first = first_word (b ∷ bs) rest value in
-    reading_first (piece_of_words rules) b (length (b ∷ bs) - length rest) bs (first ∷ []) (cond-false _ _ _ apart ∙ ap (word_front (b ∷ bs)) found)
+    reading_first (piece_of_words rules) b (length (b ∷ bs) - length rest) bs (first ∷ []) (cond-false _ _ _ apart ∙ ap (word_front (b ∷ bs)) (begun-read rules (b ∷ bs) ∙ found))
     ∙ ap (λ t. prefixed (first ∷ []) (reading (piece_of_words rules) t)) (past_piece b bs rest (rest_follows_first rules b bs value rest apart inside))
 
 -- a text that begins with a word is this word, and the words that follow it
@@ -291,7 +274,7 @@ word_read rules text rest later b value e apart found =
 pub none_read : (rules : WordRules) (text later : List ℕ) (b : ℕ) → text ≡ b ∷ later → is_space b ≡ false → read rules 0 None text ≡ None → reading (piece_of_words rules) text ≡ None
 none_read rules text later b e apart nothing =
     ap (reading (piece_of_words rules)) e
-    ∙ reading_unreadable (piece_of_words rules) b later (cond-false _ _ _ apart ∙ ap (word_front (b ∷ later)) (ap (read rules 0 None) (sym e) ∙ nothing))
+    ∙ reading_unreadable (piece_of_words rules) b later (cond-false _ _ _ apart ∙ ap (word_front (b ∷ later)) (begun-read rules (b ∷ later) ∙ ap (read rules 0 None) (sym e) ∙ nothing))
 
 -- the same of what the words stand for
 pub words_of-AreWords : (rules : WordRules) (text : List ℕ) (words : List (List ℕ)) → AreWords rules text words → words_of rules text ≡ Some words
