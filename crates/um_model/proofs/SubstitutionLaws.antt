@@ -5,7 +5,7 @@ use Rattle.std.proofs.lemmas.Option.{none-some, same_Some}
 use Rattle.um_model.specs.Ascii.{is_space}
 use Rattle.um_model.specs.Pieces.{Front, Gives, StandsForText}
 use Rattle.um_model.proofs.WordSteps.{bare, begun-read}
-use Rattle.um_model.specs.Words.{is_quote, Word, word_front, piece_of_words, values_of, AreWords}
+use Rattle.um_model.specs.Words.{is_quote, Word, word_front, piece_of_words, word_values, AreWords}
 use Rattle.um_model.specs.Substitution.{Variable, value_of, whole_name, braced_name, variable_front, dollar_front, piece_front, Becomes, splits, fills, AllBecome, no_more, one_more, AreSubstituted, no_words, first_stays}
 use Rattle.um_model.specs.declared.words.WordRules.TheVariants.{Plain}
 use Rattle.um_model.specs.Text.{first_passes}
@@ -126,7 +126,7 @@ become_some : (environment : List Variable) (word : List ℕ) → (words : List 
 become_some environment word = elim (whole_name word) as (λ o. whole_name word ≡ o → (words : List (List ℕ)) × Becomes environment word words) [
   | Some name ↦ λ whole.
       let found = has_words (value_of environment name) in
-      (values_of found.0, splits word name (values_of found.0) whole (found.0, found.1, refl))
+      (word_values found.0, splits word name (word_values found.0) whole (found.0, found.1, refl))
   | None ↦ λ none_whole.
       let filled = has_reading (piece_front environment) (piece_reads environment) word in
       (filled.0 ∷ [], fills word filled.0 none_whole filled.1)

@@ -12,7 +12,7 @@ use Rattle.std.specs.Option.{is_some, option_map_or}
 use Rattle.std.proofs.Math.Bool.{or-false, or-true}
 use Rattle.um_model.specs.Ascii.{is_space}
 use Rattle.um_model.specs.Text.{trim_start, trim_end, trim, is_empty, is_blank, without_last}
-use Rattle.um_model.specs.Syntax.{Line, is_comment, continues, physical_line, joined_line, Statement, Blank, Head, Pair, Stray, Item, Section, Assignment, Warning, items_of, is_head, Placed, in_sections, physical, first_text, joined, joined_lines, in_brackets, before_bracket, has_equals, pair_of, statement_of, section_after, line_number, items_in, reading_of}
+use Rattle.um_model.specs.Syntax.{Line, is_comment, continues, physical_line, joined_line, Statement, Blank, Head, Pair, Stray, Item, Section, Assignment, Warned, items_of, is_head, Placed, in_sections, physical, first_text, joined, joined_lines, in_brackets, before_bracket, has_equals, pair_of, statement_of, section_after, line_number, items_in, reading_of}
 use Rattle.um_model.specs.declared.warnings.WarningKind.TheVariants.{BeforeAnySection}
 
 -- What a text says as a relation, line by line
@@ -75,9 +75,9 @@ stands_well None (Section name line) = false
 stands_well (Some section) (Section name line) = true
 stands_well None (Assignment key value line whole) = false
 stands_well (Some section) (Assignment key value line whole) = true
-stands_well None (Warning kind line) = true
-stands_well (Some section) (Warning BeforeAnySection line) = false
-stands_well (Some section) (Warning kind line) = true
+stands_well None (Warned kind line) = true
+stands_well (Some section) (Warned BeforeAnySection line) = false
+stands_well (Some section) (Warned kind line) = true
 
 -- Lines that count
 

@@ -12,8 +12,8 @@ use Rattle.um_model.specs.declared.words.WordRules.TheVariants.{Escaped, Plain, 
 pub use Rattle.um_model.proofs.WordSteps.{with_front, at_end, by_spelling, read}
 use Rattle.um_model.proofs.WordSteps.{Spelling, Stop, Bad, Turn, Means, Kept, escape, bare, spelled_at, may_end, read_skip, front_of_front, no_front, is_piece, escape_piece, begun-read}
 use Rattle.um_model.proofs.FindsLaws.{one_found}
-use Rattle.um_model.specs.Words.{is_quote, begins_escape, Word, before, word_front, piece_of_words, values_of, AreWords, words_of}
-use Rattle.um_model.specs.Commands.{Command, is_separator, value_in_command, command_of, commands_of, commands_read}
+use Rattle.um_model.specs.Words.{is_quote, begins_escape, Word, word_front, piece_of_words, word_values, AreWords, words_of}
+use Rattle.um_model.specs.Commands.{Command, is_separator, value_in_command, command_of, commands_among, commands_read}
 use Rattle.um_model.specs.Pieces.{StandsForText, reading}
 use Rattle.um_model.proofs.PiecesLaws.{prefixed, reading_first, reading_unreadable, reading-StandsForText, StandsForText-reading, prefixed-nil, Follows, follows_more, past_piece}
 
@@ -251,7 +251,7 @@ space_read rules b bs white = reading_first (piece_of_words rules) b 1 bs [] (co
 
 -- a word that is read at the front of a text
 abbrev pub first_word : List ℕ → List ℕ → List ℕ → Word
-first_word text rest value = record { spelling = before rest text; value = value }
+first_word text rest value = record { spelling = take (length text - length rest) text; value = value }
 
 first_read : (rules : WordRules) (b : ℕ) (bs value rest : List ℕ) → is_space b ≡ false → read rules 0 None (b ∷ bs) ≡ Some (value, rest)
     → reading (piece_of_words rules) (b ∷ bs) ≡ option_map (λ words. first_word (b ∷ bs) rest value ∷ words) (reading (piece_of_words rules) rest)
@@ -279,27 +279,27 @@ none_read rules text later b e apart nothing =
 -- the same of what the words stand for
 pub words_of-AreWords : (rules : WordRules) (text : List ℕ) (words : List (List ℕ)) → AreWords rules text words → words_of rules text ≡ Some words
 unfolding words_of
-words_of-AreWords rules text words are = ap (option_map values_of) (reading-StandsForText (piece_of_words rules) text are.0 are.1) ∙ ap Some are.2
+words_of-AreWords rules text words are = ap (option_map word_values) (reading-StandsForText (piece_of_words rules) text are.0 are.1) ∙ ap Some are.2
 
 pub AreWords-words_of : (rules : WordRules) (text : List ℕ) (words : List (List ℕ)) → words_of rules text ≡ Some words → AreWords rules text words
 unfolding words_of
 AreWords-words_of rules text words e =
-    let t = mapped values_of (reading (piece_of_words rules) text) words e in
+    let t = mapped word_values (reading (piece_of_words rules) text) words e in
     (t.0, StandsForText-reading (piece_of_words rules) text t.0 t.1, t.2)
 
 -- the text reads as these commands
 abbrev pub AreCommands : List ℕ → List Command → Type 0
-AreCommands text commands = (spelled : List Word) × StandsForText (piece_of_words Escaped) text spelled × (commands_of spelled ≡ commands)
+AreCommands text commands = (spelled : List Word) × StandsForText (piece_of_words Escaped) text spelled × (commands_among spelled ≡ commands)
 
 -- and of commands
 pub commands_read-AreCommands : (text : List ℕ) (commands : List Command) → AreCommands text commands → commands_read text ≡ Some commands
 unfolding commands_read
-commands_read-AreCommands text commands are = ap (option_map commands_of) (reading-StandsForText (piece_of_words Escaped) text are.0 are.1) ∙ ap Some are.2
+commands_read-AreCommands text commands are = ap (option_map commands_among) (reading-StandsForText (piece_of_words Escaped) text are.0 are.1) ∙ ap Some are.2
 
 pub AreCommands-commands_read : (text : List ℕ) (commands : List Command) → commands_read text ≡ Some commands → AreCommands text commands
 unfolding commands_read
 AreCommands-commands_read text commands e =
-    let t = mapped commands_of (reading (piece_of_words Escaped) text) commands e in
+    let t = mapped commands_among (reading (piece_of_words Escaped) text) commands e in
     (t.0, StandsForText-reading (piece_of_words Escaped) text t.0 t.1, t.2)
 
 -- each function finds what its relation tells
@@ -352,5 +352,5 @@ commands_split (word ∷ words) part =
     split_step (is_separator word) part word (slice_split is_separator words) _ _ (commands_split words []) (commands_split words (part ++ value_in_command word ∷ []))
 
 -- the commands of words, one word after the other
-pub commands_are : (words : List Word) → commands_after [] words ≡ commands_of words
+pub commands_are : (words : List Word) → commands_after [] words ≡ commands_among words
 commands_are words = commands_split words [] ∙ all_parts (slice_split is_separator words)

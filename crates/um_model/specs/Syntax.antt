@@ -102,21 +102,21 @@ statement_of text = option_map_or Head (in_brackets (trim text)) (if is_blank te
 pub data Item : Type 0 where
   Section : List ℕ → ℕ → Item
   Assignment : List ℕ → List ℕ → ℕ → Bool → Item
-  Warning : WarningKind → ℕ → Item
+  Warned : WarningKind → ℕ → Item
 
 -- the number of its line
 abbrev pub line_number : Item → ℕ
 line_number (Section name line) = line
 line_number (Assignment key value line whole) = line
-line_number (Warning kind line) = line
+line_number (Warned kind line) = line
 
 -- what a line with this number gives by what it says, after a section's head or before any
 abbrev pub items_of : Statement → Bool → ℕ → Bool → List Item
 items_of Blank begun number whole = []
 items_of (Head name) begun number whole = Section name number ∷ []
 items_of (Pair key value) true number whole = Assignment key value number whole ∷ []
-items_of (Pair key value) false number whole = Warning BeforeAnySection number ∷ []
-items_of Stray begun number whole = Warning NoEqualsSign number ∷ []
+items_of (Pair key value) false number whole = Warned BeforeAnySection number ∷ []
+items_of Stray begun number whole = Warned NoEqualsSign number ∷ []
 
 -- the statement is a section's head
 abbrev pub is_head : Statement → Bool

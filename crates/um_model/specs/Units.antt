@@ -9,7 +9,7 @@ use Rattle.std.specs.List.{flat_map, list_any, after_last}
 use Rattle.std.specs.Str.{bytes_eq}
 use Rattle.um_model.specs.Names.{suffix_of, is_unit_name}
 use Rattle.um_model.specs.Text.{is_empty}
-use Rattle.um_model.specs.Syntax.{Item, Section, Assignment, Warning as Warned, Placed, line_number, reading_of}
+use Rattle.um_model.specs.Syntax.{Item, Section, Assignment, Warned, Placed, line_number, reading_of}
 use Rattle.um_model.specs.Tree.{Tree}
 use Rattle.um_model.specs.Resolution.{is_of_same_type, UnitFile, Resolution, AtFile, AtNoFile, AtMask, Nowhere, files_at, resolution_of}
 use Rattle.um_model.specs.Keys.{is_foreign, is_known_section, is_refused_key, kind_of_key}

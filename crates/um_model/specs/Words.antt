@@ -89,27 +89,24 @@ pub record Word : Type 0 where
   pub spelling : List ℕ
   pub value : List ℕ
 
--- what of the text stands before the rest
-abbrev pub before : List ℕ → List ℕ → List ℕ
-before rest text = take (length text - length rest) text
-
--- a word that was found at the front of a text, with what follows it
+-- a word that was found at the front of a text, with what follows it: its spelling is all that stands before that
 abbrev pub word_front : List ℕ → Option (List ℕ × List ℕ) → Front Word
 word_front text None = Unreadable
-word_front text (Some (value, rest)) = Gives (record { spelling = before rest text; value = value } ∷ []) (length text - length rest)
+word_front text (Some (value, rest)) =
+    let taken = length text - length rest in Gives (record { spelling = take taken text; value = value } ∷ []) taken
 
 -- a piece of a text of words: whitespace, or a word
 abbrev pub piece_of_words : WordRules → ℕ → List ℕ → Front Word
 piece_of_words rules b bs = if is_space b then Gives [] 1 else word_front (b ∷ bs) (begun (piece_of_word rules) (b ∷ bs))
 
 -- what words stand for
-abbrev pub values_of : List Word → List (List ℕ)
-values_of words = map (λ w. w.value) words
+abbrev pub word_values : List Word → List (List ℕ)
+word_values words = map (λ w. w.value) words
 
 -- the text reads as these words
 abbrev pub AreWords : WordRules → List ℕ → List (List ℕ) → Type 0
-AreWords rules text words = (spelled : List Word) × StandsForText (piece_of_words rules) text spelled × (values_of spelled ≡ words)
+AreWords rules text words = (spelled : List Word) × StandsForText (piece_of_words rules) text spelled × (word_values spelled ≡ words)
 
 -- the words that the text reads as, where it can be read
 unfoldable pub words_of : WordRules → List ℕ → Option (List (List ℕ))
-words_of rules text = option_map values_of (reading (piece_of_words rules) text)
+words_of rules text = option_map word_values (reading (piece_of_words rules) text)
