@@ -78,7 +78,10 @@ fn refused_value(alloc: Global, refusal: &Refusal) -> Result<Value, AllocError>
 fn warning_value(alloc: Global, warning: &Warning) -> Result<Value, AllocError>
     ensures { IfOk result (λ v. view v ≡ model.warning_data (warning_of warning.now)) }
 {
-    json!(in alloc; [warning.kind.number(), &warning.path, warning.line as u64])
+    let number = warning.kind.number();
+    let path = warning.path.as_str();
+    let line = warning.line as u64;
+    json!(in alloc; [number, path, line])
 }
 
 fn warnings_value(alloc: Global, warnings: &[Warning]) -> Result<Value, AllocError>
@@ -210,37 +213,31 @@ fn jobs_value(alloc: Global, jobs: &[JobShown]) -> Result<Value, AllocError>
     Ok(Value::Array(list))
 }
 
+/// A reply with a value.
+fn valued(alloc: Global, value: Value) -> Result<Value, AllocError>
+    ensures { IfOk result (λ v. view v ≡ model.valued (view value)) }
+{
+    json!(in alloc; {"ok": true, "value": value})
+}
+
 fn reply_value(alloc: Global, reply: &Reply) -> Result<Value, AllocError>
     ensures { IfOk result (λ v. view v ≡ model.reply_data (reply_of reply.now)) }
 {
     match reply {
         Reply::Done => json!(in alloc; {"ok": true}),
-        Reply::Shown(shown) => {
-            let value = shown_value(alloc, shown)?;
-            json!(in alloc; {"ok": true, "value": value})
-        }
-        Reply::Activity(state) => json!(in alloc; {"ok": true, "value": state.text()}),
-        Reply::Files(files) => {
-            let value = files_value(alloc, files.as_slice())?;
-            json!(in alloc; {"ok": true, "value": value})
-        }
+        Reply::Shown(shown) => valued(alloc, shown_value(alloc, shown)?),
+        Reply::Activity(state) => valued(alloc, json!(in alloc; state.text())?),
+        Reply::Files(files) => valued(alloc, files_value(alloc, files.as_slice())?),
         Reply::Relinked { made, removed } => {
-            let value = relinked_value(alloc, made.as_slice(), removed.as_slice())?;
-            json!(in alloc; {"ok": true, "value": value})
+            valued(
+                alloc,
+                relinked_value(alloc, made.as_slice(), removed.as_slice())?,
+            )
         }
-        Reply::EnabledAs(answer) => json!(in alloc; {"ok": true, "value": answer.text()}),
-        Reply::Listed(units) => {
-            let value = units_value(alloc, units.as_slice())?;
-            json!(in alloc; {"ok": true, "value": value})
-        }
-        Reply::Jobs(jobs) => {
-            let value = jobs_value(alloc, jobs.as_slice())?;
-            json!(in alloc; {"ok": true, "value": value})
-        }
-        Reply::Told(actions) => {
-            let value = actions_value(alloc, actions.as_slice())?;
-            json!(in alloc; {"ok": true, "value": value})
-        }
+        Reply::EnabledAs(answer) => valued(alloc, json!(in alloc; answer.text())?),
+        Reply::Listed(units) => valued(alloc, units_value(alloc, units.as_slice())?),
+        Reply::Jobs(jobs) => valued(alloc, jobs_value(alloc, jobs.as_slice())?),
+        Reply::Told(actions) => valued(alloc, actions_value(alloc, actions.as_slice())?),
         Reply::Refused(refusal) => refused_value(alloc, refusal),
     }
 }
