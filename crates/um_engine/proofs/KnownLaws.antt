@@ -15,7 +15,7 @@ use Rattle.um_model.proofs.KnownLaws.{more_known}
 use Rattle.um_model.proofs.SceneLaws.{one_count}
 use Rattle.um_model.proofs.TreeLaws.{without_run_same}
 use Rattle.um_engine.specs.Known.{IsHeldWith, IsGraphFor, KnownView, KnowsFor}
-use Rattle.um_engine.specs.Over.{Serves}
+use Rattle.um_falling.specs.Over.{Serves}
 use Rattle.um_engine.proofs.SameUnitsLaws.{KnowsSame, count_by, graph_same}
 
 module _ (s : State) (k : KnownView) (named : Option (List ℕ)) (knows : KnowsFor k s) (made : (x : List ℕ) → Contains k.extra x → IsHeldWith s named x)

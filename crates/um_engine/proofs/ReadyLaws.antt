@@ -25,11 +25,11 @@ use Rattle.um_graph.proofs.NamedLaws.{among_or_apart, got_within, item_at, name_
 use Rattle.um_jobs.specs.Jobs.{IsReadyIn, JobsView, held_at, job_named}
 use Rattle.um_jobs.specs.Named.{jobs_at, jobs_by}
 use Rattle.um_jobs.proofs.NamedLaws.{jobs_by_at, jobs_by_none}
-use Rattle.um_engine.specs.Carrying.{KeepsOthers}
+use Rattle.um_falling.specs.Carrying.{KeepsOthers}
 use Rattle.um_engine.specs.Filled.{Tells, TellsBelow, deactivates, is_deactivating, told_of}
-use Rattle.um_engine.specs.Over.{Serves}
-use Rattle.um_engine.proofs.AlongLaws.{number_by, pending_apart, sum_drops}
-use Rattle.um_engine.proofs.TakenLaws.{before_by, stands_by}
+use Rattle.um_falling.specs.Over.{Serves}
+use Rattle.um_falling.proofs.AlongLaws.{number_by, pending_apart, sum_drops}
+use Rattle.um_falling.proofs.TakenLaws.{before_by, stands_by}
 
 -- ---- the jobs by number are filled
 

@@ -17,9 +17,10 @@ use Rattle.um_model.proofs.FewLaws.{no_more_few, none_there, resets_no_more}
 use Rattle.um_model.proofs.TimersLaws.{same_name}
 use Rattle.um_model.proofs.UnitLaws.{unlike}
 use Rattle.um_graph.specs.Graph.{GraphView}
-use Rattle.um_engine.specs.Engine.{HappensTo, ResetsTo}
+use Rattle.um_falling.specs.Falling.{HappensTo}
+use Rattle.um_engine.specs.Engine.{ResetsTo}
 use Rattle.um_engine.specs.Known.{KnownView, KnowsFor}
-use Rattle.um_engine.specs.Over.{Serves}
+use Rattle.um_falling.specs.Over.{Serves}
 use Rattle.um_engine.proofs.KnownLaws.{knows_less, serves_for}
 
 -- ---- a unit of which nothing is held

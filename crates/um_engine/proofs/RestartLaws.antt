@@ -10,8 +10,8 @@ use Rattle.um_model.specs.declared.jobs.UnitJobs.{UnitJobs}
 use Rattle.um_model.proofs.TimersLaws.{same_name}
 use Rattle.um_model.proofs.UnitLaws.{jobs_apart, jobs_here, no_job_held, not_jobless, same_tidy, tidy_jobs}
 use Rattle.um_graph.specs.Graph.{GraphView}
-use Rattle.um_engine.specs.Over.{Serves}
-use Rattle.um_engine.proofs.AlongLaws.{pending_apart}
+use Rattle.um_falling.specs.Over.{Serves}
+use Rattle.um_falling.proofs.AlongLaws.{pending_apart}
 
 -- the graph serves where jobs of one of its units are put
 pub serves_with : (g : GraphView) (s : State) (unit : List ℕ) (j : UnitJobs) → Serves g s → Contains g.names unit → Serves g (with_plan s unit j)

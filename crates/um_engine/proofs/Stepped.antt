@@ -8,6 +8,7 @@ use Rattle.um_model.specs.Machine.{State, Command, Happening, Booted, Event, Com
 use Rattle.um_model.specs.Refusals.{Refused, no_room}
 use Rattle.um_model.specs.Service.{Action, state_of_unit}
 use Rattle.um_model.specs.declared.transition.UnitEvent.TheVariants.{Executed}
+use Rattle.um_model.proofs.KeepsLaws.{settles_keeps}
 use Rattle.um_model.proofs.FewLaws.{fires_no_more, happened_no_more, no_more_few, number_held, settles_no_more}
 use Rattle.um_graph.specs.Graph.{GraphView}
 use Rattle.um_state.specs.View.{state_of}
@@ -17,7 +18,7 @@ use Rattle.um_wire.specs.declared.refusal.Refusal.{Refusal}
 use Rattle.um_wire.specs.declared.refusal.Refusal.TheVariants.{NoMemory}
 use Rattle.um_engine.specs.Engine.{Met, MetBy, SettlesTo, state_at}
 use Rattle.um_engine.specs.Known.{KnownView, KnowsFor}
-use Rattle.um_engine.specs.Over.{Serves}
+use Rattle.um_falling.specs.Over.{Serves}
 use Rattle.um_engine.specs.Planned.{Declines, for_cause, for_room}
 use Rattle.um_engine.specs.Served.{ServedView}
 use Rattle.um_engine.proofs.KnownLaws.{knows_less, serves_for}
@@ -162,3 +163,8 @@ pub declined_for_room : (size t : ℕ) (s u : State) (command : Command) (action
     → (e ≢ NoMemory → (refused_of e ≡ no_room) × IsTooHeavy size u) → e ≢ NoMemory → Declines size t s command (refused_of e)
 declined_for_room size t s u command actions e takes heavy differs =
     let (is, h) = heavy differs in subst (Declines size t s command) (sym is) (for_room takes h)
+
+-- jobs that begin leave the tree in hand, and with it what is answered
+pub same_answer : (t : ℕ) (event : Event) (s u v : State) (first all : List Action) (reply : Reply) → reply ≡ reply_after event s.tree u.tree
+    → SettlesTo t u first v all → reply ≡ reply_after event s.tree v.tree
+same_answer t event s u v first all reply is (more, settles, whole) = is ∙ ap (reply_after event s.tree) (sym (settles_keeps t u more v settles).tree)

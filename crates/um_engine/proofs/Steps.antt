@@ -9,7 +9,8 @@ use Rattle.std.specs.Cmp.Lexicographic.{slice_cmp}
 use Rattle.std.specs.Ordering.{nat_cmp}
 use Rattle.std.proofs.lemmas.Option.{none-some}
 use Rattle.um_model.specs.Timers.{Timers}
-use Rattle.um_engine.specs.Engine.{HappensTo, SettlesTo, ComesDueTo, FiresOneTo, passed, fired, FiresFrom, IsDue, NoneIsDue}
+use Rattle.um_falling.specs.Falling.{HappensTo}
+use Rattle.um_engine.specs.Engine.{SettlesTo, ComesDueTo, FiresOneTo, passed, fired, FiresFrom, IsDue, NoneIsDue}
 
 -- where no job is ready, all has settled
 pub settled : (t : ℕ) (s : State) (before : List Action) → IsStill s → SettlesTo t s before s before

@@ -14,8 +14,9 @@ use Rattle.um_model.specs.declared.service.End.{End}
 use Rattle.um_model.specs.declared.transition.UnitEvent.{UnitEvent}
 use Rattle.um_model.specs.declared.transition.UnitEvent.TheVariants.{Executed}
 use Rattle.um_graph.specs.Graph.{GraphView}
-use Rattle.um_engine.specs.Engine.{FollowsUpon, HappensTo, MetBy, SettlesTo, FiresTo, IsSame}
-use Rattle.um_engine.specs.Over.{Serves}
+use Rattle.um_engine.specs.Engine.{FollowsUpon, MetBy, SettlesTo, FiresTo, IsSame}
+use Rattle.um_falling.specs.Falling.{HappensTo}
+use Rattle.um_falling.specs.Over.{Serves}
 use Rattle.um_engine.specs.Served.{ServedView}
 
 -- a tick that leaves units, jobs and the next number leaves the state

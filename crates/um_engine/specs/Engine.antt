@@ -5,11 +5,9 @@ use Rattle.um_model.specs.Machine as model
 use Rattle.um_model.specs.Service.{Action, state_of_unit}
 use Rattle.um_model.specs.Timers.{Timers, IsDueFirst}
 use Rattle.um_model.specs.declared.transition.UnitEvent.{UnitEvent}
-use Rattle.um_unit.specs.ServiceView.{service_settings_of}
 use Rattle.um_state.specs.View.{state_of, reply_of, action_of}
 use Rattle.um_state.specs.declared.state.State.{State}
 use Rattle.um_engine.specs.Served.{ServedView}
-use Rattle.um_engine.specs.declared.acting.Acting.{Acting}
 use Rattle.um_engine.specs.declared.engine.Engine.{Engine}
 use Rattle.um_engine.specs.declared.engine.Next.{Next}
 use Rattle.um_engine.specs.declared.engine.Back.{Back}
@@ -51,22 +49,6 @@ has_effect_in n = is_some n.served
 -- the state before a step that was taken, from the state in which it left the engine
 abbrev pub state_before : Back → model.State → model.State
 state_before b s = given_or b.served s
-
--- what the service table knows of a unit
-abbrev pub acting_of : Acting → model.Acting
-acting_of a = record { settings = service_settings_of a.settings.now; loadable = a.loadable }
-
--- what happens to a unit is carried out
-abbrev pub CarriesTo : ℕ → List ℕ → UnitEvent → model.State → List Action → model.State → List Action → Type 0
-CarriesTo t unit event s before s' after = (new : List Action) × model.Carries t unit event s new s' × (after ≡ before ++ new)
-
--- the same with all units that fall with it
-abbrev pub HappensTo : ℕ → List ℕ → UnitEvent → model.State → List Action → model.State → List Action → Type 0
-HappensTo t unit event s before s' after = (new : List Action) × model.Happens t unit event s new s' × (after ≡ before ++ new)
-
--- these units are told to stop at once
-abbrev pub FallsTo : ℕ → List (List ℕ) → model.State → List Action → model.State → List Action → Type 0
-FallsTo t units s before s' after = (new : List Action) × model.FallDown t units s new s' × (after ≡ before ++ new)
 
 -- of these units the failures are forgotten
 abbrev pub ResetsTo : ℕ → List (List ℕ) → model.State → List Action → model.State → List Action → Type 0

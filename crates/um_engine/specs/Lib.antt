@@ -1,11 +1,7 @@
-pub mod Along
-pub mod Carrying
 pub mod Demanded
 pub mod Engine
-pub mod Falling
 pub mod Filled
 pub mod Known
 pub mod OfStore
-pub mod Over
 pub mod Planned
 pub mod Served

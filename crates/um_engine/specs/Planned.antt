@@ -1,26 +1,19 @@
 -- What the code finds of a state by the numbers of a graph's units.
 -- Follows no manual page: it turns numbers into names.
 -- Plans stand on this file.
-use Rattle.std.specs.Prelude.{◌≡◌, ℕ, List, Option, Some, None, option_map, slice_get}
+use Rattle.std.specs.Prelude.{◌≡◌, ℕ, List}
 use Rattle.um_model.specs.Jobs.{jobs_of_unit}
 use Rattle.um_model.specs.Machine.{State, IsHeldOr, Takes, Commanded, Command, Refuses, IsTooHeavy, scene_at}
 use Rattle.um_model.specs.Refusals.{Refused, no_room}
 use Rattle.um_model.specs.Service.{Action, active_state_of, state_of_unit}
-use Rattle.um_model.specs.Tree.{Tree}
-use Rattle.um_model.specs.Units.{load}
 use Rattle.um_model.specs.declared.commands.JobMode.{JobMode}
 use Rattle.um_model.specs.declared.dependencies.Demand.{Demand}
 use Rattle.um_model.specs.declared.jobs.UnitJobs.{UnitJobs}
 use Rattle.um_model.specs.declared.service.ActiveState.{ActiveState}
-use Rattle.um_unit.specs.View.{loading_of}
 use Rattle.um_graph.specs.Graph.{GraphView, IsNumberOf}
 use Rattle.um_jobs.specs.Named.{jobs_at}
 use Rattle.um_transact.specs.Scene.{IsAccepted}
 use Rattle.um_transact.specs.Walk.{activity_at}
-
--- the loadings of the graph are those of the tree
-abbrev pub Loads : GraphView → Tree → Type 0
-Loads g tree = (i : ℕ) (x : List ℕ) → IsNumberOf g i x → option_map loading_of (slice_get g.loadings i) ≡ Some (load tree x)
 
 -- by number: how active the units are
 abbrev pub AreActive : GraphView → State → List ActiveState → Type 0

@@ -15,13 +15,12 @@ ghost use Rattle.um_wire.specs.declared.refusal.Refusal.TheVariants.{NoMemory};
 
 use crate::jobs::{cancelled, has_waiting};
 use crate::loading::known_of_loaded;
-use crate::missing::check_missing;
-use crate::names::{Asked, text_of};
 use crate::planning::planned;
 use crate::resetting::without_failures;
 use crate::served::Served;
 use std::alloc::{AllocError, Global};
 use std::rc::Rc;
+use um_answer::{Asked, check_missing, text_of};
 use um_install::{Installed, install};
 use um_model::{InstallVerb, Moment, UnitJobs};
 use um_name::UnitName;

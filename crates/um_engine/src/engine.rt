@@ -10,7 +10,6 @@ ghost use Rattle.um_state.specs.View.{state_of, input_of, query_of, reply_of, ac
 ghost use Rattle.um_wire.specs.Refusal.{refused_of};
 ghost use Rattle.um_wire.specs.declared.refusal.Refusal.TheVariants.{NoMemory};
 
-use crate::answer::reply_to;
 use crate::commands::{Outcome, done};
 use crate::happenings::met;
 use crate::loading::known_of_loaded;
@@ -20,6 +19,7 @@ use crate::settling::settle;
 use std::alloc::{AllocError, Global};
 use std::mem;
 use std::rc::Rc;
+use um_answer::reply_to;
 use um_model::Moment;
 use um_state::{Action, Command, Event, Input, Query, Reply, State};
 use um_wire::Refusal;

@@ -2,21 +2,13 @@
 //! from the state alone.
 #![tactic(auto)]
 
-mod acting;
-mod along;
-mod answer;
-mod carrying;
 mod commands;
 mod engine;
-mod falling;
 mod happenings;
 mod jobs;
 mod known;
 mod laws;
-mod listing;
 mod loading;
-mod missing;
-mod names;
 mod planning;
 mod resetting;
 mod restarting;

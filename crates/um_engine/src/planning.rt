@@ -19,11 +19,10 @@ ghost use Rattle.um_wire.specs.declared.refusal.Refusal.TheVariants.{NoMemory};
 
 use crate::jobs::demand_of;
 use crate::known::Known;
-use crate::missing::check_missing;
-use crate::names::Asked;
 use crate::served::Served;
 use std::alloc::{AllocError, Global};
 use std::rc::Rc;
+use um_answer::{Asked, check_missing};
 use um_graph::Graph;
 use um_model::{ActiveState, Demand, JobMode, UnitJobs, UnitVerb};
 use um_name::UnitName;

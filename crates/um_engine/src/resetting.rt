@@ -2,16 +2,15 @@
 
 ghost use Rattle.std.specs.Prelude.{◌≡◌, ◌∷◌, [], map, IfOk, OnOk};
 ghost use Rattle.um_engine.specs.Engine.{ResetsTo};
-ghost use Rattle.um_engine.specs.Over.{Serves};
+ghost use Rattle.um_falling.specs.Over.{Serves};
 ghost use Rattle.um_model.specs.Machine as model;
 ghost use Rattle.um_state.specs.View.{state_of, action_of};
 ghost use Rattle.um_wire.specs.Gives.{RefusesBy};
 
-use crate::falling::happen;
-use crate::missing::check_missing;
-use crate::names::Asked;
 use crate::served::Served;
 use std::alloc::{AllocError, Global};
+use um_answer::{Asked, check_missing};
+use um_falling::happen;
 use um_graph::Graph;
 use um_model::{Moment, UnitEvent};
 use um_name::UnitName;

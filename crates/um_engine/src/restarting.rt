@@ -1,7 +1,7 @@
 //! Automatic restarts (systemd.service(5), "Restart=").
 
 ghost use Rattle.std.specs.Prelude.{◌≡◌, true, false, List, Contains, IfOk, OnOk};
-ghost use Rattle.um_engine.specs.Over.{Serves};
+ghost use Rattle.um_falling.specs.Over.{Serves};
 ghost use Rattle.um_model.specs.Jobs.{ComesBefore, Job};
 ghost use Rattle.um_model.specs.Machine as model;
 ghost use Rattle.um_model.specs.Machine.{IsBefore};

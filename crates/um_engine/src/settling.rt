@@ -1,8 +1,8 @@
 ghost use Rattle.std.specs.Prelude.{◌≡◌, false, map, Contains, IfOk, IfSome, OnOk, MatchOption};
-ghost use Rattle.um_engine.specs.Carrying.{KeepsOthers};
 ghost use Rattle.um_engine.specs.Engine.{SettlesTo, ComesDueTo, FiresOneTo, FiresTo, IsDue, NoneIsDue};
 ghost use Rattle.um_engine.specs.Filled.{Tells, is_deactivating, told_of};
-ghost use Rattle.um_engine.specs.Over.{Serves};
+ghost use Rattle.um_falling.specs.Carrying.{KeepsOthers};
+ghost use Rattle.um_falling.specs.Over.{Serves};
 ghost use Rattle.um_graph.specs.Graph.{IsNumberOf};
 ghost use Rattle.um_model.specs.Jobs.{BeginsNext, IsWaiting, Job};
 ghost use Rattle.um_model.specs.Machine as model;
@@ -10,10 +10,10 @@ ghost use Rattle.um_model.specs.Machine.{begun, IsBefore, IsStill};
 ghost use Rattle.um_model.specs.Service.{active_state_of};
 ghost use Rattle.um_state.specs.View.{state_of, action_of};
 
-use crate::falling::happen;
 use crate::jobs::begins;
 use crate::restarting::restart;
 use std::alloc::{AllocError, Global};
+use um_falling::happen;
 use um_graph::Graph;
 use um_jobs::{Jobs, with_running};
 use um_model::{ActiveState, Deadline, JobKind, Moment, SubState, UnitEvent, UnitState};

@@ -29,7 +29,7 @@ byte_escape-front b rest small =
 
 byte_escape-stands : (b : ℕ) (text bytes : List ℕ) → b < 256 → StandsForBytes text bytes → StandsForBytes (byte_escape b ++ text) (b ∷ bytes)
 byte_escape-stands b text bytes small more =
-    piece 92 4 (120 ∷ digit_char (b / 16) ∷ digit_char (b % 16) ∷ text) (b ∷ []) bytes (byte_escape-front b text small) more
+    piece 92 4 (120 ∷ digit_char (b / 16) ∷ digit_char (b % 16) ∷ text) (b ∷ []) bytes [] (byte_escape-front b text small) more
 
 plain-front : (b : ℕ) (rest : List ℕ) → is_plain_byte b ≡ true → unescape_front b rest ≡ Gives (b ∷ []) 1
 plain-front b rest plain =
@@ -40,10 +40,10 @@ escape_of-stands : (b : ℕ) (text bytes : List ℕ) → b < 256 → StandsForBy
 escape_of-stands b text bytes small more =
     ⊎_elim
     (λ slash. rw (cond-true (b == 47) (45 ∷ []) (cond (is_plain_byte b) (b ∷ []) (byte_escape b)) slash, eqb-true b 47 slash)
-    (piece 45 1 text (47 ∷ []) bytes refl more))
+    (piece 45 1 text (47 ∷ []) bytes [] refl more))
     (λ other. rw (cond-false (b == 47) (45 ∷ []) (cond (is_plain_byte b) (b ∷ []) (byte_escape b)) other)
     (⊎_elim
-    (λ plain. rw (cond-true (is_plain_byte b) (b ∷ []) (byte_escape b) plain) (piece b 1 text (b ∷ []) bytes (plain-front b text plain) more))
+    (λ plain. rw (cond-true (is_plain_byte b) (b ∷ []) (byte_escape b) plain) (piece b 1 text (b ∷ []) bytes [] (plain-front b text plain) more))
     (λ other. rw (cond-false (is_plain_byte b) (b ∷ []) (byte_escape b) other) (byte_escape-stands b text bytes small more))
     (cases_Bool (is_plain_byte b))))
     (cases_Bool (b == 47))

@@ -19,6 +19,7 @@ pub mod FreeLaws
 pub mod LiveLaws
 pub mod NumbersLaws
 pub mod PiecesLaws
+pub mod WordSteps
 pub mod WordsLaws
 pub mod SubstitutionLaws
 pub mod EscapesLaws

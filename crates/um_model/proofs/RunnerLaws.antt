@@ -1,5 +1,5 @@
 -- The laws of the files of a process: a text has one reading, and a name is that of one file and leads out of no folder.
-use Rattle.std.proofs.Common.{◌≡◌, ◌<◌, ◌≤◌, ℕ, ◌+◌, ◌/◌, ◌%◌, ◌^◌, Bool, true, false, ◌||◌, List, [], ◌∷◌, ◌++◌, length, get_or, Option, Some, None, find, refl, sym, ap, subst, ◌∙◌, codes, arith, rules, cond}
+use Rattle.std.proofs.Common.{◌≡◌, ◌<◌, ℕ, ◌+◌, ◌%◌, ◌^◌, Bool, false, ◌||◌, List, [], ◌∷◌, ◌++◌, get_or, Option, Some, find, refl, sym, ap, subst, ◌∙◌, codes, arith, rules, cond}
 use Rattle.std.specs.Prelude.{◌==◌, decimal, bytes_eq}
 use Rattle.std.specs.List.{list_any}
 use Rattle.std.proofs.lemmas.Fmt.{decimal_injective, decimal_by_steps}

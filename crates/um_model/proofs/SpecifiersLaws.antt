@@ -30,7 +30,7 @@ one_unescaped escaped (Some a) None p q = absurd (q a p.0 p.1)
 one_unescaped escaped None (Some b) p q = absurd (p b q.0 q.1)
 one_unescaped escaped None None p q = refl
 
-unescaped_as : (escaped : List ℕ) (r : Option (List ℕ)) → reading unescape_front 0 escaped ≡ r → IsUnescaped escaped (as_text r)
+unescaped_as : (escaped : List ℕ) (r : Option (List ℕ)) → reading unescape_front escaped ≡ r → IsUnescaped escaped (as_text r)
 unescaped_as escaped None e = λ bytes stands utf8. no_reading unescape_front escaped bytes e stands
 unescaped_as escaped (Some bytes) e =
     let stands = StandsForText-reading unescape_front escaped bytes e in
@@ -42,7 +42,7 @@ unescaped_as escaped (Some bytes) e =
 
 -- the function tells what an instance's escapes stand for
 pub IsUnescaped-unescaped_of : (escaped : List ℕ) → IsUnescaped escaped (unescaped_of escaped)
-IsUnescaped-unescaped_of escaped = unescaped_as escaped (reading unescape_front 0 escaped) refl
+IsUnescaped-unescaped_of escaped = unescaped_as escaped (reading unescape_front escaped) refl
 
 -- the function finds each expansion
 pub expanded_of-IsExpanded : (name text expanded : List ℕ) → IsExpanded name text expanded → expanded_of name text ≡ Some expanded
@@ -50,7 +50,7 @@ unfolding expanded_of
 expanded_of-IsExpanded name text expanded is =
     let instance = instance_or_empty name in
     let same = one_unescaped instance (unescaped_of instance) is.unescaped (IsUnescaped-unescaped_of instance) is.instance in
-    ap (λ u. reading (specifier_front name u) 0 text) same ∙ reading-StandsForText (specifier_front name is.unescaped) text expanded is.pieces
+    ap (λ u. reading (specifier_front name u) text) same ∙ reading-StandsForText (specifier_front name is.unescaped) text expanded is.pieces
 
 -- what the function finds is an expansion
 pub IsExpanded-expanded_of : (name text expanded : List ℕ) → expanded_of name text ≡ Some expanded → IsExpanded name text expanded

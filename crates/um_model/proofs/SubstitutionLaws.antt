@@ -4,7 +4,8 @@ use Rattle.std.proofs.lemmas.Bool.{cases_Bool, cond-true, cond-false, ne_eqb}
 use Rattle.std.proofs.lemmas.Option.{none-some, same_Some}
 use Rattle.um_model.specs.Ascii.{is_space}
 use Rattle.um_model.specs.Pieces.{Front, Gives, StandsForText}
-use Rattle.um_model.specs.Words.{is_quote, bare, Word, word_front, piece_of_words, values_of, AreWords}
+use Rattle.um_model.proofs.WordSteps.{bare, begun-read}
+use Rattle.um_model.specs.Words.{is_quote, Word, word_front, piece_of_words, word_values, AreWords}
 use Rattle.um_model.specs.Substitution.{Variable, value_of, whole_name, braced_name, variable_front, dollar_front, piece_front, Becomes, splits, fills, AllBecome, no_more, one_more, AreSubstituted, no_words, first_stays}
 use Rattle.um_model.specs.declared.words.WordRules.TheVariants.{Plain}
 use Rattle.um_model.specs.Text.{first_passes}
@@ -98,7 +99,7 @@ have_read b bs = elim (cases_Bool (is_space b)) [
   | inl white ↦ ([], 1, cond-true _ _ _ white)
   | inr apart ↦
       let found = plain_reads (b ∷ bs) 0 None in
-      (first_word (b ∷ bs) found.1 found.0 ∷ [], length (b ∷ bs) - length found.1, cond-false _ _ _ apart ∙ ap (word_front (b ∷ bs)) found.2)
+      (first_word (b ∷ bs) found.1 found.0 ∷ [], length (b ∷ bs) - length found.1, cond-false _ _ _ apart ∙ ap (word_front (b ∷ bs)) (begun-read Plain (b ∷ bs) ∙ found.2))
 ]
 
 -- each value reads as words
@@ -125,7 +126,7 @@ become_some : (environment : List Variable) (word : List ℕ) → (words : List 
 become_some environment word = elim (whole_name word) as (λ o. whole_name word ≡ o → (words : List (List ℕ)) × Becomes environment word words) [
   | Some name ↦ λ whole.
       let found = has_words (value_of environment name) in
-      (values_of found.0, splits word name (values_of found.0) whole (found.0, found.1, refl))
+      (word_values found.0, splits word name (word_values found.0) whole (found.0, found.1, refl))
   | None ↦ λ none_whole.
       let filled = has_reading (piece_front environment) (piece_reads environment) word in
       (filled.0 ∷ [], fills word filled.0 none_whole filled.1)

@@ -12,10 +12,26 @@ use Rattle.std.specs.Option.{is_some, option_map_or}
 use Rattle.std.proofs.Math.Bool.{or-false, or-true}
 use Rattle.um_model.specs.Ascii.{is_space}
 use Rattle.um_model.specs.Text.{trim_start, trim_end, trim, is_empty, is_blank, without_last}
-use Rattle.um_model.specs.Syntax.{Line, is_comment, continues, physical_line, joined_line, Statement, Blank, Head, Pair, Stray, IsHeadOf, has_no_equals, Says, says_nothing, says_head, says_pair, says_no_pair, Item, Section, Assignment, Warning, items_of, is_head, Placed, in_sections, physical, first_text, joined, joined_lines, in_brackets, before_bracket, has_equals, pair_of, statement_of, section_after, line_number, items_in, reading_of}
+use Rattle.um_model.specs.Syntax.{Line, is_comment, continues, physical_line, joined_line, Statement, Blank, Head, Pair, Stray, Item, Section, Assignment, Warned, items_of, is_head, Placed, in_sections, physical, first_text, joined, joined_lines, in_brackets, before_bracket, has_equals, pair_of, statement_of, section_after, line_number, items_in, reading_of}
 use Rattle.um_model.specs.declared.warnings.WarningKind.TheVariants.{BeforeAnySection}
 
 -- What a text says as a relation, line by line
+
+-- without the whitespace at its ends, the text is the name in brackets
+abbrev pub IsHeadOf : List ℕ → List ℕ → Type 0
+IsHeadOf text name = trim text ≡ 91 ∷ name ++ 93 ∷ []
+
+-- no byte is an `=`
+abbrev pub has_no_equals : List ℕ → Bool
+has_no_equals text = list_all (λ b. not (eqb b 61)) text
+
+-- what a joined line says: a pair is cut at the first `=`, and whitespace around key and value is dropped
+pub data Says : List ℕ → Statement → Type 0 where
+  says_nothing : (text : List ℕ) → is_blank text ≡ true → Says text Blank
+  says_head : (text name : List ℕ) → IsHeadOf text name → Says text (Head name)
+  says_pair : (text before after : List ℕ) → ((name : List ℕ) → ¬ IsHeadOf text name) → text ≡ before ++ 61 ∷ after → has_no_equals before ≡ true
+      → Says text (Pair (trim before) (trim after))
+  says_no_pair : (text : List ℕ) → ((name : List ℕ) → ¬ IsHeadOf text name) → is_blank text ≡ false → has_no_equals text ≡ true → Says text Stray
 
 -- the lines that count, from physical line n on: comment lines are taken out, the others keep their numbers, and a blank one
 -- counts as an empty one
@@ -59,9 +75,9 @@ stands_well None (Section name line) = false
 stands_well (Some section) (Section name line) = true
 stands_well None (Assignment key value line whole) = false
 stands_well (Some section) (Assignment key value line whole) = true
-stands_well None (Warning kind line) = true
-stands_well (Some section) (Warning BeforeAnySection line) = false
-stands_well (Some section) (Warning kind line) = true
+stands_well None (Warned kind line) = true
+stands_well (Some section) (Warned BeforeAnySection line) = false
+stands_well (Some section) (Warned kind line) = true
 
 -- Lines that count
 

@@ -20,7 +20,7 @@ use Rattle.um_model.specs.declared.service.End.{End}
 use Rattle.um_model.specs.declared.settings.RestartPolicy.{RestartPolicy}
 use Rattle.um_model.specs.declared.settings.RestartPolicy.TheVariants.{No, Always, OnSuccess, OnFailure, OnAbnormal, OnAbort, OnWatchdog}
 use Rattle.um_model.proofs.FindsLaws.{one_found}
-use Rattle.um_model.proofs.PiecesLaws.{prefixed, read_by_front, prefixed-nil, reading_first, reading-StandsForText, StandsForText-reading, Follows, past_piece}
+use Rattle.um_model.proofs.PiecesLaws.{prefixed, prefixed-nil, reading_first, reading_unreadable, reading-StandsForText, StandsForText-reading, Follows, past_piece}
 use Rattle.um_model.proofs.TextLaws.{trim_start_cuts}
 use Rattle.um_model.specs.declared.settings.TimeSpan.{TimeSpan}
 use Rattle.um_model.specs.declared.settings.TimeSpan.TheVariants.{Micros, Infinite}
@@ -117,18 +117,18 @@ past_follows b bs some = part_follows (length (digits_of (b ∷ bs))) (length (u
 
 -- what the times of a text add up to
 abbrev sum_in : List ℕ → Option ℕ
-sum_in text = option_map sum (reading time_front 0 text)
+sum_in text = option_map sum (reading time_front text)
 
 sum_in-AddUpTo : (text : List ℕ) (n : ℕ) → AddUpTo text n → sum_in text ≡ Some n
 sum_in-AddUpTo text n add = ap (option_map sum) (reading-StandsForText time_front text add.0 add.1) ∙ ap Some add.2
 
 AddUpTo-sum_in : (text : List ℕ) (n : ℕ) → sum_in text ≡ Some n → AddUpTo text n
 AddUpTo-sum_in text n e =
-    let t = mapped sum (reading time_front 0 text) n e in
+    let t = mapped sum (reading time_front text) n e in
     (t.0, StandsForText-reading time_front text t.0 t.1, t.2)
 
 space_sum : (b : ℕ) (bs : List ℕ) → is_space b ≡ true → sum_in (b ∷ bs) ≡ sum_in bs
-space_sum b bs white = ap (option_map sum) (reading_first time_front b 1 bs [] (cond-true _ _ _ white) ∙ prefixed-nil (reading time_front 0 bs))
+space_sum b bs white = ap (option_map sum) (reading_first time_front b 1 bs [] (cond-true _ _ _ white) ∙ prefixed-nil (reading time_front bs))
 
 trimmed_sum : (text : List ℕ) → sum_in (trim_start text) ≡ sum_in text
 trimmed_sum [] = refl
@@ -155,8 +155,8 @@ part_sum b bs first apart time =
     let past = past_part text in
     let n = length text - length past in
     let front = cond-false _ _ _ apart ∙ ap (λ t. front_of (option_map (λ m. m ∷ []) t) n) (time_of-IsTime (digits_of text) (unit_of text) first time) in
-    ap (option_map sum) (reading_first time_front b n bs (first ∷ []) front ∙ ap (λ t. prefixed (first ∷ []) (reading time_front 0 t)) (past_piece b bs past (past_follows b bs time.some)))
-    ∙ sum_of_first first (reading time_front 0 past)
+    ap (option_map sum) (reading_first time_front b n bs (first ∷ []) front ∙ ap (λ t. prefixed (first ∷ []) (reading time_front t)) (past_piece b bs past (past_follows b bs time.some)))
+    ∙ sum_of_first first (reading time_front past)
 
 -- a sum of nothing, and of one part more
 pub nothing : AddUpTo [] 0
@@ -180,7 +180,7 @@ sum-first (b ∷ bs) n trimmed some adds = elim (cases_Bool (is_space b)) [
       elim (time_of (digits_of text) (unit_of text)) as
       (λ t. time_of (digits_of text) (unit_of text) ≡ t → (first : ℕ) × (m : ℕ) × IsTime (digits_of text) (unit_of text) first × AddUpTo (past_part text) m × (n ≡ first + m)) [
         | None ↦ λ e.
-            let none = ap (λ f. option_map sum (read_by_front f (λ k. reading time_front k bs))) (cond-false _ _ _ apart ∙ ap (λ t. front_of (option_map (λ m. m ∷ []) t) size) e) in
+            let none = ap (option_map sum) (reading_unreadable time_front b bs (cond-false _ _ _ apart ∙ ap (λ t. front_of (option_map (λ m. m ∷ []) t) size) e)) in
             absurd (none-some n (sym none ∙ sum_in-AddUpTo text n adds))
         | Some first ↦ λ e.
             let time = IsTime-time_of (digits_of text) (unit_of text) first e in

@@ -1,21 +1,21 @@
 -- The laws of words: at most one reading, and the function that finds it.
 use Rattle.std.proofs.Common.{◌≡◌, ◌↔◌, ◌<◌, ◌≤◌, ℕ, zero, suc, ◌+◌, ◌-◌, Bool, true, false, ◌||◌, not, cond, eqb, List, [], ◌∷◌, ◌++◌, length, take, drop, map, Option, Some, None, option_map, refl, sym, ap, ◌∙◌, subst, inl, inr, append_assoc, append-nil, arith}
-use Rattle.std.specs.Prelude.{IfSome, ◌&&◌, nat_lt}
-use Rattle.std.specs.Option.{option_map_or}
+use Rattle.std.specs.Prelude.{IfSome}
 use Rattle.std.specs.List.{prefix_len, flat_map, slice_split, onto_first}
-use Rattle.std.proofs.lemmas.List.{drop-drop, length-drop, take-append-drop}
+use Rattle.std.proofs.lemmas.List.{drop-drop, length-drop}
 use Rattle.std.proofs.lemmas.Bool.{cases_Bool, true≢false, cond-true, cond-false, or_parts, or_cases, not-true, not-false, eqb-true}
 use Rattle.std.proofs.lemmas.Option.{some_pair_parts, none-some, same_Some}
 use Rattle.um_model.specs.Ascii.{is_space}
 use Rattle.um_model.specs.Finds.{Finds}
 use Rattle.um_model.specs.declared.words.WordRules.{WordRules}
 use Rattle.um_model.specs.declared.words.WordRules.TheVariants.{Escaped, Plain, Names}
-pub use Rattle.um_model.specs.Words.{with_front, at_end, by_spelling, read}
+pub use Rattle.um_model.proofs.WordSteps.{with_front, at_end, by_spelling, read}
+use Rattle.um_model.proofs.WordSteps.{Spelling, Stop, Bad, Turn, Means, Kept, escape, bare, spelled_at, may_end, read_skip, front_of_front, no_front, is_piece, escape_piece, begun-read}
 use Rattle.um_model.proofs.FindsLaws.{one_found}
-use Rattle.um_model.specs.Words.{is_quote, Spelling, Stop, Bad, Turn, Means, Kept, begins_escape, meaning_of, hex_value, hex_spelling, is_left_out, rare_escape, escape, bare, spelled_at, may_end, Word, before, word_front, piece_of_words, values_of, AreWords, words_of}
-use Rattle.um_model.specs.Commands.{Command, is_separator, value_in_command, command_of, commands_of, commands_read}
+use Rattle.um_model.specs.Words.{is_quote, begins_escape, Word, word_front, piece_of_words, word_values, AreWords, words_of}
+use Rattle.um_model.specs.Commands.{Command, is_separator, value_in_command, command_of, commands_among, commands_read}
 use Rattle.um_model.specs.Pieces.{StandsForText, reading}
-use Rattle.um_model.proofs.PiecesLaws.{prefixed, read_by_front, reading_first, reading-StandsForText, StandsForText-reading, prefixed-nil, Follows, past_piece}
+use Rattle.um_model.proofs.PiecesLaws.{prefixed, reading_first, reading_unreadable, reading-StandsForText, StandsForText-reading, prefixed-nil, Follows, follows_more, past_piece}
 
 -- the byte ends or turns a word, outside quotes or in one
 abbrev pub marks : Option ℕ → ℕ → Bool
@@ -53,19 +53,6 @@ take_sum : (n p : ℕ) (xs : List ℕ) → take (n + p) xs ≡ take n xs ++ take
 take_sum zero p xs = ap (λ i. take i xs) (omega arith)
 take_sum (suc n) p [] = nil_take (suc n + p) ∙ sym (nil_take p)
 take_sum (suc n) p (x ∷ xs) = let e : suc n + p ≡ suc (n + p) = omega arith in ap (λ i. take i (x ∷ xs)) e ∙ ap (λ t. x ∷ t) (take_sum n p xs)
-
-read_skip : (rules : WordRules) (n : ℕ) (quote : Option ℕ) (bs : List ℕ) → read rules n quote bs ≡ read rules 0 quote (drop n bs)
-read_skip rules zero quote bs = refl
-read_skip rules (suc n) quote [] = refl
-read_skip rules (suc n) quote (b ∷ bs) = read_skip rules n quote bs
-
-front_of_front : (xs ys : List ℕ) (r : Option (List ℕ × List ℕ)) → with_front xs (with_front ys r) ≡ with_front (xs ++ ys) r
-front_of_front xs ys None = refl
-front_of_front xs ys (Some p) = ap (λ w. Some (w, p.1)) (sym (append_assoc xs ys p.0))
-
-no_front : (r : Option (List ℕ × List ℕ)) → with_front [] r ≡ r
-no_front None = refl
-no_front (Some p) = refl
 
 plain_bare : (quote : Option ℕ) (b : ℕ) → marks quote b ≡ false → bare quote b ≡ Kept 1
 plain_bare None b h = let r = or_parts (is_space b) (is_quote b) h in cond-false _ _ _ r.0 ∙ cond-false _ _ _ r.1
@@ -221,20 +208,16 @@ goes_either : (t : Bool) (f g : Spelling) → is_stop f ≡ false → is_stop g 
 goes_either true f g first second = first
 goes_either false f g first second = second
 
-goes_meant : (meaning : Option ℕ) (other : Spelling) → is_stop other ≡ false → is_stop (option_map_or (λ m. Means m 2) meaning other) ≡ false
-goes_meant (Some meaning) other goes = refl
-goes_meant None other goes = goes
-
-hex_goes : (value : ℕ) → is_stop (hex_spelling value) ≡ false
-hex_goes value = goes_either (nat_lt 0 value && nat_lt value 128) (Means value 4) Bad refl refl
+piece_goes : (f : Spelling) → is_piece f ≡ true → is_stop f ≡ false
+piece_goes Stop is = absurd (true≢false (sym is))
+piece_goes Bad is = refl
+piece_goes (Turn other) is = refl
+piece_goes (Means meaning n) is = refl
+piece_goes (Kept n) is = refl
 
 -- no escape ends a word
 escape_goes : (bs : List ℕ) → is_stop (escape bs) ≡ false
-escape_goes [] = refl
-escape_goes (b ∷ bs) =
-    goes_meant (meaning_of b) (rare_escape b bs)
-    (goes_either _ (hex_spelling (hex_value bs)) _ (hex_goes (hex_value bs))
-    (goes_either (is_left_out b bs) Bad _ refl (goes_either (is_space b) (Kept 2) (Kept 1) refl refl)))
+escape_goes bs = piece_goes (escape bs) (escape_piece bs)
 
 bare_goes : (b : ℕ) → is_space b ≡ false → is_stop (bare None b) ≡ false
 bare_goes b apart = ap is_stop (cond-false _ _ _ apart) ∙ goes_either (is_quote b) (Turn (Some b)) (Kept 1) refl refl
@@ -242,10 +225,6 @@ bare_goes b apart = ap is_stop (cond-false _ _ _ apart) ∙ goes_either (is_quot
 -- outside quotes whitespace alone ends a word
 word_goes : (rules : WordRules) (b : ℕ) (bs : List ℕ) → is_space b ≡ false → spelled_at rules None b bs ≡ Stop → ⊥
 word_goes rules b bs apart e = true≢false (sym (ap is_stop e) ∙ goes_either (begins_escape rules b) (escape bs) (bare None b) (escape_goes bs) (bare_goes b apart))
-
-follows_more : (bs rest : List ℕ) (n : ℕ) → Follows (drop n bs) rest → Follows bs rest
-follows_more bs rest n later =
-    (take n bs ++ later.0, sym (take-append-drop n bs) ∙ ap (λ x. take n bs ++ x) later.1 ∙ sym (append_assoc (take n bs) later.0 rest))
 
 -- the rest stands at the end of the text
 rest_follows : (rules : WordRules) (quote : Option ℕ) (bs word rest : List ℕ) → InWord rules quote bs word rest → Follows bs rest
@@ -267,60 +246,60 @@ rest_follows_first rules b bs word rest apart (keeps q c n more w r e inside) =
     follows_more more r (n - 1) (rest_follows rules q (drop (n - 1) more) w r inside)
 
 -- a text that begins with whitespace is as many words as what follows
-pub space_read : (rules : WordRules) (b : ℕ) (bs : List ℕ) → is_space b ≡ true → reading (piece_of_words rules) 0 (b ∷ bs) ≡ reading (piece_of_words rules) 0 bs
-space_read rules b bs white = reading_first (piece_of_words rules) b 1 bs [] (cond-true _ _ _ white) ∙ prefixed-nil (reading (piece_of_words rules) 0 bs)
+pub space_read : (rules : WordRules) (b : ℕ) (bs : List ℕ) → is_space b ≡ true → reading (piece_of_words rules) (b ∷ bs) ≡ reading (piece_of_words rules) bs
+space_read rules b bs white = reading_first (piece_of_words rules) b 1 bs [] (cond-true _ _ _ white) ∙ prefixed-nil (reading (piece_of_words rules) bs)
 
 -- a word that is read at the front of a text
 abbrev pub first_word : List ℕ → List ℕ → List ℕ → Word
-first_word text rest value = record { spelling = before rest text; value = value }
+first_word text rest value = record { spelling = take (length text - length rest) text; value = value }
 
 first_read : (rules : WordRules) (b : ℕ) (bs value rest : List ℕ) → is_space b ≡ false → read rules 0 None (b ∷ bs) ≡ Some (value, rest)
-    → reading (piece_of_words rules) 0 (b ∷ bs) ≡ option_map (λ words. first_word (b ∷ bs) rest value ∷ words) (reading (piece_of_words rules) 0 rest)
+    → reading (piece_of_words rules) (b ∷ bs) ≡ option_map (λ words. first_word (b ∷ bs) rest value ∷ words) (reading (piece_of_words rules) rest)
 first_read rules b bs value rest apart found =
     let inside = InWord-read rules (length (b ∷ bs)) None (b ∷ bs) value rest (omega arith) found in
     let first = first_word (b ∷ bs) rest value in
-    reading_first (piece_of_words rules) b (length (b ∷ bs) - length rest) bs (first ∷ []) (cond-false _ _ _ apart ∙ ap (word_front (b ∷ bs)) found)
-    ∙ ap (λ t. prefixed (first ∷ []) (reading (piece_of_words rules) 0 t)) (past_piece b bs rest (rest_follows_first rules b bs value rest apart inside))
+    reading_first (piece_of_words rules) b (length (b ∷ bs) - length rest) bs (first ∷ []) (cond-false _ _ _ apart ∙ ap (word_front (b ∷ bs)) (begun-read rules (b ∷ bs) ∙ found))
+    ∙ ap (λ t. prefixed (first ∷ []) (reading (piece_of_words rules) t)) (past_piece b bs rest (rest_follows_first rules b bs value rest apart inside))
 
 -- a text that begins with a word is this word, and the words that follow it
 pub word_read : (rules : WordRules) (text rest later : List ℕ) (b : ℕ) (value : List ℕ) → text ≡ b ∷ later → is_space b ≡ false
     → read rules 0 None text ≡ Some (value, rest)
-    → reading (piece_of_words rules) 0 text ≡ option_map (λ words. first_word text rest value ∷ words) (reading (piece_of_words rules) 0 rest)
+    → reading (piece_of_words rules) text ≡ option_map (λ words. first_word text rest value ∷ words) (reading (piece_of_words rules) rest)
 word_read rules text rest later b value e apart found =
-    ap (reading (piece_of_words rules) 0) e
+    ap (reading (piece_of_words rules)) e
     ∙ first_read rules b later value rest apart (ap (read rules 0 None) (sym e) ∙ found)
-    ∙ ap (λ t. option_map (λ words. first_word t rest value ∷ words) (reading (piece_of_words rules) 0 rest)) (sym e)
+    ∙ ap (λ t. option_map (λ words. first_word t rest value ∷ words) (reading (piece_of_words rules) rest)) (sym e)
 
 -- where no word is read there are none
-pub none_read : (rules : WordRules) (text later : List ℕ) (b : ℕ) → text ≡ b ∷ later → is_space b ≡ false → read rules 0 None text ≡ None → reading (piece_of_words rules) 0 text ≡ None
+pub none_read : (rules : WordRules) (text later : List ℕ) (b : ℕ) → text ≡ b ∷ later → is_space b ≡ false → read rules 0 None text ≡ None → reading (piece_of_words rules) text ≡ None
 none_read rules text later b e apart nothing =
-    ap (reading (piece_of_words rules) 0) e
-    ∙ ap (λ f. read_by_front f (λ n. reading (piece_of_words rules) n later)) (cond-false _ _ _ apart ∙ ap (word_front (b ∷ later)) (ap (read rules 0 None) (sym e) ∙ nothing))
+    ap (reading (piece_of_words rules)) e
+    ∙ reading_unreadable (piece_of_words rules) b later (cond-false _ _ _ apart ∙ ap (word_front (b ∷ later)) (begun-read rules (b ∷ later) ∙ ap (read rules 0 None) (sym e) ∙ nothing))
 
 -- the same of what the words stand for
 pub words_of-AreWords : (rules : WordRules) (text : List ℕ) (words : List (List ℕ)) → AreWords rules text words → words_of rules text ≡ Some words
 unfolding words_of
-words_of-AreWords rules text words are = ap (option_map values_of) (reading-StandsForText (piece_of_words rules) text are.0 are.1) ∙ ap Some are.2
+words_of-AreWords rules text words are = ap (option_map word_values) (reading-StandsForText (piece_of_words rules) text are.0 are.1) ∙ ap Some are.2
 
 pub AreWords-words_of : (rules : WordRules) (text : List ℕ) (words : List (List ℕ)) → words_of rules text ≡ Some words → AreWords rules text words
 unfolding words_of
 AreWords-words_of rules text words e =
-    let t = mapped values_of (reading (piece_of_words rules) 0 text) words e in
+    let t = mapped word_values (reading (piece_of_words rules) text) words e in
     (t.0, StandsForText-reading (piece_of_words rules) text t.0 t.1, t.2)
 
 -- the text reads as these commands
 abbrev pub AreCommands : List ℕ → List Command → Type 0
-AreCommands text commands = (spelled : List Word) × StandsForText (piece_of_words Escaped) text spelled × (commands_of spelled ≡ commands)
+AreCommands text commands = (spelled : List Word) × StandsForText (piece_of_words Escaped) text spelled × (commands_among spelled ≡ commands)
 
 -- and of commands
 pub commands_read-AreCommands : (text : List ℕ) (commands : List Command) → AreCommands text commands → commands_read text ≡ Some commands
 unfolding commands_read
-commands_read-AreCommands text commands are = ap (option_map commands_of) (reading-StandsForText (piece_of_words Escaped) text are.0 are.1) ∙ ap Some are.2
+commands_read-AreCommands text commands are = ap (option_map commands_among) (reading-StandsForText (piece_of_words Escaped) text are.0 are.1) ∙ ap Some are.2
 
 pub AreCommands-commands_read : (text : List ℕ) (commands : List Command) → commands_read text ≡ Some commands → AreCommands text commands
 unfolding commands_read
 AreCommands-commands_read text commands e =
-    let t = mapped commands_of (reading (piece_of_words Escaped) 0 text) commands e in
+    let t = mapped commands_among (reading (piece_of_words Escaped) text) commands e in
     (t.0, StandsForText-reading (piece_of_words Escaped) text t.0 t.1, t.2)
 
 -- each function finds what its relation tells
@@ -373,5 +352,5 @@ commands_split (word ∷ words) part =
     split_step (is_separator word) part word (slice_split is_separator words) _ _ (commands_split words []) (commands_split words (part ++ value_in_command word ∷ []))
 
 -- the commands of words, one word after the other
-pub commands_are : (words : List Word) → commands_after [] words ≡ commands_of words
+pub commands_are : (words : List Word) → commands_after [] words ≡ commands_among words
 commands_are words = commands_split words [] ∙ all_parts (slice_split is_separator words)

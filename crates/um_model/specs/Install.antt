@@ -11,7 +11,7 @@ use Rattle.um_model.specs.Least.{IsLeast, IsNamedBefore}
 use Rattle.um_model.specs.Reached.{Reached}
 use Rattle.um_model.specs.Refusals.{Refused, FirstCause, not_found, masked, bad_setting, exists_at, bad_path, too_large}
 use Rattle.um_model.specs.Names.{is_template, with_instance, named}
-use Rattle.um_model.specs.Tree.{Tree, Entry, File, Link, PathParts, Place, Unit, DropIn, Wants, Requires, path_text, path_parts, entry_limit, is_fit_target, is_other_than_link, put_link}
+use Rattle.um_model.specs.Tree.{Tree, Entry, Link, PathParts, Place, Unit, Wants, Requires, path_text, path_parts, entry_limit, is_fit_target, is_other_than_link, put_link}
 use Rattle.um_model.specs.Resolution.{unit_path, unit_in_target, is_mask}
 use Rattle.um_model.specs.Units.{InstallSettings, nothing_installed, LoadedUnit, Loading, Found, Masked, NotFound, BadSetting, load, unit_named}
 use Rattle.um_model.specs.declared.install.Enabling.{Enabling}

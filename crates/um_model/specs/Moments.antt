@@ -1,7 +1,26 @@
--- The bounds of moments, spans, deadlines and process numbers.
+-- Time in microseconds; the bounds of moments, spans, deadlines and process numbers.
 -- Follows systemd.time(7) in counting microseconds; the bounds are this project's own.
 -- Service transitions, the machine, requests and canonical bytes stand on this file.
-use Rattle.std.specs.Prelude.{ℕ, ◌^◌}
+use Rattle.std.specs.Prelude.{ℕ, ◌*◌, ◌^◌}
+
+-- microseconds in a millisecond, a second, a minute, an hour, a day and a week
+abbrev pub millisecond : ℕ
+millisecond = 1000
+
+abbrev pub second : ℕ
+second = 1000 * millisecond
+
+abbrev pub minute : ℕ
+minute = 60 * second
+
+abbrev pub hour : ℕ
+hour = 60 * minute
+
+abbrev pub day : ℕ
+day = 24 * hour
+
+abbrev pub week : ℕ
+week = 7 * day
 
 -- a moment is at most 2^62 microseconds
 abbrev pub moment_limit : ℕ

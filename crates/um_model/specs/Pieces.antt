@@ -1,11 +1,12 @@
 -- A text that stands for something, piece by piece from its front: for another text, for words, for times.
--- The common form of several rules: escapes in names, specifiers, substitution, time spans, lists of words.
+-- The common form of several rules: escapes in names, specifiers, substitution, time spans, quotes, words and lists of words.
 -- Names, Values, Words, Substitution and Specifiers stand on this file.
-use Rattle.std.specs.Prelude.{◌≡◌, ℕ, zero, suc, ◌-◌, List, [], ◌∷◌, ◌++◌, drop, Option, Some, None, option_map}
+use Rattle.std.specs.Prelude.{◌≡◌, ℕ, zero, suc, ◌-◌, List, [], ◌∷◌, ◌++◌, length, drop, Option, Some, None, option_map}
 
--- the front of a text can't be read, or stands for these and takes so many bytes
+-- the front of a text can't be read, ends what is read before it, or stands for these and takes so many bytes
 pub data Front (A : Type 0) : Type 0 where
   Unreadable : Front A
+  Ends : Front A
   Gives : List A → ℕ → Front A
 
 -- what was found, if anything, and takes so many bytes
@@ -13,25 +14,45 @@ abbrev pub front_of : {A : Type 0} → Option (List A) → ℕ → Front A
 front_of None n = Unreadable
 front_of (Some found) n = Gives found n
 
--- the text is a sequence of pieces, which stand for these one behind the other
-pub data StandsForText {A : Type 0} (front : ℕ → List ℕ → Front A) : List ℕ → List A → Type 0 where
-  done : StandsForText front [] []
-  piece : (b n : ℕ) (bs : List ℕ) (out rest : List A) → front b bs ≡ Gives out n → StandsForText front (drop (n - 1) bs) rest
-      → StandsForText front (b ∷ bs) (out ++ rest)
+-- the text begins with pieces, which stand for these one behind the other, up to its end or to a front that ends them; this is left
+pub data BeginsWith {A : Type 0} (front : ℕ → List ℕ → Front A) : List ℕ → List A → List ℕ → Type 0 where
+  done : BeginsWith front [] [] []
+  stops : (b : ℕ) (bs : List ℕ) → front b bs ≡ Ends → BeginsWith front (b ∷ bs) [] (b ∷ bs)
+  piece : (b n : ℕ) (bs : List ℕ) (out more : List A) (left : List ℕ) → front b bs ≡ Gives out n → BeginsWith front (drop (n - 1) bs) more left
+      → BeginsWith front (b ∷ bs) (out ++ more) left
 
--- The same as a function, for definitions that go on from a reading; the laws in proofs/PiecesLaws say that it tells the relation.
+-- the text is pieces alone, which stand for these
+abbrev pub StandsForText : {A : Type 0} → (ℕ → List ℕ → Front A) → List ℕ → List A → Type 0
+StandsForText front text found = BeginsWith front text found []
 
--- these, and then what is read
-abbrev pub prefixed : {A : Type 0} → List A → Option (List A) → Option (List A)
-prefixed found r = option_map (λ rest. found ++ rest) r
+-- The same as functions, for definitions that go on from a reading; the laws in proofs/PiecesLaws say that they tell the relation.
 
--- what is read, where the front is this one and what follows so many skipped bytes is read so
-abbrev pub read_by_front : {A : Type 0} → Front A → (ℕ → Option (List A)) → Option (List A)
-read_by_front Unreadable later = None
-read_by_front (Gives found n) later = prefixed found (later (n - 1))
+-- these in front of what is found
+abbrev pub with_front : {A : Type 0} → List A → Option (List A × List ℕ) → Option (List A × List ℕ)
+with_front found later = option_map (λ r. (found ++ r.0, r.1)) later
 
--- what a text stands for, after so many bytes are skipped
-abbrev pub reading : {A : Type 0} → (ℕ → List ℕ → Front A) → ℕ → List ℕ → Option (List A)
-reading front skip [] = Some []
-reading front (suc skip) (b ∷ bs) = reading front skip bs
-reading front zero (b ∷ bs) = read_by_front (front b bs) (λ n. reading front n bs)
+-- what is found in a text, where its front is this one and what follows it is found so
+abbrev pub by_front : {A : Type 0} → Front A → List ℕ → (ℕ → Option (List A × List ℕ)) → Option (List A × List ℕ)
+by_front Unreadable text later = None
+by_front Ends text later = Some ([], text)
+by_front (Gives found n) text later = with_front found (later (n - 1))
+
+-- what a text begins with, in so many pieces at most, and what is left
+abbrev pub begun_in : {A : Type 0} → ℕ → (ℕ → List ℕ → Front A) → List ℕ → Option (List A × List ℕ)
+begun_in pieces front [] = Some ([], [])
+begun_in zero front (b ∷ bs) = None
+begun_in (suc pieces) front (b ∷ bs) = by_front (front b bs) (b ∷ bs) (λ n. begun_in pieces front (drop n bs))
+
+-- what a text begins with, and what is left; it has no more pieces than bytes
+abbrev pub begun : {A : Type 0} → (ℕ → List ℕ → Front A) → List ℕ → Option (List A × List ℕ)
+begun front text = begun_in (length text) front text
+
+-- what was found, where nothing is left
+abbrev pub whole : {A : Type 0} → Option (List A × List ℕ) → Option (List A)
+whole None = None
+whole (Some (found, [])) = Some found
+whole (Some (found, b ∷ left)) = None
+
+-- what a text stands for
+abbrev pub reading : {A : Type 0} → (ℕ → List ℕ → Front A) → List ℕ → Option (List A)
+reading front text = whole (begun front text)

@@ -1,7 +1,8 @@
 -- Specifiers: what a `%` and a letter stand for in the files of a unit.
 -- Follows systemd.unit(5), "Specifiers".
 -- Settings and enabling stand on this file.
-use Rattle.std.specs.Prelude.{ℕ, List, [], ◌∷◌, Option, Some, None, unwrap_or, if◌then◌else◌, ◌==◌}
+use Rattle.std.specs.Prelude.{ℕ, List, [], ◌∷◌, Option, Some, None, option_and_then, unwrap_or, if◌then◌else◌, ◌==◌}
+use Rattle.std.specs.Map.{lookup}
 use Rattle.std.specs.List.{after_last}
 use Rattle.std.specs.Str.{is_utf8}
 use Rattle.um_model.specs.Ascii.{is_letter}
@@ -12,17 +13,16 @@ use Rattle.um_model.specs.Pieces.{Front, Gives, front_of, reading}
 abbrev pub instance_or_empty : List ℕ → List ℕ
 instance_or_empty name = unwrap_or (instance_of name) []
 
--- what a letter stands for: `n` the full name, `N` without the suffix, `p` the prefix, `i` the instance as written, `I` unescaped,
+-- what the letters stand for: `n` the full name, `N` without the suffix, `p` the prefix, `i` the instance as written, `I` unescaped,
 -- `j` what follows the last `-` of the prefix
+abbrev pub specifiers : List ℕ → Option (List ℕ) → List (ℕ × Option (List ℕ))
+specifiers name unescaped =
+    (110, Some name) ∷ (78, Some (stem_of name)) ∷ (112, Some (prefix_of name)) ∷ (105, Some (instance_or_empty name)) ∷ (73, unescaped)
+    ∷ (106, Some (after_last (λ b. b == 45) (prefix_of name))) ∷ []
+
+-- what a letter stands for
 abbrev pub specified : List ℕ → Option (List ℕ) → ℕ → Option (List ℕ)
-specified name unescaped letter =
-    if letter == 110 then Some name
-    else (if letter == 78 then Some (stem_of name)
-    else (if letter == 112 then Some (prefix_of name)
-    else (if letter == 105 then Some (instance_or_empty name)
-    else (if letter == 73 then unescaped
-    else (if letter == 106 then Some (after_last (λ b. b == 45) (prefix_of name))
-    else None)))))
+specified name unescaped letter = option_and_then (λ said. said) (lookup (λ c. letter == c) (specifiers name unescaped))
 
 -- what follows a `%`: another `%` is one, a letter what it stands for; before anything else the `%` stays
 abbrev pub percent_front : List ℕ → Option (List ℕ) → List ℕ → Front ℕ
@@ -37,13 +37,12 @@ specifier_front name unescaped b bs = if b == 37 then percent_front name unescap
 
 -- the bytes, where they are a text
 abbrev pub as_text : Option (List ℕ) → Option (List ℕ)
-as_text None = None
-as_text (Some bytes) = if is_utf8 bytes then Some bytes else None
+as_text bytes = option_and_then (λ text. if is_utf8 text then Some text else None) bytes
 
 -- the text that the escapes of an instance stand for, where it is one
 abbrev pub unescaped_of : List ℕ → Option (List ℕ)
-unescaped_of escaped = as_text (reading unescape_front 0 escaped)
+unescaped_of escaped = as_text (reading unescape_front escaped)
 
 -- what the text stands for in the files of the unit of that name
 unfoldable pub expanded_of : List ℕ → List ℕ → Option (List ℕ)
-expanded_of name text = reading (specifier_front name (unescaped_of (instance_or_empty name))) 0 text
+expanded_of name text = reading (specifier_front name (unescaped_of (instance_or_empty name))) text

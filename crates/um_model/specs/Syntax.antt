@@ -1,10 +1,10 @@
 -- What a unit file says: its lines, joined where they go on, and of these the heads, assignments and warnings.
 -- Follows systemd.syntax(7).
 -- The reader of unit files, and what units are by their assignments, stand on this file.
-use Rattle.std.specs.Prelude.{◌≡◌, ℕ, ◌+◌, ◌-◌, ◌%◌, Bool, true, false, not, ◌||◌, List, [], ◌∷◌, ◌++◌, length, drop, reverse, take_while}
+use Rattle.std.specs.Prelude.{ℕ, ◌+◌, ◌-◌, ◌%◌, Bool, true, false, ◌||◌, List, [], ◌∷◌, ◌++◌, length, drop, reverse, take_while}
 use Rattle.std.specs.Prelude.{Option, Some, None, slice_index, nat_lt, ◌==◌, if◌then◌else◌}
 use Rattle.std.specs.Option.{option_map_or}
-use Rattle.std.specs.List.{list_all, before_first, after_first, position_or_len}
+use Rattle.std.specs.List.{before_first, after_first, position_or_len}
 use Rattle.std.specs.Str.Lines.{lines}
 use Rattle.um_model.specs.Text.{trim_start, trim, is_blank, first_passes, without_last}
 use Rattle.um_model.specs.declared.warnings.WarningKind.{WarningKind}
@@ -74,22 +74,6 @@ pub data Statement : Type 0 where
   Pair : List ℕ → List ℕ → Statement
   Stray : Statement
 
--- without the whitespace at its ends, the text is the name in brackets
-abbrev pub IsHeadOf : List ℕ → List ℕ → Type 0
-IsHeadOf text name = trim text ≡ 91 ∷ name ++ 93 ∷ []
-
--- no byte is an `=`
-abbrev pub has_no_equals : List ℕ → Bool
-has_no_equals text = list_all (λ b. not (b == 61)) text
-
--- what a joined line says: a pair is cut at the first `=`, and whitespace around key and value is dropped
-pub data Says : List ℕ → Statement → Type 0 where
-  says_nothing : (text : List ℕ) → is_blank text ≡ true → Says text Blank
-  says_head : (text name : List ℕ) → IsHeadOf text name → Says text (Head name)
-  says_pair : (text before after : List ℕ) → ((name : List ℕ) → ¬ IsHeadOf text name) → text ≡ before ++ 61 ∷ after → has_no_equals before ≡ true
-      → Says text (Pair (trim before) (trim after))
-  says_no_pair : (text : List ℕ) → ((name : List ℕ) → ¬ IsHeadOf text name) → is_blank text ≡ false → has_no_equals text ≡ true → Says text Stray
-
 -- what stands before the `]` at the end
 abbrev pub before_bracket : List ℕ → Option (List ℕ)
 before_bracket text = if slice_index text (length text - 1) == 93 then Some (without_last text) else None
@@ -103,11 +87,11 @@ in_brackets (b ∷ bs) = if b == 91 then before_bracket bs else None
 abbrev pub has_equals : List ℕ → Bool
 has_equals text = nat_lt (position_or_len (λ b. b == 61) text) (length text)
 
--- key and value of a text with an `=`
+-- key and value of a text with an `=`: it is cut at the first one, and whitespace around both is dropped
 abbrev pub pair_of : List ℕ → Statement
 pair_of text = Pair (trim (before_first (λ b. b == 61) text)) (trim (after_first (λ b. b == 61) text))
 
--- the same as a function; the laws in proofs/SyntaxLaws say that it tells the relation
+-- what a joined line says; the laws in proofs/SyntaxLaws tell the same as a relation
 abbrev pub statement_of : List ℕ → Statement
 statement_of text = option_map_or Head (in_brackets (trim text)) (if is_blank text then Blank else (if has_equals text then pair_of text else Stray))
 
@@ -118,21 +102,21 @@ statement_of text = option_map_or Head (in_brackets (trim text)) (if is_blank te
 pub data Item : Type 0 where
   Section : List ℕ → ℕ → Item
   Assignment : List ℕ → List ℕ → ℕ → Bool → Item
-  Warning : WarningKind → ℕ → Item
+  Warned : WarningKind → ℕ → Item
 
 -- the number of its line
 abbrev pub line_number : Item → ℕ
 line_number (Section name line) = line
 line_number (Assignment key value line whole) = line
-line_number (Warning kind line) = line
+line_number (Warned kind line) = line
 
 -- what a line with this number gives by what it says, after a section's head or before any
 abbrev pub items_of : Statement → Bool → ℕ → Bool → List Item
 items_of Blank begun number whole = []
 items_of (Head name) begun number whole = Section name number ∷ []
 items_of (Pair key value) true number whole = Assignment key value number whole ∷ []
-items_of (Pair key value) false number whole = Warning BeforeAnySection number ∷ []
-items_of Stray begun number whole = Warning NoEqualsSign number ∷ []
+items_of (Pair key value) false number whole = Warned BeforeAnySection number ∷ []
+items_of Stray begun number whole = Warned NoEqualsSign number ∷ []
 
 -- the statement is a section's head
 abbrev pub is_head : Statement → Bool

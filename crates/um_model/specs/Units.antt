@@ -1,7 +1,7 @@
 -- What a unit's files set and warn of, by one list of assignments, and whether the unit can be loaded.
 -- Follows systemd.unit(5) and systemd.service(5).
 -- The machine stands on this file: what `show` tells, and what a start does.
-use Rattle.std.specs.Prelude.{ℕ, Bool, true, false, not, ◌&&◌, ◌||◌, ◌==◌, List, [], ◌∷◌, ◌++◌, length, find, filter_map, map as each}
+use Rattle.std.specs.Prelude.{ℕ, ◌*◌, Bool, true, false, not, ◌&&◌, ◌||◌, ◌==◌, List, [], ◌∷◌, ◌++◌, length, find, filter_map, map as each}
 use Rattle.std.specs.Prelude.{Option, Some, None, option_map, if◌then◌else◌, codes}
 use Rattle.std.specs.Option.{option_or}
 use Rattle.std.specs.Result.{result_ok, result_err, result_unwrap_or}
@@ -9,12 +9,13 @@ use Rattle.std.specs.List.{flat_map, list_any, after_last}
 use Rattle.std.specs.Str.{bytes_eq}
 use Rattle.um_model.specs.Names.{suffix_of, is_unit_name}
 use Rattle.um_model.specs.Text.{is_empty}
-use Rattle.um_model.specs.Syntax.{Item, Section, Assignment, Warning as Warned, Placed, line_number, reading_of}
+use Rattle.um_model.specs.Syntax.{Item, Section, Assignment, Warned, Placed, line_number, reading_of}
 use Rattle.um_model.specs.Tree.{Tree}
 use Rattle.um_model.specs.Resolution.{is_of_same_type, UnitFile, Resolution, AtFile, AtNoFile, AtMask, Nowhere, files_at, resolution_of}
 use Rattle.um_model.specs.Keys.{is_foreign, is_known_section, is_refused_key, kind_of_key}
 use Rattle.um_model.specs.Readings.{text_reading, commands_reading, environment_reading, names_reading}
 use Rattle.um_model.specs.Readings.{first_warning, names_said, value_reading, instance_in}
+use Rattle.um_model.specs.Moments.{millisecond, second}
 use Rattle.um_model.specs.Values.{boolean_of, number_of, span_of, exits_of, policy_named}
 use Rattle.um_model.specs.Commands.{Command}
 use Rattle.um_model.specs.Substitution.{Variable}
@@ -234,15 +235,15 @@ pub record ServiceSettings : Type 0 where
   pub prevents_restart : End → Bool  -- RestartPreventExitStatus=
   pub forces_restart : End → Bool  -- RestartForceExitStatus=
 
--- what counts where nothing is set, in microseconds and starts: 100 ms, 90 s, and 5 starts in 10 s
+-- what counts where nothing is set: so long before a restart, for a start and for a stop, and so many starts in so long
 abbrev pub default_restart_delay : ℕ
-default_restart_delay = 100000
+default_restart_delay = 100 * millisecond
 
 abbrev pub default_timeout : ℕ
-default_timeout = 90000000
+default_timeout = 90 * second
 
 abbrev pub default_limit_interval : ℕ
-default_limit_interval = 10000000
+default_limit_interval = 10 * second
 
 abbrev pub default_limit_burst : ℕ
 default_limit_burst = 5

@@ -7,7 +7,7 @@ use Rattle.std.specs.List.{list_any, list_all, slice_split}
 use Rattle.std.specs.Map.{lookup}
 use Rattle.std.specs.Char.{to_ascii_lowercase}
 use Rattle.std.specs.Str.{bytes_eq}
-use Rattle.um_model.specs.Moments.{span_limit}
+use Rattle.um_model.specs.Moments.{span_limit, millisecond, second, minute, hour, day, week}
 use Rattle.um_model.specs.Ascii.{is_space, is_digit, is_letter}
 use Rattle.um_model.specs.Pieces.{Front, Gives, front_of, reading}
 use Rattle.um_model.specs.Text.{trim_start, is_blank}
@@ -54,13 +54,13 @@ number_of text = if is_decimal text && nat_le (decimal text) number_limit then S
 -- the units of time by their names, with their microseconds; a part without a unit is in seconds
 abbrev pub time_units : List (List ℕ × ℕ)
 time_units =
-    ([], 1000000) ∷ (codes "s", 1000000) ∷ (codes "sec", 1000000) ∷ (codes "second", 1000000) ∷ (codes "seconds", 1000000)
+    ([], second) ∷ (codes "s", second) ∷ (codes "sec", second) ∷ (codes "second", second) ∷ (codes "seconds", second)
     ∷ (codes "us", 1) ∷ (codes "usec", 1)
-    ∷ (codes "ms", 1000) ∷ (codes "msec", 1000)
-    ∷ (codes "m", 60000000) ∷ (codes "min", 60000000) ∷ (codes "minute", 60000000) ∷ (codes "minutes", 60000000)
-    ∷ (codes "h", 3600000000) ∷ (codes "hr", 3600000000) ∷ (codes "hour", 3600000000) ∷ (codes "hours", 3600000000)
-    ∷ (codes "d", 86400000000) ∷ (codes "day", 86400000000) ∷ (codes "days", 86400000000)
-    ∷ (codes "w", 604800000000) ∷ (codes "week", 604800000000) ∷ (codes "weeks", 604800000000) ∷ []
+    ∷ (codes "ms", millisecond) ∷ (codes "msec", millisecond)
+    ∷ (codes "m", minute) ∷ (codes "min", minute) ∷ (codes "minute", minute) ∷ (codes "minutes", minute)
+    ∷ (codes "h", hour) ∷ (codes "hr", hour) ∷ (codes "hour", hour) ∷ (codes "hours", hour)
+    ∷ (codes "d", day) ∷ (codes "day", day) ∷ (codes "days", day)
+    ∷ (codes "w", week) ∷ (codes "week", week) ∷ (codes "weeks", week) ∷ []
 
 -- microseconds in a unit of time
 abbrev pub unit_size : List ℕ → Option ℕ
@@ -101,7 +101,7 @@ span_within n = if nat_le n span_limit then Some (Micros n) else None
 unfoldable pub span_of : List ℕ → Option TimeSpan
 span_of text =
     if bytes_eq text (codes "infinity") then Some Infinite
-    else (if is_blank text then None else option_and_then span_within (option_map sum (reading time_front 0 text)))
+    else (if is_blank text then None else option_and_then span_within (option_map sum (reading time_front text)))
 
 -- ---- sets of exits
 

@@ -7,7 +7,7 @@ use Rattle.um_model.proofs.SpecifiersLaws.{plain_front}
 
 -- what is done, and then what is read of the rest
 abbrev told : List ℕ → Option (List ℕ) → List ℕ → List ℕ → Option (List ℕ)
-told name unescaped done rest = prefixed done (reading (specifier_front name unescaped) 0 rest)
+told name unescaped done rest = prefixed done (reading (specifier_front name unescaped) rest)
 
 -- one specifier more
 pub told_more : (name : List ℕ) (unescaped : Option (List ℕ)) (done rest before after gives later left : List ℕ) (n : ℕ) (whole : Option (List ℕ))
@@ -29,7 +29,7 @@ told_none name unescaped done rest before after cut front =
     let F = specifier_front name unescaped in
     ap (told name unescaped done) cut.0
     ∙ ap (prefixed done) (reading-append F before (37 ∷ after) (λ i below later. plain_front name unescaped (get_or before i 0) later (cut.1 i below)))
-    ∙ prefixed-prefixed done before (reading F 0 (37 ∷ after))
+    ∙ prefixed-prefixed done before (reading F (37 ∷ after))
     ∙ reading_none F 37 after (done ++ before) front
 
 -- no `%` is left

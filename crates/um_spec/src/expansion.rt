@@ -82,7 +82,7 @@ fn expand_with(
     unit: &UnitName,
     unescaped: Option<&str>,
 ) -> Result<Option<String>, AllocError>
-    ensures { IfOk result (λ r. option_map string_bytes r ≡ reading (specifier_front unit.now (option_copied unescaped.entry)) 0 text.now) }
+    ensures { IfOk result (λ r. option_map string_bytes r ≡ reading (specifier_front unit.now (option_copied unescaped.entry)) text.now) }
 {
     let mut expanded = String::new(alloc);
     let mut rest = text;

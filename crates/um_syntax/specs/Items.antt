@@ -9,7 +9,7 @@ use Rattle.um_syntax.specs.declared.items.Item.TheVariants.{Section, Assignment,
 abbrev pub item_of : Item → said.Item
 item_of (Section name line) = said.Section (cow_text name) line
 item_of (Assignment key value line span) = said.Assignment (cow_text key) (cow_text value) line (is_some span)
-item_of (Warning kind line) = said.Warning kind line
+item_of (Warning kind line) = said.Warned kind line
 
 -- what a line gives, which may be nothing
 abbrev pub items_seen : Option Item → List said.Item

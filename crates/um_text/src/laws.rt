@@ -1,7 +1,7 @@
 //! Trimming, told in other words.
 
-ghost use Rattle.std.specs.Prelude.{◌≡◌, ◌↔◌, ℕ, List};
-ghost use Rattle.um_model.specs.Pieces.{Front, StandsForText};
+ghost use Rattle.std.specs.Prelude.{◌≡◌, ◌↔◌, ℕ, List, Some};
+ghost use Rattle.um_model.specs.Pieces.{Front, BeginsWith, StandsForText, begun, reading};
 ghost use Rattle.um_model.specs.Text.{trim_start, trim_end};
 ghost use Rattle.um_model.proofs.TextLaws.{IsCutInFront, IsCutAtEnd};
 
@@ -15,7 +15,10 @@ pub fn trimming_at_the_end()
     ensures { (text rest : List ℕ) → IsCutAtEnd text rest ↔ (rest ≡ trim_end text) }
 {}
 
-/// A text that stands for another one piece by piece, whatever the pieces, stands for one at most.
+/// A text that stands for another one piece by piece, whatever the pieces, stands for one at most; and the functions of the
+/// definition find each beginning of a text by pieces, and each reading of it, and nothing else.
 pub fn a_text_of_pieces_has_one_reading()
-    ensures { (front : ℕ → List ℕ → Front ℕ) (text first second : List ℕ) → StandsForText front text first → StandsForText front text second → first ≡ second }
+    ensures begins { (front : ℕ → List ℕ → Front ℕ) (text found left : List ℕ) → (begun front text ≡ Some (found, left)) ↔ BeginsWith front text found left }
+    ensures reads { (front : ℕ → List ℕ → Front ℕ) (text found : List ℕ) → (reading front text ≡ Some found) ↔ StandsForText front text found }
+    ensures once { (front : ℕ → List ℕ → Front ℕ) (text first second : List ℕ) → StandsForText front text first → StandsForText front text second → first ≡ second }
 {}

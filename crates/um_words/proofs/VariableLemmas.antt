@@ -111,22 +111,22 @@ value_found name vs found e =
 -- one piece more
 pub filled_more : (environment : List pure.Variable) (text rest front behind value after out : List ℕ) (n : ℕ) (whole : Option (List ℕ))
     → rest ≡ front ++ 36 ∷ behind → ((i : ℕ) → i < length front → get_or front i 0 ≢ 36) → dollar_front environment behind ≡ Gives value (n + 1)
-    → after ≡ drop n behind → out ≡ (text ++ front) ++ value → prefixed text (reading (piece_front environment) 0 rest) ≡ whole
-    → prefixed out (reading (piece_front environment) 0 after) ≡ whole
+    → after ≡ drop n behind → out ≡ (text ++ front) ++ value → prefixed text (reading (piece_front environment) rest) ≡ whole
+    → prefixed out (reading (piece_front environment) after) ≡ whole
 filled_more environment text rest front behind value after out n whole e plain gives left made told =
     let F = piece_front environment in
     let n_is : n ≡ n + 1 - 1 = omega arith in
-    ap (λ o. prefixed o (reading F 0 after)) made
-    ∙ ap (λ r. prefixed ((text ++ front) ++ value) (reading F 0 r)) (left ∙ ap (λ k. drop k behind) n_is)
+    ap (λ o. prefixed o (reading F after)) made
+    ∙ ap (λ r. prefixed ((text ++ front) ++ value) (reading F r)) (left ∙ ap (λ k. drop k behind) n_is)
     ∙ sym (reading_more_after F 36 (n + 1) front behind value text (λ i below later. plain_piece environment (get_or front i 0) later (plain i below)) gives)
-    ∙ ap (λ r. prefixed text (reading F 0 r)) (sym e) ∙ told
+    ∙ ap (λ r. prefixed text (reading F r)) (sym e) ∙ told
 
 -- and no piece more
 pub filled_end : (environment : List pure.Variable) (text rest out word : List ℕ) → ((i : ℕ) → i < length rest → get_or rest i 0 ≢ 36) → out ≡ text ++ rest
-    → prefixed text (reading (piece_front environment) 0 rest) ≡ reading (piece_front environment) 0 word → StandsForText (piece_front environment) word out
+    → prefixed text (reading (piece_front environment) rest) ≡ reading (piece_front environment) word → StandsForText (piece_front environment) word out
 filled_end environment text rest out word plain made told =
     let F = piece_front environment in
-    let done : reading F 0 rest ≡ Some rest =
-    ap (reading F 0) (sym (append-nil rest)) ∙ reading-append F rest [] (λ i below later. plain_piece environment (get_or rest i 0) later (plain i below))
+    let done : reading F rest ≡ Some rest =
+    ap (reading F) (sym (append-nil rest)) ∙ reading-append F rest [] (λ i below later. plain_piece environment (get_or rest i 0) later (plain i below))
     ∙ ap Some (append-nil rest) in
     StandsForText-reading F word out (sym told ∙ ap (prefixed text) done ∙ ap Some (sym made))

@@ -1,6 +1,7 @@
 -- What the code's types stand for.
 use Rattle.std.specs.Prelude.{string_bytes}
-use Rattle.um_model.specs.Words.{Spelling, Stop, Bad, Turn, Means, Kept, Word}
+use Rattle.um_model.specs.Words.{Word}
+use Rattle.um_model.proofs.WordSteps.{Spelling, Stop, Bad, Turn, Means, Kept}
 use Rattle.um_words.specs.declared.spelling.Front as code
 use Rattle.um_words.specs.declared.spelling.Front.TheVariants as codes
 use Rattle.um_words.specs.declared.word.Spelled.{Spelled}

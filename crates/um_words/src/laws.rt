@@ -1,10 +1,12 @@
 //! What the definitions of words say together, as functions that do nothing.
 
-ghost use Rattle.std.specs.Prelude.{◌≡◌, ◌↔◌, ℕ, List, Option, Some};
+ghost use Rattle.std.specs.Prelude.{◌≡◌, ◌↔◌, ℕ, List, Option, Some, None};
 ghost use Rattle.um_model.specs.declared.words.WordRules.{WordRules};
 ghost use Rattle.um_model.specs.declared.words.WordRules.TheVariants.{Plain};
 ghost use Rattle.um_model.specs.Finds.{Finds};
-ghost use Rattle.um_model.specs.Words.{AreWords, read, words_of};
+ghost use Rattle.um_model.specs.Pieces.{BeginsWith, begun};
+ghost use Rattle.um_model.specs.Words.{AreWords, piece_of_word, words_of};
+ghost use Rattle.um_model.proofs.WordSteps.{read};
 ghost use Rattle.um_model.specs.Commands.{Command, commands_read};
 ghost use Rattle.um_model.proofs.WordsLaws.{AreCommands, InWord};
 ghost use Rattle.um_model.specs.Substitution.{Variable, AreSubstituted};
@@ -30,9 +32,12 @@ pub fn each_reading_is_found()
     ensures commands { (text : List ℕ) → Finds (commands_read text) (AreCommands text) }
 {}
 
-/// A word is found at the front of a text, inside a quote or none, exactly where it is spelled there, and what follows it is left.
+/// A word is found at the front of a text exactly where the text begins with its pieces, and what follows them is left; code that
+/// goes byte by byte, inside a quote or none, finds the same, exactly where it is spelled there.
 pub fn a_word_is_found_as_it_is_spelled()
-    ensures { (rules : WordRules) (quote : Option ℕ) (text word rest : List ℕ) → (read rules 0 quote text ≡ Some (word, rest)) ↔ InWord rules quote text word rest }
+    ensures pieces { (rules : WordRules) (text word rest : List ℕ) → (begun (piece_of_word rules) text ≡ Some (word, rest)) ↔ BeginsWith (piece_of_word rules) text word rest }
+    ensures read { (rules : WordRules) (text : List ℕ) → begun (piece_of_word rules) text ≡ read rules 0 None text }
+    ensures spelled { (rules : WordRules) (quote : Option ℕ) (text word rest : List ℕ) → (read rules 0 quote text ≡ Some (word, rest)) ↔ InWord rules quote text word rest }
 {}
 
 /// With these variables the words of a command become one list of words at most.

@@ -17,7 +17,7 @@ pub fn spelled<'a>(
     rules: WordRules,
     text: &'a str,
 ) -> Result<Option<Vec<Spelled<'a>>>, AllocError>
-    ensures { IfOk result (λ r. option_map (λ words. map word_of words.items) r ≡ reading (piece_of_words rules) 0 text.now) }
+    ensures { IfOk result (λ r. option_map (λ words. map word_of words.items) r ≡ reading (piece_of_words rules) text.now) }
 {
     let mut words = Vec::new(alloc);
     let mut rest = text;

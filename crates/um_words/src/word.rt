@@ -4,7 +4,7 @@ ghost use Rattle.std.specs.Prelude.{◌≡◌, ◌<◌, ◌≤◌, ◌+◌, ℕ,
 ghost use Rattle.std.specs.Option.{option_map};
 ghost use Rattle.std.specs.List.{prefix_len};
 ghost use Rattle.um_model.specs.Ascii.{is_space};
-ghost use Rattle.um_model.specs.Words.{may_end};
+ghost use Rattle.um_model.proofs.WordSteps.{may_end};
 ghost use Rattle.um_model.proofs.WordsLaws.{read, is_plain};
 
 use crate::spelling::{Front, begins_escape, front_at, is_quote, is_space};

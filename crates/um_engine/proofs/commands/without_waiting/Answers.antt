@@ -5,7 +5,7 @@ use Rattle.um_model.specs.Machine.{State}
 use Rattle.um_model.specs.Units.{load, name_in}
 use Rattle.um_state.specs.View.{state_of}
 use Rattle.um_engine.specs.Known.{KnownView}
-use Rattle.um_engine.specs.Planned.{Loads}
+use Rattle.um_answer.specs.Loaded.{Loads}
 use Rattle.um_engine.proofs.Causes.{cancels_to}
 use Rattle.um_engine.proofs.commands.without_waiting.Goals as goal
 

@@ -3,7 +3,7 @@ use Rattle.um_model.specs.Machine as model
 use Rattle.um_model.specs.Service.{state_of_unit}
 use Rattle.um_model.proofs.MachineLaws.{end_has_effect}
 use Rattle.um_state.specs.View.{state_of, action_of}
-use Rattle.um_engine.proofs.Carried.{process_known}
+use Rattle.um_falling.proofs.Carried.{process_known}
 use Rattle.um_engine.proofs.Ticks.{end_follows}
 use Rattle.um_engine.proofs.happenings.after_end.Goals as goal
 

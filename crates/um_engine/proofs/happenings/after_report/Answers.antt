@@ -1,7 +1,7 @@
 use Rattle.std.proofs.Common.{map, ap, true≢false, sym, ◌∙◌}
 use Rattle.um_model.proofs.MachineLaws.{report_has_effect}
 use Rattle.um_state.specs.View.{state_of, action_of}
-use Rattle.um_engine.proofs.Carried.{process_known}
+use Rattle.um_falling.proofs.Carried.{process_known}
 use Rattle.um_engine.proofs.Ticks.{report_follows, report_is_idle, report_is_over}
 use Rattle.um_engine.proofs.happenings.after_report.Goals as goal
 

@@ -1,6 +1,6 @@
 use Rattle.std.proofs.Common.{map, take}
 use Rattle.um_engine.specs.Engine.{ResetsTo}
-use Rattle.um_engine.specs.Over.{Serves}
+use Rattle.um_falling.specs.Over.{Serves}
 use Rattle.um_state.specs.View.{action_of, state_of}
 use Rattle.um_engine.proofs.resetting.reset_all.Given as goal
 

@@ -1,7 +1,7 @@
 use Rattle.std.proofs.Common.{List, map}
 use Rattle.std.specs.FinMap as finite
 use Rattle.um_engine.specs.Engine.{FiresFrom}
-use Rattle.um_engine.specs.Over.{Serves}
+use Rattle.um_falling.specs.Over.{Serves}
 use Rattle.um_model.specs.Machine.{State}
 use Rattle.um_model.specs.Service.{Action}
 use Rattle.um_state.specs.View.{state_of, action_of}

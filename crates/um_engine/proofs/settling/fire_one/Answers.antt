@@ -2,7 +2,7 @@ use Rattle.std.proofs.Common.{◌≡◌, ◌≢◌, map, Some, rules}
 use Rattle.um_model.specs.Service.{state_of_unit}
 use Rattle.um_state.specs.View.{state_of, action_of}
 use Rattle.um_engine.specs.Engine.{passed}
-use Rattle.um_engine.proofs.Carried.{deadline_known}
+use Rattle.um_falling.proofs.Carried.{deadline_known}
 use Rattle.um_engine.proofs.Steps.{fires_one}
 use Rattle.um_engine.proofs.settling.fire_one.Goals as goal
 

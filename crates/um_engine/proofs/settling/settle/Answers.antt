@@ -1,6 +1,6 @@
 use Rattle.std.proofs.Common.{map}
-use Rattle.um_engine.proofs.AlongLaws.{known_by}
-use Rattle.um_engine.proofs.Carried.{kept_then}
+use Rattle.um_falling.proofs.AlongLaws.{known_by}
+use Rattle.um_falling.proofs.Carried.{kept_then}
 use Rattle.um_engine.proofs.ReadyLaws.{begun_drops, begun_keeps, serves_begun}
 use Rattle.um_engine.proofs.Steps.{settled, settles_more}
 use Rattle.um_model.specs.Jobs.{Job}

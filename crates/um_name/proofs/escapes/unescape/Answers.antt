@@ -9,8 +9,8 @@ pub returns-in_default-read_front : goal.returns-in_default-read_front
 returns-in_default-read_front c =
     let rest : c.loop-first.rest.now ≡ c.in-Some.first.now ∷ c.in-Some.more.now = c.in-Some.ensures.cases.0 in
     let front : unescape_front c.in-Some.first.now c.in-Some.more.now ≡ Unreadable = sym c.in_default-read_front.ensures.front in
-    let none : reading unescape_front 0 c.args.text.now ≡ None =
-    sym c.loop-first.invariant ∙ ap (λ r. prefixed c.loop-first.bytes.items (reading unescape_front 0 r)) rest
+    let none : reading unescape_front c.args.text.now ≡ None =
+    sym c.loop-first.invariant ∙ ap (λ r. prefixed c.loop-first.bytes.items (reading unescape_front r)) rest
     ∙ reading_none unescape_front c.in-Some.first.now c.in-Some.more.now c.loop-first.bytes.items front in
     λ bytes. no_reading unescape_front c.args.text.now bytes none
 
@@ -23,14 +23,14 @@ loop-first-preserved c =
     let piece = c.in-Some-read_front.piece in
     let front : unescape_front c.in-Some.first.now c.in-Some.more.now ≡ Gives (piece.byte ∷ []) piece.size = sym c.in-Some-read_front.ensures.front in
     let items : c.push.new.self.items ≡ c.loop-first.bytes.items ++ (piece.byte ∷ []) = c.in_ok-push.ensures.items in
-    ap (λ bytes. prefixed bytes (reading unescape_front 0 (take (length c.in-Some.more.now - (piece.size - 1)) (drop (piece.size - 1) c.in-Some.more.now)))) items
-    ∙ ap (λ r. prefixed (c.loop-first.bytes.items ++ (piece.byte ∷ [])) (reading unescape_front 0 r)) (take_rest c.in-Some.more.now (piece.size - 1))
+    ap (λ bytes. prefixed bytes (reading unescape_front (take (length c.in-Some.more.now - (piece.size - 1)) (drop (piece.size - 1) c.in-Some.more.now)))) items
+    ∙ ap (λ r. prefixed (c.loop-first.bytes.items ++ (piece.byte ∷ [])) (reading unescape_front r)) (take_rest c.in-Some.more.now (piece.size - 1))
     ∙ sym (reading_more unescape_front c.in-Some.first.now piece.size c.in-Some.more.now (piece.byte ∷ []) c.loop-first.bytes.items front)
-    ∙ ap (λ r. prefixed c.loop-first.bytes.items (reading unescape_front 0 r)) (sym rest)
+    ∙ ap (λ r. prefixed c.loop-first.bytes.items (reading unescape_front r)) (sym rest)
     ∙ c.loop-first.invariant
 
 pub returns : goal.returns
 returns c =
     let rest : c.loop-first.rest.now ≡ [] = nil_from_length c.loop-first.rest.now c.in_default.ensures.cases in
     StandsForText-reading unescape_front c.args.text.now c.loop-first.bytes.items
-    (sym c.loop-first.invariant ∙ ap (λ r. prefixed c.loop-first.bytes.items (reading unescape_front 0 r)) rest ∙ ap Some (append-nil c.loop-first.bytes.items))
+    (sym c.loop-first.invariant ∙ ap (λ r. prefixed c.loop-first.bytes.items (reading unescape_front r)) rest ∙ ap Some (append-nil c.loop-first.bytes.items))

@@ -6,12 +6,12 @@ use Rattle.um_spec.proofs.expansion.expand.Goals as goal
 
 -- what is read with the one unescaped instance is what the text stands for
 same_with : {E : Type 0} (name text : List ℕ) (unescaped : Option (List ℕ)) (r : Result (Option (String Global)) E) → IsUnescaped (instance_or_empty name) unescaped
-    → IfOk r (λ o. option_map string_bytes o ≡ reading (specifier_front name unescaped) 0 text) → IfOk r (λ o. option_map string_bytes o ≡ expanded_of name text)
+    → IfOk r (λ o. option_map string_bytes o ≡ reading (specifier_front name unescaped) text) → IfOk r (λ o. option_map string_bytes o ≡ expanded_of name text)
 unfolding expanded_of
 same_with name text unescaped (Err e) is told = tt
 same_with name text unescaped (Ok o) is told =
     let instance = instance_or_empty name in
-    told ∙ ap (λ u. reading (specifier_front name u) 0 text) (one_unescaped instance unescaped (unescaped_of instance) is (IsUnescaped-unescaped_of instance))
+    told ∙ ap (λ u. reading (specifier_front name u) text) (one_unescaped instance unescaped (unescaped_of instance) is (IsUnescaped-unescaped_of instance))
 
 -- the instance's text, as the code holds it
 unescaped_so : (name escaped : List ℕ) (r : Option (String Global)) (text : Option (List ℕ)) → escaped ≡ instance_or_empty name → IsUnescaped escaped (option_map string_bytes r)

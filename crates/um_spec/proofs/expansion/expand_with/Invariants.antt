@@ -9,7 +9,7 @@ use Rattle.um_spec.proofs.expansion.expand_with.Given as goal
 abbrev pub invariant-loop-before : goal.invariant-loop-before
 invariant-loop-before l = record {
   utf8 : shadow (Utf8 l.rest);
-  told : prefixed (string_bytes l.expanded) (reading (specifier_front l.unit (option_copied l.unescaped)) 0 l.rest) ≡ reading (specifier_front l.unit (option_copied l.unescaped)) 0 l.text;
+  told : prefixed (string_bytes l.expanded) (reading (specifier_front l.unit (option_copied l.unescaped)) l.rest) ≡ reading (specifier_front l.unit (option_copied l.unescaped)) l.text;
 }
 
 abbrev pub decreases-loop-before : goal.decreases-loop-before

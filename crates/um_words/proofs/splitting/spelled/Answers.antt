@@ -11,7 +11,7 @@ use Rattle.um_words.proofs.WordLemmas.{boundary_one, head_is, nil_is, pushed_mor
 use Rattle.um_words.proofs.splitting.spelled.Goals as goal
 
 pub loop-first-init : goal.loop-first-init
-loop-first-init c = record { utf8 = search rules; told = rw c.new-words.ensures.items (option_map_id (reading (piece_of_words c.args.rules) 0 c.args.text.now)) }
+loop-first-init c = record { utf8 = search rules; told = rw c.new-words.ensures.items (option_map_id (reading (piece_of_words c.args.rules) c.args.text.now)) }
 
 pub range_from-rest-requires : goal.range_from-rest-requires
 range_from-rest-requires c = λ _.
@@ -25,7 +25,7 @@ loop-first-preserved-then-is_space c =
     let first = c.in-Some.first.now in
     let after = c.range_from-rest.result.now in
     let head = head_is rest first (c.in-Some.ensures.value ∙ ap (λ t. slice_get t 0) c.as_bytes.ensures.value) ∙ ap (λ t. first ∷ t) (sym c.range_from-rest.ensures.value) in
-    let same = ap (reading (piece_of_words c.args.rules) 0) head ∙ space_read c.args.rules first after (sym c.is_space.ensures ∙ c.if-is_space.true) in
+    let same = ap (reading (piece_of_words c.args.rules)) head ∙ space_read c.args.rules first after (sym c.is_space.ensures ∙ c.if-is_space.true) in
     record {
       utf8 = search rules;
       told = ap (option_map (λ more. map word_of c.loop-first.words.items ++ more)) (sym same) ∙ c.loop-first.invariant.told;
@@ -43,7 +43,7 @@ pub returns : goal.returns
 returns c =
     let rest_is = nil_is c.loop-first.rest.now (c.in_default.ensures.value ∙ ap (λ t. slice_get t 0) c.as_bytes.ensures.value) in
     let words = map word_of c.loop-first.words.items in
-    ap Some (sym (append-nil words)) ∙ ap (λ t. option_map (λ more. words ++ more) (reading (piece_of_words c.args.rules) 0 t)) (sym rest_is) ∙ c.loop-first.invariant.told
+    ap Some (sym (append-nil words)) ∙ ap (λ t. option_map (λ more. words ++ more) (reading (piece_of_words c.args.rules) t)) (sym rest_is) ∙ c.loop-first.invariant.told
 
 pub loop-first-preserved : goal.loop-first-preserved
 loop-first-preserved c =
@@ -57,6 +57,6 @@ loop-first-preserved c =
     let same = word_read c.args.rules rest after (drop 1 rest) first next head (sym c.is_space.ensures ∙ c.if-is_space.false) (sym found) in
     record {
       utf8 = search rules;
-      told = pushed_more c.loop-first.words.items c.push.new.self.items _ (taken rest) (reading (piece_of_words c.args.rules) 0 after) c.in_ok-push.ensures.items (ap taken c.as_bytes-in-Some.ensures.value)
+      told = pushed_more c.loop-first.words.items c.push.new.self.items _ (taken rest) (reading (piece_of_words c.args.rules) after) c.in_ok-push.ensures.items (ap taken c.as_bytes-in-Some.ensures.value)
           ∙ ap (option_map (λ more. map word_of c.loop-first.words.items ++ more)) (sym same) ∙ c.loop-first.invariant.told;
     }

@@ -10,7 +10,7 @@ use Rattle.um_words.proofs.splitting.spelled.Given as goal
 abbrev pub invariant-loop-first : goal.invariant-loop-first
 invariant-loop-first l = record {
   utf8 : shadow (Utf8 l.rest);
-  told : option_map (λ more. map word_of l.words.items ++ more) (reading (piece_of_words l.rules) 0 l.rest) ≡ reading (piece_of_words l.rules) 0 l.text;
+  told : option_map (λ more. map word_of l.words.items ++ more) (reading (piece_of_words l.rules) l.rest) ≡ reading (piece_of_words l.rules) l.text;
 }
 
 abbrev pub decreases-loop-first : goal.decreases-loop-first

@@ -11,7 +11,7 @@ use Rattle.um_words.proofs.substitution.filled.Given as goal
 abbrev pub invariant-loop-before : goal.invariant-loop-before
 invariant-loop-before l = record {
   utf8 : shadow (Utf8 l.rest);
-  told : prefixed (string_bytes l.text) (reading (piece_front (variables_of l.environment)) 0 l.rest) ≡ reading (piece_front (variables_of l.environment)) 0 l.word;
+  told : prefixed (string_bytes l.text) (reading (piece_front (variables_of l.environment)) l.rest) ≡ reading (piece_front (variables_of l.environment)) l.word;
 }
 
 abbrev pub decreases-loop-before : goal.decreases-loop-before

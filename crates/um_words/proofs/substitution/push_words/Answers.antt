@@ -5,7 +5,7 @@ use Rattle.std.proofs.lemmas.Iterator.Consumers.{YieldsList-end}
 use Rattle.std.proofs.lemmas.Option.{none-some}
 use Rattle.um_model.specs.declared.words.WordRules.TheVariants.{Plain}
 use Rattle.um_model.specs.Pieces.{reading}
-use Rattle.um_model.specs.Words.{piece_of_words, values_of}
+use Rattle.um_model.specs.Words.{piece_of_words, word_values}
 use Rattle.um_model.proofs.SubstitutionLaws.{has_words}
 use Rattle.um_model.proofs.PiecesLaws.{reading-StandsForText, StandsForText-reading}
 use Rattle.um_words.specs.Views.{word_of}
@@ -21,10 +21,10 @@ pub returns : goal.returns
 returns c =
     let value = c.args.value.now in
     let words = map word_of c.in-Some.spelled.items in
-    let read : reading (piece_of_words Plain) 0 value ≡ Some words = sym c.in_ok-spelled.ensures ∙ ap (option_map (λ w. map word_of w.items)) c.in-Some.is in
+    let read : reading (piece_of_words Plain) value ≡ Some words = sym c.in_ok-spelled.ensures ∙ ap (option_map (λ w. map word_of w.items)) c.in-Some.is in
     let seen = YieldsList-end (YieldsList-from_vec {s = c.into_iter-word-iterator.result} c.in-Some.spelled.items (search rules) (search rules)) c.loop-word.yielded c.loop-word.word-iterator c.loop-word.yielded_by c.next.result c.next.new.self c.in-None.is c.next.ensures.steps in
     let all : c.loop-word.yielded ≡ c.in-Some.spelled.items = sym (map-id c.loop-word.yielded) ∙ seen.0 in (
-      values_of words,
+      word_values words,
       (words, StandsForText-reading (piece_of_words Plain) value words read, refl),
-      c.loop-word.invariant ∙ ap (λ w. map string_bytes c.args.words.now.items ++ values_of (map word_of w)) all,
+      c.loop-word.invariant ∙ ap (λ w. map string_bytes c.args.words.now.items ++ word_values (map word_of w)) all,
     )

@@ -4,8 +4,7 @@ use Rattle.um_state.specs.View.{action_of, command_of, reply_of}
 use Rattle.um_wire.specs.Refusal.{refused_of}
 use Rattle.um_wire.specs.declared.refusal.Refusal.TheVariants.{NoMemory}
 use Rattle.um_engine.specs.Planned.{Declines}
-use Rattle.um_engine.proofs.Answered.{same_answer}
-use Rattle.um_engine.proofs.Stepped.{obeyed_so, declined_for_cause, declined_for_room}
+use Rattle.um_engine.proofs.Stepped.{obeyed_so, declined_for_cause, declined_for_room, same_answer}
 use Rattle.um_engine.proofs.engine.Engine.obeyed.Goals as goal
 
 pub returns-in_err-outcome-clause-refused : goal.returns-in_err-outcome-clause-refused

@@ -1,0 +1,79 @@
+//! The name that counts for the one that was asked for.
+
+ghost use Rattle.std.specs.Prelude.{◌≡◌, string_bytes, IfOk, Contains};
+ghost use Rattle.um_answer.specs.Loaded.{Loads};
+ghost use Rattle.um_model.specs.Machine.{is_found};
+ghost use Rattle.um_model.specs.Units.{load as load_in, name_in};
+ghost use Rattle.um_unit.specs.View.{loading_of};
+
+use std::alloc::{AllocError, Global};
+use um_graph::Graph;
+use um_name::UnitName;
+use um_tree::Tree;
+use um_unit::{Loading, load};
+
+/// The text of a name.
+pub fn text_of(alloc: Global, unit: &UnitName) -> Result<String, AllocError>
+    ensures { IfOk result (λ s. string_bytes s ≡ unit.now) }
+{
+    Ok(String::from_str(alloc, unit.as_str())?)
+}
+
+/// The name that counts, by what was found: the last one to which the name that was asked for leads, or that name itself where it
+/// leads nowhere.
+pub fn name_in<'u>(asked: &'u UnitName, loading: &'u Loading) -> &'u UnitName
+    ensures { result.now ≡ name_in asked.now (loading_of loading.now) }
+{
+    match loading {
+        Loading::Found(found) => &found.name,
+        Loading::Masked { unit } => unit,
+        Loading::NotFound => asked,
+        Loading::BadSetting { unit, .. } => unit,
+    }
+}
+
+fn is_found(loading: &Loading) -> bool
+    ensures { result ≡ is_found (loading_of loading.now) }
+{
+    !matches!(loading, Loading::NotFound)
+}
+
+/// What a name that was asked for leads to.
+#[derive(Drop)]
+pub struct Asked {
+    /// The unit that counts for it.
+    pub unit: UnitName,
+    /// It leads to a file, a mask, or a unit with a refused setting.
+    pub is_found: bool,
+}
+
+impl Asked {
+    /// What the name leads to, by what became of the look for it.
+    fn by(asked: &UnitName, loading: &Loading) -> Result<Asked, AllocError>
+        ensures unit { IfOk result (λ a. a.unit ≡ name_in asked.now (loading_of loading.now)) }
+        ensures found { IfOk result (λ a. a.is_found ≡ is_found (loading_of loading.now)) }
+    {
+        Ok(Asked {
+            unit: name_in(asked, loading).copy()?,
+            is_found: is_found(loading),
+        })
+    }
+
+    /// What the name leads to in the tree. Of a name that the tree's graph knows no file is read.
+    pub fn of(
+        alloc: Global,
+        graph: &Graph,
+        tree: &Tree,
+        asked: &UnitName,
+    ) -> Result<Asked, AllocError>
+        ensures unit { Loads graph.now tree.now → IfOk result (λ a. a.unit ≡ name_in asked.now (load_in tree.now asked.now)) }
+        ensures found { Loads graph.now tree.now → IfOk result (λ a. a.is_found ≡ is_found (load_in tree.now asked.now)) }
+    {
+        if let Some(unit) = graph.number(asked) {
+            if let Some(loading) = graph.loading(unit) {
+                return Asked::by(asked, loading);
+            }
+        }
+        Asked::by(asked, &load(alloc, tree, asked)?)
+    }
+}

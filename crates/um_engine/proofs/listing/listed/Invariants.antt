@@ -1,7 +1,0 @@
-use Rattle.std.proofs.Common.{◌≡◌, map, take}
-use Rattle.um_model.specs.Machine.{unit_listed}
-use Rattle.um_state.specs.View.{listed_of, state_of}
-use Rattle.um_engine.proofs.listing.listed.Given as goal
-
-abbrev pub invariant-loop-name : goal.invariant-loop-name
-invariant-loop-name l = map listed_of l.listed.items ≡ map (unit_listed (state_of l.state)) (take l.name-index l.names)

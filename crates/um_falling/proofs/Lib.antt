@@ -1,0 +1,7 @@
+pub mod Carried
+pub mod Acts
+pub mod AlongLaws
+pub mod FallenLaws
+pub mod FallingLaws
+pub mod TakenLaws
+pub mod BoundLaws

@@ -1,0 +1,71 @@
+-- Which units fall with one that came to rest, as the code goes from one to the next by the rows of the graph; and what happens with these.
+-- Follows the definition of what falls with a unit: it says it by numbers.
+-- What happens to a unit stands on this file, with all units that fall with it.
+use Rattle.std.specs.Prelude.{◌≡◌, ◌≢◌, ℕ, suc, ◌==◌, ◌&&◌, ◌++◌, Bool, false, if◌then◌else◌, List, [], ◌∷◌, Option, Some, None, map, slice_get}
+use Rattle.std.specs.List.{list_any}
+use Rattle.um_model.specs.Machine.{State, FallDown, Happens, comes_to_rest}
+use Rattle.um_model.specs.Service.{Action, active_state_of, state_of_unit}
+use Rattle.um_model.specs.Transitions.{is_going}
+use Rattle.um_model.specs.declared.dependencies.DependencyKind.TheVariants.{BindsTo}
+use Rattle.um_model.specs.declared.service.SubState.{SubState}
+use Rattle.um_model.specs.declared.transition.UnitEvent.{UnitEvent}
+use Rattle.um_graph.specs.Graph.{GraphView, IsNumberOf, row_of}
+use Rattle.um_graph.specs.Kinds.{has, inverse_bit_of}
+use Rattle.um_graph.specs.declared.row.Neighbour.{Neighbour}
+
+-- how far the unit has come
+abbrev pub sub_of : State → List ℕ → SubState
+sub_of s unit = (state_of_unit s.units unit).sub
+
+-- the unit is active or activating
+abbrev pub goes : State → List ℕ → Bool
+goes s unit = is_going (active_state_of (sub_of s unit))
+
+-- this neighbour is the unit with the number, and bound to the one in whose row it stands
+abbrev pub is_bound_as : ℕ → Neighbour → Bool
+is_bound_as unit n = (n.unit == unit) && has (inverse_bit_of BindsTo) n.kinds
+
+-- the unit with the number is bound to the one of the row
+abbrev pub is_bound : List Neighbour → ℕ → Bool
+is_bound row unit = list_any (is_bound_as unit) row
+
+-- of the units with these names, numbered from this number on, those that are bound to the one of the row and are active or activating
+abbrev pub falling_from : State → List Neighbour → ℕ → List (List ℕ) → List ℕ
+falling_from s row unit [] = []
+falling_from s row unit (name ∷ names) =
+    if is_bound row unit && goes s name then unit ∷ falling_from s row (suc unit) names else falling_from s row (suc unit) names
+
+-- the units of the graph that fall with the one of this name and number, which stood so before
+abbrev pub falling : GraphView → State → SubState → List ℕ → ℕ → List ℕ
+falling g s before name unit = if comes_to_rest before (sub_of s name) then falling_from s (row_of g.rows unit) 0 g.names else []
+
+-- those come before the others in the list
+abbrev pub AddsFalling : GraphView → State → SubState → List ℕ → List ℕ → List ℕ → Type 0
+AddsFalling g s before name list after = (unit : ℕ) → IsNumberOf g unit name → after ≡ falling g s before name unit ++ list
+
+-- these are the names of the units with these numbers
+abbrev pub AreNamed : GraphView → List ℕ → List (List ℕ) → Type 0
+AreNamed g units names = map (slice_get g.names) units ≡ map Some names
+
+-- of all units the state tells that they have come as far as before
+abbrev pub KeepsSubs : State → State → Type 0
+KeepsSubs s v = (unit : List ℕ) → sub_of v unit ≡ sub_of s unit
+
+-- the unit isn't active or activating then, and has come as far as before where it wasn't before; so have all others
+pub record StopsOne (unit : List ℕ) (s v : State) : Type 0 where
+  pub down : goes v unit ≡ false
+  pub stays : goes s unit ≡ false → sub_of v unit ≡ sub_of s unit
+  pub others : (x : List ℕ) → x ≢ unit → sub_of v x ≡ sub_of s x
+
+-- so it is of the unit of this name; where there is none nothing is changed
+abbrev pub StopsIf : Option (List ℕ) → State → List ℕ → State → List ℕ → Type 0
+StopsIf None s list v after = (v ≡ s) × (after ≡ list)
+StopsIf (Some name) s list v after = StopsOne name s v
+
+-- what happens to a unit is carried out, with all units that fall with it
+abbrev pub HappensTo : ℕ → List ℕ → UnitEvent → State → List Action → State → List Action → Type 0
+HappensTo t unit event s before s' after = (new : List Action) × Happens t unit event s new s' × (after ≡ before ++ new)
+
+-- these units are told to stop at once
+abbrev pub FallsTo : ℕ → List (List ℕ) → State → List Action → State → List Action → Type 0
+FallsTo t units s before s' after = (new : List Action) × FallDown t units s new s' × (after ≡ before ++ new)

@@ -1,0 +1,5 @@
+pub mod Acting
+pub mod Along
+pub mod Carrying
+pub mod Falling
+pub mod Over

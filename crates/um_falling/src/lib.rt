@@ -1,0 +1,11 @@
+//! What happens to a unit, with the units that fall with it: how it acts, what that makes of it and its jobs, the starts that a failed
+//! start takes along, and the units that are told to stop because they are bound to one that came to rest.
+#![tactic(auto)]
+
+mod acting;
+mod along;
+mod carrying;
+mod falling;
+
+pub use acting::Acting;
+pub use falling::happen;
