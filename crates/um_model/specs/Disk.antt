@@ -1,9 +1,10 @@
 -- The disk model: what was asked of a disk since it was made, what a read gives, and which images a crash may leave.
 -- No manual page has it: it is the usual model of sectors whose writes reach the disk in any order until a sync answers.
 -- The trait `Disk` and its devices, the log, the slots and the keeper stand on this file.
-use Rattle.std.specs.Prelude.{◌≡◌, ◌⊎◌, ◌+◌, ◌-◌, ◌^◌, ◌<◌, ◌≤◌, min, ℕ, zero, suc, ◌==◌, if◌then◌else◌, List, [], ◌∷◌, ◌++◌, length, map}
+use Rattle.std.specs.Prelude.{◌≡◌, ◌⊎◌, ◌+◌, ◌<◌, ◌≤◌, min, ℕ, zero, suc, ◌==◌, if◌then◌else◌, List, [], ◌∷◌, ◌++◌, length, map}
 use Rattle.std.specs.Prelude.{filter, nat_lt, count_by, Bool, true, false, slice_index_or, Result, Ok, Err}
 use Rattle.std.specs.List.{Contains, range_with_len}
+use Rattle.um_model.specs.Moments.{last_of_64_bits}
 
 -- the 512 bytes of a sector
 abbrev pub Sector : Type 0
@@ -85,7 +86,7 @@ Synced (Err e) old new = new ≡ old
 
 -- one more, in a count that stays at the last value of a `u64`
 abbrev pub one_more : ℕ → ℕ
-one_more count = min (count + 1) (2 ^ 64 - 1)
+one_more count = min (count + 1) last_of_64_bits
 
 -- one more, so many times
 abbrev pub more : ℕ → ℕ → ℕ
@@ -96,10 +97,6 @@ more count (suc n) = one_more (more count n)
 abbrev pub CountsFailure : {T E : Type 0} → Result T E → ℕ → ℕ → Type 0
 CountsFailure (Ok x) old new = new ≡ old
 CountsFailure (Err e) old new = new ≡ one_more old
-
--- a count that rose, or stands at its last value
-abbrev pub HasRisen : ℕ → ℕ → Type 0
-HasRisen old new = (old < new) ⊎ (new ≡ 2 ^ 64 - 1)
 
 -- each image now has P
 abbrev pub Images : Past → (Image → Type 0) → Type 0

@@ -1,5 +1,6 @@
 pub mod Refusals
 pub mod Moments
+pub mod Results
 pub mod Least
 pub mod Reached
 pub mod Ascii

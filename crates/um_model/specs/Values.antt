@@ -120,6 +120,10 @@ signal_number word = lookup (bytes_eq word) signals
 abbrev pub code_limit : ℕ
 code_limit = 255
 
+-- the greatest number of a signal
+abbrev pub signal_limit : ℕ
+signal_limit = 64
+
 -- the end that a word tells: an exit code, or a signal by its name
 abbrev pub exit_of : List ℕ → Option End
 exit_of word =

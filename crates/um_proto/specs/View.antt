@@ -3,6 +3,7 @@ use Rattle.std.specs.Prelude.{Bool, Option, Some, None, Result, Ok, Err}
 use Rattle.um_model.specs.Machine.{Happened, PutFile, PutLink, Remove, DaemonReload, ForUnit, Cancel, ResetFailed, Install, ProcessEnded, ProcessExecuted, Tick, Show, IsActive, IsFailed, IsEnabled, Cat, ListUnits, ListJobs}
 use Rattle.um_model.specs.Refusals.{Refused, bad_request, unknown_verb}
 use Rattle.um_model.specs.Requests as model
+use Rattle.um_model.specs.Results.{result_map}
 use Rattle.um_model.specs.declared.requests.Mode.{Mode}
 use Rattle.um_state.specs.View.{event_of, query_of}
 use Rattle.um_proto.specs.declared.draft.Asking.{Asking}
@@ -54,7 +55,7 @@ asking_of asking.Actions = model.Plainly model.OfActions
 
 -- the request that a draft is, once its unit is named
 abbrev pub request_drafted : Draft → Result model.Request Refused
-request_drafted draft = model.followed (model.request draft.at) (model.named (asking_of draft.asking))
+request_drafted draft = result_map (model.request draft.at) (model.asked_by_name (asking_of draft.asking))
 
 -- the refusal for a cause
 abbrev pub refused_for : Cause → Refused

@@ -1,4 +1,5 @@
-ghost use Rattle.std.specs.Prelude.{◌≡◌, map};
+ghost use Rattle.std.specs.Prelude.{◌≡◌, ◌&&◌, map, codes};
+ghost use Rattle.std.specs.Str.{bytes_eq};
 ghost use Rattle.um_model.specs.Requests as model;
 ghost use Rattle.um_proto.specs.View.{known_where};
 
@@ -128,7 +129,7 @@ impl Known {
 
 /// Whether the verb is written so, and known there.
 fn is_named(verb: Verb, mode: Mode, text: &str) -> bool
-    ensures { result ≡ model.is_named mode text.now verb }
+    ensures { result ≡ ((model.row_of verb).is_known mode && bytes_eq text.now (model.row_of verb).text) }
 {
     let row = row_of(verb);
     row.known.is_in(mode) && text == row.text
@@ -152,7 +153,7 @@ fn is_among(text: &str, texts: &[&str]) -> bool
 }
 
 fn is_moment_key(mode: Mode, key: &str) -> bool
-    ensures { result ≡ model.is_moment_key mode key.now }
+    ensures { result ≡ (model.in_memory mode && bytes_eq key.now (codes "at")) }
 {
     match mode {
         Mode::Memory => key == "at",
