@@ -5,8 +5,10 @@ use Rattle.std.specs.List.{cons_option}
 use Rattle.um_model.specs.Dependencies.{loadable_of, loadable_in, names_in}
 use Rattle.um_model.specs.Names.{is_template, is_unit_name, suffix_of}
 use Rattle.std.specs.Result.{result_ok}
+use Rattle.std.specs.Option.{option_map_or}
 use Rattle.um_model.specs.declared.warnings.WarningKind.{WarningKind}
-use Rattle.um_model.specs.Readings.{Reading, names_reading, names_said, text_reading, then_read, unit_reading, unit_readings}
+use Rattle.um_model.specs.Readings.{Reading, names_reading, names_said, text_reading, unit_reading, read_if}
+use Rattle.um_model.specs.Results.{◌and_then◌}
 use Rattle.um_model.specs.Resolution.{Resolution, AtFile, AtNoFile, AtMask, Nowhere, resolution_of}
 use Rattle.um_model.specs.Tree.{Tree}
 use Rattle.um_model.specs.Units.{Assigned, Dependencies, LoadedUnit, Loading, Found, Masked, NotFound, BadSetting, Source, assignments_in, dependencies_of, found_unless, in_unit, load, loading_at, reason_of, sources_at, unit_by, units_named, values_of, without_install}
@@ -26,7 +28,7 @@ module _ (fits : List ℕ → Bool) (unit : List ℕ) where
   read_fits : (word y : List ℕ) → result_ok (unit_reading fits unit word) ≡ Some y → fits y ≡ true
   read_fits word y h = by (text_reading unit word) h
     where
-      by : (r : Reading (List ℕ)) → result_ok (then_read r (λ text. if fits text then Ok text else Err UnreadableValue)) ≡ Some y → fits y ≡ true
+      by : (r : Reading (List ℕ)) → result_ok (r and_then read_if fits) ≡ Some y → fits y ≡ true
       by (Err w) h = cc
       by (Ok text) h = tested text y (fits text) refl h
 
@@ -46,7 +48,7 @@ module _ (fits : List ℕ → Bool) (unit : List ℕ) where
   unfolding names_reading
   value_fits value y c = by (words_of Names value) c
     where
-      by : (o : Option (List (List ℕ))) → Contains (filter_map result_ok (unit_readings fits unit o)) y → fits y ≡ true
+      by : (o : Option (List (List ℕ))) → Contains (filter_map result_ok (option_map_or (map (unit_reading fits unit)) o (Err UnreadableValue ∷ []))) y → fits y ≡ true
       by None c = absurd (in_none y c)
       by (Some words) c = words_fit words y c
 

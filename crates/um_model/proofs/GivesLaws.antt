@@ -8,7 +8,9 @@ use Rattle.um_model.specs.Dependencies.{loadable_in, shutdown_target, names_in, 
 use Rattle.um_model.specs.Dependencies as model
 use Rattle.um_model.specs.Names.{is_unit_name, suffix_of, stem_of}
 use Rattle.std.specs.Result.{result_ok}
-use Rattle.um_model.specs.Readings.{Reading, then_read, text_reading, unit_reading, unit_readings, names_reading, names_said}
+use Rattle.std.specs.Option.{option_map_or}
+use Rattle.um_model.specs.Readings.{Reading, text_reading, unit_reading, names_reading, names_said, read_if}
+use Rattle.um_model.specs.Results.{◌and_then◌}
 use Rattle.um_model.specs.Resolution.{Resolution, AtFile, AtNoFile, AtMask, Nowhere, resolution_of}
 use Rattle.um_model.specs.Tree.{Tree, Entry, File, Link, PathParts, Place, Unit as Itself, DropIn, Wants, Requires, path_parts, is_fit_place, is_plain_name, are_fit}
 use Rattle.um_model.specs.Units.{Source, Assigned, Dependencies, LoadedUnit, Loading, Found, names_of, dependencies_of, assignments_in, unit_by, found_unless, loading_at, sources_at, load, unit_named}
@@ -124,7 +126,7 @@ module _ (tree : Tree) (kind : DependencyKind) (x y : List ℕ) where
 
 -- ---- the names in settings are unit names
 
-read_fits : (fits : List ℕ → Bool) (name : List ℕ) (r : Reading (List ℕ)) → result_ok (then_read r (λ text. cond (fits text) (Ok text) (Err UnreadableValue))) ≡ Some name → fits name ≡ true
+read_fits : (fits : List ℕ → Bool) (name : List ℕ) (r : Reading (List ℕ)) → result_ok (r and_then read_if fits) ≡ Some name → fits name ≡ true
 read_fits fits name (Err warning) is = absurd (none-some name is)
 read_fits fits name (Ok text) is = by_test (fits text) refl is
   where
@@ -136,7 +138,7 @@ names_fit : (fits : List ℕ → Bool) (unit : List ℕ) (values : List (List �
 unfolding names_reading
 names_fit fits unit values name is = let value = from_flat_map (names_said fits unit) values name is in by_words (words_of Names value.0) value.2
   where
-    by_words : (o : Option (List (List ℕ))) → Among (filter_map result_ok (unit_readings fits unit o)) name → fits name ≡ true
+    by_words : (o : Option (List (List ℕ))) → Among (filter_map result_ok (option_map_or (each (unit_reading fits unit)) o (Err UnreadableValue ∷ []))) name → fits name ≡ true
     by_words None none = absurd none
     by_words (Some words) among =
         let reading = from_filter_map result_ok (each (unit_reading fits unit) words) name among in

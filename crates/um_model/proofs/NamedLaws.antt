@@ -6,7 +6,8 @@ use Rattle.std.proofs.lemmas.Option.{none-some, same_Some}
 use Rattle.um_model.specs.Install.{install_of}
 use Rattle.um_model.specs.Names.{suffix_of, is_unit_name, named}
 use Rattle.std.specs.Result.{result_ok}
-use Rattle.um_model.specs.Readings.{Reading, then_read, text_reading, unit_reading, unit_readings, names_reading, names_said}
+use Rattle.um_model.specs.Readings.{Reading, text_reading, unit_reading, names_reading, names_said, read_if}
+use Rattle.um_model.specs.Results.{◌and_then◌}
 use Rattle.um_model.specs.Resolution.{Resolution, AtFile, AtNoFile, AtMask, Nowhere, held, is_mask, is_of_same_type, is_served_type, needs_no_file, of_same_type, next_name, resolution_at, resolved, hop_limit, resolution_of}
 use Rattle.um_model.specs.Tree.{Tree, Entry, File, Link}
 use Rattle.um_model.specs.Units.{Source, Assigned, assignments_in, names_of, unit_by, found_unless, loading_at, sources_at, load, name_in, unit_named, InstallSettings, nothing_installed, is_alias_for, install_settings_of}
@@ -86,9 +87,9 @@ read_name fits text name false warning e f = absurd (none-some name f)
 
 name_of_word : (fits : List ℕ → Bool) (unit word name : List ℕ) (o : Reading (List ℕ)) → text_reading unit word ≡ o → result_ok (unit_reading fits unit word) ≡ Some name → fits name ≡ true
 name_of_word fits unit word name (Err warning) e f =
-    absurd (none-some name (sym (ap (λ r. result_ok (then_read r (λ text. cond (fits text) (Ok text) (Err UnreadableValue)))) e) ∙ f))
+    absurd (none-some name (sym (ap (λ r. result_ok (r and_then read_if fits)) e) ∙ f))
 name_of_word fits unit word name (Ok text) e f =
-    read_name fits text name (fits text) UnreadableValue refl (sym (ap (λ r. result_ok (then_read r (λ text. cond (fits text) (Ok text) (Err UnreadableValue)))) e) ∙ f)
+    read_name fits text name (fits text) UnreadableValue refl (sym (ap (λ r. result_ok (r and_then read_if fits)) e) ∙ f)
 
 -- what is named fits
 names_fit : (fits : List ℕ → Bool) (unit : List ℕ) (values : List (List ℕ)) (name : List ℕ) → Among (names_of fits unit values) name → fits name ≡ true
@@ -97,7 +98,7 @@ names_fit fits unit values name is =
     let value = from_flat_map (names_said fits unit) values name is in
     by_words value.0 (words_of Names value.0) value.2
   where
-    by_words : (value : List ℕ) (o : Option (List (List ℕ))) → Among (filter_map result_ok (unit_readings fits unit o)) name → fits name ≡ true
+    by_words : (value : List ℕ) (o : Option (List (List ℕ))) → Among (filter_map result_ok (option_map_or (map (unit_reading fits unit)) o (Err UnreadableValue ∷ []))) name → fits name ≡ true
     by_words value None none = absurd none
     by_words value (Some words) is =
         let reading = from_filter_map result_ok (map (unit_reading fits unit) words) name is in

@@ -6,13 +6,18 @@ use Rattle.std.proofs.lemmas.List.Elements.{filter_map-append}
 use Rattle.std.specs.Option.{ok_or}
 use Rattle.std.specs.Result.{result_ok}
 use Rattle.std.specs.Result.{result_err}
-use Rattle.um_model.specs.Readings.{Reading, all_read, command_reading, commands_reading, environment_reading, in_front, variable_reading, then_read, value_reading}
+use Rattle.um_model.specs.Readings.{Reading, all_read, command_reading, commands_reading, environment_reading, variable_reading, value_reading}
+use Rattle.um_model.specs.Results.{◌and_then◌, result_map}
 use Rattle.um_model.specs.Commands.{Command, commands_read}
 use Rattle.um_model.specs.Words.{words_of}
 use Rattle.um_model.specs.declared.warnings.WarningKind.{WarningKind}
 use Rattle.um_model.specs.declared.warnings.WarningKind.TheVariants.{UnreadableValue}
 use Rattle.um_model.specs.declared.words.WordRules.TheVariants.{Escaped}
 use Rattle.um_unit.specs.Readings.{read_as}
+
+-- of several readings all: the first one, and then the others
+abbrev pub in_front : {A : Type 0} → Reading A → Reading (List A) → Reading (List A)
+in_front first others = first and_then λ a. result_map (λ rest. a ∷ rest) others
 
 -- those that were read already, and then these
 abbrev pub read_after : {A : Type 0} → List A → Reading (List A) → Reading (List A)
@@ -102,8 +107,8 @@ said_seen f (Err warning ∷ others) = said_seen f others
 
 pub commands_by : (unit value : List ℕ) (commands : List Command) → commands_read value ≡ Some commands → commands_reading unit value ≡ all_read (map (command_reading unit) commands)
 unfolding commands_reading
-commands_by unit value commands e = ap (λ o. then_read (ok_or o UnreadableValue) (λ read. all_read (map (command_reading unit) read))) e
+commands_by unit value commands e = ap (λ o. ok_or o UnreadableValue and_then λ read. all_read (map (command_reading unit) read)) e
 
 pub environment_by : (unit value : List ℕ) (words : List (List ℕ)) → words_of Escaped value ≡ Some words → environment_reading unit value ≡ all_read (map (variable_reading unit) words)
 unfolding environment_reading
-environment_by unit value words e = ap (λ o. then_read (ok_or o UnreadableValue) (λ read. all_read (map (variable_reading unit) read))) e
+environment_by unit value words e = ap (λ o. ok_or o UnreadableValue and_then λ read. all_read (map (variable_reading unit) read)) e

@@ -2,7 +2,9 @@
 
 ghost use Rattle.std.specs.Prelude.{◌≡◌, ◌∷◌, IfOk, map, option_copied, option_map, string_bytes};
 ghost use Rattle.um_model.specs.Names.{suffix_of, suffix_text_of};
+ghost use Rattle.um_model.specs.Commands.{is_executable_word};
 ghost use Rattle.um_model.specs.Readings as said;
+ghost use Rattle.um_model.specs.Results.{◌and_then◌};
 ghost use Rattle.um_model.specs.Units as model;
 ghost use Rattle.um_unit.specs.Readings.{fits_use, read_as};
 ghost use Rattle.um_words.specs.Commands.{command_seen, commands_seen};
@@ -59,7 +61,7 @@ fn executable_reading(
     unit: &UnitName,
     word: &str,
 ) -> Result<Reading<String>, AllocError>
-    ensures { IfOk result (λ r. read_as string_bytes r ≡ said.then_read (said.text_reading unit.now word.now) said.if_executable) }
+    ensures { IfOk result (λ r. read_as string_bytes r ≡ (said.text_reading unit.now word.now and_then said.read_if is_executable_word)) }
 {
     match text_reading(alloc, unit, word)? {
         Ok(text) if !is_executable_word(text.as_str()) => Ok(Err(WarningKind::UnreadableValue)),
