@@ -13,13 +13,14 @@ use Rattle.um_model.specs.Readings.{Reading, text_reading, unit_reading, names_r
 use Rattle.um_model.specs.Results.{◌and_then◌}
 use Rattle.um_model.specs.Resolution.{Resolution, AtFile, AtNoFile, AtMask, Nowhere, resolution_of}
 use Rattle.um_model.specs.Tree.{Tree, Entry, File, Link, PathParts, Place, Unit as Itself, DropIn, Wants, Requires, path_parts, is_fit_place, is_plain_name, are_fit}
-use Rattle.um_model.specs.Units.{Source, Assigned, Dependencies, LoadedUnit, Loading, Found, names_of, dependencies_of, assignments_in, unit_by, found_unless, loading_at, sources_at, load, unit_named}
+use Rattle.um_model.specs.Units.{Source, Assigned, Dependencies, LoadedUnit, Loading, Found, names_of, dependencies_of, assignments_in, unit_by, loading_at, sources_at, load, unit_named}
 use Rattle.um_model.specs.Words.{words_of}
 use Rattle.um_model.specs.contracts.dependencies.DependencyKind as dependency_kind
 use Rattle.um_model.specs.declared.dependencies.DependencyKind.{DependencyKind}
 use Rattle.um_model.specs.declared.dependencies.DependencyKind.TheVariants as kinds
 use Rattle.um_model.specs.declared.warnings.WarningKind.TheVariants.{UnreadableValue}
 use Rattle.um_model.specs.declared.words.WordRules.TheVariants.{Names}
+use Rattle.um_model.proofs.Forms.{found_unless}
 use Rattle.um_model.proofs.AmongLaws.{both_decided, either_decided, passes_or_not, decided_as, AnyOf, any_decided, among_contained, contains_among, from_map, from_flat_map, from_filter_map}
 use Rattle.um_model.proofs.CoverLaws.{names_cover}
 use Rattle.um_model.proofs.LeastLaws.{IsDecided, Among}

@@ -2,6 +2,7 @@ pub mod LeastLaws
 pub mod TextLaws
 pub mod SyntaxLaws
 pub mod RequestsLaws
+pub mod Forms
 pub mod RepliesLaws
 pub mod NamesLaws
 pub mod TreeLaws

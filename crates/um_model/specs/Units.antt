@@ -3,7 +3,7 @@
 -- The machine stands on this file: what `show` tells, and what a start does.
 use Rattle.std.specs.Prelude.{ℕ, ◌*◌, Bool, true, false, not, ◌&&◌, ◌||◌, ◌==◌, List, [], ◌∷◌, ◌++◌, length, find, filter_map, map as each}
 use Rattle.std.specs.Prelude.{Option, Some, None, option_map, if◌then◌else◌, codes}
-use Rattle.std.specs.Option.{option_or}
+use Rattle.std.specs.Option.{option_or, option_map_or, option_and_then}
 use Rattle.std.specs.Result.{result_ok, result_err, result_unwrap_or}
 use Rattle.std.specs.List.{flat_map, list_any, after_last}
 use Rattle.std.specs.Str.{bytes_eq}
@@ -195,12 +195,9 @@ abbrev pub environment_of : List ℕ → List Assigned → List Variable
 environment_of unit assigned =
     flat_map (λ value. result_unwrap_or (environment_reading unit value) []) (since_empty (values_of (in_service (codes "Environment") ∷ []) assigned))
 
-abbrev pub tells_any : List (End → Bool) → End → Bool
-tells_any sets end = list_any (λ set. set end) sets
-
 -- the ends that the setting's values tell
 abbrev pub exits_in : List ℕ → List Assigned → End → Bool
-exits_in key assigned = tells_any (filter_map exits_of (since_empty (values_of (in_service key ∷ []) assigned)))
+exits_in key assigned end = list_any (λ set. set end) (filter_map exits_of (since_empty (values_of (in_service key ∷ []) assigned)))
 
 -- microseconds, or none where the span never ends
 abbrev pub micros_in : TimeSpan → Option ℕ
@@ -209,8 +206,7 @@ micros_in (Micros n) = Some n
 
 -- a time-out of 0 never passes
 abbrev pub timeout_in : TimeSpan → Option ℕ
-timeout_in Infinite = None
-timeout_in (Micros n) = if n == 0 then None else Some n
+timeout_in span = option_and_then (λ n. if n == 0 then None else Some n) (micros_in span)
 
 abbrev pub span_said : List ℕ → Option (Option ℕ)
 span_said value = option_map micros_in (span_of value)
@@ -289,12 +285,9 @@ pub record Settings : Type 0 where
   pub service : ServiceSettings
   pub install : InstallSettings
 
-abbrev pub description_in : List ℕ → List ℕ → Option (List ℕ)
-description_in unit value = result_ok (text_reading unit value)
-
 abbrev pub settings_of : List ℕ → List Assigned → Settings
 settings_of unit assigned = record {
-  description = last_read (description_in unit) [] (values_of (in_unit (codes "Description") ∷ []) assigned);
+  description = last_read (λ value. result_ok (text_reading unit value)) [] (values_of (in_unit (codes "Description") ∷ []) assigned);
   dependencies = dependencies_of unit assigned;
   service = service_settings_of (suffix_of unit) unit assigned;
   install = install_settings_of unit assigned;
@@ -302,24 +295,13 @@ settings_of unit assigned = record {
 
 -- ---- settings that are refused
 
-abbrev pub is_refused : Assigned → Bool
-is_refused a = is_refused_key a.key && not (is_empty a.value)
-
 -- `setting` and the first key that no unit may have, where it is given a value
 abbrev pub refused_setting : List Assigned → Option (List ℕ)
-refused_setting assigned = option_map (λ a. codes "setting " ++ a.key) (find is_refused assigned)
+refused_setting assigned = option_map (λ a. codes "setting " ++ a.key) (find (λ a. is_refused_key a.key && not (is_empty a.value)) assigned)
 
-abbrev pub is_unserved : TypeSaid → Bool
-is_unserved Unserved = true
-is_unserved other = false
-
--- a oneshot service has a command, or remains with a command to stop it
-abbrev pub lacks_command : ServiceSettings → Bool
-lacks_command s = is_empty s.start && not (s.remains && not (is_empty s.stop))
-
--- any other service has exactly one
+-- a oneshot service has a command, or remains with a command to stop it; any other service has exactly one
 abbrev pub has_wrong_count : UnitKind → ServiceSettings → Bool
-has_wrong_count Oneshot s = lacks_command s
+has_wrong_count Oneshot s = is_empty s.start && not (s.remains && not (is_empty s.stop))
 has_wrong_count other s = not (length s.start == 1)
 
 -- a oneshot service isn't started again after a success
@@ -330,10 +312,10 @@ restarts_after_success kind policy = false
 
 -- why a service can't be loaded, by its type, its commands and its restarts
 abbrev pub refused_service : Option Suffix → TypeSaid → ServiceSettings → Option (List ℕ)
+refused_service (Some Service) Unserved s = Some (codes "type")
 refused_service (Some Service) said s =
-    if is_unserved said then Some (codes "type")
-    else (if has_wrong_count s.kind s then Some (codes "exec-count")
-    else (if restarts_after_success s.kind s.restart then Some (codes "restart") else None))
+    if has_wrong_count s.kind s then Some (codes "exec-count")
+    else (if restarts_after_success s.kind s.restart then Some (codes "restart") else None)
 refused_service other said s = None
 
 -- the first reason why a unit can't be loaded
@@ -360,13 +342,9 @@ value_warning unit kind.Policy value = result_err (value_reading (policy_named v
 value_warning unit kind.ServiceType value = result_err (value_reading (type_said value))
 value_warning unit kind.Refused value = None
 
-abbrev pub warning_by_kind : List ℕ → Option ValueKind → List ℕ → Option WarningKind
-warning_by_kind unit None value = Some UnknownKey
-warning_by_kind unit (Some kind) value = value_warning unit kind value
-
 -- an assignment in a known section: an unknown key, unless it is foreign, or a value that can't be read
 abbrev pub assignment_warning : List ℕ → List ℕ → List ℕ → List ℕ → Option WarningKind
-assignment_warning unit section key value = if is_foreign key then None else warning_by_kind unit (kind_of_key section key) value
+assignment_warning unit section key value = if is_foreign key then None else option_map_or (λ kind. value_warning unit kind value) (kind_of_key section key) (Some UnknownKey)
 
 -- the head of a section: an unknown one, unless it is foreign
 abbrev pub head_warning : Option Suffix → List ℕ → Option WarningKind
@@ -432,13 +410,10 @@ unit_by unit path sources = record {
   warnings = warnings_of unit sources;
 }
 
-abbrev pub found_unless : Option (List ℕ) → LoadedUnit → Loading
-found_unless None u = Found u
-found_unless (Some reason) u = BadSetting u.name reason
-
 -- a unit with a file: found, unless a setting is refused
 abbrev pub loading_by_file : List ℕ → List ℕ → List Source → Loading
-loading_by_file unit path sources = found_unless (reason_of unit (assignments_in (suffix_of unit) sources)) (unit_by unit (Some path) sources)
+loading_by_file unit path sources =
+    option_map_or (BadSetting unit) (reason_of unit (assignments_in (suffix_of unit) sources)) (Found (unit_by unit (Some path) sources))
 
 abbrev pub without_install : LoadedUnit → LoadedUnit
 without_install u = record u { settings = record u.settings { install = nothing_installed } }
