@@ -11,12 +11,13 @@ use Rattle.um_model.specs.Readings.{Reading, names_reading, names_said, text_rea
 use Rattle.um_model.specs.Results.{◌and_then◌}
 use Rattle.um_model.specs.Resolution.{Resolution, AtFile, AtNoFile, AtMask, Nowhere, resolution_of}
 use Rattle.um_model.specs.Tree.{Tree}
-use Rattle.um_model.specs.Units.{Assigned, Dependencies, LoadedUnit, Loading, Found, Masked, NotFound, BadSetting, Source, assignments_in, dependencies_of, found_unless, in_unit, load, loading_at, reason_of, sources_at, unit_by, units_named, values_of, without_install}
+use Rattle.um_model.specs.Units.{Assigned, Dependencies, LoadedUnit, Loading, Found, Masked, NotFound, BadSetting, Source, assignments_in, dependencies_of, in_unit, load, loading_at, reason_of, sources_at, unit_by, units_named, values_of, without_install}
 use Rattle.um_model.specs.Words.{words_of}
 use Rattle.um_model.specs.declared.dependencies.DependencyKind.{DependencyKind}
 use Rattle.um_model.specs.declared.dependencies.DependencyKind.TheVariants as kinds
 use Rattle.um_model.specs.declared.warnings.WarningKind.TheVariants.{UnreadableValue}
 use Rattle.um_model.specs.declared.words.WordRules.TheVariants.{Names}
+use Rattle.um_model.proofs.Forms.{found_unless}
 use Rattle.um_graph.proofs.ListLaws.{flat_contains, in_none, in_cons}
 
 -- ---- what a value tells

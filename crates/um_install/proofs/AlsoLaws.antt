@@ -9,11 +9,12 @@ use Rattle.um_model.specs.Readings.{Reading, text_reading, unit_reading, names_r
 use Rattle.um_model.specs.Results.{◌and_then◌}
 use Rattle.um_model.specs.Resolution.{Resolution, AtFile, AtNoFile, AtMask, Nowhere, resolution_of}
 use Rattle.um_model.specs.Tree.{Tree}
-use Rattle.um_model.specs.Units.{Assigned, LoadedUnit, load, loading_at, found_unless, name_in, unit_named, install_settings_of, names_of, unit_by, sources_at, assignments_in}
+use Rattle.um_model.specs.Units.{Assigned, LoadedUnit, load, loading_at, name_in, unit_named, install_settings_of, names_of, unit_by, sources_at, assignments_in}
 use Rattle.um_model.specs.Names.{suffix_of}
 use Rattle.um_model.specs.Words.{words_of}
 use Rattle.um_model.specs.declared.words.WordRules.TheVariants.{Names}
 use Rattle.um_model.specs.declared.warnings.WarningKind.TheVariants.{UnreadableValue}
+use Rattle.um_model.proofs.Forms.{found_unless}
 use Rattle.std.proofs.lemmas.Option.{same_Some, none-some}
 use Rattle.std.specs.Option.{option_map_or}
 use Rattle.um_install.proofs.Members.{each_contains, filter_map_contains, flat_contains}

@@ -23,13 +23,13 @@ use Rattle.um_model.specs.Names.{template_of}
 use Rattle.um_model.specs.Refusals.{Refused, unless_refused, at_first}
 use Rattle.um_model.specs.Resolution.{unit_path, held_in, first_held, leads_to_template, unless_to_template, held, Resolution, AtFile, AtNoFile, AtMask, Nowhere, is_mask, is_served_type, needs_no_file, next_name, resolution_at, resolved, hop_limit, resolution_of}
 use Rattle.um_model.specs.StateSpellings.{any_text, FitEntry, FitTree}
-use Rattle.um_model.specs.Tree.{Tree, Entry, File, Link, Wants, Requires, Unit as Itself, PathParts, IsTree, path_parts, is_served, is_fit_at, is_fit_entry, is_fit_target, entry_limit, put_cause, put_file, link_cause, put_link, remove_cause, remove_at, is_volatile, without_run}
+use Rattle.um_model.specs.Tree.{Tree, Entry, File, Link, Wants, Requires, Unit as Itself, PathParts, IsTree, path_parts, is_served, is_fit_entry, is_fit_target, entry_limit, put_cause, put_file, link_cause, put_link, remove_cause, remove_at, is_volatile, without_run}
 use Rattle.um_model.specs.Units.{InstallSettings, LoadedUnit, Loading, Found, Masked, NotFound, BadSetting, loading_at, load}
 use Rattle.um_model.specs.Weight.{text_of_entry}
 use Rattle.um_model.specs.declared.install.InstallVerb.{InstallVerb}
 use Rattle.um_model.specs.declared.tree.Layer.{Layer}
 use Rattle.um_model.specs.declared.tree.Layer.TheVariants.{Etc, Run, Lib}
-use Rattle.um_model.proofs.Forms.{found_unless}
+use Rattle.um_model.proofs.Forms.{found_unless, is_fit_at}
 use Rattle.um_model.proofs.AmongLaws.{among_either, among_contained, from_map}
 use Rattle.um_model.proofs.AsciiLaws.{low_utf8, parts_utf8}
 use Rattle.um_model.proofs.BytesLaws.{left_holds, right_holds}

@@ -1,8 +1,66 @@
 -- Parts of definitions, by names that the laws of them use.
-use Rattle.std.specs.Prelude.{List, ℕ, Option}
-use Rattle.std.specs.Option.{option_map_or}
+use Rattle.std.specs.Prelude.{◌+◌, ◌-◌, Bool, true, nat_le, nat_eq, length, take, List, [], ◌∷◌, ℕ, Option, Some, None, if◌then◌else◌, is_some}
+use Rattle.std.specs.List.{list_any, ends_with}
+use Rattle.std.specs.Str.{is_utf8}
+use Rattle.std.specs.Option.{option_map_or, option_and_then}
+use Rattle.um_model.specs.Moments.{span_limit}
+use Rattle.um_model.specs.Names.{suffix_text}
+use Rattle.um_model.specs.Pieces.{Front, Gives, Unreadable}
+use Rattle.um_model.specs.Resolution.{DropIn, is_of_same_type}
+use Rattle.um_model.specs.Substitution.{Variable, value_of}
+use Rattle.um_model.specs.Tree.{Entry, File, Link, PathParts, are_fit, is_fit_entry}
 use Rattle.um_model.specs.Units.{LoadedUnit, Loading, Found, BadSetting}
+use Rattle.um_model.specs.Values.{exit_of, is_end, words_in}
+use Rattle.um_model.specs.declared.names.Suffix.{Suffix}
+use Rattle.um_model.specs.declared.service.End.{End}
+use Rattle.um_model.specs.declared.settings.TimeSpan.{TimeSpan}
+use Rattle.um_model.specs.declared.settings.TimeSpan.TheVariants.{Micros}
 
 -- a unit is found, unless there is a reason why it can't be loaded
 abbrev pub found_unless : Option (List ℕ) → LoadedUnit → Loading
 found_unless reason u = option_map_or (BadSetting u.name) reason (Found u)
+
+-- the span of so many microseconds, where they aren't too many
+abbrev pub span_within : ℕ → Option TimeSpan
+span_within n = if nat_le n span_limit then Some (Micros n) else None
+
+-- a word of the text tells this end
+abbrev pub tells_end : List ℕ → End → Bool
+tells_end text end = list_any (λ word. is_end end (exit_of word)) (words_in text)
+
+-- the word tells an end
+abbrev pub is_exit : List ℕ → Bool
+is_exit word = is_some (exit_of word)
+
+-- what a `$` before a name in braces stands for, where there is one
+abbrev pub variable_front : List Variable → Option (List ℕ) → Front ℕ
+variable_front environment name = option_map_or (λ n. Gives (value_of environment n) (length n + 3)) name (Gives (36 ∷ []) 1)
+
+-- the bytes, where they are a text
+abbrev pub as_text : Option (List ℕ) → Option (List ℕ)
+as_text bytes = option_and_then (λ text. if is_utf8 text then Some text else None) bytes
+
+-- the other name, where it is of the unit's type
+abbrev pub of_same_type : List ℕ → Option (List ℕ) → Option (List ℕ)
+of_same_type unit other = option_and_then (λ o. if is_of_same_type unit o then Some o else None) other
+
+-- the drop-in that an entry is, where it has a name in the folder
+abbrev pub drop_in_named : Option (List ℕ) → List ℕ × Entry → List DropIn
+drop_in_named file (path, File text) = option_map_or (λ f. record { file = f; path = path; text = text } ∷ []) file []
+drop_in_named file (path, Link target) = []
+
+-- the parts, if they are fit
+abbrev pub where_fit : PathParts → Option PathParts
+where_fit p = if are_fit p then Some p else None
+
+-- what stands at the path, if anything, may stand there
+abbrev pub is_fit_at : List ℕ → Option Entry → Bool
+is_fit_at path entry = option_map_or (is_fit_entry path) entry true
+
+-- the text ends in the suffix
+abbrev pub ends_in : List ℕ → Suffix → Bool
+ends_in text s = ends_with nat_eq text (suffix_text s)
+
+-- what stands before that suffix, or all
+abbrev pub stem_before : List ℕ → Option Suffix → List ℕ
+stem_before text suffix = option_map_or (λ s. take (length text - length (suffix_text s)) text) suffix text

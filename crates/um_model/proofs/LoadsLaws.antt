@@ -6,12 +6,13 @@ use Rattle.std.specs.Cmp.Lexicographic.{slice_cmp, nat_list_cmp_total}
 use Rattle.std.specs.Ordering.{nat_cmp, is_eq}
 use Rattle.std.specs.Prelude.{option_map}
 use Rattle.um_model.specs.Names.{is_unit_name, suffix_of, instance_of, template_of, with_instance}
-use Rattle.um_model.specs.Resolution.{Resolution, AtFile, AtNoFile, AtMask, Nowhere, unit_path, held_in, first_held, unless_to_template, held, is_mask, is_of_same_type, is_served_type, of_same_type, next_name, resolution_at, resolved, hop_limit, resolution_of, DropIn, drop_in_folders, drop_in_named, drop_in_at, drop_ins_in, drop_ins_by_file, drop_ins_of, file_of_drop_in, files_at}
+use Rattle.um_model.specs.Resolution.{Resolution, AtFile, AtNoFile, AtMask, Nowhere, unit_path, held_in, first_held, unless_to_template, held, is_mask, is_of_same_type, is_served_type, next_name, resolution_at, resolved, hop_limit, resolution_of, DropIn, drop_in_folders, drop_in_at, drop_ins_in, drop_ins_by_file, drop_ins_of, file_of_drop_in, files_at}
 use Rattle.um_model.specs.Tree.{Tree, Entry, File, Link, behind}
 use Rattle.um_model.specs.Units.{Found, source_of, loading_by_file, without_install, unit_by, loading_at, load}
 use Rattle.um_model.specs.declared.tree.Layer.{Layer}
 use Rattle.um_model.specs.declared.tree.Layer.TheVariants.{Etc, Run, Lib}
 use Rattle.um_model.proofs.NamesLaws.{is_unit_name-template}
+use Rattle.um_model.proofs.Forms.{of_same_type, drop_in_named}
 
 -- ---- drop-ins: a link is none
 

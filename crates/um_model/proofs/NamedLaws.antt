@@ -8,14 +8,14 @@ use Rattle.um_model.specs.Names.{suffix_of, is_unit_name, named}
 use Rattle.std.specs.Result.{result_ok}
 use Rattle.um_model.specs.Readings.{Reading, text_reading, unit_reading, names_reading, names_said, read_if}
 use Rattle.um_model.specs.Results.{◌and_then◌}
-use Rattle.um_model.specs.Resolution.{Resolution, AtFile, AtNoFile, AtMask, Nowhere, held, is_mask, is_of_same_type, is_served_type, needs_no_file, of_same_type, next_name, resolution_at, resolved, hop_limit, resolution_of}
+use Rattle.um_model.specs.Resolution.{Resolution, AtFile, AtNoFile, AtMask, Nowhere, held, is_mask, is_of_same_type, is_served_type, needs_no_file, next_name, resolution_at, resolved, hop_limit, resolution_of}
 use Rattle.um_model.specs.Tree.{Tree, Entry, File, Link}
 use Rattle.um_model.specs.Units.{Source, Assigned, assignments_in, names_of, unit_by, loading_at, sources_at, load, name_in, unit_named, InstallSettings, nothing_installed, is_alias_for, install_settings_of}
 use Rattle.um_model.specs.Words.{words_of}
 use Rattle.um_model.specs.declared.warnings.WarningKind.{WarningKind}
 use Rattle.um_model.specs.declared.warnings.WarningKind.TheVariants.{UnreadableValue}
 use Rattle.um_model.specs.declared.words.WordRules.TheVariants.{Names}
-use Rattle.um_model.proofs.Forms.{found_unless}
+use Rattle.um_model.proofs.Forms.{found_unless, of_same_type}
 use Rattle.um_model.proofs.AmongLaws.{from_map, from_flat_map, from_filter_map}
 use Rattle.um_model.proofs.LeastLaws.{Among}
 

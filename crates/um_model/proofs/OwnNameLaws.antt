@@ -7,12 +7,12 @@ use Rattle.um_model.specs.Dependencies.{loadable_of, loadable_in, has_defaults, 
 use Rattle.um_model.specs.Dependencies as model
 use Rattle.um_model.specs.Names.{is_template, is_unit_name, instance_of, suffix_of, suffix_text_of}
 use Rattle.um_model.specs.Reached.{first, next}
-use Rattle.um_model.specs.Resolution.{Resolution, AtFile, AtNoFile, AtMask, Nowhere, held, is_mask, is_of_same_type, is_served_type, needs_no_file, of_same_type, next_name, resolution_at, resolved, hop_limit, resolution_of, unit_in_target, with_instance_of}
+use Rattle.um_model.specs.Resolution.{Resolution, AtFile, AtNoFile, AtMask, Nowhere, held, is_mask, is_of_same_type, is_served_type, needs_no_file, next_name, resolution_at, resolved, hop_limit, resolution_of, unit_in_target, with_instance_of}
 use Rattle.um_model.specs.Tree.{Tree, Entry, File, Link}
 use Rattle.um_model.specs.Units.{LoadedUnit, Loading, Found, Masked, NotFound, BadSetting, assignments_in, reason_of, unit_by, loading_at, sources_at, load, name_in, unit_named}
 use Rattle.um_model.specs.declared.dependencies.DependencyKind.{DependencyKind}
 use Rattle.um_model.specs.declared.names.Suffix.{Suffix}
-use Rattle.um_model.proofs.Forms.{found_unless}
+use Rattle.um_model.proofs.Forms.{found_unless, of_same_type}
 use Rattle.um_model.proofs.NamesLaws.{suffix_of-append}
 
 -- ---- a unit's own name leads where each name leads that leads to the unit

@@ -8,9 +8,10 @@ use Rattle.std.proofs.lemmas.Str.{IsUtf8-from_is_utf8, is_utf8-from_IsUtf8}
 use Rattle.um_model.specs.Finds.{Finds}
 use Rattle.um_model.specs.Names.{unescape_front, StandsForBytes}
 use Rattle.um_model.specs.Pieces.{Gives, StandsForText, reading}
-use Rattle.um_model.specs.Specifiers.{instance_or_empty, specifier_front, as_text, unescaped_of, expanded_of}
+use Rattle.um_model.specs.Specifiers.{instance_or_empty, specifier_front, unescaped_of, expanded_of}
 use Rattle.um_model.proofs.FindsLaws.{one_found}
 use Rattle.um_model.proofs.PiecesLaws.{one_reading, no_reading, reading-StandsForText, StandsForText-reading}
+use Rattle.um_model.proofs.Forms.{as_text}
 
 -- the text that the bytes' escapes stand for, where it is one
 abbrev pub IsUnescaped : List ℕ → Option (List ℕ) → Type 0

@@ -2,15 +2,17 @@
 use Rattle.std.proofs.Common.{◌≡◌, ◌≢◌, ℕ, zero, suc, ◌-◌, Bool, true, false, cond, eqb, List, [], ◌∷◌, ◌++◌, length, Option, Some, None, refl, sym, ap, ◌∙◌, subst, inl, inr, append_assoc, append-nil}
 use Rattle.std.proofs.lemmas.Bool.{cases_Bool, cond-true, cond-false, ne_eqb}
 use Rattle.std.proofs.lemmas.Option.{none-some, same_Some}
+use Rattle.std.specs.Option.{option_map_or}
 use Rattle.um_model.specs.Ascii.{is_space}
-use Rattle.um_model.specs.Pieces.{Front, Gives, StandsForText}
+use Rattle.um_model.specs.Pieces.{Front, Gives, StandsForText, Unreadable}
 use Rattle.um_model.proofs.WordSteps.{bare, begun-read}
 use Rattle.um_model.specs.Words.{is_quote, Word, word_front, piece_of_words, word_values, AreWords}
-use Rattle.um_model.specs.Substitution.{Variable, value_of, whole_name, braced_name, variable_front, dollar_front, piece_front, Becomes, splits, fills, AllBecome, no_more, one_more, AreSubstituted, no_words, first_stays}
+use Rattle.um_model.specs.Substitution.{Variable, value_of, whole_name, braced_name, dollar_front, piece_front, Becomes, splits, fills, AllBecome, no_more, one_more, AreSubstituted, no_words, first_stays}
 use Rattle.um_model.specs.declared.words.WordRules.TheVariants.{Plain}
 use Rattle.um_model.specs.Text.{first_passes}
 use Rattle.um_model.proofs.PiecesLaws.{one_reading, IsRead, has_reading}
 use Rattle.um_model.proofs.WordsLaws.{read, by_spelling, with_front, first_word, same_words}
+use Rattle.um_model.proofs.Forms.{variable_front}
 
 -- a byte that is no `$` stands for itself
 pub plain_piece : (environment : List Variable) (b : ℕ) (bs : List ℕ) → b ≢ 36 → piece_front environment b bs ≡ Gives (b ∷ []) 1
@@ -99,7 +101,7 @@ have_read b bs = elim (cases_Bool (is_space b)) [
   | inl white ↦ ([], 1, cond-true _ _ _ white)
   | inr apart ↦
       let found = plain_reads (b ∷ bs) 0 None in
-      (first_word (b ∷ bs) found.1 found.0 ∷ [], length (b ∷ bs) - length found.1, cond-false _ _ _ apart ∙ ap (word_front (b ∷ bs)) (begun-read Plain (b ∷ bs) ∙ found.2))
+      (first_word (b ∷ bs) found.1 found.0 ∷ [], length (b ∷ bs) - length found.1, cond-false _ _ _ apart ∙ ap (λ o. option_map_or (word_front (b ∷ bs)) o Unreadable) (begun-read Plain (b ∷ bs) ∙ found.2))
 ]
 
 -- each value reads as words

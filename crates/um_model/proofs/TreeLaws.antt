@@ -19,12 +19,14 @@ use Rattle.std.proofs.lemmas.Option.{same_Some}
 use Rattle.std.proofs.lemmas.Slice.Eq.{bytes_eq-Decides, starts_is}
 use Rattle.um_model.specs.Names.{is_prefix_byte, is_instance_byte, is_fit_instance, instance_text, suffix_text, is_unit_name, is_template}
 use Rattle.um_model.specs.Refusals.{Refused, cause, first_cause}
-use Rattle.um_model.specs.Tree.{layer_text, Place, Unit, DropIn, Wants, Requires, place_text, PathParts, is_drop_in_name, is_plain_name, is_fit_place, IsPathOf, is_slash, behind, before, around_slash, layer_and_rest, place_in, unit_and_place, where_fit, path_parts, Entry, File, Link, Tree, IsTree, entry_limit, text_limit, is_served, is_fit_entry, is_fit_at, is_fit_target, is_link, is_other_than_link, is_full_for, put_cause, link_cause, is_volatile, has_run, without_run, path_text, are_fit}
+use Rattle.um_model.specs.Tree.{layer_text, Place, Unit, DropIn, Wants, Requires, place_text, PathParts, is_drop_in_name, is_plain_name, is_fit_place, IsPathOf, is_slash, behind, before, around_slash, layer_and_rest, place_in, unit_and_place, path_parts, Entry, File, Link, Tree, IsTree, entry_limit, text_limit, is_served, is_fit_entry, is_fit_target, is_link, is_other_than_link, is_full_for, put_cause, link_cause, is_volatile, has_run, without_run, path_text, are_fit}
 use Rattle.um_model.specs.declared.names.Suffix.{Suffix}
 use Rattle.um_model.specs.declared.names.Suffix.TheVariants.{Service, Socket, Device, Mount, Automount, Swap, Target, Path, Timer, Slice, Scope}
 use Rattle.um_model.specs.declared.tree.Layer.{Layer}
 use Rattle.um_model.specs.declared.tree.Layer.TheVariants.{Etc, Run, Lib}
 use Rattle.um_model.proofs.NamesLaws.{named_by_parts}
+use Rattle.um_model.proofs.Forms.{where_fit, is_fit_at}
+use Rattle.um_model.specs.Bytes.{◌>>=◌}
 
 tied : (o : Ordering) → is_eq o ≡ true → o ≡ Equal
 tied Less e = cc
@@ -292,7 +294,7 @@ unit-parts rest (Some p) around q e = around-parts rest p around ∙ place-parts
 abbrev parts_of : Layer → List ℕ × Place → PathParts
 parts_of layer q = record { layer = layer; unit = q.0; place = q.1 }
 
-fit-parts : (layer : Layer) (rest : List ℕ) (o : Option (List ℕ × Place)) → unit_and_place rest ≡ o → (p : PathParts) → option_and_then (λ u. where_fit (parts_of layer u)) o ≡ Some p
+fit-parts : (layer : Layer) (rest : List ℕ) (o : Option (List ℕ × Place)) → unit_and_place rest ≡ o → (p : PathParts) → (o >>= λ u. where_fit (parts_of layer u)) ≡ Some p
     → IsPathOf (layer_text layer ++ rest) p
 fit-parts layer rest None found p e = cc
 fit-parts layer rest (Some q) found p e =
@@ -302,7 +304,7 @@ fit-parts layer rest (Some q) found p e =
 
 -- the parts by the layer and what follows it
 abbrev parts_behind : Option (Layer × List ℕ) → Option PathParts
-parts_behind o = option_and_then (λ l. option_and_then (λ u. where_fit (parts_of l.0 u)) (unit_and_place l.1)) o
+parts_behind o = o >>= λ l. unit_and_place l.1 >>= λ u. where_fit (parts_of l.0 u)
 
 path-parts : (path : List ℕ) (o : Option (Layer × List ℕ)) → layer_and_rest path ≡ o → (p : PathParts) → parts_behind o ≡ Some p → IsPathOf path p
 path-parts path None found p e = cc
@@ -456,7 +458,7 @@ unit-place unit (Requires other) is = in_directory unit (codes ".requires") othe
 pub parts_at : (p : PathParts) → is_unit_name p.unit ≡ true → path_parts (path_text p) ≡ cond (are_fit p) (Some p) None
 unfolding path_parts
 parts_at p is =
-    ap parts_behind (layer-text p.layer (p.unit ++ place_text p.place)) ∙ ap (option_and_then (λ u. where_fit (parts_of p.layer u))) (unit-place p.unit p.place is)
+    ap parts_behind (layer-text p.layer (p.unit ++ place_text p.place)) ∙ ap (λ o. o >>= λ u. where_fit (parts_of p.layer u)) (unit-place p.unit p.place is)
 
 -- the parts of a path are told
 pub parts_of_path : (path : List ℕ) (p : PathParts) → IsPathOf path p → path_parts path ≡ Some p

@@ -15,7 +15,7 @@ use Rattle.um_model.specs.Pieces.{front_of, StandsForText, done, reading}
 use Rattle.um_model.specs.Text.{trim_start, is_empty, is_blank}
 use Rattle.um_model.specs.Finds.{Finds}
 use Rattle.um_model.specs.Moments.{span_limit}
-use Rattle.um_model.specs.Values.{words_for, is_same_in_any_case, boolean_of, decimal, is_decimal, number_limit, number_of, unit_size, digits_of, unit_of, past_part, time_of, time_front, span_within, span_of, words_in, tells_end, is_exit, exits_of, restart_text, policies, policy_named}
+use Rattle.um_model.specs.Values.{words_for, is_same_in_any_case, boolean_of, decimal, is_decimal, number_limit, number_of, unit_size, digits_of, unit_of, past_part, time_of, time_front, span_of, words_in, exits_of, restart_text, policies, policy_named}
 use Rattle.um_model.specs.declared.service.End.{End}
 use Rattle.um_model.specs.declared.settings.RestartPolicy.{RestartPolicy}
 use Rattle.um_model.specs.declared.settings.RestartPolicy.TheVariants.{No, Always, OnSuccess, OnFailure, OnAbnormal, OnAbort, OnWatchdog}
@@ -24,6 +24,7 @@ use Rattle.um_model.proofs.PiecesLaws.{prefixed, prefixed-nil, reading_first, re
 use Rattle.um_model.proofs.TextLaws.{trim_start_cuts}
 use Rattle.um_model.specs.declared.settings.TimeSpan.{TimeSpan}
 use Rattle.um_model.specs.declared.settings.TimeSpan.TheVariants.{Micros, Infinite}
+use Rattle.um_model.proofs.Forms.{span_within, tells_end, is_exit}
 
 -- ---- the values as relations
 

@@ -41,8 +41,7 @@ pub record NameParts : Type 0 where
 
 -- an instance with the `@` before it
 abbrev pub instance_text : Option (List ℕ) → List ℕ
-instance_text None = []
-instance_text (Some instance) = 64 ∷ instance
+instance_text instance = option_map_or (λ text. 64 ∷ text) instance []
 
 -- the parts one behind the other
 abbrev pub name_text : NameParts → List ℕ
@@ -50,8 +49,7 @@ name_text p = p.prefix ++ (instance_text p.instance ++ suffix_text p.suffix)
 
 -- where there is an instance, it has its bytes alone; it may be empty
 abbrev pub is_fit_instance : Option (List ℕ) → Bool
-is_fit_instance None = true
-is_fit_instance (Some instance) = list_all is_instance_byte instance
+is_fit_instance instance = option_map_or (list_all is_instance_byte) instance true
 
 -- the prefix isn't empty, and each part has its bytes alone
 pub record AreFit (p : NameParts) : Type 0 where
@@ -75,22 +73,13 @@ pub record IsNameOf (text : List ℕ) (p : NameParts) : Type 0 where
 abbrev pub suffixes : List Suffix
 suffixes = Service ∷ Socket ∷ Device ∷ Mount ∷ Automount ∷ Swap ∷ Target ∷ Path ∷ Timer ∷ Slice ∷ Scope ∷ []
 
--- the text ends in the suffix
-abbrev pub ends_in : List ℕ → Suffix → Bool
-ends_in text s = ends_with nat_eq text (suffix_text s)
-
 -- the suffix that the text ends in
 unfoldable pub suffix_of : List ℕ → Option Suffix
-suffix_of text = find (ends_in text) suffixes
+suffix_of text = find (λ s. ends_with nat_eq text (suffix_text s)) suffixes
 
--- what stands before that suffix, or all
-abbrev pub stem_before : List ℕ → Option Suffix → List ℕ
-stem_before text None = text
-stem_before text (Some s) = take (length text - length (suffix_text s)) text
-
--- what stands before the suffix
+-- what stands before the suffix, or all
 unfoldable pub stem_of : List ℕ → List ℕ
-stem_of text = stem_before text (suffix_of text)
+stem_of text = option_map_or (λ s. take (length text - length (suffix_text s)) text) (suffix_of text) text
 
 -- what stands before the first `@`, or all
 abbrev pub before_at : List ℕ → List ℕ
@@ -124,8 +113,7 @@ is_template name = option_map_or (λ instance. length instance == 0) (instance_o
 
 -- the text of a suffix, where there is one
 abbrev pub suffix_text_of : Option Suffix → List ℕ
-suffix_text_of None = []
-suffix_text_of (Some s) = suffix_text s
+suffix_text_of suffix = option_map_or suffix_text suffix []
 
 -- the name with this instance, in place of its own where it has one
 abbrev pub with_instance : List ℕ → List ℕ → List ℕ

@@ -3,7 +3,7 @@
 -- Settings, `cat` and enabling stand on this file.
 use Rattle.std.specs.Prelude.{ℕ, zero, suc, Bool, true, false, if◌then◌else◌, List, [], ◌∷◌, ◌++◌, map as each, Option, Some, None}
 use Rattle.std.specs.Prelude.{option_map, option_and_then, codes}
-use Rattle.std.specs.Option.{option_or, option_map_or}
+use Rattle.std.specs.Option.{option_or, option_map_or, option_and_then}
 use Rattle.std.specs.List.{flat_map, after_last}
 use Rattle.std.specs.Str.{bytes_eq}
 use Rattle.std.specs.FinMap as map
@@ -41,8 +41,7 @@ leads_to_template (Some template) (File text) = false
 leads_to_template (Some template) (Link target) = bytes_eq (unit_in_target target) template
 
 abbrev pub unless_to_template : Option (List ℕ) → Option (List ℕ × Entry) → Option (List ℕ × Entry)
-unless_to_template template None = None
-unless_to_template template (Some found) = if leads_to_template template found.1 then None else Some found
+unless_to_template template held = option_and_then (λ found. if leads_to_template template found.1 then None else Some found) held
 
 -- the unit's own entry, or else that of its template
 abbrev pub held : Tree → List ℕ → Option (List ℕ × Entry)
@@ -75,18 +74,14 @@ is_mask target = bytes_eq target (codes "/dev/null")
 abbrev pub is_of_same_type : List ℕ → List ℕ → Bool
 is_of_same_type unit other = bytes_eq (suffix_text_of (suffix_of unit)) (suffix_text_of (suffix_of other))
 
-abbrev pub of_same_type : List ℕ → Option (List ℕ) → Option (List ℕ)
-of_same_type unit None = None
-of_same_type unit (Some other) = if is_of_same_type unit other then Some other else None
-
 -- a template takes the instance of the name that leads to it, where there is one
 abbrev pub with_instance_of : Option (List ℕ) → List ℕ → List ℕ
-with_instance_of None other = other
-with_instance_of (Some instance) other = if is_template other then with_instance other instance else other
+with_instance_of instance other = option_map_or (λ i. if is_template other then with_instance other i else other) instance other
 
 -- one hop: the name that a link leads on to, which has the same suffix
 abbrev pub next_name : List ℕ → List ℕ → Option (List ℕ)
-next_name unit target = of_same_type unit (named (with_instance_of (instance_of unit) (unit_in_target target)))
+next_name unit target =
+    option_and_then (λ other. if is_of_same_type unit other then Some other else None) (named (with_instance_of (instance_of unit) (unit_in_target target)))
 
 -- where a name leads by what holds it: an empty file and a link to `/dev/null` mask, any other link leads on
 abbrev pub resolution_at : List ℕ → Option (List ℕ × Entry) → (List ℕ → Resolution) → Resolution
@@ -126,14 +121,10 @@ folders_of unit = each (drop_in_folder unit) (Etc ∷ Run ∷ Lib ∷ [])
 abbrev pub drop_in_folders : List ℕ → List (List ℕ)
 drop_in_folders unit = folders_of unit ++ option_map_or folders_of (template_of unit) []
 
-abbrev pub drop_in_named : Option (List ℕ) → List ℕ × Entry → List DropIn
-drop_in_named None held = []
-drop_in_named (Some file) (path, File text) = record { file = file; path = path; text = text } ∷ []
-drop_in_named (Some file) (path, Link target) = []
-
 -- the drop-in that an entry of the tree is, where it is a file in the folder
 abbrev pub drop_in_at : List ℕ → List ℕ × Entry → List DropIn
-drop_in_at folder held = drop_in_named (behind folder held.0) held
+drop_in_at folder (path, File text) = option_map_or (λ file. record { file = file; path = path; text = text } ∷ []) (behind folder path) []
+drop_in_at folder (path, Link target) = []
 
 abbrev pub drop_ins_in : Tree → List ℕ → List DropIn
 drop_ins_in tree folder = flat_map (drop_in_at folder) (map.entries tree)
@@ -163,5 +154,4 @@ file_of_drop_in d = record { path = d.path; text = d.text }
 abbrev pub files_at : Tree → Resolution → List UnitFile
 files_at tree (AtFile unit path text) = record { path = path; text = text } ∷ each file_of_drop_in (drop_ins_of tree unit)
 files_at tree (AtNoFile unit) = each file_of_drop_in (drop_ins_of tree unit)
-files_at tree (AtMask unit) = []
-files_at tree Nowhere = []
+files_at tree other = []

@@ -35,13 +35,9 @@ percent_front name unescaped (b ∷ bs) =
 abbrev pub specifier_front : List ℕ → Option (List ℕ) → ℕ → List ℕ → Front ℕ
 specifier_front name unescaped b bs = if b == 37 then percent_front name unescaped bs else Gives (b ∷ []) 1
 
--- the bytes, where they are a text
-abbrev pub as_text : Option (List ℕ) → Option (List ℕ)
-as_text bytes = option_and_then (λ text. if is_utf8 text then Some text else None) bytes
-
 -- the text that the escapes of an instance stand for, where it is one
 abbrev pub unescaped_of : List ℕ → Option (List ℕ)
-unescaped_of escaped = as_text (reading unescape_front escaped)
+unescaped_of escaped = option_and_then (λ text. if is_utf8 text then Some text else None) (reading unescape_front escaped)
 
 -- what the text stands for in the files of the unit of that name
 unfoldable pub expanded_of : List ℕ → List ℕ → Option (List ℕ)

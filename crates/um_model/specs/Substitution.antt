@@ -49,15 +49,11 @@ abbrev pub braced_name : List ℕ → Option (List ℕ)
 braced_name [] = None
 braced_name (b ∷ bs) = if b == 123 then closed_name bs else None
 
--- `${NAME}` stands for the value; a `$` before anything else stands for itself
-abbrev pub variable_front : List Variable → Option (List ℕ) → Front ℕ
-variable_front environment None = Gives (36 ∷ []) 1
-variable_front environment (Some name) = Gives (value_of environment name) (length name + 3)
-
--- a `$`, by what follows it; `$$` stands for one
+-- a `$`, by what follows it: `$$` stands for one, and `${NAME}` for the value; before anything else it stands for itself
 abbrev pub dollar_front : List Variable → List ℕ → Front ℕ
 dollar_front environment bs =
-    if first_passes (λ b. b == 36) bs then Gives (36 ∷ []) 2 else variable_front environment (braced_name bs)
+    if first_passes (λ b. b == 36) bs then Gives (36 ∷ []) 2
+    else option_map_or (λ name. Gives (value_of environment name) (length name + 3)) (braced_name bs) (Gives (36 ∷ []) 1)
 
 -- any other byte stands for itself
 abbrev pub piece_front : List Variable → ℕ → List ℕ → Front ℕ

@@ -15,6 +15,7 @@ use Rattle.um_model.specs.Refusals.{Refused, cause, first_cause, unless_refused,
 use Rattle.um_model.specs.declared.refusals.Limit.TheVariants.{Text, Entries}
 use Rattle.um_model.specs.declared.tree.Layer.{Layer}
 use Rattle.um_model.specs.declared.tree.Layer.TheVariants.{Etc, Run, Lib}
+use Rattle.um_model.specs.Bytes.{◌>>=◌}
 
 -- ---- paths, by their parts
 
@@ -117,14 +118,11 @@ place_in directory file =
 abbrev pub unit_and_place : List ℕ → Option (List ℕ × Place)
 unit_and_place rest = option_map_or (λ parts. place_in parts.0 parts.1) (around_slash rest) (Some (rest, Unit))
 
--- the parts, if they are fit
-abbrev pub where_fit : PathParts → Option PathParts
-where_fit p = if are_fit p then Some p else None
-
 -- the parts of a served path: the layer, and then the unit and the place
 unfoldable pub path_parts : List ℕ → Option PathParts
 path_parts path =
-    option_and_then (λ l. option_and_then (λ u. where_fit (record { layer = l.0; unit = u.0; place = u.1 })) (unit_and_place l.1)) (layer_and_rest path)
+    layer_and_rest path >>= λ l. unit_and_place l.1 >>= λ u.
+    let parts : PathParts = record { layer = l.0; unit = u.0; place = u.1 } in if are_fit parts then Some parts else None
 
 -- ---- the tree
 
@@ -162,8 +160,7 @@ is_other_name unit text = is_unit_name text && not (bytes_eq text unit)
 abbrev pub may_lead_to : List ℕ → Place → List ℕ → Bool
 may_lead_to unit Unit target = bytes_eq target (codes "/dev/null") || is_other_name unit (after_last is_slash target)
 may_lead_to unit (DropIn name) target = false
-may_lead_to unit (Wants other) target = true
-may_lead_to unit (Requires other) target = true
+may_lead_to unit place target = true
 
 -- a link to the target may stand at a path of these parts
 abbrev pub is_fit_target : Option PathParts → List ℕ → Bool
@@ -175,21 +172,15 @@ abbrev pub is_fit_entry : List ℕ → Entry → Bool
 is_fit_entry path (File text) = is_served path && nat_le (length text) text_limit
 is_fit_entry path (Link target) = is_fit_target (path_parts path) target
 
--- what stands at the path, if anything, may stand there
-abbrev pub is_fit_at : List ℕ → Option Entry → Bool
-is_fit_at path None = true
-is_fit_at path (Some entry) = is_fit_entry path entry
-
 -- each entry may stand at its path, and there are no more than the limit
 pub record IsTree (tree : Tree) : Type 0 where
-  pub fit : (path : List ℕ) → is_fit_at path (map.get tree path) ≡ true
+  pub fit : (path : List ℕ) → option_map_or (is_fit_entry path) (map.get tree path) true ≡ true
   pub few : map.len tree ≤ entry_limit
 
 -- a link stands there
 abbrev pub is_link : Option Entry → Bool
-is_link None = false
-is_link (Some (File text)) = false
 is_link (Some (Link target)) = true
+is_link other = false
 
 -- something else than the link to the target stands there
 abbrev pub is_other_than_link : Option Entry → List ℕ → Bool

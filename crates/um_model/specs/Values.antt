@@ -93,15 +93,11 @@ time_front b bs =
     if is_space b then Gives [] 1
     else front_of (option_map (λ n. n ∷ []) (time_of (digits_of text) (unit_of text))) (length text - length (past_part text))
 
--- the span of so many microseconds, where they aren't too many
-abbrev pub span_within : ℕ → Option TimeSpan
-span_within n = if nat_le n span_limit then Some (Micros n) else None
-
 -- the time span that the text says: `infinity`, or one part at least, which add up to it, with whitespace between them as one likes
 unfoldable pub span_of : List ℕ → Option TimeSpan
 span_of text =
     if bytes_eq text (codes "infinity") then Some Infinite
-    else (if is_blank text then None else option_and_then span_within (option_map sum (reading time_front text)))
+    else (if is_blank text then None else option_and_then (λ n. if nat_le n span_limit then Some (Micros n) else None) (option_map sum (reading time_front text)))
 
 -- ---- sets of exits
 
@@ -142,17 +138,10 @@ is_end (Signal a) (Some (Signal b)) = a == b
 is_end Lost (Some Lost) = true
 is_end end (Some other) = false
 
--- a word of the text tells this end
-abbrev pub tells_end : List ℕ → End → Bool
-tells_end text end = list_any (λ word. is_end end (exit_of word)) (words_in text)
-
--- the word tells an end
-abbrev pub is_exit : List ℕ → Bool
-is_exit word = is_some (exit_of word)
-
 -- the set of the ends that the text's words tell, where each of them tells one
 unfoldable pub exits_of : List ℕ → Option (End → Bool)
-exits_of text = if list_all is_exit (words_in text) then Some (tells_end text) else None
+exits_of text =
+    if list_all (λ word. is_some (exit_of word)) (words_in text) then Some (λ end. list_any (λ word. is_end end (exit_of word)) (words_in text)) else None
 
 -- ---- Restart=
 

@@ -64,15 +64,12 @@ is_quote b = b == 34 || b == 39
 abbrev pub quoted_front : WordRules → ℕ → ℕ → List ℕ → Front ℕ
 quoted_front rules quote b bs = if begins_escape rules b then backslash_front bs else (if b == quote then Ends else Gives (b ∷ []) 1)
 
--- a quote may stay open to the end of the text: in a variable's value
-abbrev pub may_stay_open : WordRules → Bool
-may_stay_open Plain = true
-may_stay_open other = false
-
--- a text that begins with a quote stands for what is found in it, and takes that and both quotes
+-- a text that begins with a quote stands for what is found in it, and takes that and both quotes; a quote may stay open to the end of the
+-- text in a variable's value
 abbrev pub quote_front : WordRules → List ℕ → Option (List ℕ × List ℕ) → Front ℕ
 quote_front rules text None = Unreadable
-quote_front rules text (Some (found, [])) = if may_stay_open rules then Gives found (length text) else Unreadable
+quote_front Plain text (Some (found, [])) = Gives found (length text)
+quote_front rules text (Some (found, [])) = Unreadable
 quote_front rules text (Some (found, quote ∷ left)) = Gives found (length text - length left)
 
 -- ---- words
@@ -90,14 +87,13 @@ pub record Word : Type 0 where
   pub value : List ℕ
 
 -- a word that was found at the front of a text, with what follows it: its spelling is all that stands before that
-abbrev pub word_front : List ℕ → Option (List ℕ × List ℕ) → Front Word
-word_front text None = Unreadable
-word_front text (Some (value, rest)) =
-    let taken = length text - length rest in Gives (record { spelling = take taken text; value = value } ∷ []) taken
+abbrev pub word_front : List ℕ → List ℕ × List ℕ → Front Word
+word_front text found =
+    let taken = length text - length found.1 in Gives (record { spelling = take taken text; value = found.0 } ∷ []) taken
 
 -- a piece of a text of words: whitespace, or a word
 abbrev pub piece_of_words : WordRules → ℕ → List ℕ → Front Word
-piece_of_words rules b bs = if is_space b then Gives [] 1 else word_front (b ∷ bs) (begun (piece_of_word rules) (b ∷ bs))
+piece_of_words rules b bs = if is_space b then Gives [] 1 else option_map_or (word_front (b ∷ bs)) (begun (piece_of_word rules) (b ∷ bs)) Unreadable
 
 -- what words stand for
 abbrev pub word_values : List Word → List (List ℕ)

@@ -4,12 +4,13 @@ use Rattle.um_model.specs.Names.{suffix_of}
 use Rattle.std.specs.Option.{option_or}
 use Rattle.um_model.specs.Settings.{ServiceSettings}
 use Rattle.um_model.specs.Substitution.{Variable}
-use Rattle.um_model.specs.Units.{Assigned, Found, LoadedUnit, Settings, Source, Warning, assignments_in, found_unless, loading_by_file, reason_of, refused_service, refused_setting, service_settings_of, settings_of, type_of, unit_by, warnings_of}
+use Rattle.um_model.specs.Units.{Assigned, Found, LoadedUnit, Settings, Source, Warning, assignments_in, loading_by_file, reason_of, refused_service, refused_setting, service_settings_of, settings_of, type_of, unit_by, warnings_of}
 use Rattle.um_model.specs.Commands.{Command}
 use Rattle.um_model.specs.declared.names.Suffix.{Suffix}
 use Rattle.um_model.specs.declared.service.End.{End}
 use Rattle.um_model.specs.declared.settings.RestartPolicy.{RestartPolicy}
 use Rattle.um_model.specs.declared.transition.UnitKind.{UnitKind}
+use Rattle.um_model.proofs.Forms.{found_unless}
 
 pub same_settings : {kind : UnitKind} {start stop stop' : List Command} {environment environment' : List Variable} {remains remains' : Bool} {restart restart' : RestartPolicy}
     {delay delay' timeout_start timeout_start' timeout_stop timeout_stop' interval interval' : Option ℕ} {burst burst' : ℕ}

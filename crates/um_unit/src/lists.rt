@@ -10,6 +10,7 @@ ghost use Rattle.um_model.specs.Values.{exits_of};
 ghost use Rattle.um_model.specs.declared.service.End as ends;
 ghost use Rattle.um_unit.specs.Readings.{fits_use, read_as};
 ghost use Rattle.um_unit.specs.Sources.{assigned_of};
+ghost use Rattle.um_unit.specs.Tests.{tells_any};
 ghost use Rattle.um_value.specs.ExitSet.{holds};
 ghost use Rattle.um_words.specs.Commands.{commands_seen};
 ghost use Rattle.um_words.specs.Environment.{variables_of};
@@ -139,7 +140,7 @@ pub fn environment_of(
 
 /// The ends that a value tells, none where it can't be read.
 fn exits_said(value: &str) -> ExitSet
-    ensures { (end : ends.End) → holds result end ≡ model.tells_any (filter_map exits_of (value.now ∷ [])) end }
+    ensures { (end : ends.End) → holds result end ≡ tells_any (filter_map exits_of (value.now ∷ [])) end }
 {
     exit_set(value).unwrap_or(ExitSet::empty())
 }

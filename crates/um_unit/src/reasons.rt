@@ -5,6 +5,7 @@ ghost use Rattle.std.specs.Option.{option_or};
 ghost use Rattle.um_model.specs.Units as model;
 ghost use Rattle.um_unit.specs.ServiceView.{service_settings_of};
 ghost use Rattle.um_unit.specs.Sources.{assigned_of};
+ghost use Rattle.um_unit.specs.Tests as tests;
 ghost use Rattle.um_unit.specs.View.{said_of};
 
 use crate::assignments::Assigned;
@@ -23,7 +24,7 @@ fn setting_reason(alloc: Global, key: &str) -> Result<String, AllocError>
 }
 
 fn is_refused(assigned: &Assigned<'_>) -> bool
-    ensures { result ≡ model.is_refused (assigned_of assigned.now) }
+    ensures { result ≡ tests.is_refused (assigned_of assigned.now) }
 {
     is_refused_key(assigned.key) && !assigned.value.is_empty()
 }
@@ -42,7 +43,7 @@ fn refused_setting(alloc: Global, assigned: &[Assigned<'_>]) -> Result<Option<St
 
 /// Whether it has neither a command of `ExecStart=` nor remains with one of `ExecStop=`.
 fn lacks_command(settings: &ServiceSettings) -> bool
-    ensures { result ≡ model.lacks_command (service_settings_of settings.now) }
+    ensures { result ≡ tests.lacks_command (service_settings_of settings.now) }
 {
     settings.start.is_empty() && !(settings.remains && !settings.stop.is_empty())
 }

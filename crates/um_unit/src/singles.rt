@@ -1,6 +1,8 @@
 //! Settings of one value: the last that can be read counts, or else the default.
 
 ghost use Rattle.std.specs.Prelude.{◌≡◌, IfOk, List, Option, ℕ, map, option_copied, option_map, string_bytes};
+ghost use Rattle.std.specs.Result.{result_ok};
+ghost use Rattle.um_model.specs.Readings as said;
 ghost use Rattle.um_model.specs.Units as model;
 ghost use Rattle.um_model.specs.Values as values;
 ghost use Rattle.um_model.specs.declared.settings.RestartPolicy as policies;
@@ -66,7 +68,7 @@ impl Reader for Text<'_> {
 
     ghost seen = { string_bytes };
 
-    ghost meaning = { λ r. model.description_in r.unit.now };
+    ghost meaning = { λ r value. result_ok (said.text_reading r.unit.now value) };
 
     fn read(&self, value: &str) -> Result<Option<String>, AllocError> {
         Ok(text_reading(self.alloc, self.unit, value)?.ok())

@@ -1,7 +1,8 @@
 use Rattle.std.proofs.Common.{[], ◌∷◌, ◌||◌, map, take, filter_map, sym, ap, ◌∙◌}
 use Rattle.std.proofs.Math.Path.{fun_ext}
 use Rattle.std.proofs.lemmas.List.{take_all}
-use Rattle.um_model.specs.Units.{tells_any, since_empty}
+use Rattle.um_model.specs.Units.{since_empty}
+use Rattle.um_unit.specs.Tests.{tells_any}
 use Rattle.um_model.specs.Values.{exits_of}
 use Rattle.um_unit.proofs.SettingLemmas.{ends_more, value_more}
 use Rattle.um_unit.proofs.lists.exits_in.Goals as goal

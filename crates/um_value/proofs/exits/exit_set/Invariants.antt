@@ -1,7 +1,8 @@
 use Rattle.std.proofs.Common.{◌≡◌, true, length, take}
 use Rattle.std.specs.List.{list_any, list_all}
-use Rattle.um_model.specs.Values.{exit_of, is_end, is_exit, words_in}
+use Rattle.um_model.specs.Values.{exit_of, is_end, words_in}
 use Rattle.um_model.specs.declared.service.End.{End}
+use Rattle.um_model.proofs.Forms.{is_exit}
 use Rattle.um_value.specs.ExitSet.{holds}
 use Rattle.um_value.proofs.exits.exit_set.Given as goal
 
