@@ -3,7 +3,8 @@ use Rattle.std.proofs.Common.{◌≡◌, ◌↔◌, ◌-◌, ◌<◌, ◌≤◌,
 use Rattle.std.proofs.lemmas.List.{length-append, length-drop, take-append-drop}
 use Rattle.std.proofs.Math.Seq.{drop-append_seam}
 use Rattle.std.proofs.lemmas.Option.{none-some, same_Some, some_pair_parts}
-use Rattle.um_model.specs.Pieces.{Front, Unreadable, Ends, Gives, BeginsWith, StandsForText, done, stops, piece, with_front, by_front, begun_in, begun, whole}
+use Rattle.um_model.specs.Bytes.{nothing_left as whole}
+use Rattle.um_model.specs.Pieces.{Front, Unreadable, Ends, Gives, BeginsWith, StandsForText, done, stops, piece, with_front, by_front, begun_in, begun}
 pub use Rattle.um_model.specs.Pieces.{reading}
 
 -- these, and then what is read

@@ -3,7 +3,7 @@
 -- The bytes of inputs and states, slots and the log stand on this file.
 use Rattle.std.specs.Prelude.{◌≡◌, ℕ, zero, suc, ◌<◌, ◌≤◌, ◌^◌, nat_lt, nat_le, Bool, true, false, ◌&&◌, List, [], ◌∷◌, ◌++◌, length, take, drop}
 use Rattle.std.specs.Prelude.{slice_index, Option, Some, None, if◌then◌else◌}
-use Rattle.std.specs.List.{flat_map, list_all, AllByRecursion}
+use Rattle.std.specs.List.{flat_map, list_all, AllByRecursion, slice_get}
 use Rattle.std.specs.Str.{is_utf8}
 use Rattle.std.specs.Ordering.{is_lt, nat_cmp}
 use Rattle.std.specs.Cmp.Lexicographic.{slice_cmp}
@@ -94,16 +94,18 @@ between_at first last = only_at (is_between first last) (number_at 8)
 
 -- ---- a choice, told by its tag
 
--- the choice at this place of a table, from 0
-abbrev pub in_table : {A : Type 0} → List A → ℕ → Option A
-in_table [] tag = None
-in_table (a ∷ table) zero = Some a
-in_table (a ∷ table) (suc tag) = in_table table tag
-
 -- a choice without fields
 abbrev pub tag_at : {A : Type 0} → (ℕ → Option A) → Reading A
 tag_at of [] = None
 tag_at of (tag ∷ rest) = of tag >>= λ a. Some (a, rest)
+
+-- a choice without fields, by its place in a table, from 0
+abbrev pub table_at : {A : Type 0} → List A → Reading A
+table_at table = tag_at (slice_get table)
+
+-- its tag alone
+abbrev pub tagged : {A : Type 0} → (A → ℕ) → Spelling A
+tagged tag a = tag a ∷ []
 
 -- a choice with fields: each tag has its reading
 abbrev pub choice_at : {A : Type 0} → (ℕ → Reading A) → Reading A
@@ -131,19 +133,9 @@ abbrev pub truth_tag : Bool → ℕ
 truth_tag false = 0
 truth_tag true = 1
 
--- 0 is no, 1 is yes, and nothing else is either
-abbrev pub truth_of : ℕ → Option Bool
-truth_of zero = Some false
-truth_of (suc zero) = Some true
-truth_of (suc (suc n)) = None
-
--- the tag alone
-abbrev pub truth_spelling : Spelling Bool
-truth_spelling b = truth_tag b ∷ []
-
--- no or yes
-abbrev pub truth_at : Reading Bool
-truth_at = tag_at truth_of
+-- by their tags
+abbrev pub truths : List Bool
+truths = false ∷ true ∷ []
 
 -- ---- an option: 0, or 1 and the value
 
@@ -154,10 +146,7 @@ option_spelling one (Some x) = 1 ∷ one x
 
 -- no value behind a 0, one behind a 1
 abbrev pub option_at : {A : Type 0} → Reading A → Reading (Option A)
-option_at one [] = None
-option_at one (zero ∷ rest) = Some (None, rest)
-option_at one (suc zero ∷ rest) = one rest >>= λ a. Some (Some a.0, a.1)
-option_at one (suc (suc n) ∷ rest) = None
+option_at one = choice_at (arm_in (just_at None ∷ as_at Some one ∷ []))
 
 -- ---- a text: how many bytes it has, and those, in UTF-8
 

@@ -2,6 +2,7 @@
 -- The common form of several rules: escapes in names, specifiers, substitution, time spans, quotes, words and lists of words.
 -- Names, Values, Words, Substitution and Specifiers stand on this file.
 use Rattle.std.specs.Prelude.{◌≡◌, ℕ, zero, suc, ◌-◌, List, [], ◌∷◌, ◌++◌, length, drop, Option, Some, None, option_map}
+use Rattle.um_model.specs.Bytes.{nothing_left}
 
 -- the front of a text can't be read, ends what is read before it, or stands for these and takes so many bytes
 pub data Front (A : Type 0) : Type 0 where
@@ -47,12 +48,6 @@ begun_in (suc pieces) front (b ∷ bs) = by_front (front b bs) (b ∷ bs) (λ n.
 abbrev pub begun : {A : Type 0} → (ℕ → List ℕ → Front A) → List ℕ → Option (List A × List ℕ)
 begun front text = begun_in (length text) front text
 
--- what was found, where nothing is left
-abbrev pub whole : {A : Type 0} → Option (List A × List ℕ) → Option (List A)
-whole None = None
-whole (Some (found, [])) = Some found
-whole (Some (found, b ∷ left)) = None
-
 -- what a text stands for
 abbrev pub reading : {A : Type 0} → (ℕ → List ℕ → Front A) → List ℕ → Option (List A)
-reading front text = whole (begun front text)
+reading front text = nothing_left (begun front text)

@@ -7,7 +7,7 @@ use Rattle.std.specs.Ordering.{is_lt, nat_cmp, ordering_then}
 use Rattle.std.specs.Cmp.Lexicographic.{slice_cmp}
 use Rattle.std.specs.FinMap as map
 use Rattle.byteorder.specs.Endian.{big_bytes}
-use Rattle.um_model.specs.Bytes.{Spelling, Reading, pair_at, as_at, only_at, marked_at, choice_at, arm_in, FitText, text_spelling, text_at}
+use Rattle.um_model.specs.Bytes.{Spelling, Reading, pair_at, as_at, only_at, marked_at, choice_at, arm_in, FitText, text_spelling, text_at, table_at, tagged}
 use Rattle.um_model.specs.Bytes.{FitList, list_spelling, list_at, FitMap, map_spelling, map_at}
 use Rattle.um_model.specs.Names.{is_unit_name}
 use Rattle.um_model.specs.Tree.{Tree, Entry, File, Link, IsTree, is_fit_entry, entry_limit}
@@ -15,7 +15,7 @@ use Rattle.um_model.specs.Service.{ByUnit, AreTidyUnits, holds_nothing}
 use Rattle.um_model.specs.Transitions.{live_numbers}
 use Rattle.um_model.specs.Jobs.{AreTidyJobs, JobShown, jobs, jobs_of_unit, jobs_shown}
 use Rattle.um_model.specs.Machine.{State, boot_limit}
-use Rattle.um_model.specs.Spellings.{kind_tag, kind_spelling, kind_at, job_state_spelling, job_state_at, moment_at, FitMoment, next_at, FitNext}
+use Rattle.um_model.specs.Spellings.{kind_tag, moment_at, FitMoment, next_at, FitNext, job_state_tag, kinds, job_states}
 use Rattle.um_model.specs.Spellings.{unit_name_at, FitUnitName, unit_spelling, unit_at, FitUnit}
 use Rattle.um_model.specs.declared.jobs.JobKind.{JobKind}
 use Rattle.um_model.specs.declared.jobs.JobKind.TheVariants as kind
@@ -97,7 +97,7 @@ pub record FitUnits (units : ByUnit UnitState) : Type 0 where
 
 -- the name of its unit, what it does, and how far it is
 abbrev pub job_spelling : Spelling JobShown
-job_spelling j = text_spelling j.unit ++ (kind_spelling j.kind ++ job_state_spelling j.state)
+job_spelling j = text_spelling j.unit ++ (tagged kind_tag j.kind ++ tagged job_state_tag j.state)
 
 -- the job of its fields
 abbrev pub job_of_fields : List ℕ × (JobKind × JobState) → JobShown
@@ -105,7 +105,7 @@ job_of_fields (unit, (kind, state)) = record { unit = unit; kind = kind; state =
 
 -- the name of a unit, what the job does, and how far it is
 abbrev pub job_at : Reading JobShown
-job_at = as_at job_of_fields (pair_at unit_name_at (pair_at kind_at job_state_at))
+job_at = as_at job_of_fields (pair_at unit_name_at (pair_at (table_at kinds) (table_at job_states)))
 
 -- one job stands before another: by the names of their units, and of one unit the stop job first
 abbrev pub is_job_before : JobShown → JobShown → Bool
