@@ -5,7 +5,7 @@ use Rattle.std.proofs.lemmas.Grind.{get_or-set_at}
 use Rattle.std.proofs.lemmas.List.{get_or-set_other, length-replicate, length-set}
 use Rattle.std.proofs.lemmas.Option.{none-some, same_Some}
 use Rattle.std.specs.FinMap as map
-use Rattle.um_model.specs.Jobs.{Job, BeginsNext, ComesBefore, GoesBefore, IsReady, IsToldBefore, IsWaiting, job_of, jobs_of_unit, no_jobs, of_one_unit, starts, state_of_job, stops, stops_then_starts, stops_then_starts_before, with_running}
+use Rattle.um_model.specs.Jobs.{Job, BeginsNext, ComesBefore, GoesBefore, IsReady, IsToldBefore, IsWaiting, job_of, jobs_of_unit, no_jobs, of_one_unit, starts, state_of_job, stops, stops_then_starts, stops_then_starts_before}
 use Rattle.um_model.specs.Least.{IsLeast}
 use Rattle.um_model.specs.Machine.{State, IsBefore, IsHeld, IsStill, begun}
 use Rattle.um_model.specs.Service.{active_state_of, state_of_unit}
@@ -18,6 +18,7 @@ use Rattle.um_model.specs.declared.service.ActiveState.TheVariants.{Deactivating
 use Rattle.um_model.proofs.TimersLaws.{same_name}
 use Rattle.um_model.proofs.UnitLaws.{jobs_apart, jobs_here}
 use Rattle.um_model.proofs.WaitingLaws.{NoMoreWait, waits, waits_in}
+use Rattle.um_model.proofs.Forms.{with_running}
 use Rattle.um_graph.specs.Graph.{GraphView, IsGraph, IsNumberOf}
 use Rattle.um_graph.specs.Kinds.{before_bit}
 use Rattle.um_graph.specs.Named.{Joins, item_for, name_at}

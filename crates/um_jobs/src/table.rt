@@ -6,6 +6,7 @@ ghost use Rattle.um_jobs.specs.Named.{jobs_at};
 ghost use Rattle.um_model.specs.Jobs as model;
 ghost use Rattle.um_model.specs.Machine as machine;
 ghost use Rattle.um_model.specs.Plan as plans;
+ghost use Rattle.um_model.specs.declared.jobs.JobState.TheVariants.{Running};
 
 use um_model::{ActiveState, Demand, JobKind, JobState, StartJob, UnitJobs, UnitVerb};
 
@@ -131,7 +132,7 @@ pub fn drops_one(before: UnitJobs, after: UnitJobs) -> bool
 
 /// The jobs with that one running.
 pub fn with_running(kind: JobKind, now: UnitJobs) -> UnitJobs
-    ensures { result ≡ model.with_running kind now }
+    ensures { result ≡ model.with_job kind Running now }
 {
     match kind {
         JobKind::Stop => UnitJobs {

@@ -8,7 +8,7 @@ use Rattle.std.specs.Ordering.{nat_cmp, eq_by_cmp}
 use Rattle.um_model.specs.Dependencies as model
 use Rattle.um_model.specs.Dependencies.{IsNamed, IsKnown, KnowsTooMany, extra}
 use Rattle.um_model.specs.Few.{IsFew, HoldsNoMore}
-use Rattle.um_model.specs.Jobs.{Job, job_of, jobs, no_jobs, jobs_of_unit, has_job, with_jobs, cancelled, IsPending, IsWaiting, with_running, jobs_left}
+use Rattle.um_model.specs.Jobs.{Job, job_of, jobs, no_jobs, jobs_of_unit, has_job, with_jobs, cancelled, IsPending, IsWaiting, jobs_left}
 use Rattle.um_model.specs.Machine.{State, empty_state, Command, Happening, Event, Input, Reply, IsHeld, IsCrowded, acting_in, around, changed, IsTakenAlong, TakesAlong, Becomes, Carries, change_of, FallDown, all_told, told_next, Happens, begins, begun, Settles, Refuses, Changes, AreReset, all_reset, reset_next, units_reset, Does, with_plan, unit_asked, with_start_alone, Restarts, has_a_job, closes_a_circle, ComesDue, Fires, IsProcessOf, booted, Follows, Takes, end_of, moment_of, Step, Run}
 use Rattle.um_model.specs.Reached.{first, next}
 use Rattle.um_model.specs.Refusals.{Refused, at_first, at_second}
@@ -37,6 +37,7 @@ use Rattle.um_model.proofs.SceneLaws.{held_or_not}
 use Rattle.um_model.proofs.TimersLaws.{same_name}
 use Rattle.um_model.proofs.TreeLaws.{without_run_same, without_run_twice}
 use Rattle.um_model.proofs.UnitLaws.{jobs_here, unlike}
+use Rattle.um_model.proofs.Forms.{with_running}
 
 -- ---- what maps hold of a unit
 

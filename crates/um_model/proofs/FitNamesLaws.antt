@@ -6,7 +6,7 @@ use Rattle.um_model.specs.Dependencies as model
 use Rattle.um_model.specs.Dependencies.{IsKnown, IsNamed, Mentions}
 use Rattle.um_model.specs.Few.{HoldsNoMore}
 use Rattle.um_model.specs.InputSpellings.{FitCommand, FitEvent}
-use Rattle.um_model.specs.Jobs.{Job, stop_job, start_job, no_jobs, jobs_of_unit, jobs_left, AreTidyJobs, cancelled, jobs, with_running, job_of, IsPending}
+use Rattle.um_model.specs.Jobs.{Job, stop_job, start_job, no_jobs, jobs_of_unit, jobs_left, AreTidyJobs, cancelled, jobs, job_of, IsPending}
 use Rattle.um_model.specs.Machine.{State, empty_state, Command, Happening, Event, IsHeld, IsHeldOr, Changes, puts, links, removes, reloads, plans, demands_nothing, cancels, installs, Does, units_reset, Takes, obeys, meets, Follows, unit_asked, jobs_asked, scene_at, booted, change_of, Becomes, Carries, begun, with_start_alone}
 use Rattle.um_model.specs.Names.{is_unit_name}
 use Rattle.um_model.specs.Plan.{IsPlan}
@@ -27,6 +27,7 @@ use Rattle.um_model.proofs.InvariantLaws.{FitUnitEvent, kept_taking}
 use Rattle.um_model.proofs.NamedLaws.{named_by_name}
 use Rattle.um_model.proofs.TreeLaws.{path_of_parts, fit-name}
 use Rattle.um_model.proofs.UnitLaws.{tidy_empty, tidy_units, tidy_jobs}
+use Rattle.um_model.proofs.Forms.{with_running}
 
 -- ---- known names
 

@@ -17,7 +17,7 @@ use Rattle.um_model.specs.Reached.{first}
 use Rattle.um_model.specs.Refusals.{Refused, too_large}
 use Rattle.um_model.specs.Service.{Action, dead_unit, state_of_unit}
 use Rattle.um_model.specs.Spellings.{FitMoment, FitProcess, FitDeadline, FitCounted, FitUnitName, FitUnit}
-use Rattle.um_model.specs.StateSpellings.{FitJob, FitBoot, state_spelling, FitState}
+use Rattle.um_model.specs.StateSpellings.{FitBoot, state_spelling, FitState}
 use Rattle.um_model.specs.Transitions.{HasNumber}
 use Rattle.um_model.specs.Weight.{weight_of}
 use Rattle.um_model.specs.declared.jobs.JobKind.{JobKind}
@@ -45,6 +45,7 @@ use Rattle.um_model.proofs.OnceLaws.{among_at}
 use Rattle.um_model.proofs.SceneLaws.{held_list}
 use Rattle.um_model.proofs.StateLengthLaws.{entries_few, shown_few, spelled_short}
 use Rattle.um_model.proofs.WeightLaws.{short_name}
+use Rattle.um_model.proofs.Forms.{FitJob}
 
 -- ---- the maps of a state
 

@@ -1,8 +1,8 @@
 -- Parts of definitions, by names that the laws of them use.
-use Rattle.std.specs.Prelude.{◌+◌, ◌-◌, Bool, true, nat_le, nat_eq, length, take, List, [], ◌∷◌, ℕ, Option, Some, None, if◌then◌else◌, is_some}
+use Rattle.std.specs.Prelude.{◌+◌, ◌-◌, Bool, true, nat_le, nat_eq, length, take, List, [], ◌∷◌, ℕ, Option, Some, None, if◌then◌else◌, is_some, is_none, not, ◌&&◌, ◌==◌}
 use Rattle.std.specs.List.{list_any, ends_with}
 use Rattle.std.specs.Str.{is_utf8}
-use Rattle.std.specs.Option.{option_map_or, option_and_then}
+use Rattle.std.specs.Option.{option_map_or, option_and_then, option_to_list}
 use Rattle.um_model.specs.Moments.{span_limit}
 use Rattle.um_model.specs.Names.{suffix_text}
 use Rattle.um_model.specs.Pieces.{Front, Gives, Unreadable}
@@ -15,6 +15,14 @@ use Rattle.um_model.specs.declared.names.Suffix.{Suffix}
 use Rattle.um_model.specs.declared.service.End.{End}
 use Rattle.um_model.specs.declared.settings.TimeSpan.{TimeSpan}
 use Rattle.um_model.specs.declared.settings.TimeSpan.TheVariants.{Micros}
+use Rattle.um_model.specs.Sessions.{Asked}
+use Rattle.um_model.specs.declared.service.UnitState.{UnitState}
+use Rattle.um_model.specs.declared.jobs.JobKind.{JobKind}
+use Rattle.um_model.specs.declared.jobs.UnitJobs.{UnitJobs}
+use Rattle.um_model.specs.declared.jobs.JobState.TheVariants.{Running}
+use Rattle.um_model.specs.declared.limit.Counted.{Counted}
+use Rattle.um_model.specs.Jobs.{JobShown, with_job}
+use Rattle.um_model.specs.Spellings.{FitUnitName}
 
 -- a unit is found, unless there is a reason why it can't be loaded
 abbrev pub found_unless : Option (List ℕ) → LoadedUnit → Loading
@@ -64,3 +72,33 @@ ends_in text s = ends_with nat_eq text (suffix_text s)
 -- what stands before that suffix, or all
 abbrev pub stem_before : List ℕ → Option Suffix → List ℕ
 stem_before text suffix = option_map_or (λ s. take (length text - length (suffix_text s)) text) suffix text
+
+-- what is read next, as a list
+abbrev pub asked_in : Option Asked → List Asked
+asked_in asked = option_to_list asked
+
+-- the number, as a list
+abbrev pub numbers : Option ℕ → List ℕ
+numbers number = option_to_list number
+
+-- nothing is held of a unit's processes, of moments, and of what was
+abbrev pub has_no_process : UnitState → Bool
+has_no_process u = is_none u.main && is_none u.control
+
+abbrev pub has_no_moment : UnitState → Bool
+has_no_moment u = is_none u.deadline && is_none u.window
+
+abbrev pub has_no_past : UnitState → Bool
+has_no_past u = u.index == 0 && not u.asked && is_none u.last
+
+-- with a job of this kind running
+abbrev pub with_running : JobKind → UnitJobs → UnitJobs
+with_running kind j = with_job kind Running j
+
+-- a window has begun by then
+abbrev pub has_begun : ℕ → Option Counted → Bool
+has_begun clock window = option_map_or (λ c. nat_le c.began clock) window true
+
+-- the unit of a job has a name
+abbrev pub FitJob : JobShown → Type 0
+FitJob j = FitUnitName j.unit

@@ -3,7 +3,7 @@ use Rattle.std.proofs.Common.{ℕ, ◌≡◌, ◌∙◌, Bool, true, false, true
 use Rattle.std.proofs.lemmas.Option.{none-some}
 use Rattle.std.specs.FinMap as map
 use Rattle.um_model.specs.Dependencies.{IsKnown, Precedes, Mentions, extra}
-use Rattle.um_model.specs.Jobs.{Job, jobs, no_jobs, jobs_of_unit, with_jobs, job_of, unless_waiting, cancelled, without_start, GoesBefore, starts, stops, stops_then_starts, stops_then_starts_before, of_one_unit, ComesBefore, IsPending, IsWaiting, with_running, unless_running, start_left, jobs_left}
+use Rattle.um_model.specs.Jobs.{Job, jobs, no_jobs, jobs_of_unit, with_jobs, job_of, unless_waiting, cancelled, without_start, GoesBefore, starts, stops, stops_then_starts, stops_then_starts_before, of_one_unit, ComesBefore, IsPending, IsWaiting, unless_running, start_left, jobs_left}
 use Rattle.um_model.specs.Live.{IsFree}
 use Rattle.um_model.specs.Machine.{State, empty_state, Command, Happening, Event, Input, Reply, IsHeldOr, IsBefore, changed, TakesAlong, Becomes, Carries, change_of, begins, begun, Happens, AreReset, Settles, unit_asked, jobs_asked, scene_at, CausesOfLoad, Refuses, Changes, Does, units_reset, Restarts, has_a_job, closes_a_circle, ComesDue, Fires, booted, Follows, Takes, end_of, moment_of, Step, Run}
 use Rattle.um_model.specs.Order.{IsCycle}
@@ -35,6 +35,7 @@ use Rattle.um_model.proofs.PlannedLaws.{counts_some, free_of_causes}
 use Rattle.um_model.proofs.SceneLaws.{finite_scene}
 use Rattle.um_model.proofs.TimersLaws.{same_name}
 use Rattle.um_model.proofs.UnitLaws.{jobs_here, jobs_apart}
+use Rattle.um_model.proofs.Forms.{with_running}
 
 -- ---- fewer jobs of a unit
 

@@ -5,7 +5,7 @@ use Rattle.um_model.specs.Service.{Action, ByUnit, active_state_of, dead_unit, s
 use Rattle.um_model.specs.Settings.{ServiceSettings}
 use Rattle.um_model.specs.Ends.{is_starting, is_stopping}
 use Rattle.um_model.specs.Transitions.{transition, HasItsProcess, has_its_process, HasNumber}
-use Rattle.um_model.specs.Jobs.{Job, stop_job, start_job, job_of, jobs, no_jobs, jobs_of_unit, is_active, is_up, started_anew, started, stopped, restarted, jobs_after, unless_waiting, cancelled, without_start, state_of_job, IsPending, IsWaiting, of_one_unit, ComesBefore, IsReady, with_running, unless_running, start_left, jobs_left}
+use Rattle.um_model.specs.Jobs.{Job, stop_job, start_job, job_of, jobs, no_jobs, jobs_of_unit, is_active, is_up, started_anew, started, stopped, restarted, jobs_after, unless_waiting, cancelled, without_start, state_of_job, IsPending, IsWaiting, of_one_unit, ComesBefore, IsReady, unless_running, start_left, jobs_left}
 use Rattle.um_model.specs.Timers.{Timers}
 use Rattle.um_model.specs.Machine.{State, empty_state, Command, Happening, Event, Input, Reply, IsBefore, with_result_dependency, TakesAlong, Becomes, Carries, change_of, changed, acting_in, around, begins, begun, IsStill, FallDown, Happens, AreReset, Settles, begins_next, unit_asked, with_plan, jobs_asked, scene_at, Changes, puts, links, removes, reloads, plans, demands_nothing, cancels, installs, Does, units_reset, end_of, Restarts, has_a_job, closes_a_circle, ComesDue, Fires, booted, Follows, ends, reports, ticks, boots, Takes, obeys, meets, moment_of, Step, refused, crowded_out, idle, taken, Run, goes}
 use Rattle.um_model.specs.Plan.{IsPlan, jobs_for, verb_of}
@@ -39,6 +39,7 @@ use Rattle.um_model.proofs.TimersLaws.{same_name}
 use Rattle.um_model.proofs.UnitLaws.{state_here, state_apart, jobs_here, jobs_apart}
 use Rattle.um_model.proofs.TransitionLaws.{keeps_process, same_held}
 use Rattle.um_model.proofs.FitLaws.{StartFits, StopFits, begun_start_fits, start_fits, begun_stop_fits, stop_fits}
+use Rattle.um_model.proofs.Forms.{with_running}
 
 -- a unit and its jobs fit: it has its process, a start job runs only in start, a stop job only in a stop state, and not both
 pub record Fits (u : UnitState) (j : UnitJobs) : Type 0 where

@@ -17,7 +17,7 @@ use Rattle.um_model.specs.Machine.{State, IsHeld, boot_limit}
 use Rattle.um_model.specs.Names.{is_unit_name}
 use Rattle.um_model.specs.Reached.{first}
 use Rattle.um_model.specs.Spellings.{end_spelling, counted_spelling, unit_spelling, sub_tag, result_tag, kind_tag, job_state_tag}
-use Rattle.um_model.specs.StateSpellings.{entry_spelling, tree_spelling, units_spelling, job_spelling, pending_spelling, FitJob, state_spelling, FitState}
+use Rattle.um_model.specs.StateSpellings.{entry_spelling, tree_spelling, units_spelling, job_spelling, pending_spelling, state_spelling, FitState}
 use Rattle.um_model.specs.Tree.{Tree, Entry, File, Link}
 use Rattle.um_model.specs.Weight.{tree_weight, weight_of}
 use Rattle.um_model.specs.declared.jobs.JobKind.{JobKind}
@@ -34,6 +34,7 @@ use Rattle.um_model.proofs.LeastLaws.{Among}
 use Rattle.um_model.proofs.OnceLaws.{no_more, among_at}
 use Rattle.um_model.proofs.UnitLaws.{alike}
 use Rattle.um_model.proofs.WeightLaws.{short_name, weight_by_entry}
+use Rattle.um_model.proofs.Forms.{FitJob}
 
 -- ---- the entries of a map are no more than the names of which it holds something
 

@@ -8,7 +8,7 @@ use Rattle.std.proofs.lemmas.Bool.{cases_lt}
 use Rattle.std.proofs.lemmas.Map.Lookups.{exact_bytes}
 use Rattle.std.proofs.lemmas.Map.Views.{tells_apart}
 use Rattle.um_model.proofs.UnitLaws.{jobs_here, jobs_apart}
-use Rattle.um_model.specs.Jobs.{Job, job_of, jobs_of_unit, no_jobs, with_jobs, with_running, unless_running, start_left, jobs_left, BeginsNext}
+use Rattle.um_model.specs.Jobs.{Job, job_of, jobs_of_unit, no_jobs, with_jobs, unless_running, start_left, jobs_left, BeginsNext}
 use Rattle.um_model.specs.Machine.{State, Carries, Becomes, alone, along, TakesAlong, FallDown, Happens, begins, begun, changed, change_of, IsBefore}
 use Rattle.um_model.specs.Service.{ByUnit, Action}
 use Rattle.um_model.specs.declared.jobs.JobKind.{JobKind}
@@ -22,6 +22,7 @@ use Rattle.um_model.specs.declared.transition.StartJob.{StartJob}
 use Rattle.um_model.specs.declared.transition.StartJob.TheVariants.{Stays, Ends, Fails}
 use Rattle.um_model.proofs.FallLaws.{over_falls}
 use Rattle.um_model.proofs.TimersLaws.{same_name}
+use Rattle.um_model.proofs.Forms.{with_running}
 
 abbrev pub waits : Option JobState → ℕ
 waits (Some Waiting) = 1

@@ -2,6 +2,7 @@
 -- Follows systemd.service(5), "SuccessExitStatus=", "Restart=", "RestartPreventExitStatus=" and "RestartForceExitStatus=".
 -- The service table stands on this file.
 use Rattle.std.specs.Prelude.{ℕ, ◌&&◌, ◌||◌, Bool, true, false, not, ◌==◌, Option, Some, None}
+use Rattle.std.specs.Option.{option_map_or}
 use Rattle.um_model.specs.Settings.{ServiceSettings, has_dash}
 use Rattle.um_model.specs.declared.service.End.{End}
 use Rattle.um_model.specs.declared.service.End.TheVariants.{Code, Signal, Lost}
@@ -20,9 +21,8 @@ use Rattle.um_model.specs.declared.transition.UnitKind.TheVariants.{Simple, Exec
 
 -- the end was told: by a code or a signal
 abbrev pub is_told : End → Bool
-is_told (Code code) = true
-is_told (Signal number) = true
 is_told Lost = false
+is_told other = true
 
 -- the stop states
 abbrev pub is_stopping : SubState → Bool
@@ -103,11 +103,7 @@ restarts_after result.Lost OnFailure = true
 restarts_after result.Lost OnAbnormal = true
 restarts_after other policy = false
 
--- the main process ended so, and the set holds that end
-abbrev pub ended_in : (End → Bool) → Option End → Bool
-ended_in set None = false
-ended_in set (Some e) = set e
-
 -- a restart is wanted: by the last end of the main process, else by the result
 abbrev pub is_restart_wanted : ServiceSettings → UnitState → Bool
-is_restart_wanted s u = not (ended_in s.prevents_restart u.last) && (ended_in s.forces_restart u.last || restarts_after u.result s.restart)
+is_restart_wanted s u =
+    not (option_map_or s.prevents_restart u.last false) && (option_map_or s.forces_restart u.last false || restarts_after u.result s.restart)

@@ -79,9 +79,8 @@ pub data Answers (size : ℕ) (s : State) (kept : List Action) (bytes : List ℕ
 
 -- what is written at the end of a stream: a length past the limit is refused
 abbrev pub last_reply : Ending → List ℕ
-last_reply Between = []
-last_reply Inside = []
 last_reply TooLong = frame_of (reply_text (Refusal (too_large Frame)))
+last_reply other = []
 
 -- what is written for the frames from a state on, with the actions kept, one reply each, and at the end
 pub data AreReplies (size : ℕ) (ending : Ending) : State → List Action → List (List ℕ) → List ℕ → Type 0 where

@@ -3,6 +3,7 @@
 -- The machine stands on this file.
 use Rattle.std.specs.Prelude.{◌≡◌, ◌≢◌, ℕ, Bool, true, false, ◌||◌, if◌then◌else◌, List, [], ◌∷◌, ◌++◌, flat_map, Option, Some, None, is_some, unwrap_or, codes}
 use Rattle.std.specs.FinMap as map
+use Rattle.std.specs.Option.{option_map_or}
 use Rattle.um_model.specs.Least.{IsLeast, IsNamedBefore}
 use Rattle.um_model.specs.Service.{ByUnit, active_state_of, state_of_unit}
 use Rattle.um_model.specs.declared.commands.UnitVerb.{UnitVerb}
@@ -115,10 +116,6 @@ stop_job unit = record { unit = unit; kind = Stop }
 abbrev pub start_job : List ℕ → Job
 start_job unit = record { unit = unit; kind = Start }
 
--- the order that puts no unit before another
-abbrev pub Unordered : List ℕ → List ℕ → Type 0
-Unordered unit other = ⊥
-
 -- by an order of units one job goes before another: units start in that order and stop against it, and whichever of two is stopped goes
 -- before the start of the other; of one unit the stop job goes first
 pub data GoesBefore (IsBefore : List ℕ → List ℕ → Type 0) : Job → Job → Type 0 where
@@ -174,8 +171,7 @@ pub record JobShown : Type 0 where
   pub state : JobState
 
 abbrev pub job_shown : List ℕ → JobKind → Option JobState → List JobShown
-job_shown unit kind None = []
-job_shown unit kind (Some state) = record { unit = unit; kind = kind; state = state } ∷ []
+job_shown unit kind state = option_map_or (λ s. record { unit = unit; kind = kind; state = s } ∷ []) state []
 
 -- those of a unit, its stop job first
 abbrev pub jobs_shown_of : List ℕ → UnitJobs → List JobShown
@@ -185,10 +181,10 @@ jobs_shown_of unit j = job_shown unit Stop j.stop ++ job_shown unit Start j.star
 abbrev pub jobs_shown : ByUnit UnitJobs → List JobShown
 jobs_shown pending = flat_map (λ e. jobs_shown_of e.0 e.1) (map.entries pending)
 
--- with a job of this kind running
-abbrev pub with_running : JobKind → UnitJobs → UnitJobs
-with_running Stop j = jobs (Some Running) j.start
-with_running Start j = jobs j.stop (Some Running)
+-- with a job of this kind in this state
+abbrev pub with_job : JobKind → JobState → UnitJobs → UnitJobs
+with_job Stop state j = jobs (Some state) j.start
+with_job Start state j = jobs j.stop (Some state)
 
 -- ---- what an event leaves of the jobs of its unit
 

@@ -15,7 +15,7 @@ use Rattle.um_model.specs.Install.{Installs, RefusesInstall, paths_beyond, IsEna
 use Rattle.um_model.specs.Service.{ByUnit, AreTidyUnits, state_of_unit, with_unit, active_state_of, is_dead, is_number, Action}
 use Rattle.um_model.specs.Ends.{is_failed, is_starting, may_be_asked}
 use Rattle.um_model.specs.Transitions.{transition, AreActions, HasNumber, spawned, is_going}
-use Rattle.um_model.specs.Jobs.{Job, jobs, no_jobs, jobs_of_unit, with_jobs, AreTidyJobs, is_active, cancelled, JobShown, jobs_shown, jobs_left, without_start, with_running, ComesBefore, IsReady, BeginsNext}
+use Rattle.um_model.specs.Jobs.{Job, jobs, no_jobs, jobs_of_unit, with_jobs, AreTidyJobs, is_active, cancelled, JobShown, jobs_shown, jobs_left, without_start, ComesBefore, IsReady, BeginsNext, with_job}
 use Rattle.um_model.specs.Order.{IsCycle}
 use Rattle.um_model.specs.Plan.{Scene, IsPlan, CausesOfPlan, NamesCycle, AreFree}
 use Rattle.um_model.specs.Reached.{Reached}
@@ -336,7 +336,7 @@ begins job.Stop = StopBegins
 
 -- the state with that job running
 abbrev pub begun : State → Job → State
-begun s j = record s { pending = with_jobs s.pending j.unit (with_running j.kind (jobs_of_unit s.pending j.unit)) }
+begun s j = record s { pending = with_jobs s.pending j.unit (with_job j.kind Running (jobs_of_unit s.pending j.unit)) }
 
 -- no job is ready to begin
 abbrev pub IsStill : State → Type 0

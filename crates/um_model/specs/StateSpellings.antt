@@ -6,6 +6,7 @@ use Rattle.std.specs.List.{list_all}
 use Rattle.std.specs.Ordering.{is_lt, nat_cmp, ordering_then}
 use Rattle.std.specs.Cmp.Lexicographic.{slice_cmp}
 use Rattle.std.specs.FinMap as map
+use Rattle.std.specs.Option.{option_map_or}
 use Rattle.byteorder.specs.Endian.{big_bytes}
 use Rattle.um_model.specs.Bytes.{Spelling, Reading, pair_at, as_at, only_at, marked_at, choice_at, arm_in, FitText, text_spelling, text_at, table_at, tagged}
 use Rattle.um_model.specs.Bytes.{FitList, list_spelling, list_at, FitMap, map_spelling, map_at}
@@ -13,7 +14,7 @@ use Rattle.um_model.specs.Names.{is_unit_name}
 use Rattle.um_model.specs.Tree.{Tree, Entry, File, Link, IsTree, is_fit_entry, entry_limit}
 use Rattle.um_model.specs.Service.{ByUnit, AreTidyUnits, holds_nothing}
 use Rattle.um_model.specs.Transitions.{live_numbers}
-use Rattle.um_model.specs.Jobs.{AreTidyJobs, JobShown, jobs, jobs_of_unit, jobs_shown}
+use Rattle.um_model.specs.Jobs.{AreTidyJobs, JobShown, jobs, jobs_of_unit, jobs_shown, with_job}
 use Rattle.um_model.specs.Machine.{State, boot_limit}
 use Rattle.um_model.specs.Spellings.{kind_tag, moment_at, FitMoment, next_at, FitNext, job_state_tag, kinds, job_states}
 use Rattle.um_model.specs.Spellings.{unit_name_at, FitUnitName, unit_spelling, unit_at, FitUnit}
@@ -121,11 +122,6 @@ abbrev pub jobs_ascend : List JobShown → Bool
 jobs_ascend [] = true
 jobs_ascend (j ∷ more) = is_before_next j more && jobs_ascend more
 
--- with that job beside what is pending for the unit
-abbrev pub with_job : JobKind → JobState → UnitJobs → UnitJobs
-with_job kind.Stop state j = jobs (Some state) j.start
-with_job kind.Start state j = jobs j.stop (Some state)
-
 -- the jobs of a list, by unit
 abbrev pub pending_of : List JobShown → ByUnit UnitJobs
 pending_of [] = map.empty
@@ -139,13 +135,9 @@ pending_spelling pending = list_spelling job_spelling (jobs_shown pending)
 abbrev pub pending_at : Reading (ByUnit UnitJobs)
 pending_at = as_at pending_of (only_at jobs_ascend (list_at job_at))
 
--- a job that has bytes: its unit is a unit name
-abbrev pub FitJob : JobShown → Type 0
-FitJob j = FitUnitName j.unit
-
 -- pending jobs that have bytes: each has some, and a unit without a job stands for none
 pub record FitPending (pending : ByUnit UnitJobs) : Type 0 where
-  pub jobs : FitList FitJob (jobs_shown pending)
+  pub jobs : FitList (λ j. FitUnitName j.unit) (jobs_shown pending)
   pub tidy : AreTidyJobs pending
 
 -- ---- the state: its version, and its fields in order
@@ -177,14 +169,9 @@ boot_at = only_at is_boot text_at
 abbrev pub FitBoot : List ℕ → Type 0
 FitBoot id = FitText id × (is_boot id ≡ true)
 
--- a window began, up to the clock
-abbrev pub has_begun : ℕ → Option Counted → Bool
-has_begun clock None = true
-has_begun clock (Some c) = nat_le c.began clock
-
 -- no window began after the clock
 abbrev pub have_begun : ℕ → ByUnit UnitState → Bool
-have_begun clock units = list_all (λ e. has_begun clock e.1.window) (map.entries units)
+have_begun clock units = list_all (λ e. option_map_or (λ c. nat_le c.began clock) e.1.window true) (map.entries units)
 
 -- the numbers of the live processes of all units
 abbrev pub numbers_in : ByUnit UnitState → List ℕ

@@ -2,6 +2,7 @@
 -- Follows systemd.service(5), "Type=", "ExecStart=", "ExecStop=", "TimeoutStartSec=", "TimeoutStopSec=", "RestartSec=".
 -- The machine stands on this file.
 use Rattle.std.specs.Prelude.{◌≡◌, ℕ, ◌+◌, ◌&&◌, ◌||◌, ◌⊎◌, Bool, true, false, not, if◌then◌else◌, List, [], ◌∷◌, ◌++◌, map, slice_get, nat_lt, Option, Some, None, is_some}
+use Rattle.std.specs.Option.{option_to_list, option_map}
 use Rattle.um_model.specs.Moments.{process_limit}
 use Rattle.um_model.specs.Commands.{Command}
 use Rattle.um_model.specs.Substitution.{Variable, AreSubstituted}
@@ -35,8 +36,7 @@ use Rattle.um_model.specs.declared.transition.UnitKind.TheVariants.{Simple, Exec
 
 -- the deadline a span after the moment; none where the span never ends
 abbrev pub deadline_after : ℕ → Option ℕ → Option ℕ
-deadline_after t None = None
-deadline_after t (Some span) = Some (t + span)
+deadline_after t span = option_map (λ s. t + s) span
 
 -- there is a process number left
 abbrev pub has_number : Around → Bool
@@ -179,8 +179,7 @@ rests_unless_live s c u = if is_live u then just u else rests s c u
 
 -- an unclean end sets the result
 abbrev pub noted : UnitState → End → Bool → UnitState
-noted u e true = u
-noted u e false = record u { result = or_later u.result (unclean_result e) }
+noted u e clean = if clean then u else record u { result = or_later u.result (unclean_result e) }
 
 -- the unit without its main process, which ended so
 abbrev pub without_main : ServiceSettings → UnitState → End → UnitState
@@ -274,13 +273,9 @@ transition s c u event = row s c u u.sub event (is_well s c u event)
 
 -- ---- what is asked, as actions
 
-abbrev pub numbers : Option ℕ → List ℕ
-numbers None = []
-numbers (Some n) = n ∷ []
-
 -- the live process numbers of a unit, ascending: the main process is the elder
 abbrev pub live_numbers : UnitState → List ℕ
-live_numbers u = numbers u.main ++ numbers u.control
+live_numbers u = option_to_list u.main ++ option_to_list u.control
 
 -- the words that a command is started with: its variables stand for their values, unless it is written with `:`
 pub data AreStarted (environment : List Variable) : Option Command → List (List ℕ) → Type 0 where
@@ -298,9 +293,8 @@ pub data AreActions (s : ServiceSettings) (c : Around) (u : UnitState) : Order �
 
 -- how many process numbers an order takes
 abbrev pub spawned : Order → ℕ
-spawned Nothing = 0
 spawned (Spawn which i) = 1
-spawned (Signal signal) = 0
+spawned other = 0
 
 -- ---- units with live processes
 
