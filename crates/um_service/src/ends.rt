@@ -1,7 +1,8 @@
 //! How the end of a process counts.
 
-ghost use Rattle.std.specs.Prelude.{◌≡◌, ℕ};
-ghost use Rattle.um_model.specs.Ends.{is_told, is_stopping, asks_to_end, may_be_asked, is_clean_alone, is_at_index, main_has_dash, is_clean, unclean_result, or_later, restarts_after, ended_in, is_restart_wanted};
+ghost use Rattle.std.specs.Prelude.{◌≡◌, ℕ, false};
+ghost use Rattle.std.specs.Option.{option_map_or};
+ghost use Rattle.um_model.specs.Ends.{is_told, is_stopping, asks_to_end, may_be_asked, is_clean_alone, is_at_index, main_has_dash, is_clean, unclean_result, or_later, restarts_after, is_restart_wanted};
 ghost use Rattle.um_unit.specs.ServiceView.{service_settings_of};
 ghost use Rattle.um_value.specs.ExitSet.{holds};
 
@@ -140,7 +141,7 @@ fn restarts_after(left: UnitResult, policy: RestartPolicy) -> bool
 
 /// Whether the main process ended so that the set holds it.
 fn ended_in(set: &ExitSet, last: Option<End>) -> bool
-    ensures { result ≡ ended_in (holds set.now) last }
+    ensures { result ≡ option_map_or (holds set.now) last false }
 {
     match last {
         Some(end) => set.holds(end),
