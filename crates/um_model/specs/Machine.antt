@@ -234,12 +234,8 @@ is_waiting other = false
 
 -- what stands around the unit at the moment t
 abbrev pub around : ℕ → State → List ℕ → Around
-around t s unit = record {
-  moment = t;
-  next = s.next;
-  loadable = (acting_in s.loaded unit).loadable;
-  stop_waits = is_waiting (jobs_of_unit s.pending unit).stop;
-}
+around t s unit =
+    record { moment = t; next = s.next; loadable = (acting_in s.loaded unit).loadable; stop_waits = is_waiting (jobs_of_unit s.pending unit).stop }
 
 -- what follows for the unit
 abbrev pub change_of : ℕ → State → List ℕ → UnitEvent → Change

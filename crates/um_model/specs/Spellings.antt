@@ -185,17 +185,8 @@ UnitFields = SubState × (UnitResult × (Option ℕ × (Option ℕ × (ℕ × (O
 
 -- the unit of its fields
 abbrev pub unit_of : UnitFields → UnitState
-unit_of (sub, (result, (main, (control, (index, (deadline, (window, (asked, last)))))))) = record {
-  sub = sub;
-  result = result;
-  main = main;
-  control = control;
-  index = index;
-  deadline = deadline;
-  window = window;
-  asked = asked;
-  last = last;
-}
+unit_of (sub, (result, (main, (control, (index, (deadline, (window, (asked, last)))))))) =
+    record { sub = sub; result = result; main = main; control = control; index = index; deadline = deadline; window = window; asked = asked; last = last }
 
 -- each field behind the one before
 abbrev pub unit_at : Reading UnitState

@@ -403,12 +403,8 @@ pub data Loading : Type 0 where
 
 -- a unit by its files
 abbrev pub unit_by : List ℕ → Option (List ℕ) → List Source → LoadedUnit
-unit_by unit path sources = record {
-  name = unit;
-  path = path;
-  settings = settings_of unit (assignments_in (suffix_of unit) sources);
-  warnings = warnings_of unit sources;
-}
+unit_by unit path sources =
+    record { name = unit; path = path; settings = settings_of unit (assignments_in (suffix_of unit) sources); warnings = warnings_of unit sources }
 
 -- a unit with a file: found, unless a setting is refused
 abbrev pub loading_by_file : List ℕ → List ℕ → List Source → Loading
