@@ -13,13 +13,14 @@ use Rattle.std.proofs.lemmas.Map.Views.{tells_apart}
 use Rattle.std.proofs.lemmas.Slice.Eq.{bytes_eq-Decides}
 use Rattle.um_model.specs.Install.{is_etc, pulls_in, is_link_for, is_link_of, IsMeant, IsUnlinked, IsDisabled, Installs, disables, RefusesInstall, IsEnabledAs, enabling_of}
 use Rattle.um_model.specs.Reached.{first, next}
-use Rattle.um_model.specs.Refusals.{Refused, bad_path, cause, unless_refused}
+use Rattle.um_model.specs.Refusals.{Refused, bad_path, unless_refused}
 use Rattle.um_model.specs.Resolution.{unit_in_target}
 use Rattle.um_model.specs.Tree.{Tree, Entry, File, Link, PathParts, Place, Unit, DropIn, Wants, Requires, path_parts, remove_at}
 use Rattle.um_model.specs.Units.{Loading}
 use Rattle.um_model.specs.declared.install.Enabling.{Enabling}
 use Rattle.um_model.specs.declared.install.InstallVerb.TheVariants as verbs
 use Rattle.um_model.proofs.NameMaps.{After, Rising}
+use Rattle.um_model.proofs.Forms.{cause}
 use Rattle.um_wire.specs.Refusal.{refused_of}
 use Rattle.um_wire.specs.declared.refusal.Refusal.{Refusal}
 use Rattle.um_install.specs.Changes.{and_then, removed, is_link_for_any, is_link_of_any, is_unlinked, paths_unlinked, pulls_in_any}

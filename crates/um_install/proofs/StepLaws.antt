@@ -6,10 +6,11 @@ use Rattle.std.proofs.lemmas.Bool.Decides.{nat_tests}
 use Rattle.um_model.specs.declared.install.Enabling.TheVariants as enabling
 use Rattle.um_model.specs.Install.{enabling_by}
 use Rattle.um_model.specs.Install.{linked_name, CannotEnable, isnt_found, is_masked, has_bad_setting, lacks_instance, Installs, RefusesInstall, masks, masks_none, unmasks, path_of_mask, is_masking, unmasked}
-use Rattle.um_model.specs.Refusals.{Refused, cause, not_found, masked, bad_setting, unless_refused}
+use Rattle.um_model.specs.Refusals.{Refused, not_found, masked, bad_setting, unless_refused}
 use Rattle.um_model.specs.Tree.{Tree, Link, link_cause, put_link, remove_at}
 use Rattle.um_model.specs.Units.{LoadedUnit, Loading, Found, Masked, NotFound, BadSetting}
 use Rattle.um_model.specs.declared.install.InstallVerb.TheVariants as verbs
+use Rattle.um_model.proofs.Forms.{cause}
 use Rattle.um_install.specs.Checks.{RefusesFirst, here, later, one_if}
 
 -- ---- lists

@@ -1,6 +1,6 @@
 -- Parts of definitions, by names that the laws of them use.
 use Rattle.std.specs.Prelude.{◌+◌, ◌-◌, Bool, true, nat_le, nat_eq, length, take, List, [], ◌∷◌, ℕ, Option, Some, None, if◌then◌else◌, is_some, is_none, not, ◌&&◌, ◌==◌}
-use Rattle.std.specs.List.{list_any, ends_with}
+use Rattle.std.specs.List.{list_any, ends_with, slice_get}
 use Rattle.std.specs.Str.{is_utf8}
 use Rattle.std.specs.Option.{option_map_or, option_and_then, option_to_list}
 use Rattle.um_model.specs.Moments.{span_limit}
@@ -23,6 +23,8 @@ use Rattle.um_model.specs.declared.jobs.JobState.TheVariants.{Running}
 use Rattle.um_model.specs.declared.limit.Counted.{Counted}
 use Rattle.um_model.specs.Jobs.{JobShown, with_job}
 use Rattle.um_model.specs.Spellings.{FitUnitName}
+use Rattle.um_model.specs.Refusals.{Refused}
+use Rattle.um_model.specs.StateSpellings.{is_job_before}
 
 -- a unit is found, unless there is a reason why it can't be loaded
 abbrev pub found_unless : Option (List ℕ) → LoadedUnit → Loading
@@ -102,3 +104,11 @@ has_begun clock window = option_map_or (λ c. nat_le c.began clock) window true
 -- the unit of a job has a name
 abbrev pub FitJob : JobShown → Type 0
 FitJob j = FitUnitName j.unit
+
+-- a cause of refusal: that refusal, where the test holds
+abbrev pub cause : Bool → Refused → Option Refused
+cause b r = if b then Some r else None
+
+-- the job comes before the next one, where there is one
+abbrev pub is_before_next : JobShown → List JobShown → Bool
+is_before_next j more = option_map_or (is_job_before j) (slice_get more 0) true

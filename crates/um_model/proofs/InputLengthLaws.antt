@@ -6,7 +6,7 @@ use Rattle.std.proofs.lemmas.Bool.{and_from, le-leb, leb-true, ltb-false, not-fa
 use Rattle.byteorder.specs.Endian.{big_bytes}
 use Rattle.byteorder.specs.Numbers.{length-bytes_high_first}
 use Rattle.um_model.specs.Bytes.{text_spelling, option_spelling, tagged}
-use Rattle.um_model.specs.Refusals.{Refused, no_room, cause, unless_refused}
+use Rattle.um_model.specs.Refusals.{Refused, no_room, unless_refused}
 use Rattle.um_model.specs.Tree.{Tree, Entry, File, Link, IsTree, path_parts, is_served, is_fit_target, is_link, is_other_than_link, is_full_for, text_limit, put_cause, put_file, link_cause, put_link, remove_cause, remove_at}
 use Rattle.um_model.specs.Machine.{State, Command, PutFile, PutLink, Remove, DaemonReload, ForUnit, Cancel, ResetFailed, Install, Happening, ProcessEnded, ProcessExecuted, Tick, Booted, Event, Commanded, Happened, Input, Reply, Refusal, boot_limit, puts, links, removes, Does, Takes, obeys, meets, moment_of, Step, refused, crowded_out, idle, taken}
 use Rattle.um_model.specs.Service.{Action}
@@ -16,7 +16,7 @@ use Rattle.um_model.specs.declared.service.End.{End}
 use Rattle.um_model.specs.declared.service.End.TheVariants as end
 use Rattle.um_model.proofs.TreeLaws.{none_of_three, none_of_four}
 use Rattle.um_model.proofs.WeightLaws.{short_name, entry_light}
-use Rattle.um_model.proofs.Forms.{is_fit_at}
+use Rattle.um_model.proofs.Forms.{is_fit_at, cause}
 
 -- ---- lengths
 

@@ -2,16 +2,18 @@
 use Rattle.std.proofs.Common.{ℕ, nat_lt, ◌≡◌, ◌⊎◌, inl, inr, ◌≤◌, Bool, true, false, not, List, ◌∷◌, [], length, Option, Some, None, is_none, Err, refl, sym, subst, arith}
 use Rattle.std.specs.FinMap as map
 use Rattle.std.proofs.lemmas.Option.{none-some, same_Some}
+use Rattle.std.specs.Prelude.{cond}
 use Rattle.um_model.specs.Install.{CannotEnable, isnt_found, is_masked, has_bad_setting, lacks_instance, RefusesInstall, enables_none, masks_none}
 use Rattle.um_model.specs.Machine as model
 use Rattle.um_model.specs.Machine.{State, Command, IsMissing, IsCrowded, CannotStart, HasNoPlan, CausesOf, CausesOfCancel, CausesOfLoad, LoadsNone, Refuses, scene_at, unit_asked}
-use Rattle.um_model.specs.Refusals.{Refused, bad_path, exists_at, too_large, no_room, FirstCause, at_first, at_second, cause, first_cause, unless_refused}
+use Rattle.um_model.specs.Refusals.{Refused, bad_path, exists_at, too_large, no_room, FirstCause, at_first, at_second, unless_refused}
 use Rattle.um_model.specs.Tree.{Tree, File, Link, path_parts, is_served, is_link, is_other_than_link, is_fit_target, is_full_for, text_limit, put_cause, put_file, link_cause, put_link, remove_cause, remove_at}
 use Rattle.um_model.specs.Units.{Loading}
 use Rattle.um_model.specs.declared.commands.JobMode.{JobMode}
 use Rattle.um_model.specs.declared.commands.UnitVerb.{UnitVerb}
 use Rattle.um_model.specs.declared.install.InstallVerb.{InstallVerb}
 use Rattle.um_model.specs.declared.refusals.Limit.TheVariants.{Text, Entries, Units}
+use Rattle.um_model.proofs.Forms.{cause}
 
 -- the number of a refusal of a command
 abbrev pub IsOfCommand : Refused → Type 0
@@ -25,7 +27,7 @@ by_cause false q of r e = absurd (none-some r e)
 
 -- those of what is put into the tree
 by_causes : (a b c d : Bool) (path : List ℕ) (r : Refused)
-    → first_cause (cause a (bad_path path) ∷ cause b (exists_at path) ∷ cause c (too_large Text) ∷ cause d (too_large Entries) ∷ []) ≡ Some r → IsOfCommand r
+    → cond a (Some (bad_path path)) (cond b (Some (exists_at path)) (cond c (Some (too_large Text)) (cond d (Some (too_large Entries)) None))) ≡ Some r → IsOfCommand r
 by_causes true b c d path r e = by_cause true (bad_path path) (inl (omega arith)) r e
 by_causes false true c d path r e = by_cause true (exists_at path) (inl (omega arith)) r e
 by_causes false false true d path r e = by_cause true (too_large Text) (inl (omega arith)) r e
@@ -43,7 +45,7 @@ told q r of e = subst IsOfCommand (sym e) of
 
 -- and those of a link
 by_causes_of_link : (a b d : Bool) (path : List ℕ) (r : Refused)
-    → first_cause (cause a (bad_path path) ∷ cause b (exists_at path) ∷ cause d (too_large Entries) ∷ []) ≡ Some r → IsOfCommand r
+    → cond a (Some (bad_path path)) (cond b (Some (exists_at path)) (cond d (Some (too_large Entries)) None)) ≡ Some r → IsOfCommand r
 by_causes_of_link true b d path r e = by_causes true b false d path r e
 by_causes_of_link false true d path r e = by_causes false true false d path r e
 by_causes_of_link false false d path r e = by_causes false false false d path r e

@@ -18,7 +18,7 @@ use Rattle.std.proofs.lemmas.List.Sums.{count_by-le-length, length-filter, split
 use Rattle.std.proofs.lemmas.Option.{same_Some}
 use Rattle.std.proofs.lemmas.Slice.Eq.{bytes_eq-Decides, starts_is}
 use Rattle.um_model.specs.Names.{is_prefix_byte, is_instance_byte, is_fit_instance, instance_text, suffix_text, is_unit_name, is_template}
-use Rattle.um_model.specs.Refusals.{Refused, cause, first_cause}
+use Rattle.um_model.specs.Refusals.{Refused}
 use Rattle.um_model.specs.Tree.{layer_text, Place, Unit, DropIn, Wants, Requires, place_text, PathParts, is_drop_in_name, is_plain_name, is_fit_place, IsPathOf, is_slash, behind, before, around_slash, layer_and_rest, place_in, unit_and_place, path_parts, Entry, File, Link, Tree, IsTree, entry_limit, text_limit, is_served, is_fit_entry, is_fit_target, is_link, is_other_than_link, is_full_for, put_cause, link_cause, is_volatile, has_run, without_run, path_text, are_fit}
 use Rattle.um_model.specs.declared.names.Suffix.{Suffix}
 use Rattle.um_model.specs.declared.names.Suffix.TheVariants.{Service, Socket, Device, Mount, Automount, Swap, Target, Path, Timer, Slice, Scope}
@@ -37,13 +37,13 @@ same_order : (a b : List ℕ) → eq_by_cmp (slice_cmp nat_cmp) a b ≡ true →
 same_order a b e = slice_cmp-IsAntisymmetric nat_cmp-IsAntisymmetric a b (tied _ e)
 
 -- where none of three causes is told, none of them holds
-pub none_of_three : (a b c : Bool) (r s t : Refused) → first_cause (cause a r ∷ cause b s ∷ cause c t ∷ []) ≡ None → (a ≡ false) × (b ≡ false) × (c ≡ false)
+pub none_of_three : (a b c : Bool) (r s t : Refused) → cond a (Some r) (cond b (Some s) (cond c (Some t) None)) ≡ None → (a ≡ false) × (b ≡ false) × (c ≡ false)
 none_of_three true b c r s t e = cc
 none_of_three false true c r s t e = cc
 none_of_three false false true r s t e = cc
 none_of_three false false false r s t e = (refl, refl, refl)
 
-pub none_of_four : (a b c d : Bool) (r s t u : Refused) → first_cause (cause a r ∷ cause b s ∷ cause c t ∷ cause d u ∷ []) ≡ None → (a ≡ false) × (b ≡ false) × (c ≡ false) × (d ≡ false)
+pub none_of_four : (a b c d : Bool) (r s t u : Refused) → cond a (Some r) (cond b (Some s) (cond c (Some t) (cond d (Some u) None))) ≡ None → (a ≡ false) × (b ≡ false) × (c ≡ false) × (d ≡ false)
 none_of_four true b c d r s t u e = cc
 none_of_four false b c d r s t u e = let rest = none_of_three b c d s t u e in (refl, rest.0, rest.1, rest.2)
 

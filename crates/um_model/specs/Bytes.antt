@@ -8,6 +8,7 @@ use Rattle.std.specs.Str.{is_utf8}
 use Rattle.std.specs.Ordering.{is_lt, nat_cmp}
 use Rattle.std.specs.Cmp.Lexicographic.{slice_cmp}
 use Rattle.std.specs.FinMap as map
+use Rattle.std.specs.Option.{option_map_or}
 use Rattle.byteorder.specs.Endian.{big_number, big_bytes}
 
 -- how values are spelled
@@ -191,15 +192,14 @@ list_at one bytes = number_at 4 bytes >>= λ n. many_at one n.0 n.1
 abbrev pub ByText : Type 0 → Type 0
 ByText A = map.FinMap (slice_cmp nat_cmp) A
 
--- the key is below that of the next entry, where there is one
-abbrev pub is_below_next : {A : Type 0} → List ℕ → List (List ℕ × A) → Bool
-is_below_next key [] = true
-is_below_next key (e ∷ es) = is_lt (slice_cmp nat_cmp key e.0)
+-- each is below the next
+abbrev pub all_ascend : {A : Type 0} → (A → A → Bool) → List A → Bool
+all_ascend is_below [] = true
+all_ascend is_below (a ∷ others) = option_map_or (is_below a) (slice_get others 0) true && all_ascend is_below others
 
--- each key is below the next
+-- so by their keys
 abbrev pub ascends : {A : Type 0} → List (List ℕ × A) → Bool
-ascends [] = true
-ascends (e ∷ es) = is_below_next e.0 es && ascends es
+ascends entries = all_ascend (λ e next. is_lt (slice_cmp nat_cmp e.0 next.0)) entries
 
 -- each key passes the test
 abbrev pub are_keys : {A : Type 0} → (List ℕ → Bool) → List (List ℕ × A) → Bool

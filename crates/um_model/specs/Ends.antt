@@ -1,8 +1,10 @@
 -- How the end of a process counts: clean ends, the result that an unclean one leaves, and whether a restart is wanted.
 -- Follows systemd.service(5), "SuccessExitStatus=", "Restart=", "RestartPreventExitStatus=" and "RestartForceExitStatus=".
 -- The service table stands on this file.
-use Rattle.std.specs.Prelude.{ℕ, ◌&&◌, ◌||◌, Bool, true, false, not, ◌==◌, Option, Some, None}
+use Rattle.std.specs.Prelude.{ℕ, ◌&&◌, ◌||◌, Bool, true, false, not, ◌==◌, Option, Some, None, ◌∷◌, List, []}
 use Rattle.std.specs.Option.{option_map_or}
+use Rattle.std.specs.List.{list_any}
+use Rattle.std.specs.Str.{bytes_eq}
 use Rattle.um_model.specs.Settings.{ServiceSettings, has_dash}
 use Rattle.um_model.specs.declared.service.End.{End}
 use Rattle.um_model.specs.declared.service.End.TheVariants.{Code, Signal, Lost}
@@ -18,6 +20,7 @@ use Rattle.um_model.specs.declared.transition.Process.{Process}
 use Rattle.um_model.specs.declared.transition.Process.TheVariants.{Main, Control}
 use Rattle.um_model.specs.declared.transition.UnitKind.{UnitKind}
 use Rattle.um_model.specs.declared.transition.UnitKind.TheVariants.{Simple, Exec, Oneshot}
+use Rattle.um_model.specs.Values.{restart_text}
 
 -- the end was told: by a code or a signal
 abbrev pub is_told : End → Bool
@@ -85,23 +88,18 @@ abbrev pub or_later : UnitResult → UnitResult → UnitResult
 or_later result.Success later = later
 or_later first later = first
 
--- the table of Restart=: after which results it wants a restart
+-- the table of Restart=: the policies that want a restart after this result
+abbrev pub policies_after : UnitResult → List RestartPolicy
+policies_after result.Success = Always ∷ OnSuccess ∷ []
+policies_after result.ExitCode = Always ∷ OnFailure ∷ []
+policies_after result.Signal = Always ∷ OnFailure ∷ OnAbnormal ∷ OnAbort ∷ []
+policies_after result.Timeout = Always ∷ OnFailure ∷ OnAbnormal ∷ []
+policies_after result.Lost = Always ∷ OnFailure ∷ OnAbnormal ∷ []
+policies_after other = []
+
+-- so this one does
 abbrev pub restarts_after : UnitResult → RestartPolicy → Bool
-restarts_after result.Success Always = true
-restarts_after result.Success OnSuccess = true
-restarts_after result.ExitCode Always = true
-restarts_after result.ExitCode OnFailure = true
-restarts_after result.Signal Always = true
-restarts_after result.Signal OnFailure = true
-restarts_after result.Signal OnAbnormal = true
-restarts_after result.Signal OnAbort = true
-restarts_after result.Timeout Always = true
-restarts_after result.Timeout OnFailure = true
-restarts_after result.Timeout OnAbnormal = true
-restarts_after result.Lost Always = true
-restarts_after result.Lost OnFailure = true
-restarts_after result.Lost OnAbnormal = true
-restarts_after other policy = false
+restarts_after left policy = list_any (λ p. bytes_eq (restart_text p) (restart_text policy)) (policies_after left)
 
 -- a restart is wanted: by the last end of the main process, else by the result
 abbrev pub is_restart_wanted : ServiceSettings → UnitState → Bool

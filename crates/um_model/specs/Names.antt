@@ -156,13 +156,11 @@ is_hex_digit b = is_digit b || (nat_le 97 b && nat_le b 102)
 
 -- what follows a `\` is an `x` and two hexadecimal digits, and gives their byte; anything else is ill escaped
 abbrev pub escape_front : List ℕ → Front ℕ
-escape_front [] = Unreadable
-escape_front (x ∷ []) = Unreadable
-escape_front (x ∷ high ∷ []) = Unreadable
 escape_front (x ∷ high ∷ low ∷ rest) =
     if x == 120 && is_hex_digit high && is_hex_digit low
     then Gives ((16 * digit_value high + digit_value low) ∷ []) 4
     else Unreadable
+escape_front other = Unreadable
 
 -- `-` becomes `/`, an escape its byte, and any other byte stays
 abbrev pub unescape_front : ℕ → List ℕ → Front ℕ

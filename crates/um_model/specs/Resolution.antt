@@ -36,9 +36,8 @@ unit_in_target target = after_last is_slash target
 
 -- a link to the unit's own template stands for what the template is
 abbrev pub leads_to_template : Option (List ℕ) → Entry → Bool
-leads_to_template None entry = false
-leads_to_template (Some template) (File text) = false
 leads_to_template (Some template) (Link target) = bytes_eq (unit_in_target target) template
+leads_to_template template entry = false
 
 abbrev pub unless_to_template : Option (List ℕ) → Option (List ℕ × Entry) → Option (List ℕ × Entry)
 unless_to_template template held = option_and_then (λ found. if leads_to_template template found.1 then None else Some found) held

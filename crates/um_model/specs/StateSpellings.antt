@@ -8,7 +8,7 @@ use Rattle.std.specs.Cmp.Lexicographic.{slice_cmp}
 use Rattle.std.specs.FinMap as map
 use Rattle.std.specs.Option.{option_map_or}
 use Rattle.byteorder.specs.Endian.{big_bytes}
-use Rattle.um_model.specs.Bytes.{Spelling, Reading, pair_at, as_at, only_at, marked_at, choice_at, arm_in, FitText, text_spelling, text_at, table_at, tagged}
+use Rattle.um_model.specs.Bytes.{Spelling, Reading, pair_at, as_at, only_at, marked_at, choice_at, arm_in, FitText, text_spelling, text_at, table_at, tagged, all_ascend}
 use Rattle.um_model.specs.Bytes.{FitList, list_spelling, list_at, FitMap, map_spelling, map_at}
 use Rattle.um_model.specs.Names.{is_unit_name}
 use Rattle.um_model.specs.Tree.{Tree, Entry, File, Link, IsTree, is_fit_entry, entry_limit}
@@ -112,15 +112,9 @@ job_at = as_at job_of_fields (pair_at unit_name_at (pair_at (table_at kinds) (ta
 abbrev pub is_job_before : JobShown → JobShown → Bool
 is_job_before j k = is_lt (ordering_then (slice_cmp nat_cmp j.unit k.unit) (nat_cmp (kind_tag j.kind) (kind_tag k.kind)))
 
--- a job stands before the next one, where there is one
-abbrev pub is_before_next : JobShown → List JobShown → Bool
-is_before_next j [] = true
-is_before_next j (k ∷ more) = is_job_before j k
-
--- each job stands before the next
+-- jobs ascend so
 abbrev pub jobs_ascend : List JobShown → Bool
-jobs_ascend [] = true
-jobs_ascend (j ∷ more) = is_before_next j more && jobs_ascend more
+jobs_ascend told = all_ascend is_job_before told
 
 -- the jobs of a list, by unit
 abbrev pub pending_of : List JobShown → ByUnit UnitJobs

@@ -11,7 +11,7 @@ use Rattle.std.specs.Cmp.Lexicographic.{slice_cmp}
 use Rattle.std.specs.FinMap as map
 use Rattle.um_model.specs.Ascii.{is_digit, is_letter}
 use Rattle.um_model.specs.Names.{is_unit_name, is_template}
-use Rattle.um_model.specs.Refusals.{Refused, cause, first_cause, unless_refused, bad_path, exists_at, too_large}
+use Rattle.um_model.specs.Refusals.{Refused, unless_refused, bad_path, exists_at, too_large}
 use Rattle.um_model.specs.declared.refusals.Limit.TheVariants.{Text, Entries}
 use Rattle.um_model.specs.declared.tree.Layer.{Layer}
 use Rattle.um_model.specs.declared.tree.Layer.TheVariants.{Etc, Run, Lib}
@@ -195,12 +195,10 @@ is_full_for tree path = is_none (map.get tree path) && nat_le entry_limit (map.l
 -- the first cause why no file with the text may be put at the path
 abbrev pub put_cause : Tree → List ℕ → List ℕ → Option Refused
 put_cause tree path text =
-    first_cause
-    (cause (not (is_served path)) (bad_path path)
-    ∷ cause (is_link (map.get tree path)) (exists_at path)
-    ∷ cause (nat_lt text_limit (length text)) (too_large Text)
-    ∷ cause (is_full_for tree path) (too_large Entries)
-    ∷ [])
+    if not (is_served path) then Some (bad_path path)
+    else (if is_link (map.get tree path) then Some (exists_at path)
+    else (if nat_lt text_limit (length text) then Some (too_large Text)
+    else (if is_full_for tree path then Some (too_large Entries) else None)))
 
 -- the tree with the file put at the path, in place of a file that stands there
 unfoldable pub put_file : Tree → List ℕ → List ℕ → Result Tree Refused
@@ -209,11 +207,9 @@ put_file tree path text = unless_refused (put_cause tree path text) (map.insert 
 -- the first cause why no link to the target may be put at the path
 abbrev pub link_cause : Tree → List ℕ → List ℕ → Option Refused
 link_cause tree path target =
-    first_cause
-    (cause (not (is_fit_target (path_parts path) target)) (bad_path path)
-    ∷ cause (is_other_than_link (map.get tree path) target) (exists_at path)
-    ∷ cause (is_full_for tree path) (too_large Entries)
-    ∷ [])
+    if not (is_fit_target (path_parts path) target) then Some (bad_path path)
+    else (if is_other_than_link (map.get tree path) target then Some (exists_at path)
+    else (if is_full_for tree path then Some (too_large Entries) else None))
 
 -- the tree with the link put at the path, where nothing stands or the same link
 unfoldable pub put_link : Tree → List ℕ → List ℕ → Result Tree Refused
@@ -221,7 +217,7 @@ put_link tree path target = unless_refused (link_cause tree path target) (map.in
 
 -- the cause why nothing may be removed at the path: nothing stands there
 abbrev pub remove_cause : Tree → List ℕ → Option Refused
-remove_cause tree path = cause (is_none (map.get tree path)) (bad_path path)
+remove_cause tree path = if is_none (map.get tree path) then Some (bad_path path) else None
 
 -- the tree without what stands at the path
 unfoldable pub remove_at : Tree → List ℕ → Result Tree Refused
