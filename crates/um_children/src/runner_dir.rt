@@ -1,6 +1,6 @@
 ghost use Rattle.std.specs.Prelude.{◌≡◌, ◌⊎◌, [], true, false, None, Ok, IfOk};
 ghost use Rattle.std.proofs.lemmas.Bool.{false≢true};
-ghost use Rattle.um_model.specs.Children.{is_absent};
+ghost use Rattle.um_children.specs.History.{is_absent};
 ghost use Rattle.um_children.specs.Faults.{CountsFault};
 
 use crate::children::Children;

@@ -137,27 +137,3 @@ pub record IsElsewhere (past : Past) (at count : ℕ) (image : Image) : Type 0 w
   pub from : Image
   pub was : IsImage past from
   pub same : (j : ℕ) → (j < at) ⊎ (at + count ≤ j) → image j ≡ from j
-
--- whether a call is a sync
-abbrev pub is_sync : Call → Bool
-is_sync synced = true
-is_sync (wrote k value kept) = false
-
--- how many syncs answered Ok
-abbrev pub sync_count : Past → ℕ
-sync_count past = count_by is_sync past.calls
-
--- a sector with the number of its candidates
-abbrev pub candidate_count : Past → ℕ → ℕ × ℕ
-candidate_count past k = (k, length (candidates past k))
-
--- the sectors below n with more than one candidate, ascending, with the number of candidates
-abbrev pub unsynced : Past → ℕ → List (ℕ × ℕ)
-unsynced past n = filter (λ sector. nat_lt 1 sector.1) (map (candidate_count past) (range_with_len 0 n))
-
--- The image that these picks choose: of each sector with more than one candidate, ascending, the index of its candidate
--- (0, the value at the last sync, where the pick is missing or there is no such candidate).
-abbrev pub picked : Past → List ℕ → Image
-picked past picks k =
-    let choices = candidates past k in
-    slice_index_or choices (slice_index_or picks (length (unsynced past k)) 0) (slice_index_or choices 0 [])
