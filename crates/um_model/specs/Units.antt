@@ -7,6 +7,7 @@ use Rattle.std.specs.Option.{option_or, option_map_or, option_and_then}
 use Rattle.std.specs.Result.{result_ok, result_err, result_unwrap_or}
 use Rattle.std.specs.List.{flat_map, list_any, after_last}
 use Rattle.std.specs.Str.{bytes_eq}
+use Rattle.std.specs.Map.{lookup}
 use Rattle.um_model.specs.Names.{suffix_of, is_unit_name}
 use Rattle.um_model.specs.Text.{is_empty}
 use Rattle.um_model.specs.Syntax.{Item, Section, Assignment, Warned, Placed, line_number, reading_of}
@@ -166,16 +167,15 @@ pub data TypeSaid : Type 0 where
   Served : UnitKind → TypeSaid
   Unserved : TypeSaid
 
-abbrev pub is_unserved_type : List ℕ → Bool
-is_unserved_type value =
-    list_any (λ word. bytes_eq value word) (codes "notify" ∷ codes "notify-reload" ∷ codes "dbus" ∷ codes "forking" ∷ codes "idle" ∷ [])
+-- the types by their words
+abbrev pub types : List (List ℕ × TypeSaid)
+types =
+    (codes "simple", Served Simple) ∷ (codes "exec", Served Exec) ∷ (codes "oneshot", Served Oneshot) ∷ (codes "notify", Unserved)
+    ∷ (codes "notify-reload", Unserved) ∷ (codes "dbus", Unserved) ∷ (codes "forking", Unserved) ∷ (codes "idle", Unserved) ∷ []
 
+-- what a word for a type says
 unfoldable pub type_said : List ℕ → Option TypeSaid
-type_said value =
-    if bytes_eq value (codes "simple") then Some (Served Simple)
-    else (if bytes_eq value (codes "exec") then Some (Served Exec)
-    else (if bytes_eq value (codes "oneshot") then Some (Served Oneshot)
-    else (if is_unserved_type value then Some Unserved else None)))
+type_said value = lookup (bytes_eq value) types
 
 -- Type= of the unit
 abbrev pub type_of : List Assigned → TypeSaid
@@ -346,26 +346,15 @@ value_warning unit kind.Refused value = None
 abbrev pub assignment_warning : List ℕ → List ℕ → List ℕ → List ℕ → Option WarningKind
 assignment_warning unit section key value = if is_foreign key then None else option_map_or (λ kind. value_warning unit kind value) (kind_of_key section key) (Some UnknownKey)
 
--- the head of a section: an unknown one, unless it is foreign
-abbrev pub head_warning : Option Suffix → List ℕ → Option WarningKind
-head_warning type name = if is_known_section type name || is_foreign name then None else Some UnknownSection
-
--- the warning that an assignment gives; the lines of a section that isn't known give none
-abbrev pub warning_of_assignment : List ℕ → Option (List ℕ) → List ℕ → List ℕ → Option WarningKind
-warning_of_assignment unit None key value = None
-warning_of_assignment unit (Some section) key value =
-    if is_known_section (suffix_of unit) section then assignment_warning unit section key value else None
-
--- a warning of the syntax stands, but for those in a section that isn't known
-abbrev pub warning_of_syntax : Option Suffix → Option (List ℕ) → WarningKind → Option WarningKind
-warning_of_syntax type None warning = Some warning
-warning_of_syntax type (Some section) warning = if is_known_section type section then Some warning else None
-
--- the warning that an item gives in a file of this unit
+-- the warning that an item gives in a file of this unit: the head of a section that isn't known, unless that is foreign; of what stands in
+-- such a section nothing gives one
 abbrev pub warning_of : List ℕ → Option (List ℕ) → Item → Option WarningKind
-warning_of unit section (Section name line) = head_warning (suffix_of unit) name
-warning_of unit section (Assignment key value line whole) = warning_of_assignment unit section key value
-warning_of unit section (Warned warning line) = warning_of_syntax (suffix_of unit) section warning
+warning_of unit section (Section name line) = if is_known_section (suffix_of unit) name || is_foreign name then None else Some UnknownSection
+warning_of unit None (Assignment key value line whole) = None
+warning_of unit (Some section) (Assignment key value line whole) =
+    if is_known_section (suffix_of unit) section then assignment_warning unit section key value else None
+warning_of unit None (Warned warning line) = Some warning
+warning_of unit (Some section) (Warned warning line) = if is_known_section (suffix_of unit) section then Some warning else None
 
 -- a warning of a unit: its kind, the path of the file and the line
 pub record Warning : Type 0 where

@@ -231,31 +231,21 @@ pub enum TypeSaid {
     Unserved,
 }
 
-fn is_unserved_type(value: &str) -> bool
-    ensures { result ≡ model.is_unserved_type value.now }
-{
-    value == "notify"
-        || value == "notify-reload"
-        || value == "dbus"
-        || value == "forking"
-        || value == "idle"
-}
-
 /// What a value of `Type=` says, where it can be read (systemd.service(5)).
 #[tactic(auto, unfolding(um_model::specs::Units::type_said))]
 pub fn type_said(value: &str) -> Option<TypeSaid>
     ensures { option_map said_of result ≡ model.type_said value.now }
 {
-    if value == "simple" {
-        Some(TypeSaid::Served(UnitKind::Simple))
-    } else if value == "exec" {
-        Some(TypeSaid::Served(UnitKind::Exec))
-    } else if value == "oneshot" {
-        Some(TypeSaid::Served(UnitKind::Oneshot))
-    } else if is_unserved_type(value) {
-        Some(TypeSaid::Unserved)
-    } else {
-        None
+    match value {
+        "simple" => Some(TypeSaid::Served(UnitKind::Simple)),
+        "exec" => Some(TypeSaid::Served(UnitKind::Exec)),
+        "oneshot" => Some(TypeSaid::Served(UnitKind::Oneshot)),
+        "notify" => Some(TypeSaid::Unserved),
+        "notify-reload" => Some(TypeSaid::Unserved),
+        "dbus" => Some(TypeSaid::Unserved),
+        "forking" => Some(TypeSaid::Unserved),
+        "idle" => Some(TypeSaid::Unserved),
+        _ => None,
     }
 }
 

@@ -8,6 +8,7 @@ ghost use Rattle.um_model.specs.Units as model;
 ghost use Rattle.um_syntax.specs.Items.{item_of};
 ghost use Rattle.um_unit.specs.Readings.{fits_use};
 ghost use Rattle.um_unit.specs.Sources.{source_of};
+ghost use Rattle.um_unit.specs.Tests as tests;
 ghost use Rattle.um_unit.specs.View.{warning_of};
 
 use crate::assignments::{Source, section_after};
@@ -105,7 +106,7 @@ fn assignment_warning(
 }
 
 fn head_warning(suffix: Suffix, name: &str) -> Option<WarningKind>
-    ensures { result ≡ model.head_warning (Some suffix) name.now }
+    ensures { result ≡ tests.head_warning (Some suffix) name.now }
 {
     if is_known_section(suffix, name) || is_foreign(name) {
         None
@@ -122,7 +123,7 @@ fn warning_of_assignment(
     key: &str,
     value: &str,
 ) -> Result<Option<WarningKind>, AllocError>
-    ensures { IfOk result (λ w. w ≡ model.warning_of_assignment unit.now (option_map (λ s. s.now) section.entry) key.now value.now) }
+    ensures { IfOk result (λ w. w ≡ tests.warning_of_assignment unit.now (option_map (λ s. s.now) section.entry) key.now value.now) }
 {
     match section {
         Some(section) if is_known_section(unit.suffix(), section) => assignment_warning(
@@ -137,7 +138,7 @@ fn warning_of_syntax(
     section: Option<&str>,
     kind: WarningKind,
 ) -> Option<WarningKind>
-    ensures { result ≡ model.warning_of_syntax (Some suffix) (option_map (λ s. s.now) section.entry) kind }
+    ensures { result ≡ tests.warning_of_syntax (Some suffix) (option_map (λ s. s.now) section.entry) kind }
 {
     match section {
         Some(section) if !is_known_section(suffix, section) => None,
