@@ -1,4 +1,4 @@
--- The files by which a runner tells the manager of a process, and what a runner does.
+-- The files by which a runner tells the manager of a process, and its command line.
 -- Follows wait(2) in codes, signals and pids; the files are this project's own (docs/FORMATS.md, "The files of a process").
 -- The runner and the manager's children stand on this file, and the laws in proofs/RunnerLaws.
 use Rattle.std.specs.Prelude.{ℕ, ◌<◌, ◌^◌, Bool, true, false, ◌&&◌, ◌==◌, if◌then◌else◌, List, [], ◌∷◌, ◌++◌, length, reverse, find}
@@ -26,10 +26,6 @@ ending_of StatusDraft = codes ".status.new"
 -- the name of a file of this process number
 abbrev pub file_name : ℕ → RunnerFile → List ℕ
 file_name number file = decimal number ++ ending_of file
-
--- its path, where the folder is this one
-abbrev pub file_path : List ℕ → ℕ → RunnerFile → List ℕ
-file_path folder number file = folder ++ (codes "/" ++ file_name number file)
 
 -- ---- texts
 
@@ -70,56 +66,9 @@ pub data TellsEnd (text : List ℕ) : End → Type 0 where
   told : {end : End} → IsStatus text end → TellsEnd text end
   odd : ((end : End) → IsStatus text end → ⊥) → TellsEnd text Lost
 
--- ---- the environment
-
-abbrev pub is_entry_sign : ℕ → Bool
-is_entry_sign b = b == 61
-
--- the value that the entries NAME=value set the variable to: of equal names the later counts
-abbrev pub entry_value : List (List ℕ) → List ℕ → Option (List ℕ)
-entry_value entries name =
-    option_map (λ entry. after_first is_entry_sign entry) (find (λ entry. bytes_eq (before_first is_entry_sign entry) name) (reverse entries))
-
 -- ---- the command line
 
 -- the words of a runner, behind `umd run`: the folder, the number, how many entries there are, the entries and the words of the command
 abbrev pub runner_words : (folder : List ℕ) (number : ℕ) (entries words : List (List ℕ)) → List (List ℕ)
 runner_words folder number entries words =
     codes "--dir" ∷ folder ∷ codes "--number" ∷ decimal number ∷ codes "--env" ∷ decimal (length entries) ∷ codes "--" ∷ (entries ++ words)
-
--- ---- the life of a runner
-
--- what came of claiming a number: it is this runner's, somebody's claim stood there, or the folder refused it
-pub data Claimed : Type 0 where
-  Ours : Claimed
-  Taken : Claimed
-  Refused : Claimed
-
--- what a runner does, with what the system answers
-pub data Deed : Type 0 where
-  -- the number is claimed
-  Claims : (claimed : Claimed) → Deed
-  -- the words are started as a command, with these entries set over the runner's own environment; there is a pid where that went well
-  Starts : (words entries : List (List ℕ)) (pid : Option ℕ) → Deed
-  -- a file is given this text, whole; or the folder refuses it
-  Writes : (file : RunnerFile) (text : List ℕ) (is_done : Bool) → Deed
-  -- the process is waited for
-  Waits : (end : End) → Deed
-
--- a command that can't be executed ends so
-abbrev pub not_executed : End
-not_executed = Code 203
-
--- the whole life of a runner for these words and entries, and whether the folder took all that was to be told
-pub data Life (words entries : List (List ℕ)) : List Deed → Bool → Type 0 where
-  -- somebody has the number: nothing is started
-  yields : Life words entries (Claims Taken ∷ []) true
-  -- nobody may start what can't be claimed
-  fails : Life words entries (Claims Refused ∷ []) false
-  -- the command can't be executed: there is no pid
-  refuses : (told : Bool) → Life words entries (Claims Ours ∷ Starts words entries None ∷ Writes Status (status_text not_executed) told ∷ []) told
-  -- the command runs, and its end is told behind its pid, also where the pid couldn't be
-  runs : (pid : ℕ) (end : End) (told_pid told : Bool)
-      → Life words entries
-      (Claims Ours ∷ Starts words entries (Some pid) ∷ Writes Pid (pid_text pid) told_pid ∷ Waits end ∷ Writes Status (status_text end) told ∷ [])
-      (told_pid && told)

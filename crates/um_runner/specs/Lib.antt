@@ -1,3 +1,4 @@
+pub mod Deeds
 pub mod Numerals
 pub mod Jobs
 pub mod RunnerLines
