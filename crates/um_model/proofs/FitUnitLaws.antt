@@ -62,7 +62,7 @@ module _ {A : Type 0} (P : A → Type 0) where
   last_holds default (x ∷ xs) first others = last_holds x xs (others x (inl refl)) (λ y later. others y (inr later))
 
   -- what is read last, where it holds of the default and of all that can be read
-  read_holds : (read : List ℕ → Option A) (default : A) (values : List (List ℕ)) → P default → ((value : List ℕ) (a : A) → read value ≡ Some a → P a) → P (last_read read default values)
+  read_holds : (read : List ℕ → Option A) (default : A) (values : List (List ℕ)) → P default → ((value : List ℕ) (a : A) → read value ≡ Some a → P a) → P (last_or default (filter_map read values))
   read_holds read default values first each =
       last_holds default (filter_map read values) first (λ x among. let found = from_filter_map read values x among in each found.0 x found.2)
 

@@ -25,6 +25,8 @@ use Rattle.um_model.specs.Jobs.{JobShown, with_job}
 use Rattle.um_model.specs.Spellings.{FitUnitName}
 use Rattle.um_model.specs.Refusals.{Refused}
 use Rattle.um_model.specs.StateSpellings.{is_job_before}
+use Rattle.um_model.specs.Bytes.{Spelling, text_spelling}
+use Rattle.um_model.specs.Weight.{text_of_entry}
 
 -- a unit is found, unless there is a reason why it can't be loaded
 abbrev pub found_unless : Option (List ℕ) → LoadedUnit → Loading
@@ -112,3 +114,7 @@ cause b r = if b then Some r else None
 -- the job comes before the next one, where there is one
 abbrev pub is_before_next : JobShown → List JobShown → Bool
 is_before_next j more = option_map_or (is_job_before j) (slice_get more 0) true
+
+-- what stands behind the tag of an entry
+abbrev pub entry_fields : Spelling Entry
+entry_fields e = text_spelling (text_of_entry e)

@@ -35,9 +35,8 @@ pub record IsInFront (front bytes : List ℕ) : Type 0 where
 
 -- the value of a reading behind which nothing is left
 abbrev pub nothing_left : {V : Type 0} → Option (V × List ℕ) → Option V
-nothing_left None = None
 nothing_left (Some (v, [])) = Some v
-nothing_left (Some (v, b ∷ rest)) = None
+nothing_left other = None
 
 infixl 10 ◌>>=◌
 -- what the second makes of the first, where there is one
@@ -142,8 +141,7 @@ truths = false ∷ true ∷ []
 
 -- 0 where there is no value; else 1 and the value
 abbrev pub option_spelling : {A : Type 0} → Spelling A → Spelling (Option A)
-option_spelling one None = 0 ∷ []
-option_spelling one (Some x) = 1 ∷ one x
+option_spelling one o = option_map_or (λ x. 1 ∷ one x) o (0 ∷ [])
 
 -- no value behind a 0, one behind a 1
 abbrev pub option_at : {A : Type 0} → Reading A → Reading (Option A)

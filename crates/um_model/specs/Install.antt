@@ -49,12 +49,11 @@ path_in_etc unit place = path_text (record { layer = Etc; unit = unit; place = p
 
 -- WantedBy=, RequiredBy= and Alias= ask for a link each, to the unit's file
 abbrev pub links_to : InstallSettings → Option (List ℕ) → Option (List ℕ) → List LinkAt
-links_to install None path = []
-links_to install (Some name) None = []
 links_to install (Some name) (Some path) =
     each (λ unit. link_at (path_in_etc unit (Wants name)) path) install.wanted_by
     ++ each (λ unit. link_at (path_in_etc unit (Requires name)) path) install.required_by
     ++ each (λ alias. link_at (path_in_etc alias Unit) path) install.alias
+links_to install name path = []
 
 -- the links that a unit asks for, by what was found of it
 abbrev pub links_of : Loading → List LinkAt

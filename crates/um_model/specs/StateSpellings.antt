@@ -24,6 +24,7 @@ use Rattle.um_model.specs.declared.jobs.JobState.{JobState}
 use Rattle.um_model.specs.declared.jobs.UnitJobs.{UnitJobs}
 use Rattle.um_model.specs.declared.limit.Counted.{Counted}
 use Rattle.um_model.specs.declared.service.UnitState.{UnitState}
+use Rattle.um_model.specs.Weight.{text_of_entry}
 
 -- ---- a tree: a map from paths to files and links
 
@@ -32,14 +33,9 @@ abbrev pub entry_tag : Entry → ℕ
 entry_tag (File text) = 0
 entry_tag (Link target) = 1
 
--- the text of a file, or the target of a link
-abbrev pub entry_fields : Spelling Entry
-entry_fields (File text) = text_spelling text
-entry_fields (Link target) = text_spelling target
-
 -- the tag, and what stands behind it
 abbrev pub entry_spelling : Spelling Entry
-entry_spelling e = entry_tag e ∷ entry_fields e
+entry_spelling e = entry_tag e ∷ text_spelling (text_of_entry e)
 
 -- the entries by their tags
 abbrev pub entry_arms : List (Reading Entry)
@@ -51,8 +47,7 @@ entry_at = choice_at (arm_in entry_arms)
 
 -- an entry that has bytes: its text or target has some
 abbrev pub FitEntry : Entry → Type 0
-FitEntry (File text) = FitText text
-FitEntry (Link target) = FitText target
+FitEntry e = FitText (text_of_entry e)
 
 -- each text is a key
 abbrev pub any_text : List ℕ → Bool

@@ -111,19 +111,19 @@ next_stop s c u = if has_place s.stop (u.index + 1) then stop_command s c u (u.i
 abbrev pub lacks_number : UnitState → Change
 lacks_number u = start_fails (rests_for_good (record u { result = result.Resources }))
 
+-- the unit starts so, where there is a number for the process
+abbrev pub starts_so : Around → UnitState → Change → Change
+starts_so c u change = if has_number c then change else lacks_number u
+
 -- the ExecStart= command at this place is started as the main process, and the start goes on
 abbrev pub start_command : ServiceSettings → Around → UnitState → ℕ → Change
 start_command s c u i =
-    if has_number c
-    then asking (Spawn OfStart i) (just (record u { sub = Start; main = Some c.next; deadline = deadline_after c.moment s.timeout_start }))
-    else lacks_number u
+    starts_so c u (asking (Spawn OfStart i) (just (record u { sub = Start; main = Some c.next; deadline = deadline_after c.moment s.timeout_start })))
 
 -- simple: the main process is started, and the start is done
 abbrev pub start_simple : Around → UnitState → Change
 start_simple c u =
-    if has_number c
-    then start_ends (asking (Spawn OfStart 0) (just (record u { sub = Running; main = Some c.next; deadline = None })))
-    else lacks_number u
+    starts_so c u (start_ends (asking (Spawn OfStart 0) (just (record u { sub = Running; main = Some c.next; deadline = None }))))
 
 -- oneshot: its first command is started; without one it has exited
 abbrev pub start_oneshot : ServiceSettings → Around → UnitState → Change
@@ -152,10 +152,7 @@ exits s c u = if s.remains then just (record u { sub = Exited; deadline = None }
 
 -- the oneshot's next command is started as its main process
 abbrev pub next_command : Around → UnitState → ℕ → Change
-next_command c u i =
-    if has_number c
-    then asking (Spawn OfStart i) (just (record u { main = Some c.next; index = i }))
-    else lacks_number (record u { index = i })
+next_command c u i = starts_so c (record u { index = i }) (asking (Spawn OfStart i) (just (record u { main = Some c.next; index = i })))
 
 -- a command of a oneshot ended well: the next one, or the start is done
 abbrev pub next_start : ServiceSettings → Around → UnitState → Change

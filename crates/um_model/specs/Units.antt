@@ -95,9 +95,9 @@ abbrev pub last_or : {A : Type 0} → A → List A → A
 last_or default [] = default
 last_or default (value ∷ values) = last_or value values
 
--- a single value: the last that can be read
-abbrev pub last_read : {A : Type 0} → (List ℕ → Option A) → A → List (List ℕ) → A
-last_read read default values = last_or default (filter_map read values)
+-- a single value: of all assignments to these keys the last that can be read
+abbrev pub last_read : {A : Type 0} → (List ℕ → Option A) → A → List Key → List Assigned → A
+last_read read default keys assigned = last_or default (filter_map read (values_of keys assigned))
 
 -- a list that an empty value clears: all that the values behind the last empty one say
 abbrev pub since_empty : List (List ℕ) → List (List ℕ)
@@ -130,7 +130,7 @@ dependencies_of unit assigned = record {
   binds_to = units_named (codes "BindsTo") unit assigned;
   part_of = units_named (codes "PartOf") unit assigned;
   conflicts = units_named (codes "Conflicts") unit assigned;
-  default_dependencies = last_read boolean_of true (values_of (in_unit (codes "DefaultDependencies") ∷ []) assigned);
+  default_dependencies = last_read boolean_of true (in_unit (codes "DefaultDependencies") ∷ []) assigned;
 }
 
 -- what enabling the unit makes
@@ -158,7 +158,7 @@ install_settings_of unit assigned = record {
   wanted_by = names_of is_unit_name unit (since_empty (values_of (in_install (codes "WantedBy") ∷ []) assigned));
   required_by = names_of is_unit_name unit (since_empty (values_of (in_install (codes "RequiredBy") ∷ []) assigned));
   also = names_of is_unit_name unit (values_of (in_install (codes "Also") ∷ []) assigned);
-  default_instance = last_read default_instance_in None (values_of (in_install (codes "DefaultInstance") ∷ []) assigned);
+  default_instance = last_read default_instance_in None (in_install (codes "DefaultInstance") ∷ []) assigned;
 }
 
 -- what Type= says: a type that is served, or one that isn't; any other word can't be read
@@ -179,7 +179,7 @@ type_said value = lookup (bytes_eq value) types
 
 -- Type= of the unit
 abbrev pub type_of : List Assigned → TypeSaid
-type_of assigned = last_read type_said Unsaid (values_of (in_service (codes "Type") ∷ []) assigned)
+type_of assigned = last_read type_said Unsaid (in_service (codes "Type") ∷ []) assigned
 
 -- simple where nothing is said and a command is left, oneshot where neither is given
 abbrev pub kind_by : TypeSaid → List Command → UnitKind
@@ -256,17 +256,14 @@ service_settings_with start kind unit assigned = record {
   start = start;
   stop = commands_of (codes "ExecStop") unit assigned;
   environment = environment_of unit assigned;
-  remains = last_read boolean_of false (values_of (in_service (codes "RemainAfterExit") ∷ []) assigned);
-  restart = last_read policy_named No (values_of (in_service (codes "Restart") ∷ []) assigned);
-  restart_delay = last_read span_said (Some default_restart_delay) (values_of (in_service (codes "RestartSec") ∷ []) assigned);
-  timeout_start =
-      last_read timeout_said (default_timeout_start kind) (values_of (in_service (codes "TimeoutStartSec") ∷ in_service (codes "TimeoutSec") ∷ []) assigned);
-  timeout_stop =
-      last_read timeout_said (Some default_timeout) (values_of (in_service (codes "TimeoutStopSec") ∷ in_service (codes "TimeoutSec") ∷ []) assigned);
+  remains = last_read boolean_of false (in_service (codes "RemainAfterExit") ∷ []) assigned;
+  restart = last_read policy_named No (in_service (codes "Restart") ∷ []) assigned;
+  restart_delay = last_read span_said (Some default_restart_delay) (in_service (codes "RestartSec") ∷ []) assigned;
+  timeout_start = last_read timeout_said (default_timeout_start kind) (in_service (codes "TimeoutStartSec") ∷ in_service (codes "TimeoutSec") ∷ []) assigned;
+  timeout_stop = last_read timeout_said (Some default_timeout) (in_service (codes "TimeoutStopSec") ∷ in_service (codes "TimeoutSec") ∷ []) assigned;
   limit_interval =
-      last_read span_said (Some default_limit_interval)
-      (values_of (in_unit (codes "StartLimitIntervalSec") ∷ in_service (codes "StartLimitInterval") ∷ []) assigned);
-  limit_burst = last_read number_of default_limit_burst (values_of (in_unit (codes "StartLimitBurst") ∷ in_service (codes "StartLimitBurst") ∷ []) assigned);
+      last_read span_said (Some default_limit_interval) (in_unit (codes "StartLimitIntervalSec") ∷ in_service (codes "StartLimitInterval") ∷ []) assigned;
+  limit_burst = last_read number_of default_limit_burst (in_unit (codes "StartLimitBurst") ∷ in_service (codes "StartLimitBurst") ∷ []) assigned;
   success = exits_in (codes "SuccessExitStatus") assigned;
   prevents_restart = exits_in (codes "RestartPreventExitStatus") assigned;
   forces_restart = exits_in (codes "RestartForceExitStatus") assigned;
@@ -287,7 +284,7 @@ pub record Settings : Type 0 where
 
 abbrev pub settings_of : List ℕ → List Assigned → Settings
 settings_of unit assigned = record {
-  description = last_read (λ value. result_ok (text_reading unit value)) [] (values_of (in_unit (codes "Description") ∷ []) assigned);
+  description = last_read (λ value. result_ok (text_reading unit value)) [] (in_unit (codes "Description") ∷ []) assigned;
   dependencies = dependencies_of unit assigned;
   service = service_settings_of (suffix_of unit) unit assigned;
   install = install_settings_of unit assigned;

@@ -43,7 +43,7 @@ pub fn last_read<R: Reader>(
     default: R::Said,
 ) -> Result<R::Said, AllocError>
     ensures { IfOk result (λ last. R.seen last
-        ≡ model.last_read (R.meaning reader.now) (R.seen default) (model.values_of (map (λ k. (k.0.now, k.1.now)) keys.now) (map assigned_of assigned.now))) }
+        ≡ model.last_read (R.meaning reader.now) (R.seen default) (map (λ k. (k.0.now, k.1.now)) keys.now) (map assigned_of assigned.now)) }
 {
     let mut last = default;
     for value in &values_of(alloc, assigned, keys)? {
