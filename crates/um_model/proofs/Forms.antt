@@ -1,10 +1,10 @@
 -- Parts of definitions, by names that the laws of them use.
 use Rattle.std.specs.Prelude.{◌+◌, ◌-◌, Bool, true, nat_le, nat_eq, length, take, List, [], ◌∷◌, ℕ, Option, Some, None, if◌then◌else◌, is_some, is_none, not, ◌&&◌, ◌==◌}
-use Rattle.std.specs.List.{list_any, ends_with, slice_get}
+use Rattle.std.specs.List.{list_any, ends_with, slice_get, list_all}
 use Rattle.std.specs.Str.{is_utf8}
 use Rattle.std.specs.Option.{option_map_or, option_and_then, option_to_list}
 use Rattle.um_model.specs.Moments.{span_limit}
-use Rattle.um_model.specs.Names.{suffix_text}
+use Rattle.um_model.specs.Names.{suffix_text, is_instance_byte, byte_escape, escape_of}
 use Rattle.um_model.specs.Pieces.{Front, Gives, Unreadable}
 use Rattle.um_model.specs.Resolution.{DropIn, is_of_same_type}
 use Rattle.um_model.specs.Substitution.{Variable, value_of}
@@ -118,3 +118,15 @@ is_before_next j more = option_map_or (is_job_before j) (slice_get more 0) true
 -- what stands behind the tag of an entry
 abbrev pub entry_fields : Spelling Entry
 entry_fields e = text_spelling (text_of_entry e)
+
+-- an instance with the `@` before it
+abbrev pub instance_text : Option (List ℕ) → List ℕ
+instance_text instance = option_map_or (λ text. 64 ∷ text) instance []
+
+-- where there is an instance, it has its bytes alone
+abbrev pub is_fit_instance : Option (List ℕ) → Bool
+is_fit_instance instance = option_map_or (list_all is_instance_byte) instance true
+
+-- how the first byte of a text is escaped
+abbrev pub first_escape_of : ℕ → List ℕ
+first_escape_of b = if b == 46 then byte_escape b else escape_of b

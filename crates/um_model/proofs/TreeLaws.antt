@@ -17,7 +17,7 @@ use Rattle.std.proofs.lemmas.List.Prefix.{end_rest}
 use Rattle.std.proofs.lemmas.List.Sums.{count_by-le-length, length-filter, split_at_first, passes_at_first}
 use Rattle.std.proofs.lemmas.Option.{same_Some}
 use Rattle.std.proofs.lemmas.Slice.Eq.{bytes_eq-Decides, starts_is}
-use Rattle.um_model.specs.Names.{is_prefix_byte, is_instance_byte, is_fit_instance, instance_text, suffix_text, is_unit_name, is_template}
+use Rattle.um_model.specs.Names.{is_prefix_byte, is_instance_byte, suffix_text, is_unit_name, is_template}
 use Rattle.um_model.specs.Refusals.{Refused}
 use Rattle.um_model.specs.Tree.{layer_text, Place, Unit, DropIn, Wants, Requires, place_text, PathParts, is_drop_in_name, is_plain_name, is_fit_place, IsPathOf, is_slash, behind, before, around_slash, layer_and_rest, place_in, unit_and_place, path_parts, Entry, File, Link, Tree, IsTree, entry_limit, text_limit, is_served, is_fit_entry, is_fit_target, is_link, is_other_than_link, is_full_for, put_cause, link_cause, is_volatile, has_run, without_run, path_text, are_fit}
 use Rattle.um_model.specs.declared.names.Suffix.{Suffix}
@@ -25,7 +25,7 @@ use Rattle.um_model.specs.declared.names.Suffix.TheVariants.{Service, Socket, De
 use Rattle.um_model.specs.declared.tree.Layer.{Layer}
 use Rattle.um_model.specs.declared.tree.Layer.TheVariants.{Etc, Run, Lib}
 use Rattle.um_model.proofs.NamesLaws.{named_by_parts}
-use Rattle.um_model.proofs.Forms.{where_fit, is_fit_at}
+use Rattle.um_model.proofs.Forms.{where_fit, is_fit_at, instance_text, is_fit_instance}
 use Rattle.um_model.specs.Bytes.{◌>>=◌}
 
 tied : (o : Ordering) → is_eq o ≡ true → o ≡ Equal

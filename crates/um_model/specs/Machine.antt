@@ -156,12 +156,10 @@ pub data Reply : Type 0 where
 abbrev pub shown_without_settings : List ℕ → LoadState → UnitState → UnitShown
 shown_without_settings unit load state = record { id = unit; load = load; description = []; warnings = []; state = state }
 
-abbrev pub shown_of_loaded : LoadedUnit → UnitState → UnitShown
-shown_of_loaded l state = record { id = l.name; load = load_state.Loaded; description = l.settings.description; warnings = l.warnings; state = state }
-
 -- a description and warnings are shown of a loaded unit alone
 abbrev pub shown_of : List ℕ → Loading → UnitState → UnitShown
-shown_of asked (Found l) state = shown_of_loaded l state
+shown_of asked (Found l) state =
+    record { id = l.name; load = load_state.Loaded; description = l.settings.description; warnings = l.warnings; state = state }
 shown_of asked (Masked unit) state = shown_without_settings unit load_state.Masked state
 shown_of asked NotFound state = shown_without_settings asked load_state.NotFound state
 shown_of asked (BadSetting unit reason) state = shown_without_settings unit load_state.BadSetting state

@@ -39,23 +39,15 @@ pub record NameParts : Type 0 where
   pub instance : Option (List ℕ)
   pub suffix : Suffix
 
--- an instance with the `@` before it
-abbrev pub instance_text : Option (List ℕ) → List ℕ
-instance_text instance = option_map_or (λ text. 64 ∷ text) instance []
-
--- the parts one behind the other
+-- the parts one behind the other, with an `@` before an instance
 abbrev pub name_text : NameParts → List ℕ
-name_text p = p.prefix ++ (instance_text p.instance ++ suffix_text p.suffix)
+name_text p = p.prefix ++ (option_map_or (λ instance. 64 ∷ instance) p.instance [] ++ suffix_text p.suffix)
 
--- where there is an instance, it has its bytes alone; it may be empty
-abbrev pub is_fit_instance : Option (List ℕ) → Bool
-is_fit_instance instance = option_map_or (list_all is_instance_byte) instance true
-
--- the prefix isn't empty, and each part has its bytes alone
+-- the prefix isn't empty, and each part has its bytes alone; an instance may be empty
 pub record AreFit (p : NameParts) : Type 0 where
   pub some : 0 < length p.prefix
   pub prefix_bytes : list_all is_prefix_byte p.prefix ≡ true
-  pub instance_bytes : is_fit_instance p.instance ≡ true
+  pub instance_bytes : option_map_or (list_all is_instance_byte) p.instance true ≡ true
 
 -- a unit name has at most so many bytes
 abbrev pub name_limit : ℕ
@@ -141,14 +133,10 @@ is_plain_byte b = is_letter b || is_digit b || b == 58 || b == 95 || b == 46
 abbrev pub escape_of : ℕ → List ℕ
 escape_of b = if b == 47 then 45 ∷ [] else (if is_plain_byte b then b ∷ [] else byte_escape b)
 
--- a dot at the front doesn't stay
-abbrev pub first_escape_of : ℕ → List ℕ
-first_escape_of b = if b == 46 then byte_escape b else escape_of b
-
--- the bytes as a text that can stand in a name
+-- the bytes as a text that can stand in a name; a dot at the front doesn't stay
 abbrev pub escaped : List ℕ → List ℕ
 escaped [] = []
-escaped (b ∷ bs) = first_escape_of b ++ flat_map escape_of bs
+escaped (b ∷ bs) = (if b == 46 then byte_escape b else escape_of b) ++ flat_map escape_of bs
 
 -- 0 to 9, a to f
 abbrev pub is_hex_digit : ℕ → Bool

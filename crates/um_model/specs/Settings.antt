@@ -32,9 +32,6 @@ has_place commands i = nat_lt i (length commands) && nat_lt i place_limit
 abbrev pub has_dash : ServiceSettings → CommandList → ℕ → Bool
 has_dash s which i = option_map_or (λ c. c.ignores_failure) (slice_get (commands_in s which) i) false
 
--- a variable as a process is given it: `NAME=value`
-abbrev pub variable_text : Variable → List ℕ
-variable_text v = v.name ++ (61 ∷ v.value)
-
+-- the environment as a process is given it: `NAME=value`
 abbrev pub environment_texts : ServiceSettings → List (List ℕ)
-environment_texts s = map variable_text s.environment
+environment_texts s = map (λ v. v.name ++ (61 ∷ v.value)) s.environment
