@@ -191,8 +191,8 @@ unit_of (sub, (result, (main, (control, (index, (deadline, (window, (asked, last
 -- each field behind the one before
 abbrev pub unit_at : Reading UnitState
 unit_at =
-    as_at unit_of (pair_at (table_at sub_states) (pair_at (table_at results) (pair_at (option_at process_at) (pair_at (option_at process_at) (pair_at (number_at 4)
-    (pair_at (option_at deadline_at) (pair_at (option_at counted_at) (pair_at (table_at truths) (option_at end_at)))))))))
+    as_at unit_of (pair_at (table_at sub_states) (pair_at (table_at results) (pair_at (option_at process_at) (pair_at (option_at process_at)
+    (pair_at (number_at 4) (pair_at (option_at deadline_at) (pair_at (option_at counted_at) (pair_at (table_at truths) (option_at end_at)))))))))
 
 -- a unit that has bytes: what stands in its fields has some
 pub record FitUnit (u : UnitState) : Type 0 where

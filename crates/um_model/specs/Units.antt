@@ -341,7 +341,8 @@ value_warning unit kind.Refused value = None
 
 -- an assignment in a known section: an unknown key, unless it is foreign, or a value that can't be read
 abbrev pub assignment_warning : List ℕ → List ℕ → List ℕ → List ℕ → Option WarningKind
-assignment_warning unit section key value = if is_foreign key then None else option_map_or (λ kind. value_warning unit kind value) (kind_of_key section key) (Some UnknownKey)
+assignment_warning unit section key value =
+    if is_foreign key then None else option_map_or (λ kind. value_warning unit kind value) (kind_of_key section key) (Some UnknownKey)
 
 -- the warning that an item gives in a file of this unit: the head of a section that isn't known, unless that is foreign; of what stands in
 -- such a section nothing gives one

@@ -97,7 +97,8 @@ time_front b bs =
 unfoldable pub span_of : List ℕ → Option TimeSpan
 span_of text =
     if bytes_eq text (codes "infinity") then Some Infinite
-    else (if is_blank text then None else option_and_then (λ n. if nat_le n span_limit then Some (Micros n) else None) (option_map sum (reading time_front text)))
+    else (if is_blank text then None
+    else option_and_then (λ n. if nat_le n span_limit then Some (Micros n) else None) (option_map sum (reading time_front text)))
 
 -- ---- sets of exits
 
