@@ -14,7 +14,7 @@ use Rattle.um_model.specs.Spellings.{FitEnd}
 use Rattle.um_model.specs.Ends.{is_clean, is_restart_wanted}
 use Rattle.um_model.specs.Transitions.{deadline_after, has_number, is_live, just, asking, start_ends, rests_for_good, awaits_restart, rests, terminates, stop_command, winds_down, next_stop, lacks_number, start_command, start_simple, start_of, starts_if, starts, exits, next_command, next_start, start_goes_on, executed, rests_unless_live, noted, without_main, without_control, timed_out, asked, is_well, row, is_going, transition, HasNumber}
 use Rattle.um_model.specs.Tree.{Tree}
-use Rattle.um_model.specs.Units.{Assigned, last_or, last_read, micros_in, timeout_in, span_said, timeout_said, default_timeout_start, service_settings_with, service_settings_of, LoadedUnit, Loading, Found, Masked, NotFound, BadSetting, loading_at, load}
+use Rattle.um_model.specs.Units.{Assigned, last_or, micros_in, timeout_in, span_said, timeout_said, default_timeout_start, service_settings_with, service_settings_of, LoadedUnit, Loading, Found, Masked, NotFound, BadSetting, loading_at, load}
 use Rattle.um_model.specs.Values.{number_limit, number_of, span_of}
 use Rattle.um_model.specs.Commands.{Command}
 use Rattle.um_model.specs.declared.limit.Counted.{Counted}

@@ -5,7 +5,7 @@ use Rattle.std.specs.Str.{is_utf8}
 use Rattle.std.specs.Option.{option_map_or, option_and_then, option_to_list}
 use Rattle.um_model.specs.Moments.{span_limit}
 use Rattle.um_model.specs.Names.{suffix_text, is_instance_byte, byte_escape, escape_of}
-use Rattle.um_model.specs.Pieces.{Front, Gives, Unreadable}
+use Rattle.um_model.specs.Pieces.{Front, Gives}
 use Rattle.um_model.specs.Resolution.{DropIn, is_of_same_type}
 use Rattle.um_model.specs.Substitution.{Variable, value_of}
 use Rattle.um_model.specs.Tree.{Entry, File, Link, PathParts, are_fit, is_fit_entry}

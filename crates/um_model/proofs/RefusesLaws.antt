@@ -1,5 +1,5 @@
 -- A command is refused by a number up to 14, or by 21: the numbers of memory, of stores and of devices are not among them.
-use Rattle.std.proofs.Common.{ℕ, nat_lt, ◌≡◌, ◌⊎◌, inl, inr, ◌≤◌, Bool, true, false, not, List, ◌∷◌, [], length, Option, Some, None, is_none, Err, refl, sym, subst, arith}
+use Rattle.std.proofs.Common.{ℕ, nat_lt, ◌≡◌, ◌⊎◌, inl, inr, ◌≤◌, Bool, true, false, not, List, length, Option, Some, None, is_none, Err, refl, sym, subst, arith}
 use Rattle.std.specs.FinMap as map
 use Rattle.std.proofs.lemmas.Option.{none-some, same_Some}
 use Rattle.std.specs.Prelude.{cond}

@@ -1,13 +1,9 @@
 -- What is asked of the children of the manager and what they tell, as one history of calls, the oldest first.
 -- No manual page has this: processes under numbers are the project's own (docs/FORMATS.md, "The runner's files").
 -- Receipts, children and the running manager stand on this file.
-use Rattle.std.specs.Prelude.{◌≡◌, ◌∷◌, ◌++◌, ◌==◌, ◌&&◌, [], List, ℕ, Bool, true, false, Option, Some, None, Result, Ok, Err, flat_map}
-use Rattle.std.specs.List.{list_any}
-use Rattle.std.specs.Option.{option_map_or}
-use Rattle.std.specs.Result.{result_ok, is_ok}
+use Rattle.std.specs.Prelude.{◌∷◌, [], List, ℕ, Bool, false, Option, flat_map}
 use Rattle.um_model.specs.Service.{Action, SpawnProcess, SendSignal}
 use Rattle.um_model.specs.declared.children.Fate.{Fate}
-use Rattle.um_model.specs.declared.children.Fate.TheVariants.{Starting, Executed, Ended, Absent}
 use Rattle.um_model.specs.declared.service.Signal.{Signal}
 
 -- what is to be started: under which number, with which words and environment

@@ -1,7 +1,7 @@
 -- How the end of a process counts: clean ends, the result that an unclean one leaves, and whether a restart is wanted.
 -- Follows systemd.service(5), "SuccessExitStatus=", "Restart=", "RestartPreventExitStatus=" and "RestartForceExitStatus=".
 -- The service table stands on this file.
-use Rattle.std.specs.Prelude.{ℕ, ◌&&◌, ◌||◌, Bool, true, false, not, ◌==◌, Option, Some, None, ◌∷◌, List, []}
+use Rattle.std.specs.Prelude.{ℕ, ◌&&◌, ◌||◌, Bool, true, false, not, ◌==◌, ◌∷◌, List, []}
 use Rattle.std.specs.Option.{option_map_or}
 use Rattle.std.specs.List.{list_any}
 use Rattle.std.specs.Str.{bytes_eq}

@@ -1,7 +1,7 @@
 -- What a refusal tells: its number, its name and its details; and which of two causes is told.
 -- No manual page has this: it is the project's own protocol (docs/FORMATS.md, "Refusals").
 -- Every definition of a call that can refuse stands on this file.
-use Rattle.std.specs.Prelude.{ℕ, List, [], ◌∷◌, Bool, true, false, Option, Some, None, Result, Ok, Err, codes, decimal}
+use Rattle.std.specs.Prelude.{ℕ, List, [], ◌∷◌, Option, Some, None, Result, Ok, Err, codes, decimal}
 use Rattle.um_model.specs.declared.refusals.Limit.{Limit}
 use Rattle.um_model.specs.declared.refusals.Limit.TheVariants.{Frame, Text, Entries, Units, Reply}
 

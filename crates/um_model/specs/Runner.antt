@@ -1,9 +1,8 @@
 -- The files by which a runner tells the manager of a process, and its command line.
 -- Follows wait(2) in codes, signals and pids; the files are this project's own (docs/FORMATS.md, "The files of a process").
 -- The runner and the manager's children stand on this file, and the laws in proofs/RunnerLaws.
-use Rattle.std.specs.Prelude.{ℕ, ◌<◌, ◌^◌, Bool, true, false, ◌&&◌, ◌==◌, if◌then◌else◌, List, [], ◌∷◌, ◌++◌, length, reverse, find}
-use Rattle.std.specs.Prelude.{Option, Some, None, option_map, codes, decimal, bytes_eq}
-use Rattle.std.specs.List.{before_first, after_first}
+use Rattle.std.specs.Prelude.{ℕ, ◌<◌, ◌^◌, if◌then◌else◌, List, [], ◌∷◌, ◌++◌, length}
+use Rattle.std.specs.Prelude.{codes, decimal, bytes_eq}
 use Rattle.um_model.specs.declared.runner.Claimant.{Claimant}
 use Rattle.um_model.specs.declared.runner.Claimant.TheVariants.{Manager, Runner}
 use Rattle.um_model.specs.declared.runner.RunnerFile.{RunnerFile}

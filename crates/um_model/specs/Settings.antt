@@ -4,7 +4,6 @@
 use Rattle.std.specs.Prelude.{ℕ, ◌^◌, ◌&&◌, Bool, false, List, [], ◌∷◌, ◌++◌, length, map, nat_lt, slice_get}
 use Rattle.std.specs.Option.{option_map_or}
 use Rattle.um_model.specs.Commands.{Command}
-use Rattle.um_model.specs.Substitution.{Variable}
 use Rattle.um_model.specs.Units.{service_settings_with}
 pub use Rattle.um_model.specs.Units.{ServiceSettings}
 use Rattle.um_model.specs.declared.transition.CommandList.{CommandList}

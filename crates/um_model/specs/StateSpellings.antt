@@ -1,7 +1,7 @@
 -- Canonical bytes of the state of the manager: its trees, its units and its pending jobs.
 -- No manual page has this: it is the project's own format (docs/FORMATS.md, "Canonical bytes").
 -- The code that reads and writes states, and the slots of the store stand on this file.
-use Rattle.std.specs.Prelude.{◌≡◌, ℕ, nat_lt, nat_le, Bool, true, not, ◌&&◌, ◌==◌, List, [], ◌∷◌, ◌++◌, length, flat_map, Option, Some, None}
+use Rattle.std.specs.Prelude.{◌≡◌, ℕ, nat_lt, nat_le, Bool, true, not, ◌&&◌, ◌==◌, List, [], ◌∷◌, ◌++◌, length, flat_map}
 use Rattle.std.specs.List.{list_all}
 use Rattle.std.specs.Ordering.{is_lt, nat_cmp, ordering_then}
 use Rattle.std.specs.Cmp.Lexicographic.{slice_cmp}
@@ -14,15 +14,13 @@ use Rattle.um_model.specs.Names.{is_unit_name}
 use Rattle.um_model.specs.Tree.{Tree, Entry, File, Link, IsTree, is_fit_entry, entry_limit}
 use Rattle.um_model.specs.Service.{ByUnit, AreTidyUnits, holds_nothing}
 use Rattle.um_model.specs.Transitions.{live_numbers}
-use Rattle.um_model.specs.Jobs.{AreTidyJobs, JobShown, jobs, jobs_of_unit, jobs_shown, with_job}
+use Rattle.um_model.specs.Jobs.{AreTidyJobs, JobShown, jobs_of_unit, jobs_shown, with_job}
 use Rattle.um_model.specs.Machine.{State, boot_limit}
 use Rattle.um_model.specs.Spellings.{kind_tag, moment_at, FitMoment, next_at, FitNext, job_state_tag, kinds, job_states}
 use Rattle.um_model.specs.Spellings.{unit_name_at, FitUnitName, unit_spelling, unit_at, FitUnit}
 use Rattle.um_model.specs.declared.jobs.JobKind.{JobKind}
-use Rattle.um_model.specs.declared.jobs.JobKind.TheVariants as kind
 use Rattle.um_model.specs.declared.jobs.JobState.{JobState}
 use Rattle.um_model.specs.declared.jobs.UnitJobs.{UnitJobs}
-use Rattle.um_model.specs.declared.limit.Counted.{Counted}
 use Rattle.um_model.specs.declared.service.UnitState.{UnitState}
 use Rattle.um_model.specs.Weight.{text_of_entry}
 

@@ -1,8 +1,8 @@
 -- The manager's own tree: a finite map from served paths to files and links.
 -- Follows systemd.unit(5), "Unit File Load Path".
 -- Resolution, drop-ins, dependencies by links, enabling and the state stand on this file.
-use Rattle.std.specs.Prelude.{◌≡◌, ℕ, ◌-◌, ◌≤◌, nat_le, nat_lt, nat_eq, Bool, true, false, not, ◌&&◌, ◌||◌, ◌==◌, List, [], ◌∷◌, ◌++◌}
-use Rattle.std.specs.Prelude.{length, take, drop, Option, Some, None, is_none, is_some, option_map, option_and_then, Result, if◌then◌else◌, codes}
+use Rattle.std.specs.Prelude.{◌≡◌, ℕ, ◌-◌, ◌≤◌, nat_le, nat_lt, nat_eq, Bool, true, false, not, ◌&&◌, ◌||◌, ◌==◌, List, [], ◌++◌}
+use Rattle.std.specs.Prelude.{length, take, drop, Option, Some, None, is_none, is_some, option_map, Result, if◌then◌else◌, codes}
 use Rattle.std.specs.Option.{option_or, option_map_or}
 use Rattle.std.specs.List.{list_all, list_any, starts_with, ends_with, position_or_len, before_first, after_first, after_last}
 use Rattle.std.specs.Str.{bytes_eq}
