@@ -8,6 +8,7 @@ ghost use Rattle.um_model.specs.Units.{load as load_in};
 ghost use Rattle.um_state.specs.View.{state_of, query_of, reply_of, shown_of as shown_view};
 ghost use Rattle.um_model.specs.declared.install.Enabling.{Enabling};
 ghost use Rattle.um_unit.specs.View.{loading_of, unit_of};
+ghost use Rattle.um_answer.specs.Shown.{shown_of_loaded};
 
 use crate::listing::list_units;
 use crate::names::{name_in, text_of};
@@ -40,7 +41,7 @@ fn shown_without_settings(
 }
 
 fn shown_loaded(alloc: Global, unit: LoadedUnit, state: UnitState) -> Result<UnitShown, AllocError>
-    ensures { IfOk result (λ u. shown_view u ≡ model.shown_of_loaded (unit_of unit) state) }
+    ensures { IfOk result (λ u. shown_view u ≡ shown_of_loaded (unit_of unit) state) }
 {
     let LoadedUnit {
         name,

@@ -1,6 +1,7 @@
 //! Units that are missing: neither found in the loaded tree nor held in the state.
 
 ghost use Rattle.std.specs.Prelude.{◌≡◌};
+ghost use Rattle.um_answer.specs.Loaded.{is_found as finds};
 ghost use Rattle.um_model.specs.Machine as model;
 ghost use Rattle.um_model.specs.Refusals as told;
 ghost use Rattle.um_model.specs.Units.{load};
@@ -32,7 +33,7 @@ pub fn check_missing(
     asked: &UnitName,
     is_found: bool,
 ) -> Result<(), Refusal>
-    requires { is_found ≡ model.is_found (load (state_of state.now).loaded asked.now) }
+    requires { is_found ≡ finds (load (state_of state.now).loaded asked.now) }
     ensures { RefusesBy (model.IsMissing (state_of state.now) asked.now) result }
 {
     if is_found || state.units().holds(asked) {

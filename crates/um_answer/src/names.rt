@@ -1,8 +1,7 @@
 //! The name that counts for the one that was asked for.
 
 ghost use Rattle.std.specs.Prelude.{◌≡◌, string_bytes, IfOk, Contains};
-ghost use Rattle.um_answer.specs.Loaded.{Loads};
-ghost use Rattle.um_model.specs.Machine.{is_found};
+ghost use Rattle.um_answer.specs.Loaded.{Loads, is_found};
 ghost use Rattle.um_model.specs.Units.{load as load_in, name_in};
 ghost use Rattle.um_unit.specs.View.{loading_of};
 

@@ -6,7 +6,7 @@ use Rattle.um_keeper.specs.Opening.{Replays, no_more, and_then, IsTakenUp}
 use Rattle.um_model.proofs.StandsLaws.{store_of, one_layout, one_state}
 use Rattle.um_model.specs.Bytes.{◌>>=◌}
 use Rattle.um_model.specs.Disk.{Image, Images, Sector, seen}
-use Rattle.um_model.specs.Frames.{memory_size}
+use Rattle.um_bin.specs.Stores.{memory_size}
 use Rattle.um_model.specs.Machine.{State, Input, Run, rests, goes, empty_state}
 use Rattle.um_model.specs.Stands.{inputs_of, StandsFor, IsStoreOf}
 use Rattle.um_model.specs.Store.{body_limit}

@@ -7,7 +7,8 @@ use Rattle.um_bin.specs.Streams.{Comes, WritesFrom, BeginsFrom}
 use Rattle.um_bin.specs.declared.frames.Piece.TheVariants.{Frame, End}
 use Rattle.um_bin.specs.declared.serving.Manager.{Manager}
 use Rattle.um_model.proofs.FramesLaws.{serves_frame, serves_end}
-use Rattle.um_model.specs.Frames.{frame_of, Answers, last_reply, stops, in_reply, at_end, goes_on}
+use Rattle.um_model.specs.Frames.{frame_of, Answers, last_reply}
+use Rattle.um_bin.specs.Streams.{stops, in_reply, at_end, goes_on}
 use Rattle.um_model.specs.Machine.{State, Reply}
 use Rattle.um_model.specs.Replies.{reply_text}
 use Rattle.um_model.specs.Service.{Action}

@@ -1,11 +1,15 @@
 -- What a store in memory stands for, and what it refuses.
-use Rattle.std.specs.Prelude.{◌≡◌, ◌≢◌}
+use Rattle.std.specs.Prelude.{◌≡◌, ◌≢◌, ℕ}
 use Rattle.um_model.specs.Disk.{Image}
 use Rattle.um_model.specs.Machine.{State}
 use Rattle.um_model.specs.Stands.{IsStoreOf}
 use Rattle.um_model.specs.declared.layout.Layout.{Layout}
 use Rattle.um_wire.specs.declared.refusal.Refusal.{Refusal}
 use Rattle.um_wire.specs.declared.refusal.Refusal.TheVariants.{NoMemory, Device, Reopen, GenerationsSpent}
+
+-- the size of the store that `umd --memory` works over, in bytes
+abbrev pub memory_size : ℕ
+memory_size = 8388096
 
 -- if the image is a store of a state, then of this layout and of this state
 abbrev pub StandsIn : Image → Layout → State → Type 0

@@ -4,7 +4,8 @@ ghost use Rattle.um_bin.specs.Managers.{state_of, size_of, kept_of, StepsTo, IsA
 ghost use Rattle.um_bin.specs.Stores.{IsOfStep};
 ghost use Rattle.um_bin.specs.Streams.{WritesFrom, BeginsFrom};
 ghost use Rattle.um_keeper.specs.Keepers.{has_failed};
-ghost use Rattle.um_model.specs.Frames.{kept_after, last_reply, memory_size};
+ghost use Rattle.um_bin.specs.Stores.{memory_size};
+ghost use Rattle.um_model.specs.Frames.{kept_after, last_reply};
 ghost use Rattle.um_model.specs.Machine as model;
 ghost use Rattle.um_model.specs.Machine.{Told, empty_state};
 ghost use Rattle.um_model.specs.Replies.{reply_text, reply_limit};

@@ -2,7 +2,7 @@ ghost use Rattle.std.specs.Prelude.{◌≡◌, false, IfOk};
 ghost use Rattle.um_bin.specs.Stores.{StandsIn};
 ghost use Rattle.um_keeper.specs.Keepers.{state_in, size_in, layout_in, has_failed};
 ghost use Rattle.um_model.specs.Disk.{seen};
-ghost use Rattle.um_model.specs.Frames.{memory_size};
+ghost use Rattle.um_bin.specs.Stores.{memory_size};
 ghost use Rattle.um_model.specs.Machine.{empty_state};
 ghost use Rattle.um_model.specs.Store.{body_limit};
 ghost use Rattle.um_sector.specs.Memory.{history};

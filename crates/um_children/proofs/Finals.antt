@@ -3,9 +3,10 @@ use Rattle.std.proofs.Common.{Option, ◌≡◌, ℕ, Bool, true, false, ◌||�
 use Rattle.std.proofs.lemmas.Bool.{and_parts, eqb-true, true≢false}
 use Rattle.std.proofs.lemmas.List.{map-append}
 use Rattle.std.proofs.lemmas.List.Folds.{list_any-append}
-use Rattle.um_model.specs.Children.{Call, Spawned, Signalled, Asked, Spawn, IsFinal, has_started, was_absent, is_start, is_absence, tells_absent}
+use Rattle.um_model.specs.Children.{Call, Spawned, Signalled, Asked, Spawn}
 use Rattle.um_model.specs.declared.children.Fate.{Fate}
 use Rattle.um_model.specs.declared.service.Signal.{Signal}
+use Rattle.um_children.specs.History.{tells_absent, is_start, is_absence, has_started, was_absent, IsFinal}
 use Rattle.um_children.specs.Calls.{Fits, call_of, calls_of}
 use Rattle.um_children.specs.declared.call.Call as told
 

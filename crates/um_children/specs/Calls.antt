@@ -3,7 +3,7 @@
 -- Children in memory stand on this file.
 use Rattle.std.specs.Prelude.{◌≡◌, List, ℕ, true, false, map, string_bytes}
 use Rattle.um_model.specs.Children as model
-use Rattle.um_model.specs.Children.{has_started, was_absent, is_start, is_absence}
+use Rattle.um_children.specs.History.{is_start, is_absence, has_started, was_absent}
 use Rattle.um_children.specs.declared.call.Call.{Call}
 use Rattle.um_children.specs.declared.call.Call.TheVariants as call
 

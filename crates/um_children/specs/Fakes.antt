@@ -2,10 +2,11 @@
 -- No manual page has this: processes under numbers are the project's own.
 -- Children in memory stand on this file.
 use Rattle.std.specs.Prelude.{◌≡◌, ◌-◌, ◌==◌, ◌∷◌, [], List, ℕ, Bool, Option, Some, None, if◌then◌else◌}
-use Rattle.um_model.specs.Children.{Call, has_started}
+use Rattle.um_model.specs.Children.{Call}
 use Rattle.um_model.specs.declared.children.Fate.{Fate}
 use Rattle.um_model.specs.declared.children.Fate.TheVariants.{Starting, Executed, Ended, Absent}
 use Rattle.um_model.specs.declared.service.End.{End}
+use Rattle.um_children.specs.History.{has_started}
 
 -- the end of the number that was told first
 abbrev pub end_of : List (ℕ × End) → ℕ → Option End

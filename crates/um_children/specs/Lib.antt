@@ -1,3 +1,4 @@
+pub mod History
 pub mod Calls
 pub mod Commands
 pub mod Fakes

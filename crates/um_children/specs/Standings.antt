@@ -6,7 +6,7 @@ use Rattle.um_model.specs.declared.children.Fate.{Fate}
 use Rattle.um_model.specs.declared.children.Fate.TheVariants as fate
 use Rattle.um_model.specs.declared.service.Signal.{Signal}
 use Rattle.um_model.specs.declared.service.Signal.TheVariants.{Term, Kill}
-use Rattle.um_model.specs.declared.runner.Claimant.TheVariants.{Manager, Runner}
+use Rattle.um_runner.specs.declared.runner_file.Claimant.TheVariants.{Manager, Runner}
 use Rattle.um_runner.specs.declared.notes.Claiming.{Claiming}
 use Rattle.um_runner.specs.declared.notes.Claiming.TheVariants.{New, Stands}
 use Rattle.um_runner.specs.declared.notes.Told.{Told}

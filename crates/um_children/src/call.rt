@@ -1,5 +1,5 @@
 ghost use Rattle.std.specs.Prelude.{◌≡◌, ◌&&◌, false, IfOk, map, string_bytes};
-ghost use Rattle.um_model.specs.Children.{is_start, is_absence, tells_absent};
+ghost use Rattle.um_children.specs.History.{tells_absent, is_start, is_absence};
 ghost use Rattle.um_children.specs.Calls.{call_of};
 
 use std::alloc::{AllocError, Global};

@@ -1,5 +1,6 @@
 ghost use Rattle.std.specs.Prelude.{◌≡◌, ℕ, List, Bool, IsTrue, false, IfOk};
-ghost use Rattle.um_model.specs.Children.{Call, Spawns, Signals, Asks, IsFinal, is_absent};
+ghost use Rattle.um_model.specs.Children.{Call};
+ghost use Rattle.um_children.specs.History.{is_absent, IsFinal, Spawns, Signals, Asks};
 ghost use Rattle.um_children.specs.Faults.{CountsFault, KeepsWhole};
 
 use crate::fault::ChildFault;

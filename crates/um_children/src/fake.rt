@@ -1,6 +1,7 @@
 ghost use Rattle.std.specs.Prelude.{◌≡◌, ◌⊎◌, ◌∷◌, ◌++◌, [], List, IsTrue, true, false, not, if◌then◌else◌, is_ok, IfOk, OnOk, OnErr};
-ghost use Rattle.um_model.specs.Children.{IsFinal, is_absent, has_started, was_absent, Spawned, Asks, Spawns, Signals};
+ghost use Rattle.um_model.specs.Children.{Spawned};
 ghost use Rattle.um_model.specs.Disk.{one_more};
+ghost use Rattle.um_children.specs.History.{is_absent, has_started, was_absent, IsFinal, Spawns, Signals, Asks};
 ghost use Rattle.um_children.specs.Calls.{call_of, calls_of, Fits};
 ghost use Rattle.um_children.specs.Fakes.{fate_of, end_of, fuse_after, is_due};
 ghost use Rattle.um_children.specs.Faults.{CountsFault, KeepsWhole};

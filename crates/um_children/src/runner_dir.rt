@@ -1,6 +1,6 @@
 ghost use Rattle.std.specs.Prelude.{◌≡◌, ◌⊎◌, [], true, false, None, Ok, IfOk};
 ghost use Rattle.std.proofs.lemmas.Bool.{false≢true};
-ghost use Rattle.um_model.specs.Children.{is_absent};
+ghost use Rattle.um_children.specs.History.{is_absent};
 ghost use Rattle.um_children.specs.Faults.{CountsFault};
 
 use crate::children::Children;
@@ -17,8 +17,8 @@ use std::process::{Command, Processes, Stdio};
 use std::time::Clock;
 use std::{fs, io, mem};
 use um_keeper::SpawnOrder;
-use um_model::{Claimant, Fate, ProcessNumber, RunnerFile, Signal};
-use um_runner::{claim, file_path, pid_in, read_claim, status_in};
+use um_model::{Fate, ProcessNumber, Signal};
+use um_runner::{Claimant, RunnerFile, claim, file_path, pid_in, read_claim, status_in};
 
 /// The folder is the manager's own.
 const MODE: u32 = 0o700;

@@ -1,11 +1,11 @@
 //! How a number stands by the files of its runner.
 
 ghost use Rattle.std.specs.Prelude.{◌≡◌, false};
+ghost use Rattle.um_children.specs.History.{is_absent};
 ghost use Rattle.um_children.specs.Standings.{by_pid, claimed, fate_of, is_final, is_settled, stronger};
-ghost use Rattle.um_model.specs.Children.{is_absent};
 
-use um_model::{Claimant, End, Fate, Signal};
-use um_runner::{Claiming, Told};
+use um_model::{End, Fate, Signal};
+use um_runner::{Claimant, Claiming, Told};
 
 /// How a number stands.
 #[derive(Clone, Copy, Debug, PartialEq, Eq)]

@@ -22,76 +22,10 @@ fn at(rt: &impl Abort, event: Event) -> Input {
     Input::new(Moment::new(1_100_000).expect(rt, "no moment"), event)
 }
 
-/// Asserts that the command is spelled by the bytes of these lines.
-fn asks(rt: &(impl AllocGlobal + Abort), command: Command, lines: &[&str]) {
-    let bytes = hex(rt, lines);
-    is_spelled(rt, &at(rt, Event::Commanded(command)), bytes.as_slice());
-}
-
-/// The same of what happens.
-fn happens(rt: &(impl AllocGlobal + Abort), happening: Happening, lines: &[&str]) {
-    let bytes = hex(rt, lines);
-    is_spelled(rt, &at(rt, Event::Happened(happening)), bytes.as_slice());
-}
-
-#[test]
-fn changes_of_the_tree_are_1_to_4(rt: HostRuntime) {
-    let put = Command::PutFile {
-        path: text(&rt, "etc/x"),
-        text: text(&rt, "#\n"),
-    };
-    let row = [
-        "01 01 000000000010c8e0",
-        "00000005 6574632f78",
-        "00000002 230a",
-    ];
-    asks(&rt, put, &row);
-    let link = Command::PutLink {
-        path: text(&rt, "run/x"),
-        target: text(&rt, ""),
-    };
-    let row = ["01 02 000000000010c8e0", "00000005 72756e2f78", "00000000"];
-    asks(&rt, link, &row);
-    let path = text(&rt, "");
-    asks(
-        &rt,
-        Command::Remove { path },
-        &["01 03 000000000010c8e0", "00000000"],
-    );
-    asks(&rt, Command::DaemonReload, &["01 04 000000000010c8e0"]);
-}
-
-/// The name of the unit.
-const UNIT: &str = "00000009 612e73657276696365";
-
 /// A command for the unit.
 fn for_unit(rt: &(impl AllocGlobal + Abort), verb: UnitVerb, mode: JobMode) -> Command {
     let unit = unit(rt);
     Command::ForUnit { verb, unit, mode }
-}
-
-#[test]
-fn commands_for_a_unit_are_5_to_8(rt: HostRuntime) {
-    let start = for_unit(&rt, UnitVerb::Start, JobMode::Replace);
-    asks(&rt, start, &["01 05 000000000010c8e0", UNIT, "00"]);
-    let stop = for_unit(&rt, UnitVerb::Stop, JobMode::Fail);
-    asks(&rt, stop, &["01 06 000000000010c8e0", UNIT, "01"]);
-    let restart = for_unit(&rt, UnitVerb::Restart, JobMode::Replace);
-    asks(&rt, restart, &["01 07 000000000010c8e0", UNIT, "00"]);
-    let trial = for_unit(&rt, UnitVerb::TryRestart, JobMode::Fail);
-    asks(&rt, trial, &["01 08 000000000010c8e0", UNIT, "01"]);
-}
-
-#[test]
-fn cancel_is_9_and_reset_failed_10(rt: HostRuntime) {
-    let cancel = Command::Cancel { unit: unit(&rt) };
-    asks(&rt, cancel, &["01 09 000000000010c8e0", UNIT]);
-    let all = Command::ResetFailed { unit: None };
-    asks(&rt, all, &["01 0a 000000000010c8e0", "00"]);
-    let one = Command::ResetFailed {
-        unit: Some(unit(&rt)),
-    };
-    asks(&rt, one, &["01 0a 000000000010c8e0", "01", UNIT]);
 }
 
 /// Enabling of the unit, or its kin.
@@ -100,50 +34,113 @@ fn install(rt: &(impl AllocGlobal + Abort), verb: InstallVerb) -> Command {
     Command::Install { verb, unit }
 }
 
-#[test]
-fn enabling_and_its_kin_are_11_to_14(rt: HostRuntime) {
-    let enable = install(&rt, InstallVerb::Enable);
-    asks(&rt, enable, &["01 0b 000000000010c8e0", UNIT]);
-    let disable = install(&rt, InstallVerb::Disable);
-    asks(&rt, disable, &["01 0c 000000000010c8e0", UNIT]);
-    let mask = install(&rt, InstallVerb::Mask);
-    asks(&rt, mask, &["01 0d 000000000010c8e0", UNIT]);
-    let unmask = install(&rt, InstallVerb::Unmask);
-    asks(&rt, unmask, &["01 0e 000000000010c8e0", UNIT]);
-}
-
-#[test]
-fn happenings_are_15_to_18(rt: HostRuntime) {
-    let ended = Happening::ProcessEnded {
-        number: 258,
-        end: End::Signal(15),
-    };
-    let row = ["01 0f 000000000010c8e0", "0000000000000102", "010f"];
-    happens(&rt, ended, &row);
-    let executed = Happening::ProcessExecuted { number: u64::MAX };
-    let row = ["01 10 000000000010c8e0", "ffffffffffffffff"];
-    happens(&rt, executed, &row);
-    happens(&rt, Happening::Tick, &["0111000000000010c8e0"]);
-    let boot = BootId::new(text(&rt, "b1")).expect(&rt, "no boot");
-    let row = ["01 12 000000000010c8e0", "00000002 6231"];
-    happens(&rt, Happening::Booted { boot }, &row);
-}
-
-/// A text of so many letters.
-fn letters(rt: &(impl AllocGlobal + Abort), count: u32) -> String {
-    let mut text = String::new(rt.alloc());
-    for _ in 0..count {
-        text.push_str("a").expect(rt, "no memory");
+/// The command with this tag, of 1 to 14.
+fn command(rt: &(impl AllocGlobal + Abort), tag: u8) -> Command {
+    match tag {
+        1 => Command::PutFile {
+            path: text(rt, "etc/x"),
+            text: text(rt, "#\n"),
+        },
+        2 => Command::PutLink {
+            path: text(rt, "run/x"),
+            target: text(rt, ""),
+        },
+        3 => Command::Remove { path: text(rt, "") },
+        4 => Command::DaemonReload,
+        5 => for_unit(rt, UnitVerb::Start, JobMode::Replace),
+        6 => for_unit(rt, UnitVerb::Stop, JobMode::Fail),
+        7 => for_unit(rt, UnitVerb::Restart, JobMode::Replace),
+        8 => for_unit(rt, UnitVerb::TryRestart, JobMode::Fail),
+        9 => Command::Cancel { unit: unit(rt) },
+        10 => Command::ResetFailed {
+            unit: Some(unit(rt)),
+        },
+        11 => install(rt, InstallVerb::Enable),
+        12 => install(rt, InstallVerb::Disable),
+        13 => install(rt, InstallVerb::Mask),
+        _ => install(rt, InstallVerb::Unmask),
     }
-    text
+}
+
+/// What happens under this tag, of 15 to 18.
+fn happening(rt: &(impl AllocGlobal + Abort), tag: u8) -> Happening {
+    match tag {
+        15 => Happening::ProcessEnded {
+            number: 258,
+            end: End::Signal(15),
+        },
+        16 => Happening::ProcessExecuted { number: u64::MAX },
+        17 => Happening::Tick,
+        _ => Happening::Booted {
+            boot: BootId::new(text(rt, "b1")).expect(rt, "no boot"),
+        },
+    }
+}
+
+/// The name of the unit.
+const UNIT: &str = "00000009 612e73657276696365";
+
+/// The input of each tag, by the lines of its bytes.
+const INPUTS: &[(u8, &[&str])] = &[
+    // changes of the tree
+    (
+        1,
+        &[
+            "01 01 000000000010c8e0",
+            "00000005 6574632f78",
+            "00000002 230a",
+        ],
+    ),
+    (
+        2,
+        &["01 02 000000000010c8e0", "00000005 72756e2f78", "00000000"],
+    ),
+    (3, &["01 03 000000000010c8e0", "00000000"]),
+    (4, &["01 04 000000000010c8e0"]),
+    // commands for a unit
+    (5, &["01 05 000000000010c8e0", UNIT, "00"]),
+    (6, &["01 06 000000000010c8e0", UNIT, "01"]),
+    (7, &["01 07 000000000010c8e0", UNIT, "00"]),
+    (8, &["01 08 000000000010c8e0", UNIT, "01"]),
+    (9, &["01 09 000000000010c8e0", UNIT]),
+    (10, &["01 0a 000000000010c8e0", "01", UNIT]),
+    // enabling and its kin
+    (11, &["01 0b 000000000010c8e0", UNIT]),
+    (12, &["01 0c 000000000010c8e0", UNIT]),
+    (13, &["01 0d 000000000010c8e0", UNIT]),
+    (14, &["01 0e 000000000010c8e0", UNIT]),
+    // what happens
+    (15, &["01 0f 000000000010c8e0", "0000000000000102", "010f"]),
+    (16, &["01 10 000000000010c8e0", "ffffffffffffffff"]),
+    (17, &["0111000000000010c8e0"]),
+    (18, &["01 12 000000000010c8e0", "00000002 6231"]),
+];
+
+#[test]
+fn inputs_are_spelled_by_their_tags(rt: HostRuntime) {
+    for (tag, lines) in INPUTS {
+        let event = if *tag < 15 {
+            Event::Commanded(command(&rt, *tag))
+        } else {
+            Event::Happened(happening(&rt, *tag))
+        };
+        is_spelled(&rt, &at(&rt, event), hex(&rt, lines).as_slice());
+    }
+}
+
+#[test]
+fn reset_failed_of_all_units_has_no_unit(rt: HostRuntime) {
+    let all = Event::Commanded(Command::ResetFailed { unit: None });
+    let bytes = hex(&rt, &["01 0a 000000000010c8e0", "00"]);
+    is_spelled(&rt, &at(&rt, all), bytes.as_slice());
 }
 
 #[test]
 fn the_longest_input_that_is_accepted_has_66078_bytes(rt: HostRuntime) {
-    let unit = letters(&rt, 247);
+    let unit = "a".repeat(rt.alloc(), 247).expect(&rt, "no memory");
     let path = format!(in rt.alloc(); "etc/{unit}.service.requires/{unit}.service");
     let path = path.expect(&rt, "no memory");
-    let text = letters(&rt, 65_536);
+    let text = "a".repeat(rt.alloc(), 65_536).expect(&rt, "no memory");
     let mut tree = Tree::new(rt.alloc());
     let accepted: Result<_, _> = tree.put(path.as_str(), text.as_str());
     accepted.expect(&rt, "no file");

@@ -94,26 +94,22 @@ fn torn(rt: &(impl AllocGlobal + Abort)) -> (MemDisk, Log) {
     (disk.into_inner(), log)
 }
 
-/// Asserts that a crash that leaves these writes leaves records of these lengths.
-fn leaves(
-    rt: &(impl AllocGlobal + Abort),
-    disk: &MemDisk,
-    log: &Log,
-    picks: [usize; 2],
-    wanted: &[usize],
-) {
-    let mut left = disk.crash(rt.alloc(), &picks).expect(rt, "no memory");
-    has_lengths(rt, &mut left, log, wanted, picks);
-}
+/// The writes that a crash leaves of that record, and the lengths of the records then.
+const TORN: &[([usize; 2], &[usize])] = &[
+    ([0, 0], &[]),
+    ([1, 0], &[]),
+    ([0, 1], &[]),
+    ([1, 1], &[481]),
+];
 
 #[test]
 fn a_torn_record_is_absent(rt: HostRuntime) {
     let (disk, log) = torn(&rt);
     same(&rt, (log.next, log.number), (START, 0));
-    leaves(&rt, &disk, &log, [0, 0], &[]);
-    leaves(&rt, &disk, &log, [1, 0], &[]);
-    leaves(&rt, &disk, &log, [0, 1], &[]);
-    leaves(&rt, &disk, &log, [1, 1], &[481]);
+    for (picks, wanted) in TORN {
+        let mut left = disk.crash(rt.alloc(), picks).expect(&rt, "no memory");
+        has_lengths(&rt, &mut left, &log, wanted, picks);
+    }
 }
 
 #[test]
@@ -155,10 +151,8 @@ fn each_call_makes_so_many_disk_calls(rt: HostRuntime) {
 #[test]
 fn a_record_has_1_to_131_072_bytes(rt: HostRuntime) {
     let log = new_log(&rt);
-    same_at(&rt, log.fits(0), false, 0);
-    same_at(&rt, log.fits(1), true, 1);
-    same_at(&rt, log.fits(131_072), true, 131_072);
-    same_at(&rt, log.fits(131_073), false, 131_073);
+    let got = [0, 1, 131_072, 131_073].map(|count| log.fits(count));
+    same(&rt, got, [false, true, true, false]);
 }
 
 /// Asserts that this record doesn't fit, and that nothing is written.
@@ -185,24 +179,27 @@ fn a_record_without_room_is_not_written(rt: HostRuntime) {
     has_lengths(&rt, &mut disk, &log, &[131_072, 1], "the end");
 }
 
-/// Asserts that of three records only the first is left where this byte of the second is changed so.
-fn ends_at_the_change(rt: &(impl AllocGlobal + Abort), at: usize, byte: u8) {
-    let mut disk = new_disk(rt);
-    let mut log = new_log(rt);
-    append_bytes(rt, &mut disk, &mut log, 3);
-    has_lengths(rt, &mut disk, &log, &[1, 1, 1], at);
-    change(rt, &mut disk, START + 1, at, byte);
-    has_lengths(rt, &mut disk, &log, &[1], at);
-}
+/// Bytes of a record, and another value of each, with which it is none: generation, length 0, length above the limit, parts, a byte
+/// behind the payload, the record's number, the name.
+const NO_RECORDS: &[(usize, u8)] = &[
+    (11, 3),
+    (31, 0),
+    (28, 1),
+    (27, 2),
+    (511, 1),
+    (19, 0),
+    (0, 0),
+];
 
 #[test]
 fn what_is_not_as_it_is_written_is_no_record(rt: HostRuntime) {
-    // generation, length 0, length above the limit, parts, a byte behind the payload, the record's number, the name
-    ends_at_the_change(&rt, 11, 3);
-    ends_at_the_change(&rt, 31, 0);
-    ends_at_the_change(&rt, 28, 1);
-    ends_at_the_change(&rt, 27, 2);
-    ends_at_the_change(&rt, 511, 1);
-    ends_at_the_change(&rt, 19, 0);
-    ends_at_the_change(&rt, 0, 0);
+    for (at, byte) in NO_RECORDS {
+        let mut disk = new_disk(&rt);
+        let mut log = new_log(&rt);
+        append_bytes(&rt, &mut disk, &mut log, 3);
+        has_lengths(&rt, &mut disk, &log, &[1, 1, 1], at);
+        // of three records only the first is left where the second is changed
+        change(&rt, &mut disk, START + 1, *at, *byte);
+        has_lengths(&rt, &mut disk, &log, &[1], at);
+    }
 }

@@ -3,69 +3,85 @@ use crate::answers::same;
 use std::process::Abort;
 use um_order::{Order, check};
 
-/// The numbers of the nodes; the pairs have no cycle.
-fn numbers(rt: &(impl AllocGlobal + Abort), nodes: usize, pairs: &[(usize, usize)]) -> Vec<usize> {
-    match check(rt.alloc(), nodes, pairs).expect(rt, "no order") {
-        Order::Numbering(numbers) => numbers,
-        Order::Cycle(cycle) => panic!(rt; "a cycle: {cycle:?}"),
+/// Nodes, pairs, and the cycles of which one is told; none where the nodes can be numbered.
+struct Row {
+    nodes: usize,
+    pairs: &'static [(usize, usize)],
+    cycles: &'static [&'static [usize]],
+}
+
+const ROWS: &[Row] = &[
+    // a chain is numbered along its pairs
+    Row {
+        nodes: 4,
+        pairs: &[(2, 3), (3, 0), (0, 1)],
+        cycles: &[],
+    },
+    Row {
+        nodes: 4,
+        pairs: &[(1, 0), (1, 2), (0, 3), (2, 3), (1, 3)],
+        cycles: &[],
+    },
+    // a ring is told from its least node on
+    Row {
+        nodes: 5,
+        pairs: &[(4, 0), (3, 1), (2, 3), (1, 2)],
+        cycles: &[&[1, 2, 3]],
+    },
+    // of two rings one is told
+    Row {
+        nodes: 4,
+        pairs: &[(0, 1), (1, 0), (3, 2), (2, 3)],
+        cycles: &[&[0, 1], &[2, 3]],
+    },
+    // a pair of a node with itself is a cycle
+    Row {
+        nodes: 3,
+        pairs: &[(0, 1), (1, 1), (1, 2)],
+        cycles: &[&[1]],
+    },
+    // no nodes have no numbers
+    Row {
+        nodes: 0,
+        pairs: &[],
+        cycles: &[],
+    },
+    // a pair past the last node says nothing
+    Row {
+        nodes: 2,
+        pairs: &[(0, 1), (1, 2), (2, 0)],
+        cycles: &[],
+    },
+];
+
+/// Whether the numbers ascend along the pair; true where one of its nodes has none.
+fn ascends(numbers: &[usize], pair: (usize, usize)) -> bool {
+    match (numbers.get(pair.0), numbers.get(pair.1)) {
+        (Some(before), Some(after)) => before < after,
+        _ => true,
     }
 }
 
-/// The cycle that is told.
-fn cycle(rt: &(impl AllocGlobal + Abort), nodes: usize, pairs: &[(usize, usize)]) -> Vec<usize> {
-    match check(rt.alloc(), nodes, pairs).expect(rt, "no order") {
-        Order::Numbering(numbers) => panic!(rt; "numbers: {numbers:?}"),
-        Order::Cycle(cycle) => cycle,
+/// Asserts that each node has a number, that these ascend along each pair, and that no cycle is wanted.
+fn is_numbered(rt: &impl Abort, numbers: &[usize], row: &Row) {
+    same(rt, (numbers.len(), row.cycles.len()), (row.nodes, 0));
+    for pair in row.pairs {
+        assert!(rt; ascends(numbers, *pair), "{numbers:?} at {pair:?}");
     }
 }
 
-/// Asserts that the numbers ascend along the pair.
-fn ascends_along(rt: &impl Abort, numbers: &[usize], pair: (usize, usize)) {
-    let before = *numbers.get(pair.0).expect(rt, "a node without a number");
-    let after = *numbers.get(pair.1).expect(rt, "a node without a number");
-    assert!(rt; before < after, "{numbers:?} at {pair:?}");
+/// Asserts that the cycle is one of those that are wanted.
+fn is_cycle(rt: &impl Abort, cycle: &[usize], row: &Row) {
+    let is_one = row.cycles.iter().any(|wanted| cycle == *wanted);
+    assert!(rt; is_one, "a cycle: {cycle:?}, wanted {:?}", row.cycles);
 }
 
-/// Asserts that each node has a number, and that they ascend along each pair.
-fn ascends(rt: &(impl AllocGlobal + Abort), nodes: usize, pairs: &[(usize, usize)]) {
-    let numbers = numbers(rt, nodes, pairs);
-    same(rt, numbers.len(), nodes);
-    for pair in pairs {
-        ascends_along(rt, &numbers, *pair);
+#[test]
+fn nodes_are_numbered_along_pairs_or_have_a_cycle(rt: HostRuntime) {
+    for row in ROWS {
+        match check(rt.alloc(), row.nodes, row.pairs).expect(&rt, "no order") {
+            Order::Numbering(numbers) => is_numbered(&rt, &numbers, row),
+            Order::Cycle(cycle) => is_cycle(&rt, &cycle, row),
+        }
     }
-}
-
-#[test]
-fn a_chain_is_numbered_along_its_pairs(rt: HostRuntime) {
-    ascends(&rt, 4, &[(2, 3), (3, 0), (0, 1)]);
-    ascends(&rt, 4, &[(1, 0), (1, 2), (0, 3), (2, 3), (1, 3)]);
-}
-
-#[test]
-fn a_ring_is_told_from_its_least_node_on(rt: HostRuntime) {
-    let ring = cycle(&rt, 5, &[(4, 0), (3, 1), (2, 3), (1, 2)]);
-    same(&rt, ring.as_slice(), [1, 2, 3].as_slice());
-}
-
-#[test]
-fn of_two_rings_one_is_told(rt: HostRuntime) {
-    let ring = cycle(&rt, 4, &[(0, 1), (1, 0), (3, 2), (2, 3)]);
-    let is_one = ring.as_slice() == [0, 1].as_slice() || ring.as_slice() == [2, 3].as_slice();
-    assert!(rt; is_one, "{ring:?}");
-}
-
-#[test]
-fn a_pair_of_a_node_with_itself_is_a_cycle(rt: HostRuntime) {
-    let ring = cycle(&rt, 3, &[(0, 1), (1, 1), (1, 2)]);
-    same(&rt, ring.as_slice(), [1].as_slice());
-}
-
-#[test]
-fn no_nodes_have_no_numbers(rt: HostRuntime) {
-    ascends(&rt, 0, &[]);
-}
-
-#[test]
-fn a_pair_past_the_last_node_says_nothing(rt: HostRuntime) {
-    same(&rt, numbers(&rt, 2, &[(0, 1), (1, 2), (2, 0)]).len(), 2);
 }

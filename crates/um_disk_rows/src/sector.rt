@@ -11,9 +11,11 @@ fn empty(rt: &(impl AllocGlobal + Abort)) -> MemDisk {
     MemDisk::new(rt.alloc(), 3).expect(rt, "no memory")
 }
 
-/// Writes a sector of this byte.
-fn put<D: Disk>(rt: &impl Abort, disk: &mut D, k: usize, byte: u8) {
-    disk.write(k, &[byte; 512]).expect(rt, "not written");
+/// Writes sectors one after another, each of this byte.
+fn put<D: Disk>(rt: &impl Abort, disk: &mut D, writes: &[(usize, u8)]) {
+    for (k, byte) in writes {
+        disk.write(*k, &[*byte; 512]).expect(rt, "not written");
+    }
 }
 
 /// Syncs the disk.
@@ -23,10 +25,11 @@ fn sync<D: Disk>(rt: &impl Abort, disk: &mut D) {
 
 /// Asserts that the last bytes of the three sectors are these, in this row.
 fn ends_at<D: Disk, R: Debug + Drop>(rt: &impl Abort, disk: &mut D, wanted: [u8; 3], row: R) {
-    let first = sector_at(rt, disk, 0)[511];
-    let second = sector_at(rt, disk, 1)[511];
-    let third = sector_at(rt, disk, 2)[511];
-    same_at(rt, [first, second, third], wanted, row);
+    let mut ends = [0; 3];
+    for (k, end) in ends.iter_mut().enumerate() {
+        *end = sector_at(rt, disk, k)[511];
+    }
+    same_at(rt, ends, wanted, row);
 }
 
 /// Asserts that the last bytes of the three sectors are these.
@@ -43,12 +46,10 @@ fn is_unsynced(rt: &(impl AllocGlobal + Abort), disk: &MemDisk, wanted: &[(usize
 #[test]
 fn a_disk_in_memory_gives_what_was_written_last(rt: HostRuntime) {
     let mut disk = empty(&rt);
-    same(&rt, disk.sectors(), 3);
     ends(&rt, &mut disk, [0, 0, 0]);
-    put(&rt, &mut disk, 1, 7);
-    put(&rt, &mut disk, 1, 8);
+    put(&rt, &mut disk, &[(1, 7), (1, 8)]);
     ends(&rt, &mut disk, [0, 8, 0]);
-    same(&rt, disk.syncs(), 0);
+    same(&rt, (disk.sectors(), disk.syncs()), (3, 0));
     sync(&rt, &mut disk);
     same(&rt, disk.syncs(), 1);
     is_unsynced(&rt, &disk, &[]);
@@ -71,11 +72,9 @@ fn a_fault_prints_as_a_sentence(rt: HostRuntime) {
 /// Three sectors: 1 in the first at the last sync, then 2 in the first, 3 in the last, and 4 in the first.
 fn written(rt: &(impl AllocGlobal + Abort)) -> MemDisk {
     let mut disk = empty(rt);
-    put(rt, &mut disk, 0, 1);
+    put(rt, &mut disk, &[(0, 1)]);
     sync(rt, &mut disk);
-    put(rt, &mut disk, 0, 2);
-    put(rt, &mut disk, 2, 3);
-    put(rt, &mut disk, 0, 4);
+    put(rt, &mut disk, &[(0, 2), (2, 3), (0, 4)]);
     disk
 }
 
@@ -87,24 +86,28 @@ fn leaves(rt: &(impl AllocGlobal + Abort), disk: &MemDisk, picks: &[usize], want
     same(rt, left.syncs(), 0);
 }
 
+/// The writes that a crash leaves of that disk, and the last bytes of its sectors then.
+const LEFT: &[(&[usize], [u8; 3])] = &[
+    // any candidate of each sector
+    (&[0, 0], [1, 0, 0]),
+    (&[0, 1], [1, 0, 3]),
+    (&[1, 0], [2, 0, 0]),
+    (&[1, 1], [2, 0, 3]),
+    (&[2, 0], [4, 0, 0]),
+    (&[2, 1], [4, 0, 3]),
+    // a candidate that isn't there is the first
+    (&[3, 1], [1, 0, 3]),
+    (&[2, 2], [4, 0, 0]),
+    (&[2], [4, 0, 0]),
+];
+
 #[test]
 fn a_crash_leaves_any_candidate_of_each_sector(rt: HostRuntime) {
     let disk = written(&rt);
     is_unsynced(&rt, &disk, &[(0, 3), (2, 2)]);
-    leaves(&rt, &disk, &[0, 0], [1, 0, 0]);
-    leaves(&rt, &disk, &[0, 1], [1, 0, 3]);
-    leaves(&rt, &disk, &[1, 0], [2, 0, 0]);
-    leaves(&rt, &disk, &[1, 1], [2, 0, 3]);
-    leaves(&rt, &disk, &[2, 0], [4, 0, 0]);
-    leaves(&rt, &disk, &[2, 1], [4, 0, 3]);
-}
-
-#[test]
-fn a_candidate_that_is_not_there_is_the_first(rt: HostRuntime) {
-    let disk = written(&rt);
-    leaves(&rt, &disk, &[3, 1], [1, 0, 3]);
-    leaves(&rt, &disk, &[2, 2], [4, 0, 0]);
-    leaves(&rt, &disk, &[2], [4, 0, 0]);
+    for (picks, wanted) in LEFT {
+        leaves(&rt, &disk, picks, *wanted);
+    }
 }
 
 #[test]
@@ -119,7 +122,7 @@ fn a_settled_disk_is_the_disk_as_it_stands(rt: HostRuntime) {
 /// A disk whose third call failed: 1 stands in its first sector.
 fn failed(rt: &(impl AllocGlobal + Abort)) -> Fuse<MemDisk> {
     let mut disk = Fuse::new(empty(rt), 3);
-    put(rt, &mut disk, 0, 1);
+    put(rt, &mut disk, &[(0, 1)]);
     same(rt, sector_at(rt, &mut disk, 0)[511], 1);
     fails(rt, disk.write(0, &[2; 512]));
     disk
@@ -130,7 +133,7 @@ fn a_fuse_fails_one_call_and_goes_on(rt: HostRuntime) {
     let mut disk = failed(&rt);
     same(&rt, disk.calls(), 3);
     ends(&rt, &mut disk, [1, 0, 0]);
-    put(&rt, &mut disk, 1, 5);
+    put(&rt, &mut disk, &[(1, 5)]);
     sync(&rt, &mut disk);
     same(&rt, disk.calls(), 8);
     let mut inner = disk.into_inner();
@@ -155,17 +158,14 @@ fn fields_lie_one_behind_the_other_and_zeros_behind_them(rt: HostRuntime) {
     fields.put_u32(258);
     fields.put_u64(3);
     let sector = fields.sector();
-    same(&rt, sector[4], 1);
-    same(&rt, u64_at(&sector, 6), 3);
-    same(&rt, u32_at(&sector, 14), 0);
+    let got = (sector[4], u64_at(&sector, 6), u32_at(&sector, 14));
+    same(&rt, got, (1, 3, 0));
 }
 
 #[test]
 fn a_blank_run_is_written_in_its_place(rt: HostRuntime) {
     let mut disk = empty(&rt);
-    put(&rt, &mut disk, 0, 7);
-    put(&rt, &mut disk, 1, 8);
-    put(&rt, &mut disk, 2, 9);
+    put(&rt, &mut disk, &[(0, 7), (1, 8), (2, 9)]);
     write_blank(&mut disk, 1, 2).expect(&rt, "not written");
     ends(&rt, &mut disk, [7, 0, 0]);
 }

@@ -76,12 +76,9 @@ fn second(rt: &(impl AllocGlobal + Abort)) -> MemDisk {
 #[test]
 fn sector_0_is_written_by_its_layout(rt: HostRuntime) {
     let layout = small(&rt);
-    same(&rt, (layout.log_start(1), layout.log_end(1)), (129, 641));
-    same(
-        &rt,
-        (layout.sectors(), layout.record_limit(1)),
-        (641, 131_072),
-    );
+    let log = (layout.log_start(1), layout.log_end(1));
+    let told = (log, layout.sectors(), layout.record_limit(1));
+    same(&rt, told, ((129, 641), 641, 131_072));
     let sector_0 = [
         0x55, 0x4d, 0x44, 0x49, 0x53, 0x4b, 0x30, 0x31, 0, 0, 0, 0x40, 0, 0, 2, 0,
     ];
@@ -115,23 +112,25 @@ fn leaves(rt: &(impl AllocGlobal + Abort), disk: &MemDisk, row: (u64, [usize; 2]
     same_at(rt, stored(rt, &mut left), wanted, row);
 }
 
-/// Asserts that where this call fails, a crash leaves the second snapshot if it leaves the header, and else the first.
-fn leaves_either(rt: &(impl AllocGlobal + Abort), fails: u64, with_header: Stored) {
-    let disk = failed(rt, fails);
-    leaves(rt, &disk, (fails, [0, 0]), OLD);
-    leaves(rt, &disk, (fails, [1, 0]), with_header);
-    leaves(rt, &disk, (fails, [0, 1]), OLD);
-    leaves(rt, &disk, (fails, [1, 1]), with_header);
-}
+/// The call of the writing of generation 2 that fails, for a body of two sectors, and what a crash leaves that leaves the header.
+const FAILING: &[(u64, Stored)] = &[
+    // the second write of the body, its sync, the header
+    (2, OLD),
+    (3, OLD),
+    (4, OLD),
+    // the header's sync: the new one counts where its header was written, which the failure leaves open
+    (5, NEW),
+];
 
 #[test]
 fn a_crash_leaves_the_snapshot_before_or_the_new_one(rt: HostRuntime) {
-    // a body of two sectors: its second write, its sync, the header, the header's sync fail
-    leaves_either(&rt, 2, OLD);
-    leaves_either(&rt, 3, OLD);
-    leaves_either(&rt, 4, OLD);
-    // the new one counts where its header was written, which the last failure leaves open
-    leaves_either(&rt, 5, NEW);
+    for (fails, with_header) in FAILING {
+        let disk = failed(&rt, *fails);
+        leaves(&rt, &disk, (*fails, [0, 0]), OLD);
+        leaves(&rt, &disk, (*fails, [1, 0]), *with_header);
+        leaves(&rt, &disk, (*fails, [0, 1]), OLD);
+        leaves(&rt, &disk, (*fails, [1, 1]), *with_header);
+    }
 }
 
 #[test]
@@ -142,23 +141,19 @@ fn what_was_written_is_synced(rt: HostRuntime) {
     same(&rt, stored(&rt, &mut disk), NEW);
 }
 
-/// Asserts that the first header with this byte changed is none.
-fn is_no_header(rt: &(impl AllocGlobal + Abort), at: usize, byte: u8) {
-    let mut disk = first(rt);
-    same_at(rt, stored(rt, &mut disk), OLD, at);
-    change(rt, &mut disk, 1, at, byte);
-    has_none(rt, &mut disk);
-}
+/// Bytes of the first header, and another value of each, with which it is none: an unused byte twice, a length of 65,573 past the
+/// slot, generation 0, the name.
+const NO_HEADERS: &[(usize, u8)] = &[(24, 1), (511, 1), (21, 1), (15, 0), (7, 0)];
 
 #[test]
 fn what_is_not_as_it_is_written_is_no_header(rt: HostRuntime) {
     has_none(&rt, &mut empty(&rt));
-    // an unused byte, a length of 65,573 past the slot, generation 0, the name
-    is_no_header(&rt, 24, 1);
-    is_no_header(&rt, 511, 1);
-    is_no_header(&rt, 21, 1);
-    is_no_header(&rt, 15, 0);
-    is_no_header(&rt, 7, 0);
+    for (at, byte) in NO_HEADERS {
+        let mut disk = first(&rt);
+        same_at(&rt, stored(&rt, &mut disk), OLD, at);
+        change(&rt, &mut disk, 1, *at, *byte);
+        has_none(&rt, &mut disk);
+    }
 }
 
 #[test]
@@ -169,36 +164,42 @@ fn of_equal_generations_slot_a_counts(rt: HostRuntime) {
     same(&rt, stored(&rt, &mut disk), OLD);
 }
 
-/// Asserts that behind the last generation this body is refused, with nothing written.
-fn is_spent(rt: &(impl AllocGlobal + Abort), body: &[u8]) {
-    let last = Home {
-        slot: Slot::A,
-        generation: u64::MAX,
-    };
-    let mut disk = first(rt);
-    let written = write_other(rt.alloc(), &mut disk, small(rt), last, body);
-    is_refused(rt, written, Some("E20 GenerationsSpent"));
-    same(rt, (disk.syncs(), stored(rt, &mut disk)), (2, OLD));
-}
+/// The last generation.
+const LAST: Home = Home {
+    slot: Slot::A,
+    generation: u64::MAX,
+};
 
 #[test]
 fn behind_the_last_generation_none_is_written(rt: HostRuntime) {
-    let long = vec![in rt.alloc(); 8u8; 32_257].expect(&rt, "no memory");
-    is_spent(&rt, &[8]);
-    is_spent(&rt, &long);
+    for size in [1, 32_257] {
+        let body = vec![in rt.alloc(); 8u8; size].expect(&rt, "no memory");
+        let mut disk = first(&rt);
+        let written = write_other(rt.alloc(), &mut disk, small(&rt), LAST, &body);
+        is_refused(&rt, written, Some("E20 GenerationsSpent"));
+        same(&rt, (disk.syncs(), stored(&rt, &mut disk)), (2, OLD));
+    }
 }
+
+/// Sizes of a body behind generation 1, its home where it fits, and what is stored and how often the disk was synced then.
+const BODIES: &[(usize, Option<Home>, Stored, usize)] = &[
+    (32_257, None, OLD, 2),
+    (32_256, Some(B2), (B2, 32_256, Some(8)), 4),
+];
 
 #[test]
 fn a_body_has_up_to_32_256_bytes(rt: HostRuntime) {
-    let long = vec![in rt.alloc(); 8u8; 32_257].expect(&rt, "no memory");
-    let mut disk = first(&rt);
-    let written = write_other(rt.alloc(), &mut disk, small(&rt), A1, &long);
-    same(&rt, written.expect(&rt, "refused"), None);
-    same(&rt, (disk.syncs(), stored(&rt, &mut disk)), (2, OLD));
-    let whole = vec![in rt.alloc(); 8u8; 32_256].expect(&rt, "no memory");
-    let written = write_other(rt.alloc(), &mut disk, small(&rt), A1, &whole);
-    same(&rt, written.expect(&rt, "refused"), Some(B2));
-    same(&rt, stored(&rt, &mut disk), (B2, 32_256, Some(8)));
+    for (size, home, wanted, syncs) in BODIES {
+        let body = vec![in rt.alloc(); 8u8; *size].expect(&rt, "no memory");
+        let mut disk = first(&rt);
+        let written = write_other(rt.alloc(), &mut disk, small(&rt), A1, &body);
+        same(&rt, written.expect(&rt, "refused"), *home);
+        same(
+            &rt,
+            (disk.syncs(), stored(&rt, &mut disk)),
+            (*syncs, *wanted),
+        );
+    }
 }
 
 #[test]
@@ -241,19 +242,22 @@ fn a_snapshot_is_written_over_a_log_that_is_not_synced(rt: HostRuntime) {
     same(&rt, stored(&rt, &mut disk), NEW);
 }
 
-/// Asserts that sector 0 with this byte changed is refused so.
-fn is_not_read(rt: &(impl AllocGlobal + Abort), at: usize, byte: u8, why: &str) {
-    let sector = changed(rt, superblock(small(rt)), at, byte);
-    is_refused(rt, read_superblock(&sector), Some(why));
-}
+/// Bytes of sector 0, and another value of each, with which it is refused so: another name; another layout; an unused byte; slots of
+/// 63 sectors.
+const ILL: &[(usize, u8, &str)] = &[
+    (0, 0, "E19 NotFormatted"),
+    (7, 50, "E22 OtherLayout"),
+    (16, 1, "E18 Damaged 0"),
+    (11, 63, "E18 Damaged 0"),
+];
 
 #[test]
 fn sector_0_tells_the_layout(rt: HostRuntime) {
-    let layout = read_superblock(&superblock(small(&rt))).expect(&rt, "no layout");
+    let sector_0 = superblock(small(&rt));
+    let layout = read_superblock(&sector_0).expect(&rt, "no layout");
     same(&rt, (layout.slot_sectors, layout.log_sectors), (64, 512));
-    // another name; another layout; an unused byte; slots of 63 sectors
-    is_not_read(&rt, 0, 0, "E19 NotFormatted");
-    is_not_read(&rt, 7, 50, "E22 OtherLayout");
-    is_not_read(&rt, 16, 1, "E18 Damaged 0");
-    is_not_read(&rt, 11, 63, "E18 Damaged 0");
+    for (at, byte, why) in ILL {
+        let sector = changed(&rt, sector_0, *at, *byte);
+        is_refused(&rt, read_superblock(&sector), Some(why));
+    }
 }

@@ -33,10 +33,31 @@ pub fn is_spelled<T: Canon + Drop>(rt: &(impl AllocGlobal + Abort), value: &T, b
     is_read::<T>(rt, bytes);
 }
 
-/// Asserts that no front of the bytes spells a value.
-pub fn is_not_read<T: Canon + Drop>(rt: &(impl AllocGlobal + Abort), bytes: &[u8]) {
-    let read = T::get(rt.alloc(), bytes).expect(rt, "no memory");
-    assert!(rt; read.is_none(), "{bytes:?} are read");
+/// Asserts that each value is spelled by the bytes beside it, and that none of the others has a front that spells a value.
+pub fn are_spelled<T: Canon + Drop>(
+    rt: &(impl AllocGlobal + Abort),
+    spelled: &[(T, &[u8])],
+    others: &[&[u8]],
+) {
+    for (value, bytes) in spelled {
+        is_spelled(rt, value, bytes);
+    }
+    are_not_read::<T>(rt, others);
+}
+
+/// Asserts that these are read as values, each with others behind it, and are spelled so.
+pub fn are_read<T: Canon + Drop>(rt: &(impl AllocGlobal + Abort), all: &[&[u8]]) {
+    for bytes in all {
+        is_read::<T>(rt, bytes);
+    }
+}
+
+/// Asserts that no front of any of these spells a value.
+pub fn are_not_read<T: Canon + Drop>(rt: &(impl AllocGlobal + Abort), all: &[&[u8]]) {
+    for bytes in all {
+        let read = T::get(rt.alloc(), bytes).expect(rt, "no memory");
+        assert!(rt; read.is_none(), "{bytes:?} are read");
+    }
 }
 
 /// The number of a hexadecimal digit; None for any other byte.

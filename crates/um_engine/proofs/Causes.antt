@@ -1,9 +1,9 @@
 -- What commands are refused for, and what they change, from what the calls below tell.
-use Rattle.std.proofs.Common.{◌≡◌, ◌≢◌, ◌∙◌, ℕ, List, Some, None, false, Result, Ok, Err, sym, ap, subst}
+use Rattle.std.proofs.Common.{◌≡◌, ◌≢◌, ◌∙◌, ℕ, List, Some, None, false, Result, Ok, Err, sym, ap, subst, true, true≢false, refl}
 use Rattle.um_model.specs.Jobs.{cancelled, jobs_of_unit}
 use Rattle.um_model.specs.Machine as model
-use Rattle.um_model.specs.Machine.{State, IsCrowded, IsHeld, IsHeldOr, IsNotThere, IsMissing, HasNoneWaiting, HasNoPlan, Refuses, puts_none, links_none, removes_none, plans_none, cancels_none, reloads_none, installs_none, scene_at, active_asked, demand_of, demands_nothing, Changes, puts, links, removes, reloads, plans, cancels, installs}
-use Rattle.um_model.specs.Few.{IsFew}
+use Rattle.um_model.specs.Machine.{State, IsCrowded, IsHeld, IsHeldOr, IsNotThere, to_stop, to_try_restart, IsMissing, HasNoneWaiting, HasNoPlan, Refuses, scene_at, active_asked, demand_of, demands_nothing, Changes, puts, links, removes, reloads, plans, cancels, installs}
+use Rattle.um_model.specs.Servable.{IsFew}
 use Rattle.um_model.specs.Refusals.{Refused, no_such_job, unless_refused, FirstCause, at_first, at_second}
 use Rattle.std.specs.FinMap as map
 use Rattle.um_model.specs.Tree.{Tree, File, Link, put_cause, link_cause, remove_cause, put_file, put_link, remove_at}
@@ -11,9 +11,11 @@ use Rattle.um_model.specs.Install.{Installs, RefusesInstall}
 use Rattle.um_model.specs.Service.{ByUnit}
 use Rattle.um_model.specs.declared.commands.JobMode.{JobMode}
 use Rattle.um_model.specs.declared.commands.UnitVerb.{UnitVerb}
+use Rattle.um_model.specs.declared.commands.UnitVerb.TheVariants as verbs
 use Rattle.um_model.specs.declared.install.InstallVerb.{InstallVerb}
 use Rattle.um_model.specs.declared.jobs.UnitJobs.{UnitJobs}
 use Rattle.um_model.proofs.InstallLaws.{one_install}
+use Rattle.um_model.proofs.WaitingLaws.{has_waiting, none_told, none_waiting}
 use Rattle.um_engine.specs.Planned.{HasPlan}
 use Rattle.um_model.specs.Plan.{IsPlan, CausesOfPlan}
 use Rattle.um_model.specs.declared.dependencies.Demand.{Demand}
@@ -21,6 +23,9 @@ use Rattle.um_model.proofs.PlannedLaws.{one_plan}
 use Rattle.um_model.proofs.SceneLaws.{finite_scene}
 use Rattle.um_transact.specs.Scene.{IsRefused}
 use Rattle.std.proofs.lemmas.Option.{none-some, same_Some}
+use Rattle.um_model.proofs.RefusesLaws.{missing_there}
+use Rattle.um_engine.specs.Demanded.{wants_it_there}
+use Rattle.um_wire.specs.Gives.{RefusesBy}
 use Rattle.um_wire.specs.Refusal.{refused_of}
 use Rattle.um_wire.specs.declared.refusal.Refusal.{Refusal}
 use Rattle.um_wire.specs.declared.refusal.Refusal.TheVariants.{NoMemory}
@@ -52,36 +57,36 @@ installs_to s u v verb unit tree same made is =
 
 pub free_to_install : (s : State) (verb : InstallVerb) (unit : List ℕ) (tree : Tree) → Installs s.tree verb unit tree → ((r : Refused) → ¬ RefusesInstall s.tree verb unit r)
     → ((r : Refused) → ¬ model.CausesOfLoad s tree r) → (r : Refused) → ¬ Refuses s (model.Install verb unit) r
-free_to_install s verb unit tree made free loads r (installs_none (at_first h)) = free r h
-free_to_install s verb unit tree made free loads r (installs_none (at_second none h)) =
+free_to_install s verb unit tree made free loads r (at_first h) = free r h
+free_to_install s verb unit tree made free loads r (at_second none h) =
     loads r (subst (λ (x : Tree). model.CausesOfLoad s x r) (one_install s.tree verb unit h.tree tree h.installs made) h.cause)
 
 pub puts_none_to : (s u : State) (path text : List ℕ) (e : Refusal) → u ≡ s → (e ≢ NoMemory → put_file u.tree path text ≡ Err (refused_of e))
     → e ≢ NoMemory → Refuses s (model.PutFile path text) (refused_of e)
-puts_none_to s u path text e same refused differs = puts_none (sym (ap (λ (x : State). put_file x.tree path text) same) ∙ refused differs)
+puts_none_to s u path text e same refused differs = (sym (ap (λ (x : State). put_file x.tree path text) same) ∙ refused differs)
 
 pub links_none_to : (s u : State) (path target : List ℕ) (e : Refusal) → u ≡ s → (e ≢ NoMemory → put_link u.tree path target ≡ Err (refused_of e))
     → e ≢ NoMemory → Refuses s (model.PutLink path target) (refused_of e)
-links_none_to s u path target e same refused differs = links_none (sym (ap (λ (x : State). put_link x.tree path target) same) ∙ refused differs)
+links_none_to s u path target e same refused differs = (sym (ap (λ (x : State). put_link x.tree path target) same) ∙ refused differs)
 
 pub removes_none_to : (s u : State) (path : List ℕ) (e : Refusal) → u ≡ s → (e ≢ NoMemory → remove_at u.tree path ≡ Err (refused_of e))
     → e ≢ NoMemory → Refuses s (model.Remove path) (refused_of e)
-removes_none_to s u path e same refused differs = removes_none (sym (ap (λ (x : State). remove_at x.tree path) same) ∙ refused differs)
+removes_none_to s u path e same refused differs = (sym (ap (λ (x : State). remove_at x.tree path) same) ∙ refused differs)
 
 ok_err : {A : Type 0} (r : Result A Refused) (a : A) (e : Refused) → r ≡ Ok a → r ≡ Err e → ⊥
 ok_err r a e h k = cc
 
 pub free_to_put : (s : State) (path text : List ℕ) (tree : Tree) → put_file s.tree path text ≡ Ok tree → (r : Refused) → Refuses s (model.PutFile path text) r → ⊥
-free_to_put s path text tree ok r (puts_none e) = ok_err (put_file s.tree path text) tree r ok e
+free_to_put s path text tree ok r e = ok_err (put_file s.tree path text) tree r ok e
 
 pub free_to_link : (s : State) (path target : List ℕ) (tree : Tree) → put_link s.tree path target ≡ Ok tree → (r : Refused) → Refuses s (model.PutLink path target) r → ⊥
-free_to_link s path target tree ok r (links_none e) = ok_err (put_link s.tree path target) tree r ok e
+free_to_link s path target tree ok r e = ok_err (put_link s.tree path target) tree r ok e
 
 pub free_to_remove : (s : State) (path : List ℕ) (tree : Tree) → remove_at s.tree path ≡ Ok tree → (r : Refused) → Refuses s (model.Remove path) r → ⊥
-free_to_remove s path tree ok r (removes_none e) = ok_err (remove_at s.tree path) tree r ok e
+free_to_remove s path tree ok r e = ok_err (remove_at s.tree path) tree r ok e
 
 pub free_to_reload : (s : State) → ((r : Refused) → ¬ model.CausesOfLoad s s.tree r) → (r : Refused) → Refuses s model.DaemonReload r → ⊥
-free_to_reload s free r (reloads_none h) = free r h
+free_to_reload s free r h = free r h
 
 -- ---- the causes, found before anything is copied
 
@@ -104,22 +109,22 @@ module _ (s : State) (verb : UnitVerb) (asked : List ℕ) (mode : JobMode) where
   Crowds = IsCrowded s.loaded (IsHeldOr s (model.unit_asked s asked))
 
   pub by_crowd : (r : Refused) → Crowds r → Refuses s (model.ForUnit verb asked mode) r
-  by_crowd r h = plans_none (at_first h)
+  by_crowd r h = at_first h
 
   pub by_absence : (r : Refused) → ((q : Refused) → ¬ Crowds q) → IsNotThere s verb asked r → Refuses s (model.ForUnit verb asked mode) r
-  by_absence r few h = plans_none (at_second few (at_first h))
+  by_absence r few h = at_second few (at_first h)
 
   pub by_plan : (r : Refused) (demand : Demand) → ((q : Refused) → ¬ Crowds q) → ((q : Refused) → ¬ IsNotThere s verb asked q)
       → demand_of verb (active_asked s asked) ≡ Some demand → IsRefused (scene_at s (model.unit_asked s asked)) (demand, model.unit_asked s asked) mode r → Refuses s (model.ForUnit verb asked mode) r
   by_plan r demand few there demanded h =
-      plans_none (at_second few (at_second there (record { demand = demand; demanded = demanded; after = h.after; plan = h.plan; cause = at_first h.cause })))
+      at_second few (at_second there (record { demand = demand; demanded = demanded; after = h.after; plan = h.plan; cause = at_first h.cause }))
 
   -- too many units would be known with the plan
   pub by_fullness : (r : Refused) (demand : Demand) (u : State) → ((q : Refused) → ¬ Crowds q) → ((q : Refused) → ¬ IsNotThere s verb asked q)
       → demand_of verb (active_asked s asked) ≡ Some demand → HasPlan s (demand, model.unit_asked s asked) mode u → IsCrowded u.loaded (IsHeld u) r
       → Refuses s (model.ForUnit verb asked mode) r
   by_fullness r demand u few there demanded planned h =
-      plans_none (at_second few (at_second there (record {
+      (at_second few (at_second there (record {
         demand = demand;
         demanded = demanded;
         after = u.pending;
@@ -129,9 +134,9 @@ module _ (s : State) (verb : UnitVerb) (asked : List ℕ) (mode : JobMode) where
 
   free_by : ((q : Refused) → ¬ Crowds q) → ((q : Refused) → ¬ IsNotThere s verb asked q) → ((q : Refused) → ¬ HasNoPlan s verb asked mode q)
       → (r : Refused) → ¬ Refuses s (model.ForUnit verb asked mode) r
-  free_by few there planned r (plans_none (at_first h)) = few r h
-  free_by few there planned r (plans_none (at_second n (at_first h))) = there r h
-  free_by few there planned r (plans_none (at_second n (at_second m h))) = planned r h
+  free_by few there planned r (at_first h) = few r h
+  free_by few there planned r (at_second n (at_first h)) = there r h
+  free_by few there planned r (at_second n (at_second m h)) = planned r h
 
   pub free_to_rest : ((q : Refused) → ¬ Crowds q) → ((q : Refused) → ¬ IsNotThere s verb asked q) → demand_of verb (active_asked s asked) ≡ None
       → (r : Refused) → ¬ Refuses s (model.ForUnit verb asked mode) r
@@ -169,18 +174,32 @@ module _ (s : State) (verb : UnitVerb) (asked : List ℕ) (mode : JobMode) where
   pub rests_so : (u : State) → demand_of verb (active_asked s asked) ≡ None → u ≡ s → Changes s (model.ForUnit verb asked mode) u
   rests_so u nothing is = subst (Changes s (model.ForUnit verb asked mode)) (sym is) (demands_nothing nothing)
 
+-- ---- a unit that is there already
+
+not_there : (s : State) (verb : UnitVerb) (asked : List ℕ) (r : Refused) → wants_it_there verb ≡ true → IsMissing s asked r → IsNotThere s verb asked r
+not_there s verbs.Stop asked r wanted h = to_stop h
+not_there s verbs.TryRestart asked r wanted h = to_try_restart h
+not_there s verbs.Start asked r wanted h = absurd (true≢false (sym wanted))
+not_there s verbs.Restart asked r wanted h = absurd (true≢false (sym wanted))
+
+-- a command for a unit that is there already is refused where that is missing
+pub refuses_there : {X : Type 0} (s : State) (verb : UnitVerb) (asked : List ℕ) → wants_it_there verb ≡ true → (result : Result X Refusal)
+    → RefusesBy (IsMissing s asked) result → RefusesBy (IsNotThere s verb asked) result
+refuses_there s verb asked wanted (Ok done) none = λ r h. none r (missing_there h)
+refuses_there s verb asked wanted (Err e) cause = λ differs. not_there s verb asked (refused_of e) wanted (cause differs)
+
 -- ---- the waiting jobs of a unit
 
 module _ (s : State) (asked : List ℕ) where
   pub by_missing : (r : Refused) → IsMissing s asked r → Refuses s (model.Cancel asked) r
-  by_missing r h = cancels_none (at_first h)
+  by_missing r h = at_first h
 
   pub by_none_waiting : (r : Refused) → ((q : Refused) → ¬ IsMissing s asked q) → HasNoneWaiting s asked r → Refuses s (model.Cancel asked) r
-  by_none_waiting r there h = cancels_none (at_second there h)
+  by_none_waiting r there h = at_second there h
 
   pub free_to_cancel : ((q : Refused) → ¬ IsMissing s asked q) → ((q : Refused) → ¬ HasNoneWaiting s asked q) → (r : Refused) → Refuses s (model.Cancel asked) r → ⊥
-  free_to_cancel there waits r (cancels_none (at_first h)) = there r h
-  free_to_cancel there waits r (cancels_none (at_second n h)) = waits r h
+  free_to_cancel there waits r (at_first h) = there r h
+  free_to_cancel there waits r (at_second n h) = waits r h
 
   pub cancels_to : (u v : State) (unit : List ℕ) (jobs : UnitJobs) → u ≡ s → unit ≡ model.unit_asked s asked → jobs ≡ cancelled (model.jobs_asked s asked)
       → v ≡ model.with_plan u unit jobs → Changes s (model.Cancel asked) v
@@ -191,20 +210,20 @@ module _ (s : State) (asked : List ℕ) where
 -- ---- what has no waiting job, and what isn't loaded
 
 pub none_waits : (s : State) (asked unit : List ℕ) (jobs : UnitJobs) → unit ≡ model.unit_asked s asked → jobs ≡ jobs_of_unit s.pending unit
-    → (r : Refused) → (model.has_waiting jobs ≡ false) × (r ≡ no_such_job unit) → HasNoneWaiting s asked r
+    → (r : Refused) → (has_waiting jobs ≡ false) × (r ≡ no_such_job unit) → HasNoneWaiting s asked r
 none_waits s asked unit jobs is held r h = record {
-  none = ap model.has_waiting (sym (held ∙ ap (jobs_of_unit s.pending) is)) ∙ h.0;
+  none = none_waiting (model.jobs_asked s asked) (ap has_waiting (sym (held ∙ ap (jobs_of_unit s.pending) is)) ∙ h.0);
   refusal = h.1 ∙ ap no_such_job is;
 }
 
 pub some_waits : (s : State) (asked unit : List ℕ) (jobs : UnitJobs) → unit ≡ model.unit_asked s asked → jobs ≡ jobs_of_unit s.pending unit
-    → ((r : Refused) → ¬ ((model.has_waiting jobs ≡ false) × (r ≡ no_such_job unit))) → (r : Refused) → ¬ HasNoneWaiting s asked r
+    → ((r : Refused) → ¬ ((has_waiting jobs ≡ false) × (r ≡ no_such_job unit))) → (r : Refused) → ¬ HasNoneWaiting s asked r
 some_waits s asked unit jobs is held waits r h =
-    waits r (ap model.has_waiting (held ∙ ap (jobs_of_unit s.pending) is) ∙ h.none, h.refusal ∙ ap no_such_job (sym is))
+    waits r (ap has_waiting (held ∙ ap (jobs_of_unit s.pending) is) ∙ none_told (model.jobs_asked s asked) h.none, h.refusal ∙ ap no_such_job (sym is))
 
 pub by_tree_of_install : (s : State) (verb : InstallVerb) (unit : List ℕ) (tree : Tree) → Installs s.tree verb unit tree → ((r : Refused) → ¬ RefusesInstall s.tree verb unit r)
     → (r : Refused) → model.CausesOfLoad s tree r → Refuses s (model.Install verb unit) r
-by_tree_of_install s verb unit tree made free r h = installs_none (at_second free (record { tree = tree; installs = made; cause = h }))
+by_tree_of_install s verb unit tree made free r h = at_second free (record { tree = tree; installs = made; cause = h })
 
 pub by_install : (s : State) (verb : InstallVerb) (unit : List ℕ) (r : Refused) → RefusesInstall s.tree verb unit r → Refuses s (model.Install verb unit) r
-by_install s verb unit r h = installs_none (at_first h)
+by_install s verb unit r h = at_first h

@@ -4,16 +4,16 @@ use Rattle.std.specs.Prelude.{IfOk, MatchOption, slice_get}
 use Rattle.std.proofs.lemmas.Option.{get_or_from_slice_get}
 use Rattle.um_graph.proofs.NamedLaws.{got_within}
 use Rattle.um_model.specs.Dependencies.{CountsFor, IsKnown, KnowsTooMany, extra}
-use Rattle.um_model.specs.Few.{IsFew, HoldsNoMore}
+use Rattle.um_model.specs.Servable.{IsFew}
 use Rattle.um_model.specs.Machine.{State, IsCrowded, IsHeld, IsTooHeavy, CausesOfLoad, PutFile, PutLink, Remove, Cancel, Changes, puts, links, removes, cancels, unit_asked}
 use Rattle.um_model.specs.Reached.{first}
 use Rattle.um_model.specs.Refusals.{Refused, at_first}
-use Rattle.um_model.specs.Tree.{Tree, has_run, without_run}
+use Rattle.um_model.specs.Tree.{Tree, without_run}
 use Rattle.um_model.specs.Weight.{weight_of}
-use Rattle.um_model.proofs.FewLaws.{cancel_no_more}
+use Rattle.um_model.proofs.FewLaws.{cancel_no_more, HoldsNoMore}
 use Rattle.um_model.proofs.KnownLaws.{more_known}
 use Rattle.um_model.proofs.SceneLaws.{one_count}
-use Rattle.um_model.proofs.TreeLaws.{without_run_same}
+use Rattle.um_model.proofs.TreeLaws.{without_run_same, has_run}
 use Rattle.um_engine.specs.Known.{IsHeldWith, IsGraphFor, KnownView, KnowsFor}
 use Rattle.um_falling.specs.Over.{Serves}
 use Rattle.um_engine.proofs.SameUnitsLaws.{KnowsSame, count_by, graph_same}

@@ -4,7 +4,7 @@ use Rattle.std.specs.Result.{IsErrAnd}
 use Rattle.std.specs.FinMap as map
 use Rattle.std.proofs.lemmas.Option.{get_or_from_slice_get}
 use Rattle.um_model.specs.Dependencies.{KnowsTooMany, extra}
-use Rattle.um_model.specs.Few.{IsFew}
+use Rattle.um_model.specs.Servable.{IsFew}
 use Rattle.um_model.specs.Jobs.{no_jobs}
 use Rattle.um_model.specs.Machine as model
 use Rattle.um_model.specs.Machine.{State, IsCrowded, IsHeld, IsHeldOr, IsNotThere, Refuses, Changes, active_asked, demand_of, scene_at}

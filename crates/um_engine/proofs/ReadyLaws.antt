@@ -5,7 +5,7 @@ use Rattle.std.proofs.lemmas.Grind.{get_or-set_at}
 use Rattle.std.proofs.lemmas.List.{get_or-set_other, length-replicate, length-set}
 use Rattle.std.proofs.lemmas.Option.{none-some, same_Some}
 use Rattle.std.specs.FinMap as map
-use Rattle.um_model.specs.Jobs.{Job, BeginsNext, ComesBefore, GoesBefore, IsReady, IsToldBefore, IsWaiting, job_of, jobs_of_unit, no_jobs, of_one_unit, starts, state_of_job, stops, stops_then_starts, stops_then_starts_before, with_running}
+use Rattle.um_model.specs.Jobs.{Job, BeginsNext, ComesBefore, GoesBefore, IsReady, IsToldBefore, job_of, jobs_of_unit, no_jobs, of_one_unit, starts, state_of_job, stops, stops_then_starts, stops_then_starts_before}
 use Rattle.um_model.specs.Least.{IsLeast}
 use Rattle.um_model.specs.Machine.{State, IsBefore, IsHeld, IsStill, begun}
 use Rattle.um_model.specs.Service.{active_state_of, state_of_unit}
@@ -18,6 +18,7 @@ use Rattle.um_model.specs.declared.service.ActiveState.TheVariants.{Deactivating
 use Rattle.um_model.proofs.TimersLaws.{same_name}
 use Rattle.um_model.proofs.UnitLaws.{jobs_apart, jobs_here}
 use Rattle.um_model.proofs.WaitingLaws.{NoMoreWait, waits, waits_in}
+use Rattle.um_model.proofs.Forms.{with_running}
 use Rattle.um_graph.specs.Graph.{GraphView, IsGraph, IsNumberOf}
 use Rattle.um_graph.specs.Kinds.{before_bit}
 use Rattle.um_graph.specs.Named.{Joins, item_for, name_at}
@@ -127,7 +128,7 @@ not_deactivating a isnt = by (is_deactivating a) refl
 
 -- ---- a job that waits by number waits by name
 module _ (g : GraphView) (s : State) (v : JobsView) (tells : Tells g s v) where
-  pub waits_named : (u : ℕ) (name : List ℕ) (kind : JobKind) → IsNumberOf g u name → IsWaiting (jobs_by g.names v.units) (job_named g u kind) → IsWaiting s.pending (record { unit = name; kind = kind })
+  pub waits_named : (u : ℕ) (name : List ℕ) (kind : JobKind) → IsNumberOf g u name → (state_of_job (jobs_by g.names v.units) (job_named g u kind) ≡ Some Waiting) → (state_of_job s.pending (record { unit = name; kind = kind }) ≡ Some Waiting)
   waits_named u name kind number w =
       let within = got_within g.names u name number in
       sym (ap (job_of kind) (jobs_by_at g.names v.units (names_once g.names tells.graph.sorted) u within ∙ tells.jobs u name within number)) ∙ w
@@ -158,7 +159,7 @@ module _ (g : GraphView) (s : State) (serves : Serves g s) (v : JobsView) (tells
   pending_known : (j : Job) → state_of_job s.pending j ≢ None → Contains g.names j.unit
   pending_known j pends = serves.held j.unit (inr (λ e. pends (ap (λ o. job_of j.kind (unwrap_or o no_jobs)) e ∙ no_job j.kind)))
 
-  waiting_known : (j : Job) → IsWaiting s.pending j → Contains g.names j.unit
+  waiting_known : (j : Job) → state_of_job s.pending j ≡ Some Waiting → Contains g.names j.unit
   waiting_known j w = pending_known j (λ e. none-some Waiting (sym e ∙ w))
 
   joins_before : (x y : List ℕ) → Joins g before_bit x y → IsBefore s.loaded x y
@@ -227,7 +228,7 @@ running_waits : (kind : JobKind) (j : UnitJobs) → job_of kind j ≡ Some Waiti
 running_waits Stop j is = let one = ap waits is in omega arith
 running_waits Start j is = let one = ap waits is in omega arith
 
-pub begun_drops : (g : GraphView) (s b u : State) (j : Job) → IsWaiting s.pending j → Contains g.names j.unit → b ≡ begun s j → NoMoreWait u.pending b.pending → waiting_in g u < waiting_in g s
+pub begun_drops : (g : GraphView) (s b u : State) (j : Job) → state_of_job s.pending j ≡ Some Waiting → Contains g.names j.unit → b ≡ begun s j → NoMoreWait u.pending b.pending → waiting_in g u < waiting_in g s
 begun_drops g s b u j w known is none =
     let drops = sum_drops g.names (λ n. waits_in (jobs_of_unit u.pending n)) (λ n. waits_in (jobs_of_unit s.pending n)) falls j.unit known (omega (arith, here, none j.unit)) in
     omega arith

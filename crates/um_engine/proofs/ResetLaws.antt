@@ -1,11 +1,12 @@
 -- Failures that are forgotten, one after another; of a unit of which nothing is held there is nothing to forget.
+use Rattle.um_falling.specs.Carrying.{Adds}
 use Rattle.std.proofs.Common.{◌≡◌, ◌≢◌, ◌∙◌, ◌+◌, ◌<◌, ℕ, Bool, true, false, true≢false, cond, List, [], ◌∷◌, ◌++◌, Contains, Option, Some, None, unwrap_or, refl, sym, ap, subst, inl, inr, arith, append_assoc, append-nil}
 use Rattle.std.specs.Cmp.Lexicographic.{slice_cmp, nat_list_cmp_total}
 use Rattle.std.specs.FinMap as map
 use Rattle.std.specs.Ordering.{nat_cmp, eq_by_cmp}
-use Rattle.um_model.specs.Few.{IsFew, HoldsNoMore}
+use Rattle.um_model.specs.Servable.{IsFew}
 use Rattle.um_model.specs.Jobs.{no_jobs, jobs_left, with_jobs}
-use Rattle.um_model.specs.Machine.{State, IsHeld, Does, ResetFailed, units_reset, acting_in, around, change_of, changed, Becomes, alone, Carries, comes_to_rest, AreFalling, all_told, Happens, happens, AreReset, all_reset, reset_next, resets}
+use Rattle.um_model.specs.Machine.{State, IsHeld, Does, ResetFailed, units_reset, settings_in, around, change_of, changed, Becomes, alone, Carries, AreByName, FallsWith, all_told, Happens, happens, AreReset, all_reset, reset_next, resets}
 use Rattle.um_model.specs.Service.{Action, ByUnit, dead_unit, state_of_unit}
 use Rattle.um_model.specs.Settings.{ServiceSettings}
 use Rattle.um_model.specs.Transitions.{AreActions, just, nothing, transition}
@@ -13,12 +14,10 @@ use Rattle.um_model.specs.declared.service.UnitState.{UnitState}
 use Rattle.um_model.specs.declared.transition.Around.{Around}
 use Rattle.um_model.specs.declared.transition.StartJob.TheVariants.{Stays}
 use Rattle.um_model.specs.declared.transition.UnitEvent.TheVariants.{Reset}
-use Rattle.um_model.proofs.FewLaws.{no_more_few, none_there, resets_no_more}
+use Rattle.um_model.proofs.FewLaws.{no_more_few, none_there, resets_no_more, HoldsNoMore}
 use Rattle.um_model.proofs.TimersLaws.{same_name}
 use Rattle.um_model.proofs.UnitLaws.{unlike}
 use Rattle.um_graph.specs.Graph.{GraphView}
-use Rattle.um_falling.specs.Falling.{HappensTo}
-use Rattle.um_engine.specs.Engine.{ResetsTo}
 use Rattle.um_engine.specs.Known.{KnownView, KnowsFor}
 use Rattle.um_falling.specs.Over.{Serves}
 use Rattle.um_engine.proofs.KnownLaws.{knows_less, serves_for}
@@ -51,7 +50,7 @@ module _ (t : ℕ) (s : State) (unit : List ℕ) (isnt : ¬ IsHeld s unit) where
   no_job = none_there (map.get s.pending unit) (λ is. isnt (inr is))
 
   follows_none : change_of t s unit Reset ≡ just dead_unit
-  follows_none = forgotten (acting_in s.loaded unit).settings (around t s unit) (unwrap_or (map.get s.units unit) dead_unit) (ap (λ o. unwrap_or o dead_unit) no_state)
+  follows_none = forgotten (settings_in s.loaded unit) (around t s unit) (unwrap_or (map.get s.units unit) dead_unit) (ap (λ o. unwrap_or o dead_unit) no_state)
 
   jobs_stay : with_jobs s.pending unit (jobs_left Stays false (unwrap_or (map.get s.pending unit) no_jobs)) ≡ s.pending
   jobs_stay = ap (λ o. with_jobs s.pending unit (jobs_left Stays false (unwrap_or o no_jobs))) no_job ∙ removed_same s.pending unit no_job
@@ -67,15 +66,15 @@ module _ (t : ℕ) (s : State) (unit : List ℕ) (isnt : ¬ IsHeld s unit) where
 
   carries_none : Carries t unit Reset s [] s
   carries_none = record {
-    state = subst (λ c. Becomes s unit c s) (sym follows_none) (subst (Becomes s unit (just dead_unit)) all_stays (alone refl));
-    asked = subst (λ c. AreActions (acting_in s.loaded unit).settings (around t s unit) c.unit c.order []) (sym follows_none) nothing;
+    state = subst (λ c. Becomes s unit c s) (sym follows_none) (subst (Becomes s unit (just dead_unit)) all_stays (alone (λ fails. let is = fails.0 in cc)));
+    asked = subst (λ c. AreActions (settings_in s.loaded unit) (around t s unit) c.unit c.order []) (sym follows_none) nothing;
   }
 
-  none_fall : AreFalling s s unit []
+  none_fall : AreByName (FallsWith s s unit) []
   none_fall = record {
     each = λ other. (
       λ in_none. absurd (no_place other in_none),
-      λ falls. absurd (true≢false (sym falls.rests ∙ at_rest)),
+      λ falls. absurd (falls.anew refl),
     );
     sorted = λ i j d less low. absurd (no_number j low);
   }
@@ -83,18 +82,15 @@ module _ (t : ℕ) (s : State) (unit : List ℕ) (isnt : ¬ IsHeld s unit) where
       no_number : (n : ℕ) → ¬ (n < 0)
       no_number n low = omega (arith, low)
 
-      at_rest : comes_to_rest (state_of_unit s.units unit).sub (state_of_unit s.units unit).sub ≡ false
-      at_rest = ap (λ o. comes_to_rest (unwrap_or o dead_unit).sub (unwrap_or o dead_unit).sub) no_state
-
       no_place : (other : List ℕ) → ¬ Contains [] other
       no_place other (i, low, is) = no_number i low
 
-  pub resets_none : (before : List Action) → ResetsTo t (unit ∷ []) s before s before
+  pub resets_none : (before : List Action) → Adds (AreReset t (unit ∷ []) s) before s before
   resets_none before = ([], reset_next (happens carries_none none_fall all_told) all_reset, sym (append-nil before))
 
 -- ---- one that is held, and one after another
 
-pub resets_one : (t : ℕ) (unit : List ℕ) (s u : State) (before after : List Action) → HappensTo t unit Reset s before u after → ResetsTo t (unit ∷ []) s before u after
+pub resets_one : (t : ℕ) (unit : List ℕ) (s u : State) (before after : List Action) → Adds (Happens t unit Reset s) before u after → Adds (AreReset t (unit ∷ []) s) before u after
 resets_one t unit s u before after (new, h, is) = (new ++ [], reset_next h all_reset, is ∙ ap (λ l. before ++ l) (sym (append-nil new)))
 
 resets_joined : (t : ℕ) (xs ys : List (List ℕ)) (s u v : State) (a b : List Action) → AreReset t xs s a u → AreReset t ys u b v → AreReset t (xs ++ ys) s (a ++ b) v
@@ -102,8 +98,8 @@ resets_joined t xs ys s u v a b all_reset k = k
 resets_joined t (x ∷ xs) ys s u v a b (reset_next {u = w} {first = first} {more = more} h r) k =
     subst (λ l. AreReset t (x ∷ (xs ++ ys)) s l v) (sym (append_assoc first more b)) (reset_next h (resets_joined t xs ys w u v more b r k))
 
-pub resets_more : (t : ℕ) (xs ys all : List (List ℕ)) (s u v : State) (before between after : List Action) → all ≡ xs ++ ys → ResetsTo t xs s before u between → ResetsTo t ys u between v after
-    → ResetsTo t all s before v after
+pub resets_more : (t : ℕ) (xs ys all : List (List ℕ)) (s u v : State) (before between after : List Action) → all ≡ xs ++ ys → Adds (AreReset t xs s) before u between → Adds (AreReset t ys u) between v after
+    → Adds (AreReset t all s) before v after
 resets_more t xs ys all s u v before between after e (a, h, is) (b, k, so) = (
   a ++ b,
   subst (λ l. AreReset t l s (a ++ b) v) (sym e) (resets_joined t xs ys s u v a b h k),
@@ -111,16 +107,16 @@ resets_more t xs ys all s u v before between after e (a, h, is) (b, k, so) = (
 )
 
 -- of no unit it is forgotten
-pub resets_no_unit : (t : ℕ) (s : State) (before : List Action) → ResetsTo t [] s before s before
+pub resets_no_unit : (t : ℕ) (s : State) (before : List Action) → Adds (AreReset t [] s) before s before
 resets_no_unit t s before = ([], all_reset, sym (append-nil before))
 
 -- ---- over what is known for the state
 
 module _ (k : KnownView) (g : GraphView) (t : ℕ) (units : List (List ℕ)) (s copy u : State) (none all : List Action) (knows : KnowsFor k s) (same : copy ≡ s) (shown : g ≡ k.graph) (e : none ≡ [])
-    (told : Serves g copy → ResetsTo t units copy none u all × Serves g u) where
+    (told : Serves g copy → Adds (AreReset t units copy) none u all × Serves g u) where
   pub reset_here : AreReset t units s all u
   reset_here =
-      let (new, h, is) = subst (λ x. ResetsTo t units x none u all) same (told (subst (λ x. Serves x copy) (sym shown) (subst (Serves k.graph) (sym same) (serves_for k s knows)))).0 in
+      let (new, h, is) = subst (λ x. Adds (AreReset t units x) none u all) same (told (subst (λ x. Serves x copy) (sym shown) (subst (Serves k.graph) (sym same) (serves_for k s knows)))).0 in
       subst (λ l. AreReset t units s l u) (sym (is ∙ ap (λ l. l ++ new) e)) h
 
   less : HoldsNoMore s u

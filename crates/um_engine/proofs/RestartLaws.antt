@@ -1,7 +1,7 @@
 -- A restart puts a start of its unit, or leaves the state as it is.
 use Rattle.std.proofs.Common.{◌≡◌, ◌≢◌, ◌∙◌, ℕ, Bool, true, false, true≢false, List, Contains, Some, None, refl, sym, ap, subst, inl, inr}
 use Rattle.um_model.specs.Jobs.{Job, AreTidyJobs, ComesBefore, has_job, jobs, jobs_of_unit, no_jobs, with_jobs}
-use Rattle.um_model.specs.Machine.{State, IsBefore, IsHeld, Restarts, puts, has_a_job, closes_a_circle, with_plan, with_start_alone}
+use Rattle.um_model.specs.Machine.{State, IsBefore, IsHeld, Restarts, puts, isnt_put, with_plan, with_start_alone}
 use Rattle.um_model.specs.Order.{IsCycle}
 use Rattle.um_model.specs.Plan.{AreFree}
 use Rattle.um_model.specs.Service.{ByUnit}
@@ -41,7 +41,7 @@ with_none pending unit j tidy none =
 module _ (g : GraphView) (s : State) (unit : List ℕ) (j : UnitJobs) (is : jobs_of_unit s.pending unit ≡ j) where
   -- a job of the unit is pending
   pub restarts_not : has_job j ≡ true → Restarts s unit s
-  restarts_not some = has_a_job (λ none. not_jobless j some (sym is ∙ none))
+  restarts_not some = isnt_put (λ may. not_jobless j some (sym is ∙ may.0))
 
   none_there : has_job j ≡ false → jobs_of_unit s.pending unit ≡ no_jobs
   none_there none = is ∙ no_job_held j none
@@ -61,5 +61,5 @@ module _ (g : GraphView) (s : State) (unit : List ℕ) (j : UnitJobs) (is : jobs
         → Restarts s unit v × Serves g v
     restarts_none tidy cycle closed v out =
         let same : v ≡ s = out ∙ (ap (λ x. with_plan x unit no_jobs) put ∙ ap (λ p. record s { pending = p }) (with_none s.pending unit (jobs None (Some Waiting)) tidy (none_there none))) in
-        let left : Restarts s unit s = closes_a_circle cycle (none_there none) (subst (λ (x : State). IsCycle (ComesBefore (IsBefore x.loaded) x.pending) cycle) put closed) in
+        let left : Restarts s unit s = isnt_put (λ may. may.1 cycle (subst (λ (x : State). IsCycle (ComesBefore (IsBefore x.loaded) x.pending) cycle) put closed)) in
         (subst (Restarts s unit) (sym same) left, subst (Serves g) (sym same) serves)

@@ -5,6 +5,7 @@ use Rattle.um_model.specs.Machine.{State, IsHeld, IsHeldOr, IsCrowded}
 use Rattle.um_model.specs.Reached.{first}
 use Rattle.um_model.specs.Tree.{Tree, without_run}
 use Rattle.um_model.specs.declared.dependencies.DependencyKind.{DependencyKind}
+use Rattle.um_model.specs.declared.dependencies.DependencyKind.TheVariants as kinds
 use Rattle.um_model.proofs.KnownLaws.{known_grows, more_known}
 use Rattle.um_graph.specs.Graph.{GraphView, IsGraph, IsGraphOf}
 use Rattle.um_engine.specs.Known.{IsFull, IsGraphFor}
@@ -32,7 +33,11 @@ module _ (tree : Tree) (E F : List ℕ → Type 0) (h : KnowsSame tree E F) wher
   declared_too x y d = record { name = d.name; known = known_too d.name d.known; declares = d.declares }
 
   pulled_too : (x y : List ℕ) → PullsIn tree E x y → PullsIn tree F x y
-  pulled_too x y p = record { holds = p.holds; kind = p.kind; wants = p.wants; depends = depends_too p.kind x y p.depends; accepts = p.accepts; too = p.too }
+  pulled_too x y p = record { target = p.target; depends = either p.depends; accepts = p.accepts; too = p.too }
+    where
+      either : Depends tree E kinds.Wants x y ⊎ Depends tree E kinds.Requires x y → Depends tree F kinds.Wants x y ⊎ Depends tree F kinds.Requires x y
+      either (inl d) = inl (depends_too kinds.Wants x y d)
+      either (inr d) = inr (depends_too kinds.Requires x y d)
 
   too_many_too : KnowsTooMany tree E → KnowsTooMany tree F
   too_many_too = more_known tree E F h.into

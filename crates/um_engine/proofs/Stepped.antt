@@ -1,22 +1,24 @@
 -- A step, by what is planned of it.
+use Rattle.um_falling.specs.Carrying.{Adds}
+use Rattle.um_falling.specs.Carrying.{Adds}
 use Rattle.std.proofs.Common.{◌≡◌, ◌≢◌, ◌∙◌, ◌↔◌, ℕ, Bool, true, false, true≢false, List, [], ◌++◌, Option, Some, None, is_some, refl, sym, ap, subst, inl}
 use Rattle.std.specs.Prelude.{IfSome, option_map}
 use Rattle.std.proofs.lemmas.Option.{none-some, same_Some}
-use Rattle.um_model.specs.Few.{IsFew, HoldsNoMore}
+use Rattle.um_model.specs.Servable.{IsFew}
 use Rattle.um_model.specs.Machine as model
-use Rattle.um_model.specs.Machine.{State, Command, Happening, Booted, Event, Commanded, Happened, Follows, ends, reports, ticks, boots, end_of, obeys, Changes, Does, changes, Input, Reply, Done, Refuses, HasNoEffect, IsTooHeavy, LacksEffect, Takes, meets, Step, refused, crowded_out, HasNoRoom, idle, taken, reply_after, moment_of}
+use Rattle.um_model.specs.Machine.{State, Command, Happening, Booted, Event, Commanded, Happened, Follows, ends, reports, ticks, boots, end_of, obeys, Changes, Does, changes, Input, Reply, Done, Refuses, HasNoEffect, IsTooHeavy, TakesEffect, meets, Step, refused, crowded_out, HasNoRoom, idle, taken, reply_after, moment_of}
 use Rattle.um_model.specs.Refusals.{Refused, no_room}
 use Rattle.um_model.specs.Service.{Action, state_of_unit}
 use Rattle.um_model.specs.declared.transition.UnitEvent.TheVariants.{Executed}
 use Rattle.um_model.proofs.KeepsLaws.{settles_keeps}
-use Rattle.um_model.proofs.FewLaws.{fires_no_more, happened_no_more, no_more_few, number_held, settles_no_more}
+use Rattle.um_model.proofs.FewLaws.{fires_no_more, happened_no_more, no_more_few, number_held, settles_no_more, HoldsNoMore}
 use Rattle.um_graph.specs.Graph.{GraphView}
 use Rattle.um_state.specs.View.{state_of}
 use Rattle.um_state.specs.declared.state.State.{State as Kept}
 use Rattle.um_wire.specs.Refusal.{refused_of}
 use Rattle.um_wire.specs.declared.refusal.Refusal.{Refusal}
 use Rattle.um_wire.specs.declared.refusal.Refusal.TheVariants.{NoMemory}
-use Rattle.um_engine.specs.Engine.{Met, MetBy, SettlesTo, state_at}
+use Rattle.um_engine.specs.Engine.{LacksEffect, Met, MetBy, state_at}
 use Rattle.um_engine.specs.Known.{KnownView, KnowsFor}
 use Rattle.um_falling.specs.Over.{Serves}
 use Rattle.um_engine.specs.Planned.{Declines, for_cause, for_room}
@@ -35,17 +37,17 @@ pub declined_step : (size : ℕ) (s : State) (i : Input) (t : ℕ) (command : Co
     → Declines size t s command r → Step size s i (model.Refusal r) [] s
 declined_step size s i t command r e f (for_cause h) = refused_step size s i command r e h
 declined_step size s i t command _ e f (for_room {actions = actions} {u = u} takes heavy) =
-    of_input size s i (Commanded command) (model.Refusal no_room) [] s e (crowded_out (subst (λ n. Takes n s (Commanded command) actions u) f takes) heavy)
+    of_input size s i (Commanded command) (model.Refusal no_room) [] s e (crowded_out (subst (λ n. TakesEffect n s (Commanded command) actions u) f takes) heavy)
 
 pub taken_step : (size : ℕ) (s : State) (i : Input) (t : ℕ) (event : Event) (reply : Reply) (all actions : List Action) (u v : State) → i.event ≡ event → t ≡ moment_of s i.moment
-    → Takes t s event actions u → ¬ HasNoRoom size event u → reply ≡ reply_after event s.tree u.tree → all ≡ actions → v ≡ record u { clock = t } → Step size s i reply all v
+    → TakesEffect t s event actions u → ¬ HasNoRoom size event u → reply ≡ reply_after event s.tree u.tree → all ≡ actions → v ≡ record u { clock = t } → Step size s i reply all v
 taken_step size s i t event reply all actions u v e f takes room g h k =
     let input : Input = record { moment = i.moment; event = event } in
     of_input size s i event reply all v e
     (subst (λ x. Step size s input x all v) (sym g)
     (subst (λ x. Step size s input (reply_after event s.tree u.tree) x v) (sym h)
     (subst (λ x. Step size s input (reply_after event s.tree u.tree) actions x) (sym (k ∙ ap (λ n. record u { clock = n }) f))
-    (taken (subst (λ n. Takes n s event actions u) f takes) room))))
+    (taken (subst (λ n. TakesEffect n s event actions u) f takes) room))))
 
 idle_step : (size : ℕ) (s : State) (i : Input) (t : ℕ) (happening : Happening) (reply : Reply) (all : List Action) (v : State) → i.event ≡ Happened happening → t ≡ moment_of s i.moment
     → HasNoEffect t s happening → reply ≡ Done → all ≡ [] → v ≡ s → Step size s i reply all v
@@ -92,15 +94,15 @@ follows_less t s _ _ _ isnt (boots {boot = boot}) = absurd (isnt boot refl)
 
 -- jobs begin in a state, over what is known for it
 module _ (k here : KnownView) (g : GraphView) (t : ℕ) (s old v : State) (before all : List Action) (knows : KnowsFor k s) (same : old ≡ s) (is : here ≡ k) (shown : g ≡ here.graph)
-    (settles : Serves g old → SettlesTo t old before v all × Serves g v) where
+    (settles : Serves g old → Adds (model.Settles t old) before v all × Serves g v) where
   graph_is : g ≡ k.graph
   graph_is = shown ∙ ap (λ (x : KnownView). x.graph) is
 
-  settles_here : SettlesTo t old before v all × Serves g v
+  settles_here : Adds (model.Settles t old) before v all × Serves g v
   settles_here = settles (subst (λ x. Serves x old) (sym graph_is) (subst (Serves k.graph) (sym same) (serves_for k s knows)))
 
-  pub settles_all : SettlesTo t s before v all
-  settles_all = subst (λ x. SettlesTo t x before v all) same settles_here.0
+  pub settles_all : Adds (model.Settles t s) before v all
+  settles_all = subst (λ x. Adds (model.Settles t x) before v all) same settles_here.0
 
   less : HoldsNoMore s v
   less = let (new, goes, whole) = settles_all in settles_no_more t s new v goes
@@ -151,20 +153,20 @@ pub does_so : (t : ℕ) (s u v : State) (command : Command) (all : List Action) 
 does_so t s u v command all h e f = subst (λ l. Does t s command l v) (sym f) (subst (Does t s command []) (sym e) (changes h))
 
 -- a command that isn't refused, with all jobs that begin
-pub obeyed_so : (t : ℕ) (s u v : State) (command : Command) (first all : List Action) → ((r : Refused) → ¬ Refuses s command r) → Does t s command first u → SettlesTo t u first v all
-    → Takes t s (Commanded command) all v
-obeyed_so t s u v command first all free does (more, settles, whole) = subst (λ l. Takes t s (Commanded command) l v) (sym whole) (obeys free does settles)
+pub obeyed_so : (t : ℕ) (s u v : State) (command : Command) (first all : List Action) → ((r : Refused) → ¬ Refuses s command r) → Does t s command first u → Adds (model.Settles t u) first v all
+    → TakesEffect t s (Commanded command) all v
+obeyed_so t s u v command first all free does (more, settles, whole) = subst (λ l. TakesEffect t s (Commanded command) l v) (sym whole) (obeys free does settles)
 
 pub declined_for_cause : (size t : ℕ) (s : State) (command : Command) (e : Refusal) → (e ≢ NoMemory → Refuses s command (refused_of e)) → e ≢ NoMemory
     → Declines size t s command (refused_of e)
 declined_for_cause size t s command e refuses differs = for_cause (refuses differs)
 
-pub declined_for_room : (size t : ℕ) (s u : State) (command : Command) (actions : List Action) (e : Refusal) → Takes t s (Commanded command) actions u
+pub declined_for_room : (size t : ℕ) (s u : State) (command : Command) (actions : List Action) (e : Refusal) → TakesEffect t s (Commanded command) actions u
     → (e ≢ NoMemory → (refused_of e ≡ no_room) × IsTooHeavy size u) → e ≢ NoMemory → Declines size t s command (refused_of e)
 declined_for_room size t s u command actions e takes heavy differs =
     let (is, h) = heavy differs in subst (Declines size t s command) (sym is) (for_room takes h)
 
 -- jobs that begin leave the tree in hand, and with it what is answered
 pub same_answer : (t : ℕ) (event : Event) (s u v : State) (first all : List Action) (reply : Reply) → reply ≡ reply_after event s.tree u.tree
-    → SettlesTo t u first v all → reply ≡ reply_after event s.tree v.tree
+    → Adds (model.Settles t u) first v all → reply ≡ reply_after event s.tree v.tree
 same_answer t event s u v first all reply is (more, settles, whole) = is ∙ ap (reply_after event s.tree) (sym (settles_keeps t u more v settles).tree)

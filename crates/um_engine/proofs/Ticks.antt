@@ -1,4 +1,6 @@
 -- What follows from what happens, and whether it has an effect, by what it leaves.
+use Rattle.um_falling.specs.Carrying.{Adds}
+use Rattle.um_model.specs.Machine.{Settles}
 use Rattle.std.proofs.Common.{◌≡◌, ◌∙◌, ◌&&◌, ◌++◌, ℕ, Bool, true, false, true≢false, List, [], Option, Some, None, refl, sym, ap, subst}
 use Rattle.std.specs.Bool.{Decides}
 use Rattle.std.specs.Cmp.Lexicographic.{pointwise, same_text, other_text}
@@ -7,15 +9,14 @@ use Rattle.std.proofs.lemmas.Bool.{and_parts}
 use Rattle.std.proofs.lemmas.Bool.Decides.{Decides-eqb}
 use Rattle.um_model.proofs.KeepsLaws.{fires_keeps, same_state}
 use Rattle.um_model.proofs.MachineLaws.{boot_has_effect, one_process, tick_has_effect}
-use Rattle.um_model.specs.Ends.{is_starting, may_be_asked}
-use Rattle.um_model.specs.Machine.{State, ProcessEnded, ProcessExecuted, Tick, Booted, IsProcessOf, IsOver, AwaitsReport, acting_in, booted, end_of, Happens, Follows, ends, reports, ticks, boots, HasNoEffect, is_idle, isnt_awaited, is_known}
+use Rattle.um_model.specs.Ends.{is_starting, has_one_command}
+use Rattle.um_model.specs.Machine.{State, ProcessEnded, ProcessExecuted, Tick, Booted, IsProcessOf, IsOver, AwaitsReport, settings_in, booted, end_of, Happens, Follows, ends, reports, ticks, boots, HasNoEffect, is_idle, isnt_awaited, is_known}
 use Rattle.um_model.specs.Service.{Action, is_number, state_of_unit}
 use Rattle.um_model.specs.declared.service.End.{End}
 use Rattle.um_model.specs.declared.transition.UnitEvent.{UnitEvent}
 use Rattle.um_model.specs.declared.transition.UnitEvent.TheVariants.{Executed}
 use Rattle.um_graph.specs.Graph.{GraphView}
-use Rattle.um_engine.specs.Engine.{FollowsUpon, MetBy, SettlesTo, FiresTo, IsSame}
-use Rattle.um_falling.specs.Falling.{HappensTo}
+use Rattle.um_engine.specs.Engine.{FollowsUpon, MetBy, FiresTo, IsSame}
 use Rattle.um_falling.specs.Over.{Serves}
 use Rattle.um_engine.specs.Served.{ServedView}
 
@@ -36,9 +37,9 @@ tick_acts t s v new follows differs =
 
 -- something happened to a unit of a copy of the state, and jobs began
 pub follows_upon : (t : ℕ) (s copy u v : State) (unit : List ℕ) (event : UnitEvent) (none between all : List Action) → copy ≡ s → none ≡ []
-    → HappensTo t unit event copy none u between → SettlesTo t u between v all → FollowsUpon t s unit event all v
+    → Adds (Happens t unit event copy) none u between → Adds (Settles t u) between v all → FollowsUpon t s unit event all v
 follows_upon t s copy u v unit event none between all same e happens (more, settles, whole) =
-    let (first, happened, is) = subst (λ x. HappensTo t unit event x none u between) same happens in
+    let (first, happened, is) = subst (λ x. Adds (Happens t unit event x) none u between) same happens in
     record { between = u; first = first; more = more; happens = happened; settles = settles; all = whole ∙ ap (λ l. l ++ more) (is ∙ ap (λ l. l ++ first) e) }
 
 -- the end of a live process, by what became of its unit and of jobs
@@ -71,7 +72,7 @@ number_is number o e = ap (is_number number) e ∙ (Decides-eqb number number).1
 
 -- whether the unit waits for the report, by what it is asked of
 pub report_decided : (s : State) (number : ℕ) (unit : List ℕ) (starts asked is : Bool) → starts ≡ is_starting (state_of_unit s.units unit).sub
-    → asked ≡ may_be_asked (acting_in s.loaded unit).settings.kind → is ≡ is_number number (state_of_unit s.units unit).main
+    → asked ≡ has_one_command (settings_in s.loaded unit).kind → is ≡ is_number number (state_of_unit s.units unit).main
     → Decides (starts && asked && is) (AwaitsReport s number unit)
 report_decided s number unit starts asked is e f g = (told, tells)
   where

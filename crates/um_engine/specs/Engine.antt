@@ -1,9 +1,12 @@
 -- What an engine, a planned step and the way back hold; and what the engine's helpers do, with the actions before and after.
+use Rattle.um_falling.specs.Carrying.{Adds}
 use Rattle.std.specs.Prelude.{◌≡◌, ◌≢◌, ℕ, ◌<◌, ◌≤◌, Bool, true, false, List, [], ◌++◌, Option, Some, None, is_some, map}
 use Rattle.std.specs.FinMap as finite
 use Rattle.um_model.specs.Machine as model
 use Rattle.um_model.specs.Service.{Action, state_of_unit}
 use Rattle.um_model.specs.Timers.{Timers, IsDueFirst}
+use Rattle.um_model.specs.declared.service.SubState.{SubState}
+use Rattle.um_model.specs.declared.service.SubState.TheVariants.{AutoRestart}
 use Rattle.um_model.specs.declared.transition.UnitEvent.{UnitEvent}
 use Rattle.um_state.specs.View.{state_of, reply_of, action_of}
 use Rattle.um_state.specs.declared.state.State.{State}
@@ -50,17 +53,15 @@ has_effect_in n = is_some n.served
 abbrev pub state_before : Back → model.State → model.State
 state_before b s = given_or b.served s
 
--- of these units the failures are forgotten
-abbrev pub ResetsTo : ℕ → List (List ℕ) → model.State → List Action → model.State → List Action → Type 0
-ResetsTo t units s before s' after = (new : List Action) × model.AreReset t units s new s' × (after ≡ before ++ new)
+-- an event without effect: a command that isn't refused has one always
+abbrev pub LacksEffect : ℕ → model.State → model.Event → Type 0
+LacksEffect t s (model.Commanded command) = ⊥
+LacksEffect t s (model.Happened happening) = model.HasNoEffect t s happening
 
--- jobs begin until none is ready
-abbrev pub SettlesTo : ℕ → model.State → List Action → model.State → List Action → Type 0
-SettlesTo t s before s' after = (new : List Action) × model.Settles t s new s' × (after ≡ before ++ new)
-
--- a deadline of the unit is there
-abbrev pub ComesDueTo : ℕ → model.State → List ℕ → List Action → model.State → List Action → Type 0
-ComesDueTo t s unit before s' after = (new : List Action) × model.ComesDue t s unit new s' × (after ≡ before ++ new)
+-- a unit in this sub state waits for its restart
+abbrev pub waits_to_restart : SubState → Bool
+waits_to_restart AutoRestart = true
+waits_to_restart other = false
 
 -- a deadline fires where it still stands
 pub data FiresOneTo (t deadline : ℕ) (unit : List ℕ) (s : model.State) (before : List Action) : model.State → List Action → Type 0 where
@@ -69,13 +70,9 @@ pub data FiresOneTo (t deadline : ℕ) (unit : List ℕ) (s : model.State) (befo
       → model.ComesDue t s unit first u → model.Settles t u next v → after ≡ before ++ (first ++ next)
       → FiresOneTo t deadline unit s before v after
 
--- these deadlines fire
-abbrev pub FiresFrom : ℕ → Timers → model.State → List Action → model.State → List Action → Type 0
-FiresFrom t timers s before s' after = (new : List Action) × model.Fires t timers s new s' × (after ≡ before ++ new)
-
 -- the deadlines that stand fire
 abbrev pub FiresTo : ℕ → model.State → List Action → model.State → List Action → Type 0
-FiresTo t s before s' after = (timers : Timers) × model.AreDeadlines s.units timers × FiresFrom t timers s before s' after
+FiresTo t s before s' after = (timers : Timers) × model.AreDeadlines s.units timers × Adds (model.Fires t timers s) before s' after
 
 -- the deadline that is due first, and not past the moment
 abbrev pub IsDue : ℕ → Timers → ℕ → List ℕ → Type 0

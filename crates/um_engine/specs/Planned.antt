@@ -3,7 +3,7 @@
 -- Plans stand on this file.
 use Rattle.std.specs.Prelude.{◌≡◌, ℕ, List}
 use Rattle.um_model.specs.Jobs.{jobs_of_unit}
-use Rattle.um_model.specs.Machine.{State, IsHeldOr, Takes, Commanded, Command, Refuses, IsTooHeavy, scene_at}
+use Rattle.um_model.specs.Machine.{State, IsHeldOr, TakesEffect, Commanded, Command, Refuses, IsTooHeavy, scene_at}
 use Rattle.um_model.specs.Refusals.{Refused, no_room}
 use Rattle.um_model.specs.Service.{Action, active_state_of, state_of_unit}
 use Rattle.um_model.specs.declared.commands.JobMode.{JobMode}
@@ -31,4 +31,4 @@ pub record HasPlan (s : State) (root : Demand × List ℕ) (mode : JobMode) (u :
 -- a command is refused for a cause of its own, or for want of room for what comes of it
 pub data Declines (size t : ℕ) (s : State) (command : Command) : Refused → Type 0 where
   for_cause : {r : Refused} → Refuses s command r → Declines size t s command r
-  for_room : {actions : List Action} {u : State} → Takes t s (Commanded command) actions u → IsTooHeavy size u → Declines size t s command no_room
+  for_room : {actions : List Action} {u : State} → TakesEffect t s (Commanded command) actions u → IsTooHeavy size u → Declines size t s command no_room

@@ -1,8 +1,9 @@
 //! What a command does, and why it is refused.
 
 ghost use Rattle.std.specs.Prelude.{◌≡◌, Err, [], false, map, IfOk, IfErr};
-ghost use Rattle.um_model.specs.Few.{HoldsNoMore};
-ghost use Rattle.um_model.specs.Machine.{has_waiting};
+ghost use Rattle.um_model.proofs.FewLaws.{HoldsNoMore};
+ghost use Rattle.um_answer.specs.Loaded.{is_found as finds};
+ghost use Rattle.um_model.proofs.WaitingLaws.{has_waiting};
 ghost use Rattle.um_model.specs.Install.{paths_beyond};
 ghost use Rattle.um_model.specs.Machine as model;
 ghost use Rattle.um_model.specs.Refusals as told;
@@ -56,7 +57,7 @@ fn check_cancel(
     leads: &Asked,
 ) -> Result<(), Refusal>
     requires unit { leads.now.unit ≡ model.unit_asked (state_of state.now) asked.now }
-    requires found { leads.now.is_found ≡ model.is_found (units.load (state_of state.now).loaded asked.now) }
+    requires found { leads.now.is_found ≡ finds (units.load (state_of state.now).loaded asked.now) }
     ensures { RefusesBy (model.Refuses (state_of state.now) (model.Cancel asked.now)) result }
 {
     check_missing(alloc, state, asked, leads.is_found)?;

@@ -1,9 +1,10 @@
+ghost use Rattle.um_falling.specs.Carrying.{Adds};
 ghost use Rattle.std.specs.Prelude.{◌≡◌, ◌≢◌, ◌↔◌, [], false, is_some, map, IfOk, IfErr, IfSome, IsTrue};
-ghost use Rattle.um_engine.specs.Engine.{state_in, size_in, has_effect_in, state_at, state_after, reply_in, actions_in, state_before, SettlesTo};
+ghost use Rattle.um_engine.specs.Engine.{LacksEffect, state_in, size_in, has_effect_in, state_at, state_after, reply_in, actions_in, state_before};
 ghost use Rattle.um_engine.specs.OfStore.{is_of_store};
 ghost use Rattle.um_engine.specs.Planned.{Declines};
 ghost use Rattle.um_model.specs.Machine as model;
-ghost use Rattle.um_model.specs.Machine.{Step, Takes, LacksEffect, moment_of, IsTooHeavy};
+ghost use Rattle.um_model.specs.Machine.{Step, TakesEffect, moment_of, IsTooHeavy};
 ghost use Rattle.um_model.specs.Refusals.{Refused};
 ghost use Rattle.um_model.specs.Servable.{IsServable};
 ghost use Rattle.um_state.specs.View.{state_of, input_of, query_of, reply_of, action_of, command_of};
@@ -123,7 +124,7 @@ impl Engine {
     /// What comes of a command at the moment: the state after it, but for its clock.
     fn obeyed(&self, moment: Moment, command: &Command) -> Result<Settled, Refusal>
         ensures taken { IfOk result (λ o.
-            Takes moment (state_in self.now) (model.Commanded (command_of command.now)) (map action_of o.actions.items) o.served.state) }
+            TakesEffect moment (state_in self.now) (model.Commanded (command_of command.now)) (map action_of o.actions.items) o.served.state) }
         ensures reply { IfOk result (λ o. reply_of o.reply
             ≡ model.reply_after (model.Commanded (command_of command.now)) (state_in self.now).tree o.served.state.tree) }
         ensures room { IfOk result (λ o. ¬ IsTooHeavy (size_in self.now) o.served.state) }
@@ -174,7 +175,7 @@ impl Engine {
         }
     }
 
-    /// Takes a step that this engine planned in the state in which it stands. It takes no memory and always succeeds.
+    /// TakesEffect a step that this engine planned in the state in which it stands. It takes no memory and always succeeds.
     pub fn commit(&mut self, next: Next) -> (Reply, Vec<Action>, Back)
         ensures state { state_in self.new ≡ state_after next (state_in self.old) }
         ensures size { size_in self.new ≡ size_in self.old }
@@ -200,7 +201,7 @@ impl Engine {
         )
     }
 
-    /// Takes the step back that the last commit of this engine took. It takes no memory and always succeeds.
+    /// TakesEffect the step back that the last commit of this engine took. It takes no memory and always succeeds.
     pub fn back(&mut self, back: Back)
         ensures state { state_in self.new ≡ state_before back (state_in self.old) }
         ensures size { size_in self.new ≡ size_in self.old }
@@ -240,7 +241,7 @@ fn settle_all(
     mut actions: Vec<Action>,
     moment: Moment,
 ) -> Result<(Served, Vec<Action>), AllocError>
-    ensures { IfOk result (λ r. SettlesTo moment served.state (map action_of actions.items) r.0.state (map action_of r.1.items)) }
+    ensures { IfOk result (λ r. Adds (model.Settles moment served.state) (map action_of actions.items) r.0.state (map action_of r.1.items)) }
 {
     let (mut state, known) = served.into_parts();
     settle(alloc, known.graph(), &mut state, &mut actions, moment)?;

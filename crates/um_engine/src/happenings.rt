@@ -5,8 +5,8 @@ ghost use Rattle.std.specs.Prelude.{◌≡◌, ◌↔◌, ◌&&◌, ℕ, List, [
 ghost use Rattle.um_engine.specs.Engine.{FollowsUpon, Met, MetBy, IsSame};
 ghost use Rattle.um_engine.specs.Known.{KnowsFor};
 ghost use Rattle.um_falling.specs.Over.{Serves};
-ghost use Rattle.um_model.specs.Ends.{is_starting, may_be_asked};
-ghost use Rattle.um_model.specs.Few.{IsFew};
+ghost use Rattle.um_model.specs.Ends.{is_starting, has_one_command};
+ghost use Rattle.um_model.specs.Servable.{IsFew};
 ghost use Rattle.um_model.specs.Machine as model;
 ghost use Rattle.um_model.specs.Service.{is_number};
 ghost use Rattle.um_state.specs.View.{state_of, happening_of, action_of};
@@ -19,7 +19,7 @@ use um_falling::{Acting, happen};
 use um_graph::Graph;
 use um_model::{End, Moment, ProcessNumber, SubState, UnitEvent, UnitKind, UnitState};
 use um_name::UnitName;
-use um_service::may_be_asked;
+use um_service::has_one_command;
 use um_state::{Action, BootId, Happening, State, Units};
 use um_unit::ServiceSettings;
 use um_wire::Refusal;
@@ -118,9 +118,9 @@ fn is_number(number: u64, process: Option<ProcessNumber>) -> bool
 /// Whether a unit of this kind that stands so waits for the report that the program of its main process runs, and that process has
 /// the number.
 fn awaits(stands: UnitState, kind: UnitKind, number: u64) -> bool
-    ensures { result ≡ (is_starting stands.sub && may_be_asked kind && is_number number stands.main) }
+    ensures { result ≡ (is_starting stands.sub && has_one_command kind && is_number number stands.main) }
 {
-    is_starting(stands.sub) && may_be_asked(kind) && is_number(number, stands.main)
+    is_starting(stands.sub) && has_one_command(kind) && is_number(number, stands.main)
 }
 
 /// Whether the unit, one of the graph, waits for the report that the program of its main process runs, and that process has the

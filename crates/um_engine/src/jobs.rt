@@ -2,7 +2,8 @@
 
 ghost use Rattle.std.specs.Prelude.{◌≡◌, ◌||◌};
 ghost use Rattle.um_model.specs.Jobs as model;
-ghost use Rattle.um_model.specs.Machine.{begins, demand_of, has_waiting};
+ghost use Rattle.um_model.proofs.WaitingLaws.{has_waiting};
+ghost use Rattle.um_model.specs.Machine.{begins, demand_of};
 
 use um_jobs::{is_active, is_waiting};
 use um_model::{ActiveState, Demand, JobKind, JobState, UnitEvent, UnitJobs, UnitVerb};

@@ -1,14 +1,14 @@
 ghost use Rattle.std.specs.Prelude.{◌≡◌, ◌≢◌, ◌↔◌, ◌≤◌, ◌++◌, ℕ, List, length, None};
-ghost use Rattle.um_model.specs.Alike.{IsSameOutcome};
-ghost use Rattle.um_model.specs.Few.{IsFew};
+ghost use Rattle.um_model.proofs.MachineLaws.{IsSameOutcome};
 ghost use Rattle.um_model.specs.Finished.{Finishes, IsAtRest, PutsStart};
 ghost use Rattle.um_model.specs.InputSpellings.{FitInput, input_spelling};
 ghost use Rattle.um_model.specs.Jobs.{jobs_of_unit};
-ghost use Rattle.um_model.specs.Live.{IsFree, IsNotStuck, WeighsNoMore};
+ghost use Rattle.um_model.proofs.LightLaws.{WeighsNoMore};
+ghost use Rattle.um_model.proofs.LiveLaws.{IsNotStuck};
 ghost use Rattle.um_model.specs.Machine.{State, Happening, Happened, Input, Reply, Done, Refusal, Step, Run, empty_state};
 ghost use Rattle.um_model.specs.Numbers.{AreNew, started_numbers, actions_in};
 ghost use Rattle.um_model.specs.Refusals.{Refused};
-ghost use Rattle.um_model.specs.Servable.{IsServable};
+ghost use Rattle.um_model.specs.Servable.{IsServable, IsFew, IsFree};
 ghost use Rattle.um_model.specs.Service.{Action};
 ghost use Rattle.um_model.specs.StateSpellings.{FitState, state_spelling};
 

@@ -1,7 +1,8 @@
 //! What the plan of a command for a unit makes of the state (systemctl(1), "start", "stop", "restart", "try-restart").
 
 ghost use Rattle.std.specs.Prelude.{◌≡◌, ◌≢◌, ◌<◌, ℕ, List, IfOk, IfErr, OnOk, drop, length};
-ghost use Rattle.um_engine.specs.Demanded.{HoldsWithin, IsDeclined, Obeys};
+ghost use Rattle.um_answer.specs.Loaded.{is_found as finds};
+ghost use Rattle.um_engine.specs.Demanded.{HoldsWithin, IsDeclined, Obeys, wants_it_there};
 ghost use Rattle.um_engine.specs.Known.{IsGraphFor, KnowsFor};
 ghost use Rattle.um_engine.specs.Planned.{AreActive, ArePending, HasPlan};
 ghost use Rattle.um_graph.specs.Graph.{IsGraph, IsNumberOf};
@@ -181,7 +182,7 @@ fn demand_for(state: &State, verb: UnitVerb, unit: &UnitName) -> Option<Demand>
 
 /// Whether the command is for a unit that is there already.
 fn wants_it_there(verb: UnitVerb) -> bool
-    ensures { result ≡ model.wants_it_there verb }
+    ensures { result ≡ wants_it_there verb }
 {
     matches!(verb, UnitVerb::Stop | UnitVerb::TryRestart)
 }
@@ -194,7 +195,7 @@ fn check_there(
     asked: &UnitName,
     is_found: bool,
 ) -> Result<(), Refusal>
-    requires { is_found ≡ model.is_found (load_in (state_of state.now).loaded asked.now) }
+    requires { is_found ≡ finds (load_in (state_of state.now).loaded asked.now) }
     ensures { RefusesBy (model.IsNotThere (state_of state.now) verb asked.now) result }
 {
     if !wants_it_there(verb) {

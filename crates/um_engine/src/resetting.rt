@@ -1,7 +1,7 @@
 //! Failures are forgotten (systemctl(1), "reset-failed").
 
+ghost use Rattle.um_falling.specs.Carrying.{Adds};
 ghost use Rattle.std.specs.Prelude.{◌≡◌, ◌∷◌, [], map, IfOk, OnOk};
-ghost use Rattle.um_engine.specs.Engine.{ResetsTo};
 ghost use Rattle.um_falling.specs.Over.{Serves};
 ghost use Rattle.um_model.specs.Machine as model;
 ghost use Rattle.um_state.specs.View.{state_of, action_of};
@@ -27,7 +27,7 @@ fn reset(
     unit: &UnitName,
 ) -> Result<(), AllocError>
     ensures { OnOk result (Serves graph.now (state_of state.old)
-        → ResetsTo moment (unit.now ∷ []) (state_of state.old) (map action_of actions.old.items) (state_of state.new) (map action_of actions.new.items)
+        → Adds (model.AreReset moment (unit.now ∷ []) (state_of state.old)) (map action_of actions.old.items) (state_of state.new) (map action_of actions.new.items)
         × Serves graph.now (state_of state.new)) }
 {
     if !state.holds(unit) {
@@ -47,7 +47,7 @@ fn reset_all(
     units: &[UnitName],
 ) -> Result<(), AllocError>
     ensures { OnOk result (Serves graph.now (state_of state.old)
-        → ResetsTo moment units.now (state_of state.old) (map action_of actions.old.items) (state_of state.new) (map action_of actions.new.items)
+        → Adds (model.AreReset moment units.now (state_of state.old)) (map action_of actions.old.items) (state_of state.new) (map action_of actions.new.items)
         × Serves graph.now (state_of state.new)) }
 {
     for unit in units {

@@ -1,11 +1,13 @@
-ghost use Rattle.std.specs.Prelude.{◌≡◌, false, map, Contains, IfOk, IfSome, OnOk, MatchOption};
-ghost use Rattle.um_engine.specs.Engine.{SettlesTo, ComesDueTo, FiresOneTo, FiresTo, IsDue, NoneIsDue};
+ghost use Rattle.um_falling.specs.Carrying.{Adds};
+ghost use Rattle.std.specs.Prelude.{◌≡◌, false, map, Contains, Some, IfOk, IfSome, OnOk, MatchOption};
+ghost use Rattle.um_engine.specs.Engine.{waits_to_restart, FiresOneTo, FiresTo, IsDue, NoneIsDue};
 ghost use Rattle.um_engine.specs.Filled.{Tells, is_deactivating, told_of};
 ghost use Rattle.um_falling.specs.Carrying.{KeepsOthers};
 ghost use Rattle.um_falling.specs.Over.{Serves};
 ghost use Rattle.um_graph.specs.Graph.{IsNumberOf};
-ghost use Rattle.um_model.specs.Jobs.{BeginsNext, IsWaiting, Job};
+ghost use Rattle.um_model.specs.Jobs.{BeginsNext, Job, state_of_job};
 ghost use Rattle.um_model.specs.Machine as model;
+ghost use Rattle.um_model.specs.declared.jobs.JobState.TheVariants.{Waiting};
 ghost use Rattle.um_model.specs.Machine.{begun, IsBefore, IsStill};
 ghost use Rattle.um_model.specs.Service.{active_state_of};
 ghost use Rattle.um_state.specs.View.{state_of, action_of};
@@ -63,7 +65,7 @@ fn next_job(graph: &Graph, jobs: &Jobs) -> Result<Option<NextJob>, AllocError>
         (IsStill s)
         (λ job. BeginsNext (IsBefore s.loaded) s.units s.pending (record { unit = job.name; kind = job.kind }))) }
     ensures waits { IfOk result (λ next. (s : model.State) → Tells graph.now s jobs.now
-        → IfSome next (λ job. IsWaiting s.pending (record { unit = job.name; kind = job.kind }))) }
+        → IfSome next (λ job. (state_of_job s.pending (record { unit = job.name; kind = job.kind }) ≡ Some Waiting))) }
     ensures number { IfOk result (λ next. IfSome next (λ job. IsNumberOf graph.now job.unit job.name)) }
 {
     let Some((unit, kind)) = jobs.ready(graph) else {
@@ -113,7 +115,7 @@ pub fn settle(
     moment: Moment,
 ) -> Result<(), AllocError>
     ensures { OnOk result (Serves graph.now (state_of state.old)
-        → SettlesTo moment (state_of state.old) (map action_of actions.old.items) (state_of state.new) (map action_of actions.new.items)
+        → Adds (model.Settles moment (state_of state.old)) (map action_of actions.old.items) (state_of state.new) (map action_of actions.new.items)
         × Serves graph.now (state_of state.new)) }
 {
     let mut jobs = jobs_in(alloc, graph, state)?;
@@ -147,8 +149,8 @@ fn next_due(timers: &Timers, moment: Moment) -> Result<Option<Due>, AllocError>
     Ok(Some(Due { deadline, unit }))
 }
 
-fn awaits_restart(sub: SubState) -> bool
-    ensures { result ≡ model.awaits_restart sub }
+fn waits_to_restart(sub: SubState) -> bool
+    ensures { result ≡ waits_to_restart sub }
 {
     matches!(sub, SubState::AutoRestart)
 }
@@ -163,10 +165,10 @@ fn come_due(
     unit: &UnitName,
 ) -> Result<(), AllocError>
     ensures { OnOk result (Serves graph.now (state_of state.old) → Contains graph.now.names unit.now
-        → ComesDueTo moment (state_of state.old) unit.now (map action_of actions.old.items) (state_of state.new) (map action_of actions.new.items)
+        → Adds (model.ComesDue moment (state_of state.old) unit.now) (map action_of actions.old.items) (state_of state.new) (map action_of actions.new.items)
         × Serves graph.now (state_of state.new)) }
 {
-    if awaits_restart(state.units().get(unit).sub) {
+    if waits_to_restart(state.units().get(unit).sub) {
         restart(alloc, graph, state, unit)?;
         return Ok(());
     }

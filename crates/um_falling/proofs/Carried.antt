@@ -1,9 +1,10 @@
 -- What happens to a unit is carried out, by what its parts have become.
-use Rattle.std.proofs.Common.{◌≡◌, ◌≢◌, ◌∙◌, ℕ, ◌+◌, ◌≤◌, Bool, true, false, List, ◌++◌, Contains, Option, Some, None, unwrap_or, sym, ap, subst, inl, inr, arith}
+use Rattle.um_falling.specs.Carrying.{Adds}
+use Rattle.std.proofs.Common.{◌≡◌, ◌≢◌, ◌∙◌, ℕ, ◌+◌, ◌≤◌, Bool, true, false, List, ◌++◌, Contains, Option, Some, None, unwrap_or, sym, ap, subst, inl, inr, arith, refl, true≢false}
 use Rattle.std.proofs.lemmas.Option.{none-some}
 use Rattle.um_model.specs.Jobs.{AreTidyJobs, jobs_of_unit, jobs_left, start_left, unless_running, with_jobs}
 use Rattle.um_model.specs.Machine as machine
-use Rattle.um_model.specs.Machine.{State, IsHeld, TakesAlong, acting_in, around, alone, along, change_of, changed, fails_start}
+use Rattle.um_model.specs.Machine.{State, IsHeld, TakesAlong, settings_in, around, alone, along, change_of, changed}
 use Rattle.um_model.specs.Service.{Action, AreTidyUnits, dead_unit, state_of_unit, with_unit}
 use Rattle.um_model.specs.Transitions.{AreActions, HasNumber, spawned}
 use Rattle.um_model.specs.declared.jobs.JobState.{JobState}
@@ -18,10 +19,21 @@ use Rattle.um_model.proofs.TimersLaws.{same_name}
 use Rattle.um_model.proofs.UnitLaws.{jobs_apart, jobs_here, state_apart, tidy_jobs, tidy_units}
 use Rattle.um_model.proofs.WaitingLaws.{NoMoreWait, waits, waits_in}
 use Rattle.um_graph.specs.Graph.{GraphView}
-use Rattle.um_falling.specs.Carrying.{ChangesTo, KeepsOthers}
-use Rattle.um_falling.specs.Carrying.{CarriesTo}
+use Rattle.um_falling.specs.Carrying.{ChangesTo, KeepsOthers, fails_start}
 use Rattle.um_falling.specs.Over.{Serves}
 use Rattle.um_falling.proofs.AlongLaws.{pending_apart, units_apart}
+
+-- ---- whether a start fails
+
+fails_told : (start : StartJob) (job : Option JobState) → fails_start start job ≡ true → (start ≡ Fails) × (job ≡ Some Running)
+fails_told Fails (Some Running) e = (refl, refl)
+fails_told Fails (Some Waiting) e = absurd (true≢false (sym e))
+fails_told Fails None e = absurd (true≢false (sym e))
+fails_told Stays job e = absurd (true≢false (sym e))
+fails_told Ends job e = absurd (true≢false (sym e))
+
+fails_not : (start : StartJob) (job : Option JobState) → fails_start start job ≡ false → ¬ ((start ≡ Fails) × (job ≡ Some Running))
+fails_not start job none fails = true≢false (sym (ap (λ x. fails_start x job) fails.0 ∙ ap (fails_start Fails) fails.1) ∙ none)
 
 -- ---- the unit and its jobs
 
@@ -30,7 +42,7 @@ pub changes_so : (t : ℕ) (unit : List ℕ) (event : UnitEvent) (s u v w : Stat
     → v ≡ record u { pending = with_jobs u.pending unit (jobs_left (change_of t s unit event).start (change_of t s unit event).stop_ends (jobs_of_unit s.pending unit)) }
     → w ≡ record v { next = s.next + spawned (change_of t s unit event).order }
     → fails ≡ fails_start (change_of t s unit event).start (jobs_of_unit s.pending unit).start
-    → AreActions (acting_in s.loaded unit).settings (around t s unit) (change_of t s unit event).unit (change_of t s unit event).order new
+    → AreActions (settings_in s.loaded unit) (around t s unit) (change_of t s unit event).unit (change_of t s unit event).order new
     → after ≡ before ++ new → AreTidyJobs s.pending → AreTidyUnits s.units
     → ChangesTo t unit event s before fails w after
 changes_so t unit event s u v w before after new fails e f g is asked all tidy_jobs tidy_units =
@@ -109,12 +121,12 @@ module _ (g : GraphView) (t : ℕ) (unit : List ℕ) (event : UnitEvent) (s v : 
   serves_now = subst (Serves g) (sym changes.state) (serves_changed g s unit c serves known)
 
   -- where no start fails
-  pub carried_alone : fails ≡ false → CarriesTo t unit event s before v after × Serves g v
+  pub carried_alone : fails ≡ false → Adds (machine.Carries t unit event s) before v after × Serves g v
   carried_alone none = (
     (
       changes.new,
       record {
-        state = subst (λ x. machine.Becomes s unit c x) (sym changes.state) (alone (sym changes.fails_so ∙ none));
+        state = subst (λ x. machine.Becomes s unit c x) (sym changes.state) (alone (fails_not c.start (jobs_of_unit s.pending unit).start (sym changes.fails_so ∙ none)));
         asked = changes.asked;
       },
       changes.actions,
@@ -125,7 +137,7 @@ module _ (g : GraphView) (t : ℕ) (unit : List ℕ) (event : UnitEvent) (s v : 
   -- where one does, and takes others along
   pub carried_along : (w : State) → fails ≡ true
       → (Serves g v → Contains g.names unit → AreTidyJobs v.pending → AreTidyUnits v.units → TakesAlong v unit w × Serves g w)
-      → CarriesTo t unit event s before w after × Serves g w
+      → Adds (machine.Carries t unit event s) before w after × Serves g w
   carried_along w one takes =
       let pending = subst (λ (x : State). AreTidyJobs x.pending) (sym changes.state) (tidy_jobs s.pending unit (jobs_left c.start c.stop_ends (jobs_of_unit s.pending unit)) changes.tidy_jobs) in
       let units = subst (λ (x : State). AreTidyUnits x.units) (sym changes.state) (tidy_units s.units unit c.unit changes.tidy_units) in
@@ -133,7 +145,7 @@ module _ (g : GraphView) (t : ℕ) (unit : List ℕ) (event : UnitEvent) (s v : 
         (
           changes.new,
           record {
-            state = along (sym changes.fails_so ∙ one) (subst (λ x. TakesAlong x unit w) changes.state taken.0);
+            state = along (fails_told c.start (jobs_of_unit s.pending unit).start (sym changes.fails_so ∙ one)) (subst (λ x. TakesAlong x unit w) changes.state taken.0);
             asked = changes.asked;
           },
           changes.actions,

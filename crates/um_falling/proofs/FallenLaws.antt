@@ -3,7 +3,7 @@ use Rattle.std.proofs.Common.{◌≡◌, ◌∙◌, ◌+◌, ◌<◌, ◌≤◌,
 use Rattle.std.proofs.lemmas.List.{length-append}
 use Rattle.std.proofs.lemmas.List.Sums.{sum_by-cons}
 use Rattle.um_model.specs.Jobs.{jobs_of_unit}
-use Rattle.um_model.specs.Machine.{State, comes_to_rest, is_waiting, with_result_dependency}
+use Rattle.um_model.specs.Machine.{State, is_waiting}
 use Rattle.um_model.specs.Service.{state_of_unit, with_unit}
 use Rattle.um_model.specs.Settings.{ServiceSettings}
 use Rattle.um_model.specs.Transitions.{transition}
@@ -14,12 +14,12 @@ use Rattle.um_model.specs.declared.transition.Change.{Change}
 use Rattle.um_model.specs.declared.transition.UnitEvent.{UnitEvent}
 use Rattle.um_model.specs.declared.transition.UnitEvent.TheVariants.{BoundStop}
 use Rattle.um_model.specs.Jobs.{with_jobs}
-use Rattle.um_model.proofs.FallTotal.{bound_stop_down, bound_stop_leaves, goes_at, stays_up}
+use Rattle.um_model.proofs.FallTotal.{bound_stop_down, bound_stop_leaves, goes_at, stays_up, comes_to_rest}
 use Rattle.um_model.proofs.TimersLaws.{same_name}
 use Rattle.um_model.proofs.UnitLaws.{state_apart, state_here}
 use Rattle.um_graph.specs.Graph.{GraphView, IsNumberOf, row_of}
 use Rattle.um_graph.specs.declared.row.Neighbour.{Neighbour}
-use Rattle.um_falling.specs.Along.{Taking, goes_before, needs_it, taken, taken_all, taken_by, taken_named, taken_next, without_start_of}
+use Rattle.um_falling.specs.Along.{Taking, goes_before, needs_it, taken, taken_all, taken_by, taken_named, taken_next, without_start_of, with_result_dependency}
 use Rattle.um_falling.specs.Falling.{AddsFalling, KeepsSubs, StopsIf, StopsOne, falling, falling_from, goes, is_bound, sub_of}
 use Rattle.um_falling.proofs.AlongLaws.{known_by, sum_falls, cons_cases}
 

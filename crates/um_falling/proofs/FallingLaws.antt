@@ -1,4 +1,5 @@
 -- The units that the code finds to fall with one that came to rest are those that the definition says, by name.
+use Rattle.um_falling.specs.Carrying.{Adds}
 use Rattle.std.proofs.Common.{◌≡◌, ◌∙◌, ◌+◌, ◌==◌, ◌&&◌, ℕ, zero, suc, Bool, true, false, true≢false, cond, List, [], ◌∷◌, ◌++◌, length, map, Contains, Some, slice_get, unwrap_or, refl, sym, ap, subst, inl, inr, arith, append_assoc, append-nil}
 use Rattle.std.proofs.lemmas.Bool.{and_parts}
 use Rattle.std.proofs.lemmas.Bool.Decides.{Decides-eqb}
@@ -7,7 +8,7 @@ use Rattle.std.proofs.lemmas.List.Kept.{AllPairs-cons}
 use Rattle.std.proofs.lemmas.Option.{same_Some}
 use Rattle.std.specs.Prelude.{All, AllPairs}
 use Rattle.um_model.specs.Least.{IsNamedBefore}
-use Rattle.um_model.specs.Machine.{State, AreFalling, all_told, told_next, comes_to_rest}
+use Rattle.um_model.specs.Machine.{State, AreByName, FallsWith, all_told, told_next}
 use Rattle.um_model.specs.Dependencies.{Depends}
 use Rattle.um_model.specs.Machine as model
 use Rattle.um_model.specs.Service.{Action, dead_unit}
@@ -15,15 +16,13 @@ use Rattle.um_model.specs.declared.dependencies.DependencyKind.TheVariants.{Bind
 use Rattle.um_model.specs.declared.transition.UnitEvent.{UnitEvent}
 use Rattle.um_model.specs.declared.transition.UnitEvent.TheVariants.{BoundStop}
 use Rattle.um_model.proofs.AmongLaws.{among_contained, contains_among}
-use Rattle.um_model.proofs.FallTotal.{goes_at}
+use Rattle.um_model.proofs.FallTotal.{goes_at, comes_to_rest, rest_told, rest_is}
 use Rattle.um_model.proofs.LeastLaws.{Among}
 use Rattle.um_model.proofs.OnceLaws.{among_at}
 use Rattle.um_model.proofs.SceneLaws.{first_before, others_sorted}
 use Rattle.um_graph.specs.Graph.{GraphView, IsNumberOf, row_of}
 use Rattle.um_graph.specs.Kinds.{has, inverse_bit_of}
 use Rattle.um_graph.specs.declared.row.Neighbour.{Neighbour}
-use Rattle.um_falling.specs.Carrying.{CarriesTo}
-use Rattle.um_falling.specs.Falling.{FallsTo, HappensTo}
 use Rattle.um_falling.specs.Falling.{AddsFalling, AreNamed, falling, falling_from, goes, is_bound, is_bound_as, sub_of}
 use Rattle.um_falling.specs.Over.{Serves}
 use Rattle.um_falling.proofs.AlongLaws.{and_both, any_in, in_any, number_by}
@@ -148,12 +147,13 @@ module _ (g : GraphView) (s u : State) (serves : Serves g s) (holds : Serves g u
       goes_held : (c : State) (x : List ℕ) → goes c x ≡ true → model.IsHeld c x
       goes_held c x t = inl (λ e. true≢false (sym t ∙ ap (λ o. goes_at (unwrap_or o dead_unit).sub) e))
 
-  falls_so : (b : Bool) → comes_to_rest (sub_of s name) (sub_of u name) ≡ b → AreFalling s u name (those b)
+  falls_so : (b : Bool) → comes_to_rest (sub_of s name) (sub_of u name) ≡ b → AreByName (FallsWith s u name) (those b)
   falls_so true rests = record {
     each = λ other. (
       λ c.
           let f = found u row 0 g.names other (among_contained (those true) other c) in
-          record { rests = rests; goes = f.going; bound = bound_so (0 + f.place) other (by_place f.place other f.there) f.bound },
+          let rest = rest_told (sub_of s name) (sub_of u name) rests in
+          record { rests = rest.0; anew = rest.1; goes = f.going; bound = bound_so (0 + f.place) other (by_place f.place other f.there) f.bound },
       λ h.
           let (i, is) = number_by g other (going_known other h.goes) in
           contains_among (those true) other (find u row 0 g.names other i is (so_bound (0 + i) other (by_place i other is) h.bound) h.goes),
@@ -164,7 +164,7 @@ module _ (g : GraphView) (s u : State) (serves : Serves g s) (holds : Serves g u
       by_place : (i : ℕ) (x : List ℕ) → IsNumberOf g i x → IsNumberOf g (0 + i) x
       by_place i x is = let e : i ≡ 0 + i = omega arith in subst (λ k. IsNumberOf g k x) e is
   falls_so false rests = record {
-    each = λ other. (λ c. absurd (omega (arith, c.1)), λ h. absurd (true≢false (sym h.rests ∙ rests)));
+    each = λ other. (λ c. absurd (omega (arith, c.1)), λ h. absurd (true≢false (sym (rest_is (sub_of s name) (sub_of u name) h.rests h.anew) ∙ rests)));
     sorted = λ i j d less few. absurd (omega arith);
   }
 
@@ -173,7 +173,7 @@ module _ (g : GraphView) (s u : State) (serves : Serves g s) (holds : Serves g u
   those_named false = refl
 
   -- they are named, and fall
-  pub falling_named : (names : List (List ℕ)) × AreNamed g (falling g u (sub_of s name) name unit) names × AreFalling s u name names
+  pub falling_named : (names : List (List ℕ)) × AreNamed g (falling g u (sub_of s name) name unit) names × AreByName (FallsWith s u name) names
   falling_named =
       let b = comes_to_rest (sub_of s name) (sub_of u name) in
       (those b, those_named b, falls_so b refl)
@@ -182,18 +182,18 @@ module _ (g : GraphView) (s u : State) (serves : Serves g s) (holds : Serves g u
 
 -- one is told, with those that fall with it, and then the others
 pub falls_more : (t : ℕ) (name : List ℕ) (units falling : List (List ℕ)) (s u v : State) (before between after : List Action)
-    → CarriesTo t name BoundStop s before u between → AreFalling s u name falling → FallsTo t (falling ++ units) u between v after
-    → FallsTo t (name ∷ units) s before v after
+    → Adds (model.Carries t name BoundStop s) before u between → AreByName (FallsWith s u name) falling → Adds (model.FallDown t (falling ++ units) u) between v after
+    → Adds (model.FallDown t (name ∷ units) s) before v after
 falls_more t name units falling s u v before between after (first, carries, is) falls (more, later, all) =
     (first ++ more, told_next carries falls later, all ∙ (ap (λ l. l ++ more) is ∙ append_assoc before first more))
 
 -- all are told
-pub all_fell : (t : ℕ) (s : State) (before : List Action) → FallsTo t [] s before s before
+pub all_fell : (t : ℕ) (s : State) (before : List Action) → Adds (model.FallDown t [] s) before s before
 all_fell t s before = ([], all_told, sym (append-nil before))
 
 -- something happens, and those that fall with it are told
 pub happens_so : (t : ℕ) (name : List ℕ) (event : UnitEvent) (falling : List (List ℕ)) (s u v : State) (before between after : List Action)
-    → CarriesTo t name event s before u between → AreFalling s u name falling → FallsTo t falling u between v after → HappensTo t name event s before v after
+    → Adds (model.Carries t name event s) before u between → AreByName (FallsWith s u name) falling → Adds (model.FallDown t falling u) between v after → Adds (model.Happens t name event s) before v after
 happens_so t name event falling s u v before between after (first, carries, is) falls (more, later, all) =
     (first ++ more, model.Happens.happens carries falls later, all ∙ (ap (λ l. l ++ more) is ∙ append_assoc before first more))
 
@@ -222,7 +222,7 @@ none_named g (name ∷ names) are = cc
 pub record IsOnTheWay (g : GraphView) (t : ℕ) (names : List (List ℕ)) (s u : State) (before between : List Action) (list : List ℕ) : Type 0 where
   pub names_now : List (List ℕ)
   pub named : AreNamed g list names_now
-  pub whole : (v : State) (after : List Action) → FallsTo t names_now u between v after → FallsTo t names s before v after
+  pub whole : (v : State) (after : List Action) → Adds (model.FallDown t names_now u) between v after → Adds (model.FallDown t names s) before v after
   pub serves : Serves g u
 
 -- nothing is told yet
@@ -233,7 +233,7 @@ way_begins g t names s before list named serves = record { names_now = names; na
 -- one more is told
 pub way_goes_on : (g : GraphView) (t : ℕ) (names : List (List ℕ)) (s u v : State) (before between after : List Action) (list rest next : List ℕ) (unit : ℕ)
     → IsOnTheWay g t names s u before between list → list ≡ unit ∷ rest
-    → ((name : List ℕ) → IsNumberOf g unit name → Serves g u → CarriesTo t name BoundStop u between v after × Serves g v)
+    → ((name : List ℕ) → IsNumberOf g unit name → Serves g u → Adds (model.Carries t name BoundStop u) between v after × Serves g v)
     → ((name : List ℕ) → IsNumberOf g unit name → AddsFalling g v (sub_of u name) name rest next)
     → IsOnTheWay g t names s v before after next
 way_goes_on g t names s u v before between after list rest next unit way is carries adds =
@@ -244,24 +244,24 @@ way_goes_on g t names s u v before between after list rest next unit way is carr
       names_now = falling ++ others;
       named = subst (λ l. AreNamed g l (falling ++ others)) (sym (adds name number unit number)) (both_named g _ rest falling others called left);
       whole = λ w end later.
-          way.whole w end (subst (λ l. FallsTo t l u between w end) (sym all) (falls_more t name others falling u v w between after end carried falls later));
+          way.whole w end (subst (λ l. Adds (model.FallDown t l u) between w end) (sym all) (falls_more t name others falling u v w between after end carried falls later));
       serves = serves_then;
     }
 
 -- none is left
 pub way_ends : (g : GraphView) (t : ℕ) (names : List (List ℕ)) (s u : State) (before between : List Action) (list : List ℕ)
-    → IsOnTheWay g t names s u before between list → list ≡ [] → FallsTo t names s before u between × Serves g u
+    → IsOnTheWay g t names s u before between list → list ≡ [] → Adds (model.FallDown t names s) before u between × Serves g u
 way_ends g t names s u before between list way is = (
   way.whole u between
-      (subst (λ l. FallsTo t l u between u between) (sym (none_named g way.names_now (subst (λ l. AreNamed g l way.names_now) is way.named))) (all_fell t u between)),
+      (subst (λ l. Adds (model.FallDown t l u) between u between) (sym (none_named g way.names_now (subst (λ l. AreNamed g l way.names_now) is way.named))) (all_fell t u between)),
   way.serves,
 )
 
 -- something happened to a unit of the graph, and what falls with it fell
 pub happened : (g : GraphView) (t : ℕ) (name : List ℕ) (event : UnitEvent) (s u v : State) (before between after : List Action) (list : List ℕ)
-    → CarriesTo t name event s before u between × Serves g u → Serves g s → Contains g.names name → AddsFalling g u (sub_of s name) name [] list
-    → ((names : List (List ℕ)) → AreNamed g list names → Serves g u → FallsTo t names u between v after × Serves g v)
-    → HappensTo t name event s before v after × Serves g v
+    → Adds (model.Carries t name event s) before u between × Serves g u → Serves g s → Contains g.names name → AddsFalling g u (sub_of s name) name [] list
+    → ((names : List (List ℕ)) → AreNamed g list names → Serves g u → Adds (model.FallDown t names u) between v after × Serves g v)
+    → Adds (model.Happens t name event s) before v after × Serves g v
 happened g t name event s u v before between after list (carries, serves_then) serves known adds falls =
     let (unit, number) = number_by g name known in
     let (falling, called, are) = falling_named g s u serves serves_then name unit number in
@@ -271,8 +271,8 @@ happened g t name event s u v before between after list (carries, serves_then) s
 
 -- the same of the unit by another name that is the same
 pub told_named : (g : GraphView) (t : ℕ) (name other : List ℕ) → name ≡ other → (s u : State) (before after : List Action)
-    → CarriesTo t name BoundStop s before u after × Serves g u → CarriesTo t other BoundStop s before u after × Serves g u
-told_named g t name other same s u before after told = subst (λ x. CarriesTo t x BoundStop s before u after × Serves g u) same told
+    → Adds (model.Carries t name BoundStop s) before u after × Serves g u → Adds (model.Carries t other BoundStop s) before u after × Serves g u
+told_named g t name other same s u before after told = subst (λ x. Adds (model.Carries t x BoundStop s) before u after × Serves g u) same told
 
 -- ---- lists of numbers
 

@@ -6,7 +6,7 @@ use Rattle.std.proofs.lemmas.List.Elements.{Contains-append_left, Contains-push,
 use Rattle.std.proofs.lemmas.Option.{none-some, same_Some}
 use Rattle.um_model.specs.Dependencies.{Depends, IsKnown, extra}
 use Rattle.um_model.specs.Jobs.{AreTidyJobs, jobs_of_unit, no_jobs, without_start}
-use Rattle.um_model.specs.Machine.{State, IsHeld, IsBefore, NeedsStart, IsTakenAlong, TakesAlong, is_waiting, with_result_dependency}
+use Rattle.um_model.specs.Machine.{State, IsHeld, IsBefore, NeedsStart, IsTakenAlong, TakesAlong, is_waiting}
 use Rattle.um_model.specs.Reached.{first, next}
 use Rattle.um_model.specs.Service.{AreTidyUnits, state_of_unit}
 use Rattle.um_model.specs.declared.dependencies.DependencyKind.{DependencyKind}
@@ -18,7 +18,7 @@ use Rattle.um_model.proofs.UnitLaws.{jobs_apart, jobs_here, state_apart, state_h
 use Rattle.um_graph.specs.Graph.{GraphView, IsGraphOf, IsNumberOf, Stands, row_of}
 use Rattle.um_graph.specs.Kinds.{has, before_bit, inverse_bit_of}
 use Rattle.um_graph.specs.declared.row.Neighbour.{Neighbour}
-use Rattle.um_falling.specs.Along.{Taking, goes_before, is_later, needs_it, taken, taken_all, taken_by, taken_next, without_start_of}
+use Rattle.um_falling.specs.Along.{Taking, goes_before, is_later, needs_it, taken, taken_all, taken_by, taken_next, without_start_of, with_result_dependency}
 use Rattle.um_falling.specs.Over.{Serves}
 use Rattle.um_falling.proofs.AlongLaws.{StartWaits, all_quiet, and_both, any_in, cons_cases, in_any, known_by, number_by, or_both, pending_apart, units_apart, waiting_is}
 

@@ -4,9 +4,11 @@
 use Rattle.std.specs.Prelude.{ℕ, ◌==◌, ◌&&◌, ◌||◌, ◌++◌, Bool, if◌then◌else◌, List, [], ◌∷◌, Option, Some, None, slice_get}
 use Rattle.std.specs.List.{list_any}
 use Rattle.um_model.specs.Jobs.{jobs_of_unit, with_jobs, without_start}
-use Rattle.um_model.specs.Machine.{State, is_waiting, with_result_dependency}
+use Rattle.um_model.specs.Machine.{State, is_waiting}
 use Rattle.um_model.specs.Service.{state_of_unit, with_unit}
 use Rattle.um_model.specs.declared.dependencies.DependencyKind.TheVariants.{Requires, BindsTo}
+use Rattle.um_model.specs.declared.service.UnitResult.TheVariants.{Dependency}
+use Rattle.um_model.specs.declared.service.UnitState.{UnitState}
 use Rattle.um_graph.specs.Graph.{GraphView}
 use Rattle.um_graph.specs.Kinds.{has, before_bit, inverse_bit_of}
 use Rattle.um_graph.specs.declared.row.Neighbour.{Neighbour}
@@ -26,6 +28,10 @@ is_later unit n = (n.unit == unit) && has before_bit n.kinds
 -- the unit of the row comes before the unit with the number
 abbrev pub goes_before : List Neighbour → ℕ → Bool
 goes_before row unit = list_any (is_later unit) row
+
+-- the unit, whose start was taken along
+abbrev pub with_result_dependency : UnitState → UnitState
+with_result_dependency u = record u { result = Dependency }
 
 -- the start of the unit is gone, and its result tells so
 abbrev pub without_start_of : State → List ℕ → State

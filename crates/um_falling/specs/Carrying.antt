@@ -1,12 +1,21 @@
 -- What an event makes of its unit and the unit's jobs, before a failed start takes others along, and with these.
 -- Follows the definition of what is carried out: it is the part of it that concerns the unit itself.
 -- Carrying out stands on this file.
-use Rattle.std.specs.Prelude.{◌≡◌, ◌≢◌, ℕ, Bool, List, ◌++◌}
+use Rattle.std.specs.Prelude.{◌≡◌, ◌≢◌, ℕ, Bool, true, false, List, ◌++◌, Option, Some}
 use Rattle.um_model.specs.Jobs.{AreTidyJobs, jobs_of_unit}
-use Rattle.um_model.specs.Machine.{State, Carries, acting_in, around, change_of, changed, fails_start}
+use Rattle.um_model.specs.Machine.{State, Carries, settings_in, around, change_of, changed}
 use Rattle.um_model.specs.Service.{Action, AreTidyUnits, state_of_unit}
 use Rattle.um_model.specs.Transitions.{AreActions}
+use Rattle.um_model.specs.declared.jobs.JobState.{JobState}
+use Rattle.um_model.specs.declared.jobs.JobState.TheVariants.{Running}
+use Rattle.um_model.specs.declared.transition.StartJob.{StartJob}
+use Rattle.um_model.specs.declared.transition.StartJob.TheVariants.{Fails}
 use Rattle.um_model.specs.declared.transition.UnitEvent.{UnitEvent}
+
+-- a start job of the unit runs, and the change fails it
+abbrev pub fails_start : StartJob → Option JobState → Bool
+fails_start Fails (Some Running) = true
+fails_start start job = false
 
 -- the unit is changed, and whether its start fails is told
 pub record ChangesTo (t : ℕ) (unit : List ℕ) (event : UnitEvent) (s : State) (before : List Action) (fails : Bool) (s' : State)
@@ -14,7 +23,7 @@ pub record ChangesTo (t : ℕ) (unit : List ℕ) (event : UnitEvent) (s : State)
   pub new : List Action
   pub state : s' ≡ changed s unit (change_of t s unit event)
   pub fails_so : fails ≡ fails_start (change_of t s unit event).start (jobs_of_unit s.pending unit).start
-  pub asked : AreActions (acting_in s.loaded unit).settings (around t s unit) (change_of t s unit event).unit (change_of t s unit event).order new
+  pub asked : AreActions (settings_in s.loaded unit) (around t s unit) (change_of t s unit event).unit (change_of t s unit event).order new
   pub actions : after ≡ before ++ new
   pub tidy_jobs : AreTidyJobs s.pending
   pub tidy_units : AreTidyUnits s.units
@@ -24,6 +33,6 @@ pub record KeepsOthers (unit : List ℕ) (s s' : State) : Type 0 where
   pub jobs : (x : List ℕ) → x ≢ unit → jobs_of_unit s'.pending x ≡ jobs_of_unit s.pending x
   pub states : (x : List ℕ) → x ≢ unit → state_of_unit s'.units x ≡ state_of_unit s.units x
 
--- what happens to a unit is carried out
-abbrev pub CarriesTo : ℕ → List ℕ → UnitEvent → State → List Action → State → List Action → Type 0
-CarriesTo t unit event s before s' after = (new : List Action) × Carries t unit event s new s' × (after ≡ before ++ new)
+-- what the relation has of actions and of the state behind them is behind the actions that are there
+abbrev pub Adds : (List Action → State → Type 0) → List Action → State → List Action → Type 0
+Adds Goes before s' after = (new : List Action) × Goes new s' × (after ≡ before ++ new)

@@ -3,7 +3,8 @@
 -- What happens to a unit stands on this file, with all units that fall with it.
 use Rattle.std.specs.Prelude.{◌≡◌, ◌≢◌, ℕ, suc, ◌==◌, ◌&&◌, ◌++◌, Bool, false, if◌then◌else◌, List, [], ◌∷◌, Option, Some, None, map, slice_get}
 use Rattle.std.specs.List.{list_any}
-use Rattle.um_model.specs.Machine.{State, FallDown, Happens, comes_to_rest}
+use Rattle.um_model.specs.Machine.{State, FallDown, Happens}
+use Rattle.um_model.proofs.FallTotal.{comes_to_rest}
 use Rattle.um_model.specs.Service.{Action, active_state_of, state_of_unit}
 use Rattle.um_model.specs.Transitions.{is_going}
 use Rattle.um_model.specs.declared.dependencies.DependencyKind.TheVariants.{BindsTo}
@@ -61,11 +62,3 @@ pub record StopsOne (unit : List ℕ) (s v : State) : Type 0 where
 abbrev pub StopsIf : Option (List ℕ) → State → List ℕ → State → List ℕ → Type 0
 StopsIf None s list v after = (v ≡ s) × (after ≡ list)
 StopsIf (Some name) s list v after = StopsOne name s v
-
--- what happens to a unit is carried out, with all units that fall with it
-abbrev pub HappensTo : ℕ → List ℕ → UnitEvent → State → List Action → State → List Action → Type 0
-HappensTo t unit event s before s' after = (new : List Action) × Happens t unit event s new s' × (after ≡ before ++ new)
-
--- these units are told to stop at once
-abbrev pub FallsTo : ℕ → List (List ℕ) → State → List Action → State → List Action → Type 0
-FallsTo t units s before s' after = (new : List Action) × FallDown t units s new s' × (after ≡ before ++ new)

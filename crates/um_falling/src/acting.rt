@@ -1,6 +1,7 @@
 //! How a unit acts: what the service table knows of it.
 
 ghost use Rattle.std.specs.Prelude.{◌≡◌, Some, Contains, option_copied, option_map};
+ghost use Rattle.um_model.specs.Dependencies.{loadable_in, loadable_of};
 ghost use Rattle.um_falling.specs.Over.{Serves};
 ghost use Rattle.um_model.specs.Machine as model;
 ghost use Rattle.um_model.specs.Settings.{default_settings};
@@ -31,12 +32,12 @@ fn loading<'g>(graph: &'g Graph, unit: &UnitName) -> Option<&'g Loading>
 }
 
 impl<'g> Acting<'g> {
-    ghost use Rattle.um_falling.specs.Acting.{acting_of};
+    ghost use Rattle.um_falling.specs.Acting.{acting_of, acts_as, unloadable};
 
     /// A unit that isn't loadable: it acts as a simple service with default settings.
     fn unloadable(defaults: &'g ServiceSettings) -> Acting<'g>
         requires { service_settings_of defaults.now ≡ default_settings Simple }
-        ensures { acting_of result ≡ model.acting_unloadable }
+        ensures { acting_of result ≡ unloadable }
     {
         Acting {
             settings: defaults,
@@ -47,7 +48,7 @@ impl<'g> Acting<'g> {
     /// How a unit acts that was found: a template isn't loadable.
     fn of_found(found: &'g LoadedUnit, defaults: &'g ServiceSettings) -> Acting<'g>
         requires { service_settings_of defaults.now ≡ default_settings Simple }
-        ensures { acting_of result ≡ model.acting_of (units.Found (unit_of found.now)) }
+        ensures { acting_of result ≡ acts_as (loadable_of (units.Found (unit_of found.now))) }
     {
         if found.name.is_template() {
             return Acting::unloadable(defaults);
@@ -61,7 +62,7 @@ impl<'g> Acting<'g> {
     /// How a unit acts, by what was found of it.
     fn of(loading: &'g Loading, defaults: &'g ServiceSettings) -> Acting<'g>
         requires { service_settings_of defaults.now ≡ default_settings Simple }
-        ensures { acting_of result ≡ model.acting_of (loading_of loading.now) }
+        ensures { acting_of result ≡ acts_as (loadable_of (loading_of loading.now)) }
     {
         match loading {
             Loading::Found(found) => Acting::of_found(found, defaults),
@@ -76,7 +77,7 @@ impl<'g> Acting<'g> {
     pub fn in_graph(graph: &'g Graph, unit: &UnitName, defaults: &'g ServiceSettings) -> Acting<'g>
         requires { service_settings_of defaults.now ≡ default_settings Simple }
         ensures { (s : model.State) → Serves graph.now s → Contains graph.now.names unit.now
-            → acting_of result ≡ model.acting_in s.loaded unit.now }
+            → acting_of result ≡ acts_as (loadable_in s.loaded unit.now) }
     {
         match loading(graph, unit) {
             Some(loading) => Acting::of(loading, defaults),

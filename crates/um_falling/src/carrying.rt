@@ -1,6 +1,6 @@
+ghost use Rattle.um_falling.specs.Carrying.{Adds};
 ghost use Rattle.std.specs.Prelude.{◌≡◌, false, Contains, map, IfOk, OnOk};
-ghost use Rattle.um_falling.specs.Carrying.{ChangesTo, KeepsOthers};
-ghost use Rattle.um_falling.specs.Carrying.{CarriesTo};
+ghost use Rattle.um_falling.specs.Carrying.{ChangesTo, KeepsOthers, fails_start};
 ghost use Rattle.um_falling.specs.Falling.{StopsOne};
 ghost use Rattle.um_falling.specs.Over.{Serves};
 ghost use Rattle.um_model.proofs.WaitingLaws.{NoMoreWait};
@@ -21,7 +21,7 @@ use um_unit::ServiceSettings;
 
 /// Whether a start job of the unit runs, and is failed.
 fn fails_start(start: StartJob, job: Option<JobState>) -> bool
-    ensures { result ≡ model.fails_start start job }
+    ensures { result ≡ fails_start start job }
 {
     matches!((start, job), (StartJob::Fails, Some(JobState::Running)))
 }
@@ -74,7 +74,7 @@ pub fn carry(
     event: UnitEvent,
 ) -> Result<bool, AllocError>
     ensures carries { OnOk result (Serves graph.now (state_of state.old) → Contains graph.now.names unit.now
-        → CarriesTo moment unit.now event (state_of state.old) (map action_of actions.old.items) (state_of state.new) (map action_of actions.new.items)
+        → Adds (model.Carries moment unit.now event (state_of state.old)) (map action_of actions.old.items) (state_of state.new) (map action_of actions.new.items)
         × Serves graph.now (state_of state.new)) }
     ensures waits { OnOk result (NoMoreWait (state_of state.new).pending (state_of state.old).pending) }
     ensures others { IfOk result (λ fails. fails ≡ false → KeepsOthers unit.now (state_of state.old) (state_of state.new)) }

@@ -1,14 +1,14 @@
 //! What happens to a unit, with the units that fall with it: those that are bound to one that comes to rest are told to stop at once
 //! (systemd.unit(5), "BindsTo=").
 
+ghost use Rattle.um_falling.specs.Carrying.{Adds};
 ghost use Rattle.std.specs.Prelude.{◌≡◌, ◌++◌, ℕ, List, [], false, map, Contains, IfOk, OnOk, slice_get};
 ghost use Rattle.um_falling.specs.Carrying.{KeepsOthers};
-ghost use Rattle.um_falling.specs.Carrying.{CarriesTo};
-ghost use Rattle.um_falling.specs.Falling.{FallsTo, HappensTo};
 ghost use Rattle.um_falling.specs.Falling as falls;
 ghost use Rattle.um_falling.specs.Falling.{AddsFalling, AreNamed, StopsIf, StopsOne, falling_from, goes, sub_of};
 ghost use Rattle.um_falling.specs.Over.{Serves};
 ghost use Rattle.um_graph.specs.Graph.{IsGraph, IsNumberOf};
+ghost use Rattle.um_model.proofs.FallTotal.{comes_to_rest};
 ghost use Rattle.um_model.proofs.WaitingLaws.{NoMoreWait};
 ghost use Rattle.um_model.specs.Machine as model;
 ghost use Rattle.um_model.specs.declared.transition.UnitEvent.TheVariants.{BoundStop};
@@ -24,7 +24,7 @@ use um_state::{Action, State};
 
 /// Whether a unit that stands so came to rest: it is dead or failed, and wasn't the same before.
 fn comes_to_rest(before: SubState, after: SubState) -> bool
-    ensures { result ≡ model.comes_to_rest before after }
+    ensures { result ≡ comes_to_rest before after }
 {
     match after {
         SubState::Dead => !matches!(before, SubState::Dead),
@@ -117,7 +117,7 @@ fn carry_on(
     event: UnitEvent,
 ) -> Result<bool, AllocError>
     ensures carries { OnOk result (Serves graph.now (state_of state.old) → Contains graph.now.names unit.now
-        → CarriesTo moment unit.now event (state_of state.old) (map action_of actions.old.items) (state_of state.new) (map action_of actions.new.items)
+        → Adds (model.Carries moment unit.now event (state_of state.old)) (map action_of actions.old.items) (state_of state.new) (map action_of actions.new.items)
         × Serves graph.now (state_of state.new)) }
     ensures adds { OnOk result (AddsFalling graph.now (state_of state.new) (sub_of (state_of state.old) unit.now) unit.now list.old.items list.new.items) }
     ensures waits { OnOk result (NoMoreWait (state_of state.new).pending (state_of state.old).pending) }
@@ -141,7 +141,7 @@ fn fall_next(
     unit: usize,
 ) -> Result<(), AllocError>
     ensures carries { OnOk result ((name : List ℕ) → IsNumberOf graph.now unit name → Serves graph.now (state_of state.old)
-        → CarriesTo moment name BoundStop (state_of state.old) (map action_of actions.old.items) (state_of state.new) (map action_of actions.new.items)
+        → Adds (model.Carries moment name BoundStop (state_of state.old)) (map action_of actions.old.items) (state_of state.new) (map action_of actions.new.items)
         × Serves graph.now (state_of state.new)) }
     ensures adds { OnOk result ((name : List ℕ) → IsNumberOf graph.now unit name
         → AddsFalling graph.now (state_of state.new) (sub_of (state_of state.old) name) name list.old.items list.new.items) }
@@ -167,7 +167,7 @@ fn fall_all(
     moment: Moment,
 ) -> Result<(), AllocError>
     ensures falls { OnOk result ((names : List (List ℕ)) → AreNamed graph.now list.old.items names → Serves graph.now (state_of state.old)
-        → FallsTo moment names (state_of state.old) (map action_of actions.old.items) (state_of state.new) (map action_of actions.new.items)
+        → Adds (model.FallDown moment names (state_of state.old)) (map action_of actions.old.items) (state_of state.new) (map action_of actions.new.items)
         × Serves graph.now (state_of state.new)) }
     ensures waits { OnOk result (NoMoreWait (state_of state.new).pending (state_of state.old).pending) }
     ensures none { OnOk result (list.old.items ≡ [] → state_of state.new ≡ state_of state.old) }
@@ -190,7 +190,7 @@ pub fn happen(
     event: UnitEvent,
 ) -> Result<bool, AllocError>
     ensures happens { OnOk result (Serves graph.now (state_of state.old) → Contains graph.now.names unit.now
-        → HappensTo moment unit.now event (state_of state.old) (map action_of actions.old.items) (state_of state.new) (map action_of actions.new.items)
+        → Adds (model.Happens moment unit.now event (state_of state.old)) (map action_of actions.old.items) (state_of state.new) (map action_of actions.new.items)
         × Serves graph.now (state_of state.new)) }
     ensures waits { OnOk result (NoMoreWait (state_of state.new).pending (state_of state.old).pending) }
     ensures others { IfOk result (λ spreads. spreads ≡ false → KeepsOthers unit.now (state_of state.old) (state_of state.new)) }

@@ -9,7 +9,7 @@ use Rattle.um_model.proofs.ScanLaws.{held_with_number}
 use Rattle.um_model.specs.Machine.{IsOver, IsProcessOf}
 use Rattle.um_model.specs.Service.{ByUnit, state_of_unit, dead_unit}
 use Rattle.um_model.specs.StateSpellings.{numbers_in}
-use Rattle.um_model.specs.Transitions.{live_numbers, numbers, HasNumber}
+use Rattle.um_model.specs.Transitions.{live_numbers, HasNumber}
 use Rattle.um_model.specs.declared.service.UnitState.{UnitState}
 use Rattle.um_model.proofs.MachineLaws.{one_process}
 use Rattle.um_model.specs.declared.service.SubState.{SubState}
@@ -21,6 +21,7 @@ use Rattle.std.proofs.lemmas.List.Filters.{dedup_is}
 use Rattle.std.proofs.lemmas.List.Kept.{AllPairs-from_increasing}
 use Rattle.std.proofs.lemmas.List.Sorted.{list_any-IsPermutation}
 use Rattle.std.proofs.lemmas.Map.Keys.{IsStrictlyIncreasing-dedup}
+use Rattle.um_model.proofs.Forms.{numbers}
 use Rattle.um_fates.specs.Live.{has, is_live, AreLive, IsIn}
 
 abbrev Entries : Type 0

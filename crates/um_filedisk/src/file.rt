@@ -1,6 +1,7 @@
 ghost use Rattle.std.specs.Prelude.{◌≡◌, ◌≢◌, ◌↔◌, ◌*◌, ◌/◌, ◌^◌, ◌≤◌, [], false, IfSome, IsNone, IfOk, IsOk, IfErr, IsErrOf, IsTrue};
 ghost use Rattle.std.proofs.lemmas.Bool.{false≢true};
-ghost use Rattle.um_model.specs.Disk.{one_more, CountsFailure};
+ghost use Rattle.um_sector.specs.Runs.{CountsFailure};
+ghost use Rattle.um_model.specs.Disk.{one_more};
 
 use crate::fault::FileFault;
 use std::fs::{File, Files, OpenOptions};

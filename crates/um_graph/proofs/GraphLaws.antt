@@ -13,13 +13,16 @@ use Rattle.std.proofs.lemmas.Map.Keys.{Less-from_sorted}
 use Rattle.std.proofs.lemmas.Map.Lookups.{exact_bytes}
 use Rattle.std.proofs.lemmas.Map.Views.{btree_map_contains_key_iff}
 use Rattle.std.proofs.lemmas.Option.{slice_get-get_or, slice_get-map}
-use Rattle.um_model.specs.Dependencies.{Declares, Declines, Depends as DependsOn, Gives, IsDeclared, IsKnown, Orders, Precedes, PullsIn, is_target, loadable_in, loadable_of, shutdown_target}
+use Rattle.um_model.specs.Dependencies.{Declares, Declines, Depends as DependsOn, Gives, IsDeclared, IsKnown, Orders, Precedes, PullsIn, loadable_in, loadable_of}
+use Rattle.um_model.specs.Resolution.{shutdown_target}
 use Rattle.um_model.specs.Dependencies as model
 use Rattle.um_model.specs.Least.{IsNamedBefore}
 use Rattle.um_model.specs.Reached.{first}
 use Rattle.um_model.specs.Tree.{Tree}
 use Rattle.um_model.specs.Units.{LoadedUnit, load, unit_named}
 use Rattle.um_model.specs.declared.dependencies.DependencyKind.{DependencyKind}
+use Rattle.um_model.specs.declared.dependencies.DependencyKind.TheVariants as kinds
+use Rattle.um_model.proofs.KnownLaws.{is_target, target_suffix}
 use Rattle.um_unit.specs.View.{loading_of}
 use Rattle.um_graph.specs.Edges.{AreUnits, comes_after, comes_after_by, declines, declines_by, edge, edge_between, edge_bonds, edge_seen, edges_seen, names_of, number_in, order_seen, pair, pair_bonds, unit_seen}
 use Rattle.um_graph.specs.Graph.{Holds, IsGraph, IsGraphOf, Stands, row_of}
@@ -211,7 +214,7 @@ module _ (tree : Tree) (extra : List (List ℕ)) (loaded : Loaded) (told : List 
           by (bonds.after e c) = absurd (omega (arith, e))
 
       declines_is : (u : Unit) → slice_get middle i ≡ Some u → u.name ≡ x → declines u ≡ true ↔ Declines tree x
-      declines_is u g n = (λ t. out (loadable_in tree x) refl (sym same ∙ t), λ d. same ∙ (ap declines_by d.loadable ∙ ap not d.says))
+      declines_is u g n = (λ t. out (loadable_in tree x) refl (sym same ∙ t), λ d. same ∙ (ap declines_by d.1 ∙ ap not d.2))
         where
           same : declines u ≡ declines_by (loadable_in tree x)
           same = ap (λ l. declines_by (loadable_of l)) (loads middle middle_seen i u g ∙ ap (load tree) n)
@@ -220,7 +223,7 @@ module _ (tree : Tree) (extra : List (List ℕ)) (loaded : Loaded) (told : List 
           out None e t = let no : declines_by None ≡ true = ap declines_by (sym e) ∙ t in cc
           out (Some l) e t =
               let yes : not l.settings.dependencies.default_dependencies ≡ true = ap declines_by (sym e) ∙ t in
-              record { unit = l; loadable = e; says = not_true l.settings.dependencies.default_dependencies yes }
+              (l, e, not_true l.settings.dependencies.default_dependencies yes)
             where
               not_true : (b : Bool) → not b ≡ true → b ≡ false
               not_true true h = cc
@@ -365,7 +368,15 @@ module _ (tree : Tree) (extra : List (List ℕ)) (loaded : Loaded) (told : List 
     unfolding Goes
     order_in x y (model.declared d) i j is js ne = inl (edge_in i j x y is js Declared ne (declared_in x y d))
     order_in x y (model.pulled_in p nd) i j is js ne =
-        inr (bonds.pulls_in middle edges i j p.kind p.wants (edge_in j i y x js is (Depends p.kind) (λ e. ne (sym e)) (depends_in p.kind y x p.depends)) (after_in j i y x js is p.holds p.accepts p.too nd))
+        inr (pulled p.depends)
+      where
+        pulled_by : (kind : DependencyKind) → (kind ≡ kinds.Wants) ⊎ (kind ≡ kinds.Requires) → DependsOn tree Extra kind y x → Contains (flat_map (order_seen middle) edges) (pair i j)
+        pulled_by kind k d =
+            bonds.pulls_in middle edges i j kind k (edge_in j i y x js is (Depends kind) (λ e. ne (sym e)) (depends_in kind y x d)) (after_in j i y x js is ((target_suffix y).1 p.target) p.accepts p.too nd)
+
+        pulled : DependsOn tree Extra kinds.Wants y x ⊎ DependsOn tree Extra kinds.Requires y x → Contains (flat_map (order_seen middle) edges) (pair i j)
+        pulled (inl d) = pulled_by kinds.Wants (inl refl) d
+        pulled (inr d) = pulled_by kinds.Requires (inr refl) d
     order_in _ _ (model.ending {a = n} {l = l} k h d) i j is js ne =
         inr (bonds.ends_in middle edges i j (edge_in i j l.name (unit_named tree shutdown_target) is js Ending ne
         (w.whole n (all_followed tree extra loaded told w n k) (tell Ending l.name (unit_named tree shutdown_target)) (ends_told tree n l h d))))
@@ -374,12 +385,16 @@ module _ (tree : Tree) (extra : List (List ℕ)) (loaded : Loaded) (told : List 
     unfolding Goes
     precedes_iff i j x y is js = (out, λ p. order_in x y p.orders i j is js p.apart)
       where
+        either : (kind : DependencyKind) → (kind ≡ kinds.Wants) ⊎ (kind ≡ kinds.Requires) → DependsOn tree Extra kind y x → DependsOn tree Extra kinds.Wants y x ⊎ DependsOn tree Extra kinds.Requires y x
+        either kind (inl is) d = inl (subst (λ k. DependsOn tree Extra k y x) is d)
+        either kind (inr is) d = inr (subst (λ k. DependsOn tree Extra k y x) is d)
+
         pulled : FromOrder middle edges i j → Precedes tree Extra x y
         pulled (bonds.ends c) = let e = edge_out i j x y is js Ending c in record { orders = ending_out x y e.0; apart = e.1 }
         pulled (bonds.pulls kind k c t) =
             let e = edge_out j i y x js is (Depends kind) c in
             let f = after_out j i y x js is e.1 t in
-            let p : PullsIn tree Extra y x = record { holds = f.0; kind = kind; wants = k; depends = depends_out kind y x e.0 e.1; accepts = f.1; too = f.2 } in
+            let p : PullsIn tree Extra y x = record { target = (target_suffix y).0 f.0; depends = either kind k (depends_out kind y x e.0 e.1); accepts = f.1; too = f.2 } in
             record { orders = model.pulled_in p f.3; apart = λ q. e.1 (sym q) }
 
         out : Goes i j → Precedes tree Extra x y

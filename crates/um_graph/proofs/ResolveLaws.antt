@@ -2,8 +2,9 @@
 use Rattle.std.proofs.Common.{◌≡◌, ℕ, List, Option, Some, None, refl}
 use Rattle.um_model.specs.Resolution.{Resolution, AtFile, AtNoFile, AtMask, Nowhere, resolution_of}
 use Rattle.um_model.specs.Tree.{Tree}
-use Rattle.um_model.specs.Units.{LoadedUnit, found_unless, load, loading_at, name_in, unit_named, reason_of, unit_by, sources_at, assignments_in}
+use Rattle.um_model.specs.Units.{LoadedUnit, load, loading_at, name_in, unit_named, reason_of, unit_by, sources_at, assignments_in}
 use Rattle.um_model.specs.Names.{suffix_of}
+use Rattle.um_model.proofs.Forms.{found_unless}
 use Rattle.um_graph.specs.Tells.{named_at}
 
 by_reason : (asked : List ℕ) (reason : Option (List ℕ)) (u : LoadedUnit) → name_in asked (found_unless reason u) ≡ u.name

@@ -5,17 +5,23 @@ use Rattle.std.specs.List.{cons_option}
 use Rattle.um_model.specs.Dependencies.{loadable_of, loadable_in, names_in}
 use Rattle.um_model.specs.Names.{is_template, is_unit_name, suffix_of}
 use Rattle.std.specs.Result.{result_ok}
+use Rattle.std.specs.Option.{option_map_or}
 use Rattle.um_model.specs.declared.warnings.WarningKind.{WarningKind}
-use Rattle.um_model.specs.Readings.{Reading, names_reading, names_said, text_reading, then_read, unit_reading, unit_readings}
+use Rattle.um_model.specs.Readings.{names_reading, text_reading, read_if}
+use Rattle.um_model.specs.Results.{◌and_then◌}
 use Rattle.um_model.specs.Resolution.{Resolution, AtFile, AtNoFile, AtMask, Nowhere, resolution_of}
 use Rattle.um_model.specs.Tree.{Tree}
-use Rattle.um_model.specs.Units.{Assigned, Dependencies, LoadedUnit, Loading, Found, Masked, NotFound, BadSetting, Source, assignments_in, dependencies_of, found_unless, in_unit, load, loading_at, reason_of, sources_at, unit_by, units_named, values_of, without_install}
+use Rattle.um_model.specs.Units.{Assigned, Dependencies, LoadedUnit, Loading, Found, Masked, NotFound, BadSetting, Source, assignments_in, dependencies_of, load, loading_at, reason_of, sources_at, unit_by, units_named, values_of}
 use Rattle.um_model.specs.Words.{words_of}
 use Rattle.um_model.specs.declared.dependencies.DependencyKind.{DependencyKind}
 use Rattle.um_model.specs.declared.dependencies.DependencyKind.TheVariants as kinds
 use Rattle.um_model.specs.declared.warnings.WarningKind.TheVariants.{UnreadableValue}
 use Rattle.um_model.specs.declared.words.WordRules.TheVariants.{Names}
+use Rattle.um_model.proofs.Forms.{found_unless}
 use Rattle.um_graph.proofs.ListLaws.{flat_contains, in_none, in_cons}
+use Rattle.um_model.proofs.FileForms.{Meaning, names_said}
+use Rattle.um_model.proofs.FileForms.{unit_reading}
+use Rattle.um_model.proofs.FileForms.{without_install}
 
 -- ---- what a value tells
 module _ (fits : List ℕ → Bool) (unit : List ℕ) where
@@ -26,7 +32,7 @@ module _ (fits : List ℕ → Bool) (unit : List ℕ) where
   read_fits : (word y : List ℕ) → result_ok (unit_reading fits unit word) ≡ Some y → fits y ≡ true
   read_fits word y h = by (text_reading unit word) h
     where
-      by : (r : Reading (List ℕ)) → result_ok (then_read r (λ text. if fits text then Ok text else Err UnreadableValue)) ≡ Some y → fits y ≡ true
+      by : (r : Meaning (List ℕ)) → result_ok (r and_then read_if fits) ≡ Some y → fits y ≡ true
       by (Err w) h = cc
       by (Ok text) h = tested text y (fits text) refl h
 
@@ -46,14 +52,14 @@ module _ (fits : List ℕ → Bool) (unit : List ℕ) where
   unfolding names_reading
   value_fits value y c = by (words_of Names value) c
     where
-      by : (o : Option (List (List ℕ))) → Contains (filter_map result_ok (unit_readings fits unit o)) y → fits y ≡ true
+      by : (o : Option (List (List ℕ))) → Contains (filter_map result_ok (option_map_or (map (unit_reading fits unit)) o (Err UnreadableValue ∷ []))) y → fits y ≡ true
       by None c = absurd (in_none y c)
       by (Some words) c = words_fit words y c
 
 -- ---- what the settings say
 module _ (unit : List ℕ) (assigned : List Assigned) where
   named_are : (key y : List ℕ) → Contains (units_named key unit assigned) y → is_unit_name y ≡ true
-  named_are key y c = let r = flat_contains (names_said is_unit_name unit) (values_of (in_unit key ∷ []) assigned) y c in value_fits is_unit_name unit r.0 y r.2
+  named_are key y c = let r = flat_contains (names_said is_unit_name unit) (values_of ((codes "Unit", key) ∷ []) assigned) y c in value_fits is_unit_name unit r.0 y r.2
 
 -- all that is named is a unit name
 pub record AreNames (d : Dependencies) : Type 0 where

@@ -1,16 +1,20 @@
 -- What the lists of Tells have is just what the definitions of dependencies give.
-use Rattle.std.proofs.Common.{◌≡◌, ◌⊎◌, ◌∙◌, ℕ, Bool, true, false, List, [], ◌∷◌, ◌++◌, Contains, Option, Some, None, if◌then◌else◌, ◌&&◌, refl, sym, ap, subst, inl, inr}
+use Rattle.std.proofs.Common.{◌≡◌, ◌⊎◌, ◌∙◌, ℕ, Bool, true, false, List, [], ◌∷◌, ◌++◌, Contains, Option, Some, None, is_some, if◌then◌else◌, ◌&&◌, refl, sym, ap, subst, inl, inr}
 use Rattle.std.specs.FinMap as map
 use Rattle.std.specs.List.{flat_map}
 use Rattle.std.proofs.lemmas.Bool.{and_parts}
 use Rattle.std.proofs.lemmas.List.Elements.{Contains-append_left, Contains-append_right, Contains-append_cases}
-use Rattle.um_model.specs.Dependencies.{Declares, Gives, HasEntry, IsNamed, Links, Mentions, Says, has_defaults, loadable_in, names_in, shutdown_target}
+use Rattle.um_model.specs.Dependencies.{Declares, Gives, HasEntry, IsNamed, Links, Mentions, has_defaults, loadable_in, names_in}
+use Rattle.um_model.specs.Resolution.{shutdown_target}
 use Rattle.um_model.specs.Dependencies as model
 use Rattle.um_model.specs.Names.{is_template, is_unit_name, named, stem_of, suffix_of}
 use Rattle.um_model.specs.Tree.{Tree, Entry, File, Link as link_to, PathParts, Place, Unit, DropIn, Wants, Requires, path_parts, is_fit_place, is_plain_name}
 use Rattle.um_model.specs.Units.{LoadedUnit, unit_named}
 use Rattle.um_model.specs.declared.dependencies.DependencyKind.{DependencyKind}
 use Rattle.um_model.specs.declared.dependencies.DependencyKind.TheVariants as kinds
+use Rattle.um_model.proofs.GivesLaws as says
+use Rattle.um_model.proofs.GivesLaws.{Says, HasLink, link_there, there_linked}
+use Rattle.um_model.proofs.KnownLaws.{IsEntryAt, entry_there, there_entered}
 use Rattle.um_model.proofs.TreeLaws.{path_of_parts}
 use Rattle.um_graph.specs.Known.{links_told}
 use Rattle.um_graph.specs.Tells.{both_of, defaults_told, entry_names, entry_told, follows_by, kind_told, link_names, link_told, names_at, names_given, needs_told, own_name, place_names, place_told, shutdown_told, tell, told_at, told_between, told_from, told_in, told_of, told_to, told_where, unless_template}
@@ -271,7 +275,7 @@ module _ (tree : Tree) where
 
   linked_by : (path target : List ℕ) (parts : PathParts) (kind : DependencyKind) (y : List ℕ) → Contains (map.entries tree) (path, link_to target) → path_parts path ≡ Some parts
       → Says parts kind parts.unit y → Links tree kind parts.unit y
-  linked_by path target parts kind y c p s = record { path = path; target = target; parts = parts; link = entry_held tree path (link_to target) c; served = p; says = s }
+  linked_by path target parts kind y c p s = there_linked tree kind parts.unit y path target parts (entry_held tree path (link_to target) c) p s
 
   pub links_out : (t : Told) → Contains (links_told tree) t → LinkTold t
   links_out t c = let r = flat_contains (entry_told tree) (map.entries tree) t c in by_parts r.0.0 r.0.1 r.1 (path_parts r.0.0) refl r.2
@@ -285,7 +289,7 @@ module _ (tree : Tree) where
         kind = kinds.Wants;
         x = parts.unit;
         y = other;
-        links = linked_by path target parts kinds.Wants other c p (model.wants parts other e);
+        links = linked_by path target parts kinds.Wants other c p (says.wants parts other e);
         is = between_is kinds.Wants parts.unit other (named parts.unit) (named other) t refl refl d;
       }
       by_place path (File text) c parts p (Requires other) e d = absurd (in_none t d)
@@ -293,7 +297,7 @@ module _ (tree : Tree) where
         kind = kinds.Requires;
         x = parts.unit;
         y = other;
-        links = linked_by path target parts kinds.Requires other c p (model.requires parts other e);
+        links = linked_by path target parts kinds.Requires other c p (says.requires parts other e);
         is = between_is kinds.Requires parts.unit other (named parts.unit) (named other) t refl refl d;
       }
 
@@ -320,16 +324,19 @@ module _ (tree : Tree) where
       contains_flat (entry_told tree) (map.entries tree) (path, entry) t c told
 
   pub links_in : (kind : DependencyKind) (x y : List ℕ) → Links tree kind x y → Contains (links_told tree) (tell (Depends kind) (unit_named tree x) (unit_named tree y))
-  links_in kind x y l = by kind x y l.says
+  links_in kind x y links = by kind x y l.says
     where
+      l : HasLink tree kind x y
+      l = link_there tree kind x y links
+
       held : Contains (map.entries tree) (l.path, link_to l.target)
       held = held_entry tree l.path (link_to l.target) l.link
 
       by : (kind : DependencyKind) (x y : List ℕ) → Says l.parts kind x y → Contains (links_told tree) (tell (Depends kind) (unit_named tree x) (unit_named tree y))
-      by _ _ _ (model.wants p other e) =
+      by _ _ _ (says.wants p other e) =
           let n = plain_are p.unit other (fit_parts l.path l.parts (Wants other) l.served e) in
           at_place l.path (link_to l.target) l.parts (Wants other) _ held l.served e (between_in kinds.Wants l.parts.unit other n.0 n.1)
-      by _ _ _ (model.requires p other e) =
+      by _ _ _ (says.requires p other e) =
           let n = plain_are p.unit other (fit_parts l.path l.parts (Requires other) l.served e) in
           at_place l.path (link_to l.target) l.parts (Requires other) _ held l.served e (between_in kinds.Requires l.parts.unit other n.0 n.1)
 
@@ -361,14 +368,14 @@ module _ (tree : Tree) where
           → (place : Place) → parts.place ≡ place → Contains (place_names parts.unit place entry) x → IsNamed tree Extra x
       by_place path entry c parts p Unit e d =
           let own = own_is parts.unit (named parts.unit) x refl d in
-          model.has (record { path = path; entry = entry; parts = parts; held = entry_held tree path entry c; served = p; own = e; named = own.0; single = own.1 })
+          model.has (entry_there tree x path (record { parts = parts; held = ap is_some (entry_held tree path entry c); served = p; own = e; named = own.0; single = own.1 }))
       by_place path entry c parts p (DropIn file) e d = absurd (in_none x d)
       by_place path (File text) c parts p (Wants other) e d = absurd (in_none x d)
       by_place path (link_to target) c parts p (Wants other) e d =
-          either kinds.Wants parts.unit other (linked_by path target parts kinds.Wants other c p (model.wants parts other e)) (both_are parts.unit other (named parts.unit) (named other) x refl refl d)
+          either kinds.Wants parts.unit other (linked_by path target parts kinds.Wants other c p (says.wants parts other e)) (both_are parts.unit other (named parts.unit) (named other) x refl refl d)
       by_place path (File text) c parts p (Requires other) e d = absurd (in_none x d)
       by_place path (link_to target) c parts p (Requires other) e d =
-          either kinds.Requires parts.unit other (linked_by path target parts kinds.Requires other c p (model.requires parts other e)) (both_are parts.unit other (named parts.unit) (named other) x refl refl d)
+          either kinds.Requires parts.unit other (linked_by path target parts kinds.Requires other c p (says.requires parts other e)) (both_are parts.unit other (named parts.unit) (named other) x refl refl d)
 
       by_parts : (path : List ℕ) (entry : Entry) → Contains (map.entries tree) (path, entry) → (o : Option PathParts) → path_parts path ≡ o → Contains (names_at o entry) x → IsNamed tree Extra x
       by_parts path entry c None p d = absurd (in_none x d)
@@ -381,13 +388,20 @@ module _ (tree : Tree) where
       subst (λ o. Contains (names_at o entry) x) (sym p) (subst (λ q. Contains (place_names parts.unit q entry) x) (sym e) d) in
       contains_flat entry_names (map.entries tree) (path, entry) x c there
 
+  some_value : (o : Option Entry) → is_some o ≡ true → (entry : Entry) × (o ≡ Some entry)
+  some_value (Some entry) is = (entry, refl)
+  some_value None is = cc
+
   entry_named : (x : List ℕ) → HasEntry tree x → Contains (flat_map entry_names (map.entries tree)) x
-  entry_named x h =
+  entry_named x has =
+      let path = (there_entered tree x has).0 in
+      let h = (there_entered tree x has).1 in
+      let there = some_value (map.get tree path) h.held in
       let u = h.parts.unit in
-      let n : is_unit_name u ≡ true = fit_parts h.path h.parts Unit h.served h.own in
+      let n : is_unit_name u ≡ true = fit_parts path h.parts Unit h.served h.own in
       let single : is_template u ≡ false = ap is_template h.named ∙ h.single in
       let own : Contains (own_name u) u = subst (λ o. Contains (unless_template o) u) (sym (named_self u n)) (subst (λ b. Contains (if b then [] else u ∷ []) u) (sym single) (in_one u)) in
-      named_at_place h.path h.entry h.parts Unit x (held_entry tree h.path h.entry h.held) h.served h.own (subst (Contains (own_name u)) h.named own)
+      named_at_place path there.0 h.parts Unit x (held_entry tree path there.0 there.1) h.served h.own (subst (Contains (own_name u)) h.named own)
 
   both_in : (u v : List ℕ) → is_unit_name u ≡ true → is_unit_name v ≡ true → Contains (link_names u v) u × Contains (link_names u v) v
   both_in u v n m =
@@ -395,8 +409,11 @@ module _ (tree : Tree) where
       (subst (λ xs. Contains xs u) (sym whole) (in_first u v), subst (λ xs. Contains xs v) (sym whole) (in_second u v))
 
   link_named : (kind : DependencyKind) (x y : List ℕ) → Links tree kind x y → Contains (flat_map entry_names (map.entries tree)) x × Contains (flat_map entry_names (map.entries tree)) y
-  link_named kind x y l = by kind x y l.says
+  link_named kind x y links = by kind x y l.says
     where
+      l : HasLink tree kind x y
+      l = link_there tree kind x y links
+
       held : Contains (map.entries tree) (l.path, link_to l.target)
       held = held_entry tree l.path (link_to l.target) l.link
 
@@ -404,10 +421,10 @@ module _ (tree : Tree) where
       at place z e d = named_at_place l.path (link_to l.target) l.parts place z held l.served e d
 
       by : (kind : DependencyKind) (x y : List ℕ) → Says l.parts kind x y → Contains (flat_map entry_names (map.entries tree)) x × Contains (flat_map entry_names (map.entries tree)) y
-      by _ _ _ (model.wants p other e) =
+      by _ _ _ (says.wants p other e) =
           let n = plain_are p.unit other (fit_parts l.path l.parts (Wants other) l.served e) in
           let b = both_in l.parts.unit other n.0 n.1 in (at (Wants other) l.parts.unit e b.0, at (Wants other) other e b.1)
-      by _ _ _ (model.requires p other e) =
+      by _ _ _ (says.requires p other e) =
           let n = plain_are p.unit other (fit_parts l.path l.parts (Requires other) l.served e) in
           let b = both_in l.parts.unit other n.0 n.1 in (at (Requires other) l.parts.unit e b.0, at (Requires other) other e b.1)
 

@@ -7,7 +7,8 @@ use Rattle.std.specs.Cmp.Lexicographic.{slice_cmp}
 use Rattle.std.specs.List.{flat_map}
 use Rattle.std.specs.Ordering.{nat_cmp}
 use Rattle.std.specs.Str.{bytes_eq}
-use Rattle.um_model.specs.Dependencies.{is_target, loadable_of}
+use Rattle.um_model.specs.Dependencies.{loadable_of}
+use Rattle.um_model.proofs.KnownLaws.{is_target}
 use Rattle.um_model.specs.Units.{LoadedUnit}
 use Rattle.um_model.specs.declared.dependencies.DependencyKind.TheVariants as kinds
 use Rattle.um_unit.specs.View.{loading_of}

@@ -5,9 +5,9 @@ use Rattle.std.specs.Prelude.{ℕ, List, [], ◌∷◌, ◌++◌, Option, Some, 
 use Rattle.std.specs.List.{flat_map}
 use Rattle.um_model.specs.Names.{is_template, named}
 use Rattle.um_model.specs.Tree.{Tree, Entry, File, Link as link_to, PathParts, Place, Unit, DropIn, Wants, Requires, path_parts}
-use Rattle.um_model.specs.Resolution.{Resolution, AtFile, AtNoFile, AtMask, Nowhere}
+use Rattle.um_model.specs.Resolution.{Resolution, AtFile, AtNoFile, AtMask, Nowhere, shutdown_target}
 use Rattle.um_model.specs.Units.{LoadedUnit, unit_named}
-use Rattle.um_model.specs.Dependencies.{has_defaults, loadable_in, shutdown_target}
+use Rattle.um_model.specs.Dependencies.{has_defaults, loadable_in}
 use Rattle.um_model.specs.declared.dependencies.DependencyKind.{DependencyKind}
 use Rattle.um_model.specs.declared.dependencies.DependencyKind.TheVariants as kinds
 use Rattle.um_graph.specs.declared.told.Link.{Link}

@@ -3,8 +3,8 @@
 ghost use Rattle.std.specs.Prelude.{◌≡◌, ◌<◌, [], All, AllPairs, IfOk, IfSome, vec_len};
 ghost use Rattle.std.specs.List.{flat_map};
 ghost use Rattle.std.specs.Option.{option_to_list};
-ghost use Rattle.um_model.specs.Dependencies as model;
 ghost use Rattle.um_model.specs.Least.{IsNamedBefore};
+ghost use Rattle.um_model.proofs.KnownLaws.{is_target};
 ghost use Rattle.um_graph.specs.Edges.{AreJoined, comes_after, declines, edge_seen, names_of, order_seen, pulled};
 ghost use Rattle.um_graph.specs.Rows.{AreRows};
 
@@ -47,7 +47,7 @@ fn edges_of(alloc: Global, units: &Units, told: &[Told]) -> Result<Vec<Edge>, Al
 }
 
 fn is_target(unit: &Unit) -> bool
-    ensures { result ≡ model.is_target unit.now.name }
+    ensures { result ≡ is_target unit.now.name }
 {
     unit.name.suffix() == Suffix::Target
 }

@@ -4,6 +4,7 @@ ghost use Rattle.std.specs.Prelude.{◌≡◌, ◌++◌, IfOk, OnOk, option_map,
 ghost use Rattle.std.specs.List.{flat_map};
 ghost use Rattle.um_model.specs.Dependencies as model;
 ghost use Rattle.um_model.specs.Names.{named};
+ghost use Rattle.um_model.specs.Resolution.{shutdown_target};
 ghost use Rattle.um_model.specs.Units.{unit_named};
 ghost use Rattle.um_unit.specs.View.{loading_of, unit_of as loaded_of};
 ghost use Rattle.um_graph.specs.Tells.{defaults_told, follows_by, names_given, needs_told, shutdown_told, told_of};
@@ -111,7 +112,7 @@ fn has_defaults(unit: &LoadedUnit) -> bool
 }
 
 fn shutdown_target(alloc: Global) -> Result<Option<UnitName>, AllocError>
-    ensures { IfOk result (λ name. name ≡ named model.shutdown_target) }
+    ensures { IfOk result (λ name. name ≡ named shutdown_target) }
 {
     UnitName::named(alloc, "shutdown.target")
 }
@@ -123,7 +124,7 @@ fn tell_shutdown(
     told: &mut Vec<Told>,
     unit: &UnitName,
 ) -> Result<(), AllocError>
-    ensures { OnOk result (told.new.items ≡ told.old.items ++ shutdown_told tree.now unit.now (named model.shutdown_target)) }
+    ensures { OnOk result (told.new.items ≡ told.old.items ++ shutdown_told tree.now unit.now (named shutdown_target)) }
 {
     let Some(name) = shutdown_target(alloc)? else {
         return Ok(());

@@ -1,20 +1,25 @@
 -- The name to which a name leads; and what Also= names are unit names.
-use Rattle.std.proofs.Common.{◌≡◌, ◌∙◌, ℕ, Bool, true, false, cond, List, [], map as each, Contains, Option, Some, None, Ok, Err, refl, sym, ap, arith}
+use Rattle.std.proofs.Common.{◌≡◌, ◌∙◌, ℕ, Bool, true, false, cond, List, [], ◌∷◌, map as each, Contains, Option, Some, None, Ok, Err, refl, sym, ap, arith}
 use Rattle.std.specs.List.{filter_map}
 use Rattle.um_model.specs.Install.{install_of}
 use Rattle.um_model.specs.Names.{is_unit_name}
 use Rattle.std.specs.Result.{result_ok}
 use Rattle.um_model.specs.declared.warnings.WarningKind.{WarningKind}
-use Rattle.um_model.specs.Readings.{Reading, then_read, text_reading, unit_reading, unit_readings, names_reading, names_said}
+use Rattle.um_model.specs.Readings.{text_reading, names_reading, read_if}
+use Rattle.um_model.specs.Results.{◌and_then◌}
 use Rattle.um_model.specs.Resolution.{Resolution, AtFile, AtNoFile, AtMask, Nowhere, resolution_of}
 use Rattle.um_model.specs.Tree.{Tree}
-use Rattle.um_model.specs.Units.{Assigned, LoadedUnit, load, loading_at, found_unless, name_in, unit_named, install_settings_of, names_of, unit_by, sources_at, assignments_in}
+use Rattle.um_model.specs.Units.{Assigned, LoadedUnit, load, loading_at, name_in, unit_named, install_settings_of, names_of, unit_by, sources_at, assignments_in}
 use Rattle.um_model.specs.Names.{suffix_of}
 use Rattle.um_model.specs.Words.{words_of}
 use Rattle.um_model.specs.declared.words.WordRules.TheVariants.{Names}
 use Rattle.um_model.specs.declared.warnings.WarningKind.TheVariants.{UnreadableValue}
+use Rattle.um_model.proofs.Forms.{found_unless}
 use Rattle.std.proofs.lemmas.Option.{same_Some, none-some}
+use Rattle.std.specs.Option.{option_map_or}
 use Rattle.um_install.proofs.Members.{each_contains, filter_map_contains, flat_contains}
+use Rattle.um_model.proofs.FileForms.{Meaning, names_said}
+use Rattle.um_model.proofs.FileForms.{unit_reading}
 
 by_file : (asked unit : List ℕ) (reason : Option (List ℕ)) (u : LoadedUnit) → u.name ≡ unit → name_in asked (found_unless reason u) ≡ unit
 by_file asked unit None u e = e
@@ -34,11 +39,11 @@ module _ (fits : List ℕ → Bool) (unit : List ℕ) where
   by_test true text name t e = ap fits (sym (same_Some text name e)) ∙ t
   by_test false text name t e = absurd (none-some name e)
 
-  by_reading : (r : Reading (List ℕ)) (name : List ℕ) → result_ok (then_read r (λ text. cond (fits text) (Ok text) (Err UnreadableValue))) ≡ Some name → fits name ≡ true
+  by_reading : (r : Meaning (List ℕ)) (name : List ℕ) → result_ok (r and_then read_if fits) ≡ Some name → fits name ≡ true
   by_reading (Ok text) name e = by_test (fits text) text name refl e
   by_reading (Err w) name e = absurd (none-some name e)
 
-  in_words : (words : Option (List (List ℕ))) (name : List ℕ) → Contains (filter_map result_ok (unit_readings fits unit words)) name → fits name ≡ true
+  in_words : (words : Option (List (List ℕ))) (name : List ℕ) → Contains (filter_map result_ok (option_map_or (each (unit_reading fits unit)) words (Err UnreadableValue ∷ []))) name → fits name ≡ true
   in_words None name c = absurd (none_in name c)
   in_words (Some words) name c =
       let r = filter_map_contains result_ok (each (unit_reading fits unit) words) name c in

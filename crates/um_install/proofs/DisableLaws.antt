@@ -11,15 +11,17 @@ use Rattle.std.proofs.lemmas.Cmp.{tied_itself}
 use Rattle.std.proofs.lemmas.Map.Lookups.{exact_bytes}
 use Rattle.std.proofs.lemmas.Map.Views.{tells_apart}
 use Rattle.std.proofs.lemmas.Slice.Eq.{bytes_eq-Decides}
-use Rattle.um_model.specs.Install.{is_etc, pulls_in, is_link_for, is_link_of, IsMeant, IsUnlinked, IsDisabled, Installs, disables, RefusesInstall, IsEnabledAs, enabling_of}
+use Rattle.um_model.specs.Install.{IsMeant, IsUnlinked, IsDisabled, Installs, disables, RefusesInstall, IsEnabledAs, enabling_of}
 use Rattle.um_model.specs.Reached.{first, next}
-use Rattle.um_model.specs.Refusals.{Refused, bad_path, cause, unless_refused}
+use Rattle.um_model.specs.Refusals.{Refused, bad_path, unless_refused}
 use Rattle.um_model.specs.Resolution.{unit_in_target}
 use Rattle.um_model.specs.Tree.{Tree, Entry, File, Link, PathParts, Place, Unit, DropIn, Wants, Requires, path_parts, remove_at}
 use Rattle.um_model.specs.Units.{Loading}
 use Rattle.um_model.specs.declared.install.Enabling.{Enabling}
 use Rattle.um_model.specs.declared.install.InstallVerb.TheVariants as verbs
+use Rattle.um_model.proofs.InstallLaws.{unlinked_by, unlinked_test, is_etc, pulls_in, is_link_for, is_link_of}
 use Rattle.um_model.proofs.NameMaps.{After, Rising}
+use Rattle.um_model.proofs.Forms.{cause}
 use Rattle.um_wire.specs.Refusal.{refused_of}
 use Rattle.um_wire.specs.declared.refusal.Refusal.{Refusal}
 use Rattle.um_install.specs.Changes.{and_then, removed, is_link_for_any, is_link_of_any, is_unlinked, paths_unlinked, pulls_in_any}
@@ -218,14 +220,12 @@ module _ (tree : Tree) (asked : List ℕ) (units : Units) (w : AreWalked AsWritt
   at_back (Some p) (Some (Link target)) name k h = (Link target, refl, link_back p target name k h)
 
   unlinked_in : (e : List ℕ × Entry) → Contains (map.entries tree) e → is_unlinked units e ≡ true → IsUnlinked tree asked e.0
-  unlinked_in e c t = let r = at_out (path_parts e.0) e.1 t in record {
-    name = r.0;
-    meant = key_meant r.0 r.1;
-    leads = ap (is_link_of r.0 (path_parts e.0)) (there_get tree e c) ∙ r.2;
-  }
+  unlinked_in e c t =
+      let r = at_out (path_parts e.0) e.1 t in
+      unlinked_by tree asked e.0 r.0 (key_meant r.0 r.1) (ap (is_link_of r.0 (path_parts e.0)) (there_get tree e c) ∙ r.2)
 
   unlinked_out : (path : List ℕ) → IsUnlinked tree asked path → (e : Entry) × Contains (map.entries tree) (path, e) × (is_unlinked units (path, e) ≡ true)
-  unlinked_out path u = let r = at_back (path_parts path) (map.get tree path) u.name (meant_key u.name u.meant) u.leads in (r.0, get_there tree path r.0 r.1, r.2)
+  unlinked_out path u = let r = at_back (path_parts path) (map.get tree path) u.name (meant_key u.name u.meant) (unlinked_test tree asked path u) in (r.0, get_there tree path r.0 r.1, r.2)
 
   abbrev kept_entries : List (List ℕ × Entry)
   kept_entries = filter (is_unlinked units) (map.entries tree)

@@ -8,8 +8,8 @@ use Rattle.std.specs.Result.{IfOk}
 use Rattle.std.specs.Str.{bytes_eq}
 use Rattle.std.proofs.lemmas.Bool.Decides.{nat_tests}
 use Rattle.std.proofs.lemmas.Option.{none-some}
-use Rattle.um_model.specs.Install.{LinkAt, link_at, linked_name, IsTaken, IsAskedFor, IsPathAsked, IsEnabled, IsUnfit, IsOccupied, CannotEnable, isnt_found, is_masked, has_bad_setting, lacks_instance, NamesUnfit, NamesOccupied, HasTooMany, NamesBarred, Installs, enables, RefusesInstall, enables_none}
-use Rattle.um_model.specs.Least.{IsNamedBefore}
+use Rattle.um_model.specs.Install.{LinkAt, link_at, linked_name, IsTaken, IsAskedFor, IsEnabled, IsUnfit, IsOccupied, HasTooMany, too_many, CannotEnable, isnt_found, is_masked, has_bad_setting, lacks_instance, IsBarred, Installs, enables, RefusesInstall, enables_none}
+use Rattle.um_model.specs.Least.{IsNamedBefore, NamesLeast}
 use Rattle.um_model.specs.Refusals.{Refused, at_first, at_second, bad_path, exists_at, too_large, not_found, masked, bad_setting}
 use Rattle.um_model.specs.Tree.{Tree, IsTree, Link, entry_limit, is_fit_target, is_other_than_link, path_parts}
 use Rattle.um_model.specs.Units.{LoadedUnit, Loading, Found, Masked, NotFound, BadSetting, load}
@@ -97,27 +97,27 @@ module _ (tree : Tree) (asked : List ℕ) (units : Units) (w : AreWalked AsResol
 
   -- ---- unfit and occupied paths
 
-  names_unfit : (o : Option (List ℕ)) (r : Refused) → least_of is_unfit None links ≡ o → Names bad_path o r → NamesUnfit tree asked r
+  names_unfit : (o : Option (List ℕ)) (r : Refused) → least_of is_unfit None links ≡ o → Names bad_path o r → NamesLeast (IsUnfit tree asked) (λ path r. r ≡ bad_path path) r
   names_unfit None r e h = absurd h
-  names_unfit (Some p) r e h = record { path = p; least = least_has is_unfit links (IsUnfit tree asked) (unfit_in tree asked units w) (unfit_out tree asked units w) p e; refusal = h }
+  names_unfit (Some p) r e h = record { name = p; least = least_has is_unfit links (IsUnfit tree asked) (unfit_in tree asked units w) (unfit_out tree asked units w) p e; told = h }
 
   none_found : (refusal : List ℕ → Refused) (o : Option (List ℕ)) → ((q : Refused) → ¬ Names refusal o q) → o ≡ None
   none_found refusal None h = refl
   none_found refusal (Some p) h = absurd (h (refusal p) refl)
 
-  none_unfit : least_of is_unfit None links ≡ None → (q : Refused) → ¬ NamesUnfit tree asked q
-  none_unfit n q h = none_has is_unfit links (IsUnfit tree asked) (unfit_in tree asked units w) (unfit_out tree asked units w) n h.path h.least.has
+  none_unfit : least_of is_unfit None links ≡ None → (q : Refused) → ¬ NamesLeast (IsUnfit tree asked) (λ path r. r ≡ bad_path path) q
+  none_unfit n q h = none_has is_unfit links (IsUnfit tree asked) (unfit_in tree asked units w) (unfit_out tree asked units w) n h.name h.least.has
 
-  names_occupied : (o : Option (List ℕ)) (r : Refused) → least_of (is_occupied tree targets) None links ≡ o → Names exists_at o r → NamesOccupied tree asked r
+  names_occupied : (o : Option (List ℕ)) (r : Refused) → least_of (is_occupied tree targets) None links ≡ o → Names exists_at o r → NamesLeast (IsOccupied tree asked) (λ path r. r ≡ exists_at path) r
   names_occupied None r e h = absurd h
   names_occupied (Some p) r e h = record {
-    path = p;
+    name = p;
     least = least_has (is_occupied tree targets) links (IsOccupied tree asked) (occupied_in tree asked units w) (occupied_out tree asked units w) p e;
-    refusal = h;
+    told = h;
   }
 
-  none_occupied : least_of (is_occupied tree targets) None links ≡ None → (q : Refused) → ¬ NamesOccupied tree asked q
-  none_occupied n q h = none_has (is_occupied tree targets) links (IsOccupied tree asked) (occupied_in tree asked units w) (occupied_out tree asked units w) n h.path h.least.has
+  none_occupied : least_of (is_occupied tree targets) None links ≡ None → (q : Refused) → ¬ NamesLeast (IsOccupied tree asked) (λ path r. r ≡ exists_at path) q
+  none_occupied n q h = none_has (is_occupied tree targets) links (IsOccupied tree asked) (occupied_in tree asked units w) (occupied_out tree asked units w) n h.name h.least.has
 
   pub by_unfit : (r : Refused) → Names bad_path (least_of is_unfit None links) r → RefusesInstall tree verbs.Enable asked r
   by_unfit r h = enables_none (at_first (names_unfit (least_of is_unfit None links) r refl h))
@@ -165,7 +165,7 @@ module _ (tree : Tree) (asked : List ℕ) (units : Units) (w : AreWalked AsResol
           let v = some_value (map.get targets path) (targets_there map.empty links (link_at path target) c) in
           linked_at tree es rise (path, v.0) (get_there targets path v.0 v.1) ∙ ap (λ t. Some (Link t)) (same_target path target v.0 c v.1)
 
-      not_found_at : (path : List ℕ) → ¬ IsPathAsked tree asked path → (o : Option (List ℕ)) → map.get targets path ≡ o → map.find (slice_cmp nat_cmp) path es ≡ None
+      not_found_at : (path : List ℕ) → ¬ ((target : List ℕ) × IsAskedFor tree asked (link_at path target)) → (o : Option (List ℕ)) → map.get targets path ≡ o → map.find (slice_cmp nat_cmp) path es ≡ None
       not_found_at path none None e = sym (map.get-entries targets path) ∙ e
       not_found_at path none (Some t) e = absurd (none (t, asked_for tree asked units w (link_at path t) (target_asked tree asked units w path t e)))
 
@@ -175,7 +175,7 @@ module _ (tree : Tree) (asked : List ℕ) (units : Units) (w : AreWalked AsResol
         kept = λ path none. kept_at tree es path (not_found_at path none (map.get targets path) refl);
       }
 
-      none_asked : (path : List ℕ) → map.get targets path ≡ None → ¬ IsPathAsked tree asked path
+      none_asked : (path : List ℕ) → map.get targets path ≡ None → ¬ ((target : List ℕ) × IsAskedFor tree asked (link_at path target))
       none_asked path n (target, a) =
           let v = some_value (map.get targets path) (targets_there map.empty links (link_at path target) (listed tree asked units w (link_at path target) a)) in
           none-some v.0 (sym n ∙ v.1)
@@ -197,14 +197,8 @@ module _ (tree : Tree) (asked : List ℕ) (units : Units) (w : AreWalked AsResol
       by_room r h =
           enables_none
           (at_second (none_unfit no_unfit) (at_second (none_occupied no_occupied)
-          (at_first (record {
-            many = record {
-              enabled = grown tree es;
-              all = whole;
-              many = subst (λ n. entry_limit < n) (sym (len_grown tree es rise)) (past (map.len tree) (new_paths tree (map.keys targets)) h.full);
-            };
-            refusal = h.refusal;
-          }))))
+          (at_first (subst (HasTooMany tree asked) (sym h.refusal)
+          (too_many whole (subst (λ n. entry_limit < n) (sym (len_grown tree es rise)) (past (map.len tree) (new_paths tree (map.keys targets)) h.full)))))))
 
       module _ (is : IsTree tree) (rooms : (q : Refused) → ¬ LacksRoom tree targets q) where
         room_by : (b : Bool) → has_room tree targets ≡ b → has_room tree targets ≡ true
@@ -218,9 +212,8 @@ module _ (tree : Tree) (asked : List ℕ) (units : Units) (w : AreWalked AsResol
         few = within (map.len tree) (new_paths tree (map.keys targets)) is.few (room_by (has_room tree targets) refl)
 
         not_too_many : (q : Refused) → ¬ HasTooMany tree asked q
-        not_too_many q h =
-            let l = ap map.len (one_enabled h.many.enabled h.many.all) ∙ len_grown tree es rise in
-            let m = h.many.many in
+        not_too_many q (too_many {enabled = other} all m) =
+            let l = ap map.len (one_enabled other all) ∙ len_grown tree es rise in
             let f = few in
             omega (arith, l, m, f)
 
@@ -235,19 +228,19 @@ module _ (tree : Tree) (asked : List ℕ) (units : Units) (w : AreWalked AsResol
             enables_none
             (at_second (none_unfit no_unfit) (at_second (none_occupied no_occupied) (at_second not_too_many
             (record {
-              unit = f.e.0;
+              name = f.e.0;
               least = record {
                 has = record { taken = to_taken tree asked f.e.0 (w.walked f.e.0 f.e.1 at); refusal = r; cause = cannot };
                 first = λ other b ne. f.before (other, load tree other) (entry_of other b.taken) b.refusal b.cause ne;
               };
-              cause = cannot;
+              told = cannot;
             }))))
 
         module _ (cans : (q : Refused) → ¬ RefusesFirst (map.entries units) q) where
-          none_barred : (q : Refused) → ¬ NamesBarred tree asked q
+          none_barred : (q : Refused) → ¬ NamesLeast (IsBarred tree asked) (λ unit r. CannotEnable unit (load tree unit) r) q
           none_barred q h =
               let b = h.least.has in
-              let s = some_first (map.entries units) (h.unit, load tree h.unit) b.refusal (entry_of h.unit b.taken) b.cause in
+              let s = some_first (map.entries units) (h.name, load tree h.name) b.refusal (entry_of h.name b.taken) b.cause in
               cans s.0 s.1
 
           no_cause : (q : Refused) → ¬ RefusesInstall tree verbs.Enable asked q

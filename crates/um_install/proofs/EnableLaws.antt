@@ -8,7 +8,7 @@ use Rattle.std.proofs.lemmas.Bool.Decides.{nat_tests}
 use Rattle.std.proofs.lemmas.Cmp.{tied_itself}
 use Rattle.std.proofs.lemmas.Option.{none-some}
 use Rattle.um_model.specs.Tree.{Tree, Entry, Link, entry_limit, is_fit_target, is_full_for, is_other_than_link, path_parts, put_link}
-use Rattle.um_model.specs.Refusals.{Refused, bad_path, exists_at, too_large, cause, first_cause, unless_refused}
+use Rattle.um_model.specs.Refusals.{Refused, bad_path, exists_at, too_large, unless_refused}
 use Rattle.um_model.specs.declared.refusals.Limit.TheVariants.{Entries}
 use Rattle.um_model.proofs.NameMaps.{After, Rising}
 use Rattle.um_install.specs.Changes.{and_then, linked}
@@ -79,7 +79,7 @@ pub record MayStand (tree : Tree) (e : List ℕ × List ℕ) : Type 0 where
 pub may_stand : (tree : Tree) (e : List ℕ × List ℕ) → is_fit_target (path_parts e.0) e.1 ≡ true → is_other_than_link (map.get tree e.0) e.1 ≡ false → MayStand tree e
 may_stand tree e fit free = record { fit = fit; free = free }
 
-no_cause : (fit other full : Bool) (p q r : Refused) → fit ≡ true → other ≡ false → full ≡ false → first_cause (cause (not fit) p ∷ cause other q ∷ cause full r ∷ []) ≡ None
+no_cause : (fit other full : Bool) (p q r : Refused) → fit ≡ true → other ≡ false → full ≡ false → cond (not fit) (Some p) (cond other (Some q) (cond full (Some r) None)) ≡ None
 no_cause true false false p q r a b c = refl
 no_cause true false true p q r a b c = cc
 no_cause true true full p q r a b c = cc

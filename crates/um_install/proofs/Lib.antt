@@ -7,3 +7,4 @@ mod LinkLaws
 mod EnableLaws
 mod EnableEnd
 mod DisableLaws
+pub mod EnablingLaws

@@ -111,10 +111,10 @@ module _ (tree : Tree) (asked : List ℕ) (units : Units) (w : AreWalked AsResol
   not_true false e = refl
 
   pub unfit_in : (l : LinkAt) → Contains links l → is_unfit l ≡ true → IsUnfit tree asked l.path
-  unfit_in l c t = record { target = l.target; wanted = asked_for l c; unfit = not_true (is_fit_target (path_parts l.path) l.target) t }
+  unfit_in l c t = (l.target, asked_for l c, not_true (is_fit_target (path_parts l.path) l.target) t)
 
   pub unfit_out : (path : List ℕ) → IsUnfit tree asked path → (l : LinkAt) × Contains links l × (is_unfit l ≡ true) × (l.path ≡ path)
-  unfit_out path u = (link_at path u.target, listed (link_at path u.target) u.wanted, ap not u.unfit, refl)
+  unfit_out path u = (link_at path u.0, listed (link_at path u.0) u.1, ap not u.2, refl)
 
   -- ---- occupied paths
 

@@ -5,11 +5,14 @@ use Rattle.std.proofs.Math.Seq.{drop-cons}
 use Rattle.std.proofs.lemmas.Bool.Decides.{nat_tests}
 use Rattle.um_model.specs.declared.install.Enabling.TheVariants as enabling
 use Rattle.um_model.specs.Install.{enabling_by}
-use Rattle.um_model.specs.Install.{linked_name, CannotEnable, isnt_found, is_masked, has_bad_setting, lacks_instance, Installs, RefusesInstall, masks, masks_none, unmasks, path_of_mask, is_masking, unmasked}
-use Rattle.um_model.specs.Refusals.{Refused, cause, not_found, masked, bad_setting, unless_refused}
+use Rattle.um_model.specs.Install.{linked_name, CannotEnable, isnt_found, is_masked, has_bad_setting, lacks_instance, Installs, RefusesInstall, masks, masks_none, unmasks, is_masking, unmasked}
+use Rattle.um_model.specs.Refusals.{Refused, not_found, masked, bad_setting, unless_refused}
+use Rattle.um_model.specs.Resolution.{unit_path}
 use Rattle.um_model.specs.Tree.{Tree, Link, link_cause, put_link, remove_at}
 use Rattle.um_model.specs.Units.{LoadedUnit, Loading, Found, Masked, NotFound, BadSetting}
 use Rattle.um_model.specs.declared.install.InstallVerb.TheVariants as verbs
+use Rattle.um_model.specs.declared.tree.Layer.TheVariants.{Etc}
+use Rattle.um_model.proofs.Forms.{cause}
 use Rattle.um_install.specs.Checks.{RefusesFirst, here, later, one_if}
 
 -- ---- lists
@@ -80,17 +83,17 @@ none_first r h = elim h [ ]
 
 -- ---- masks
 
-pub masks_to : (tree changed : Tree) (unit path : List ℕ) → path ≡ path_of_mask unit → put_link tree path (codes "/dev/null") ≡ Ok changed → Installs tree verbs.Mask unit changed
+pub masks_to : (tree changed : Tree) (unit path : List ℕ) → path ≡ unit_path Etc unit → put_link tree path (codes "/dev/null") ≡ Ok changed → Installs tree verbs.Mask unit changed
 masks_to tree changed unit path is ok = masks (ap (λ p. put_link tree p (codes "/dev/null")) (sym is) ∙ ok)
 
-pub masks_none_to : (tree : Tree) (unit path : List ℕ) (r : Refused) → path ≡ path_of_mask unit → put_link tree path (codes "/dev/null") ≡ Err r → RefusesInstall tree verbs.Mask unit r
+pub masks_none_to : (tree : Tree) (unit path : List ℕ) (r : Refused) → path ≡ unit_path Etc unit → put_link tree path (codes "/dev/null") ≡ Err r → RefusesInstall tree verbs.Mask unit r
 masks_none_to tree unit path r is err = masks_none (ap (λ p. put_link tree p (codes "/dev/null")) (sym is) ∙ err)
 
 pub link_refused : (tree : Tree) (path target : List ℕ) (r q : Refused) → link_cause tree path target ≡ Some r → q ≡ r → put_link tree path target ≡ Err q
 unfolding put_link
 link_refused tree path target r q e f = ap (λ o. unless_refused o (map.insert tree path (Link target))) e ∙ ap Err (sym f)
 
-pub free_to_mask : (tree changed : Tree) (unit path : List ℕ) → path ≡ path_of_mask unit → put_link tree path (codes "/dev/null") ≡ Ok changed → (r : Refused) → RefusesInstall tree verbs.Mask unit r → ⊥
+pub free_to_mask : (tree changed : Tree) (unit path : List ℕ) → path ≡ unit_path Etc unit → put_link tree path (codes "/dev/null") ≡ Ok changed → (r : Refused) → RefusesInstall tree verbs.Mask unit r → ⊥
 free_to_mask tree changed unit path is ok r (masks_none e) = let a = ap (λ p. put_link tree p (codes "/dev/null")) is in cc
 
 pub free_to_unmask : (tree : Tree) (unit : List ℕ) (r : Refused) → RefusesInstall tree verbs.Unmask unit r → ⊥
@@ -109,14 +112,14 @@ removed_ok : (tree t : Tree) (path : List ℕ) → remove_at tree path ≡ Ok t 
 unfolding remove_at
 removed_ok tree t path e = removed_by (is_none (map.get tree path)) _ t (map.remove tree path) e
 
-by_mask : (tree : Tree) (unit : List ℕ) (b : Bool) → is_masking (map.get tree (path_of_mask unit)) ≡ b → unmasked tree unit ≡ cond b (map.remove tree (path_of_mask unit)) tree
-by_mask tree unit b e = ap (λ b. cond b (map.remove tree (path_of_mask unit)) tree) e
+by_mask : (tree : Tree) (unit : List ℕ) (b : Bool) → is_masking (map.get tree (unit_path Etc unit)) ≡ b → unmasked tree unit ≡ cond b (map.remove tree (unit_path Etc unit)) tree
+by_mask tree unit b e = ap (λ b. cond b (map.remove tree (unit_path Etc unit)) tree) e
 
-pub unmasks_none : (tree t : Tree) (unit path : List ℕ) → path ≡ path_of_mask unit → is_masking (map.get tree path) ≡ false → t ≡ tree → Installs tree verbs.Unmask unit t
+pub unmasks_none : (tree t : Tree) (unit path : List ℕ) → path ≡ unit_path Etc unit → is_masking (map.get tree path) ≡ false → t ≡ tree → Installs tree verbs.Unmask unit t
 unmasks_none tree t unit path is none same =
     subst (Installs tree verbs.Unmask unit) (by_mask tree unit false (ap (λ p. is_masking (map.get tree p)) (sym is) ∙ none) ∙ sym same) unmasks
 
-pub unmasks_one : (tree t : Tree) (unit path : List ℕ) → path ≡ path_of_mask unit → is_masking (map.get tree path) ≡ true → remove_at tree path ≡ Ok t → Installs tree verbs.Unmask unit t
+pub unmasks_one : (tree t : Tree) (unit path : List ℕ) → path ≡ unit_path Etc unit → is_masking (map.get tree path) ≡ true → remove_at tree path ≡ Ok t → Installs tree verbs.Unmask unit t
 unmasks_one tree t unit path is some ok =
     subst (Installs tree verbs.Unmask unit)
     (by_mask tree unit true (ap (λ p. is_masking (map.get tree p)) (sym is) ∙ some) ∙ ap (map.remove tree) (sym is) ∙ sym (removed_ok tree t path ok)) unmasks

@@ -1,7 +1,7 @@
 //! Laws of enabling.
 
 ghost use Rattle.std.specs.Prelude.{◌≡◌, ◌⊎◌, ℕ, List, [], true};
-ghost use Rattle.um_model.specs.Enabled.{Obeys, IsFoundByName, IsUndone, HasNoAlias};
+ghost use Rattle.um_install.specs.Enabled.{Obeys, IsFoundByName, IsUndone, HasNoAlias};
 ghost use Rattle.um_model.specs.Install.{Installs, RefusesInstall, IsEnabledAs, paths_beyond};
 ghost use Rattle.um_model.specs.Names.{is_unit_name};
 ghost use Rattle.um_model.specs.Refusals.{Refused};

@@ -2,7 +2,9 @@
 
 ghost use Rattle.std.specs.Prelude.{◌≡◌, IfOk, option_map, string_bytes};
 ghost use Rattle.um_model.specs.Install as model;
+ghost use Rattle.um_model.specs.Resolution.{unit_path};
 ghost use Rattle.um_model.specs.declared.install.InstallVerb.TheVariants as verbs;
+ghost use Rattle.um_model.specs.declared.tree.Layer.TheVariants.{Etc};
 ghost use Rattle.um_tree.specs.View.{entry_of};
 ghost use Rattle.um_wire.specs.Gives.{RefusesBy};
 
@@ -17,7 +19,7 @@ const NOWHERE: &str = "/dev/null";
 
 /// The path of the link that masks the unit.
 fn path_of_mask(alloc: Global, unit: &UnitName) -> Result<String, AllocError>
-    ensures { IfOk result (λ path. string_bytes path ≡ model.path_of_mask unit.now) }
+    ensures { IfOk result (λ path. string_bytes path ≡ unit_path Etc unit.now) }
 {
     let mut path = String::from_str(alloc, Layer::Etc.text())?;
     path.push_str(unit.as_str())?;

@@ -2,7 +2,7 @@
 -- Follows the definitions of jobs, over the units of a graph.
 -- The calls of `Jobs` stand on this file.
 use Rattle.std.specs.Prelude.{◌≡◌, ℕ, Bool, false, ◌||◌, List, Option, Some, None, slice_index_or, slice_set}
-use Rattle.um_model.specs.Jobs.{Job, ComesBefore, IsWaiting, jobs}
+use Rattle.um_model.specs.Jobs.{Job, ComesBefore, jobs, state_of_job}
 use Rattle.um_model.specs.Machine.{is_waiting}
 use Rattle.um_model.specs.declared.jobs.JobKind.{JobKind}
 use Rattle.um_model.specs.declared.jobs.JobKind.TheVariants.{Stop, Start}
@@ -27,7 +27,7 @@ held_at held u = slice_index_or held u false
 
 -- the job waits, none comes before it by the rows of the graph, and one that starts its unit doesn't find it deactivating
 pub record IsReadyIn (g : GraphView) (v : JobsView) (job : Job) : Type 0 where
-  pub waits : IsWaiting (jobs_by g.names v.units) job
+  pub waits : (state_of_job (jobs_by g.names v.units) job ≡ Some Waiting)
   pub free : (other : Job) → ¬ ComesBefore (Joins g before_bit) (jobs_by g.names v.units) other job
   pub still : job.kind ≡ Start → item_for false g.names v.held job.unit ≡ false
 

@@ -5,7 +5,7 @@ ghost use Rattle.std.specs.List.{list_any};
 ghost use Rattle.um_graph.specs.Graph.{row_of};
 ghost use Rattle.um_jobs.specs.Jobs as told;
 ghost use Rattle.um_jobs.specs.Jobs.{IsReadyIn, JobsView, held_at, job_named, with_held_at, with_jobs_at, without_job};
-ghost use Rattle.um_model.specs.Machine.{has_waiting};
+ghost use Rattle.um_model.proofs.WaitingLaws.{has_waiting};
 ghost use Rattle.um_jobs.specs.Named.{jobs_at};
 ghost use Rattle.um_jobs.specs.Ready as rows;
 ghost use Rattle.um_jobs.specs.Ready.{ready_kind};
@@ -13,6 +13,7 @@ ghost use Rattle.um_model.specs.Jobs as model;
 ghost use Rattle.um_model.specs.Jobs.{IsToldBefore, Job, no_jobs};
 ghost use Rattle.um_model.specs.Least.{IsLeast};
 ghost use Rattle.um_model.specs.Refusals as refused;
+ghost use Rattle.um_model.specs.declared.jobs.JobState.TheVariants.{Running};
 ghost use Rattle.um_wire.specs.Refusal.{refused_of};
 ghost use Rattle.um_wire.specs.declared.refusal.Refusal.TheVariants.{NoMemory};
 
@@ -121,7 +122,7 @@ impl Jobs {
 
     /// That job of the unit runs from now on.
     pub fn begin(&mut self, unit: usize, kind: JobKind)
-        ensures { self.new ≡ with_jobs_at self.old unit (model.with_running kind (jobs_at self.old.units unit)) }
+        ensures { self.new ≡ with_jobs_at self.old unit (model.with_job kind Running (jobs_at self.old.units unit)) }
     {
         self.set(unit, with_running(kind, self.get(unit)));
     }

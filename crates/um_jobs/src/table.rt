@@ -1,13 +1,13 @@
 //! What becomes of the jobs of one unit (systemctl(1), "start", "stop", "restart").
 
-ghost use Rattle.std.specs.Prelude.{◌≡◌, ◌||◌};
+ghost use Rattle.std.specs.Prelude.{◌≡◌, ◌||◌, Some, unwrap_or};
 ghost use Rattle.um_jobs.specs.Drops.{drops_one, is_dropped};
 ghost use Rattle.um_jobs.specs.Named.{jobs_at};
 ghost use Rattle.um_model.specs.Jobs as model;
 ghost use Rattle.um_model.specs.Machine as machine;
-ghost use Rattle.um_model.specs.Plan as plans;
+ghost use Rattle.um_model.specs.declared.jobs.JobState.TheVariants.{Running, Waiting};
 
-use um_model::{ActiveState, Demand, JobKind, JobState, StartJob, UnitJobs, UnitVerb};
+use um_model::{ActiveState, Demand, JobKind, JobState, StartJob, UnitJobs};
 
 /// The pending jobs of the unit with this number; one past the last has none.
 pub fn jobs_of(pending: &[UnitJobs], unit: usize) -> UnitJobs
@@ -76,7 +76,7 @@ fn stopped(active: ActiveState, now: UnitJobs) -> UnitJobs
 /// After a restart of a unit that is up a start job that runs is dropped; a stop job is put where none is pending, and a start
 /// job where none waits.
 fn restarted(now: UnitJobs) -> UnitJobs
-    ensures { result ≡ model.restarted now.stop }
+    ensures { result ≡ model.jobs (Some (unwrap_or now.stop Waiting)) (Some Waiting) }
 {
     UnitJobs {
         stop: Some(now.stop.unwrap_or(JobState::Waiting)),
@@ -84,29 +84,16 @@ fn restarted(now: UnitJobs) -> UnitJobs
     }
 }
 
-/// The pending jobs of a unit in this state after a command for it.
-pub fn jobs_after(verb: UnitVerb, active: ActiveState, now: UnitJobs) -> UnitJobs
-    ensures { result ≡ model.jobs_after verb active now }
-{
-    match verb {
-        UnitVerb::Start => started(active, now),
-        UnitVerb::Stop => stopped(active, now),
-        UnitVerb::Restart if is_up(active) => restarted(now),
-        UnitVerb::Restart => started(active, now),
-        UnitVerb::TryRestart if is_active(active) => restarted(now),
-        UnitVerb::TryRestart => now,
-    }
-}
-
 /// The pending jobs of a unit in this state after the demand that counts for it, if there is one.
 pub fn jobs_for(demand: Option<Demand>, active: ActiveState, now: UnitJobs) -> UnitJobs
-    ensures { result ≡ plans.jobs_for demand active now }
+    ensures { result ≡ model.jobs_for demand active now }
 {
     match demand {
         None => now,
-        Some(Demand::Start) => jobs_after(UnitVerb::Start, active, now),
-        Some(Demand::Stop) => jobs_after(UnitVerb::Stop, active, now),
-        Some(Demand::Restart) => jobs_after(UnitVerb::Restart, active, now),
+        Some(Demand::Start) => started(active, now),
+        Some(Demand::Stop) => stopped(active, now),
+        Some(Demand::Restart) if is_up(active) => restarted(now),
+        Some(Demand::Restart) => started(active, now),
     }
 }
 
@@ -131,7 +118,7 @@ pub fn drops_one(before: UnitJobs, after: UnitJobs) -> bool
 
 /// The jobs with that one running.
 pub fn with_running(kind: JobKind, now: UnitJobs) -> UnitJobs
-    ensures { result ≡ model.with_running kind now }
+    ensures { result ≡ model.with_job kind Running now }
 {
     match kind {
         JobKind::Stop => UnitJobs {

@@ -18,14 +18,17 @@ use Rattle.um_model.specs.Service.{Action}
 use Rattle.um_model.specs.StateSpellings.{state_at, state_spelling}
 use Rattle.um_model.specs.Stands.{Contents, contents_of, inputs_of, IsStoreOf}
 use Rattle.um_model.specs.Store as store
-use Rattle.um_model.specs.Store.{body_limit, sector_count, log_start, log_end, newest_of, records_of, sectors_of, HasRecords, IsStore, GoesOn, EitherRecord, EitherSnapshot}
+use Rattle.um_model.specs.Store.{body_limit, sector_count, log_start, log_end, newest_of, records_of, sectors_of, HasRecords, IsStore, GoesOn}
+use Rattle.um_slot.specs.Snapshots.{HasStore, EitherSnapshot}
+use Rattle.um_log.specs.Appending.{EitherRecord}
 use Rattle.um_model.specs.declared.layout.Layout.{Layout}
 use Rattle.um_model.specs.declared.layout.Slot.{Slot}
 use Rattle.um_model.proofs.DiskLaws.{started, weaker, followed}
 use Rattle.um_model.proofs.ImageLaws.{newest_some, records_are}
 use Rattle.um_model.proofs.NumbersLaws.{numbers_rise}
 use Rattle.um_model.proofs.ServableLaws.{step_servable}
-use Rattle.um_model.proofs.StandsLaws.{contents, ComesTo, HasContents, has_contents, contents_are, newest_told, records_told, store_of, comes_further, comes_anew, run_to, only_end, state_back, either_state, anew}
+use Rattle.um_model.proofs.StandsLaws.{contents, ComesTo, HasContents, has_contents, contents_are, newest_told, records_told, store_of, comes_further, comes_anew, run_to, only_end, state_back, anew}
+use Rattle.um_keeper.proofs.Meanwhile.{either_state}
 use Rattle.um_model.proofs.WholeLaws.{step_fits, spelled_room, accepted_room}
 use Rattle.um_tree.specs.Code.{tree_code}
 use Rattle.um_keeper.specs.Keeping.{MayHold, Keeps, IsBegun, snapshot_calls}
@@ -92,7 +95,7 @@ module _ {past : Past} {sectors : ℕ} {layout : Layout} {slot : Slot} {generati
   stores image is = store_of (unpacked.goes_on.store image is) unpacked.comes
 
   -- each is that of its newest snapshot, as the slots need it
-  pub snapshots : Images past (store.IsStoreOf layout slot generation unpacked.body)
+  pub snapshots : Images past (HasStore layout slot generation unpacked.body)
   snapshots image is = subst (IsStore layout image slot generation unpacked.body) (sym (k.records image is)) (unpacked.goes_on.store image is)
 
   -- where nothing is written
@@ -277,7 +280,7 @@ module _ {past : Past} {sectors : ℕ} {layout : Layout} {slot : Slot} {generati
 
   -- the same of the calls that write it
   pub during_kept : {new : Past} {body : List ℕ} → body ≡ state_spelling s
-      → ((before : List ℕ) → Images past (store.IsStoreOf layout slot generation before) → During past new (EitherSnapshot layout past slot generation before body))
+      → ((before : List ℕ) → Images past (HasStore layout slot generation before) → During past new (EitherSnapshot layout past slot generation before body))
       → During past new (λ image. IsStoreOf layout image s)
   during_kept {new} {body} is written = weaker past new _ _ either_kept
       (subst (λ b. During past new (EitherSnapshot layout past slot generation (unpacked k).body b)) is (written (unpacked k).body (snapshots k)))
@@ -289,7 +292,7 @@ module _ {past : Past} {sectors : ℕ} {layout : Layout} {slot : Slot} {generati
 
   -- behind the calls that write it
   module _ {new : Past} {to : Slot} {after later further : ℕ} {body : List ℕ} (is : body ≡ state_spelling s)
-      (written : (before : List ℕ) → Images past (store.IsStoreOf layout slot generation before) → GoesOn layout new to after body [] later further) where
+      (written : (before : List ℕ) → Images past (HasStore layout slot generation before) → GoesOn layout new to after body [] later further) where
     behind : GoesOn layout new to after (state_spelling s) [] later further
     behind = subst (λ b. GoesOn layout new to after b [] later further) is (written (unpacked k).body (snapshots k))
 

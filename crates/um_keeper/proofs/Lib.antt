@@ -4,3 +4,4 @@ mod Reopening
 mod Repeating
 mod Results
 mod Wiping
+mod Meanwhile

@@ -13,7 +13,8 @@ use Rattle.um_model.specs.Servable.{IsServable}
 use Rattle.um_model.specs.InputSpellings.{input_at, FitInput}
 use Rattle.um_model.specs.StateSpellings.{state_at, state_spelling, FitState}
 use Rattle.um_model.specs.Stands.{inputs_of, IsStoreOf}
-use Rattle.um_model.specs.Store.{store_name, store_format, superblock, body_limit, log_start, log_end, store_sectors, filled, other, part_count, placed, records_of, sectors_of, GoesOn, EitherSnapshot}
+use Rattle.um_model.specs.Store.{store_name, store_format, superblock, body_limit, log_start, log_end, store_sectors, filled, other, part_count, placed, records_of, sectors_of, GoesOn}
+use Rattle.um_slot.specs.Snapshots.{HasStore, EitherSnapshot}
 use Rattle.um_model.specs.Store as sectors
 use Rattle.um_model.specs.declared.layout.Layout.{Layout}
 use Rattle.um_model.specs.declared.layout.Slot.{Slot}
@@ -21,7 +22,8 @@ use Rattle.um_model.proofs.DiskLaws.{weaker, followed, during_sync, image_synced
 use Rattle.um_model.proofs.ImageLaws.{newest_some, newest_none, records_are, only_records}
 use Rattle.um_model.proofs.InputSpellingsLaws.{canonical_input}
 use Rattle.um_model.proofs.StateSpellingsLaws.{canonical_state}
-use Rattle.um_model.proofs.StandsLaws.{ComesTo, store_of, newest_told, records_told, contents_are, state_back, ends_of, anew, one_layout, still_state, bound, held}
+use Rattle.um_model.proofs.StandsLaws.{ComesTo, store_of, newest_told, records_told, contents_are, state_back, ends_of, anew, one_layout, bound, held}
+use Rattle.um_keeper.proofs.Meanwhile.{still_state}
 use Rattle.um_model.proofs.StoreLaws.{superblock_name}
 use Rattle.byteorder.specs.Endian.{big_number}
 use Rattle.um_wire.specs.declared.refusal.Refusal.{Refusal}
@@ -133,10 +135,10 @@ keeps_anew {past} {count} {layout} {slot} {generation} {s} is on fits may room =
 -- while the snapshot of its state is written, the image is a store of the state of before
 pub renewed : (past new : Past) (count : ℕ) (layout : Layout) (slot : Slot) (generation : ℕ) (s : State) (body : List ℕ) → body ≡ state_spelling s → FitState s → IsServable (body_limit layout) s
     → IsImage past (seen past) → IsSettled past → IsTakenUp count (seen past) layout slot generation s
-    → ((before : List ℕ) → Images past (sectors.IsStoreOf layout slot generation before) → During past new (EitherSnapshot layout past slot generation before body))
+    → ((before : List ℕ) → Images past (HasStore layout slot generation before) → During past new (EitherSnapshot layout past slot generation before body))
     → During past new (IsAsBefore layout past)
 renewed past new count layout slot generation s body is_body fits may is settled taken run =
-    let stores : Images past (sectors.IsStoreOf layout slot generation taken.body) = λ image at. subst (sectors.IsStoreOf layout slot generation taken.body) (sym (settled image at)) taken.store in
+    let stores : Images past (HasStore layout slot generation taken.body) = λ image at. subst (HasStore layout slot generation taken.body) (sym (settled image at)) taken.store in
     let all : Images past (λ image. IsStoreOf layout image s) = λ image at. subst (λ i. IsStoreOf layout i s) (sym (settled image at)) (taken_store taken) in
     weaker past new _ _
     (λ image e. record {

@@ -6,7 +6,7 @@ use Rattle.um_model.specs.Disk.{Image}
 use Rattle.um_model.specs.Finished.{Finishes, IsAtRest}
 use Rattle.um_model.specs.Jobs.{Job, start_job, jobs_of_unit, state_of_job}
 use Rattle.um_model.specs.Lives.{Life, Lived, AreKept}
-use Rattle.um_model.specs.Machine.{State, Command, Happening, Event, Commanded, Input, Reply, Settles, unit_asked, jobs_asked, ForUnit, Done, Changes, Does, units_reset, end_of, Fires, Follows, Takes, reply_after, moment_of, Step, Run, goes}
+use Rattle.um_model.specs.Machine.{State, Command, Happening, Event, Commanded, Input, Reply, Settles, unit_asked, jobs_asked, ForUnit, Done, Changes, Does, units_reset, end_of, Fires, Follows, TakesEffect, reply_after, moment_of, Step, Run, goes}
 use Rattle.um_model.specs.Service.{Action, is_number, is_success, state_of_unit}
 use Rattle.um_model.specs.Stands.{IsStoreOf}
 use Rattle.um_model.specs.Store.{body_limit}
@@ -95,14 +95,14 @@ module _ (x : List ℕ) where
   does_leave t s moment command actions u tree (Does.resets {asked = asked} h) rest = inl (resets_rest x t (units_reset s asked) s actions u h rest)
 
   -- so an event leaves it, with none of its starts begun, or a command puts one
-  takes_leave : (t : ℕ) (s : State) (moment : ℕ) (event : Event) (actions : List Action) (v : State) (tree : Tree) (h : Takes t s event actions v) → IsAtRest s x
+  takes_leave : (t : ℕ) (s : State) (moment : ℕ) (event : Event) (actions : List Action) (v : State) (tree : Tree) (h : TakesEffect t s event actions v) → IsAtRest s x
       → HasNone (begun_taking h) × IsAtRest v x ⊎ PlansStart x s (record { moment = moment; event = event }) (reply_after event s.tree tree)
-  takes_leave t s moment event actions v tree (Takes.obeys {command = command} {first = first} {more = more} {u = u} isnt h k) rest =
+  takes_leave t s moment event actions v tree (TakesEffect.obeys {command = command} {first = first} {more = more} {u = u} isnt h k) rest =
       elim (does_leave t s moment command first u tree h rest) [
         | inl rests ↦ inl (settles_none t u more v k rests, settles_rest x t u more v k rests)
         | inr puts ↦ inr puts
       ]
-  takes_leave t s moment event actions v tree (Takes.meets {happening = happening} effect h) rest =
+  takes_leave t s moment event actions v tree (TakesEffect.meets {happening = happening} effect h) rest =
       inl (follows_none t s happening actions v h rest, follows_rest x t s happening actions v h rest)
 
   step_leaves : (size : ℕ) (s : State) (input : Input) (reply : Reply) (actions : List Action) (t : State) (h : Step size s input reply actions t) → IsAtRest s x

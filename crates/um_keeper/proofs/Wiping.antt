@@ -3,7 +3,8 @@ use Rattle.std.proofs.Common.{◌≡◌, ◌⊎◌, inl, inr, ⊎_elim, ℕ, ◌
 use Rattle.std.specs.Prelude.{Result, Ok, Err, OnOk, OnErr, replicate, take, codes, cond}
 use Rattle.std.proofs.lemmas.List.Sums.{sum_by-cons}
 use Rattle.std.proofs.lemmas.List.{length-replicate, get_or-replicate}
-use Rattle.um_model.specs.Disk.{Sector, Image, Past, seen, IsImage, Images, synced as synced_call, with_sector, Wrote, Synced, During, IsLaid, MaybeLaid, AfterRun, is_sync, sync_count}
+use Rattle.um_model.specs.Disk.{Sector, Image, Past, seen, IsImage, Images, synced as synced_call, with_sector, Wrote, Synced, During}
+use Rattle.um_sector.specs.Runs.{IsLaid, MaybeLaid, AfterRun}
 use Rattle.um_model.specs.Machine.{empty_state}
 use Rattle.um_model.specs.StateSpellings.{state_spelling}
 use Rattle.um_model.specs.Store.{superblock, slot_start, body_limit, log_start, HasNoHeader, IsHeader, IsNewest, IsOf, IsFree}
@@ -16,6 +17,7 @@ use Rattle.um_model.proofs.FitStateLaws.{fit_of_whole, empty_whole}
 use Rattle.um_model.proofs.StandsLaws.{contents_are, empty_store, empty_back, empty_may}
 use Rattle.um_model.proofs.StoreLaws.{blank_header, blank_log, made_store}
 use Rattle.um_model.proofs.WholeLaws.{spelled_room}
+use Rattle.um_sector.specs.Unsynced.{is_sync, sync_count}
 use Rattle.um_keeper.specs.Creating.{blank, IsNoStore, WasOrIsNone, IsEmptyStore, NoneOrEmpty, WhileCreated, synced, IsWiped}
 
 -- sector 0 is zeros

@@ -6,7 +6,8 @@ use Rattle.um_engine.specs.Engine.{state_before}
 use Rattle.um_engine.specs.OfStore.{is_of_store}
 use Rattle.um_engine.specs.declared.engine.Back.{Back}
 use Rattle.um_keeper.specs.Keeping.{record_calls}
-use Rattle.um_model.specs.Machine.{State, Input, Reply, Refusal, Step, LacksEffect, moment_of}
+use Rattle.um_model.specs.Machine.{State, Input, Reply, Refusal, Step, moment_of}
+use Rattle.um_engine.specs.Engine.{LacksEffect}
 use Rattle.um_model.specs.Refusals.{Refused}
 use Rattle.um_model.specs.Service.{Action}
 use Rattle.um_model.specs.Store.{body_limit, sector_count}

@@ -2,13 +2,14 @@
 -- No manual page has it: it is the project's own format (docs/FORMATS.md, "The store on its disk").
 -- `create` stands on this file.
 use Rattle.std.specs.Prelude.{◌≡◌, ◌⊎◌, ◌+◌, ◌<◌, ◌≤◌, ℕ, [], replicate, take, Some}
-use Rattle.um_model.specs.Disk.{Sector, Image, Past, IsImage, During, sync_count}
+use Rattle.um_model.specs.Disk.{Sector, Image, Past, IsImage, During}
 use Rattle.um_model.specs.Machine.{empty_state}
 use Rattle.um_model.specs.Stands.{contents_of, IsStoreOf}
 use Rattle.um_model.specs.Store.{sector_bytes, store_name, slot_start, log_start, log_end}
 use Rattle.um_model.specs.declared.layout.Layout.{Layout}
 use Rattle.um_model.specs.declared.layout.Slot.{Slot}
 use Rattle.um_model.specs.declared.layout.Slot.TheVariants.{A}
+use Rattle.um_sector.specs.Unsynced.{sync_count}
 
 -- a sector of zeros
 abbrev pub blank : Sector

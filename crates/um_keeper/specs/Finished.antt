@@ -4,7 +4,7 @@
 use Rattle.std.specs.Prelude.{◌≡◌, ◌≢◌, ◌⊎◌, ⊤, ℕ, List, [], ◌∷◌, ◌++◌, None, Contains}
 use Rattle.um_model.specs.Finished.{Finishes}
 use Rattle.um_model.specs.Jobs.{Job, start_job, jobs_of_unit}
-use Rattle.um_model.specs.Machine.{State, Command, Happening, Event, Commanded, Input, Reply, Done, Changes, Settles, begins_next, Fires, Follows, Takes, Step, Run, goes}
+use Rattle.um_model.specs.Machine.{State, Command, Happening, Event, Commanded, Input, Reply, Done, Changes, Settles, begins_next, Fires, Follows, TakesEffect, Step, Run, goes}
 use Rattle.um_model.specs.Service.{Action}
 use Rattle.um_model.specs.Timers.{Timers}
 
@@ -27,9 +27,9 @@ begun_following (Follows.ticks timers are firing) = begun_firing firing
 begun_following Follows.boots = []
 
 -- those that begin by the effect of an event
-abbrev pub begun_taking : {t : ℕ} {s v : State} {event : Event} {actions : List Action} → Takes t s event actions v → List Job
-begun_taking (Takes.obeys allowed does settles) = begun_settling settles
-begun_taking (Takes.meets counts follows) = begun_following follows
+abbrev pub begun_taking : {t : ℕ} {s v : State} {event : Event} {actions : List Action} → TakesEffect t s event actions v → List Job
+begun_taking (TakesEffect.obeys allowed does settles) = begun_settling settles
+begun_taking (TakesEffect.meets counts follows) = begun_following follows
 
 -- those that begin in a step: none, where it is refused or without effect
 abbrev pub begun_in : {size : ℕ} {s t : State} {input : Input} {reply : Reply} {actions : List Action} → Step size s input reply actions t → List Job

@@ -1,8 +1,10 @@
 ghost use Rattle.std.specs.Prelude.{◌≡◌, ◌⊎◌, ◌≤◌, ◌+◌, [], ◌∷◌, replicate, IsTrue, IfErr, OnOk, OnErr};
-ghost use Rattle.um_model.specs.Disk.{seen, CountsFailure, Images, During, IsSettled, IsLaid, AfterRun, sync_count};
+ghost use Rattle.um_model.specs.Disk.{seen, Images, During, IsSettled};
+ghost use Rattle.um_sector.specs.Runs.{CountsFailure, IsLaid, AfterRun};
 ghost use Rattle.um_model.specs.Machine.{empty_state};
 ghost use Rattle.um_model.specs.StateSpellings.{state_spelling};
 ghost use Rattle.um_model.specs.Store as store;
+ghost use Rattle.um_sector.specs.Unsynced.{sync_count};
 ghost use Rattle.um_sector.specs.Refused.{CountsDevice, IsLost};
 ghost use Rattle.um_keeper.specs.Creating.{blank, WasOrIsNone, IsEmptyStore, WhileCreated, IsWiped};
 

@@ -14,7 +14,7 @@ use Rattle.um_line.specs.declared.line.Line.{Line}
 use Rattle.um_line.specs.declared.line.Line.TheVariants.{Memory, Run, Create, Serve, LongBoot, Ctl, Told, Wrong}
 use Rattle.um_line.specs.declared.line.Subcommand.{Subcommand}
 use Rattle.um_line.specs.declared.line.Subcommand.TheVariants as sub
-use Rattle.um_model.specs.Runner.{runner_words}
+use Rattle.um_runner.specs.Runner.{runner_words}
 use Rattle.um_runner.specs.Jobs.{entries_of, words_of}
 
 -- ---- what the words may be

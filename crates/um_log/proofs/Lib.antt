@@ -1,1 +1,2 @@
 mod Scanning
+pub mod Appending

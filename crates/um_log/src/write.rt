@@ -1,6 +1,8 @@
 ghost use Rattle.std.specs.Prelude.{◌≡◌, ◌⊎◌, ◌↔◌, ◌+◌, ◌<◌, ◌≤◌, ℕ, true, false, List, [], ◌∷◌, ◌++◌, length, Ok, IfErr, IsTrue};
-ghost use Rattle.um_model.specs.Disk.{During, IsSettled, IsElsewhere};
-ghost use Rattle.um_model.specs.Store.{log_start, log_end, part_count, GoesOn, EitherRecord};
+ghost use Rattle.um_model.specs.Disk.{During, IsSettled};
+ghost use Rattle.um_log.specs.Appending.{IsElsewhere};
+ghost use Rattle.um_model.specs.Store.{log_start, log_end, part_count, GoesOn};
+ghost use Rattle.um_log.specs.Appending.{EitherRecord};
 ghost use Rattle.um_model.specs.declared.layout.Slot.{Slot};
 ghost use Rattle.um_sector.specs.Refused.{CountsDevice, IsLost};
 ghost use Rattle.um_log.specs.Reading.{Fits};

@@ -2,7 +2,7 @@
 use Rattle.std.proofs.Common.{◌≡◌, ◌≢◌, ◌⊎◌, ℕ, List, [], None, unwrap_or, refl, sym, subst, inl, inr, arith}
 use Rattle.std.specs.Bool.{⊤}
 use Rattle.std.specs.FinMap as map
-use Rattle.um_model.specs.Machine.{State, Input, Reply, Event, Commanded, Happened, Happening, ProcessEnded, ProcessExecuted, Tick, Booted, HasNoEffect, is_over, isnt_awaited, is_idle, is_known, Follows, ends, reports, ticks, boots, Takes, obeys, meets, HasNoRoom, Step, refused, crowded_out, idle, taken}
+use Rattle.um_model.specs.Machine.{State, Input, Reply, Event, Commanded, Happened, Happening, ProcessEnded, ProcessExecuted, Tick, Booted, HasNoEffect, is_over, isnt_awaited, is_idle, is_known, Follows, ends, reports, ticks, boots, TakesEffect, obeys, meets, HasNoRoom, Step, refused, crowded_out, idle, taken}
 use Rattle.um_model.specs.Service.{Action}
 use Rattle.um_model.specs.Service.{dead_unit}
 use Rattle.um_model.specs.Transitions.{HasNumber}
@@ -32,7 +32,7 @@ followed t s u happening actions effect (reports unit process awaits met settles
 followed t s u happening actions effect (ticks timers are due) = tt
 followed t s u happening actions effect boots = (refl, inr ((λ same. effect (is_known same)), refl))
 
-takes_boot : (t : ℕ) (s u : State) (event : Event) (actions : List Action) → Takes t s event actions u → IsBooted s event actions (record u { clock = t })
+takes_boot : (t : ℕ) (s u : State) (event : Event) (actions : List Action) → TakesEffect t s event actions u → IsBooted s event actions (record u { clock = t })
 takes_boot t s u event actions (obeys accepted does settles) = tt
 takes_boot t s u event actions (meets effect follows) = followed t s u _ actions effect follows
 

@@ -11,6 +11,8 @@ use Rattle.um_model.specs.Tree.{Tree}
 use Rattle.um_model.specs.declared.dependencies.DependencyKind.{DependencyKind}
 use Rattle.um_model.specs.declared.dependencies.DependencyKind.TheVariants.{Requires, BindsTo}
 use Rattle.um_model.specs.declared.jobs.JobState.TheVariants.{Waiting}
+use Rattle.um_model.specs.declared.service.UnitResult.TheVariants.{Dependency}
+use Rattle.um_model.specs.declared.service.UnitState.{UnitState}
 use Rattle.um_model.proofs.AmongLaws.{both_decided, either_decided, decided_as, IsListOf}
 use Rattle.um_model.proofs.CycleLaws.{held}
 use Rattle.um_model.proofs.KnownLaws.{depends_or_not, precedes_or_not}
@@ -20,6 +22,10 @@ use Rattle.um_model.proofs.ReachedLaws.{reached_or_not}
 use Rattle.um_model.proofs.SameUnits.{same_job_state}
 use Rattle.um_model.proofs.TimersLaws.{among_keys, same_option}
 use Rattle.um_model.proofs.UnitLaws.{same_tidy}
+
+-- a unit whose start was taken along
+abbrev pub with_result_dependency : UnitState → UnitState
+with_result_dependency u = record u { result = Dependency }
 
 -- ---- whatever else is known, two units are
 

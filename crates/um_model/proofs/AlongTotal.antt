@@ -3,13 +3,13 @@ use Rattle.std.proofs.Common.{ℕ, ◌≡◌, ◌∙◌, List, ◌++◌, Some, r
 use Rattle.std.specs.FinMap as map
 use Rattle.std.proofs.lemmas.Option.{none-some}
 use Rattle.um_model.specs.Jobs.{start_job, jobs_of_unit, no_jobs, without_start}
-use Rattle.um_model.specs.Machine.{State, IsTakenAlong, TakesAlong, with_result_dependency}
+use Rattle.um_model.specs.Machine.{State, IsTakenAlong, TakesAlong}
 use Rattle.um_model.specs.Reached.{first, next}
 use Rattle.um_model.specs.Service.{ByUnit, dead_unit, state_of_unit}
 use Rattle.um_model.specs.declared.jobs.JobState.TheVariants.{Waiting}
 use Rattle.um_model.specs.declared.jobs.UnitJobs.{UnitJobs}
 use Rattle.um_model.specs.declared.service.UnitState.{UnitState}
-use Rattle.um_model.proofs.AlongLaws.{taken_along_or_not}
+use Rattle.um_model.proofs.AlongLaws.{taken_along_or_not, with_result_dependency}
 use Rattle.um_model.proofs.AmongLaws.{among_left, among_right}
 use Rattle.um_model.proofs.CycleLaws.{held}
 use Rattle.um_model.proofs.GivenMaps.{a_job_map, a_unit_map, not_held}

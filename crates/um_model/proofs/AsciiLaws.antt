@@ -7,7 +7,7 @@ use Rattle.std.proofs.lemmas.Bool.Decides.{nat_tests}
 use Rattle.std.proofs.lemmas.List.Folds.{list_all-append}
 use Rattle.std.proofs.lemmas.Str.{IsUtf8-from_ascii, is_utf8-from_IsUtf8}
 use Rattle.std.proofs.lemmas.Str.Ascii.{IsAscii-nil, IsAscii-cons}
-use Rattle.um_model.specs.Names.{is_instance_byte, is_prefix_byte, is_fit_instance, instance_text, suffix_text, is_unit_name, NameParts, IsNameOf}
+use Rattle.um_model.specs.Names.{is_instance_byte, is_prefix_byte, suffix_text, is_unit_name, NameParts, IsNameOf}
 use Rattle.um_model.specs.Tree.{layer_text, Place, Unit, DropIn, Wants, Requires, place_text, PathParts, IsPathOf, path_parts, is_plain_name, is_drop_in_name, is_drop_in_byte, is_fit_place}
 use Rattle.um_model.specs.declared.names.Suffix.{Suffix}
 use Rattle.um_model.specs.declared.names.Suffix.TheVariants.{Service, Socket, Device, Mount, Automount, Swap, Target, Path, Timer, Slice, Scope}
@@ -15,6 +15,7 @@ use Rattle.um_model.specs.declared.tree.Layer.{Layer}
 use Rattle.um_model.specs.declared.tree.Layer.TheVariants.{Etc, Run, Lib}
 use Rattle.um_model.proofs.NamesLaws.{named_by_parts}
 use Rattle.um_model.proofs.TreeLaws.{path_of_parts, fit-name}
+use Rattle.um_model.proofs.Forms.{instance_text, is_fit_instance}
 
 -- a byte of ASCII
 abbrev pub is_low : ℕ → Bool

@@ -1,7 +1,7 @@
 -- The law of each kind of value that has bytes, and what follows from it.
 use Rattle.std.proofs.Common.{◌≡◌, ℕ, zero, suc, ◌^◌, ◌<◌, ◌≤◌, ◌+◌, Bool, true, false, cond, ◌&&◌, ltb, Ordering, Less, Equal, Greater, List, [], ◌∷◌, ◌++◌, length, take, drop, Option, Some, None, option_map, refl, sym, ap, subst, ◌∙◌, append_assoc, arith, inl, inr}
 use Rattle.std.specs.Prelude.{IfSome, ⊤, T, ◌↔◌}
-use Rattle.std.specs.List.{flat_map, AllByRecursion}
+use Rattle.std.specs.List.{flat_map, AllByRecursion, slice_get}
 use Rattle.std.specs.Int.{w32, w64, from_be_bytes}
 use Rattle.std.specs.Str.{is_utf8}
 use Rattle.std.specs.Ordering.{is_lt, nat_cmp}
@@ -14,7 +14,7 @@ use Rattle.std.proofs.lemmas.List.Concat.{flat_map-cons}
 use Rattle.std.proofs.lemmas.Nat.{be_bytes_4, be_bytes_8}
 use Rattle.byteorder.specs.Endian.{big_number, big_bytes}
 use Rattle.byteorder.specs.Numbers.{big_number-reads_back, big_from-lt, length-bytes_high_first}
-use Rattle.um_model.specs.Bytes.{Reading, Spelling, IsBytes, IsCanonical, nothing_left, ◌>>=◌, byte_at, number_at, is_between, FitBetween, between_at, in_table, pair_spelling, pair_at, as_at, only_at, tag_at, truth_tag, truth_of, truth_spelling, truth_at, FitText, text_spelling, front_text, text_at, option_spelling, option_at, many_at, list_spelling, list_at, FitList, marked_at, choice_at, arm_in, just_at, none_at, ByText, ascends, are_keys, FitMap, map_spelling, map_at}
+use Rattle.um_model.specs.Bytes.{Reading, Spelling, IsBytes, IsCanonical, nothing_left, ◌>>=◌, byte_at, number_at, is_between, FitBetween, between_at, pair_spelling, pair_at, as_at, only_at, tag_at, truth_tag, FitText, text_spelling, front_text, text_at, option_spelling, option_at, many_at, list_spelling, list_at, FitList, marked_at, choice_at, arm_in, just_at, none_at, ByText, ascends, are_keys, FitMap, map_spelling, map_at, table_at, tagged, truths}
 
 -- ---- bytes
 
@@ -367,26 +367,26 @@ abbrev pub AreTags : {A : Type 0} → (A → ℕ) → ℕ → List A → Type 0
 AreTags tag first [] = ⊤
 AreTags tag first (a ∷ table) = (tag a ≡ first) × AreTags tag (suc first) table
 
-place_is : {A : Type 0} (tag : A → ℕ) (first : ℕ) (table : List A) → AreTags tag first table → (n : ℕ) (a : A) → in_table table n ≡ Some a → tag a ≡ n + first
+place_is : {A : Type 0} (tag : A → ℕ) (first : ℕ) (table : List A) → AreTags tag first table → (n : ℕ) (a : A) → slice_get table n ≡ Some a → tag a ≡ n + first
 place_is tag first [] tags n a e = absurd (none_some a e)
 place_is tag first (x ∷ table) tags zero a e = omega (arith, ap tag (sym (some_is x a e)) ∙ tags.0)
 place_is tag first (x ∷ table) tags (suc n) a e = omega (arith, place_is tag (suc first) table tags.1 n a e)
 
 -- the choice at a place has that tag
-pub table_back : {A : Type 0} (tag : A → ℕ) (table : List A) → AreTags tag 0 table → (n : ℕ) (a : A) → in_table table n ≡ Some a → tag a ≡ n
+pub table_back : {A : Type 0} (tag : A → ℕ) (table : List A) → AreTags tag 0 table → (n : ℕ) (a : A) → slice_get table n ≡ Some a → tag a ≡ n
 table_back tag table tags n a e = omega (arith, place_is tag 0 table tags n a e)
 
-pub truth_again : (b : Bool) → truth_of (truth_tag b) ≡ Some b
+pub truth_again : (b : Bool) → slice_get truths (truth_tag b) ≡ Some b
 truth_again true = refl
 truth_again false = refl
 
-pub truth_back : (n : ℕ) (b : Bool) → truth_of n ≡ Some b → truth_tag b ≡ n
+pub truth_back : (n : ℕ) (b : Bool) → slice_get truths n ≡ Some b → truth_tag b ≡ n
 truth_back zero b e = ap truth_tag (sym (some_is false b e))
 truth_back (suc zero) b e = ap truth_tag (sym (some_is true b e))
 truth_back (suc (suc n)) b e = absurd cc
 
-pub canonical_truth : IsCanonical (λ (b : Bool). ⊤) truth_spelling truth_at
-canonical_truth = canonical_tag truth_tag truth_of truth_again truth_back
+pub canonical_truth : IsCanonical (λ (b : Bool). ⊤) (tagged truth_tag) (table_at truths)
+canonical_truth = canonical_tag truth_tag (slice_get truths) truth_again truth_back
 
 -- ---- numbers from the first to the last
 

@@ -1,7 +1,10 @@
 -- Of causes of refusal in their order one refuses or none; and a result is one tree or one refusal.
-use Rattle.std.proofs.Common.{◌≡◌, ◌⊎◌, ◌∙◌, Result, Ok, Err, sym, ap, inl, inr}
+use Rattle.std.proofs.Common.{◌≡◌, ◌⊎◌, ◌∙◌, ℕ, List, Result, Ok, Err, sym, ap, subst, inl, inr}
+use Rattle.um_model.specs.Least.{IsLeast, IsNamedBefore, NamesLeast}
 use Rattle.um_model.specs.Refusals.{Refused, FirstCause, at_first, at_second}
 use Rattle.um_model.specs.Tree.{Tree}
+use Rattle.um_model.proofs.LeastLaws.{one_least}
+use Rattle.um_model.proofs.TimersLaws.{same_name, names_one_way}
 
 -- ---- causes in their order
 
@@ -32,6 +35,25 @@ one_first A B one other r q (at_first h) (at_first k) = one r q h k
 one_first A B one other r q (at_first h) (at_second none k) = absurd (none r h)
 one_first A B one other r q (at_second none h) (at_first k) = absurd (none q k)
 one_first A B one other r q (at_second none h) (at_second neither k) = other r q h k
+
+-- ---- the least name that has a property
+
+-- no thing has the property, or one is the least that has it
+abbrev pub NoneOrLeast : (List ℕ → Type 0) → Type 0
+NoneOrLeast Has = ((name : List ℕ) → ¬ (Has name)) ⊎ ((name : List ℕ) × IsLeast IsNamedBefore Has name)
+
+-- the least name that has it is told, or none has it
+pub named_or_none : (Has : List ℕ → Type 0) (Tells : List ℕ → Refused → Type 0) → ((name : List ℕ) → Has name → (r : Refused) × Tells name r) → NoneOrLeast Has
+    → OneOrNone (NamesLeast Has Tells)
+named_or_none Has Tells tells (inl none) = inr (λ r h. none h.name h.least.has)
+named_or_none Has Tells tells (inr found) = let told = tells found.0 found.1.has in inl (told.0, record { name = found.0; least = found.1; told = told.1 })
+
+-- where each name has one refusal, so has the least
+pub one_named : (Has : List ℕ → Type 0) (Tells : List ℕ → Refused → Type 0) → ((name : List ℕ) (r q : Refused) → Tells name r → Tells name q → r ≡ q)
+    → (r q : Refused) → NamesLeast Has Tells r → NamesLeast Has Tells q → r ≡ q
+one_named Has Tells one r q h k =
+    let same = one_least IsNamedBefore Has names_one_way same_name k.name h.name k.least h.least in
+    one h.name r q h.told (subst (λ name. Tells name q) same k.told)
 
 -- ---- a result is a tree or a refusal
 

@@ -3,7 +3,7 @@ use Rattle.std.proofs.Common.{ℕ, zero, suc, ◌<◌, ◌≤◌, ◌≡◌, ◌
 use Rattle.std.specs.List.{list_all}
 use Rattle.std.proofs.lemmas.Bool.{and_parts, and_from, eqb-true, leb-true, lt-ltb, ltb-true}
 use Rattle.std.proofs.lemmas.List.Folds.{list_all-append}
-use Rattle.um_model.specs.Names.{is_prefix_byte, is_instance_byte, instance_text, is_fit_instance, suffix_text, is_unit_name}
+use Rattle.um_model.specs.Names.{is_prefix_byte, is_instance_byte, suffix_text, is_unit_name}
 use Rattle.um_model.specs.declared.names.Suffix.{Suffix}
 use Rattle.um_model.specs.declared.names.Suffix.TheVariants.{Service, Socket, Device, Mount, Automount, Swap, Target, Path, Timer, Slice, Scope}
 use Rattle.um_model.proofs.AmongLaws.{among_left, among_right, among_map}
@@ -11,6 +11,7 @@ use Rattle.um_model.proofs.LeastLaws.{Among}
 use Rattle.um_model.proofs.NamesLaws.{named_by_parts}
 use Rattle.um_model.proofs.TimersLaws.{same_number}
 use Rattle.um_model.proofs.TreeLaws.{all_wider}
+use Rattle.um_model.proofs.Forms.{instance_text, is_fit_instance}
 
 -- ---- texts of few bytes
 

@@ -4,7 +4,7 @@ use Rattle.std.proofs.Common.{◌≡◌, ◌⊎◌, ℕ, List, [], ◌∷◌, Op
 use Rattle.std.proofs.lemmas.List.Elements.{All-map}
 use Rattle.std.proofs.lemmas.Option.{none-some}
 use Rattle.std.specs.FinMap as map
-use Rattle.um_model.specs.Jobs.{Job, stop_job, start_job, job_of, no_jobs, state_of_job, GoesBefore, starts, stops, stops_then_starts, stops_then_starts_before, of_one_unit, ComesBefore, IsPending, IsWaiting}
+use Rattle.um_model.specs.Jobs.{Job, stop_job, start_job, job_of, no_jobs, state_of_job, GoesBefore, starts, stops, stops_then_starts, stops_then_starts_before, of_one_unit, ComesBefore, IsPending}
 use Rattle.um_model.specs.Least.{IsNamedBefore}
 use Rattle.um_model.specs.Order.{IsCycle}
 use Rattle.um_model.specs.Plan.{BeginsWithLeast, units_of}
@@ -21,12 +21,12 @@ use Rattle.um_model.proofs.TimersLaws.{among_keys, named_trans, names_one_way, o
 
 -- ---- fewer jobs
 
-comes_earlier : (IsBefore : List ℕ → List ℕ → Type 0) (before later : ByUnit UnitJobs) → ((job : Job) → IsWaiting later job → IsWaiting before job)
+comes_earlier : (IsBefore : List ℕ → List ℕ → Type 0) (before later : ByUnit UnitJobs) → ((job : Job) → state_of_job later job ≡ Some Waiting → (state_of_job before job ≡ Some Waiting))
     → ((job : Job) → IsPending later job → IsPending before job) → (job other : Job) → ComesBefore IsBefore later job other → ComesBefore IsBefore before job other
 comes_earlier IsBefore before later waits pends job other c = record { pends = pends job c.pends; waits = waits other c.waits; goes = c.goes }
 
 -- no cycle comes by what lets no job wait or be pending that didn't before
-pub fewer_free : (IsBefore : List ℕ → List ℕ → Type 0) (before later : ByUnit UnitJobs) → ((job : Job) → IsWaiting later job → IsWaiting before job)
+pub fewer_free : (IsBefore : List ℕ → List ℕ → Type 0) (before later : ByUnit UnitJobs) → ((job : Job) → state_of_job later job ≡ Some Waiting → (state_of_job before job ≡ Some Waiting))
     → ((job : Job) → IsPending later job → IsPending before job) → ((cycle : List Job) → ¬ (IsCycle (ComesBefore IsBefore before) cycle))
     → (cycle : List Job) → ¬ (IsCycle (ComesBefore IsBefore later) cycle)
 fewer_free IsBefore before later waits pends none cycle c =
@@ -98,7 +98,7 @@ held pending job pends = by_entry (map.get pending job.unit) refl
 pub among_pending : (pending : ByUnit UnitJobs) (job : Job) → IsPending pending job → Among (jobs_of (map.keys pending)) job
 among_pending pending job pends = among_jobs (map.keys pending) job.unit job.kind (among_keys pending job.unit (held pending job pends))
 
-waits_pending : (pending : ByUnit UnitJobs) (job : Job) → IsWaiting pending job → IsPending pending job
+waits_pending : (pending : ByUnit UnitJobs) (job : Job) → state_of_job pending job ≡ Some Waiting → IsPending pending job
 waits_pending pending job waits none = none-some Waiting (sym none ∙ waits)
 
 -- ---- which job comes before which is decided
@@ -145,7 +145,7 @@ module _ (IsBefore : List ℕ → List ℕ → Type 0) where
           (both_decided (not_decided (same_option same_job_state (state_of_job pending job) None))
           (both_decided (same_option same_job_state (state_of_job pending other) (Some Waiting)) (goes_or_not job other)))
         where
-          there : IsPending pending job × (IsWaiting pending other × GoesBefore IsBefore job other) → ComesBefore IsBefore pending job other
+          there : IsPending pending job × ((state_of_job pending other ≡ Some Waiting) × GoesBefore IsBefore job other) → ComesBefore IsBefore pending job other
           there both = record { pends = both.0; waits = both.1.0; goes = both.1.1 }
 
       covers : (job other : Job) → ComesBefore IsBefore pending job other
@@ -157,7 +157,7 @@ module _ (IsBefore : List ℕ → List ℕ → Type 0) where
       jobs_cycle_or_none = cycle_or_none (ComesBefore IsBefore pending) (jobs_of (map.keys pending)) covers comes_or_not
 
       -- where they have none and a job waits, nothing comes before some pending job, which is that one or leads to it
-      pub a_first_job : ((cycle : List Job) → ¬ (IsCycle (ComesBefore IsBefore pending) cycle)) → (job : Job) → IsWaiting pending job
+      pub a_first_job : ((cycle : List Job) → ¬ (IsCycle (ComesBefore IsBefore pending) cycle)) → (job : Job) → state_of_job pending job ≡ Some Waiting
           → (found : Job) × IsPending pending found × IsFirstOf (ComesBefore IsBefore pending) job found
       a_first_job none job waits =
           let b = first_of_all (ComesBefore IsBefore pending) (jobs_of (map.keys pending)) covers comes_or_not none job (among_pending pending job (waits_pending pending job waits)) in

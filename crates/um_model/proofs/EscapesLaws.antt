@@ -6,8 +6,14 @@ use Rattle.std.proofs.lemmas.Bool.{cases_Bool, cond-true, cond-false, and_from, 
 use Rattle.std.proofs.lemmas.List.Elements.{All-head, All-tail}
 use Rattle.std.proofs.lemmas.List.Folds.{list_all-append}
 use Rattle.std.proofs.lemmas.Str.{digit_value-digit_char}
-use Rattle.um_model.specs.Names.{is_prefix_byte, byte_escape, is_plain_byte, escape_of, first_escape_of, escaped, is_hex_digit, unescape_front, StandsForBytes}
-use Rattle.um_model.specs.Pieces.{Unreadable, Gives, done, piece}
+use Rattle.um_model.specs.Names.{is_prefix_byte, byte_escape, is_plain_byte, escape_of, escaped, is_hex_digit, unescape_front}
+use Rattle.um_model.specs.Pieces.{Unreadable, Gives}
+use Rattle.um_model.proofs.PiecesLaws.{StandsForText, done, piece}
+use Rattle.um_model.proofs.Forms.{first_escape_of}
+
+-- the text stands for these bytes
+abbrev pub StandsForBytes : List ℕ → List ℕ → Type 0
+StandsForBytes text bytes = StandsForText unescape_front text bytes
 
 -- What an escape stands for.
 

@@ -1,18 +1,22 @@
 -- What falls with a unit is listed, and telling it to stop ends: a unit that was active or activating isn't after it, and no other is changed.
-use Rattle.std.proofs.Common.{ℕ, zero, suc, ◌+◌, ◌<◌, ◌≤◌, ◌≡◌, ◌≢◌, ◌∙◌, ◌&&◌, not, Bool, true, false, true≢false, cond, List, [], ◌∷◌, ◌++◌, Option, Some, None, is_some, unwrap_or, refl, sym, ap, subst, inl, inr, arith}
+use Rattle.std.proofs.Common.{ℕ, zero, suc, ◌+◌, ◌<◌, ◌≤◌, ◌≡◌, ◌≢◌, ◌⊎◌, ◌∙◌, ◌&&◌, not, Bool, true, false, true≢false, cond, List, [], ◌∷◌, ◌++◌, Option, Some, None, is_some, unwrap_or, refl, sym, ap, subst, inl, inr, arith}
 use Rattle.std.specs.FinMap as map
-use Rattle.um_model.specs.Ends.{is_restart_wanted}
+use Rattle.um_model.specs.Ends.{is_failed, is_restart_wanted}
 use Rattle.um_model.specs.Jobs.{jobs_of_unit}
-use Rattle.um_model.specs.Machine.{State, fails_start, Becomes, alone, along, TakesAlong, Carries, change_of, changed, acting_in, around, comes_to_rest, FallsWith, AreFalling, FallDown, all_told, told_next, Happens}
-use Rattle.um_model.specs.Service.{Action, ByUnit, active_state_of, dead_unit, state_of_unit}
+use Rattle.um_model.specs.Machine.{State, Becomes, alone, along, TakesAlong, Carries, change_of, changed, settings_in, around, FallsWith, AreByName, FallDown, all_told, told_next, Happens}
+use Rattle.um_model.specs.Service.{Action, ByUnit, active_state_of, dead_unit, is_dead, is_success, state_of_unit}
 use Rattle.um_model.specs.Settings.{ServiceSettings, has_place}
-use Rattle.um_model.specs.Transitions.{transition, row, rests, rests_for_good, resting, awaits_restart, terminates, stop_command, winds_down, has_number, is_live, is_going, just}
+use Rattle.um_model.specs.Transitions.{transition, row, rests, rests_for_good, waits_to_restart, terminates, stop_command, winds_down, has_number, is_live, is_going, just}
 use Rattle.um_model.specs.Transitions as table
 use Rattle.um_model.specs.declared.dependencies.DependencyKind.TheVariants.{BindsTo}
+use Rattle.um_model.specs.declared.jobs.JobState.{JobState}
+use Rattle.um_model.specs.declared.jobs.JobState.TheVariants as states
+use Rattle.um_model.specs.declared.transition.StartJob.{StartJob}
+use Rattle.um_model.specs.declared.transition.StartJob.TheVariants.{Fails}
 use Rattle.um_model.specs.declared.service.SubState.{SubState}
 use Rattle.um_model.specs.declared.service.SubState.TheVariants.{Dead, Start, Running, Exited, Stop, StopSigterm, StopSigkill, Failed, AutoRestart, Active}
 use Rattle.um_model.specs.declared.service.UnitResult.{UnitResult}
-use Rattle.um_model.specs.declared.service.UnitResult.TheVariants.{Success, Resources}
+use Rattle.um_model.specs.declared.service.UnitResult.TheVariants.{Resources}
 use Rattle.um_model.specs.declared.service.UnitState.{UnitState}
 use Rattle.um_model.specs.declared.transition.Around.{Around}
 use Rattle.um_model.specs.declared.transition.Change.{Change}
@@ -33,21 +37,26 @@ HasOutcome Is = (actions : List Action) × (v : State) × Is actions v
 
 -- ---- what happens to a unit by itself
 
+fails_or_not : (start : StartJob) (job : Option JobState) → IsDecided ((start ≡ Fails) × (job ≡ Some states.Running))
+fails_or_not Fails (Some states.Running) = inl (refl, refl)
+fails_or_not Fails _ = inr (λ p. let is = p.1 in cc)
+fails_or_not _ job = inr (λ p. let is = p.0 in cc)
+
 -- a change of a unit has its state
 a_becoming : (s : State) (unit : List ℕ) (c : Change) → (v : State) × Becomes s unit c v
-a_becoming s unit c = by_test (fails_start c.start (jobs_of_unit s.pending unit).start) refl
+a_becoming s unit c = by_test (fails_or_not c.start (jobs_of_unit s.pending unit).start)
   where
-    by_test : (fails : Bool) → fails_start c.start (jobs_of_unit s.pending unit).start ≡ fails → (v : State) × Becomes s unit c v
-    by_test false e = (changed s unit c, alone e)
-    by_test true e =
+    by_test : IsDecided ((c.start ≡ Fails) × ((jobs_of_unit s.pending unit).start ≡ Some states.Running)) → (v : State) × Becomes s unit c v
+    by_test (inr holds) = (changed s unit c, alone holds)
+    by_test (inl fails) =
         let taken = an_along (changed s unit c) unit in
-        (taken.0, along e taken.1)
+        (taken.0, along fails taken.1)
 
 -- what happens to a unit is carried out
 pub a_carrying : (t : ℕ) (unit : List ℕ) (event : UnitEvent) (s : State) → HasOutcome (Carries t unit event s)
 a_carrying t unit event s =
     let c = change_of t s unit event in
-    let asked = have_actions (acting_in s.loaded unit).settings (around t s unit) c.unit c.order in
+    let asked = have_actions (settings_in s.loaded unit) (around t s unit) c.unit c.order in
     let then = a_becoming s unit c in
     (asked.0, then.0, record { state = then.1; asked = asked.1 })
 
@@ -66,9 +75,9 @@ either_down true x y h k = h
 either_down false x y h k = k
 
 module _ (s : ServiceSettings) (c : Around) where
-  resting_down : (r : UnitResult) → goes_at (resting r) ≡ false
-  resting_down Success = refl
-  resting_down other = refl
+  resting_down : (well : Bool) → goes_at (cond well Dead Failed) ≡ false
+  resting_down true = refl
+  resting_down false = refl
 
   unasked : (b waits wanted : Bool) → b ≡ true → (not b && not waits && wanted) ≡ false
   unasked true waits wanted is = refl
@@ -76,7 +85,7 @@ module _ (s : ServiceSettings) (c : Around) where
 
   rests_down : (u : UnitState) → u.asked ≡ true → IsDown (rests s c u)
   rests_down u is =
-      ap (λ b. goes_at (cond b (awaits_restart s c u) (rests_for_good u)).unit.sub) (unasked u.asked c.stop_waits (is_restart_wanted s u) is) ∙ resting_down u.result
+      ap (λ b. goes_at (cond b (waits_to_restart s c u) (rests_for_good u)).unit.sub) (unasked u.asked c.stop_waits (is_restart_wanted s u) is) ∙ resting_down (is_success u.result)
 
   terminates_down : (u : UnitState) → u.asked ≡ true → IsDown (terminates s c u)
   terminates_down u is = either_down (is_live u) _ (rests s c u) refl (rests_down u is)
@@ -86,13 +95,13 @@ module _ (s : ServiceSettings) (c : Around) where
       let without : UnitState = record u { result = Resources; index = i } in
       either_down (has_number c) _ (terminates s c without) refl (terminates_down without is)
 
-  winds_down_down : (u : UnitState) → u.asked ≡ true → IsDown (winds_down s c u)
+  winds_down_down : (u : UnitState) → u.asked ≡ true → IsDown (winds_down s c u 0)
   winds_down_down u is = either_down (has_place s.stop 0) (stop_command s c u 0) (terminates s c u) (stop_command_down u 0 is) (terminates_down u is)
 
-  stop_down : (u : UnitState) (sub : SubState) → goes_at sub ≡ true → IsDown (row s c u sub StopBegins true)
-  stop_down u Start goes = terminates_down (table.asked u) refl
-  stop_down u Running goes = winds_down_down (table.asked u) refl
-  stop_down u Exited goes = winds_down_down (table.asked u) refl
+  stop_down : (u : UnitState) (sub : SubState) → goes_at sub ≡ true → IsDown (row s c u (active_state_of sub) sub StopBegins)
+  stop_down u Start goes = terminates_down (table.told_to_stop u) refl
+  stop_down u Running goes = winds_down_down (table.told_to_stop u) refl
+  stop_down u Exited goes = winds_down_down (table.told_to_stop u) refl
   stop_down u AutoRestart goes = refl
   stop_down u Active goes = refl
   stop_down u Dead goes = absurd (true≢false (sym goes))
@@ -105,13 +114,13 @@ module _ (s : ServiceSettings) (c : Around) where
   pub bound_stop_down : (u : UnitState) → IsDown (transition s c u BoundStop)
   bound_stop_down u = by_test (goes_at u.sub) refl
     where
-      by_test : (b : Bool) → goes_at u.sub ≡ b → IsDown (cond b (row s c u u.sub StopBegins true) (just u))
+      by_test : (b : Bool) → goes_at u.sub ≡ b → IsDown (cond b (row s c u (active_state_of u.sub) u.sub StopBegins) (just u))
       by_test true goes = stop_down u u.sub goes
       by_test false goes = goes
 
   -- and one that wasn't before stays as it is
   pub bound_stop_leaves : (u : UnitState) → goes_at u.sub ≡ false → transition s c u BoundStop ≡ just u
-  bound_stop_leaves u goes = ap (λ b. cond b (row s c u u.sub StopBegins true) (just u)) goes
+  bound_stop_leaves u goes = ap (λ b. cond b (row s c u (active_state_of u.sub) u.sub StopBegins) (just u)) goes
 
 -- ---- sub states after a change of a unit
 
@@ -186,14 +195,40 @@ goes_held units unit goes = among_keys units unit (by_entry (map.get units unit)
 
 -- ---- the units that fall with one
 
+-- a unit came to rest, as it is tested: it is dead or failed, and wasn't the same before
+abbrev pub comes_to_rest : (before after : SubState) → Bool
+comes_to_rest before Dead = not (is_dead before)
+comes_to_rest before Failed = not (is_failed before)
+comes_to_rest before other = false
+
+-- so it did
+pub rest_told : (before after : SubState) → comes_to_rest before after ≡ true → ((after ≡ Dead) ⊎ (after ≡ Failed)) × (before ≢ after)
+rest_told before Dead e = (inl refl, λ same. true≢false (sym e ∙ ap (λ x. not (is_dead x)) same))
+rest_told before Failed e = (inr refl, λ same. true≢false (sym e ∙ ap (λ x. not (is_failed x)) same))
+rest_told before other e = absurd (true≢false (sym e))
+
+wasnt_dead : (sub : SubState) → sub ≢ Dead → not (is_dead sub) ≡ true
+wasnt_dead Dead isnt = absurd (isnt refl)
+wasnt_dead _ isnt = refl
+
+wasnt_failed : (sub : SubState) → sub ≢ Failed → not (is_failed sub) ≡ true
+wasnt_failed Failed isnt = absurd (isnt refl)
+wasnt_failed _ isnt = refl
+
+-- and where it did it is told
+pub rest_is : (before after : SubState) → (after ≡ Dead) ⊎ (after ≡ Failed) → before ≢ after → comes_to_rest before after ≡ true
+rest_is before after (inl dead) anew = ap (comes_to_rest before) dead ∙ wasnt_dead before (λ same. anew (same ∙ sym dead))
+rest_is before after (inr failed) anew = ap (comes_to_rest before) failed ∙ wasnt_failed before (λ same. anew (same ∙ sym failed))
+
 falls_or_not : (s u : State) (unit other : List ℕ) → IsDecided (FallsWith s u unit other)
 falls_or_not s u unit other =
-    decided_as (λ h. record { rests = h.0; goes = h.1.0; bound = h.1.1 }) (λ f. (f.rests, (f.goes, f.bound)))
+    decided_as (λ h. let rest = rest_told (state_of_unit s.units unit).sub (state_of_unit u.units unit).sub h.0 in record { rests = rest.0; anew = rest.1; goes = h.1.0; bound = h.1.1 })
+    (λ f. (rest_is (state_of_unit s.units unit).sub (state_of_unit u.units unit).sub f.rests f.anew, (f.goes, f.bound)))
     (both_decided (passes_or_not (comes_to_rest (state_of_unit s.units unit).sub (state_of_unit u.units unit).sub) true)
     (both_decided (passes_or_not (goes_in u.units other) true) (depends_by_all s.loaded BindsTo other unit)))
 
 -- they are listed
-pub a_falling : (s u : State) (unit : List ℕ) → (names : List (List ℕ)) × AreFalling s u unit names
+pub a_falling : (s u : State) (unit : List ℕ) → (names : List (List ℕ)) × AreByName (FallsWith s u unit) names
 a_falling s u unit =
     let found = list_in_order (FallsWith s u unit) (falls_or_not s u unit) (map.keys u.units) (λ other f. goes_held u.units other f.goes) in (
       found.0,
@@ -206,10 +241,12 @@ a_falling s u unit =
 -- ---- telling them ends
 
 -- of a unit that didn't come to rest nothing falls with it
-none_fall : (s u : State) (unit : List ℕ) (names : List (List ℕ)) → AreFalling s u unit names
+none_fall : (s u : State) (unit : List ℕ) (names : List (List ℕ)) → AreByName (FallsWith s u unit) names
     → comes_to_rest (state_of_unit s.units unit).sub (state_of_unit u.units unit).sub ≡ false → names ≡ []
 none_fall s u unit [] are stays = refl
-none_fall s u unit (name ∷ names) are stays = absurd (true≢false (sym ((are.each name).0 (0, omega arith, refl)).rests ∙ stays))
+none_fall s u unit (name ∷ names) are stays =
+    let falls = (are.each name).0 (0, omega arith, refl) in
+    absurd (true≢false (sym (rest_is (state_of_unit s.units unit).sub (state_of_unit u.units unit).sub falls.rests falls.anew) ∙ stays))
 
 -- one that stays as it was didn't
 pub stays_up : (sub : SubState) → comes_to_rest sub sub ≡ false
@@ -224,7 +261,7 @@ module _ (t : ℕ) (unit : List ℕ) (s : State) (actions : List Action) (u : St
 
   told_down : goes_in u.units unit ≡ false
   told_down =
-      ap goes_at (told_subs (change_of t s unit BoundStop) refl) ∙ bound_stop_down (acting_in s.loaded unit).settings (around t s unit) (state_of_unit s.units unit)
+      ap goes_at (told_subs (change_of t s unit BoundStop) refl) ∙ bound_stop_down (settings_in s.loaded unit) (around t s unit) (state_of_unit s.units unit)
 
   -- no other unit is active or activating after it
   told_no_more : NoMoreGo u.units s.units
@@ -234,11 +271,11 @@ module _ (t : ℕ) (unit : List ℕ) (s : State) (actions : List Action) (u : St
   ]
 
   -- where it wasn't active or activating, none falls with it
-  told_alone : goes_in s.units unit ≡ false → (names : List (List ℕ)) → AreFalling s u unit names → names ≡ []
+  told_alone : goes_in s.units unit ≡ false → (names : List (List ℕ)) → AreByName (FallsWith s u unit) names → names ≡ []
   told_alone down names are =
       none_fall s u unit names are
       (ap (comes_to_rest (state_of_unit s.units unit).sub)
-      (told_subs (just (state_of_unit s.units unit)) (bound_stop_leaves (acting_in s.loaded unit).settings (around t s unit) (state_of_unit s.units unit) down))
+      (told_subs (just (state_of_unit s.units unit)) (bound_stop_leaves (settings_in s.loaded unit) (around t s unit) (state_of_unit s.units unit) down))
       ∙ stays_up (state_of_unit s.units unit).sub)
 
 -- these names have all units that are active or activating
@@ -255,10 +292,10 @@ module _ (t : ℕ) (names : List (List ℕ)) (bound : ℕ)
       have_then : HaveGoing names u
       have_then other goes = have other (told_no_more t unit s first u told other goes)
 
-      with_falling : (falling : List (List ℕ)) → AreFalling s u unit falling → HasOutcome (FallDown t (falling ++ units) u) → HasOutcome (FallDown t (unit ∷ units) s)
+      with_falling : (falling : List (List ℕ)) → AreByName (FallsWith s u unit) falling → HasOutcome (FallDown t (falling ++ units) u) → HasOutcome (FallDown t (unit ∷ units) s)
       with_falling falling are later = (first ++ later.0, later.1, told_next told are later.2)
 
-      told_by : (goes : Bool) → goes_in s.units unit ≡ goes → (falling : List (List ℕ)) → AreFalling s u unit falling → HasOutcome (FallDown t (unit ∷ units) s)
+      told_by : (goes : Bool) → goes_in s.units unit ≡ goes → (falling : List (List ℕ)) → AreByName (FallsWith s u unit) falling → HasOutcome (FallDown t (unit ∷ units) s)
       told_by true goes falling are =
           let less = fewer_go names u.units s.units unit (have unit goes) (told_no_more t unit s first u told) goes (told_down t unit s first u told) in
           with_falling falling are (deeper (falling ++ units) u have_then (omega (arith, less, few)))

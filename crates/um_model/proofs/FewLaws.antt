@@ -6,17 +6,19 @@ use Rattle.std.specs.FinMap as map
 use Rattle.std.specs.List.{list_any}
 use Rattle.std.specs.Ordering.{nat_cmp, eq_by_cmp}
 use Rattle.um_model.specs.Dependencies as model
-use Rattle.um_model.specs.Dependencies.{IsNamed, IsKnown, KnowsTooMany, extra}
-use Rattle.um_model.specs.Few.{IsFew, HoldsNoMore}
-use Rattle.um_model.specs.Jobs.{Job, job_of, jobs, no_jobs, jobs_of_unit, has_job, with_jobs, cancelled, IsPending, IsWaiting, with_running, jobs_left}
-use Rattle.um_model.specs.Machine.{State, empty_state, Command, Happening, Event, Input, Reply, IsHeld, IsCrowded, acting_in, around, changed, IsTakenAlong, TakesAlong, Becomes, Carries, change_of, FallDown, all_told, told_next, Happens, begins, begun, Settles, Refuses, Changes, AreReset, all_reset, reset_next, units_reset, Does, with_plan, unit_asked, with_start_alone, Restarts, has_a_job, closes_a_circle, ComesDue, Fires, IsProcessOf, booted, Follows, Takes, end_of, moment_of, Step, Run}
+use Rattle.um_model.specs.Dependencies.{Links, IsNamed, IsKnown, KnowsTooMany, extra}
+use Rattle.um_model.specs.Jobs.{Job, job_of, jobs, no_jobs, jobs_of_unit, has_job, with_jobs, cancelled, IsPending, jobs_left, state_of_job}
+use Rattle.um_model.specs.Machine.{State, empty_state, Command, Happening, Event, Input, Reply, IsHeld, IsCrowded, settings_in, around, changed, IsTakenAlong, TakesAlong, Becomes, Carries, change_of, FallDown, all_told, told_next, Happens, begins, begun, Settles, Refuses, Changes, AreReset, all_reset, reset_next, units_reset, Does, with_plan, unit_asked, with_start_alone, Restarts, isnt_put, ComesDue, Fires, IsProcessOf, booted, Follows, TakesEffect, end_of, moment_of, Step, Run}
 use Rattle.um_model.specs.Reached.{first, next}
 use Rattle.um_model.specs.Refusals.{Refused, at_first, at_second}
+use Rattle.um_model.specs.Resolution.{unit_path}
+use Rattle.um_model.specs.Servable.{IsFew}
 use Rattle.um_model.specs.Service.{Action, ByUnit, dead_unit, holds_nothing, state_of_unit, with_unit}
 use Rattle.um_model.specs.Settings.{ServiceSettings}
 use Rattle.um_model.specs.Timers.{Timers}
 use Rattle.um_model.specs.Transitions.{transition}
-use Rattle.um_model.specs.Tree.{Tree, Entry, is_volatile, without_run}
+use Rattle.um_model.specs.Tree.{Tree, Entry, Link, is_volatile, without_run}
+use Rattle.um_model.specs.declared.dependencies.DependencyKind.{DependencyKind}
 use Rattle.um_model.specs.declared.jobs.JobKind.{JobKind}
 use Rattle.um_model.specs.declared.jobs.JobKind.TheVariants as job
 use Rattle.um_model.specs.declared.jobs.JobState.TheVariants.{Waiting, Running}
@@ -30,6 +32,7 @@ use Rattle.um_model.specs.declared.transition.UnitEvent.{UnitEvent}
 use Rattle.um_model.specs.declared.transition.UnitEvent.TheVariants.{StartBegins, StopBegins, BoundStop, Executed, MainEnds, ControlEnds, DeadlinePasses, Reset}
 use Rattle.um_model.proofs.CycleLaws.{held}
 use Rattle.um_model.proofs.DemandsLaws.{reached_in}
+use Rattle.um_model.proofs.GivesLaws.{link_there}
 use Rattle.um_model.proofs.KnownLaws.{more_known}
 use Rattle.um_model.proofs.LeastLaws.{IsDecided}
 use Rattle.um_model.proofs.ScanLaws.{held_with_number}
@@ -37,6 +40,7 @@ use Rattle.um_model.proofs.SceneLaws.{held_or_not}
 use Rattle.um_model.proofs.TimersLaws.{same_name}
 use Rattle.um_model.proofs.TreeLaws.{without_run_same, without_run_twice}
 use Rattle.um_model.proofs.UnitLaws.{jobs_here, unlike}
+use Rattle.um_model.proofs.Forms.{with_running}
 
 -- ---- what maps hold of a unit
 
@@ -87,7 +91,7 @@ there o is none = true≢false (sym is ∙ ap is_some none)
 -- ---- why the state holds something of a unit
 
 -- one of its jobs waits
-waiting_held : (s : State) (j : Job) → IsWaiting s.pending j → IsHeld s j.unit
+waiting_held : (s : State) (j : Job) → state_of_job s.pending j ≡ Some Waiting → IsHeld s j.unit
 waiting_held s j waits = inr (there (map.get s.pending j.unit) (held s.pending j (λ none. none-some Waiting (sym none ∙ waits))))
 
 -- it has a deadline
@@ -95,6 +99,11 @@ deadline_held : (s : State) (unit : List ℕ) (deadline : ℕ) → (state_of_uni
 deadline_held s unit deadline is = inl (λ none. none-some deadline (sym (ap (λ o. (unwrap_or o dead_unit).deadline) none) ∙ is))
 
 -- ---- what happens to units makes the state hold nothing new
+
+-- the later state has the same loaded tree and holds nothing new
+pub record HoldsNoMore (s u : State) : Type 0 where
+  pub loaded : u.loaded ≡ s.loaded
+  pub held : (unit : List ℕ) → IsHeld u unit → IsHeld s unit
 
 pub same_no_more : (s : State) → HoldsNoMore s s
 same_no_more s = record { loaded = refl; held = λ unit is. is }
@@ -218,8 +227,8 @@ carried_no_more t unit event s actions v may h = becomes_no_more s unit (change_
     by_held (inr isnt) (inr other) =
         let no_state = none_there (map.get s.units unit) (λ is. isnt (inl is)) in
         changed_dead s unit (change_of t s unit event) (none_there (map.get s.pending unit) (λ is. isnt (inr is)))
-        (ap (λ o. (transition (acting_in s.loaded unit).settings (around t s unit) (unwrap_or o dead_unit) event).unit) no_state
-        ∙ stays_dead (acting_in s.loaded unit).settings (around t s unit) event other)
+        (ap (λ o. (transition (settings_in s.loaded unit) (around t s unit) (unwrap_or o dead_unit) event).unit) no_state
+        ∙ stays_dead (settings_in s.loaded unit) (around t s unit) event other)
 
 bound_apart : BoundStop ≡ StartBegins → ⊥
 bound_apart e = cc
@@ -257,8 +266,7 @@ happened_no_more t unit event s early late u v may h k = no_more_trans s u v (ha
 
 -- a start that is put for a unit that is held
 restarts_no_more : (s : State) (unit : List ℕ) (v : State) → IsHeld s unit → Restarts s unit v → HoldsNoMore s v
-restarts_no_more s unit v is (has_a_job one) = same_no_more s
-restarts_no_more s unit v is (closes_a_circle cycle none closed) = same_no_more s
+restarts_no_more s unit v is (isnt_put why) = same_no_more s
 restarts_no_more s unit v is (Restarts.puts none free) = record { loaded = refl; held = by_unit }
   where
     of_other : (x : List ℕ) → x ≢ unit → IsHeld (with_start_alone s unit) x → IsHeld s x
@@ -319,22 +327,22 @@ changes_few : (s : State) (command : Command) (u : State) → ((r : Refused) →
 changes_few s command u none (Changes.puts e) few = few
 changes_few s command u none (Changes.links e) few = few
 changes_few s command u none (Changes.removes e) few = few
-changes_few s command u none Changes.reloads few = λ r crowded. none r (Refuses.reloads_none (at_first crowded))
+changes_few s command u none Changes.reloads few = λ r crowded. none r ((at_first crowded))
 changes_few s command u none (Changes.installs {tree = tree} h) few = λ r crowded.
-    none r (Refuses.installs_none (at_second (λ q refuses. none q (Refuses.installs_none (at_first refuses))) (record { tree = tree; installs = h; cause = at_first crowded })))
+    none r ((at_second (λ q refuses. none q ((at_first refuses))) (record { tree = tree; installs = h; cause = at_first crowded })))
 changes_few s command u none (Changes.cancels {asked = asked}) few = no_more_few s u (cancel_no_more s (unit_asked s asked)) few
 changes_few s command u none (Changes.demands_nothing is) few = few
 changes_few s command u none (Changes.plans {demand = demand} {after = after} is plan) few = λ r crowded.
-    none r (Refuses.plans_none (at_second (λ q full. none q (Refuses.plans_none (at_first full)))
-    (at_second (λ q missing. none q (Refuses.plans_none (at_second (λ x full. none x (Refuses.plans_none (at_first full))) (at_first missing))))
+    none r ((at_second (λ q full. none q ((at_first full)))
+    (at_second (λ q missing. none q ((at_second (λ x full. none x ((at_first full))) (at_first missing))))
     (record {
       demand = demand;
       demanded = is;
       after = after;
       plan = plan;
-      cause = at_second (λ q c. none q (Refuses.plans_none
-          (at_second (λ x full. none x (Refuses.plans_none (at_first full)))
-          (at_second (λ x missing. none x (Refuses.plans_none (at_second (λ y full. none y (Refuses.plans_none (at_first full))) (at_first missing))))
+      cause = at_second (λ q c. none q (
+          (at_second (λ x full. none x ((at_first full)))
+          (at_second (λ x missing. none x ((at_second (λ y full. none y ((at_first full))) (at_first missing))))
           (record { demand = demand; demanded = is; after = after; plan = plan; cause = at_first c }))))) crowded;
     }))))
 
@@ -375,10 +383,10 @@ follows_few t s happening actions v h few = elim (follows_no_more t s happening 
   | inr (boot, is) ↦ subst IsFew (sym is) (booted_few boot s few)
 ]
 
-takes_few : (t : ℕ) (s : State) (event : Event) (actions : List Action) (v : State) → Takes t s event actions v → IsFew s → IsFew v
-takes_few t s event actions v (Takes.obeys {command = command} {first = x} {more = y} {u = u} none h k) few =
+takes_few : (t : ℕ) (s : State) (event : Event) (actions : List Action) (v : State) → TakesEffect t s event actions v → IsFew s → IsFew v
+takes_few t s event actions v (TakesEffect.obeys {command = command} {first = x} {more = y} {u = u} none h k) few =
     no_more_few u v (settles_no_more t u y v k) (does_few t s command x u none h few)
-takes_few t s event actions v (Takes.meets {happening = happening} effect h) few = follows_few t s happening actions v h few
+takes_few t s event actions v (TakesEffect.meets {happening = happening} effect h) few = follows_few t s happening actions v h few
 
 -- a step keeps the units few
 pub step_few : (size : ℕ) (s : State) (input : Input) (reply : Reply) (actions : List Action) (t : State) → Step size s input reply actions t → IsFew s → IsFew t
@@ -395,10 +403,13 @@ run_few size s t (i ∷ inputs) (Run.goes {t = v} reply actions step run) few = 
 
 -- in the empty tree nothing is known where nothing is held
 module _ (Extra : List ℕ → Type 0) (none : (x : List ℕ) → ¬ Extra x) where
+  none_linked : (kind : DependencyKind) (x y : List ℕ) → ¬ Links map.empty kind x y
+  none_linked kind x y links = let l = link_there map.empty kind x y links in none-some (Link l.target) (sym (map.get-empty (slice_cmp nat_cmp) l.path) ∙ l.link)
+
   pub none_named : (x : List ℕ) → ¬ IsNamed map.empty Extra x
-  none_named x (model.has h) = none-some h.entry (sym (map.get-empty (slice_cmp nat_cmp) h.path) ∙ h.held)
-  none_named x (model.holder links) = none-some _ (sym (map.get-empty (slice_cmp nat_cmp) links.path) ∙ links.link)
-  none_named x (model.link links) = none-some _ (sym (map.get-empty (slice_cmp nat_cmp) links.path) ∙ links.link)
+  none_named x (model.has h) = true≢false (sym h.held ∙ ap is_some (map.get-empty (slice_cmp nat_cmp) (unit_path h.layer x)))
+  none_named x (model.holder {kind = kind} {y = y} links) = none_linked kind x y links
+  none_named x (model.link {kind = kind} {x = holder} links) = none_linked kind holder x links
   none_named x (model.extra is) = none x is
 
   none_many : ¬ KnowsTooMany map.empty Extra

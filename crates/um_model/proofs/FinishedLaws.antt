@@ -4,16 +4,16 @@ use Rattle.std.proofs.lemmas.Option.{none-some}
 use Rattle.std.specs.Cmp.Lexicographic.{slice_cmp}
 use Rattle.std.specs.FinMap as map
 use Rattle.std.specs.Ordering.{nat_cmp}
-use Rattle.um_model.specs.Ends.{is_clean, is_restart_wanted}
+use Rattle.um_model.specs.Ends.{is_clean, is_failed, is_restart_wanted}
 use Rattle.um_model.specs.Finished.{is_exited, Finishes, is_down_or_done, IsAtRest, PutsStart, now, later}
 use Rattle.um_model.specs.Jobs.{BeginsNext, Job, job_of, jobs, no_jobs, jobs_of_unit}
-use Rattle.um_model.specs.Machine.{IsBefore, State, Command, Happening, Event, Commanded, Input, Reply, TakesAlong, Becomes, Carries, change_of, changed, acting_in, around, begins, begun, FallDown, all_told, told_next, Happens, AreReset, all_reset, reset_next, Settles, unit_asked, jobs_asked, Refuses, Changes, Does, units_reset, end_of, awaits_restart, Restarts, has_a_job, closes_a_circle, ComesDue, Fires, booted, Follows, Takes, moment_of, Step, Run}
+use Rattle.um_model.specs.Machine.{IsBefore, State, Command, Happening, Event, Commanded, Input, Reply, TakesAlong, Becomes, Carries, change_of, changed, settings_in, around, begins, begun, FallDown, all_told, told_next, Happens, AreReset, all_reset, reset_next, Settles, unit_asked, jobs_asked, Refuses, Changes, Does, units_reset, end_of, Restarts, isnt_put, ComesDue, Fires, booted, Follows, TakesEffect, moment_of, Step, Run}
 use Rattle.um_model.specs.Refusals.{Refused}
 use Rattle.um_model.specs.Service.{Action, active_state_of, dead_unit, is_dead, is_number, is_success, state_of_unit}
 use Rattle.um_model.specs.Settings.{ServiceSettings, has_place}
 use Rattle.um_model.specs.Timers.{Timers}
 use Rattle.um_model.specs.Transitions as table
-use Rattle.um_model.specs.Transitions.{deadline_after, has_number, is_live, just, asking, resting, rests_for_good, rests, terminates, stop_command, winds_down, next_stop, rests_unless_live, noted, without_main, without_control, timed_out, asked, unless_failed, is_well, row, is_going, transition}
+use Rattle.um_model.specs.Transitions.{deadline_after, has_number, is_live, just, asking, rests_for_good, rests, terminates, stop_command, winds_down, rests_unless_live, noted, without_main, without_control, timed_out, told_to_stop, is_stop_done, row, is_going, transition}
 use Rattle.um_model.specs.declared.jobs.JobKind.{JobKind}
 use Rattle.um_model.specs.declared.jobs.JobKind.TheVariants as job
 use Rattle.um_model.specs.declared.jobs.JobState.TheVariants.{Waiting}
@@ -45,20 +45,13 @@ use Rattle.um_model.proofs.UnitLaws.{state_here, state_apart, jobs_apart}
 abbrev Rests : UnitState → Type 0
 Rests u = is_down_or_done u.sub u.asked ≡ true
 
-resting_rests : (r : UnitResult) (asked : Bool) → is_down_or_done (resting r) asked ≡ true
-resting_rests result.Success asked = refl
-resting_rests result.ExitCode asked = refl
-resting_rests result.Signal asked = refl
-resting_rests result.Timeout asked = refl
-resting_rests result.Lost asked = refl
-resting_rests result.StartLimitHit asked = refl
-resting_rests result.Dependency asked = refl
-resting_rests result.NotLoaded asked = refl
-resting_rests result.Resources asked = refl
+resting_rests : (well asked : Bool) → is_down_or_done (cond well Dead Failed) asked ≡ true
+resting_rests true asked = refl
+resting_rests false asked = refl
 
-forgiven_rests : (sub : SubState) (asked : Bool) → is_down_or_done sub asked ≡ true → is_down_or_done (unless_failed sub) asked ≡ true
-forgiven_rests Failed asked h = refl
-forgiven_rests _ asked h = h
+forgiven_rests : (failed : Bool) (sub : SubState) (asked : Bool) → is_down_or_done sub asked ≡ true → is_down_or_done (cond failed Dead sub) asked ≡ true
+forgiven_rests true sub asked h = refl
+forgiven_rests false sub asked h = h
 
 noted_asked : (w : UnitState) (e : End) (clean : Bool) → (noted w e clean).asked ≡ w.asked
 noted_asked w e true = refl
@@ -75,8 +68,8 @@ module _ (s : ServiceSettings) (c : Around) where
 
   rests_rests : (w : UnitState) → w.asked ≡ true → Leaves (rests s c w)
   rests_rests w is =
-      subst (λ b. Leaves (cond (not b && not c.stop_waits && is_restart_wanted s w) (table.awaits_restart s c w) (rests_for_good w))) (sym is)
-      (resting_rests w.result w.asked)
+      subst (λ b. Leaves (cond (not b && not c.stop_waits && is_restart_wanted s w) (table.waits_to_restart s c w) (rests_for_good w))) (sym is)
+      (resting_rests (is_success w.result) w.asked)
 
   terminates_rests : (w : UnitState) → w.asked ≡ true → Leaves (terminates s c w)
   terminates_rests w is =
@@ -90,13 +83,8 @@ module _ (s : ServiceSettings) (c : Around) where
       (terminates s c (record w { result = result.Resources; index = i }))
       (λ e. is) (λ e. terminates_rests (record w { result = result.Resources; index = i }) is)
 
-  winds_down_rests : (w : UnitState) → w.asked ≡ true → Leaves (winds_down s c w)
-  winds_down_rests w is = by_cond Leaves (has_place s.stop 0) (stop_command s c w 0) (terminates s c w) (λ e. stop_command_rests w 0 is) (λ e. terminates_rests w is)
-
-  next_stop_rests : (w : UnitState) → w.asked ≡ true → Leaves (next_stop s c w)
-  next_stop_rests w is =
-      by_cond Leaves (has_place s.stop (w.index + 1)) (stop_command s c w (w.index + 1)) (terminates s c w)
-      (λ e. stop_command_rests w (w.index + 1) is) (λ e. terminates_rests w is)
+  winds_down_rests : (w : UnitState) (i : ℕ) → w.asked ≡ true → Leaves (winds_down s c w i)
+  winds_down_rests w i is = by_cond Leaves (has_place s.stop i) (stop_command s c w i) (terminates s c w) (λ e. stop_command_rests w i is) (λ e. terminates_rests w is)
 
   unless_live_rests : (w : UnitState) → Rests w → w.asked ≡ true → Leaves (rests_unless_live s c w)
   unless_live_rests w h is = by_cond Leaves (is_live w) (just w) (rests s c w) (λ e. h) (λ e. rests_rests w is)
@@ -117,29 +105,30 @@ module _ (s : ServiceSettings) (c : Around) where
   there : (sub : SubState) (u : UnitState) → u.sub ≡ sub → is_down_or_done sub u.asked ≡ true → Rests u
   there sub u is h = subst (λ x. is_down_or_done x u.asked ≡ true) (sym is) h
 
-  row_rests : (sub : SubState) (event : UnitEvent) (well : Bool) (u : UnitState) → u.sub ≡ sub → is_down_or_done sub u.asked ≡ true → event ≢ StartBegins
-      → Leaves (row s c u sub event well)
-  row_rests sub StartBegins well u is h isnt = absurd (isnt refl)
-  row_rests sub Reset well u is h isnt = forgiven_rests u.sub u.asked (there sub u is h)
-  row_rests Start event well u is h isnt = absurd (true≢false (sym h))
-  row_rests Running event well u is h isnt = absurd (true≢false (sym h))
-  row_rests AutoRestart event well u is h isnt = absurd (true≢false (sym h))
-  row_rests Active event well u is h isnt = absurd (true≢false (sym h))
-  row_rests Exited StopBegins well u is h isnt = winds_down_rests (asked u) refl
-  row_rests Stop StopBegins well u is h isnt = there Stop (asked u) is refl
-  row_rests StopSigterm StopBegins well u is h isnt = there StopSigterm (asked u) is refl
-  row_rests StopSigkill StopBegins well u is h isnt = there StopSigkill (asked u) is refl
-  row_rests Stop (ControlEnds e) true u is h isnt = next_stop_rests (record u { control = None }) h
-  row_rests Stop (ControlEnds e) false u is h isnt = terminates_rests (without_control s u e) (control_asked u e h)
-  row_rests Stop (MainEnds e) well u is h isnt = main_rests u e (there Stop u is h)
-  row_rests Stop DeadlinePasses well u is h isnt = terminates_rests (timed_out u) h
-  row_rests StopSigterm (MainEnds e) well u is h isnt = unless_live_rests (without_main s u e) (main_rests u e (there StopSigterm u is h)) (main_asked u e h)
-  row_rests StopSigterm (ControlEnds e) well u is h isnt = unless_live_rests (without_control s u e) (control_rests u e (there StopSigterm u is h)) (control_asked u e h)
-  row_rests StopSigkill (MainEnds e) well u is h isnt = unless_live_rests (without_main s u e) (main_rests u e (there StopSigkill u is h)) (main_asked u e h)
-  row_rests StopSigkill (ControlEnds e) well u is h isnt = unless_live_rests (without_control s u e) (control_rests u e (there StopSigkill u is h)) (control_asked u e h)
-  row_rests StopSigterm DeadlinePasses well u is h isnt = h
-  row_rests StopSigkill DeadlinePasses well u is h isnt = resting_rests (timed_out u).result u.asked
-  row_rests sub event well u is h isnt = there sub u is h
+  row_rests : (sub : SubState) (event : UnitEvent) (u : UnitState) → u.sub ≡ sub → is_down_or_done sub u.asked ≡ true → event ≢ StartBegins
+      → Leaves (row s c u (active_state_of sub) sub event)
+  row_rests sub StartBegins u is h isnt = absurd (isnt refl)
+  row_rests sub Reset u is h isnt = forgiven_rests (is_failed u.sub) u.sub u.asked (there sub u is h)
+  row_rests Start event u is h isnt = absurd (true≢false (sym h))
+  row_rests Running event u is h isnt = absurd (true≢false (sym h))
+  row_rests AutoRestart event u is h isnt = absurd (true≢false (sym h))
+  row_rests Active event u is h isnt = absurd (true≢false (sym h))
+  row_rests Exited StopBegins u is h isnt = winds_down_rests (told_to_stop u) 0 refl
+  row_rests Stop StopBegins u is h isnt = there Stop (told_to_stop u) is refl
+  row_rests StopSigterm StopBegins u is h isnt = there StopSigterm (told_to_stop u) is refl
+  row_rests StopSigkill StopBegins u is h isnt = there StopSigkill (told_to_stop u) is refl
+  row_rests Stop (ControlEnds e) u is h isnt =
+      by_cond Leaves (is_stop_done s u e) (winds_down s c (record u { control = None }) (u.index + 1)) (terminates s c (without_control s u e))
+      (λ _. winds_down_rests (record u { control = None }) (u.index + 1) h) (λ _. terminates_rests (without_control s u e) (control_asked u e h))
+  row_rests Stop (MainEnds e) u is h isnt = main_rests u e (there Stop u is h)
+  row_rests Stop DeadlinePasses u is h isnt = terminates_rests (timed_out u) h
+  row_rests StopSigterm (MainEnds e) u is h isnt = unless_live_rests (without_main s u e) (main_rests u e (there StopSigterm u is h)) (main_asked u e h)
+  row_rests StopSigterm (ControlEnds e) u is h isnt = unless_live_rests (without_control s u e) (control_rests u e (there StopSigterm u is h)) (control_asked u e h)
+  row_rests StopSigkill (MainEnds e) u is h isnt = unless_live_rests (without_main s u e) (main_rests u e (there StopSigkill u is h)) (main_asked u e h)
+  row_rests StopSigkill (ControlEnds e) u is h isnt = unless_live_rests (without_control s u e) (control_rests u e (there StopSigkill u is h)) (control_asked u e h)
+  row_rests StopSigterm DeadlinePasses u is h isnt = h
+  row_rests StopSigkill DeadlinePasses u is h isnt = resting_rests (is_success (timed_out u).result) u.asked
+  row_rests sub event u is h isnt = there sub u is h
 
   stop_apart : StopBegins ≡ StartBegins → ⊥
   stop_apart e = cc
@@ -147,14 +136,14 @@ module _ (s : ServiceSettings) (c : Around) where
   -- whatever happens to a unit that is down or done, but that its start begins, leaves it so
   transition_rests : (u : UnitState) (event : UnitEvent) → event ≢ StartBegins → Rests u → Leaves (transition s c u event)
   transition_rests u BoundStop isnt h =
-      by_cond Leaves (is_going (active_state_of u.sub)) (row s c u u.sub StopBegins true) (just u) (λ e. row_rests u.sub StopBegins true u refl h stop_apart) (λ e. h)
+      by_cond Leaves (is_going (active_state_of u.sub)) (row s c u (active_state_of u.sub) u.sub StopBegins) (just u) (λ e. row_rests u.sub StopBegins u refl h stop_apart) (λ e. h)
   transition_rests u StartBegins isnt h = absurd (isnt refl)
-  transition_rests u StopBegins isnt h = row_rests u.sub StopBegins true u refl h isnt
-  transition_rests u Executed isnt h = row_rests u.sub Executed true u refl h isnt
-  transition_rests u (MainEnds e) isnt h = row_rests u.sub (MainEnds e) (is_well s c u (MainEnds e)) u refl h isnt
-  transition_rests u (ControlEnds e) isnt h = row_rests u.sub (ControlEnds e) (is_well s c u (ControlEnds e)) u refl h isnt
-  transition_rests u DeadlinePasses isnt h = row_rests u.sub DeadlinePasses true u refl h isnt
-  transition_rests u Reset isnt h = row_rests u.sub Reset true u refl h isnt
+  transition_rests u StopBegins isnt h = row_rests u.sub StopBegins u refl h isnt
+  transition_rests u Executed isnt h = row_rests u.sub Executed u refl h isnt
+  transition_rests u (MainEnds e) isnt h = row_rests u.sub (MainEnds e) u refl h isnt
+  transition_rests u (ControlEnds e) isnt h = row_rests u.sub (ControlEnds e) u refl h isnt
+  transition_rests u DeadlinePasses isnt h = row_rests u.sub DeadlinePasses u refl h isnt
+  transition_rests u Reset isnt h = row_rests u.sub Reset u refl h isnt
 
 -- ---- the state
 
@@ -193,7 +182,7 @@ module _ (x : List ℕ) where
     where
       own : x ≡ unit → Rests (change_of t s unit event).unit
       own same =
-          transition_rests (acting_in s.loaded unit).settings (around t s unit) (state_of_unit s.units unit) event (other same)
+          transition_rests (settings_in s.loaded unit) (around t s unit) (state_of_unit s.units unit) event (other same)
           (subst (λ q. Rests (state_of_unit s.units q)) same rest.rests)
 
   bound_apart : BoundStop ≡ StartBegins → ⊥
@@ -240,19 +229,17 @@ module _ (x : List ℕ) where
 
   -- ---- what comes of deadlines
 
-  waits_apart : (sub : SubState) (asked : Bool) → awaits_restart sub ≡ true → is_down_or_done sub asked ≡ true → ⊥
-  waits_apart AutoRestart asked awaits h = true≢false (sym h)
-  waits_apart _ asked awaits h = true≢false (sym awaits)
+  waits_apart : (sub : SubState) (asked : Bool) → sub ≡ AutoRestart → is_down_or_done sub asked ≡ true → ⊥
+  waits_apart sub asked waits h = true≢false (sym h ∙ ap (λ x. is_down_or_done x asked) waits)
 
-  restarts_rest : (s : State) (unit : List ℕ) (v : State) → awaits_restart (state_of_unit s.units unit).sub ≡ true → Restarts s unit v → AtRest s → AtRest v
-  restarts_rest s unit v awaits (has_a_job one) rest = rest
-  restarts_rest s unit v awaits (closes_a_circle cycle none closed) rest = rest
+  restarts_rest : (s : State) (unit : List ℕ) (v : State) → (state_of_unit s.units unit).sub ≡ AutoRestart → Restarts s unit v → AtRest s → AtRest v
+  restarts_rest s unit v awaits (isnt_put why) rest = rest
   restarts_rest s unit v awaits (Restarts.puts none free) rest =
       record { none = ap (λ j. j.start) (jobs_apart s.pending unit (jobs None (Some Waiting)) x apart) ∙ rest.none; rests = rest.rests }
     where
       apart : x ≢ unit
       apart same =
-          waits_apart (state_of_unit s.units x).sub (state_of_unit s.units x).asked (subst (λ q. awaits_restart (state_of_unit s.units q).sub ≡ true) (sym same) awaits)
+          waits_apart (state_of_unit s.units x).sub (state_of_unit s.units x).asked (subst (λ q. (state_of_unit s.units q).sub ≡ AutoRestart) (sym same) awaits)
           rest.rests
 
   deadline_apart : DeadlinePasses ≡ StartBegins → ⊥
@@ -316,10 +303,10 @@ module _ (x : List ℕ) where
     does_rest t s moment command actions u none isnt (Does.resets {asked = asked} h) rest = resets_rest t (units_reset s asked) s actions u h rest
 
     takes_rest : (t : ℕ) (s : State) (moment : ℕ) (event : Event) (actions : List Action) (v : State) → ¬ PutsStart size x s (record { moment = moment; event = event } ∷ [])
-        → Takes t s event actions v → AtRest s → AtRest v
-    takes_rest t s moment event actions v none (Takes.obeys {command = command} {first = first} {more = more} {u = u} isnt h k) rest =
+        → TakesEffect t s event actions v → AtRest s → AtRest v
+    takes_rest t s moment event actions v none (TakesEffect.obeys {command = command} {first = first} {more = more} {u = u} isnt h k) rest =
         settles_rest t u more v k (does_rest t s moment command first u none isnt h rest)
-    takes_rest t s moment event actions v none (Takes.meets {happening = happening} effect h) rest = follows_rest t s happening actions v h rest
+    takes_rest t s moment event actions v none (TakesEffect.meets {happening = happening} effect h) rest = follows_rest t s happening actions v h rest
 
     -- a unit at rest stays so over a step that puts no start of it
     pub step_rests : (s : State) (input : Input) (reply : Reply) (actions : List Action) (t : State) → Step size s input reply actions t

@@ -1,14 +1,14 @@
 -- The units of which a state holds anything have unit names, and its maps hold no empty value.
-use Rattle.std.proofs.Common.{ℕ, ◌≡◌, ◌≢◌, ◌⊎◌, ◌∙◌, true, List, Option, Some, None, unwrap_or, refl, sym, ap, subst, inl, inr}
+use Rattle.std.proofs.Common.{ℕ, ◌≡◌, ◌≢◌, ◌⊎◌, ◌∙◌, true, not, List, Option, Some, None, unwrap_or, refl, sym, ap, subst, inl, inr}
 use Rattle.std.proofs.lemmas.Option.{none-some}
 use Rattle.std.specs.FinMap as map
+use Rattle.std.proofs.lemmas.Bool.{and_parts}
 use Rattle.um_model.specs.Dependencies as model
 use Rattle.um_model.specs.Dependencies.{IsKnown, IsNamed, Mentions}
-use Rattle.um_model.specs.Few.{HoldsNoMore}
 use Rattle.um_model.specs.InputSpellings.{FitCommand, FitEvent}
-use Rattle.um_model.specs.Jobs.{Job, stop_job, start_job, no_jobs, jobs_of_unit, jobs_left, AreTidyJobs, cancelled, jobs, with_running, job_of, IsPending}
-use Rattle.um_model.specs.Machine.{State, empty_state, Command, Happening, Event, IsHeld, IsHeldOr, Changes, puts, links, removes, reloads, plans, demands_nothing, cancels, installs, Does, units_reset, Takes, obeys, meets, Follows, unit_asked, jobs_asked, scene_at, booted, change_of, Becomes, Carries, begun, with_start_alone}
-use Rattle.um_model.specs.Names.{is_unit_name}
+use Rattle.um_model.specs.Jobs.{Job, stop_job, start_job, no_jobs, jobs_of_unit, jobs_left, AreTidyJobs, cancelled, jobs, job_of, IsPending}
+use Rattle.um_model.specs.Machine.{State, empty_state, Command, Happening, Event, IsHeld, IsHeldOr, Changes, puts, links, removes, reloads, plans, demands_nothing, cancels, installs, Does, units_reset, obeys, meets, Follows, unit_asked, jobs_asked, scene_at, booted, change_of, Becomes, Carries, begun, with_start_alone, TakesEffect}
+use Rattle.um_model.specs.Names.{is_template, is_unit_name}
 use Rattle.um_model.specs.Plan.{IsPlan}
 use Rattle.um_model.specs.Service.{Action, ByUnit, AreTidyUnits, dead_unit}
 use Rattle.um_model.specs.Tree.{Tree}
@@ -20,13 +20,13 @@ use Rattle.um_model.specs.declared.jobs.UnitJobs.{UnitJobs}
 use Rattle.um_model.specs.declared.transition.Change.{Change}
 use Rattle.um_model.specs.declared.transition.UnitEvent.{UnitEvent}
 use Rattle.um_model.proofs.DemandsLaws.{reached_in}
-use Rattle.um_model.proofs.FewLaws.{booted_none, cancel_no_more, empty_none, follows_no_more, resets_no_more, settles_no_more}
+use Rattle.um_model.proofs.FewLaws.{HoldsNoMore, booted_none, cancel_no_more, empty_none, follows_no_more, resets_no_more, settles_no_more}
 use Rattle.um_model.proofs.FreeLaws.{pending_known}
 use Rattle.um_model.proofs.GivesLaws.{names_of_link, names_mentioned, OwnOrName}
 use Rattle.um_model.proofs.InvariantLaws.{FitUnitEvent, kept_taking}
 use Rattle.um_model.proofs.NamedLaws.{named_by_name}
-use Rattle.um_model.proofs.TreeLaws.{path_of_parts, fit-name}
 use Rattle.um_model.proofs.UnitLaws.{tidy_empty, tidy_units, tidy_jobs}
+use Rattle.um_model.proofs.Forms.{with_running}
 
 -- ---- known names
 
@@ -35,7 +35,7 @@ IsName unit = is_unit_name unit ≡ true
 
 module _ (tree : Tree) (Extra : List ℕ → Type 0) (extra_names : (x : List ℕ) → Extra x → IsName x) where
   named_name : (x : List ℕ) → IsNamed tree Extra x → IsName x
-  named_name x (model.has h) = subst IsName h.named (fit-name h.parts.unit h.parts.place (path_of_parts h.path h.parts h.served).fit)
+  named_name x (model.has h) = (and_parts (is_unit_name x) (not (is_template x)) h.plain).0
   named_name x (model.holder {kind = kind} {y = y} by_link) = (names_of_link tree kind x y by_link).0
   named_name x (model.link {kind = kind} {x = holder} by_link) = (names_of_link tree kind holder x by_link).1
   named_name x (model.extra more) = extra_names x more
@@ -105,7 +105,7 @@ follows_names t s happening actions v h names = by (follows_no_more t s happenin
     by (inr (boot, is)) = subst HoldsNames (sym is) (λ x held. absurd (booted_none boot s x held))
 
 -- what an input has for its effect keeps this
-pub takes_names : (t : ℕ) (s : State) (event : Event) (actions : List Action) (v : State) → FitEvent event → Takes t s event actions v → HoldsNames s → HoldsNames v
+pub takes_names : (t : ℕ) (s : State) (event : Event) (actions : List Action) (v : State) → FitEvent event → TakesEffect t s event actions v → HoldsNames s → HoldsNames v
 takes_names t s event actions v fit (obeys {command = command} {first = x} {more = y} {u = u} none does h) names =
     no_more_names u v (settles_no_more t u y v h) (does_names t s command x u fit does names)
 takes_names t s event actions v fit (meets {happening = happening} effect h) names = follows_names t s happening actions v h names
@@ -147,7 +147,7 @@ changes_tidy s command u (plans is plan) tidy = record { units = tidy.units; pen
 booted_tidy : (s : State) (boot : List ℕ) → IsTidyState s → IsTidyState (booted boot s)
 booted_tidy s boot tidy = record { units = tidy_empty dead_unit; pending = tidy_empty no_jobs }
 
-pub takes_tidy : (t : ℕ) (s : State) (event : Event) (actions : List Action) (v : State) → FitEvent event → Takes t s event actions v → IsTidyState s → IsTidyState v
+pub takes_tidy : (t : ℕ) (s : State) (event : Event) (actions : List Action) (v : State) → FitEvent event → TakesEffect t s event actions v → IsTidyState s → IsTidyState v
 takes_tidy t = kept_taking t IsTidyState (carried_tidy t) begun_tidy restart_tidy changes_tidy booted_tidy
 
 pub empty_tidy : IsTidyState empty_state

@@ -6,7 +6,7 @@ use Rattle.std.specs.Cmp.Lexicographic.{slice_cmp}
 use Rattle.std.specs.FinMap as map
 use Rattle.std.specs.Ordering.{nat_cmp}
 use Rattle.um_model.specs.InputSpellings.{FitEvent}
-use Rattle.um_model.specs.Machine.{State, empty_state, Command, Event, acting_in, around, change_of, changed, with_result_dependency, TakesAlong, Becomes, Carries, begun, with_start_alone, Changes, puts, links, removes, reloads, plans, demands_nothing, cancels, installs, booted, Takes}
+use Rattle.um_model.specs.Machine.{State, empty_state, Command, Event, settings_in, around, change_of, changed, TakesAlong, Becomes, Carries, begun, with_start_alone, Changes, puts, links, removes, reloads, plans, demands_nothing, cancels, installs, booted, TakesEffect}
 use Rattle.um_model.specs.Moments.{moment_limit, process_limit}
 use Rattle.um_model.specs.Service.{Action, dead_unit, state_of_unit, with_unit}
 use Rattle.um_model.specs.Transitions.{HasNumber, spawned}
@@ -14,7 +14,7 @@ use Rattle.um_model.specs.declared.limit.Counted.{Counted}
 use Rattle.um_model.specs.declared.service.UnitState.{UnitState}
 use Rattle.um_model.specs.declared.transition.Change.{Change}
 use Rattle.um_model.specs.declared.transition.UnitEvent.{UnitEvent}
-use Rattle.um_model.proofs.AlongLaws.{taken_along_or_not}
+use Rattle.um_model.proofs.AlongLaws.{taken_along_or_not, with_result_dependency}
 use Rattle.um_model.proofs.FitUnitLaws.{settings_low, IsGood, transition_fits}
 use Rattle.um_model.proofs.InvariantLaws.{FitUnitEvent, kept_taking}
 use Rattle.um_model.proofs.TimersLaws.{same_name}
@@ -46,7 +46,7 @@ module _ (t : ℕ) (early : t ≤ moment_limit) (s : State) (unit : List ℕ) (e
   OldOrNext x n = HasNumber (before x) n ⊎ ((x ≡ unit) × ((n ≡ s.next) × (spawned c.order ≡ 1)))
 
   of_change : (n : ℕ) → HasNumber c.unit n → OldOrNext unit n
-  of_change n is = by (numbers_are_next (acting_in s.loaded unit).settings (around t s unit) (before unit) event n is)
+  of_change n is = by (numbers_are_next (settings_in s.loaded unit) (around t s unit) (before unit) event n is)
     where
       by : HasNumber (before unit) n ⊎ ((n ≡ s.next) × (spawned c.order ≡ 1)) → OldOrNext unit n
       by (inl old) = inl old
@@ -66,7 +66,7 @@ module _ (t : ℕ) (early : t ≤ moment_limit) (s : State) (unit : List ℕ) (e
   ]
     where
       here : IsGood t c.unit
-      here = transition_fits (acting_in s.loaded unit).settings (around t s unit) (settings_low s.loaded unit) early (before unit) event fit (h.good unit) (λ n is. (h.within unit n is).1)
+      here = transition_fits (settings_in s.loaded unit) (around t s unit) (settings_low s.loaded unit) early (before unit) event fit (h.good unit) (λ n is. (h.within unit n is).1)
 
   within_after : (x : List ℕ) (n : ℕ) → HasNumber (after x) n → (1 ≤ n) × (n < s.next + spawned c.order)
   within_after x n is = by (old_or_next x n is)
@@ -90,7 +90,7 @@ module _ (t : ℕ) (early : t ≤ moment_limit) (s : State) (unit : List ℕ) (e
   changed_good : HasGoodUnits t (changed s unit c)
   changed_good = record {
     next_some = omega (arith, h.next_some);
-    next_low = next_is_small (acting_in s.loaded unit).settings (around t s unit) (before unit) event h.next_low;
+    next_low = next_is_small (settings_in s.loaded unit) (around t s unit) (before unit) event h.next_low;
     good = good_after;
     within = within_after;
     apart = apart_after;
@@ -183,7 +183,7 @@ none_good t s none some low = record {
     no_number x n has = dead_none n (subst (λ u. HasNumber u n) (nothing_held x) (subst (λ us. HasNumber (state_of_unit us x) n) none has))
 
 -- what an input has for its effect keeps them
-pub takes_good : (t : ℕ) → t ≤ moment_limit → (s : State) (event : Event) (actions : List Action) (v : State) → FitEvent event → Takes t s event actions v → HasGoodUnits t s → HasGoodUnits t v
+pub takes_good : (t : ℕ) → t ≤ moment_limit → (s : State) (event : Event) (actions : List Action) (v : State) → FitEvent event → TakesEffect t s event actions v → HasGoodUnits t s → HasGoodUnits t v
 takes_good t early =
     kept_taking t (HasGoodUnits t) (carried_good t early) (λ s j h. same_good t s (begun s j) refl refl h) (λ s unit h. same_good t s (with_start_alone s unit) refl refl h) (changes_good t)
     (λ s boot h. none_good t (booted boot s) refl h.next_some h.next_low)

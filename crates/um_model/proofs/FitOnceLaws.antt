@@ -11,14 +11,15 @@ use Rattle.um_model.specs.Machine.{State}
 use Rattle.um_model.specs.Names.{is_unit_name}
 use Rattle.um_model.specs.Service.{ByUnit, AreTidyUnits}
 use Rattle.um_model.specs.Spellings.{FitEnd, FitMoment, FitNext, FitProcess, FitDeadline, FitCounted, FitUnit}
-use Rattle.um_model.specs.StateSpellings.{FitEntry, any_text, FitTree, FitUnits, FitJob, FitPending, FitBoot, is_sound, FitState}
-use Rattle.um_model.specs.Tree.{Tree, Entry, File, Link, IsTree, is_fit_at, entry_limit}
+use Rattle.um_model.specs.StateSpellings.{FitEntry, any_text, FitTree, FitUnits, FitPending, FitBoot, is_sound, FitState}
+use Rattle.um_model.specs.Tree.{Tree, Entry, File, Link, IsTree, entry_limit}
 use Rattle.um_model.specs.declared.jobs.UnitJobs.{UnitJobs}
 use Rattle.um_model.specs.declared.limit.Counted.{Counted}
 use Rattle.um_model.specs.declared.service.End.{End}
 use Rattle.um_model.specs.declared.service.End.TheVariants as end
 use Rattle.um_model.specs.declared.service.UnitState.{UnitState}
 use Rattle.std.specs.FinMap as map
+use Rattle.um_model.proofs.Forms.{is_fit_at, FitJob}
 
 -- ---- numbers, texts, lists and maps
 

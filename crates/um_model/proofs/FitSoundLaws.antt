@@ -14,8 +14,8 @@ use Rattle.std.proofs.lemmas.Map.Views.{tells_apart}
 use Rattle.std.proofs.lemmas.Option.{none-some}
 use Rattle.um_model.specs.Machine.{State}
 use Rattle.um_model.specs.Service.{dead_unit, state_of_unit}
-use Rattle.um_model.specs.StateSpellings.{has_begun, numbers_in, are_distinct, is_sound}
-use Rattle.um_model.specs.Transitions.{numbers, live_numbers, HasNumber}
+use Rattle.um_model.specs.StateSpellings.{numbers_in, are_distinct, is_sound}
+use Rattle.um_model.specs.Transitions.{live_numbers, HasNumber}
 use Rattle.um_model.specs.declared.limit.Counted.{Counted}
 use Rattle.um_model.specs.declared.service.UnitState.{UnitState}
 use Rattle.um_model.proofs.AmongLaws.{among_either}
@@ -24,6 +24,7 @@ use Rattle.um_model.proofs.EntriesLaws.{below_none, both_true, left_true, right_
 use Rattle.um_model.proofs.FitNumbersLaws.{HasGoodUnits}
 use Rattle.um_model.proofs.FitUnitLaws.{IsGood}
 use Rattle.um_model.proofs.LeastLaws.{Among}
+use Rattle.um_model.proofs.Forms.{numbers, has_begun}
 
 -- ---- distinct numbers
 

@@ -7,17 +7,17 @@ use Rattle.std.proofs.lemmas.Bool.{cases_lt}
 use Rattle.std.proofs.lemmas.Option.{none-some}
 use Rattle.um_model.specs.Bytes.{FitText}
 use Rattle.um_model.specs.Dependencies.{unit_limit, IsKnown, CountsFor, extra}
-use Rattle.um_model.specs.Few.{IsFew}
 use Rattle.um_model.specs.InputSpellings.{FitCommand, FitEvent, FitInput, input_spelling}
 use Rattle.um_model.specs.Jobs.{JobShown, job_shown, jobs_shown_of}
-use Rattle.um_model.specs.Machine.{State, empty_state, Command, Event, Input, Reply, Refusal, IsHeld, Refuses, Changes, puts, links, removes, reloads, plans, demands_nothing, cancels, installs, Does, units_reset, ends, reports, ticks, boots, Takes, obeys, meets, end_of, moment_of, Step, refused, crowded_out, idle, taken, Run, goes}
+use Rattle.um_model.specs.Machine.{State, empty_state, Command, Event, Input, Reply, Refusal, IsHeld, Refuses, Changes, puts, links, removes, reloads, plans, demands_nothing, cancels, installs, Does, units_reset, ends, reports, ticks, boots, TakesEffect, obeys, meets, end_of, moment_of, Step, refused, crowded_out, idle, taken, Run, goes}
 use Rattle.um_model.specs.Moments.{moment_limit, deadline_limit, process_limit}
 use Rattle.um_model.specs.Names.{is_unit_name}
 use Rattle.um_model.specs.Reached.{first}
 use Rattle.um_model.specs.Refusals.{Refused, too_large}
+use Rattle.um_model.specs.Servable.{IsFew}
 use Rattle.um_model.specs.Service.{Action, dead_unit, state_of_unit}
 use Rattle.um_model.specs.Spellings.{FitMoment, FitProcess, FitDeadline, FitCounted, FitUnitName, FitUnit}
-use Rattle.um_model.specs.StateSpellings.{FitJob, FitBoot, state_spelling, FitState}
+use Rattle.um_model.specs.StateSpellings.{FitBoot, state_spelling, FitState}
 use Rattle.um_model.specs.Transitions.{HasNumber}
 use Rattle.um_model.specs.Weight.{weight_of}
 use Rattle.um_model.specs.declared.jobs.JobKind.{JobKind}
@@ -45,6 +45,7 @@ use Rattle.um_model.proofs.OnceLaws.{among_at}
 use Rattle.um_model.proofs.SceneLaws.{held_list}
 use Rattle.um_model.proofs.StateLengthLaws.{entries_few, shown_few, spelled_short}
 use Rattle.um_model.proofs.WeightLaws.{short_name}
+use Rattle.um_model.proofs.Forms.{FitJob}
 
 -- ---- the maps of a state
 
@@ -178,7 +179,7 @@ does_texts t s command actions u fit none (Does.changes change) h =
     record { trees = changes_texts s command u fit none change h.trees; boot = subst FitBoot (sym (same_boot s command u change)) h.boot }
 does_texts t s command actions u fit none (Does.resets {asked = asked} forgets) h = keep_texts s u (resets_keep t (units_reset s asked) s actions u forgets) h
 
-takes_texts : (t : ℕ) (s : State) (event : Event) (actions : List Action) (v : State) → FitEvent event → Takes t s event actions v → HasTexts s → HasTexts v
+takes_texts : (t : ℕ) (s : State) (event : Event) (actions : List Action) (v : State) → FitEvent event → TakesEffect t s event actions v → HasTexts s → HasTexts v
 takes_texts t s event actions v fit (obeys {command = command} {first = x} {more = y} {u = u} none does k) h =
     keep_texts u v (settles_keeps t u y v k) (does_texts t s command x u fit none does h)
 takes_texts t s event actions v fit (meets effect (ends {number = number} {end = end} {first = x} {more = y} {u = u} unit is k l)) h =
@@ -191,7 +192,7 @@ takes_texts t s event actions v fit (meets effect (boots {boot = boot})) h =
 
 -- ---- a step and a run
 
-taken_whole : (s : State) (moment : ℕ) (event : Event) (actions : List Action) (v : State) → FitMoment moment → FitEvent event → Takes (moment_of s moment) s event actions v → IsWhole s
+taken_whole : (s : State) (moment : ℕ) (event : Event) (actions : List Action) (v : State) → FitMoment moment → FitEvent event → TakesEffect (moment_of s moment) s event actions v → IsWhole s
     → IsWhole (record v { clock = moment_of s moment })
 taken_whole s moment event actions v fits fit takes h = record {
   texts = record { tree = texts.trees.tree; loaded = texts.trees.loaded };

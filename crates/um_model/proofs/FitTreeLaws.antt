@@ -15,20 +15,23 @@ use Rattle.std.proofs.lemmas.List.{length-map}
 use Rattle.std.proofs.lemmas.Map.Lookups.{exact_bytes}
 use Rattle.std.proofs.lemmas.Map.Views.{tells_apart}
 use Rattle.std.proofs.lemmas.Option.{none-some}
+use Rattle.std.specs.Str.{bytes_eq}
 use Rattle.um_model.specs.Bytes.{ByText, FitText, are_keys}
-use Rattle.um_model.specs.Install.{LinkAt, link_at, links_to, links_of, linked_name, path_in_etc, IsAskedFor, IsPathAsked, IsUnlinked, IsEnabled, IsDisabled, path_of_mask, is_masking, CausesOfEnable, Installs, enables, disables, masks, unmasks, RefusesInstall, enables_none}
+use Rattle.um_model.specs.Install.{LinkAt, link_at, links_to, links_of, linked_name, path_in_etc, IsAskedFor, IsUnlinked, IsEnabled, IsDisabled, is_masking, too_many, CausesOfEnable, Installs, enables, disables, masks, unmasks, RefusesInstall, enables_none}
 use Rattle.um_model.specs.InputSpellings.{FitCommand}
 use Rattle.um_model.specs.Machine.{State, Command, Refuses, Changes, puts, links, removes, reloads, plans, demands_nothing, cancels, installs}
 use Rattle.um_model.specs.Names.{template_of}
-use Rattle.um_model.specs.Refusals.{Refused, unless_refused, at_first}
-use Rattle.um_model.specs.Resolution.{unit_path, held_in, first_held, leads_to_template, unless_to_template, held, Resolution, AtFile, AtNoFile, AtMask, Nowhere, is_mask, is_served_type, needs_no_file, next_name, resolution_at, resolved, hop_limit, resolution_of}
+use Rattle.um_model.specs.Refusals.{Refused, unless_refused, at_first, too_large}
+use Rattle.um_model.specs.Resolution.{unit_path, held_in, first_held, leads_to_template, unless_to_template, held, Resolution, AtFile, AtNoFile, AtMask, Nowhere, is_mask, is_served_type, shutdown_target, next_name, resolution_at, resolved, hop_limit, resolution_of}
 use Rattle.um_model.specs.StateSpellings.{any_text, FitEntry, FitTree}
-use Rattle.um_model.specs.Tree.{Tree, Entry, File, Link, Wants, Requires, Unit as Itself, PathParts, IsTree, path_parts, is_served, is_fit_at, is_fit_entry, is_fit_target, entry_limit, put_cause, put_file, link_cause, put_link, remove_cause, remove_at, is_volatile, without_run}
-use Rattle.um_model.specs.Units.{InstallSettings, LoadedUnit, Loading, Found, Masked, NotFound, BadSetting, found_unless, loading_at, load}
+use Rattle.um_model.specs.Tree.{Tree, Entry, File, Link, Wants, Requires, Unit as Itself, PathParts, IsTree, path_parts, is_served, is_fit_entry, is_fit_target, entry_limit, put_cause, put_file, link_cause, put_link, remove_cause, remove_at, is_volatile, without_run}
+use Rattle.um_model.specs.Units.{InstallSettings, LoadedUnit, Loading, Found, Masked, NotFound, BadSetting, loading_at, load}
 use Rattle.um_model.specs.Weight.{text_of_entry}
 use Rattle.um_model.specs.declared.install.InstallVerb.{InstallVerb}
 use Rattle.um_model.specs.declared.tree.Layer.{Layer}
+use Rattle.um_model.specs.declared.refusals.Limit.TheVariants.{Entries}
 use Rattle.um_model.specs.declared.tree.Layer.TheVariants.{Etc, Run, Lib}
+use Rattle.um_model.proofs.Forms.{found_unless, is_fit_at}
 use Rattle.um_model.proofs.AmongLaws.{among_either, among_contained, from_map}
 use Rattle.um_model.proofs.AsciiLaws.{low_utf8, parts_utf8}
 use Rattle.um_model.proofs.BytesLaws.{left_holds, right_holds}
@@ -224,7 +227,7 @@ module _ (tree : Tree) (is : IsTree tree) where
   link_text unit target follow false later = followed_text (next_name unit target) follow later
 
   at_text : (unit : List ℕ) (o : Option (List ℕ × Entry)) (follow : List ℕ → Resolution) → IsAtText o → ((other : List ℕ) → LeadsToText (follow other)) → LeadsToText (resolution_at unit o follow)
-  at_text unit None follow h later = nothing_text unit (needs_no_file unit)
+  at_text unit None follow h later = nothing_text unit (bytes_eq unit shutdown_target)
   at_text unit (Some (path, File [])) follow h later = tt
   at_text unit (Some (path, File (b ∷ bs))) follow h later = h
   at_text unit (Some (path, Link target)) follow h later = link_text unit target follow (is_mask target) later
@@ -296,19 +299,19 @@ isnt_false false h = absurd (h refl)
 enabled_fits : (tree : Tree) (asked : List ℕ) (enabled : Tree) → IsOfTexts tree → ((r : Refused) → ¬ CausesOfEnable tree asked r) → IsEnabled tree asked enabled → IsOfTexts enabled
 enabled_fits tree asked enabled h none made = record { is = record { fit = λ path. fit path (path_asked_or_not tree asked path); few = few }; texts = λ path. text path (path_asked_or_not tree asked path) }
   where
-    fit : (path : List ℕ) → IsDecided (IsPathAsked tree asked path) → is_fit_at path (map.get enabled path) ≡ true
+    fit : (path : List ℕ) → IsDecided ((target : List ℕ) × IsAskedFor tree asked (link_at path target)) → is_fit_at path (map.get enabled path) ≡ true
     fit path (inl is) =
         ap (is_fit_at path) (made.linked path is.0 is.1)
-        ∙ isnt_false (is_fit_target (path_parts path) is.0) (λ unfit. fit_of_causes tree asked none path (record { target = is.0; wanted = is.1; unfit = unfit }))
+        ∙ isnt_false (is_fit_target (path_parts path) is.0) (λ unfit. fit_of_causes tree asked none path (is.0, is.1, unfit))
     fit path (inr isnt) = ap (is_fit_at path) (made.kept path isnt) ∙ h.is.fit path
 
     few : map.len enabled ≤ entry_limit
     few = elim (cases_lt entry_limit (map.len enabled)) as (λ _. map.len enabled ≤ entry_limit) [
-      | inl many ↦ absurd (few_of_causes tree asked none (record { enabled = enabled; all = made; many = many }))
+      | inl many ↦ absurd (few_of_causes tree asked none (too_large Entries) (too_many made many))
       | inr most ↦ most
     ]
 
-    text : (path : List ℕ) → IsDecided (IsPathAsked tree asked path) → IsTextAt (map.get enabled path)
+    text : (path : List ℕ) → IsDecided ((target : List ℕ) × IsAskedFor tree asked (link_at path target)) → IsTextAt (map.get enabled path)
     text path (inl is) = subst IsTextAt (sym (made.linked path is.0 is.1)) (asked_text tree h.is asked (link_at path is.0) is.1)
     text path (inr isnt) = subst IsTextAt (sym (made.kept path isnt)) (h.texts path)
 
@@ -336,15 +339,15 @@ disabled_fits tree asked disabled h made = record { is = record { fit = λ path.
         let less = entries_few disabled (map.keys tree) (λ path there_is. named path (unlinked_or_not tree asked path) there_is) in
         omega (arith, less, h.is.few, map.len-entries disabled, map.len-entries tree, length-map (map.entries tree) (λ (e : List ℕ × Entry). e.0))
 
-unmasked_fits : (tree : Tree) (unit : List ℕ) (b : Bool) → IsOfTexts tree → IsOfTexts (cond b (map.remove tree (path_of_mask unit)) tree)
-unmasked_fits tree unit true h = removed tree (path_of_mask unit) h
+unmasked_fits : (tree : Tree) (unit : List ℕ) (b : Bool) → IsOfTexts tree → IsOfTexts (cond b (map.remove tree (unit_path Etc unit)) tree)
+unmasked_fits tree unit true h = removed tree (unit_path Etc unit) h
 unmasked_fits tree unit false h = h
 
 installed_fits : (tree : Tree) (verb : InstallVerb) (unit : List ℕ) (after : Tree) → IsOfTexts tree → ((r : Refused) → ¬ RefusesInstall tree verb unit r) → Installs tree verb unit after → IsOfTexts after
 installed_fits tree verb unit after h none (enables {unit = x} made) = enabled_fits tree x after h (λ r c. none r (enables_none c)) made
 installed_fits tree verb unit after h none (disables {unit = x} made) = disabled_fits tree x after h made
-installed_fits tree verb unit after h none (masks {unit = x} e) = link_fits tree (path_of_mask x) (codes "/dev/null") after h (low_utf8 (codes "/dev/null") refl) e
-installed_fits tree verb unit after h none (unmasks {unit = x}) = unmasked_fits tree x (is_masking (map.get tree (path_of_mask x))) h
+installed_fits tree verb unit after h none (masks {unit = x} e) = link_fits tree (unit_path Etc x) (codes "/dev/null") after h (low_utf8 (codes "/dev/null") refl) e
+installed_fits tree verb unit after h none (unmasks {unit = x}) = unmasked_fits tree x (is_masking (map.get tree (unit_path Etc x))) h
 
 -- ---- both trees of a state
 
@@ -362,5 +365,5 @@ changes_texts s command u fit none (plans demanded plan) h = record { tree = h.t
 changes_texts s command u fit none (demands_nothing is) h = h
 changes_texts s command u fit none cancels h = record { tree = h.tree; loaded = h.loaded }
 changes_texts s command u fit none (installs {verb = verb} {unit = unit} {tree = tree} made) h =
-    let after = installed_fits s.tree verb unit tree h.tree (λ r refuses. none r (Refuses.installs_none (at_first refuses))) made in
+    let after = installed_fits s.tree verb unit tree h.tree (λ r refuses. none r ((at_first refuses))) made in
     record { tree = after; loaded = after }

@@ -3,19 +3,21 @@ use Rattle.std.proofs.Common.{ℕ, ◌≡◌, inl, inr, ◌+◌, ◌<◌, ◌≤
 use Rattle.std.specs.Prelude.{IfSome, option_map}
 use Rattle.std.proofs.lemmas.Bool.{and_parts, ltb-true}
 use Rattle.std.proofs.lemmas.Option.{none-some, same_Some}
-use Rattle.um_model.specs.Limit.{is_unlimited, is_over, window_from, limited, counted}
-use Rattle.um_model.specs.Machine.{acting_unloadable, acting_of, acting_in}
+use Rattle.um_model.specs.Limit.{is_unlimited, is_over, limited, counted}
+use Rattle.std.specs.Option.{option_map_or}
+use Rattle.um_model.specs.Dependencies.{loadable_of}
+use Rattle.um_model.specs.Machine.{settings_in}
 use Rattle.um_model.specs.Moments.{moment_limit, span_limit, deadline_limit}
 use Rattle.um_model.specs.Names.{suffix_of, is_template}
 use Rattle.um_model.specs.Resolution.{Resolution, AtFile, AtNoFile, AtMask, Nowhere, resolution_of}
 use Rattle.um_model.specs.Service.{active_state_of}
-use Rattle.um_model.specs.Settings.{ServiceSettings, place_limit, has_place}
+use Rattle.um_model.specs.Settings.{ServiceSettings, default_settings, has_place}
 use Rattle.um_model.specs.Spellings.{FitEnd}
-use Rattle.um_model.specs.Ends.{is_clean, is_restart_wanted}
-use Rattle.um_model.specs.Transitions.{deadline_after, has_number, is_live, just, asking, start_ends, rests_for_good, awaits_restart, rests, terminates, stop_command, winds_down, next_stop, lacks_number, start_command, start_simple, start_of, starts_if, starts, exits, next_command, next_start, start_goes_on, executed, rests_unless_live, noted, without_main, without_control, timed_out, asked, is_well, row, is_going, transition, HasNumber}
+use Rattle.um_model.specs.Ends.{is_clean, is_restart_wanted, has_one_command}
+use Rattle.um_model.specs.Transitions.{deadline_after, has_number, is_live, just, asking, start_ends, start_fails, rests_for_good, waits_to_restart, rests, terminates, stop_command, winds_down, first_command, start_of, starts_if, starts, exits, next_command, start_goes_on, rests_unless_live, noted, without_main, without_control, timed_out, told_to_stop, is_stop_done, row, is_going, transition, HasNumber}
 use Rattle.um_model.specs.Tree.{Tree}
-use Rattle.um_model.specs.Units.{Assigned, last_or, last_read, micros_in, timeout_in, span_said, timeout_said, default_timeout_start, service_settings_with, service_settings_of, LoadedUnit, Loading, Found, Masked, NotFound, BadSetting, found_unless, loading_at, load}
-use Rattle.um_model.specs.Values.{number_limit, number_of, span_of}
+use Rattle.um_model.specs.Units.{Assigned, timeout_said, default_timeout_start, service_settings_with, service_settings_of, LoadedUnit, Loading, Found, Masked, NotFound, BadSetting, loading_at, load}
+use Rattle.um_model.specs.Values.{number_of, span_of}
 use Rattle.um_model.specs.Commands.{Command}
 use Rattle.um_model.specs.declared.limit.Counted.{Counted}
 use Rattle.um_model.specs.declared.names.Suffix.{Suffix}
@@ -26,8 +28,6 @@ use Rattle.um_model.specs.declared.service.SubState.{SubState}
 use Rattle.um_model.specs.declared.service.SubState.TheVariants.{Dead, Start, Running, Exited, Stop, StopSigterm, StopSigkill, Failed, AutoRestart, Active}
 use Rattle.um_model.specs.declared.service.UnitResult.TheVariants as result
 use Rattle.um_model.specs.declared.service.UnitState.{UnitState}
-use Rattle.um_model.specs.declared.settings.TimeSpan.{TimeSpan}
-use Rattle.um_model.specs.declared.settings.TimeSpan.TheVariants.{Micros, Infinite}
 use Rattle.um_model.specs.declared.transition.Around.{Around}
 use Rattle.um_model.specs.declared.transition.Change.{Change}
 use Rattle.um_model.specs.declared.transition.CommandList.TheVariants.{OfStart, OfStop}
@@ -37,11 +37,13 @@ use Rattle.um_model.specs.declared.transition.UnitEvent.{UnitEvent}
 use Rattle.um_model.specs.declared.transition.UnitEvent.TheVariants.{StartBegins, StopBegins, BoundStop, Executed, MainEnds, ControlEnds, DeadlinePasses, Reset}
 use Rattle.um_model.specs.declared.transition.UnitKind.{UnitKind}
 use Rattle.um_model.specs.declared.transition.UnitKind.TheVariants.{Simple, Exec, Oneshot, Target}
+use Rattle.um_model.proofs.Forms.{found_unless}
 use Rattle.um_model.proofs.AmongLaws.{from_filter_map}
 use Rattle.um_model.proofs.InvariantLaws.{FitUnitEvent}
 use Rattle.um_model.proofs.LeastLaws.{Among}
 use Rattle.um_model.proofs.TransitionLaws.{by_cond}
 use Rattle.um_model.proofs.ValuesLaws.{IsNumber-number_of, IsSpan-span_of}
+use Rattle.um_model.proofs.FileForms.{place_limit, last_or, timeout_in, number_limit}
 
 -- ---- settings
 
@@ -61,26 +63,25 @@ module _ {A : Type 0} (P : A → Type 0) where
   last_holds default (x ∷ xs) first others = last_holds x xs (others x (inl refl)) (λ y later. others y (inr later))
 
   -- what is read last, where it holds of the default and of all that can be read
-  read_holds : (read : List ℕ → Option A) (default : A) (values : List (List ℕ)) → P default → ((value : List ℕ) (a : A) → read value ≡ Some a → P a) → P (last_read read default values)
+  read_holds : (read : List ℕ → Option A) (default : A) (values : List (List ℕ)) → P default → ((value : List ℕ) (a : A) → read value ≡ Some a → P a) → P (last_or default (filter_map read values))
   read_holds read default values first each =
       last_holds default (filter_map read values) first (λ x among. let found = from_filter_map read values x among in each found.0 x found.2)
 
-span_low : (value : List ℕ) (n : ℕ) → span_of value ≡ Some (Micros n) → n ≤ span_limit
-span_low value n e = (IsSpan-span_of value (Micros n) e).2
+span_low : (value : List ℕ) (n : ℕ) → span_of value ≡ Some (Some n) → n ≤ span_limit
+span_low value n e = (IsSpan-span_of value (Some n) e).2
 
-by_span : (value : List ℕ) (o : Option TimeSpan) (a : Option ℕ) → span_of value ≡ o → option_map micros_in o ≡ Some a → IsLowSpan a
-by_span value None a at e = absurd (none-some a e)
-by_span value (Some Infinite) a at e = subst IsLowSpan (same_Some None a e) tt
-by_span value (Some (Micros n)) a at e = subst IsLowSpan (same_Some (Some n) a e) (span_low value n at)
+by_span : (value : List ℕ) (a : Option ℕ) → span_of value ≡ Some a → IsLowSpan a
+by_span value None e = tt
+by_span value (Some n) e = span_low value n e
 
 timeout_low : (n : ℕ) (b : Bool) → n ≤ span_limit → IsLowSpan (cond b None (Some n))
 timeout_low n true low = tt
 timeout_low n false low = low
 
-by_timeout : (value : List ℕ) (o : Option TimeSpan) (a : Option ℕ) → span_of value ≡ o → option_map timeout_in o ≡ Some a → IsLowSpan a
+by_timeout : (value : List ℕ) (o : Option (Option ℕ)) (a : Option ℕ) → span_of value ≡ o → option_map timeout_in o ≡ Some a → IsLowSpan a
 by_timeout value None a at e = absurd (none-some a e)
-by_timeout value (Some Infinite) a at e = subst IsLowSpan (same_Some None a e) tt
-by_timeout value (Some (Micros n)) a at e = subst IsLowSpan (same_Some (timeout_in (Micros n)) a e) (timeout_low n _ (span_low value n at))
+by_timeout value (Some None) a at e = subst IsLowSpan (same_Some None a e) tt
+by_timeout value (Some (Some n)) a at e = subst IsLowSpan (same_Some (timeout_in (Some n)) a e) (timeout_low n _ (span_low value n at))
 
 default_low : (kind : UnitKind) → IsLowSpan (default_timeout_start kind)
 default_low Simple = omega arith
@@ -90,7 +91,7 @@ default_low Target = omega arith
 
 with_low : (start : List Command) (kind : UnitKind) (unit : List ℕ) (assigned : List Assigned) → AreLow (service_settings_with start kind unit assigned)
 with_low start kind unit assigned = record {
-  delay = read_holds IsLowSpan span_said (Some 100000) _ (omega arith) (λ value a e. by_span value (span_of value) a refl e);
+  delay = read_holds IsLowSpan span_of (Some 100000) _ (omega arith) by_span;
   start = read_holds IsLowSpan timeout_said (default_timeout_start kind) _ (default_low kind) (λ value a e. by_timeout value (span_of value) a refl e);
   stop = read_holds IsLowSpan timeout_said (Some 90000000) _ (omega arith) (λ value a e. by_timeout value (span_of value) a refl e);
   burst = read_holds (λ n. n ≤ number_limit) number_of 5 _ (omega arith) (λ value n e. (IsNumber-number_of value n e).limit);
@@ -119,22 +120,22 @@ loads_low tree unit = by (resolution_of tree unit)
     by (AtMask found) = tt
     by Nowhere = tt
 
-unloadable_low : AreLow acting_unloadable.settings
+unloadable_low : AreLow (default_settings Simple)
 unloadable_low = record { delay = omega arith; start = omega arith; stop = omega arith; burst = omega arith }
 
-acting_low : (found : Loading) → IsLowFound found → AreLow (acting_of found).settings
-acting_low (Found l) low = by (is_template l.name)
+loadable_low : (found : Loading) → IsLowFound found → AreLow (option_map_or (λ (l : LoadedUnit). l.settings.service) (loadable_of found) (default_settings Simple))
+loadable_low (Found l) low = by (is_template l.name)
   where
-    by : (b : Bool) → AreLow (cond b acting_unloadable (record { settings = l.settings.service; loadable = true })).settings
+    by : (b : Bool) → AreLow (option_map_or (λ (l : LoadedUnit). l.settings.service) (cond b None (Some l)) (default_settings Simple))
     by true = unloadable_low
     by false = low
-acting_low (Masked unit) low = unloadable_low
-acting_low NotFound low = unloadable_low
-acting_low (BadSetting unit reason) low = unloadable_low
+loadable_low (Masked unit) low = unloadable_low
+loadable_low NotFound low = unloadable_low
+loadable_low (BadSetting unit reason) low = unloadable_low
 
 -- those by which a unit acts
-pub settings_low : (tree : Tree) (unit : List ℕ) → AreLow (acting_in tree unit).settings
-settings_low tree unit = acting_low (load tree unit) (loads_low tree unit)
+pub settings_low : (tree : Tree) (unit : List ℕ) → AreLow (settings_in tree unit)
+settings_low tree unit = loadable_low (load tree unit) (loads_low tree unit)
 
 -- ---- one unit
 
@@ -172,7 +173,7 @@ module _ (s : ServiceSettings) (c : Around) (low : AreLow s) (early : c.moment �
   rests_for_good_good w g = record { index_low = g.index_low; deadline_low = tt; window_low = g.window_low; last_low = g.last_low; apart = none_apart None }
 
   rests_good : (w : UnitState) → Good w → Leaves (rests s c w)
-  rests_good w g = by_cond Leaves (not w.asked && not c.stop_waits && is_restart_wanted s w) (awaits_restart s c w) (rests_for_good w)
+  rests_good w g = by_cond Leaves (not w.asked && not c.stop_waits && is_restart_wanted s w) (waits_to_restart s c w) (rests_for_good w)
       (λ e. record { index_low = g.index_low; deadline_low = deadline_fits s.restart_delay low.delay; window_low = g.window_low; last_low = g.last_low; apart = none_apart None })
       (λ e. rests_for_good_good w g)
 
@@ -196,12 +197,9 @@ module _ (s : ServiceSettings) (c : Around) (low : AreLow s) (early : c.moment �
   place_few : (commands : List Command) (i : ℕ) → has_place commands i ≡ true → i < 2 ^ 32
   place_few commands i e = ltb-true i place_limit (and_parts (nat_lt i (length commands)) (nat_lt i place_limit) e).1
 
-  winds_down_good : (w : UnitState) → Good w → Below w → Leaves (winds_down s c w)
-  winds_down_good w g below = by_cond Leaves (has_place s.stop 0) (stop_command s c w 0) (terminates s c w) (λ e. stop_command_good w 0 (omega arith) g below) (λ e. terminates_good w g)
-
-  next_stop_good : (w : UnitState) → Good w → Below w → Leaves (next_stop s c w)
-  next_stop_good w g below = by_cond Leaves (has_place s.stop (w.index + 1)) (stop_command s c w (w.index + 1)) (terminates s c w)
-      (λ e. stop_command_good w (w.index + 1) (place_few s.stop (w.index + 1) e) g below) (λ e. terminates_good w g)
+  winds_down_good : (w : UnitState) (i : ℕ) → Good w → Below w → Leaves (winds_down s c w i)
+  winds_down_good w i g below = by_cond Leaves (has_place s.stop i) (stop_command s c w i) (terminates s c w)
+      (λ e. stop_command_good w i (place_few s.stop i e) g below) (λ e. terminates_good w g)
 
   -- the main process is started
   with_next_main : (w : UnitState) (i : ℕ) (deadline : Option ℕ) → i < 2 ^ 32 → IfSome deadline (λ d. d ≤ deadline_limit) → Good w → Below w → Good (record w { main = Some c.next; index = i; deadline = deadline })
@@ -211,22 +209,24 @@ module _ (s : ServiceSettings) (c : Around) (low : AreLow s) (early : c.moment �
   without_deadline : (w : UnitState) → Good w → Good (record w { deadline = None })
   without_deadline w g = record { index_low = g.index_low; deadline_low = tt; window_low = g.window_low; last_low = g.last_low; apart = g.apart }
 
-  start_command_good : (w : UnitState) (i : ℕ) → Good w → Below w → Leaves (start_command s c w i)
-  start_command_good w i g below = by_cond Leaves (has_number c) (asking (Spawn OfStart i) (just (record w { sub = Start; main = Some c.next; deadline = deadline_after c.moment s.timeout_start }))) (lacks_number w)
+  first_command_good : (w : UnitState) → Good w → Below w → Leaves (first_command s c w)
+  first_command_good w g below = by_cond Leaves (has_number c) (asking (Spawn OfStart 0) (just (record w { sub = Start; main = Some c.next; deadline = deadline_after c.moment s.timeout_start })))
+      (start_fails (rests_for_good (record w { result = result.Resources })))
       (λ e. with_next_main w w.index (deadline_after c.moment s.timeout_start) g.index_low (deadline_fits s.timeout_start low.start) g below)
       (λ e. rests_for_good_good (record w { result = result.Resources }) g)
 
-  start_simple_good : (w : UnitState) → Good w → Below w → Leaves (start_simple c w)
-  start_simple_good w g below = by_cond Leaves (has_number c) (start_ends (asking (Spawn OfStart 0) (just (record w { sub = Running; main = Some c.next; deadline = None })))) (lacks_number w)
+  start_simple_good : (w : UnitState) → Good w → Below w → Leaves (start_of Simple s c w)
+  start_simple_good w g below = by_cond Leaves (has_number c) (start_ends (asking (Spawn OfStart 0) (just (record w { sub = Running; main = Some c.next; deadline = None }))))
+      (start_fails (rests_for_good (record w { result = result.Resources })))
       (λ e. with_next_main w w.index None g.index_low tt g below)
       (λ e. rests_for_good_good (record w { result = result.Resources }) g)
 
   start_of_good : (k : UnitKind) (w : UnitState) → Good w → Below w → Leaves (start_of k s c w)
   start_of_good Target w g below = without_deadline w g
   start_of_good Simple w g below = start_simple_good w g below
-  start_of_good Exec w g below = start_command_good w 0 g below
-  start_of_good Oneshot w g below = by_cond Leaves (has_place s.start 0) (start_command s c w 0) (start_ends (just (record w { sub = Exited; deadline = None })))
-      (λ e. start_command_good w 0 g below) (λ e. without_deadline w g)
+  start_of_good Exec w g below = first_command_good w g below
+  start_of_good Oneshot w g below = by_cond Leaves (has_place s.start 0) (first_command s c w) (start_ends (just (record w { sub = Exited; deadline = None })))
+      (λ e. first_command_good w g below) (λ e. without_deadline w g)
 
   abbrev IsLowWindow : Option Counted → Type 0
   IsLowWindow window = IfSome window (λ w. (w.began ≤ c.moment) × (w.count < 2 ^ 32))
@@ -246,11 +246,11 @@ module _ (s : ServiceSettings) (c : Around) (low : AreLow s) (early : c.moment �
   more_counted w burst true e most fits = (fits.0, omega (arith, ltb-true w.count burst e, most))
   more_counted w burst false e most fits = fits
 
-  window_begun : IsLowWindow (window_from c.moment)
+  window_begun : IsLowWindow (Some (record { began = c.moment; count = 1 }))
   window_begun = (omega arith, omega arith)
 
   over_or_counted : (w : Counted) (burst : ℕ) (b : Bool) → burst ≤ number_limit → IsLowWindow (Some w)
-      → Answers (cond b (true, window_from c.moment) (cond (nat_lt w.count burst) (true, Some (record w { count = w.count + 1 })) (false, Some w)))
+      → Answers (cond b (true, Some (record { began = c.moment; count = 1 })) (cond (nat_lt w.count burst) (true, Some (record w { count = w.count + 1 })) (false, Some w)))
   over_or_counted w burst true most fits = window_begun
   over_or_counted w burst false most fits = more_counted w burst (nat_lt w.count burst) refl most fits
 
@@ -271,31 +271,26 @@ module _ (s : ServiceSettings) (c : Around) (low : AreLow s) (early : c.moment �
       starts_if_good answer.0 answer.1 w (counted_low s.limit_interval s.limit_burst w.window low.burst g.window_low) g below
 
   exits_good : (w : UnitState) → Good w → Below w → Leaves (exits s c w)
-  exits_good w g below = by_cond Leaves s.remains (just (record w { sub = Exited; deadline = None })) (winds_down s c w) (λ e. without_deadline w g) (λ e. winds_down_good w g below)
+  exits_good w g below = by_cond Leaves s.remains (just (record w { sub = Exited; deadline = None })) (winds_down s c w 0) (λ e. without_deadline w g) (λ e. winds_down_good w 0 g below)
 
   rests_unless_live_good : (w : UnitState) → Good w → Leaves (rests_unless_live s c w)
   rests_unless_live_good w g = by_cond Leaves (is_live w) (just w) (rests s c w) (λ e. g) (λ e. rests_good w g)
 
   next_command_good : (w : UnitState) (i : ℕ) → i < 2 ^ 32 → Good w → Below w → Leaves (next_command c w i)
-  next_command_good w i few g below = by_cond Leaves (has_number c) (asking (Spawn OfStart i) (just (record w { main = Some c.next; index = i }))) (lacks_number (record w { index = i }))
+  next_command_good w i few g below = by_cond Leaves (has_number c) (asking (Spawn OfStart i) (just (record w { main = Some c.next; index = i })))
+      (start_fails (rests_for_good (record w { index = i; result = result.Resources })))
       (λ e. with_next_main w i w.deadline few g.deadline_low g below)
       (λ e. rests_for_good_good (record w { index = i; result = result.Resources }) (at_place w i few g))
-
-  next_start_good : (w : UnitState) → Good w → Below w → Leaves (next_start s c w)
-  next_start_good w g below = by_cond Leaves (has_place s.start (w.index + 1)) (next_command c w (w.index + 1)) (start_ends (exits s c w))
-      (λ e. next_command_good w (w.index + 1) (place_few s.start (w.index + 1) e) g below) (λ e. exits_good w g below)
 
   start_goes_on_good : (k : UnitKind) (w : UnitState) → Good w → Below w → Leaves (start_goes_on k s c w)
   start_goes_on_good Simple w g below = exits_good w g below
   start_goes_on_good Exec w g below = exits_good w g below
-  start_goes_on_good Oneshot w g below = next_start_good w g below
+  start_goes_on_good Oneshot w g below = by_cond Leaves (has_place s.start (w.index + 1)) (next_command c w (w.index + 1)) (start_ends (exits s c w))
+      (λ e. next_command_good w (w.index + 1) (place_few s.start (w.index + 1) e) g below) (λ e. exits_good w g below)
   start_goes_on_good Target w g below = exits_good w g below
 
-  executed_good : (k : UnitKind) (u : UnitState) → Good u → Leaves (executed k u)
-  executed_good Simple u g = without_deadline u g
-  executed_good Exec u g = without_deadline u g
-  executed_good Oneshot u g = g
-  executed_good Target u g = g
+  executed_good : (u : UnitState) → Good u → Leaves (cond (has_one_command s.kind) (start_ends (just (record u { sub = Running; deadline = None }))) (just u))
+  executed_good u g = by_cond Leaves (has_one_command s.kind) (start_ends (just (record u { sub = Running; deadline = None }))) (just u) (λ e. without_deadline u g) (λ e. g)
 
   noted_good : (w : UnitState) (e : End) (clean : Bool) → Good w → Good (noted w e clean)
   noted_good w e true g = g
@@ -332,51 +327,55 @@ module _ (s : ServiceSettings) (c : Around) (low : AreLow s) (early : c.moment �
   without_window : (u : UnitState) → Good u → Good (record u { window = None })
   without_window u g = record { index_low = g.index_low; deadline_low = g.deadline_low; window_low = tt; last_low = g.last_low; apart = g.apart }
 
-  row_good : (sub : SubState) (event : UnitEvent) (well : Bool) (u : UnitState) → FitUnitEvent event → Good u → Below u → Leaves (row s c u sub event well)
-  row_good sub StartBegins false u fit g below = g
-  row_good sub Reset well u fit g below = without_window u g
-  row_good Running StartBegins true u fit g below = g
-  row_good Exited StartBegins true u fit g below = g
-  row_good Active StartBegins true u fit g below = g
-  row_good Dead StartBegins true u fit g below = starts_good u g below
-  row_good Failed StartBegins true u fit g below = starts_good u g below
-  row_good AutoRestart StartBegins true u fit g below = starts_good u g below
-  row_good Start Executed well u fit g below = executed_good s.kind u g
-  row_good Start (MainEnds e) true u fit g below = start_goes_on_good s.kind (without_main s u e) (main_good u e fit g) (main_below u e below)
-  row_good Start (MainEnds e) false u fit g below = rests_good (without_main s u e) (main_good u e fit g)
-  row_good Start DeadlinePasses well u fit g below = terminates_good (record u { result = result.Timeout }) g
-  row_good Running (MainEnds e) true u fit g below = exits_good (without_main s u e) (main_good u e fit g) (main_below u e below)
-  row_good Running (MainEnds e) false u fit g below = winds_down_good (without_main s u e) (main_good u e fit g) (main_below u e below)
-  row_good Running StopBegins well u fit g below = winds_down_good (asked u) g below
-  row_good Exited StopBegins well u fit g below = winds_down_good (asked u) g below
-  row_good Start StopBegins well u fit g below = terminates_good (asked u) g
-  row_good AutoRestart StopBegins well u fit g below = without_deadline u g
-  row_good Stop StopBegins well u fit g below = g
-  row_good StopSigterm StopBegins well u fit g below = g
-  row_good StopSigkill StopBegins well u fit g below = g
-  row_good Active StopBegins well u fit g below = without_deadline u g
-  row_good Dead StopBegins well u fit g below = g
-  row_good Failed StopBegins well u fit g below = g
-  row_good Stop (ControlEnds e) true u fit g below = next_stop_good (record u { control = None }) (no_control_good u g) (no_control_below u below)
-  row_good Stop (ControlEnds e) false u fit g below = terminates_good (without_control s u e) (control_good u e g)
-  row_good Stop (MainEnds e) well u fit g below = main_good u e fit g
-  row_good Stop DeadlinePasses well u fit g below = terminates_good (timed_out u) g
-  row_good StopSigterm (MainEnds e) well u fit g below = rests_unless_live_good (without_main s u e) (main_good u e fit g)
-  row_good StopSigterm (ControlEnds e) well u fit g below = rests_unless_live_good (without_control s u e) (control_good u e g)
-  row_good StopSigkill (MainEnds e) well u fit g below = rests_unless_live_good (without_main s u e) (main_good u e fit g)
-  row_good StopSigkill (ControlEnds e) well u fit g below = rests_unless_live_good (without_control s u e) (control_good u e g)
-  row_good StopSigterm DeadlinePasses well u fit g below = kills_good (timed_out u) g
-  row_good StopSigkill DeadlinePasses well u fit g below = rests_for_good_good (timed_out u) g
-  row_good sub event well u fit g below = g
+  row_good : (sub : SubState) (event : UnitEvent) (u : UnitState) → FitUnitEvent event → Good u → Below u → Leaves (row s c u (active_state_of sub) sub event)
+  row_good sub Reset u fit g below = without_window u g
+  row_good Running StartBegins u fit g below = g
+  row_good Exited StartBegins u fit g below = g
+  row_good Active StartBegins u fit g below = g
+  row_good Dead StartBegins u fit g below = starts_good u g below
+  row_good Failed StartBegins u fit g below = starts_good u g below
+  row_good AutoRestart StartBegins u fit g below = starts_good u g below
+  row_good Start Executed u fit g below = executed_good u g
+  row_good Start (MainEnds e) u fit g below =
+      by_cond Leaves (is_clean s u Main e) (start_goes_on s.kind s c (without_main s u e)) (start_fails (rests s c (without_main s u e)))
+      (λ _. start_goes_on_good s.kind (without_main s u e) (main_good u e fit g) (main_below u e below)) (λ _. rests_good (without_main s u e) (main_good u e fit g))
+  row_good Start DeadlinePasses u fit g below = terminates_good (record u { result = result.Timeout }) g
+  row_good Running (MainEnds e) u fit g below =
+      by_cond Leaves (is_clean s u Main e) (exits s c (without_main s u e)) (winds_down s c (without_main s u e) 0)
+      (λ _. exits_good (without_main s u e) (main_good u e fit g) (main_below u e below)) (λ _. winds_down_good (without_main s u e) 0 (main_good u e fit g) (main_below u e below))
+  row_good Running StopBegins u fit g below = winds_down_good (told_to_stop u) 0 g below
+  row_good Exited StopBegins u fit g below = winds_down_good (told_to_stop u) 0 g below
+  row_good Start StopBegins u fit g below = terminates_good (told_to_stop u) g
+  row_good AutoRestart StopBegins u fit g below = without_deadline u g
+  row_good Stop StopBegins u fit g below = g
+  row_good StopSigterm StopBegins u fit g below = g
+  row_good StopSigkill StopBegins u fit g below = g
+  row_good Active StopBegins u fit g below = without_deadline u g
+  row_good Dead StopBegins u fit g below = g
+  row_good Failed StopBegins u fit g below = g
+  row_good Stop (ControlEnds e) u fit g below =
+      by_cond Leaves (is_stop_done s u e) (winds_down s c (record u { control = None }) (u.index + 1)) (terminates s c (without_control s u e))
+      (λ _. winds_down_good (record u { control = None }) (u.index + 1) (no_control_good u g) (no_control_below u below)) (λ _. terminates_good (without_control s u e) (control_good u e g))
+  row_good Stop (MainEnds e) u fit g below = main_good u e fit g
+  row_good Stop DeadlinePasses u fit g below = terminates_good (timed_out u) g
+  row_good StopSigterm (MainEnds e) u fit g below = rests_unless_live_good (without_main s u e) (main_good u e fit g)
+  row_good StopSigterm (ControlEnds e) u fit g below = rests_unless_live_good (without_control s u e) (control_good u e g)
+  row_good StopSigkill (MainEnds e) u fit g below = rests_unless_live_good (without_main s u e) (main_good u e fit g)
+  row_good StopSigkill (ControlEnds e) u fit g below = rests_unless_live_good (without_control s u e) (control_good u e g)
+  row_good StopSigterm DeadlinePasses u fit g below = kills_good (timed_out u) g
+  row_good StopSigkill DeadlinePasses u fit g below = rests_for_good_good (timed_out u) g
+  row_good sub event u fit g below = g
 
   -- what follows for a unit leaves it good
   pub transition_fits : (u : UnitState) (e : UnitEvent) → FitUnitEvent e → IsGood c.moment u → ((n : ℕ) → HasNumber u n → n < c.next) → IsGood c.moment (transition s c u e).unit
-  transition_fits u BoundStop fit g below = by_cond Leaves (is_going (active_state_of u.sub)) (row s c u u.sub StopBegins true) (just u)
-      (λ e. row_good u.sub StopBegins true u tt g below) (λ e. g)
-  transition_fits u StartBegins fit g below = row_good u.sub StartBegins (is_well s c u StartBegins) u fit g below
-  transition_fits u StopBegins fit g below = row_good u.sub StopBegins true u fit g below
-  transition_fits u Executed fit g below = row_good u.sub Executed true u fit g below
-  transition_fits u (MainEnds e) fit g below = row_good u.sub (MainEnds e) (is_well s c u (MainEnds e)) u fit g below
-  transition_fits u (ControlEnds e) fit g below = row_good u.sub (ControlEnds e) (is_well s c u (ControlEnds e)) u fit g below
-  transition_fits u DeadlinePasses fit g below = row_good u.sub DeadlinePasses true u fit g below
-  transition_fits u Reset fit g below = row_good u.sub Reset true u fit g below
+  transition_fits u BoundStop fit g below = by_cond Leaves (is_going (active_state_of u.sub)) (row s c u (active_state_of u.sub) u.sub StopBegins) (just u)
+      (λ e. row_good u.sub StopBegins u tt g below) (λ e. g)
+  transition_fits u StartBegins fit g below =
+      by_cond Leaves c.loadable (row s c u (active_state_of u.sub) u.sub StartBegins) (start_fails (just (record u { result = result.NotLoaded })))
+      (λ e. row_good u.sub StartBegins u fit g below) (λ e. g)
+  transition_fits u StopBegins fit g below = row_good u.sub StopBegins u fit g below
+  transition_fits u Executed fit g below = row_good u.sub Executed u fit g below
+  transition_fits u (MainEnds e) fit g below = row_good u.sub (MainEnds e) u fit g below
+  transition_fits u (ControlEnds e) fit g below = row_good u.sub (ControlEnds e) u fit g below
+  transition_fits u DeadlinePasses fit g below = row_good u.sub DeadlinePasses u fit g below
+  transition_fits u Reset fit g below = row_good u.sub Reset u fit g below

@@ -4,7 +4,6 @@ use Rattle.std.proofs.Math.Seq.{take-append_seam, drop-append_seam}
 use Rattle.std.proofs.lemmas.List.{length-take-le, length-drop}
 use Rattle.std.proofs.lemmas.Bool.{cases_lt}
 use Rattle.byteorder.specs.Endian.{big_number}
-use Rattle.um_model.specs.Alike.{AlikeBut, the_same, AreAlikeBut, at_last, and_reply}
 use Rattle.um_model.specs.Frames.{frame_of, frame_limit, BeginsWith, IsPartial, in_header, in_body, BeginsTooLong, EndsSo, IsStream, ends, frame, Answers, unread, queried, told, stepped, input_of, last_reply, AreReplies, last, reply, Serves}
 use Rattle.um_model.specs.Machine.{State, Reply, Refusal, IsReplyTo, Step}
 use Rattle.um_model.specs.Refusals.{Refused}
@@ -14,7 +13,13 @@ use Rattle.um_model.specs.Service.{Action}
 use Rattle.um_model.specs.declared.frames.Ending.{Ending}
 use Rattle.um_model.specs.declared.frames.Ending.TheVariants.{Between, Inside, TooLong}
 use Rattle.um_model.specs.declared.requests.Mode.TheVariants.{Memory}
-use Rattle.um_model.proofs.MachineLaws.{one_outcome, one_reply_to}
+use Rattle.um_model.proofs.MachineLaws.{AlikeBut, the_same, one_outcome, one_reply_to}
+
+-- as many replies stand in both, each the same or both refusals that name a cycle, and the same end
+pub data AreAlikeBut (ending : Ending) : (out other : List ℕ) → Type 0 where
+  at_last : AreAlikeBut ending (last_reply ending) (last_reply ending)
+  and_reply : {r q : Reply} {out other : List ℕ} → AlikeBut r q → AreAlikeBut ending out other
+      → AreAlikeBut ending (frame_of (reply_text r) ++ out) (frame_of (reply_text q) ++ other)
 
 -- ---- one reading
 

@@ -3,13 +3,13 @@ use Rattle.std.proofs.Common.{ℕ, ◌≡◌, ◌∙◌, Bool, true, false, true
 use Rattle.std.proofs.lemmas.Option.{none-some}
 use Rattle.std.specs.FinMap as map
 use Rattle.um_model.specs.Dependencies.{IsKnown, Precedes, Mentions, extra}
-use Rattle.um_model.specs.Jobs.{Job, jobs, no_jobs, jobs_of_unit, with_jobs, job_of, unless_waiting, cancelled, without_start, GoesBefore, starts, stops, stops_then_starts, stops_then_starts_before, of_one_unit, ComesBefore, IsPending, IsWaiting, with_running, unless_running, start_left, jobs_left}
-use Rattle.um_model.specs.Live.{IsFree}
-use Rattle.um_model.specs.Machine.{State, empty_state, Command, Happening, Event, Input, Reply, IsHeldOr, IsBefore, changed, TakesAlong, Becomes, Carries, change_of, begins, begun, Happens, AreReset, Settles, unit_asked, jobs_asked, scene_at, CausesOfLoad, Refuses, Changes, Does, units_reset, Restarts, has_a_job, closes_a_circle, ComesDue, Fires, booted, Follows, Takes, end_of, moment_of, Step, Run}
+use Rattle.um_model.specs.Jobs.{Job, jobs, no_jobs, jobs_of_unit, with_jobs, job_of, unless_waiting, cancelled, without_start, GoesBefore, starts, stops, stops_then_starts, stops_then_starts_before, of_one_unit, ComesBefore, IsPending, unless_running, start_left, jobs_left, state_of_job}
+use Rattle.um_model.specs.Machine.{State, empty_state, Command, Happening, Event, Input, Reply, IsHeldOr, IsBefore, changed, TakesAlong, Becomes, Carries, change_of, begins, begun, Happens, AreReset, Settles, unit_asked, jobs_asked, scene_at, CausesOfLoad, Refuses, Changes, Does, units_reset, Restarts, ComesDue, Fires, booted, Follows, end_of, moment_of, Step, Run, isnt_put, TakesEffect}
 use Rattle.um_model.specs.Order.{IsCycle}
 use Rattle.um_model.specs.Plan.{AreFree, Counts, restarted, started, stopped, left, Demands, IsPlan, units_of}
 use Rattle.um_model.specs.Reached.{first, next}
 use Rattle.um_model.specs.Refusals.{Refused, at_first, at_second, ordering_cycle}
+use Rattle.um_model.specs.Servable.{IsFree}
 use Rattle.um_model.specs.Service.{Action, ByUnit, state_of_unit}
 use Rattle.um_model.specs.Timers.{Timers}
 use Rattle.um_model.specs.Tree.{Tree}
@@ -35,6 +35,7 @@ use Rattle.um_model.proofs.PlannedLaws.{counts_some, free_of_causes}
 use Rattle.um_model.proofs.SceneLaws.{finite_scene}
 use Rattle.um_model.proofs.TimersLaws.{same_name}
 use Rattle.um_model.proofs.UnitLaws.{jobs_here, jobs_apart}
+use Rattle.um_model.proofs.Forms.{with_running}
 
 -- ---- fewer jobs of a unit
 
@@ -129,7 +130,7 @@ fewer_at pending unit k fewer other = elim (same_name other unit) as (λ _. HasF
 changed_less : (s : State) (unit : List ℕ) (c : Change) → HasLess s (changed s unit c)
 changed_less s unit c = record { loaded = refl; fewer = fewer_at s.pending unit _ (left_fewer c.start c.stop_ends (jobs_of_unit s.pending unit)) }
 
-pub begun_less : (s : State) (j : Job) → IsWaiting s.pending j → HasLess s (begun s j)
+pub begun_less : (s : State) (j : Job) → state_of_job s.pending j ≡ Some Waiting → HasLess s (begun s j)
 begun_less s j waits = record { loaded = refl; fewer = fewer_at s.pending j.unit _ (running_fewer j.kind (jobs_of_unit s.pending j.unit) waits) }
 
 along_less : (s : State) (failed : List ℕ) (v : State) → TakesAlong s failed v → HasLess s v
@@ -171,8 +172,7 @@ happened_less t unit event s early late u v h k = less_trans s u v (happens_less
 -- an automatic restart puts a start only where no cycle comes by it
 restarts_free : (s : State) (unit : List ℕ) (v : State) → Restarts s unit v → IsFree s → IsFree v
 restarts_free s unit v (Restarts.puts none stays_free) free = stays_free
-restarts_free s unit v (has_a_job one) free = free
-restarts_free s unit v (closes_a_circle cycle none closed) free = free
+restarts_free s unit v (isnt_put why) free = free
 
 due_free : (t : ℕ) (s : State) (unit : List ℕ) (actions : List Action) (v : State) → ComesDue t s unit actions v → IsFree s → IsFree v
 due_free t s unit actions v (ComesDue.restarts is again) free = restarts_free s unit v again free
@@ -252,16 +252,16 @@ changes_free : (s : State) (command : Command) (u : State) → ((r : Refused) �
 changes_free s command u none (Changes.puts e) free = free
 changes_free s command u none (Changes.links e) free = free
 changes_free s command u none (Changes.removes e) free = free
-changes_free s command u none Changes.reloads free = loads_free s s.tree (λ r c. none r (Refuses.reloads_none c))
+changes_free s command u none Changes.reloads free = loads_free s s.tree (λ r c. none r (c))
 changes_free s command u none (Changes.installs {tree = tree} h) free =
-    loads_free s tree (λ r c. none r (Refuses.installs_none (at_second (λ q refuses. none q (Refuses.installs_none (at_first refuses))) (record { tree = tree; installs = h; cause = c }))))
+    loads_free s tree (λ r c. none r ((at_second (λ q refuses. none q ((at_first refuses))) (record { tree = tree; installs = h; cause = c }))))
 changes_free s command u none (Changes.cancels {asked = asked}) free =
     less_free s u (record { loaded = refl; fewer = fewer_at s.pending (unit_asked s asked) _ (cancelled_fewer (jobs_asked s asked)) }) free
 changes_free s command u none (Changes.demands_nothing is) free = free
 changes_free s command u none (Changes.plans {verb = verb} {asked = asked} {mode = mode} {demand = demand} {after = after} is plan) free =
     plan_free s (unit_asked s asked) demand after plan (free_of_causes (scene_at s (unit_asked s asked)) (demand, unit_asked s asked) mode after
-    (λ r c. none r (Refuses.plans_none (at_second (λ q crowded. none q (Refuses.plans_none (at_first crowded)))
-    (at_second (λ q missing. none q (Refuses.plans_none (at_second (λ x crowded. none x (Refuses.plans_none (at_first crowded))) (at_first missing))))
+    (λ r c. none r ((at_second (λ q crowded. none q ((at_first crowded)))
+    (at_second (λ q missing. none q ((at_second (λ x crowded. none x ((at_first crowded))) (at_first missing))))
     (record { demand = demand; demanded = is; after = after; plan = plan; cause = at_first c }))))))
 
 does_free : (t : ℕ) (s : State) (command : Command) (actions : List Action) (u : State) → ((r : Refused) → ¬ Refuses s command r) → Does t s command actions u → IsFree s → IsFree u
@@ -293,10 +293,10 @@ follows_free t s happening actions v (Follows.reports {first = x} {more = y} {u 
 follows_free t s happening actions v (Follows.ticks timers are h) free = fires_free t timers s actions v h free
 follows_free t s happening actions v (Follows.boots {boot = boot}) free = none_free (IsBefore (booted boot s).loaded)
 
-takes_free : (t : ℕ) (s : State) (event : Event) (actions : List Action) (v : State) → Takes t s event actions v → IsFree s → IsFree v
-takes_free t s event actions v (Takes.obeys {command = command} {first = x} {more = y} {u = u} none h k) free =
+takes_free : (t : ℕ) (s : State) (event : Event) (actions : List Action) (v : State) → TakesEffect t s event actions v → IsFree s → IsFree v
+takes_free t s event actions v (TakesEffect.obeys {command = command} {first = x} {more = y} {u = u} none h k) free =
     less_free u v (settles_less t u y v k) (does_free t s command x u none h free)
-takes_free t s event actions v (Takes.meets {happening = happening} effect h) free = follows_free t s happening actions v h free
+takes_free t s event actions v (TakesEffect.meets {happening = happening} effect h) free = follows_free t s happening actions v h free
 
 -- a step keeps the pending jobs without a cycle
 pub step_free : (size : ℕ) (s : State) (input : Input) (reply : Reply) (actions : List Action) (t : State) → Step size s input reply actions t → IsFree s → IsFree t

@@ -4,20 +4,23 @@ use Rattle.std.specs.FinMap as map
 use Rattle.std.proofs.lemmas.Bool.{and_parts}
 use Rattle.std.proofs.lemmas.Option.{none-some, same_Some}
 use denote.Enum.Bare.{sameb, same_true, same_false}
-use Rattle.um_model.specs.Dependencies.{loadable_in, shutdown_target, names_in, Says, Links, has_defaults, Gives, Declares, Mentions}
+use Rattle.um_model.specs.Dependencies.{loadable_in, names_in, Links, has_defaults, Gives, Declares, Mentions}
 use Rattle.um_model.specs.Dependencies as model
 use Rattle.um_model.specs.Names.{is_unit_name, suffix_of, stem_of}
 use Rattle.std.specs.Result.{result_ok}
-use Rattle.um_model.specs.Readings.{Reading, then_read, text_reading, unit_reading, unit_readings, names_reading, names_said}
-use Rattle.um_model.specs.Resolution.{Resolution, AtFile, AtNoFile, AtMask, Nowhere, resolution_of}
-use Rattle.um_model.specs.Tree.{Tree, Entry, File, Link, PathParts, Place, Unit as Itself, DropIn, Wants, Requires, path_parts, is_fit_place, is_plain_name, are_fit}
-use Rattle.um_model.specs.Units.{Source, Assigned, Dependencies, LoadedUnit, Loading, Found, names_of, dependencies_of, assignments_in, unit_by, found_unless, loading_at, sources_at, load, unit_named}
+use Rattle.std.specs.Option.{option_map_or}
+use Rattle.um_model.specs.Readings.{text_reading, names_reading, read_if}
+use Rattle.um_model.specs.Results.{◌and_then◌}
+use Rattle.um_model.specs.Resolution.{Resolution, AtFile, AtNoFile, AtMask, Nowhere, resolution_of, shutdown_target}
+use Rattle.um_model.specs.Tree.{Tree, Entry, File, Link, PathParts, Place, Unit as Itself, DropIn, Wants, Requires, path_parts, is_fit_place, is_plain_name}
+use Rattle.um_model.specs.Units.{Source, Assigned, Dependencies, LoadedUnit, Loading, Found, names_of, dependencies_of, assignments_in, unit_by, loading_at, sources_at, load, unit_named}
 use Rattle.um_model.specs.Words.{words_of}
 use Rattle.um_model.specs.contracts.dependencies.DependencyKind as dependency_kind
 use Rattle.um_model.specs.declared.dependencies.DependencyKind.{DependencyKind}
 use Rattle.um_model.specs.declared.dependencies.DependencyKind.TheVariants as kinds
 use Rattle.um_model.specs.declared.warnings.WarningKind.TheVariants.{UnreadableValue}
 use Rattle.um_model.specs.declared.words.WordRules.TheVariants.{Names}
+use Rattle.um_model.proofs.Forms.{found_unless}
 use Rattle.um_model.proofs.AmongLaws.{both_decided, either_decided, passes_or_not, decided_as, AnyOf, any_decided, among_contained, contains_among, from_map, from_flat_map, from_filter_map}
 use Rattle.um_model.proofs.CoverLaws.{names_cover}
 use Rattle.um_model.proofs.LeastLaws.{IsDecided, Among}
@@ -25,6 +28,8 @@ use Rattle.um_model.proofs.NamedLaws.{named_by_name}
 use Rattle.um_model.proofs.OwnNameLaws.{loadable_found, name_of_loadable}
 use Rattle.um_model.proofs.TimersLaws.{same_name, same_option, among_keys}
 use Rattle.um_model.proofs.TreeLaws.{path_of_parts, fit-name}
+use Rattle.um_model.proofs.FileForms.{Meaning, names_said}
+use Rattle.um_model.proofs.FileForms.{unit_reading}
 
 -- ---- kinds
 
@@ -50,6 +55,31 @@ among_kinds kinds.Conflicts = inr (inr (inr (inr (inl refl))))
 
 -- ---- links
 
+-- what a path says by itself: a link in the directory of the unit x for what it wants or requires is named y
+pub data Says : PathParts → DependencyKind → List ℕ → List ℕ → Type 0 where
+  wants : (p : PathParts) (other : List ℕ) → p.place ≡ Wants other → Says p kinds.Wants p.unit other
+  requires : (p : PathParts) (other : List ℕ) → p.place ≡ Requires other → Says p kinds.Requires p.unit other
+
+-- the link with its path and the parts of that
+pub record HasLink (tree : Tree) (kind : DependencyKind) (x y : List ℕ) : Type 0 where
+  pub path : List ℕ
+  pub target : List ℕ
+  pub parts : PathParts
+  pub link : map.get tree path ≡ Some (Link target)
+  pub served : path_parts path ≡ Some parts
+  pub says : Says parts kind x y
+
+pub link_there : (tree : Tree) (kind : DependencyKind) (x y : List ℕ) → Links tree kind x y → HasLink tree kind x y
+link_there tree _ _ _ (model.wants path target y p link served at) =
+    record { path = path; target = target; parts = p; link = link; served = served; says = wants p y at }
+link_there tree _ _ _ (model.requires path target y p link served at) =
+    record { path = path; target = target; parts = p; link = link; served = served; says = requires p y at }
+
+pub there_linked : (tree : Tree) (kind : DependencyKind) (x y path target : List ℕ) (parts : PathParts) → map.get tree path ≡ Some (Link target) → path_parts path ≡ Some parts
+    → Says parts kind x y → Links tree kind x y
+there_linked tree _ _ _ path target _ link served (wants p y at) = model.wants path target y p link served at
+there_linked tree _ _ _ path target _ link served (requires p y at) = model.requires path target y p link served at
+
 -- the kind of link that a place is, and the unit that it names
 abbrev link_of : Place → Option (DependencyKind × List ℕ)
 link_of Itself = None
@@ -63,8 +93,8 @@ same_link a b =
     (both_decided (same_kind a.0 b.0) (same_name a.1 b.1))
 
 from_says : (p : PathParts) (kind : DependencyKind) (x y : List ℕ) → Says p kind x y → (p.unit ≡ x) × (link_of p.place ≡ Some (kind, y))
-from_says _ _ _ _ (model.wants p other at) = (refl, ap link_of at)
-from_says _ _ _ _ (model.requires p other at) = (refl, ap link_of at)
+from_says _ _ _ _ (wants p other at) = (refl, ap link_of at)
+from_says _ _ _ _ (requires p other at) = (refl, ap link_of at)
 
 to_says : (p : PathParts) (kind : DependencyKind) (x y : List ℕ) → (p.unit ≡ x) × (link_of p.place ≡ Some (kind, y)) → Says p kind x y
 to_says p kind x y both = subst (λ unit. Says p kind unit y) both.0 (by_place p.place refl both.1)
@@ -75,8 +105,8 @@ to_says p kind x y both = subst (λ unit. Says p kind unit y) both.0 (by_place p
     by_place : (place : Place) → p.place ≡ place → link_of place ≡ Some (kind, y) → Says p kind p.unit y
     by_place Itself at is = absurd (none-some (kind, y) is)
     by_place (DropIn name) at is = absurd (none-some (kind, y) is)
-    by_place (Wants other) at is = as_named (kinds.Wants, other) (same_Some (kinds.Wants, other) (kind, y) is) (model.wants p other at)
-    by_place (Requires other) at is = as_named (kinds.Requires, other) (same_Some (kinds.Requires, other) (kind, y) is) (model.requires p other at)
+    by_place (Wants other) at is = as_named (kinds.Wants, other) (same_Some (kinds.Wants, other) (kind, y) is) (wants p other at)
+    by_place (Requires other) at is = as_named (kinds.Requires, other) (same_Some (kinds.Requires, other) (kind, y) is) (requires p other at)
 
 says_or_not : (p : PathParts) (kind : DependencyKind) (x y : List ℕ) → IsDecided (Says p kind x y)
 says_or_not p kind x y =
@@ -88,9 +118,9 @@ plain_name text plain = (and_parts (is_unit_name text) _ plain).0
 second_name : (unit other : List ℕ) → (is_plain_name unit && is_plain_name other) ≡ true → is_unit_name other ≡ true
 second_name unit other fit = plain_name other (and_parts (is_plain_name unit) (is_plain_name other) fit).1
 
-names_said_by : (p : PathParts) (kind : DependencyKind) (x y : List ℕ) → are_fit p ≡ true → Says p kind x y → (is_unit_name x ≡ true) × (is_unit_name y ≡ true)
-names_said_by _ _ _ _ fit (model.wants p other at) = (fit-name p.unit p.place fit, second_name p.unit other (sym (ap (is_fit_place p.unit) at) ∙ fit))
-names_said_by _ _ _ _ fit (model.requires p other at) = (fit-name p.unit p.place fit, second_name p.unit other (sym (ap (is_fit_place p.unit) at) ∙ fit))
+names_said_by : (p : PathParts) (kind : DependencyKind) (x y : List ℕ) → is_fit_place p.unit p.place ≡ true → Says p kind x y → (is_unit_name x ≡ true) × (is_unit_name y ≡ true)
+names_said_by _ _ _ _ fit (wants p other at) = (fit-name p.unit p.place fit, second_name p.unit other (sym (ap (is_fit_place p.unit) at) ∙ fit))
+names_said_by _ _ _ _ fit (requires p other at) = (fit-name p.unit p.place fit, second_name p.unit other (sym (ap (is_fit_place p.unit) at) ∙ fit))
 
 module _ (tree : Tree) (kind : DependencyKind) (x y : List ℕ) where
   -- such a link stands at the path
@@ -114,17 +144,17 @@ module _ (tree : Tree) (kind : DependencyKind) (x y : List ℕ) where
   -- the tree has such a link or not
   pub links_or_not : IsDecided (Links tree kind x y)
   links_or_not =
-      decided_as (λ any. record { path = any.0; target = any.2.0; parts = any.2.1; link = any.2.2; served = any.2.3; says = any.2.4 })
-      (λ l. (l.path, among_keys tree l.path (ap is_some l.link), (l.target, l.parts, l.link, l.served, l.says)))
+      decided_as (λ any. there_linked tree kind x y any.0 any.2.0 any.2.1 any.2.2 any.2.3 any.2.4)
+      (λ links. let l = link_there tree kind x y links in (l.path, among_keys tree l.path (ap is_some l.link), (l.target, l.parts, l.link, l.served, l.says)))
       (any_decided IsLinkAt link_at_or_not (map.keys tree))
 
   -- both names of a link are unit names
   pub names_of_link : Links tree kind x y → (is_unit_name x ≡ true) × (is_unit_name y ≡ true)
-  names_of_link l = names_said_by l.parts kind x y (path_of_parts l.path l.parts l.served).fit l.says
+  names_of_link links = let l = link_there tree kind x y links in names_said_by l.parts kind x y (path_of_parts l.path l.parts l.served).fit l.says
 
 -- ---- the names in settings are unit names
 
-read_fits : (fits : List ℕ → Bool) (name : List ℕ) (r : Reading (List ℕ)) → result_ok (then_read r (λ text. cond (fits text) (Ok text) (Err UnreadableValue))) ≡ Some name → fits name ≡ true
+read_fits : (fits : List ℕ → Bool) (name : List ℕ) (r : Meaning (List ℕ)) → result_ok (r and_then read_if fits) ≡ Some name → fits name ≡ true
 read_fits fits name (Err warning) is = absurd (none-some name is)
 read_fits fits name (Ok text) is = by_test (fits text) refl is
   where
@@ -136,7 +166,7 @@ names_fit : (fits : List ℕ → Bool) (unit : List ℕ) (values : List (List �
 unfolding names_reading
 names_fit fits unit values name is = let value = from_flat_map (names_said fits unit) values name is in by_words (words_of Names value.0) value.2
   where
-    by_words : (o : Option (List (List ℕ))) → Among (filter_map result_ok (unit_readings fits unit o)) name → fits name ≡ true
+    by_words : (o : Option (List (List ℕ))) → Among (filter_map result_ok (option_map_or (each (unit_reading fits unit)) o (Err UnreadableValue ∷ []))) name → fits name ≡ true
     by_words None none = absurd none
     by_words (Some words) among =
         let reading = from_filter_map result_ok (each (unit_reading fits unit) words) name among in

@@ -5,17 +5,18 @@ use Rattle.std.specs.FinMap as map
 use Rattle.std.proofs.lemmas.Bool.{and_from, le-leb, leb-true, ltb-false, not-false}
 use Rattle.byteorder.specs.Endian.{big_bytes}
 use Rattle.byteorder.specs.Numbers.{length-bytes_high_first}
-use Rattle.um_model.specs.Bytes.{text_spelling, option_spelling}
-use Rattle.um_model.specs.Refusals.{Refused, no_room, cause, unless_refused}
-use Rattle.um_model.specs.Tree.{Tree, Entry, File, Link, IsTree, path_parts, is_served, is_fit_at, is_fit_target, is_link, is_other_than_link, is_full_for, text_limit, put_cause, put_file, link_cause, put_link, remove_cause, remove_at}
-use Rattle.um_model.specs.Machine.{State, Command, PutFile, PutLink, Remove, DaemonReload, ForUnit, Cancel, ResetFailed, Install, Happening, ProcessEnded, ProcessExecuted, Tick, Booted, Event, Commanded, Happened, Input, Reply, Refusal, boot_limit, puts, links, removes, Does, Takes, obeys, meets, moment_of, Step, refused, crowded_out, idle, taken}
+use Rattle.um_model.specs.Bytes.{text_spelling, option_spelling, tagged}
+use Rattle.um_model.specs.Refusals.{Refused, no_room, unless_refused}
+use Rattle.um_model.specs.Tree.{Tree, Entry, File, Link, IsTree, path_parts, is_served, is_fit_target, is_link, is_other_than_link, is_full_for, text_limit, put_cause, put_file, link_cause, put_link, remove_cause, remove_at}
+use Rattle.um_model.specs.Machine.{State, Command, PutFile, PutLink, Remove, DaemonReload, ForUnit, Cancel, ResetFailed, Install, Happening, ProcessEnded, ProcessExecuted, Tick, Booted, Event, Commanded, Happened, Input, Reply, Refusal, boot_limit, puts, links, removes, Does, TakesEffect, obeys, meets, moment_of, Step, refused, crowded_out, idle, taken}
 use Rattle.um_model.specs.Service.{Action}
 use Rattle.um_model.specs.Spellings.{FitUnitName, end_spelling}
-use Rattle.um_model.specs.InputSpellings.{command_fields, happening_fields, event_fields, input_spelling, mode_spelling, FitCommand, FitHappening, FitInput}
+use Rattle.um_model.specs.InputSpellings.{command_fields, happening_fields, event_fields, input_spelling, FitCommand, FitHappening, FitInput, mode_tag}
 use Rattle.um_model.specs.declared.service.End.{End}
 use Rattle.um_model.specs.declared.service.End.TheVariants as end
 use Rattle.um_model.proofs.TreeLaws.{none_of_three, none_of_four}
 use Rattle.um_model.proofs.WeightLaws.{short_name, entry_light}
+use Rattle.um_model.proofs.Forms.{is_fit_at, cause}
 
 -- ---- lengths
 
@@ -84,7 +85,7 @@ command_long t s (PutFile path text) actions u is fit (Does.changes (puts {tree 
 command_long t s (PutLink path target) actions u is fit (Does.changes (links {tree = tree} e)) = two_long path target (link_long s path target tree e)
 command_long t s (Remove path) actions u is fit (Does.changes (removes {tree = tree} e)) = omega (arith, text_long path, remove_long s path tree is e)
 command_long t s DaemonReload actions u is fit does = omega arith
-command_long t s (ForUnit verb unit mode) actions u is fit does = omega (arith, length-append (text_spelling unit) (mode_spelling mode), named_long unit fit)
+command_long t s (ForUnit verb unit mode) actions u is fit does = omega (arith, length-append (text_spelling unit) (tagged mode_tag mode), named_long unit fit)
 command_long t s (Cancel unit) actions u is fit does = omega (arith, named_long unit fit)
 command_long t s (ResetFailed unit) actions u is fit does = omega (arith, optional_long unit fit)
 command_long t s (Install verb unit) actions u is fit does = omega (arith, named_long unit fit)
@@ -106,7 +107,7 @@ whole_long : (i : Input) → length (event_fields i.event) ≤ 2 ^ 17 - 24 → l
 whole_long i h = omega (arith, length-append (big_bytes 8 i.moment) (event_fields i.event), number_long 8 i.moment)
 
 taken_long : (t : ℕ) (s : State) (moment : ℕ) (event : Event) (actions : List Action) (u : State) → IsTree s.tree → FitInput (record { moment = moment; event = event })
-    → Takes t s event actions u → length (input_spelling (record { moment = moment; event = event })) ≤ 131072
+    → TakesEffect t s event actions u → length (input_spelling (record { moment = moment; event = event })) ≤ 131072
 taken_long t s moment event actions u is fit (obeys {command = command} {first = first} {u = v} none does settles) =
     whole_long (record { moment = moment; event = Commanded command }) (command_long t s command first v is fit.event does)
 taken_long t s moment event actions u is fit (meets {happening = happening} effect follows) =

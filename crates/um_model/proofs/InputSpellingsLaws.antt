@@ -1,10 +1,11 @@
 -- The law of the bytes of inputs.
 use Rattle.std.proofs.Common.{◌≡◌, ℕ, List, [], ◌++◌, Some, refl, ap}
 use Rattle.std.specs.Prelude.{⊤}
+use Rattle.std.specs.List.{slice_get}
 use Rattle.byteorder.specs.Endian.{big_bytes}
-use Rattle.um_model.specs.Bytes.{Reading, Spelling, IsCanonical, in_table, arm_in}
+use Rattle.um_model.specs.Bytes.{Reading, Spelling, IsCanonical, arm_in, table_at, tagged}
 use Rattle.um_model.specs.Machine.{PutFile, PutLink, Remove, DaemonReload, ForUnit, Cancel, ResetFailed, Install, ProcessEnded, ProcessExecuted, Tick, Booted, Event, Commanded, Happened, Input}
-use Rattle.um_model.specs.InputSpellings.{mode_tag, modes, mode_spelling, mode_at, event_tag, event_fields, input_spelling, comes_at, for_unit_at, install_at, nothing_at, input_arms, input_at, FitEvent, FitInput}
+use Rattle.um_model.specs.InputSpellings.{mode_tag, modes, event_tag, event_fields, input_spelling, comes_at, for_unit_at, install_at, nothing_at, input_arms, input_at, FitEvent, FitInput}
 use Rattle.um_model.proofs.BytesLaws.{just_is, Tells, AllTell, tells, tells_none, canonical_arms, canonical_marked, canonical_tag, table_back, canonical_pair, canonical_text, canonical64, canonical_option}
 use Rattle.um_model.proofs.StateSpellingsLaws.{canonical_boot}
 use Rattle.um_model.proofs.SpellingsLaws.{canonical_moment, canonical_unit_name, canonical_end}
@@ -17,15 +18,15 @@ use Rattle.um_model.specs.declared.install.InstallVerb.TheVariants as install
 
 -- ---- the modes
 
-pub mode_again : (m : JobMode) → in_table modes (mode_tag m) ≡ Some m
+pub mode_again : (m : JobMode) → slice_get modes (mode_tag m) ≡ Some m
 mode_again mode.Replace = refl
 mode_again mode.Fail = refl
 
-pub mode_back : (n : ℕ) (m : JobMode) → in_table modes n ≡ Some m → mode_tag m ≡ n
+pub mode_back : (n : ℕ) (m : JobMode) → slice_get modes n ≡ Some m → mode_tag m ≡ n
 mode_back = table_back mode_tag modes (refl, (refl, tt))
 
-pub canonical_mode : IsCanonical (λ m. ⊤) mode_spelling mode_at
-canonical_mode = canonical_tag mode_tag (in_table modes) mode_again mode_back
+pub canonical_mode : IsCanonical (λ m. ⊤) (tagged mode_tag) (table_at modes)
+canonical_mode = canonical_tag mode_tag (slice_get modes) mode_again mode_back
 
 -- ---- the arms of an input
 

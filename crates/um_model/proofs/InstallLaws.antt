@@ -1,32 +1,36 @@
 -- Enabling, disabling, masking and unmasking have one outcome each, and one is always there; so has what is told of a unit's enabling.
-use Rattle.std.proofs.Common.{ℕ, ◌≤◌, ◌≡◌, ◌≢◌, ◌⊎◌, ◌∙◌, true, false, true≢false, cond, List, [], ◌∷◌, map as each, flat_map, Option, Some, None, is_some, Result, Ok, Err, codes, refl, sym, ap, subst, inl, inr, arith}
+use Rattle.std.proofs.Common.{ℕ, ◌≤◌, ◌≡◌, ◌≢◌, ◌⊎◌, ◌∙◌, ◌&&◌, ◌||◌, Bool, true, false, true≢false, cond, List, [], ◌∷◌, map as each, flat_map, Contains, Option, Some, None, is_some, Result, Ok, Err, codes, refl, sym, ap, subst, inl, inr, arith}
 use Rattle.std.specs.Bool.{one_answer}
 use Rattle.std.specs.FinMap as map
 use Rattle.std.specs.FinMap.{slice_cmp-IsAntisymmetric, nat_cmp-IsAntisymmetric}
 use Rattle.std.specs.Cmp.Lexicographic.{slice_cmp, nat_list_cmp_total}
 use Rattle.std.specs.Ordering.{nat_cmp, eq_by_cmp}
-use Rattle.std.proofs.lemmas.Bool.{cases_lt}
+use Rattle.std.proofs.lemmas.Bool.{cases_lt, and_parts, or_cases}
 use Rattle.std.proofs.lemmas.Option.{none-some}
-use Rattle.um_model.specs.Install.{LinkAt, link_at, install_of, linked_name, links_of, IsAlso, also, IsTaken, IsAskedFor, IsPathAsked, IsEnabled, IsUnfit, IsOccupied, stands, differs, IsTooMany, CannotEnable, isnt_found, is_masked, has_bad_setting, lacks_instance, IsBarred, NamesUnfit, NamesOccupied, HasTooMany, NamesBarred, CausesOfEnable, IsWrittenIn, IsMeant, is_link_of, IsUnlinked, IsDisabled, path_of_mask, unmasked, Installs, enables, disables, masks, unmasks, RefusesInstall, enables_none, masks_none, enabling_of, IsEnabledAs}
-use Rattle.um_model.specs.Least.{IsLeast, IsNamedBefore}
+use Rattle.std.proofs.lemmas.Slice.Eq.{bytes_eq-Decides}
+use Rattle.std.specs.Str.{bytes_eq}
+use Rattle.um_model.specs.Install.{LinkAt, link_at, install_of, linked_name, links_of, IsAlso, also, IsTaken, IsAskedFor, IsEnabled, IsUnfit, IsOccupied, stands, differs, HasTooMany, too_many, CannotEnable, isnt_found, is_masked, has_bad_setting, lacks_instance, IsBarred, CausesOfEnable, IsMeant, IsUnlinked, IsDisabled, unmasked, Installs, enables, disables, masks, unmasks, RefusesInstall, enables_none, masks_none, enabling_of, IsEnabledAs}
+use Rattle.um_model.specs.Least.{IsNamedBefore, NamesLeast}
 use Rattle.um_model.specs.Names.{is_unit_name}
 use Rattle.um_model.specs.Reached.{first, next}
 use Rattle.um_model.specs.Refusals.{Refused, at_first, at_second, bad_path, exists_at, too_large}
-use Rattle.um_model.specs.Resolution.{drop_ins_in}
-use Rattle.um_model.specs.Tree.{Tree, Entry, File, Link, PathParts, path_parts, entry_limit, is_fit_target, is_other_than_link, put_link}
+use Rattle.um_model.specs.Resolution.{drop_ins_in, unit_path, unit_in_target}
+use Rattle.um_model.specs.Tree.{Tree, Entry, File, Link, PathParts, Place, Unit, DropIn, Wants, Requires, path_parts, entry_limit, is_fit_target, is_other_than_link, put_link}
 use Rattle.um_model.specs.Units.{Loading, Found, Masked, NotFound, BadSetting, load, unit_named}
 use Rattle.um_model.specs.declared.install.Enabling.{Enabling}
 use Rattle.um_model.specs.declared.install.InstallVerb.{InstallVerb}
 use Rattle.um_model.specs.declared.install.InstallVerb.TheVariants as verbs
 use Rattle.um_model.specs.declared.refusals.Limit.TheVariants.{Entries}
+use Rattle.um_model.specs.declared.tree.Layer.{Layer}
+use Rattle.um_model.specs.declared.tree.Layer.TheVariants.{Etc, Run, Lib}
 use Rattle.um_model.proofs.AmongLaws.{both_decided, either_decided, not_decided, passes_or_not, decided_as, test_of, AnyOf, any_decided, among_or_not, IsListOf, list_of, among_contained, contains_among, among_map, among_flat_map, from_flat_map}
-use Rattle.um_model.proofs.CausesLaws.{OneOrNone, first_or_then, one_first, same_ok, same_err}
+use Rattle.um_model.proofs.CausesLaws.{OneOrNone, first_or_then, one_first, NoneOrLeast, named_or_none, one_named, same_ok, same_err}
 use Rattle.um_model.proofs.CoverLaws.{names_cover}
-use Rattle.um_model.proofs.LeastLaws.{IsDecided, Among, one_least, a_least}
+use Rattle.um_model.proofs.LeastLaws.{IsDecided, Among, a_least}
 use Rattle.um_model.proofs.LoadsLaws.{HasNoFile, link_inserted}
 use Rattle.um_model.proofs.NamedLaws.{named_by_name, also_names}
 use Rattle.um_model.proofs.ReachedLaws.{reached_list}
-use Rattle.um_model.proofs.TimersLaws.{same_name, names_one_way, named_trans, one_named_first, among_keys}
+use Rattle.um_model.proofs.TimersLaws.{same_name, named_trans, one_named_first, among_keys}
 use Rattle.um_model.proofs.UnitLaws.{alike, unlike}
 
 -- ---- trees
@@ -79,7 +83,7 @@ taken_list tree asked =
     reached_list (λ unit. unit ≡ unit_named tree asked) (IsAlso tree) (unit_named tree asked ∷ names_cover.0) (taken_covered tree asked)
     (λ unit. same_name unit (unit_named tree asked)) (also_or_not tree)
 
-written_or_not : (tree : Tree) (unit name : List ℕ) → IsDecided (IsWrittenIn tree unit name)
+written_or_not : (tree : Tree) (unit name : List ℕ) → IsDecided (Contains (install_of (load tree unit)).also name)
 written_or_not tree unit name =
     let names = (install_of (load tree unit)).also in
     decided_as (contains_among names name) (among_contained names name) (among_or_not same_name names name)
@@ -92,7 +96,89 @@ meant_covered tree asked name (next {a = unit} reached step) =
 -- a list has just what is meant
 pub meant_list : (tree : Tree) (asked : List ℕ) → (names : List (List ℕ)) × IsListOf (IsMeant tree asked) names
 meant_list tree asked =
-    reached_list (λ name. name ≡ asked) (IsWrittenIn tree) (asked ∷ names_cover.0) (meant_covered tree asked) (λ name. same_name name asked) (written_or_not tree)
+    reached_list (λ name. name ≡ asked) (λ unit name. Contains (install_of (load tree unit)).also name) (asked ∷ names_cover.0) (meant_covered tree asked) (λ name. same_name name asked) (written_or_not tree)
+
+-- ---- the links that disabling removes, by tests
+
+abbrev pub is_etc : Layer → Bool
+is_etc Etc = true
+is_etc other = false
+
+-- a link at such a place wants or requires the unit of this name
+abbrev pub pulls_in : Place → List ℕ → Bool
+pulls_in (Wants other) name = bytes_eq other name
+pulls_in (Requires other) name = bytes_eq other name
+pulls_in other name = false
+
+-- a link to the target, which lies in `etc/`, pulls the unit of this name in or leads to it
+abbrev pub is_link_for : List ℕ → PathParts → List ℕ → Bool
+is_link_for name p target = is_etc p.layer && (pulls_in p.place name || bytes_eq (unit_in_target target) name)
+
+-- what stands at a path of these parts is such a link
+abbrev pub is_link_of : List ℕ → Option PathParts → Option Entry → Bool
+is_link_of name (Some p) (Some (Link target)) = is_link_for name p target
+is_link_of name parts entry = false
+
+-- by the test the link is removed
+pub unlinked_by : (tree : Tree) (asked path name : List ℕ) → IsMeant tree asked name → is_link_of name (path_parts path) (map.get tree path) ≡ true → IsUnlinked tree asked path
+unlinked_by tree asked path name meant = by (path_parts path) refl (map.get tree path) refl
+  where
+    etc : (layer : Layer) → is_etc layer ≡ true → layer ≡ Etc
+    etc Etc is = refl
+    etc Run is = absurd (true≢false (sym is))
+    etc Lib is = absurd (true≢false (sym is))
+
+    pulled : (place : Place) → pulls_in place name ≡ true → (place ≡ Wants name) ⊎ (place ≡ Requires name)
+    pulled (Wants other) is = inl (ap Wants ((bytes_eq-Decides other name).0 is))
+    pulled (Requires other) is = inr (ap Requires ((bytes_eq-Decides other name).0 is))
+    pulled Unit is = absurd (true≢false (sym is))
+    pulled (DropIn file) is = absurd (true≢false (sym is))
+
+    leads : (place : Place) (target : List ℕ) → (pulls_in place name ≡ true) ⊎ (bytes_eq (unit_in_target target) name ≡ true)
+        → (place ≡ Wants name) ⊎ ((place ≡ Requires name) ⊎ (unit_in_target target ≡ name))
+    leads place target (inr is) = inr (inr ((bytes_eq-Decides (unit_in_target target) name).0 is))
+    leads place target (inl is) = either (pulled place is)
+      where
+        either : (place ≡ Wants name) ⊎ (place ≡ Requires name) → (place ≡ Wants name) ⊎ ((place ≡ Requires name) ⊎ (unit_in_target target ≡ name))
+        either (inl wants) = inl wants
+        either (inr requires) = inr (inl requires)
+
+    by : (parts : Option PathParts) → path_parts path ≡ parts → (entry : Option Entry) → map.get tree path ≡ entry → is_link_of name parts entry ≡ true → IsUnlinked tree asked path
+    by None served entry at is = absurd (true≢false (sym is))
+    by (Some p) served None at is = absurd (true≢false (sym is))
+    by (Some p) served (Some (File text)) at is = absurd (true≢false (sym is))
+    by (Some p) served (Some (Link target)) at is =
+        let both = and_parts (is_etc p.layer) (pulls_in p.place name || bytes_eq (unit_in_target target) name) is in
+        record {
+          name = name;
+          target = target;
+          parts = p;
+          meant = meant;
+          link = at;
+          served = served;
+          in_etc = etc p.layer both.0;
+          leads = leads p.place target (or_cases (pulls_in p.place name) (bytes_eq (unit_in_target target) name) both.1);
+        }
+
+-- and the test tells each link that is removed
+pub unlinked_test : (tree : Tree) (asked path : List ℕ) (h : IsUnlinked tree asked path) → is_link_of h.name (path_parts path) (map.get tree path) ≡ true
+unlinked_test tree asked path h =
+    ap (λ parts. is_link_of h.name parts (map.get tree path)) h.served
+    ∙ (ap (is_link_of h.name (Some h.parts)) h.link
+    ∙ (ap (λ layer. is_etc layer && (pulls_in h.parts.place h.name || bytes_eq (unit_in_target h.target) h.name)) h.in_etc ∙ by h.leads))
+  where
+    same : (text : List ℕ) → bytes_eq text text ≡ true
+    same text = (bytes_eq-Decides text text).1 refl
+
+    or_true : (b : Bool) → (b || true) ≡ true
+    or_true true = refl
+    or_true false = refl
+
+    by : (h.parts.place ≡ Wants h.name) ⊎ ((h.parts.place ≡ Requires h.name) ⊎ (unit_in_target h.target ≡ h.name))
+        → (pulls_in h.parts.place h.name || bytes_eq (unit_in_target h.target) h.name) ≡ true
+    by (inl wants) = ap (λ b. b || bytes_eq (unit_in_target h.target) h.name) (ap (λ place. pulls_in place h.name) wants ∙ same h.name)
+    by (inr (inl requires)) = ap (λ b. b || bytes_eq (unit_in_target h.target) h.name) (ap (λ place. pulls_in place h.name) requires ∙ same h.name)
+    by (inr (inr leads)) = ap (λ b. pulls_in h.parts.place h.name || b) (ap (λ unit. bytes_eq unit h.name) leads ∙ same h.name) ∙ or_true (pulls_in h.parts.place h.name)
 
 -- ---- the links that are asked for
 
@@ -117,14 +203,14 @@ module _ (tree : Tree) (asked : List ℕ) where
       let units = taken_list tree asked in
       (links_from units.0, record { has = asked_from units.0 units.1; all = from_asked units.0 units.1 })
 
-  any_path_asked : (links : List LinkAt) → IsListOf (IsAskedFor tree asked) links → (path : List ℕ) → AnyOf (λ link. path ≡ link.path) links → IsPathAsked tree asked path
+  any_path_asked : (links : List LinkAt) → IsListOf (IsAskedFor tree asked) links → (path : List ℕ) → AnyOf (λ link. path ≡ link.path) links → ((target : List ℕ) × IsAskedFor tree asked (link_at path target))
   any_path_asked links list path any =
       (any.0.target, subst (λ p. IsAskedFor tree asked (link_at p any.0.target)) (sym any.2) (list.has any.0 any.1))
 
-  path_asked_any : (links : List LinkAt) → IsListOf (IsAskedFor tree asked) links → (path : List ℕ) → IsPathAsked tree asked path → AnyOf (λ link. path ≡ link.path) links
+  path_asked_any : (links : List LinkAt) → IsListOf (IsAskedFor tree asked) links → (path : List ℕ) → ((target : List ℕ) × IsAskedFor tree asked (link_at path target)) → AnyOf (λ link. path ≡ link.path) links
   path_asked_any links list path w = (link_at path w.0, list.all (link_at path w.0) w.1, refl)
 
-  pub path_asked_or_not : (path : List ℕ) → IsDecided (IsPathAsked tree asked path)
+  pub path_asked_or_not : (path : List ℕ) → IsDecided (((target : List ℕ) × IsAskedFor tree asked (link_at path target)))
   path_asked_or_not path =
       let links = asked_list in
       decided_as (any_path_asked links.0 links.1 path) (path_asked_any links.0 links.1 path)
@@ -229,10 +315,6 @@ module _ (tree : Tree) (asked : List ℕ) where
   among_paths : (path target : List ℕ) → IsAskedFor tree asked (link_at path target) → Among paths_asked path
   among_paths path target w = among_map (λ (link : LinkAt). link.path) asked_list.0 (link_at path target) (asked_list.1.all (link_at path target) w)
 
-  -- no thing has the property, or one is the least that has it
-  abbrev NoneOrLeast : (List ℕ → Type 0) → Type 0
-  NoneOrLeast Has = ((name : List ℕ) → ¬ (Has name)) ⊎ ((name : List ℕ) × IsLeast IsNamedBefore Has name)
-
   -- the link makes its path unfit
   abbrev MakesUnfit : List ℕ → LinkAt → Type 0
   MakesUnfit path link = (path ≡ link.path) × (is_fit_target (path_parts path) link.target ≡ false)
@@ -241,18 +323,14 @@ module _ (tree : Tree) (asked : List ℕ) where
   unfit_or_not path = decided_as there back (any_decided (MakesUnfit path) (λ link. both_decided (same_name path link.path) (passes_or_not (is_fit_target (path_parts path) link.target) false)) asked_list.0)
     where
       there : AnyOf (MakesUnfit path) asked_list.0 → IsUnfit tree asked path
-      there (link, among, makes) = record {
-        target = link.target;
-        wanted = subst (λ p. IsAskedFor tree asked (link_at p link.target)) (sym makes.0) (asked_list.1.has link among);
-        unfit = makes.1;
-      }
+      there (link, among, makes) = (link.target, subst (λ p. IsAskedFor tree asked (link_at p link.target)) (sym makes.0) (asked_list.1.has link among), makes.1)
 
       back : IsUnfit tree asked path → AnyOf (MakesUnfit path) asked_list.0
-      back h = (link_at path h.target, asked_list.1.all (link_at path h.target) h.wanted, (refl, h.unfit))
+      back h = (link_at path h.0, asked_list.1.all (link_at path h.0) h.1, (refl, h.2))
 
   least_unfit : NoneOrLeast (IsUnfit tree asked)
   least_unfit =
-      a_least IsNamedBefore (IsUnfit tree asked) same_name named_trans one_named_first unfit_or_not paths_asked (λ path h. among_paths path h.target h.wanted)
+      a_least IsNamedBefore (IsUnfit tree asked) same_name named_trans one_named_first unfit_or_not paths_asked (λ path h. among_paths path h.0 h.1)
 
   -- something stands where the link would, or another link would
   abbrev Occupies : List ℕ → LinkAt → Type 0
@@ -325,45 +403,33 @@ module _ (tree : Tree) (asked : List ℕ) where
       a_least IsNamedBefore (IsBarred tree asked) same_name named_trans one_named_first barred_or_not (taken_list tree asked).0
       (λ unit h. (taken_list tree asked).1.all unit h.taken)
 
-  names_unfit : NoneOrLeast (IsUnfit tree asked) → OneOrNone (NamesUnfit tree asked)
-  names_unfit (inl none) = inr (λ r h. none h.path h.least.has)
-  names_unfit (inr found) = inl (bad_path found.0, record { path = found.0; least = found.1; refusal = refl })
-
-  names_occupied : NoneOrLeast (IsOccupied tree asked) → OneOrNone (NamesOccupied tree asked)
-  names_occupied (inl none) = inr (λ r h. none h.path h.least.has)
-  names_occupied (inr found) = inl (exists_at found.0, record { path = found.0; least = found.1; refusal = refl })
-
-  names_barred : NoneOrLeast (IsBarred tree asked) → OneOrNone (NamesBarred tree asked)
-  names_barred (inl none) = inr (λ r h. none h.unit h.least.has)
-  names_barred (inr found) = inl (found.1.has.refusal, record { unit = found.0; least = found.1; cause = found.1.has.cause })
-
   -- where no cause names an occupied path, none is occupied
-  none_occupied : ((r : Refused) → ¬ (NamesOccupied tree asked r)) → IsFree
+  none_occupied : ((r : Refused) → ¬ (NamesLeast (IsOccupied tree asked) (λ path r. r ≡ exists_at path) r)) → IsFree
   none_occupied none = by_least least_occupied
     where
       by_least : NoneOrLeast (IsOccupied tree asked) → IsFree
       by_least (inl free) = free
-      by_least (inr found) = absurd (none (exists_at found.0) (record { path = found.0; least = found.1; refusal = refl }))
+      by_least (inr found) = absurd (none (exists_at found.0) (record { name = found.0; least = found.1; told = refl }))
 
   too_many_or_not : IsFree → OneOrNone (HasTooMany tree asked)
   too_many_or_not free = by_count (an_enabled free) refl
     where
-      few : (u : Tree) → IsEnabled tree asked u → map.len u ≤ entry_limit → ¬ (IsTooMany tree asked)
-      few u enabled most h = let same = ap map.len (one_enabled h.enabled u h.all enabled) in let many = h.many in omega arith
+      few : (u : Tree) → IsEnabled tree asked u → map.len u ≤ entry_limit → (r : Refused) → ¬ (HasTooMany tree asked r)
+      few u enabled most r (too_many {enabled = v} all many) = let same = ap map.len (one_enabled v u all enabled) in omega arith
 
       by_count : (found : (u : Tree) × IsEnabled tree asked u) → an_enabled free ≡ found → OneOrNone (HasTooMany tree asked)
       by_count (u, enabled) e = elim (cases_lt entry_limit (map.len u)) as (λ _. OneOrNone (HasTooMany tree asked)) [
-        | inl many ↦ inl (too_large Entries, record { many = record { enabled = u; all = enabled; many = many }; refusal = refl })
-        | inr most ↦ inr (λ r h. few u enabled most h.many)
+        | inl many ↦ inl (too_large Entries, too_many enabled many)
+        | inr most ↦ inr (few u enabled most)
       ]
 
   -- one cause refuses the enabling, or none
   enabling_cause : OneOrNone (CausesOfEnable tree asked)
   enabling_cause =
-      first_or_then _ _ (names_unfit least_unfit) (λ fit.
-      first_or_then _ _ (names_occupied least_occupied) (λ free.
+      first_or_then _ _ (named_or_none (IsUnfit tree asked) (λ path r. r ≡ bad_path path) (λ path h. (bad_path path, refl)) least_unfit) (λ fit.
+      first_or_then _ _ (named_or_none (IsOccupied tree asked) (λ path r. r ≡ exists_at path) (λ path h. (exists_at path, refl)) least_occupied) (λ free.
       first_or_then _ _ (too_many_or_not (none_occupied free)) (λ few.
-      names_barred least_barred)))
+      named_or_none (IsBarred tree asked) (λ unit r. CannotEnable unit (load tree unit) r) (λ unit h. (h.refusal, h.cause)) least_barred)))
 
   -- where none does, no path is occupied
   pub free_of_causes : ((r : Refused) → ¬ (CausesOfEnable tree asked r)) → IsFree
@@ -375,29 +441,29 @@ module _ (tree : Tree) (asked : List ℕ) where
     where
       by_least : NoneOrLeast (IsUnfit tree asked) → (path : List ℕ) → ¬ (IsUnfit tree asked path)
       by_least (inl fit) = fit
-      by_least (inr found) = absurd (none (bad_path found.0) (at_first (record { path = found.0; least = found.1; refusal = refl })))
+      by_least (inr found) = absurd (none (bad_path found.0) (at_first (record { name = found.0; least = found.1; told = refl })))
 
   -- nor are the entries too many
-  pub few_of_causes : ((r : Refused) → ¬ (CausesOfEnable tree asked r)) → ¬ (IsTooMany tree asked)
-  few_of_causes none many =
-      none (too_large Entries)
+  pub few_of_causes : ((r : Refused) → ¬ (CausesOfEnable tree asked r)) → (r : Refused) → ¬ (HasTooMany tree asked r)
+  few_of_causes none q many =
+      none q
       (at_second (λ r unfit. none r (at_first unfit))
       (at_second (λ r occupied. none r (at_second (λ q unfit. none q (at_first unfit)) (at_first occupied)))
-      (at_first (record { many = many; refusal = refl }))))
+      (at_first many)))
 
   -- nor can any unit that is taken not be enabled
   pub open_of_causes : ((r : Refused) → ¬ (CausesOfEnable tree asked r)) → (unit : List ℕ) → ¬ (IsBarred tree asked unit)
   open_of_causes none = by_least least_barred
     where
-      last : (r : Refused) → NamesBarred tree asked r → CausesOfEnable tree asked r
+      last : (r : Refused) → NamesLeast (IsBarred tree asked) (λ unit r. CannotEnable unit (load tree unit) r) r → CausesOfEnable tree asked r
       last r h =
           at_second (λ q unfit. none q (at_first unfit))
           (at_second (λ q occupied. none q (at_second (λ x unfit. none x (at_first unfit)) (at_first occupied)))
-          (at_second (λ q many. few_of_causes none many.many) h))
+          (at_second (few_of_causes none) h))
 
       by_least : NoneOrLeast (IsBarred tree asked) → (unit : List ℕ) → ¬ (IsBarred tree asked unit)
       by_least (inl free) = free
-      by_least (inr found) = absurd (none found.1.has.refusal (last found.1.has.refusal (record { unit = found.0; least = found.1; cause = found.1.has.cause })))
+      by_least (inr found) = absurd (none found.1.has.refusal (last found.1.has.refusal (record { name = found.0; least = found.1; told = found.1.has.cause })))
 
   -- ---- each cause has one refusal
 
@@ -407,21 +473,14 @@ module _ (tree : Tree) (asked : List ℕ) where
   one_cannot unit found r q has_bad_setting has_bad_setting = refl
   one_cannot unit found r q (lacks_instance e) (lacks_instance f) = refl
 
-  one_barred : (r q : Refused) → NamesBarred tree asked r → NamesBarred tree asked q → r ≡ q
-  one_barred r q h k =
-      let same = one_least IsNamedBefore (IsBarred tree asked) names_one_way same_name k.unit h.unit k.least h.least in
-      one_cannot h.unit (load tree h.unit) r q h.cause (subst (λ unit. CannotEnable unit (load tree unit) q) same k.cause)
-
-  one_unfit : (r q : Refused) → NamesUnfit tree asked r → NamesUnfit tree asked q → r ≡ q
-  one_unfit r q h k = h.refusal ∙ (ap bad_path (one_least IsNamedBefore (IsUnfit tree asked) names_one_way same_name h.path k.path h.least k.least) ∙ sym k.refusal)
-
-  one_occupied : (r q : Refused) → NamesOccupied tree asked r → NamesOccupied tree asked q → r ≡ q
-  one_occupied r q h k =
-      h.refusal ∙ (ap exists_at (one_least IsNamedBefore (IsOccupied tree asked) names_one_way same_name h.path k.path h.least k.least) ∙ sym k.refusal)
+  one_too_many : (r q : Refused) → HasTooMany tree asked r → HasTooMany tree asked q → r ≡ q
+  one_too_many r q (too_many all many) (too_many other more) = refl
 
   one_enable_refusal : (r q : Refused) → CausesOfEnable tree asked r → CausesOfEnable tree asked q → r ≡ q
   one_enable_refusal =
-      one_first _ _ one_unfit (one_first _ _ one_occupied (one_first _ _ (λ r q h k. h.refusal ∙ sym k.refusal) one_barred))
+      one_first _ _ (one_named (IsUnfit tree asked) (λ path r. r ≡ bad_path path) (λ path r q h k. h ∙ sym k))
+      (one_first _ _ (one_named (IsOccupied tree asked) (λ path r. r ≡ exists_at path) (λ path r q h k. h ∙ sym k))
+      (one_first _ _ one_too_many (one_named (IsBarred tree asked) (λ unit r. CannotEnable unit (load tree unit) r) (λ unit. one_cannot unit (load tree unit)))))
 
   -- ---- what disabling removes
 
@@ -433,18 +492,13 @@ module _ (tree : Tree) (asked : List ℕ) where
       (meant_list tree asked).0)
     where
       there : AnyOf (λ name. is_link_of name (path_parts path) (map.get tree path) ≡ true) (meant_list tree asked).0 → IsUnlinked tree asked path
-      there any = record { name = any.0; meant = (meant_list tree asked).1.has any.0 any.1; leads = any.2 }
+      there any = unlinked_by tree asked path any.0 ((meant_list tree asked).1.has any.0 any.1) any.2
 
       back : IsUnlinked tree asked path → AnyOf (λ name. is_link_of name (path_parts path) (map.get tree path) ≡ true) (meant_list tree asked).0
-      back h = (h.name, (meant_list tree asked).1.all h.name h.meant, h.leads)
+      back h = (h.name, (meant_list tree asked).1.all h.name h.meant, unlinked_test tree asked path h)
 
   unlinked_held : (path : List ℕ) → IsUnlinked tree asked path → Among (map.keys tree) path
-  unlinked_held path h = among_keys tree path (by_entry (path_parts path) (map.get tree path) h.leads)
-    where
-      by_entry : (parts : Option PathParts) (entry : Option Entry) → is_link_of h.name parts entry ≡ true → is_some entry ≡ true
-      by_entry parts (Some entry) is = refl
-      by_entry None None is = absurd (true≢false (sym is))
-      by_entry (Some p) None is = absurd (true≢false (sym is))
+  unlinked_held path h = among_keys tree path (ap is_some h.link)
 
   -- a list has just the paths at which something is removed
   unlinked_list : (paths : List (List ℕ)) × IsListOf (IsUnlinked tree asked) paths
@@ -526,11 +580,10 @@ module _ (tree : Tree) (asked : List ℕ) where
 
   -- what is removed is a link
   no_file_unlinked : (path : List ℕ) → IsUnlinked tree asked path → HasNoFile (map.get tree path)
-  no_file_unlinked path h text e = by_parts (path_parts path) (ap (is_link_of h.name (path_parts path)) (sym e) ∙ h.leads)
+  no_file_unlinked path h text e = isnt_file h.target (sym h.link ∙ e)
     where
-      by_parts : (parts : Option PathParts) → is_link_of h.name parts (Some (File text)) ≡ true → ⊥
-      by_parts None is = true≢false (sym is)
-      by_parts (Some p) is = true≢false (sym is)
+      isnt_file : (target : List ℕ) → Some (Link target) ≢ Some (File text)
+      isnt_file target same = cc
 
   -- so the drop-ins are those of the tree
   pub disabled_drop_ins : (v : Tree) → IsDisabled tree asked v → (folder : List ℕ) → drop_ins_in v folder ≡ drop_ins_in tree folder
@@ -551,13 +604,13 @@ module _ (tree : Tree) (asked : List ℕ) where
 pub one_install : (tree : Tree) (verb : InstallVerb) (unit : List ℕ) (u v : Tree) → Installs tree verb unit u → Installs tree verb unit v → u ≡ v
 one_install tree verb unit u v (enables {unit = x} {enabled = a} h) (enables {enabled = b} k) = one_enabled tree x a b h k
 one_install tree verb unit u v (disables {unit = x} {disabled = a} h) (disables {disabled = b} k) = one_disabled tree x a b h k
-one_install tree verb unit u v (masks {unit = x} {changed = a} e) (masks {changed = b} f) = same_ok (put_link tree (path_of_mask x) (codes "/dev/null")) a b e f
+one_install tree verb unit u v (masks {unit = x} {changed = a} e) (masks {changed = b} f) = same_ok (put_link tree (unit_path Etc x) (codes "/dev/null")) a b e f
 one_install tree verb unit u v unmasks unmasks = refl
 
 -- and has one refusal
 pub one_install_refusal : (tree : Tree) (verb : InstallVerb) (unit : List ℕ) (r q : Refused) → RefusesInstall tree verb unit r → RefusesInstall tree verb unit q → r ≡ q
 one_install_refusal tree verb unit r q (enables_none {unit = x} {r = a} h) (enables_none {r = b} k) = one_enable_refusal tree x a b h k
-one_install_refusal tree verb unit r q (masks_none {unit = x} {r = a} e) (masks_none {r = b} f) = same_err (put_link tree (path_of_mask x) (codes "/dev/null")) a b e f
+one_install_refusal tree verb unit r q (masks_none {unit = x} {r = a} e) (masks_none {r = b} f) = same_err (put_link tree (unit_path Etc x) (codes "/dev/null")) a b e f
 
 -- it is refused, or makes a tree
 abbrev Becomes : Tree → InstallVerb → List ℕ → Type 0
@@ -579,7 +632,7 @@ disable_obeys tree unit r h = elim h [ ]
 unmask_obeys : (tree : Tree) (unit : List ℕ) (r : Refused) → ¬ (RefusesInstall tree verbs.Unmask unit r)
 unmask_obeys tree unit r h = elim h [ ]
 
-mask_becomes : (tree : Tree) (unit : List ℕ) (result : Result Tree Refused) → put_link tree (path_of_mask unit) (codes "/dev/null") ≡ result → Becomes tree verbs.Mask unit
+mask_becomes : (tree : Tree) (unit : List ℕ) (result : Result Tree Refused) → put_link tree (unit_path Etc unit) (codes "/dev/null") ≡ result → Becomes tree verbs.Mask unit
 mask_becomes tree unit (Err r) e = inl (r, masks_none e)
 mask_becomes tree unit (Ok changed) e = inr (obeyed, (changed, masks e))
   where
@@ -587,7 +640,7 @@ mask_becomes tree unit (Ok changed) e = inr (obeyed, (changed, masks e))
     isnt_refused result r e f = cc
 
     obeyed : (r : Refused) → ¬ (RefusesInstall tree verbs.Mask unit r)
-    obeyed r (masks_none f) = isnt_refused (put_link tree (path_of_mask unit) (codes "/dev/null")) r e f
+    obeyed r (masks_none f) = isnt_refused (put_link tree (unit_path Etc unit) (codes "/dev/null")) r e f
 
 -- each verb is refused, or makes a tree
 pub an_install : (tree : Tree) (verb : InstallVerb) (unit : List ℕ) → ((r : Refused) × RefusesInstall tree verb unit r) ⊎ (((r : Refused) → ¬ RefusesInstall tree verb unit r) × ((u : Tree) × Installs tree verb unit u))
@@ -595,7 +648,7 @@ an_install tree verbs.Enable unit = enable_becomes tree unit (enabling_cause tre
 an_install tree verbs.Disable unit =
     let made = a_disabled tree unit in
     inr (disable_obeys tree unit, (made.0, disables made.1))
-an_install tree verbs.Mask unit = mask_becomes tree unit (put_link tree (path_of_mask unit) (codes "/dev/null")) refl
+an_install tree verbs.Mask unit = mask_becomes tree unit (put_link tree (unit_path Etc unit) (codes "/dev/null")) refl
 an_install tree verbs.Unmask unit = inr (unmask_obeys tree unit, (unmasked tree unit, unmasks))
 
 -- ---- how a unit is enabled

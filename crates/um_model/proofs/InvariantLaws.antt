@@ -4,7 +4,7 @@ use Rattle.std.specs.Prelude.{⊤}
 use Rattle.std.specs.FinMap as map
 use Rattle.um_model.specs.InputSpellings.{FitEvent}
 use Rattle.um_model.specs.Jobs.{Job}
-use Rattle.um_model.specs.Machine.{State, Command, Event, Carries, FallDown, all_told, told_next, Happens, begins, begun, Settles, rests, begins_next, Changes, AreReset, all_reset, reset_next, units_reset, Does, end_of, with_start_alone, Restarts, has_a_job, closes_a_circle, ComesDue, Fires, none_due, booted, ends, reports, ticks, boots, Takes, obeys, meets}
+use Rattle.um_model.specs.Machine.{State, Command, Event, Carries, FallDown, all_told, told_next, Happens, begins, begun, Settles, rests, begins_next, Changes, AreReset, all_reset, reset_next, units_reset, Does, end_of, with_start_alone, Restarts, isnt_put, ComesDue, Fires, none_due, booted, ends, reports, ticks, boots, TakesEffect, obeys, meets}
 use Rattle.um_model.specs.Service.{Action, is_number, state_of_unit}
 use Rattle.um_model.specs.Spellings.{FitEnd}
 use Rattle.um_model.specs.Timers.{Timers}
@@ -54,8 +54,7 @@ module _ (t : ℕ) (Inv : State → Type 0)
       (boots_so : (s : State) (boot : List ℕ) → Inv s → Inv (booted boot s)) where
     kept_restart : (s : State) (unit : List ℕ) (v : State) → Restarts s unit v → Inv s → Inv v
     kept_restart s unit v (Restarts.puts none free) inv = restarts_so s unit inv
-    kept_restart s unit v (has_a_job one) inv = inv
-    kept_restart s unit v (closes_a_circle cycle none closed) inv = inv
+    kept_restart s unit v (isnt_put why) inv = inv
 
     kept_due : (s : State) (unit : List ℕ) (actions : List Action) (v : State) → ComesDue t s unit actions v → Inv s → Inv v
     kept_due s unit actions v (ComesDue.restarts is again) inv = kept_restart s unit v again inv
@@ -72,7 +71,7 @@ module _ (t : ℕ) (Inv : State → Type 0)
     kept_doing s command actions u (Does.resets {asked = asked} h) inv = kept_resets (units_reset s asked) s actions u h inv
 
     -- all that an input has for its effect
-    pub kept_taking : (s : State) (event : Event) (actions : List Action) (v : State) → FitEvent event → Takes t s event actions v → Inv s → Inv v
+    pub kept_taking : (s : State) (event : Event) (actions : List Action) (v : State) → FitEvent event → TakesEffect t s event actions v → Inv s → Inv v
     kept_taking s event actions v fit (obeys {command = command} {first = first} {more = more} {u = u} none does h) inv = kept_settling u more v h (kept_doing s command first u does inv)
     kept_taking s event actions v fit (meets {happening = happening} effect (ends {number = number} {end = end} {first = x} {more = y} {u = u} unit is h k)) inv =
         kept_settling u y v k (kept_happening unit (end_of (state_of_unit s.units unit) number end) s x u (end_fit (is_number number (state_of_unit s.units unit).main) end fit.1) h inv)

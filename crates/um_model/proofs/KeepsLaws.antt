@@ -1,6 +1,6 @@
 -- What unit events and ticks leave as it was: trees, boot and clock.
 use Rattle.std.proofs.Common.{ℕ, ◌≡◌, ◌∙◌, List, refl, ap}
-use Rattle.um_model.specs.Machine.{State, Carries, change_of, Becomes, alone, along, begins, begun, Settles, rests, begins_next, Happens, AreReset, Restarts, has_a_job, closes_a_circle, ComesDue, Fires}
+use Rattle.um_model.specs.Machine.{State, Carries, change_of, Becomes, alone, along, begins, begun, Settles, rests, begins_next, Happens, AreReset, Restarts, isnt_put, ComesDue, Fires}
 use Rattle.um_model.specs.Service.{Action}
 use Rattle.um_model.specs.Timers.{Timers}
 use Rattle.um_model.specs.declared.transition.Change.{Change}
@@ -49,8 +49,7 @@ settles_keeps t s actions v (begins_next {u = u} {first = first} {more = more} j
 -- and an automatic restart
 restarts_keep : (s : State) (unit : List ℕ) (v : State) → Restarts s unit v → Keeps s v
 restarts_keep s unit v (Restarts.puts none free) = record { tree = refl; loaded = refl; boot = refl; clock = refl }
-restarts_keep s unit v (has_a_job one) = itself s
-restarts_keep s unit v (closes_a_circle cycle none closed) = itself s
+restarts_keep s unit v (isnt_put why) = itself s
 
 -- and what comes of a deadline
 pub comes_due_keeps : (t : ℕ) (s : State) (unit : List ℕ) (actions : List Action) (v : State) → ComesDue t s unit actions v → Keeps s v

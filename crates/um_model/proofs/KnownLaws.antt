@@ -1,17 +1,20 @@
 -- Known units: where more is named, more is known; what is known is decided, and so is what depends on what, and what goes before what.
-use Rattle.std.proofs.Common.{◌≡◌, ◌≢◌, ◌⊎◌, ◌∙◌, ℕ, ◌≤◌, true, false, List, ◌++◌, length, get_or, AllPairs, Option, Some, None, is_some, refl, sym, ap, subst, inl, inr, arith}
+use Rattle.std.proofs.Common.{◌≡◌, ◌≢◌, ◌⊎◌, ◌↔◌, ◌∙◌, ◌&&◌, ℕ, ◌≤◌, Bool, true, false, true≢false, not, List, ◌++◌, length, get_or, append-nil, AllPairs, Option, Some, None, is_some, refl, sym, ap, subst, inl, inr, arith}
 use Rattle.std.specs.FinMap as map
-use Rattle.std.proofs.lemmas.Bool.{cases_lt}
+use Rattle.std.proofs.lemmas.Bool.{cases_lt, and_parts, cond-true}
 use Rattle.std.proofs.lemmas.List.Elements.{All-contains}
 use Rattle.std.proofs.lemmas.Option.{none-some, same_Some}
-use Rattle.um_model.specs.Dependencies.{is_target, Links, HasEntry, Gives, Declares, Mentions, IsNamed, IsKnown, unit_limit, KnowsTooMany, Depends, IsDeclared, Declines, PullsIn, Orders, Precedes}
+use Rattle.um_model.specs.Dependencies.{Links, HasEntry, Gives, Declares, Mentions, IsNamed, IsKnown, unit_limit, KnowsTooMany, Depends, IsDeclared, Declines, PullsIn, Orders, Precedes}
 use Rattle.um_model.specs.Dependencies as model
-use Rattle.um_model.specs.Names.{is_template, is_unit_name}
+use Rattle.um_model.specs.Names.{is_template, is_unit_name, suffix_of}
 use Rattle.um_model.specs.Reached.{first, next}
-use Rattle.um_model.specs.Tree.{Tree, Entry, PathParts, Place, Unit as Itself, DropIn, Wants, Requires, path_parts}
+use Rattle.um_model.specs.Resolution.{unit_path}
+use Rattle.um_model.specs.Tree.{Tree, PathParts, Place, Unit as Itself, DropIn, Wants, Requires, place_text, layer_text, is_plain_name, path_parts}
 use Rattle.um_model.specs.Units.{unit_named}
 use Rattle.um_model.specs.declared.dependencies.DependencyKind.{DependencyKind}
 use Rattle.um_model.specs.declared.dependencies.DependencyKind.TheVariants as kinds
+use Rattle.um_model.specs.declared.names.Suffix.{Suffix}
+use Rattle.um_model.specs.declared.names.Suffix.TheVariants.{Target}
 use Rattle.um_model.proofs.AmongLaws.{both_decided, either_decided, not_decided, passes_or_not, decided_as, AnyOf, any_decided, among_or_not, among_left, among_right, contains_among, IsListOf, list_of}
 use Rattle.um_model.proofs.CoverLaws.{names_cover}
 use Rattle.um_model.proofs.DemandsLaws.{reached_in}
@@ -22,7 +25,24 @@ use Rattle.um_model.proofs.OnceLaws.{among_at, no_more, once_each}
 use Rattle.um_model.proofs.OwnNameLaws.{AskedOrName, named_or_asked}
 use Rattle.um_model.proofs.ReachedLaws.{reached_or_not}
 use Rattle.um_model.proofs.TimersLaws.{same_name, among_keys}
-use Rattle.um_model.proofs.TreeLaws.{path_of_parts, fit-name}
+use Rattle.um_model.proofs.TreeLaws.{path_of_parts, parts_at, fit-name}
+
+-- ---- targets
+
+-- the unit is a target
+abbrev pub is_target_type : Option Suffix → Bool
+is_target_type (Some Target) = true
+is_target_type other = false
+
+abbrev pub is_target : List ℕ → Bool
+is_target unit = is_target_type (suffix_of unit)
+
+pub target_suffix : (unit : List ℕ) → (is_target unit ≡ true) ↔ (suffix_of unit ≡ Some Target)
+target_suffix unit = (by (suffix_of unit), λ e. ap is_target_type e)
+  where
+    by : (o : Option Suffix) → is_target_type o ≡ true → o ≡ Some Target
+    by (Some Target) e = refl
+    by other e = absurd (true≢false (sym e))
 
 -- ---- more is known where more is named
 
@@ -43,34 +63,72 @@ module _ (tree : Tree) (Other Extra : List ℕ → Type 0) (within : (x : List �
 
 -- ---- what is named in a tree is decided
 
-module _ (tree : Tree) (x : List ℕ) where
-  -- an entry of the name stands at the path
-  abbrev IsEntryAt : List ℕ → Type 0
-  IsEntryAt path =
-      (entry : Entry) × (parts : PathParts) × (map.get tree path ≡ Some entry) × (path_parts path ≡ Some parts) × ((parts.place ≡ Itself) × ((parts.unit ≡ x) × (is_template x ≡ false)))
+-- an entry of a unit of this name stands at the path
+pub record IsEntryAt (tree : Tree) (x path : List ℕ) : Type 0 where
+  pub parts : PathParts
+  pub held : is_some (map.get tree path) ≡ true
+  pub served : path_parts path ≡ Some parts
+  pub own : parts.place ≡ Itself
+  pub named : parts.unit ≡ x
+  pub single : is_template x ≡ false
 
+plain_of : (x : List ℕ) → is_unit_name x ≡ true → is_template x ≡ false → is_plain_name x ≡ true
+plain_of x name single = ap (λ b. b && not (is_template x)) name ∙ ap not single
+
+pub entry_there : (tree : Tree) (x path : List ℕ) → IsEntryAt tree x path → HasEntry tree x
+entry_there tree x path h =
+    let of = path_of_parts path h.parts h.served in
+    let p = h.parts in
+    let name : is_unit_name x ≡ true = subst (λ u. is_unit_name u ≡ true) h.named (fit-name p.unit p.place of.fit) in
+    let at : path ≡ unit_path p.layer x =
+    of.spelled ∙ (ap (λ place. layer_text p.layer ++ (p.unit ++ place_text place)) h.own
+    ∙ (ap (λ text. layer_text p.layer ++ text) (append-nil p.unit) ∙ ap (unit_path p.layer) h.named)) in
+    record { layer = p.layer; held = subst (λ q. is_some (map.get tree q) ≡ true) at h.held; plain = plain_of x name h.single }
+
+pub there_entered : (tree : Tree) (x : List ℕ) → HasEntry tree x → (path : List ℕ) × IsEntryAt tree x path
+there_entered tree x h =
+    let plain = and_parts (is_unit_name x) (not (is_template x)) h.plain in
+    let own : PathParts = record { layer = h.layer; unit = x; place = Itself } in (
+      unit_path h.layer x,
+      record {
+        parts = own;
+        held = h.held;
+        served = ap path_parts (sym (ap (λ text. layer_text h.layer ++ text) (append-nil x))) ∙ (parts_at own plain.0 ∙ cond-true (is_unit_name x) (Some own) None plain.0);
+        own = refl;
+        named = refl;
+        single = not_true (is_template x) plain.1;
+      },
+    )
+  where
+    not_true : (b : Bool) → not b ≡ true → b ≡ false
+    not_true true e = sym e
+    not_true false e = refl
+
+module _ (tree : Tree) (x : List ℕ) where
   itself_or_not : (place : Place) → IsDecided (place ≡ Itself)
   itself_or_not Itself = inl refl
   itself_or_not (DropIn name) = inr (λ is. cc)
   itself_or_not (Wants other) = inr (λ is. cc)
   itself_or_not (Requires other) = inr (λ is. cc)
 
-  entry_at_or_not : (path : List ℕ) → IsDecided (IsEntryAt path)
-  entry_at_or_not path = by_entry (map.get tree path) refl (path_parts path) refl
+  entry_at_or_not : (path : List ℕ) → IsDecided (IsEntryAt tree x path)
+  entry_at_or_not path = by_parts (path_parts path) refl
     where
-      by_entry : (o : Option Entry) → map.get tree path ≡ o → (p : Option PathParts) → path_parts path ≡ p → IsDecided (IsEntryAt path)
-      by_entry None at p served = inr (λ h. none-some h.0 (sym at ∙ h.2))
-      by_entry (Some entry) at None served = inr (λ h. none-some h.1 (sym served ∙ h.3))
-      by_entry (Some entry) at (Some parts) served =
-          decided_as (λ both. (entry, parts, at, served, both))
-          (λ h. subst (λ p. (p.place ≡ Itself) × ((p.unit ≡ x) × (is_template x ≡ false))) (same_Some h.1 parts (sym h.3 ∙ served)) h.4)
-          (both_decided (itself_or_not parts.place) (both_decided (same_name parts.unit x) (passes_or_not (is_template x) false)))
+      by_parts : (o : Option PathParts) → path_parts path ≡ o → IsDecided (IsEntryAt tree x path)
+      by_parts None served = inr (λ h. none-some h.parts (sym served ∙ h.served))
+      by_parts (Some parts) served =
+          decided_as (λ (h : (is_some (map.get tree path) ≡ true) × ((parts.place ≡ Itself) × ((parts.unit ≡ x) × (is_template x ≡ false)))).
+          record { parts = parts; held = h.0; served = served; own = h.1.0; named = h.1.1.0; single = h.1.1.1 })
+          (λ h. let same = same_Some h.parts parts (sym h.served ∙ served) in
+          (h.held, (subst (λ (p : PathParts). p.place ≡ Itself) same h.own, (subst (λ (p : PathParts). p.unit ≡ x) same h.named, h.single))))
+          (both_decided (passes_or_not (is_some (map.get tree path)) true)
+          (both_decided (itself_or_not parts.place) (both_decided (same_name parts.unit x) (passes_or_not (is_template x) false))))
 
   has_entry_or_not : IsDecided (HasEntry tree x)
   has_entry_or_not =
-      decided_as (λ any. let at = any.2 in record { path = any.0; entry = at.0; parts = at.1; held = at.2; served = at.3; own = at.4.0; named = at.4.1.0; single = at.4.1.1 })
-      (λ h. (h.path, among_keys tree h.path (ap is_some h.held), (h.entry, h.parts, h.held, h.served, (h.own, (h.named, h.single)))))
-      (any_decided IsEntryAt entry_at_or_not (map.keys tree))
+      decided_as (λ any. entry_there tree x any.0 any.2)
+      (λ h. let found = there_entered tree x h in (found.0, among_keys tree found.0 found.1.held, found.1))
+      (any_decided (IsEntryAt tree x) entry_at_or_not (map.keys tree))
 
   -- x holds a link of this kind
   abbrev Holds : DependencyKind → Type 0
@@ -115,7 +173,7 @@ module _ (tree : Tree) (Extra : List ℕ → Type 0) (extras : List (List ℕ)) 
   ExtraOrName x = Among extras x ⊎ (is_unit_name x ≡ true)
 
   named_covered : ((x : List ℕ) → Extra x → Among extras x) → (x : List ℕ) → IsNamed tree Extra x → ExtraOrName x
-  named_covered within x (model.has h) = inr (subst (λ unit. is_unit_name unit ≡ true) h.named (fit-name h.parts.unit h.parts.place (path_of_parts h.path h.parts h.served).fit))
+  named_covered within x (model.has h) = inr (and_parts (is_unit_name x) (not (is_template x)) h.plain).0
   named_covered within x (model.holder {kind = kind} {y = y} links) = inr (names_of_link tree kind x y links).0
   named_covered within x (model.link {kind = kind} {x = holder} links) = inr (names_of_link tree kind holder x links).1
   named_covered within x (model.extra more) = inl (within x more)
@@ -173,24 +231,17 @@ module _ (tree : Tree) (Extra : List ℕ → Type 0) (extras : List (List ℕ)) 
 
     declines_or_not : (x : List ℕ) → IsDecided (Declines tree x)
     declines_or_not x =
-        decided_as (λ h. record { unit = h.0; loadable = h.1; says = h.2 }) (λ d. (d.unit, d.loadable, d.says))
-        (loadable_or_not tree x (λ l. l.settings.dependencies.default_dependencies ≡ false) (λ l. passes_or_not l.settings.dependencies.default_dependencies false))
+        loadable_or_not tree x (λ l. l.settings.dependencies.default_dependencies ≡ false) (λ l. passes_or_not l.settings.dependencies.default_dependencies false)
 
     -- the target x wants y, or requires it
     abbrev Pulls : List ℕ → List ℕ → Type 0
     Pulls x y = Depends tree Extra kinds.Wants x y ⊎ Depends tree Extra kinds.Requires x y
 
-    pulls_by : (kind : DependencyKind) (x y : List ℕ) → (kind ≡ kinds.Wants) ⊎ (kind ≡ kinds.Requires) → Depends tree Extra kind x y → Pulls x y
-    pulls_by kind x y (inl is) d = inl (subst (λ k. Depends tree Extra k x y) is d)
-    pulls_by kind x y (inr is) d = inr (subst (λ k. Depends tree Extra k x y) is d)
-
-    to_pulls : (x y : List ℕ) → (is_target x ≡ true) × (Pulls x y × ((¬ Declines tree x) × (¬ Declines tree y))) → PullsIn tree Extra x y
-    to_pulls x y (target, (inl d, (accepts, too))) = record { holds = target; kind = kinds.Wants; wants = inl refl; depends = d; accepts = accepts; too = too }
-    to_pulls x y (target, (inr d, (accepts, too))) = record { holds = target; kind = kinds.Requires; wants = inr refl; depends = d; accepts = accepts; too = too }
-
     pulled_or_not : (x y : List ℕ) → IsDecided (PullsIn tree Extra x y)
     pulled_or_not x y =
-        decided_as (to_pulls x y) (λ p. (p.holds, (pulls_by p.kind x y p.wants p.depends, (p.accepts, p.too))))
+        decided_as (λ (h : (is_target x ≡ true) × (Pulls x y × ((¬ Declines tree x) × (¬ Declines tree y)))).
+        record { target = (target_suffix x).0 h.0; depends = h.1.0; accepts = h.1.1.0; too = h.1.1.1 })
+        (λ p. ((target_suffix x).1 p.target, (p.depends, (p.accepts, p.too))))
         (both_decided (passes_or_not (is_target x) true)
         (both_decided (either_decided (depends_or_not kinds.Wants x y) (depends_or_not kinds.Requires x y))
         (both_decided (not_decided (declines_or_not x)) (not_decided (declines_or_not y)))))

@@ -2,11 +2,11 @@ pub mod LeastLaws
 pub mod TextLaws
 pub mod SyntaxLaws
 pub mod RequestsLaws
+pub mod Forms
 pub mod RepliesLaws
 pub mod NamesLaws
 pub mod TreeLaws
 pub mod CutLaws
-pub mod LeadsLaws
 pub mod OrderLaws
 pub mod LimitLaws
 pub mod CausesLaws
@@ -62,6 +62,7 @@ pub mod SpelledLaws
 pub mod FitOnceLaws
 pub mod UnreadLaws
 pub mod KeptLaws
+pub mod FileForms
 pub mod FindsLaws
 pub mod SessionsLaws
 pub mod WaitingLaws
@@ -70,11 +71,11 @@ pub mod SettleLaws
 pub mod TotalLaws
 pub mod AmongLaws
 pub mod ReachedLaws
+pub mod CountsLaws
 pub mod CoverLaws
 pub mod NamedLaws
 pub mod InstallLaws
 pub mod LoadsLaws
-pub mod EnablingLaws
 pub mod DemandsLaws
 pub mod PlanLaws
 pub mod DemandedLaws
@@ -95,4 +96,3 @@ pub mod LightLaws
 pub mod RefusesLaws
 pub mod ServableLaws
 pub mod FinishedLaws
-pub mod RunnerLaws

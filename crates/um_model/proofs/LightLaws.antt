@@ -1,16 +1,14 @@
 -- What happens never raises the weight of the state, and is never refused.
 use Rattle.std.proofs.Common.{ℕ, ◌≡◌, ◌∙◌, ◌+◌, ◌*◌, ◌≤◌, List, refl, subst, inl, arith}
 use Rattle.um_model.specs.Dependencies.{KnowsSoMany, CountsFor, extra}
-use Rattle.um_model.specs.Few.{HoldsNoMore}
-use Rattle.um_model.specs.Live.{WeighsNoMore}
-use Rattle.um_model.specs.Machine.{State, Happening, Happened, Reply, Done, IsHeld, booted, Follows, Takes, end_of, moment_of, Step}
+use Rattle.um_model.specs.Machine.{State, Happening, Happened, Reply, Done, IsHeld, booted, Follows, end_of, moment_of, Step, TakesEffect}
 use Rattle.um_model.specs.Reached.{first}
 use Rattle.um_model.specs.Service.{Action, state_of_unit}
 use Rattle.um_model.specs.Tree.{Tree, without_run}
-use Rattle.um_model.specs.Weight.{tree_weight}
+use Rattle.um_model.specs.Weight.{tree_weight, weight_of}
 use Rattle.um_model.specs.declared.transition.UnitEvent.TheVariants.{Executed}
 use Rattle.um_model.proofs.AmongLaws.{contains_among, among_contained}
-use Rattle.um_model.proofs.FewLaws.{same_no_more, happened_no_more, fires_no_more, number_held, booted_none}
+use Rattle.um_model.proofs.FewLaws.{HoldsNoMore, same_no_more, happened_no_more, fires_no_more, number_held, booted_none}
 use Rattle.um_model.proofs.KeepsLaws.{happens_keeps, settles_keeps, fires_keeps}
 use Rattle.um_model.proofs.KnownLaws.{known_grows}
 use Rattle.um_model.proofs.OnceLaws.{no_more}
@@ -47,6 +45,11 @@ module _ (Fewer Extra : List ℕ → Type 0) (within : (x : List ℕ) → Fewer 
 
 -- ---- and no more is weighed
 
+-- a state weighs no more than another
+abbrev pub WeighsNoMore : State → State → Type 0
+WeighsNoMore t s = (m n : ℕ) → CountsFor t.loaded (IsHeld t) m → CountsFor s.loaded (IsHeld s) n
+    → weight_of t.tree t.loaded m ≤ weight_of s.tree s.loaded n
+
 lighter : (a b c d m n : ℕ) → a ≤ b → c ≤ d → m ≤ n → 256 + a + c + 2048 * m ≤ 256 + b + d + 2048 * n
 lighter a b c d m n e f g = omega arith
 
@@ -78,8 +81,8 @@ follows_light t s happening actions v (Follows.boots {boot = boot}) = booted_lig
 same_light : (s : State) → WeighsNoMore s s
 same_light s = no_more_light s s (same_no_more s) refl
 
-takes_light : (t : ℕ) (s : State) (happening : Happening) (actions : List Action) (v : State) → Takes t s (Happened happening) actions v → WeighsNoMore v s
-takes_light t s happening actions v (Takes.meets effect h) = follows_light t s happening actions v h
+takes_light : (t : ℕ) (s : State) (happening : Happening) (actions : List Action) (v : State) → TakesEffect t s (Happened happening) actions v → WeighsNoMore v s
+takes_light t s happening actions v (TakesEffect.meets effect h) = follows_light t s happening actions v h
 
 -- after a step in which something happens the state weighs no more than before it
 pub happening_light : (size : ℕ) (s : State) (moment : ℕ) (happening : Happening) (reply : Reply) (actions : List Action) (t : State)

@@ -4,15 +4,14 @@ use Rattle.std.specs.FinMap as map
 use Rattle.um_model.specs.Service.{Action, ByUnit, active_state_of, dead_unit, state_of_unit}
 use Rattle.um_model.specs.Settings.{ServiceSettings}
 use Rattle.um_model.specs.Ends.{is_starting, is_stopping}
-use Rattle.um_model.specs.Transitions.{transition, HasItsProcess, has_its_process, HasNumber}
-use Rattle.um_model.specs.Jobs.{Job, stop_job, start_job, job_of, jobs, no_jobs, jobs_of_unit, is_active, is_up, started_anew, started, stopped, restarted, jobs_after, unless_waiting, cancelled, without_start, state_of_job, IsPending, IsWaiting, of_one_unit, ComesBefore, IsReady, with_running, unless_running, start_left, jobs_left}
+use Rattle.um_model.specs.Transitions.{transition, HasNumber}
+use Rattle.um_model.specs.Jobs.{Job, stop_job, start_job, job_of, jobs, no_jobs, jobs_of_unit, is_active, is_up, started, stopped, jobs_for, unless_waiting, cancelled, without_start, state_of_job, IsPending, of_one_unit, ComesBefore, IsReady, unless_running, start_left, jobs_left}
 use Rattle.um_model.specs.Timers.{Timers}
-use Rattle.um_model.specs.Machine.{State, empty_state, Command, Happening, Event, Input, Reply, IsBefore, with_result_dependency, TakesAlong, Becomes, Carries, change_of, changed, acting_in, around, begins, begun, IsStill, FallDown, Happens, AreReset, Settles, begins_next, unit_asked, with_plan, jobs_asked, scene_at, Changes, puts, links, removes, reloads, plans, demands_nothing, cancels, installs, Does, units_reset, end_of, Restarts, has_a_job, closes_a_circle, ComesDue, Fires, booted, Follows, ends, reports, ticks, boots, Takes, obeys, meets, moment_of, Step, refused, crowded_out, idle, taken, Run, goes}
-use Rattle.um_model.specs.Plan.{IsPlan, jobs_for, verb_of}
-use Rattle.um_model.specs.Live.{IsFree, WaitsFor, IsNotStuck}
-use Rattle.um_model.specs.declared.commands.UnitVerb.{UnitVerb}
-use Rattle.um_model.specs.declared.commands.UnitVerb.TheVariants as verbs
+use Rattle.um_model.specs.Machine.{State, empty_state, Command, Happening, Event, Input, Reply, IsBefore, TakesAlong, Becomes, Carries, change_of, changed, around, begins, begun, IsStill, FallDown, Happens, AreReset, Settles, begins_next, unit_asked, with_plan, jobs_asked, scene_at, Changes, puts, links, removes, reloads, plans, demands_nothing, cancels, installs, Does, units_reset, end_of, Restarts, ComesDue, Fires, booted, Follows, ends, reports, ticks, boots, obeys, meets, moment_of, Step, refused, crowded_out, idle, taken, Run, goes, settings_in, isnt_put, TakesEffect}
+use Rattle.um_model.specs.Plan.{IsPlan}
+use Rattle.um_model.specs.Servable.{IsFree}
 use Rattle.um_model.specs.declared.dependencies.Demand.{Demand}
+use Rattle.um_model.specs.declared.dependencies.Demand.TheVariants as demands
 use Rattle.um_model.specs.declared.jobs.JobKind.{JobKind}
 use Rattle.um_model.specs.declared.jobs.JobKind.TheVariants as job
 use Rattle.um_model.specs.declared.jobs.JobState.{JobState}
@@ -29,7 +28,7 @@ use Rattle.um_model.specs.declared.transition.StartJob.{StartJob}
 use Rattle.um_model.specs.declared.transition.StartJob.TheVariants.{Stays, Ends, Fails}
 use Rattle.um_model.specs.declared.transition.UnitEvent.{UnitEvent}
 use Rattle.um_model.specs.declared.transition.UnitEvent.TheVariants.{StartBegins, StopBegins, Executed, DeadlinePasses}
-use Rattle.um_model.proofs.AlongLaws.{before_or_not, taken_along_or_not}
+use Rattle.um_model.proofs.AlongLaws.{before_or_not, taken_along_or_not, with_result_dependency}
 use Rattle.um_model.proofs.CycleLaws.{a_first_job}
 use Rattle.um_model.proofs.FallLaws.{over_falls, over_happening, over_resets}
 use Rattle.um_model.proofs.FreeLaws.{no_cycle_after}
@@ -37,8 +36,19 @@ use Rattle.um_model.proofs.PlannedLaws.{counts_some}
 use Rattle.um_model.proofs.SceneLaws.{finite_scene}
 use Rattle.um_model.proofs.TimersLaws.{same_name}
 use Rattle.um_model.proofs.UnitLaws.{state_here, state_apart, jobs_here, jobs_apart}
-use Rattle.um_model.proofs.TransitionLaws.{keeps_process, same_held}
+use Rattle.um_model.proofs.TransitionLaws.{HasItsProcess, has_its_process, keeps_process, same_held}
 use Rattle.um_model.proofs.FitLaws.{StartFits, StopFits, begun_start_fits, start_fits, begun_stop_fits, stop_fits}
+use Rattle.um_model.proofs.Forms.{with_running}
+
+-- a pending job whose unit is in start or in a stop state, where this is the number of a live process
+pub record WaitsFor (s : State) (job : Job) (number : ℕ) : Type 0 where
+  pub pending : IsPending s.pending job
+  pub busy : (is_starting (state_of_unit s.units job.unit).sub || is_stopping (state_of_unit s.units job.unit).sub) ≡ true
+  pub live : HasNumber (state_of_unit s.units job.unit) number
+
+-- the machine isn't stuck: where a job is pending, some pending job waits for a live process
+abbrev pub IsNotStuck : State → Type 0
+IsNotStuck s = (job : Job) → IsPending s.pending job → (other : Job) × (number : ℕ) × WaitsFor s other number
 
 -- a unit and its jobs fit: it has its process, a start job runs only in start, a stop job only in a stop state, and not both
 pub record Fits (u : UnitState) (j : UnitJobs) : Type 0 where
@@ -107,20 +117,17 @@ waits_if : (b : Bool) → cond b (Some Waiting) None ≡ Some Running → ⊥
 waits_if true e = waits_runs e
 waits_if false e = none_runs e
 
-anew_keeps : (a : ActiveState) (o : Option JobState) → KeepsRunning (jobs o None) (started_anew a o)
-anew_keeps a (Some Running) = record { starting = λ e. absurd (waits_runs e); stopping = λ e. e }
-anew_keeps a None = record { starting = λ e. absurd (waits_unless (is_active a) e); stopping = λ e. e }
-anew_keeps a (Some Waiting) = record { starting = λ e. absurd (waits_unless (is_active a) e); stopping = λ e. absurd (none_runs e) }
-
 started_keeps : (a : ActiveState) (o p : Option JobState) → KeepsRunning (jobs o p) (started a o p)
-started_keeps a o None = anew_keeps a o
 started_keeps a o (Some p) = record { starting = λ e. (e, λ n. n); stopping = λ e. e }
+started_keeps a (Some Running) None = record { starting = λ e. absurd (waits_runs e); stopping = λ e. e }
+started_keeps a None None = record { starting = λ e. absurd (waits_unless (is_active a) e); stopping = λ e. e }
+started_keeps a (Some Waiting) None = record { starting = λ e. absurd (waits_unless (is_active a) e); stopping = λ e. absurd (none_runs e) }
 
 stopped_keeps : (a : ActiveState) (o p : Option JobState) → KeepsRunning (jobs o p) (stopped a o)
 stopped_keeps a None p = record { starting = λ e. absurd (none_runs e); stopping = λ e. absurd (waits_if (is_up a) e) }
 stopped_keeps a (Some o) p = record { starting = λ e. absurd (none_runs e); stopping = λ e. e }
 
-restarted_keeps : (o p : Option JobState) → KeepsRunning (jobs o p) (restarted o)
+restarted_keeps : (o p : Option JobState) → KeepsRunning (jobs o p) (jobs (Some (unwrap_or o Waiting)) (Some Waiting))
 restarted_keeps None p = record { starting = λ e. absurd (waits_runs e); stopping = λ e. absurd (waits_runs e) }
 restarted_keeps (Some o) p = record { starting = λ e. absurd (waits_runs e); stopping = λ e. e }
 
@@ -128,11 +135,11 @@ if_keeps : (b : Bool) (j k l : UnitJobs) → KeepsRunning j k → KeepsRunning j
 if_keeps true j k l h g = h
 if_keeps false j k l h g = g
 
-command_keeps : (verb : UnitVerb) (a : ActiveState) (j : UnitJobs) → KeepsRunning j (jobs_after verb a j)
-command_keeps verbs.Start a j = started_keeps a j.stop j.start
-command_keeps verbs.Stop a j = stopped_keeps a j.stop j.start
-command_keeps verbs.Restart a j = if_keeps (is_up a) j (restarted j.stop) (started a j.stop j.start) (restarted_keeps j.stop j.start) (started_keeps a j.stop j.start)
-command_keeps verbs.TryRestart a j = if_keeps (is_active a) j (restarted j.stop) j (restarted_keeps j.stop j.start) (record { starting = λ e. (e, λ n. n); stopping = λ e. e })
+counted_keeps : (counted : Option Demand) (a : ActiveState) (j : UnitJobs) → KeepsRunning j (jobs_for counted a j)
+counted_keeps None a j = record { starting = λ e. (e, λ n. n); stopping = λ e. e }
+counted_keeps (Some demands.Start) a j = started_keeps a j.stop j.start
+counted_keeps (Some demands.Stop) a j = stopped_keeps a j.stop j.start
+counted_keeps (Some demands.Restart) a j = if_keeps (is_up a) j (jobs (Some (unwrap_or j.stop Waiting)) (Some Waiting)) (started a j.stop j.start) (restarted_keeps j.stop j.start) (started_keeps a j.stop j.start)
 
 unless_waiting_runs : (o : Option JobState) → unless_waiting o ≡ Some Running → o ≡ Some Running
 unless_waiting_runs None e = absurd (none_runs e)
@@ -174,10 +181,6 @@ planned_fits s unit k keeps fits other =
       | inr apart ↦ subst (Fits (state_of_unit s.units other)) (sym (jobs_apart s.pending unit k other apart)) (fits other)
     ]
 
-counted_keeps : (counted : Option Demand) (a : ActiveState) (j : UnitJobs) → KeepsRunning j (jobs_for counted a j)
-counted_keeps None a j = record { starting = λ e. (e, λ n. n); stopping = λ e. e }
-counted_keeps (Some demand) a j = command_keeps (verb_of demand) a j
-
 -- a plan leaves all fitting
 plan_fits : (s : State) (named : List ℕ) (demand : Demand) (after : ByUnit UnitJobs) → IsPlan (scene_at s named) (demand, named) after → AllFit s → AllFit (record s { pending = after })
 plan_fits s named demand after plan fits unit =
@@ -206,8 +209,7 @@ restart_keeps j is = record { starting = λ e. absurd (waits_runs e); stopping =
 
 restarted_fits : (s : State) (unit : List ℕ) (v : State) → Restarts s unit v → AllFit s → AllFit v
 restarted_fits s unit v (Restarts.puts none free) fits = planned_fits s unit (jobs None (Some Waiting)) (restart_keeps (jobs_of_unit s.pending unit) none) fits
-restarted_fits s unit v (has_a_job one) fits = fits
-restarted_fits s unit v (closes_a_circle cycle none closed) fits = fits
+restarted_fits s unit v (isnt_put why) fits = fits
 
 -- what a failed start takes along leaves all fitting
 along_fits : (s : State) (failed : List ℕ) (v : State) → TakesAlong s failed v → AllFit s → AllFit v
@@ -270,7 +272,7 @@ module _ (keeps : (s : ServiceSettings) (c : Around) (u : UnitState) (e : UnitEv
   carried_fits : (t : ℕ) (unit : List ℕ) (event : UnitEvent) (s : State) (actions : List Action) (v : State) → Carries t unit event s actions v → AllFit s → AllFit v
   carried_fits t unit event s actions v h fits =
       let u = state_of_unit s.units unit in
-      let settings = (acting_in s.loaded unit).settings in
+      let settings = settings_in s.loaded unit in
       becomes_fits s unit (change_of t s unit event) v h.state (fits_at s unit (change_of t s unit event) (λ other apart. fits other)
       (left_fits (change_of t s unit event) (jobs_of_unit s.pending unit) (keeps settings (around t s unit) u event (fits unit).held)
       (λ e. start_fits settings (around t s unit) u event ((fits unit).starting e))
@@ -317,7 +319,7 @@ module _ (keeps : (s : ServiceSettings) (c : Around) (u : UnitState) (e : UnitEv
       becomes_fits (begun s j) j.unit c v h.state (fits_at (begun s j) j.unit c
       (λ other apart. subst (Fits (state_of_unit s.units other)) (sym (jobs_apart s.pending j.unit (with_running j.kind (jobs_of_unit s.pending j.unit)) other apart)) (fits other))
       (subst (λ k. Fits c.unit (jobs_left c.start c.stop_ends k)) (sym (begun_here s j))
-      (begun_fits j.kind j.unit s (around t (begun s j) j.unit) (acting_in s.loaded j.unit).settings ready fits)))
+      (begun_fits j.kind j.unit s (around t (begun s j) j.unit) (settings_in s.loaded j.unit) ready fits)))
 
   -- where jobs have begun until none is ready
   settled_fits : (t : ℕ) (s : State) (actions : List Action) (v : State) → Settles t s actions v → AllFit s → AllFit v × IsStill v
@@ -347,7 +349,7 @@ module _ (keeps : (s : ServiceSettings) (c : Around) (u : UnitState) (e : UnitEv
   does_fit t s command actions u (Does.changes h) fits = changed_fits s command u h fits
   does_fit t s command actions u (Does.resets {asked = asked} h) fits = reset_fits t (units_reset s asked) s actions u h fits
 
-  taken_fits : (t : ℕ) (s : State) (event : Event) (actions : List Action) (v : State) → Takes t s event actions v → AllFit s × IsStill s → AllFit v × IsStill v
+  taken_fits : (t : ℕ) (s : State) (event : Event) (actions : List Action) (v : State) → TakesEffect t s event actions v → AllFit s × IsStill s → AllFit v × IsStill v
   taken_fits t s event actions v (obeys {command = command} {first = first} {more = more} {u = u} free h k) calm =
       settled_fits t u more v k (does_fit t s command first u h calm.0)
   taken_fits t s event actions v (meets {happening = happening} effect h) calm = followed_fits t s happening actions v h calm
@@ -421,7 +423,7 @@ module _ (s : State) (fits : AllFit s) (still : IsStill s) where
     running_waits job.Stop is = waits_in_stop ((fits j.unit).stopping is)
 
     -- so does one that waits though none comes before it: it isn't ready, as its unit is deactivating
-    first_waits : (down : Bool) → is_stopping (state_of_unit s.units j.unit).sub ≡ down → IsWaiting s.pending j
+    first_waits : (down : Bool) → is_stopping (state_of_unit s.units j.unit).sub ≡ down → state_of_job s.pending j ≡ Some Waiting
         → ((other : Job) → ¬ ComesBefore (IsBefore s.loaded) s.pending other j) → (number : ℕ) × WaitsFor s j number
     first_waits true e waits free = waits_in_stop e
     first_waits false e waits free = absurd (still j (record { waits = waits; free = free; still = λ starts. not_deactivating (state_of_unit s.units j.unit).sub e }))
@@ -434,7 +436,7 @@ module _ (s : State) (fits : AllFit s) (still : IsStill s) where
 
   module _ (free : IsFree s) where
     -- where a job waits, a job before which none comes waits for a live process
-    waiting_not_stuck : (j : Job) → IsWaiting s.pending j → (other : Job) × (number : ℕ) × WaitsFor s other number
+    waiting_not_stuck : (j : Job) → state_of_job s.pending j ≡ Some Waiting → (other : Job) × (number : ℕ) × WaitsFor s other number
     waiting_not_stuck j waits =
         let a = a_first_job (IsBefore s.loaded) (before_or_not s.loaded) s.pending free j waits in
         let w = free_waits a.0 a.1 a.2.free in

@@ -6,12 +6,14 @@ use Rattle.std.specs.Cmp.Lexicographic.{slice_cmp, nat_list_cmp_total}
 use Rattle.std.specs.Ordering.{nat_cmp, is_eq}
 use Rattle.std.specs.Prelude.{option_map}
 use Rattle.um_model.specs.Names.{is_unit_name, suffix_of, instance_of, template_of, with_instance}
-use Rattle.um_model.specs.Resolution.{Resolution, AtFile, AtNoFile, AtMask, Nowhere, unit_path, held_in, first_held, unless_to_template, held, is_mask, is_of_same_type, is_served_type, of_same_type, next_name, resolution_at, resolved, hop_limit, resolution_of, DropIn, drop_in_folders, drop_in_named, drop_in_at, drop_ins_in, drop_ins_by_file, drop_ins_of, file_of_drop_in, files_at}
+use Rattle.um_model.specs.Resolution.{Resolution, AtFile, AtNoFile, AtMask, Nowhere, unit_path, held_in, first_held, unless_to_template, held, is_mask, is_of_same_type, is_served_type, next_name, resolution_at, resolved, hop_limit, resolution_of, UnitFile, drop_in_folders, drop_in_at, drop_ins_in, drop_ins_of, files_at}
 use Rattle.um_model.specs.Tree.{Tree, Entry, File, Link, behind}
-use Rattle.um_model.specs.Units.{Found, source_of, loading_by_file, without_install, unit_by, loading_at, load}
+use Rattle.um_model.specs.Units.{Found, source_of, loading_by_file, unit_by, loading_at, load}
 use Rattle.um_model.specs.declared.tree.Layer.{Layer}
 use Rattle.um_model.specs.declared.tree.Layer.TheVariants.{Etc, Run, Lib}
 use Rattle.um_model.proofs.NamesLaws.{is_unit_name-template}
+use Rattle.um_model.proofs.Forms.{of_same_type, drop_in_named}
+use Rattle.um_model.proofs.FileForms.{without_install}
 
 -- ---- drop-ins: a link is none
 
@@ -31,7 +33,7 @@ HasNoFile o = (text : List ℕ) → o ≢ Some (File text)
 
 -- a link in the place of a link, or of nothing, adds and takes no drop-in
 module _ (folder path target : List ℕ) where
-  abbrev drop_ins : Entries → List DropIn
+  abbrev drop_ins : Entries → List (List ℕ × UnitFile)
   drop_ins = flat_map (drop_in_at folder)
 
   abbrev chosen : Ordering → Entries → Entries → Entries → Entries
@@ -113,11 +115,11 @@ module _ (u tree : Tree) (same : LooksAs u tree) where
 
   same_drop_ins : (unit : List ℕ) → drop_ins_of u unit ≡ drop_ins_of tree unit
   unfolding drop_ins_of
-  same_drop_ins unit = λ i. map.values (drop_ins_by_file (flat_map (λ folder. same.drop_ins folder i) (drop_in_folders unit)))
+  same_drop_ins unit = λ i. map.from_entries (flat_map (λ folder. same.drop_ins folder i) (drop_in_folders unit))
 
   same_files : (r : Resolution) → files_at u r ≡ files_at tree r
-  same_files (AtFile unit path text) = ap (λ ds. record { path = path; text = text } ∷ each file_of_drop_in ds) (same_drop_ins unit)
-  same_files (AtNoFile unit) = ap (each file_of_drop_in) (same_drop_ins unit)
+  same_files (AtFile unit path text) = ap (λ ds. record { path = path; text = text } ∷ map.values ds) (same_drop_ins unit)
+  same_files (AtNoFile unit) = ap map.values (same_drop_ins unit)
   same_files (AtMask unit) = refl
   same_files Nowhere = refl
 

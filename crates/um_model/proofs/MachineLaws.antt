@@ -1,11 +1,10 @@
 -- A step has one outcome, but for the cycle that a refusal names; a run has one end, and runs join.
-use Rattle.std.proofs.Common.{ℕ, ◌≡◌, ◌≢◌, ◌⊎◌, ◌∙◌, List, [], ◌∷◌, ◌++◌, map as each, Option, Some, refl, sym, ap, subst, inl, inr, true≢false, arith}
+use Rattle.std.proofs.Common.{ℕ, ◌≡◌, ◌≢◌, ◌⊎◌, ◌∙◌, List, [], ◌∷◌, ◌++◌, map as each, Option, Some, None, refl, sym, ap, subst, inl, inr, true≢false, arith}
 use Rattle.std.proofs.lemmas.Option.{none-some, same_Some}
 use Rattle.std.specs.FinMap as map
 use Rattle.std.specs.FinMap.{slice_cmp-IsAntisymmetric, nat_cmp-IsAntisymmetric}
 use Rattle.std.specs.Cmp.Lexicographic.{nat_list_cmp_total}
-use Rattle.um_model.specs.Alike.{NamesACycle, AlikeBut, the_same, both_name, IsSameOutcome}
-use Rattle.um_model.specs.Refusals.{Refused, FirstCause, at_first, at_second}
+use Rattle.um_model.specs.Refusals.{Refused, FirstCause, at_first, at_second, ordering_cycle}
 use Rattle.um_model.specs.Tree.{Tree, put_file, put_link, remove_at}
 use Rattle.um_model.specs.Least.{IsNamedBefore}
 use Rattle.um_model.specs.Service.{Action, ByUnit, state_of_unit}
@@ -13,7 +12,7 @@ use Rattle.um_model.specs.Jobs.{Job, IsReady, IsToldBefore, by_name, stop_first,
 use Rattle.um_model.specs.Plan.{IsPlan, CausesOfPlan, NamesCycle, units_of}
 use Rattle.um_model.specs.Timers.{Timers}
 use Rattle.um_model.specs.Transitions.{HasNumber}
-use Rattle.um_model.specs.Machine.{State, Command, ResetFailed, Happening, ProcessEnded, ProcessExecuted, Tick, Booted, Event, Input, Reply, EnabledAs, Listed, Refusal, Query, IsReplyTo, shows, tells_activity, tells_failure, tells_files, tells_enabling, unit_listed, lists_units, lists_jobs, Becomes, alone, along, Carries, change_of, acting_in, around, FallsWith, AreFalling, FallDown, all_told, told_next, Happens, happens, begins, begun, IsBefore, Settles, begins_next, IsProcessOf, AreDeadlines, end_of, Restarts, has_a_job, closes_a_circle, ComesDue, restarts, Fires, none_due, fires, AwaitsReport, IsHeld, IsHeldOr, scene_at, IsCrowded, IsNotThere, IsMissing, HasNoPlan, HasNoneWaiting, CausesOfCancel, CausesOf, CausesOfLoad, LoadsNone, active_asked, demand_of, unit_asked, Refuses, puts_none, links_none, removes_none, plans_none, cancels_none, resets_none, reloads_none, installs_none, Changes, puts, links, removes, reloads, plans, demands_nothing, cancels, installs, units_reset, AreReset, all_reset, reset_next, Does, changes, resets, Follows, ends, reports, ticks, boots, HasNoEffect, is_over, isnt_awaited, is_idle, is_known, Takes, obeys, meets, HasNoRoom, moment_of, Step, refused, crowded_out, idle, taken, reply_after, Run, goes}
+use Rattle.um_model.specs.Machine.{State, Command, PutFile, PutLink, Remove, DaemonReload, ForUnit, Cancel, ResetFailed, Install, Happening, ProcessEnded, ProcessExecuted, Tick, Booted, Event, Input, Reply, EnabledAs, Listed, Refusal, Query, IsReplyTo, shows, tells_activity, tells_failure, tells_files, tells_enabling, unit_listed, lists_units, lists_jobs, Becomes, alone, along, Carries, change_of, settings_in, around, FallsWith, AreByName, FallDown, all_told, told_next, Happens, happens, begins, begun, IsBefore, Settles, begins_next, IsProcessOf, AreDeadlines, end_of, Restarts, isnt_put, ComesDue, restarts, Fires, none_due, fires, AwaitsReport, IsHeld, IsHeldOr, scene_at, IsCrowded, IsNotThere, IsMissing, HasNoPlan, HasNoneWaiting, CausesOfLoad, LoadsNone, active_asked, demand_of, unit_asked, Refuses, Changes, puts, links, removes, reloads, plans, demands_nothing, cancels, installs, units_reset, AreReset, all_reset, reset_next, Does, changes, resets, Follows, ends, reports, ticks, boots, HasNoEffect, is_over, isnt_awaited, is_idle, is_known, TakesEffect, obeys, meets, HasNoRoom, moment_of, Step, refused, crowded_out, idle, taken, reply_after, Run, goes}
 use Rattle.um_model.specs.declared.commands.JobMode.{JobMode}
 use Rattle.um_model.specs.declared.commands.UnitVerb.{UnitVerb}
 use Rattle.um_model.specs.declared.dependencies.Demand.{Demand}
@@ -32,9 +31,25 @@ use Rattle.um_model.proofs.CausesLaws.{same_ok, same_err, one_first}
 use Rattle.um_model.proofs.LeastLaws.{one_least}
 use Rattle.um_model.proofs.PlannedLaws.{one_plan}
 use Rattle.um_model.proofs.PlannedLaws as planned
+use Rattle.um_model.proofs.RefusesLaws.{missing_there}
 use Rattle.um_model.proofs.SceneLaws.{finite_scene, one_list_by_name, one_list_of_known}
 use Rattle.um_model.proofs.TransitionLaws.{same_actions}
 use Rattle.um_model.proofs.TimersLaws.{one_due_first, same_name, names_one_way}
+
+-- a refusal names a cycle
+abbrev pub NamesACycle : Refused → Type 0
+NamesACycle r = (units : List (List ℕ)) × (r ≡ ordering_cycle units)
+
+-- two replies are the same, or both are refusals that name a cycle
+pub data AlikeBut : Reply → Reply → Type 0 where
+  the_same : {r q : Reply} → r ≡ q → AlikeBut r q
+  both_name : {r q : Refused} → NamesACycle r → NamesACycle q → AlikeBut (Refusal r) (Refusal q)
+
+-- two outcomes are one, but for the cycle that a refusal names
+pub record IsSameOutcome (r q : Reply) (a b : List Action) (s t : State) : Type 0 where
+  pub reply : AlikeBut r q
+  pub actions : a ≡ b
+  pub state : s ≡ t
 
 -- ---- refusals
 
@@ -57,22 +72,22 @@ names_a_cycle Before pending r h = (units_of h.cycle, h.refusal)
 -- a change of a unit has one end
 pub one_becomes : (s : State) (unit : List ℕ) (c : Change) (v w : State) → Becomes s unit c v → Becomes s unit c w → v ≡ w
 one_becomes s unit c v w (alone holds) (alone too) = refl
-one_becomes s unit c v w (alone holds) (along fails h) = absurd (true≢false (sym fails ∙ holds))
-one_becomes s unit c v w (along fails h) (alone holds) = absurd (true≢false (sym fails ∙ holds))
+one_becomes s unit c v w (alone holds) (along fails h) = absurd (holds fails)
+one_becomes s unit c v w (along fails h) (alone holds) = absurd (holds fails)
 one_becomes s unit c v w (along fails h) (along too k) = one_along _ unit v w h k
 
 -- what happens to a unit is carried out in one way
 pub one_carried : (t : ℕ) (unit : List ℕ) (event : UnitEvent) (s : State) (a b : List Action) (v w : State)
     → Carries t unit event s a v → Carries t unit event s b w → (a ≡ b) × (v ≡ w)
 one_carried t unit event s a b v w h k = (
-  same_actions (acting_in s.loaded unit).settings (around t s unit) (change_of t s unit event).unit (change_of t s unit event).order a b h.asked k.asked,
+  same_actions (settings_in s.loaded unit) (around t s unit) (change_of t s unit event).unit (change_of t s unit event).order a b h.asked k.asked,
   one_becomes s unit (change_of t s unit event) v w h.state k.state,
 )
 
 -- ---- the units that fall with one
 
 -- they are one list
-pub one_falling : (s u : State) (unit : List ℕ) (xs ys : List (List ℕ)) → AreFalling s u unit xs → AreFalling s u unit ys → xs ≡ ys
+pub one_falling : (s u : State) (unit : List ℕ) (xs ys : List (List ℕ)) → AreByName (FallsWith s u unit) xs → AreByName (FallsWith s u unit) ys → xs ≡ ys
 one_falling s u unit xs ys h k = one_list_by_name (FallsWith s u unit) xs ys h.each k.each h.sorted k.sorted
 
 -- they are told to stop to one end, with one list of actions
@@ -82,7 +97,7 @@ one_fall t units s a b v w all_told all_told = (refl, refl)
 one_fall t (unit ∷ units) s a b v w (told_next {falling = falling} {u = u} {first = first} {more = more} h are k)
     (told_next {falling = others} {u = x} {first = other} {more = rest} g too l) =
     let both = one_carried t unit BoundStop s first other u x h g in
-    let same = one_falling s u unit others falling (subst (λ y. AreFalling s y unit others) (sym both.1) too) are in
+    let same = one_falling s u unit others falling (subst (λ y. AreByName (FallsWith s y unit) others) (sym both.1) too) are in
     let later = one_fall t (falling ++ units) u more rest v w k
     (subst (λ y. FallDown t (y ++ units) u rest w) same (subst (λ y. FallDown t (others ++ units) y rest w) (sym both.1) l)) in
     (ap (λ q. q ++ more) both.0 ∙ ap (λ q. other ++ q) later.0, later.1)
@@ -93,7 +108,7 @@ pub one_happened : (t : ℕ) (unit : List ℕ) (event : UnitEvent) (s : State) (
 one_happened t unit event s a b v w (happens {falling = falling} {u = u} {first = first} {more = more} h are k)
     (happens {falling = others} {u = x} {first = other} {more = rest} g too l) =
     let both = one_carried t unit event s first other u x h g in
-    let same = one_falling s u unit others falling (subst (λ y. AreFalling s y unit others) (sym both.1) too) are in
+    let same = one_falling s u unit others falling (subst (λ y. AreByName (FallsWith s y unit) others) (sym both.1) too) are in
     let later = one_fall t falling u more rest v w k (subst (λ y. FallDown t y u rest w) same (subst (λ y. FallDown t others y rest w) (sym both.1) l)) in
     (ap (λ q. q ++ more) both.0 ∙ ap (λ q. other ++ q) later.0, later.1)
 
@@ -149,20 +164,15 @@ one_deadlines units a b h k =
 -- an automatic restart puts one job or none
 pub one_restart : (s : State) (unit : List ℕ) (v w : State) → Restarts s unit v → Restarts s unit w → v ≡ w
 one_restart s unit v w (Restarts.puts none free) (Restarts.puts too also) = refl
-one_restart s unit v w (Restarts.puts none free) (has_a_job some) = absurd (some none)
-one_restart s unit v w (Restarts.puts none free) (closes_a_circle cycle too closed) = absurd (free cycle closed)
-one_restart s unit v w (has_a_job some) (Restarts.puts none free) = absurd (some none)
-one_restart s unit v w (has_a_job some) (has_a_job too) = refl
-one_restart s unit v w (has_a_job some) (closes_a_circle cycle none closed) = refl
-one_restart s unit v w (closes_a_circle cycle none closed) (Restarts.puts too free) = absurd (free cycle closed)
-one_restart s unit v w (closes_a_circle cycle none closed) (has_a_job some) = refl
-one_restart s unit v w (closes_a_circle cycle none closed) (closes_a_circle other too also) = refl
+one_restart s unit v w (Restarts.puts none free) (isnt_put not) = absurd (not (none, free))
+one_restart s unit v w (isnt_put not) (Restarts.puts none free) = absurd (not (none, free))
+one_restart s unit v w (isnt_put not) (isnt_put too) = refl
 
 -- what comes of a deadline has one end, with one list of actions
 pub one_come_due : (t : ℕ) (s : State) (unit : List ℕ) (a b : List Action) (v w : State) → ComesDue t s unit a v → ComesDue t s unit b w → (a ≡ b) × (v ≡ w)
 one_come_due t s unit a b v w (restarts is h) (restarts too k) = (refl, one_restart s unit v w h k)
-one_come_due t s unit a b v w (restarts is h) (ComesDue.passes isnt k) = absurd (true≢false (sym is ∙ isnt))
-one_come_due t s unit a b v w (ComesDue.passes isnt h) (restarts is k) = absurd (true≢false (sym is ∙ isnt))
+one_come_due t s unit a b v w (restarts is h) (ComesDue.passes isnt k) = absurd (isnt is)
+one_come_due t s unit a b v w (ComesDue.passes isnt h) (restarts is k) = absurd (isnt is)
 one_come_due t s unit a b v w (ComesDue.passes isnt h) (ComesDue.passes too k) = one_happened t unit DeadlinePasses s a b v w h k
 
 -- a tick has one end, with one list of actions
@@ -231,10 +241,10 @@ module _ (s : State) (verb : UnitVerb) (asked : List ℕ) where
       first_but _ _ (plan_in_one_way h.demand mode h.after) (one_crowded s.loaded (IsHeld (record s { pending = h.after }))) r q h.cause
       (subst (λ x. CausesWith mode h.demand x q) (sym same.1) (subst (λ x. CausesWith mode x k.after q) (sym same.0) k.cause))
 
-one_planned : (s : State) (verb : UnitVerb) (asked : List ℕ) (mode : JobMode) → AreOneBut (CausesOf s verb asked mode)
+one_planned : (s : State) (verb : UnitVerb) (asked : List ℕ) (mode : JobMode) → AreOneBut (Refuses s (ForUnit verb asked mode))
 one_planned s verb asked mode =
     first_but _ _ (one_crowded s.loaded (IsHeldOr s (unit_asked s asked)))
-    (first_but (IsNotThere s verb asked) (HasNoPlan s verb asked mode) (λ r q h k. inl (h.missing.refusal ∙ sym k.missing.refusal)) (refused_in_one_way s verb asked mode))
+    (first_but (IsNotThere s verb asked) (HasNoPlan s verb asked mode) (λ r q h k. inl ((missing_there h).refusal ∙ sym (missing_there k).refusal)) (refused_in_one_way s verb asked mode))
 
 one_loaded : (s : State) (tree : Tree) → AreOneBut (CausesOfLoad s tree)
 one_loaded s tree = first_but _ _ (one_crowded tree (IsHeld s)) (one_cycle (IsBefore tree) s.pending)
@@ -243,20 +253,21 @@ one_unloaded : (s : State) (verb : InstallVerb) (unit : List ℕ) → AreOneBut 
 one_unloaded s verb unit r q h k =
     one_loaded s h.tree r q h.cause (subst (λ x. CausesOfLoad s x q) (one_install s.tree verb unit k.tree h.tree k.installs h.installs) k.cause)
 
-one_cancelled : (s : State) (asked : List ℕ) (r q : Refused) → CausesOfCancel s asked r → CausesOfCancel s asked q → r ≡ q
+one_cancelled : (s : State) (asked : List ℕ) (r q : Refused) → Refuses s (Cancel asked) r → Refuses s (Cancel asked) q → r ≡ q
 one_cancelled s asked =
     one_first (IsMissing s asked) (HasNoneWaiting s asked) (λ r q h k. h.refusal ∙ sym k.refusal) (λ r q h k. h.refusal ∙ sym k.refusal)
 
 -- a command has one refusal, but for the cycle that it names
 pub one_refusal : (s : State) (command : Command) (r q : Refused) → Refuses s command r → Refuses s command q → (r ≡ q) ⊎ (NamesACycle r × NamesACycle q)
-one_refusal s command r q (puts_none {path = path} {text = text} e) (puts_none f) = inl (same_err (put_file s.tree path text) r q e f)
-one_refusal s command r q (links_none {path = path} {target = target} e) (links_none f) = inl (same_err (put_link s.tree path target) r q e f)
-one_refusal s command r q (removes_none {path = path} e) (removes_none f) = inl (same_err (remove_at s.tree path) r q e f)
-one_refusal s command r q (plans_none {verb = verb} {asked = asked} {mode = mode} h) (plans_none k) = one_planned s verb asked mode r q h k
-one_refusal s command r q (cancels_none {asked = asked} h) (cancels_none k) = inl (one_cancelled s asked r q h k)
-one_refusal s command r q (resets_none h) (resets_none k) = inl (h.refusal ∙ sym k.refusal)
-one_refusal s command r q (reloads_none h) (reloads_none k) = one_loaded s s.tree r q h k
-one_refusal s command r q (installs_none {verb = verb} {unit = unit} h) (installs_none k) =
+one_refusal s (PutFile path text) r q e f = inl (same_err (put_file s.tree path text) r q e f)
+one_refusal s (PutLink path target) r q e f = inl (same_err (put_link s.tree path target) r q e f)
+one_refusal s (Remove path) r q e f = inl (same_err (remove_at s.tree path) r q e f)
+one_refusal s DaemonReload r q h k = one_loaded s s.tree r q h k
+one_refusal s (ForUnit verb asked mode) r q h k = one_planned s verb asked mode r q h k
+one_refusal s (Cancel asked) r q h k = inl (one_cancelled s asked r q h k)
+one_refusal s (ResetFailed (Some asked)) r q h k = inl (h.refusal ∙ sym k.refusal)
+one_refusal s (ResetFailed None) r q h k = absurd h
+one_refusal s (Install verb unit) r q h k =
     first_but _ _ (λ x y g l. inl (one_install_refusal s.tree verb unit x y g l)) (one_unloaded s verb unit) r q h k
 
 -- and changes the state in one way
@@ -347,7 +358,7 @@ pub boot_has_effect : (t : ℕ) (s : State) (boot : List ℕ) → boot ≢ s.boo
 boot_has_effect t s boot other (is_known same) = other same
 
 -- an event has one effect, with one list of actions
-pub one_taken : (t : ℕ) (s : State) (event : Event) (a b : List Action) (v w : State) → Takes t s event a v → Takes t s event b w → (a ≡ b) × (v ≡ w)
+pub one_taken : (t : ℕ) (s : State) (event : Event) (a b : List Action) (v w : State) → TakesEffect t s event a v → TakesEffect t s event b w → (a ≡ b) × (v ≡ w)
 one_taken t s event a b v w (obeys {command = command} {first = first} {more = more} {u = u} free h k) (obeys {first = other} {more = rest} {u = x} also g l) =
     let done = one_done t s command first other u x h g in
     let later = one_settled t u more rest v w k (subst (λ i. Settles t i rest w) (sym done.1) l) in

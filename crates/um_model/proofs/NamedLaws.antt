@@ -3,19 +3,24 @@ use Rattle.std.proofs.Common.{ℕ, zero, suc, ◌≡◌, Bool, true, false, cond
 use Rattle.std.specs.Option.{option_map_or}
 use Rattle.std.proofs.lemmas.Bool.{and_parts}
 use Rattle.std.proofs.lemmas.Option.{none-some, same_Some}
+use Rattle.std.specs.Str.{bytes_eq}
 use Rattle.um_model.specs.Install.{install_of}
 use Rattle.um_model.specs.Names.{suffix_of, is_unit_name, named}
 use Rattle.std.specs.Result.{result_ok}
-use Rattle.um_model.specs.Readings.{Reading, then_read, text_reading, unit_reading, unit_readings, names_reading, names_said}
-use Rattle.um_model.specs.Resolution.{Resolution, AtFile, AtNoFile, AtMask, Nowhere, held, is_mask, is_of_same_type, is_served_type, needs_no_file, of_same_type, next_name, resolution_at, resolved, hop_limit, resolution_of}
+use Rattle.um_model.specs.Readings.{text_reading, names_reading, read_if}
+use Rattle.um_model.specs.Results.{◌and_then◌}
+use Rattle.um_model.specs.Resolution.{Resolution, AtFile, AtNoFile, AtMask, Nowhere, held, is_mask, is_of_same_type, is_served_type, shutdown_target, next_name, resolution_at, resolved, hop_limit, resolution_of}
 use Rattle.um_model.specs.Tree.{Tree, Entry, File, Link}
-use Rattle.um_model.specs.Units.{Source, Assigned, assignments_in, names_of, unit_by, found_unless, loading_at, sources_at, load, name_in, unit_named, InstallSettings, nothing_installed, is_alias_for, install_settings_of}
+use Rattle.um_model.specs.Units.{Source, Assigned, assignments_in, names_of, unit_by, loading_at, sources_at, load, name_in, unit_named, InstallSettings, nothing_installed, is_alias_for, install_settings_of}
 use Rattle.um_model.specs.Words.{words_of}
 use Rattle.um_model.specs.declared.warnings.WarningKind.{WarningKind}
 use Rattle.um_model.specs.declared.warnings.WarningKind.TheVariants.{UnreadableValue}
 use Rattle.um_model.specs.declared.words.WordRules.TheVariants.{Names}
+use Rattle.um_model.proofs.Forms.{found_unless, of_same_type}
 use Rattle.um_model.proofs.AmongLaws.{from_map, from_flat_map, from_filter_map}
 use Rattle.um_model.proofs.LeastLaws.{Among}
+use Rattle.um_model.proofs.FileForms.{Meaning, names_said}
+use Rattle.um_model.proofs.FileForms.{unit_reading}
 
 -- ---- where a name leads
 
@@ -45,7 +50,7 @@ module _ (unit : List ℕ) (is : is_unit_name unit ≡ true) (follow : List ℕ 
   at_link target false = followed_name _ _ _ refl refl
 
   at_held : (o : Option (List ℕ × Entry)) → HasName (resolution_at unit o follow)
-  at_held None = at_nothing (needs_no_file unit)
+  at_held None = at_nothing (bytes_eq unit shutdown_target)
   at_held (Some (path, File [])) = is
   at_held (Some (path, File (b ∷ bs))) = is
   at_held (Some (path, Link target)) = at_link target (is_mask target)
@@ -84,11 +89,11 @@ read_name : (fits : List ℕ → Bool) (text name : List ℕ) (b : Bool) (warnin
 read_name fits text name true warning e f = subst (λ t. fits t ≡ true) (same_Some text name f) e
 read_name fits text name false warning e f = absurd (none-some name f)
 
-name_of_word : (fits : List ℕ → Bool) (unit word name : List ℕ) (o : Reading (List ℕ)) → text_reading unit word ≡ o → result_ok (unit_reading fits unit word) ≡ Some name → fits name ≡ true
+name_of_word : (fits : List ℕ → Bool) (unit word name : List ℕ) (o : Meaning (List ℕ)) → text_reading unit word ≡ o → result_ok (unit_reading fits unit word) ≡ Some name → fits name ≡ true
 name_of_word fits unit word name (Err warning) e f =
-    absurd (none-some name (sym (ap (λ r. result_ok (then_read r (λ text. cond (fits text) (Ok text) (Err UnreadableValue)))) e) ∙ f))
+    absurd (none-some name (sym (ap (λ r. result_ok (r and_then read_if fits)) e) ∙ f))
 name_of_word fits unit word name (Ok text) e f =
-    read_name fits text name (fits text) UnreadableValue refl (sym (ap (λ r. result_ok (then_read r (λ text. cond (fits text) (Ok text) (Err UnreadableValue)))) e) ∙ f)
+    read_name fits text name (fits text) UnreadableValue refl (sym (ap (λ r. result_ok (r and_then read_if fits)) e) ∙ f)
 
 -- what is named fits
 names_fit : (fits : List ℕ → Bool) (unit : List ℕ) (values : List (List ℕ)) (name : List ℕ) → Among (names_of fits unit values) name → fits name ≡ true
@@ -97,7 +102,7 @@ names_fit fits unit values name is =
     let value = from_flat_map (names_said fits unit) values name is in
     by_words value.0 (words_of Names value.0) value.2
   where
-    by_words : (value : List ℕ) (o : Option (List (List ℕ))) → Among (filter_map result_ok (unit_readings fits unit o)) name → fits name ≡ true
+    by_words : (value : List ℕ) (o : Option (List (List ℕ))) → Among (filter_map result_ok (option_map_or (map (unit_reading fits unit)) o (Err UnreadableValue ∷ []))) name → fits name ≡ true
     by_words value None none = absurd none
     by_words value (Some words) is =
         let reading = from_filter_map result_ok (map (unit_reading fits unit) words) name is in

@@ -8,9 +8,10 @@ use Rattle.std.proofs.lemmas.List.{reverse-append, reverse-reverse}
 use Rattle.std.proofs.lemmas.List.Prefix.{end_rest}
 use Rattle.std.proofs.lemmas.Option.{none-some, same_Some}
 use Rattle.std.proofs.lemmas.Slice.Eq.{bytes_eq-Decides}
-use Rattle.um_model.specs.Names.{suffix_text, is_prefix_byte, is_instance_byte, NameParts, instance_text, name_text, is_fit_instance, AreFit, name_limit, IsNameOf, suffixes, ends_in, suffix_of, stem_before, stem_of, before_at, after_at, prefix_of, instance_of, is_stem, is_unit_name, suffix_text_of, with_instance, named, template_of}
+use Rattle.um_model.specs.Names.{suffix_text, is_prefix_byte, is_instance_byte, NameParts, name_text, AreFit, name_limit, IsNameOf, suffixes, suffix_of, stem_of, before_at, after_at, prefix_of, instance_of, is_stem, is_unit_name, suffix_text_of, with_instance, named, template_of}
 use Rattle.um_model.specs.declared.names.Suffix.{Suffix}
 use Rattle.um_model.specs.declared.names.Suffix.TheVariants.{Service, Socket, Device, Mount, Automount, Swap, Target, Path, Timer, Slice, Scope}
+use Rattle.um_model.proofs.Forms.{ends_in, stem_before, instance_text, is_fit_instance}
 
 -- A search in a list.
 

@@ -6,7 +6,7 @@ use Rattle.um_model.specs.Service.{Action, SpawnProcess, SendSignal, state_of_un
 use Rattle.um_model.specs.Settings.{ServiceSettings}
 use Rattle.um_model.specs.Timers.{Timers}
 use Rattle.um_model.specs.Transitions.{AreActions, nothing, spawn, signals, spawned, live_numbers}
-use Rattle.um_model.specs.Machine.{State, Command, Happening, Event, Input, Reply, Carries, Becomes, alone, along, change_of, acting_in, around, begins, begun, Happens, AreReset, Settles, begins_next, Changes, puts, links, removes, reloads, plans, demands_nothing, cancels, installs, Does, units_reset, end_of, Restarts, has_a_job, closes_a_circle, ComesDue, Fires, Follows, ends, reports, ticks, boots, Takes, obeys, meets, moment_of, Step, refused, crowded_out, idle, taken, Run, goes}
+use Rattle.um_model.specs.Machine.{State, Command, Happening, Event, Input, Reply, Carries, Becomes, alone, along, change_of, settings_in, around, begins, begun, Happens, AreReset, Settles, begins_next, Changes, puts, links, removes, reloads, plans, demands_nothing, cancels, installs, Does, units_reset, end_of, Restarts, isnt_put, ComesDue, Fires, Follows, ends, reports, ticks, boots, TakesEffect, obeys, meets, moment_of, Step, refused, crowded_out, idle, taken, Run, goes}
 use Rattle.um_model.specs.Numbers.{started_numbers, actions_in, AreNew}
 use Rattle.um_model.specs.declared.service.Signal as sent
 use Rattle.um_model.specs.declared.service.UnitState.{UnitState}
@@ -83,7 +83,7 @@ next_after s unit c v (along fails h) = ap (λ x. x.next) h.rest
 carried_counts : (t : ℕ) (unit : List ℕ) (event : UnitEvent) (s : State) (actions : List Action) (v : State) → Carries t unit event s actions v → Counts s actions v
 carried_counts t unit event s actions v h =
     subst (CountsUp s.next (started_numbers actions)) (sym (next_after s unit (change_of t s unit event) v h.state))
-    (asked_count (acting_in s.loaded unit).settings (around t s unit) (change_of t s unit event).unit (change_of t s unit event).order actions h.asked)
+    (asked_count (settings_in s.loaded unit) (around t s unit) (change_of t s unit event).unit (change_of t s unit event).order actions h.asked)
 
 happens_counts : (t : ℕ) (unit : List ℕ) (event : UnitEvent) (s : State) (actions : List Action) (v : State) → Happens t unit event s actions v → Counts s actions v
 happens_counts t = over_happening t Counts (λ s. no_more) (λ s u v first more. both_count s u v first more) (carried_counts t)
@@ -102,8 +102,7 @@ happened_counts t unit event s u v first more h k = both_count s u v first more 
 
 restarted_counts : (s : State) (unit : List ℕ) (v : State) → Restarts s unit v → Counts s [] v
 restarted_counts s unit v (Restarts.puts none free) = no_more
-restarted_counts s unit v (has_a_job one) = no_more
-restarted_counts s unit v (closes_a_circle cycle none closed) = no_more
+restarted_counts s unit v (isnt_put why) = no_more
 
 due_counts : (t : ℕ) (s : State) (unit : List ℕ) (actions : List Action) (v : State) → ComesDue t s unit actions v → Counts s actions v
 due_counts t s unit actions v (ComesDue.restarts is again) = restarted_counts s unit v again
@@ -138,7 +137,7 @@ followed_counts t s happening actions v (reports {first = first} {more = more} {
 followed_counts t s happening actions v (ticks timers are h) = fired_counts t timers s actions v h
 followed_counts t s happening actions v boots = no_more
 
-taken_counts : (t : ℕ) (s : State) (event : Event) (actions : List Action) (v : State) → Takes t s event actions v → Counts s actions v
+taken_counts : (t : ℕ) (s : State) (event : Event) (actions : List Action) (v : State) → TakesEffect t s event actions v → Counts s actions v
 taken_counts t s event actions v (obeys {command = command} {first = first} {more = more} {u = u} free does h) =
     both_count s u v first more (done_counts t s command first u does) (settled_counts t u more v h)
 taken_counts t s event actions v (meets {happening = happening} effect h) = followed_counts t s happening actions v h

@@ -3,15 +3,18 @@ use Rattle.std.proofs.Common.{◌≡◌, ◌⊎◌, ◌∙◌, ℕ, zero, suc, B
 use Rattle.std.specs.Option.{option_map_or}
 use Rattle.std.proofs.lemmas.Option.{none-some, same_Some}
 use Rattle.std.proofs.lemmas.Slice.Eq.{bytes_eq-Decides}
-use Rattle.um_model.specs.Dependencies.{loadable_of, loadable_in, has_defaults, shutdown_target, Gives, Declares, IsKnown, Depends, IsDeclared, PullsIn, Orders, Precedes}
+use Rattle.std.specs.Str.{bytes_eq}
+use Rattle.um_model.specs.Dependencies.{loadable_of, loadable_in, has_defaults, Gives, Declares, IsKnown, Depends, IsDeclared, PullsIn, Orders, Precedes}
 use Rattle.um_model.specs.Dependencies as model
 use Rattle.um_model.specs.Names.{is_template, is_unit_name, instance_of, suffix_of, suffix_text_of}
 use Rattle.um_model.specs.Reached.{first, next}
-use Rattle.um_model.specs.Resolution.{Resolution, AtFile, AtNoFile, AtMask, Nowhere, held, is_mask, is_of_same_type, is_served_type, needs_no_file, of_same_type, next_name, resolution_at, resolved, hop_limit, resolution_of, unit_in_target, with_instance_of}
+use Rattle.um_model.specs.Resolution.{Resolution, AtFile, AtNoFile, AtMask, Nowhere, held, is_mask, is_of_same_type, is_served_type, shutdown_target, next_name, resolution_at, resolved, hop_limit, resolution_of, unit_in_target, with_instance_of}
 use Rattle.um_model.specs.Tree.{Tree, Entry, File, Link}
-use Rattle.um_model.specs.Units.{LoadedUnit, Loading, Found, Masked, NotFound, BadSetting, assignments_in, reason_of, unit_by, found_unless, loading_at, sources_at, load, name_in, unit_named}
+use Rattle.um_model.specs.Units.{LoadedUnit, Loading, Found, Masked, NotFound, BadSetting, assignments_in, reason_of, unit_by, loading_at, sources_at, load, name_in, unit_named}
 use Rattle.um_model.specs.declared.dependencies.DependencyKind.{DependencyKind}
+use Rattle.um_model.specs.declared.dependencies.DependencyKind.TheVariants as kinds
 use Rattle.um_model.specs.declared.names.Suffix.{Suffix}
+use Rattle.um_model.proofs.Forms.{found_unless, of_same_type}
 use Rattle.um_model.proofs.NamesLaws.{suffix_of-append}
 
 -- ---- a unit's own name leads where each name leads that leads to the unit
@@ -67,7 +70,7 @@ module _ (tree : Tree) (unit : List ℕ) where
       by_hops (suc hops) = ap (λ x. resolution_at unit x (resolved hops tree)) at ∙ leads (resolved hops tree)
 
   module _ (follow : List ℕ → Resolution) (later : (other : List ℕ) → Returns tree other (follow other)) where
-    at_nothing : (b : Bool) → held tree unit ≡ None → needs_no_file unit ≡ b → Returns tree unit (cond b (AtNoFile unit) Nowhere)
+    at_nothing : (b : Bool) → held tree unit ≡ None → bytes_eq unit shutdown_target ≡ b → Returns tree unit (cond b (AtNoFile unit) Nowhere)
     at_nothing true at needs = stays_by None (AtNoFile unit) at (λ further. ap (λ b. cond b (AtNoFile unit) Nowhere) needs)
     at_nothing false at needs = tt
 
@@ -86,7 +89,7 @@ module _ (tree : Tree) (unit : List ℕ) where
     at_link path target false at mask = at_next (with_instance_of (instance_of unit) (unit_in_target target)) _ refl
 
     returns_at : (o : Option (List ℕ × Entry)) → held tree unit ≡ o → Returns tree unit (resolution_at unit o follow)
-    returns_at None at = at_nothing (needs_no_file unit) at refl
+    returns_at None at = at_nothing (bytes_eq unit shutdown_target) at refl
     returns_at (Some (path, File [])) at = stays_by (Some (path, File [])) (AtMask unit) at (λ further. refl)
     returns_at (Some (path, File (b ∷ bs))) at = stays_by (Some (path, File (b ∷ bs))) (AtFile unit path (b ∷ bs)) at (λ further. refl)
     returns_at (Some (path, Link target)) at = at_link path target (is_mask target) at refl
@@ -216,22 +219,35 @@ module _ (tree : Tree) (Other Extra : List ℕ → Type 0) where
   ending_anyhow : (a : List ℕ) (l : LoadedUnit) → IsKnown tree Extra l.name → loadable_in tree a ≡ Some l → has_defaults l ≡ true → Orders tree Extra l.name (unit_named tree shutdown_target)
   ending_anyhow a l known loadable defaults = model.ending known (loadable_by_own tree a l loadable) defaults
 
+-- both units of which one pulls the other in are known
+pulled_known : (tree : Tree) (Extra : List ℕ → Type 0) (x y : List ℕ) → PullsIn tree Extra x y → IsKnown tree Extra x × IsKnown tree Extra y
+pulled_known tree Extra x y p = known_by p.depends
+  where
+    both : (kind : DependencyKind) → Depends tree Extra kind x y → IsKnown tree Extra x × IsKnown tree Extra y
+    both kind d = (next d.known (model.owner d.gives), next d.known (model.other d.gives))
+
+    known_by : Depends tree Extra kinds.Wants x y ⊎ Depends tree Extra kinds.Requires x y → IsKnown tree Extra x × IsKnown tree Extra y
+    known_by (inl d) = both kinds.Wants d
+    known_by (inr d) = both kinds.Requires d
+
 module _ (tree : Tree) (Other Extra : List ℕ → Type 0) where
   pulled_anyhow : (x y : List ℕ) → IsKnown tree Extra x → PullsIn tree Other x y → PullsIn tree Extra x y
   pulled_anyhow x y known p = record {
-    holds = p.holds;
-    kind = p.kind;
-    wants = p.wants;
-    depends = depends_by_known tree Other Extra p.kind x y known p.depends;
+    target = p.target;
+    depends = pulled p.depends;
     accepts = p.accepts;
     too = p.too;
   }
+    where
+      pulled : Depends tree Other kinds.Wants x y ⊎ Depends tree Other kinds.Requires x y → Depends tree Extra kinds.Wants x y ⊎ Depends tree Extra kinds.Requires x y
+      pulled (inl d) = inl (depends_by_known tree Other Extra kinds.Wants x y known d)
+      pulled (inr d) = inr (depends_by_known tree Other Extra kinds.Requires x y known d)
 
   orders_anyhow : (x y : List ℕ) → IsKnown tree Extra x → IsKnown tree Extra y → Orders tree Other x y → Orders tree Extra x y
   orders_anyhow x y known too (model.declared d) = model.declared (declared_anyhow tree Other Extra x y known too d)
   orders_anyhow y x known too (model.pulled_in p isnt) =
       model.pulled_in (pulled_anyhow x y too p)
-      (λ d. isnt (declared_anyhow tree Extra Other x y (next p.depends.known (model.owner p.depends.gives)) (next p.depends.known (model.other p.depends.gives)) d))
+      (λ d. isnt (declared_anyhow tree Extra Other x y (pulled_known tree Other x y p).0 (pulled_known tree Other x y p).1 d))
   orders_anyhow _ _ known too (model.ending {a = a} {l = l} other loadable defaults) = ending_anyhow tree Other Extra a l known loadable defaults
 
   -- of two known units the one goes before the other where it does when other names are known

@@ -10,9 +10,9 @@ use Rattle.std.proofs.lemmas.List.{nil_from_length}
 use Rattle.std.proofs.lemmas.Map.Lookups.{exact_bytes}
 use Rattle.std.proofs.lemmas.Map.Views.{tells_apart}
 use Rattle.um_model.specs.Service.{ByUnit}
-use Rattle.um_model.specs.Jobs.{AreTidyJobs, JobShown, jobs, no_jobs, has_job, jobs_of_unit, job_shown, jobs_shown_of, jobs_shown}
+use Rattle.um_model.specs.Jobs.{AreTidyJobs, JobShown, jobs, no_jobs, has_job, jobs_of_unit, job_shown, jobs_shown_of, jobs_shown, with_job}
 use Rattle.um_model.specs.Spellings.{kind_tag}
-use Rattle.um_model.specs.StateSpellings.{job_of_fields, job_spelling, job_at, FitJob, pending_spelling, pending_at, FitPending, is_before_next, jobs_ascend, with_job, pending_of}
+use Rattle.um_model.specs.StateSpellings.{job_of_fields, job_spelling, job_at, pending_spelling, pending_at, FitPending, jobs_ascend, pending_of}
 use Rattle.um_model.specs.Bytes.{IsCanonical, FitList}
 use Rattle.um_model.proofs.SpellingsLaws.{canonical_unit_name, canonical_kind, canonical_job_state}
 use Rattle.um_model.proofs.BytesLaws.{canonical_form, canonical_only, canonical_pair, canonical_list, left_holds, right_holds, both_hold, lower, lower_all}
@@ -22,6 +22,7 @@ use Rattle.um_model.specs.declared.jobs.JobKind.{JobKind}
 use Rattle.um_model.specs.declared.jobs.JobKind.TheVariants.{Stop, Start}
 use Rattle.um_model.specs.declared.jobs.JobState.{JobState}
 use Rattle.um_model.specs.declared.jobs.UnitJobs.{UnitJobs}
+use Rattle.um_model.proofs.Forms.{FitJob, is_before_next}
 
 abbrev Entries : Type 0
 Entries = List (List ℕ × UnitJobs)

@@ -1,12 +1,12 @@
 -- Scenes that say the same of the units that are known: what is demanded in the one is what is demanded in the other, a plan of the one
 -- is a plan of the other, and both are refused for the same causes.
-use Rattle.std.proofs.Common.{◌≡◌, ◌↔◌, ◌∙◌, ℕ, List, Option, Some, refl, sym, subst}
-use Rattle.um_model.specs.Jobs.{Job, ComesBefore, DropsOne, GoesBefore, starts, stops, stops_then_starts, stops_then_starts_before, of_one_unit, jobs_of_unit}
-use Rattle.um_model.specs.Least.{IsLeast, IsNamedBefore}
+use Rattle.std.proofs.Common.{◌≡◌, ◌↔◌, ◌∙◌, ℕ, List, Option, Some, refl, sym, subst, inl, inr}
+use Rattle.um_model.specs.Jobs.{Job, ComesBefore, DropsOne, GoesBefore, starts, stops, stops_then_starts, stops_then_starts_before, of_one_unit, jobs_of_unit, jobs_for}
+use Rattle.um_model.specs.Least.{IsLeast, IsNamedBefore, NamesLeast}
 use Rattle.um_model.specs.Order.{IsCycle}
-use Rattle.um_model.specs.Plan.{CausesOfPlan, Clashes, Counts, Demands, IsBarred, IsPlan, IsStarted, NamesBarred, NamesClash, NamesCycle, NamesDrop, Scene}
-use Rattle.um_model.specs.Plan.{jobs_for, restarted, started, stopped, left}
-use Rattle.um_model.specs.Refusals.{Refused, FirstCause, at_first, at_second}
+use Rattle.um_model.specs.Plan.{CausesOfPlan, Clashes, Counts, Demands, IsBarred, IsPlan, IsStarted, NamesCycle, NamesDrop, Scene}
+use Rattle.um_model.specs.Plan.{restarted, started, stopped, left}
+use Rattle.um_model.specs.Refusals.{Refused, FirstCause, at_first, at_second, clash}
 use Rattle.um_model.specs.Service.{ByUnit}
 use Rattle.um_model.specs.declared.commands.JobMode.{JobMode}
 use Rattle.um_model.specs.declared.dependencies.Demand.{Demand}
@@ -68,10 +68,12 @@ module _ (IsKnown : List ℕ → Type 0) (root : Demand × List ℕ) (known : Is
         (λ i k. (λ e. sym (a.activity i k) ∙ e, λ e. a.activity i k ∙ e)) (λ i k. a.loadable i k) root known p d
 
     started_known : (x : List ℕ) → IsStarted s root x → IsKnown x
-    started_known x h = (demands_same (h.by, x) h.demanded).0
+    started_known x (inl h) = (demands_same (Start, x) h).0
+    started_known x (inr h) = (demands_same (Restart, x) h).0
 
     started_same : (x : List ℕ) → IsStarted s root x → IsStarted t root x
-    started_same x h = record { by = h.by; starting = h.starting; demanded = (demands_same (h.by, x) h.demanded).1 }
+    started_same x (inl h) = inl (demands_same (Start, x) h).1
+    started_same x (inr h) = inr (demands_same (Restart, x) h).1
 
     barred_same : (x : List ℕ) → IsBarred s root x → IsBarred t root x
     barred_same x h = record { started = started_same x h.started; refusal = h.refusal; cause = (a.cannot x (started_known x h.started) h.refusal).0 h.cause }
@@ -122,37 +124,42 @@ module _ (IsKnown : List ℕ → Type 0) (root : Demand × List ℕ) (known : Is
       jobs = λ x o c. let d = counts_same x o c in p.jobs x o d ∙ jobs_same x o d;
     }
 
-  named_barred : (s t : Scene) → AreAlike IsKnown s t → (r : Refused) → NamesBarred s root r → NamesBarred t root r
+  named_barred : (s t : Scene) → AreAlike IsKnown s t → (r : Refused) → NamesLeast (IsBarred s root) s.CannotStart r → NamesLeast (IsBarred t root) t.CannotStart r
   named_barred s t a r n = record {
-    unit = n.unit;
-    least = least_same (IsBarred s root) (IsBarred t root) (barred_same s t a) (barred_same t s (alike_back IsKnown s t a)) n.unit n.least;
-    cause = (a.cannot n.unit (started_known s t a n.unit n.least.has.started) r).0 n.cause;
+    name = n.name;
+    least = least_same (IsBarred s root) (IsBarred t root) (barred_same s t a) (barred_same t s (alike_back IsKnown s t a)) n.name n.least;
+    told = (a.cannot n.name (started_known s t a n.name n.least.has.started) r).0 n.told;
   }
 
-  named_clash : (s t : Scene) → AreAlike IsKnown s t → (r : Refused) → NamesClash s root r → NamesClash t root r
+  named_clash : (s t : Scene) → AreAlike IsKnown s t → (r : Refused) → NamesLeast (Clashes s root) (λ unit r. r ≡ clash unit) r → NamesLeast (Clashes t root) (λ unit r. r ≡ clash unit) r
   named_clash s t a r n = record {
-    unit = n.unit;
-    least = least_same (Clashes s root) (Clashes t root) (clashes_same s t a) (clashes_same t s (alike_back IsKnown s t a)) n.unit n.least;
-    refusal = n.refusal;
+    name = n.name;
+    least = least_same (Clashes s root) (Clashes t root) (clashes_same s t a) (clashes_same t s (alike_back IsKnown s t a)) n.name n.least;
+    told = n.told;
   }
 
   named_drop : (s t : Scene) → AreAlike IsKnown s t → (mode : JobMode) (after : ByUnit UnitJobs) (r : Refused) → NamesDrop mode s.pending after r → NamesDrop mode t.pending after r
   named_drop s t a mode after r n = record {
     fails = n.fails;
-    unit = n.unit;
-    least = least_same (λ u. DropsOne (jobs_of_unit s.pending u) (jobs_of_unit after u)) (λ u. DropsOne (jobs_of_unit t.pending u) (jobs_of_unit after u))
-        (drops_same s t a after) (drops_same t s (alike_back IsKnown s t a) after) n.unit n.least;
-    refusal = n.refusal;
+    names = record {
+      name = n.names.name;
+      least = least_same (λ u. DropsOne (jobs_of_unit s.pending u) (jobs_of_unit after u)) (λ u. DropsOne (jobs_of_unit t.pending u) (jobs_of_unit after u))
+          (drops_same s t a after) (drops_same t s (alike_back IsKnown s t a) after) n.names.name n.names.least;
+      told = n.names.told;
+    };
   }
 
   -- both are refused for the same causes
   pub causes_same : (s t : Scene) → AreAlike IsKnown s t → (mode : JobMode) (after : ByUnit UnitJobs) (r : Refused) → CausesOfPlan s root mode after r → CausesOfPlan t root mode after r
   causes_same s t a mode after r c =
       let b = alike_back IsKnown s t a in
-      first_same (NamesBarred s root) (FirstCause (NamesClash s root) (FirstCause (NamesDrop mode s.pending after) (NamesCycle s.IsBefore after)))
-      (NamesBarred t root) (FirstCause (NamesClash t root) (FirstCause (NamesDrop mode t.pending after) (NamesCycle t.IsBefore after)))
+      first_same (NamesLeast (IsBarred s root) s.CannotStart)
+      (FirstCause (NamesLeast (Clashes s root) (λ unit r. r ≡ clash unit)) (FirstCause (NamesDrop mode s.pending after) (NamesCycle s.IsBefore after)))
+      (NamesLeast (IsBarred t root) t.CannotStart)
+      (FirstCause (NamesLeast (Clashes t root) (λ unit r. r ≡ clash unit)) (FirstCause (NamesDrop mode t.pending after) (NamesCycle t.IsBefore after)))
       (named_barred s t a) (named_barred t s b)
-      (first_same (NamesClash s root) (FirstCause (NamesDrop mode s.pending after) (NamesCycle s.IsBefore after))
-      (NamesClash t root) (FirstCause (NamesDrop mode t.pending after) (NamesCycle t.IsBefore after)) (named_clash s t a) (named_clash t s b)
+      (first_same (NamesLeast (Clashes s root) (λ unit r. r ≡ clash unit)) (FirstCause (NamesDrop mode s.pending after) (NamesCycle s.IsBefore after))
+      (NamesLeast (Clashes t root) (λ unit r. r ≡ clash unit)) (FirstCause (NamesDrop mode t.pending after) (NamesCycle t.IsBefore after))
+      (named_clash s t a) (named_clash t s b)
       (first_same (NamesDrop mode s.pending after) (NamesCycle s.IsBefore after) (NamesDrop mode t.pending after) (NamesCycle t.IsBefore after)
       (named_drop s t a mode after) (named_drop t s b mode after) (cycle_same s t a after))) r c

@@ -3,12 +3,11 @@
 use Rattle.std.proofs.Common.{◌≡◌, ◌≢◌, ◌⊎◌, ◌∙◌, ℕ, List, ◌∷◌, ◌++◌, Option, Some, None, refl, sym, ap, subst, inl, inr}
 use Rattle.std.proofs.lemmas.Option.{none-some}
 use Rattle.std.specs.FinMap as map
-use Rattle.um_model.specs.Demands.{IsStarting, starts, restarts}
-use Rattle.um_model.specs.Jobs.{Job, AreTidyJobs, ComesBefore, DropsOne, drops, job_of, jobs_of_unit, no_jobs}
-use Rattle.um_model.specs.Least.{IsLeast, IsNamedBefore}
+use Rattle.um_model.specs.Jobs.{Job, AreTidyJobs, ComesBefore, DropsOne, drops, job_of, jobs_of_unit, no_jobs, jobs_for}
+use Rattle.um_model.specs.Least.{IsNamedBefore, NamesLeast}
 use Rattle.um_model.specs.Order.{IsCycle}
-use Rattle.um_model.specs.Plan.{BeginsWithLeast, CausesOfPlan, Clashes, Counts, Demands, IsActive, IsBarred, IsPlan, IsStarted, NamesBarred, NamesClash, NamesCycle, NamesDrop, Scene}
-use Rattle.um_model.specs.Plan.{jobs_for, restarted, started, stopped, left, units_of}
+use Rattle.um_model.specs.Plan.{BeginsWithLeast, CausesOfPlan, Clashes, Counts, Demands, IsActive, IsBarred, IsPlan, IsStarted, NamesCycle, NamesDrop, Scene}
+use Rattle.um_model.specs.Plan.{restarted, started, stopped, left, units_of}
 use Rattle.um_model.specs.Refusals.{Refused, FirstCause, at_first, at_second, clash, job_conflict, ordering_cycle}
 use Rattle.um_model.specs.Service.{ByUnit}
 use Rattle.um_model.specs.declared.commands.JobMode.{JobMode}
@@ -23,13 +22,13 @@ use Rattle.um_model.specs.declared.jobs.UnitJobs.{UnitJobs}
 use Rattle.um_model.specs.declared.service.ActiveState.{ActiveState}
 use Rattle.um_model.specs.declared.service.ActiveState.TheVariants.{Inactive, Activating, Active, Deactivating, Failed}
 use Rattle.um_model.proofs.AmongLaws.{among_left, among_right, both_decided, decided_as, either_decided}
-use Rattle.um_model.proofs.CausesLaws.{OneOrNone, first_or_none}
+use Rattle.um_model.proofs.CausesLaws.{OneOrNone, first_or_none, NoneOrLeast, named_or_none, one_named}
 use Rattle.um_model.proofs.CycleLaws.{held, jobs_cycle_or_none, least_unit_first}
 use Rattle.um_model.proofs.DemandedLaws.{demanded_or_not, demanded_within}
 use Rattle.um_model.proofs.GivenMaps.{a_job_map, not_held}
-use Rattle.um_model.proofs.LeastLaws.{IsDecided, Among, a_least, one_least}
+use Rattle.um_model.proofs.LeastLaws.{IsDecided, Among, a_least}
 use Rattle.um_model.proofs.SameUnits.{same_job_state}
-use Rattle.um_model.proofs.TimersLaws.{among_keys, named_trans, names_one_way, one_named_first, same_name, same_option}
+use Rattle.um_model.proofs.TimersLaws.{among_keys, named_trans, one_named_first, same_name, same_option}
 use Rattle.um_model.proofs.UnitLaws.{same_tidy}
 
 -- finitely many units depend on one another, what the scene says of them is decided, and a unit can't be started for one reason or none
@@ -79,10 +78,6 @@ none_counts scene root unit counted none (left nr ns np) = refl
 
 -- ---- why a plan is refused
 
--- none has it, or one is the least
-abbrev NoneOrLeast : (List ℕ → Type 0) → Type 0
-NoneOrLeast Has = ((unit : List ℕ) → ¬ (Has unit)) ⊎ ((unit : List ℕ) × IsLeast IsNamedBefore Has unit)
-
 least_or_none : (Has : List ℕ → Type 0) → ((unit : List ℕ) → IsDecided (Has unit)) → (cover : List (List ℕ)) → ((unit : List ℕ) → Has unit → Among cover unit) → NoneOrLeast Has
 least_or_none Has decided cover covers = a_least IsNamedBefore Has same_name named_trans one_named_first decided cover covers
 
@@ -128,16 +123,11 @@ drop_or_none Fail before after =
     (λ unit d. dropped_held before unit (jobs_of_unit after unit) d))
   where
     by_least : NoneOrLeast (DropsAt before after) → OneOrNone (NamesDrop Fail before after)
-    by_least (inl none) = inr (λ r h. none h.unit h.least.has)
-    by_least (inr found) = inl (job_conflict found.0, record { fails = refl; unit = found.0; least = found.1; refusal = refl })
+    by_least (inl none) = inr (λ r h. none h.names.name h.names.least.has)
+    by_least (inr found) = inl (job_conflict found.0, record { fails = refl; names = record { name = found.0; least = found.1; told = refl } })
 
 one_drop : (mode : JobMode) (before after : ByUnit UnitJobs) (r q : Refused) → NamesDrop mode before after r → NamesDrop mode before after q → r ≡ q
-one_drop mode before after r q h k =
-    h.refusal ∙ (ap job_conflict (one_least IsNamedBefore (DropsAt before after) names_one_way same_name h.unit k.unit h.least k.least) ∙ sym k.refusal)
-
-one_clash : (scene : Scene) (root : Demand × List ℕ) (r q : Refused) → NamesClash scene root r → NamesClash scene root q → r ≡ q
-one_clash scene root r q h k =
-    h.refusal ∙ (ap clash (one_least IsNamedBefore (Clashes scene root) names_one_way same_name h.unit k.unit h.least k.least) ∙ sym k.refusal)
+one_drop mode before after r q h k = one_named (DropsAt before after) (λ unit r. r ≡ job_conflict unit) (λ unit r q e f. e ∙ sym f) r q h.names k.names
 
 -- two refusals for the first cause that holds are the same, unless both are for the last
 one_unless : (A B C : Refused → Type 0) → ((r q : Refused) → A r → A q → r ≡ q) → ((r q : Refused) → B r → B q → (r ≡ q) ⊎ (C r × C q))
@@ -241,21 +231,11 @@ module _ (scene : Scene) (units : List (List ℕ)) (finite : IsFinite scene unit
   -- ---- one cause or none
 
   started_or_not : (unit : List ℕ) → IsDecided (IsStarted scene root unit)
-  started_or_not unit = decided_as there back (either_decided (demands_or_not (Start, unit)) (demands_or_not (Restart, unit)))
-    where
-      there : Demands scene root (Start, unit) ⊎ Demands scene root (Restart, unit) → IsStarted scene root unit
-      there (inl d) = record { by = Start; starting = starts; demanded = d }
-      there (inr d) = record { by = Restart; starting = restarts; demanded = d }
-
-      by_demand : (d : Demand) → IsStarting d → Demands scene root (d, unit) → Demands scene root (Start, unit) ⊎ Demands scene root (Restart, unit)
-      by_demand d starts h = inl h
-      by_demand d restarts h = inr h
-
-      back : IsStarted scene root unit → Demands scene root (Start, unit) ⊎ Demands scene root (Restart, unit)
-      back h = by_demand h.by h.starting h.demanded
+  started_or_not unit = either_decided (demands_or_not (Start, unit)) (demands_or_not (Restart, unit))
 
   started_within : (unit : List ℕ) → IsStarted scene root unit → Among (root.1 ∷ units) unit
-  started_within unit h = demands_within (h.by, unit) h.demanded
+  started_within unit (inl h) = demands_within (Start, unit) h
+  started_within unit (inr h) = demands_within (Restart, unit) h
 
   barred_or_not : (unit : List ℕ) → IsDecided (IsBarred scene root unit)
   barred_or_not unit = decided_as there back (both_decided (started_or_not unit) (one_or_not (finite.cannot unit)))
@@ -274,34 +254,25 @@ module _ (scene : Scene) (units : List (List ℕ)) (finite : IsFinite scene unit
   clashes_or_not unit =
       decided_as (λ both. record { started = both.0; stopped = both.1 }) (λ h. (h.started, h.stopped)) (both_decided (started_or_not unit) (demands_or_not (Stop, unit)))
 
-  barred_or_none : OneOrNone (NamesBarred scene root)
-  barred_or_none = by_least (least_or_none (IsBarred scene root) barred_or_not (root.1 ∷ units) (λ unit h. started_within unit h.started))
-    where
-      by_least : NoneOrLeast (IsBarred scene root) → OneOrNone (NamesBarred scene root)
-      by_least (inl none) = inr (λ r h. none h.unit h.least.has)
-      by_least (inr found) = inl (found.1.has.refusal, record { unit = found.0; least = found.1; cause = found.1.has.cause })
+  barred_or_none : OneOrNone (NamesLeast (IsBarred scene root) scene.CannotStart)
+  barred_or_none =
+      named_or_none (IsBarred scene root) scene.CannotStart (λ unit h. (h.refusal, h.cause))
+      (least_or_none (IsBarred scene root) barred_or_not (root.1 ∷ units) (λ unit h. started_within unit h.started))
 
-  clash_or_none : OneOrNone (NamesClash scene root)
-  clash_or_none = by_least (least_or_none (Clashes scene root) clashes_or_not (root.1 ∷ units) (λ unit h. started_within unit h.started))
-    where
-      by_least : NoneOrLeast (Clashes scene root) → OneOrNone (NamesClash scene root)
-      by_least (inl none) = inr (λ r h. none h.unit h.least.has)
-      by_least (inr found) = inl (clash found.0, record { unit = found.0; least = found.1; refusal = refl })
+  clash_or_none : OneOrNone (NamesLeast (Clashes scene root) (λ unit r. r ≡ clash unit))
+  clash_or_none =
+      named_or_none (Clashes scene root) (λ unit r. r ≡ clash unit) (λ unit h. (clash unit, refl))
+      (least_or_none (Clashes scene root) clashes_or_not (root.1 ∷ units) (λ unit h. started_within unit h.started))
 
   -- one cause refuses a plan, or none does
   pub cause_or_none : (mode : JobMode) (after : ByUnit UnitJobs) → OneOrNone (CausesOfPlan scene root mode after)
   cause_or_none mode after =
       first_or_none _ _ barred_or_none (first_or_none _ _ clash_or_none (first_or_none _ _ (drop_or_none mode scene.pending after) (cycle_or_no_refusal scene.IsBefore finite.before after)))
 
-  one_barred : (r q : Refused) → NamesBarred scene root r → NamesBarred scene root q → r ≡ q
-  one_barred r q h k =
-      let same = one_least IsNamedBefore (IsBarred scene root) names_one_way same_name k.unit h.unit k.least h.least in
-      finite.one_cannot h.unit r q h.cause (subst (λ unit. scene.CannotStart unit q) same k.cause)
-
   -- two refusals of a plan are the same, unless each names a cycle
   pub one_cause : (mode : JobMode) (after : ByUnit UnitJobs) (r q : Refused) → CausesOfPlan scene root mode after r → CausesOfPlan scene root mode after q
       → (r ≡ q) ⊎ (NamesCycle scene.IsBefore after r × NamesCycle scene.IsBefore after q)
   one_cause mode after =
-      one_unless _ _ (NamesCycle scene.IsBefore after) one_barred
-      (one_unless _ _ (NamesCycle scene.IsBefore after) (one_clash scene root)
+      one_unless _ _ (NamesCycle scene.IsBefore after) (one_named (IsBarred scene root) scene.CannotStart finite.one_cannot)
+      (one_unless _ _ (NamesCycle scene.IsBefore after) (one_named (Clashes scene root) (λ unit r. r ≡ clash unit) (λ unit r q e f. e ∙ sym f))
       (one_unless _ _ (NamesCycle scene.IsBefore after) (one_drop mode scene.pending after) (λ r q h k. inr (h, k))))

@@ -1,17 +1,19 @@
 -- A command is refused by a number up to 14, or by 21: the numbers of memory, of stores and of devices are not among them.
-use Rattle.std.proofs.Common.{ℕ, nat_lt, ◌≡◌, ◌⊎◌, inl, inr, ◌≤◌, Bool, true, false, not, List, ◌∷◌, [], length, Option, Some, None, is_none, Err, refl, sym, subst, arith}
+use Rattle.std.proofs.Common.{ℕ, nat_lt, ◌≡◌, ◌⊎◌, inl, inr, ◌≤◌, Bool, true, false, not, List, length, Option, Some, None, is_none, Err, refl, sym, subst, arith}
 use Rattle.std.specs.FinMap as map
 use Rattle.std.proofs.lemmas.Option.{none-some, same_Some}
-use Rattle.um_model.specs.Install.{CannotEnable, isnt_found, is_masked, has_bad_setting, lacks_instance, RefusesInstall, enables_none, masks_none}
+use Rattle.std.specs.Prelude.{cond}
+use Rattle.um_model.specs.Install.{HasTooMany, too_many, CannotEnable, isnt_found, is_masked, has_bad_setting, lacks_instance, RefusesInstall, enables_none, masks_none}
 use Rattle.um_model.specs.Machine as model
-use Rattle.um_model.specs.Machine.{State, Command, IsMissing, IsCrowded, CannotStart, HasNoPlan, CausesOf, CausesOfCancel, CausesOfLoad, LoadsNone, Refuses, scene_at, unit_asked}
-use Rattle.um_model.specs.Refusals.{Refused, bad_path, exists_at, too_large, no_room, FirstCause, at_first, at_second, cause, first_cause, unless_refused}
+use Rattle.um_model.specs.Machine.{State, Command, PutFile, PutLink, Remove, DaemonReload, ForUnit, Cancel, ResetFailed, Install, IsMissing, IsCrowded, CannotStart, HasNoPlan, CausesOfLoad, LoadsNone, Refuses, scene_at, unit_asked, IsNotThere, to_stop, to_try_restart}
+use Rattle.um_model.specs.Refusals.{Refused, bad_path, exists_at, too_large, no_room, FirstCause, at_first, at_second, unless_refused}
 use Rattle.um_model.specs.Tree.{Tree, File, Link, path_parts, is_served, is_link, is_other_than_link, is_fit_target, is_full_for, text_limit, put_cause, put_file, link_cause, put_link, remove_cause, remove_at}
 use Rattle.um_model.specs.Units.{Loading}
 use Rattle.um_model.specs.declared.commands.JobMode.{JobMode}
 use Rattle.um_model.specs.declared.commands.UnitVerb.{UnitVerb}
 use Rattle.um_model.specs.declared.install.InstallVerb.{InstallVerb}
 use Rattle.um_model.specs.declared.refusals.Limit.TheVariants.{Text, Entries, Units}
+use Rattle.um_model.proofs.Forms.{cause}
 
 -- the number of a refusal of a command
 abbrev pub IsOfCommand : Refused → Type 0
@@ -25,7 +27,7 @@ by_cause false q of r e = absurd (none-some r e)
 
 -- those of what is put into the tree
 by_causes : (a b c d : Bool) (path : List ℕ) (r : Refused)
-    → first_cause (cause a (bad_path path) ∷ cause b (exists_at path) ∷ cause c (too_large Text) ∷ cause d (too_large Entries) ∷ []) ≡ Some r → IsOfCommand r
+    → cond a (Some (bad_path path)) (cond b (Some (exists_at path)) (cond c (Some (too_large Text)) (cond d (Some (too_large Entries)) None))) ≡ Some r → IsOfCommand r
 by_causes true b c d path r e = by_cause true (bad_path path) (inl (omega arith)) r e
 by_causes false true c d path r e = by_cause true (exists_at path) (inl (omega arith)) r e
 by_causes false false true d path r e = by_cause true (too_large Text) (inl (omega arith)) r e
@@ -43,7 +45,7 @@ told q r of e = subst IsOfCommand (sym e) of
 
 -- and those of a link
 by_causes_of_link : (a b d : Bool) (path : List ℕ) (r : Refused)
-    → first_cause (cause a (bad_path path) ∷ cause b (exists_at path) ∷ cause d (too_large Entries) ∷ []) ≡ Some r → IsOfCommand r
+    → cond a (Some (bad_path path)) (cond b (Some (exists_at path)) (cond d (Some (too_large Entries)) None)) ≡ Some r → IsOfCommand r
 by_causes_of_link true b d path r e = by_causes true b false d path r e
 by_causes_of_link false true d path r e = by_causes false true false d path r e
 by_causes_of_link false false d path r e = by_causes false false false d path r e
@@ -85,6 +87,9 @@ enable_of unit _ _ is_masked = inl (omega arith)
 enable_of unit _ _ has_bad_setting = inl (omega arith)
 enable_of unit _ _ (lacks_instance none) = inl (omega arith)
 
+many_of : (tree : Tree) (asked : List ℕ) (r : Refused) → HasTooMany tree asked r → IsOfCommand r
+many_of tree asked r (too_many all many) = inl (omega arith)
+
 missing_of : (s : State) (asked : List ℕ) (r : Refused) → IsMissing s asked r → IsOfCommand r
 missing_of s asked r h = told _ r (inl (omega arith)) h.refusal
 
@@ -94,35 +99,40 @@ load_of s tree r = by_either _ _ r (crowded_of tree _ r) (λ h. told _ r (inl (o
 plan_of : (s : State) (verb : UnitVerb) (asked : List ℕ) (mode : JobMode) (r : Refused) → HasNoPlan s verb asked mode r → IsOfCommand r
 plan_of s verb asked mode r h =
     by_either _ _ r
-    (by_either _ _ r (λ barred. start_of _ _ r barred.cause)
-    (by_either _ _ r (λ clashes. told _ r (inl (omega arith)) clashes.refusal)
-    (by_either _ _ r (λ drops. told _ r (inl (omega arith)) drops.refusal) (λ circle. told _ r (inl (omega arith)) circle.refusal))))
+    (by_either _ _ r (λ barred. start_of _ _ r barred.told)
+    (by_either _ _ r (λ clashes. told _ r (inl (omega arith)) clashes.told)
+    (by_either _ _ r (λ drops. told _ r (inl (omega arith)) drops.names.told) (λ circle. told _ r (inl (omega arith)) circle.refusal))))
     (crowded_of s.loaded _ r) h.cause
 
-unit_of : (s : State) (verb : UnitVerb) (asked : List ℕ) (mode : JobMode) (r : Refused) → CausesOf s verb asked mode r → IsOfCommand r
-unit_of s verb asked mode r = by_either _ _ r (crowded_of s.loaded _ r) (by_either _ _ r (λ h. missing_of s asked r h.missing) (plan_of s verb asked mode r))
+pub missing_there : {s : State} {verb : UnitVerb} {asked : List ℕ} {r : Refused} → IsNotThere s verb asked r → IsMissing s asked r
+missing_there (to_stop h) = h
+missing_there (to_try_restart h) = h
 
-cancel_of : (s : State) (asked : List ℕ) (r : Refused) → CausesOfCancel s asked r → IsOfCommand r
+unit_of : (s : State) (verb : UnitVerb) (asked : List ℕ) (mode : JobMode) (r : Refused) → Refuses s (ForUnit verb asked mode) r → IsOfCommand r
+unit_of s verb asked mode r = by_either _ _ r (crowded_of s.loaded _ r) (by_either _ _ r (λ h. missing_of s asked r (missing_there h)) (plan_of s verb asked mode r))
+
+cancel_of : (s : State) (asked : List ℕ) (r : Refused) → Refuses s (Cancel asked) r → IsOfCommand r
 cancel_of s asked r = by_either _ _ r (missing_of s asked r) (λ h. told _ r (inr refl) h.refusal)
 
 install_of : (tree : Tree) (verb : InstallVerb) (unit : List ℕ) (r : Refused) → RefusesInstall tree verb unit r → IsOfCommand r
 install_of tree _ unit r (enables_none causes) =
-    by_either _ _ r (λ unfit. told _ r (inl (omega arith)) unfit.refusal)
-    (by_either _ _ r (λ occupied. told _ r (inl (omega arith)) occupied.refusal)
-    (by_either _ _ r (λ many. told _ r (inl (omega arith)) many.refusal) (λ barred. enable_of _ _ r barred.cause))) causes
+    by_either _ _ r (λ unfit. told _ r (inl (omega arith)) unfit.told)
+    (by_either _ _ r (λ occupied. told _ r (inl (omega arith)) occupied.told)
+    (by_either _ _ r (many_of tree _ r) (λ barred. enable_of _ _ r barred.told))) causes
 install_of tree _ unit r (masks_none e) = link_of tree _ _ r e
 
 -- ---- all commands
 
 pub refused_of_command : (s : State) (command : Command) (r : Refused) → Refuses s command r → IsOfCommand r
-refused_of_command s _ r (model.puts_none e) = put_of s.tree _ _ r e
-refused_of_command s _ r (model.links_none e) = link_of s.tree _ _ r e
-refused_of_command s _ r (model.removes_none e) = remove_of s.tree _ r e
-refused_of_command s _ r (model.plans_none {verb = verb} {asked = asked} {mode = mode} causes) = unit_of s verb asked mode r causes
-refused_of_command s _ r (model.cancels_none {asked = asked} causes) = cancel_of s asked r causes
-refused_of_command s _ r (model.resets_none {asked = asked} missing) = missing_of s asked r missing
-refused_of_command s _ r (model.reloads_none causes) = load_of s s.tree r causes
-refused_of_command s _ r (model.installs_none {verb = verb} {unit = unit} causes) = by_either _ _ r (install_of s.tree verb unit r) (λ h. load_of s h.tree r h.cause) causes
+refused_of_command s (PutFile path text) r e = put_of s.tree _ _ r e
+refused_of_command s (PutLink path target) r e = link_of s.tree _ _ r e
+refused_of_command s (Remove path) r e = remove_of s.tree _ r e
+refused_of_command s DaemonReload r causes = load_of s s.tree r causes
+refused_of_command s (ForUnit verb asked mode) r causes = unit_of s verb asked mode r causes
+refused_of_command s (Cancel asked) r causes = cancel_of s asked r causes
+refused_of_command s (ResetFailed (Some asked)) r missing = missing_of s asked r missing
+refused_of_command s (ResetFailed None) r none = absurd none
+refused_of_command s (Install verb unit) r causes = by_either _ _ r (install_of s.tree verb unit r) (λ h. load_of s h.tree r h.cause) causes
 
 -- nor is want of room
 pub no_room_of_command : IsOfCommand no_room

@@ -4,7 +4,7 @@ use Rattle.std.proofs.lemmas.Option.{none-some}
 use Rattle.std.specs.FinMap as map
 use Rattle.um_model.specs.Dependencies.{loadable_in, IsKnown, KnowsSoMany, CountsFor, owner, other}
 use Rattle.um_model.specs.Least.{IsNamedBefore}
-use Rattle.um_model.specs.Machine.{State, IsHeld, IsHeldOr, AreKnownUnits, scene_at, CannotStart, isnt_found, is_masked, has_bad_setting, is_a_template}
+use Rattle.um_model.specs.Machine.{State, IsHeld, IsHeldOr, AreByName, scene_at, CannotStart, isnt_found, is_masked, has_bad_setting, is_a_template}
 use Rattle.um_model.specs.Names.{is_template}
 use Rattle.um_model.specs.Reached.{next}
 use Rattle.um_model.specs.Refusals.{Refused}
@@ -145,7 +145,7 @@ one_list_by_name Has xs ys h k s t =
     (λ z there. among_contained xs z ((h z).1 ((k z).0 (contains_among ys z there))))
 
 -- the known units are one list
-pub one_list_of_known : (s : State) (xs ys : List (List ℕ)) → AreKnownUnits s xs → AreKnownUnits s ys → xs ≡ ys
+pub one_list_of_known : (s : State) (xs ys : List (List ℕ)) → AreByName (IsKnown s.loaded (IsHeld s)) xs → AreByName (IsKnown s.loaded (IsHeld s)) ys → xs ≡ ys
 one_list_of_known s xs ys h k = one_list_by_name (IsKnown s.loaded (IsHeld s)) xs ys h.each k.each h.sorted k.sorted
 
 -- just one number of units is known

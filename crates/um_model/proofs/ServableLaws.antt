@@ -7,11 +7,9 @@ use Rattle.std.specs.FinMap as map
 use Rattle.std.specs.Ordering.{nat_cmp}
 use mathlib.Core.HLevel.{Π_prop, ×₃_prop, ⊥_prop}
 use Rattle.um_model.specs.Dependencies.{IsKnown, KnowsSoMany, CountsFor}
-use Rattle.um_model.specs.Few.{IsFew}
-use Rattle.um_model.specs.Live.{IsFree}
-use Rattle.um_model.specs.Machine.{State, empty_state, Commanded, Happening, Happened, Event, Input, Reply, IsHeld, IsBefore, CausesOfLoad, IsTooHeavy, HasNoRoom, Takes, reply_after, moment_of, Step, taken}
+use Rattle.um_model.specs.Machine.{State, empty_state, Commanded, Happening, Happened, Event, Input, Reply, IsHeld, IsBefore, CausesOfLoad, IsTooHeavy, HasNoRoom, reply_after, moment_of, Step, taken, TakesEffect}
 use Rattle.um_model.specs.Refusals.{Refused, at_first, at_second}
-use Rattle.um_model.specs.Servable.{IsServable}
+use Rattle.um_model.specs.Servable.{IsFew, IsFree, IsServable}
 use Rattle.um_model.specs.Service.{Action}
 use Rattle.um_model.specs.Tree.{Entry}
 use Rattle.um_model.specs.Weight.{entry_weight, tree_weight}
@@ -100,7 +98,7 @@ step_light size s input reply actions t (Step.crowded_out h heavy) light = light
 step_light size s input reply actions t (Step.idle e) light = light
 step_light size s input reply actions t (taken {moment = moment} {event = event} {u = u} takes room) light = by event takes room
   where
-    by : (e : Event) → Takes (moment_of s moment) s e actions u → ¬ HasNoRoom size e u → ¬ IsTooHeavy size (record u { clock = moment_of s moment })
+    by : (e : Event) → TakesEffect (moment_of s moment) s e actions u → ¬ HasNoRoom size e u → ¬ IsTooHeavy size (record u { clock = moment_of s moment })
     by (Commanded command) takes room h = room (record { units = h.units; count = h.count; heavy = h.heavy })
     by (Happened happening) takes room h =
         happening_keeps_light size s moment happening (reply_after (Happened happening) s.tree u.tree) actions (record u { clock = moment_of s moment }) (taken takes room) light h

@@ -4,9 +4,10 @@ use Rattle.std.proofs.lemmas.Bool.{true≢false}
 use Rattle.um_model.specs.Frames.{frame_of, BeginsWith, BeginsTooLong}
 use Rattle.um_model.specs.Refusals.{too_large}
 use Rattle.um_model.specs.Requests.{request_of}
-use Rattle.um_model.specs.Sessions.{Session, Asked, Reads, waits, takes, refuses, Deed, Room, Feed, Read, Put, GiveUp, Take, Does, Lives, rests, goes_on, bytes_fed, asked_in, readings, frames_put, bytes_taken, none, frame, AreRead, whole, cut, IsReadOf}
+use Rattle.um_model.specs.Sessions.{Session, Asked, Reads, waits, takes, refuses, Deed, Room, Feed, Read, Put, GiveUp, Take, Does, Lives, rests, goes_on, bytes_fed, readings, frames_put, bytes_taken, none, frame, AreRead, whole, cut, IsReadOf}
 use Rattle.um_model.specs.declared.refusals.Limit.TheVariants.{Frame}
 use Rattle.um_model.specs.declared.requests.Mode.TheVariants.{Service}
+use Rattle.um_model.proofs.Forms.{asked_in}
 
 -- more bytes behind a stream leave its first frame
 begins_more : (stream bytes rest more : List ℕ) → BeginsWith stream bytes rest → BeginsWith (stream ++ more) bytes (rest ++ more)

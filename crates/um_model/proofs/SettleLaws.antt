@@ -13,13 +13,15 @@ use Rattle.um_model.specs.Jobs.{Job, no_jobs, stop_job, start_job, jobs_of_unit,
 use Rattle.um_model.specs.Order.{IsCycle}
 use Rattle.um_model.specs.Plan.{AreFree}
 use Rattle.um_model.specs.Timers.{Timers, IsDueFirst}
-use Rattle.um_model.specs.Machine.{State, begins, begun, IsBefore, IsStill, Settles, begins_next, AreReset, all_reset, reset_next, AreDeadlines, with_start_alone, Restarts, puts, has_a_job, closes_a_circle, awaits_restart, ComesDue, restarts, Fires, none_due, fires}
+use Rattle.um_model.specs.Machine.{State, begins, begun, IsBefore, IsStill, Settles, begins_next, AreReset, all_reset, reset_next, AreDeadlines, with_start_alone, Restarts, puts, isnt_put, ComesDue, restarts, Fires, none_due, fires}
 use Rattle.um_model.specs.declared.jobs.JobKind.{JobKind}
 use Rattle.um_model.specs.declared.jobs.JobKind.TheVariants.{Stop, Start}
 use Rattle.um_model.specs.declared.jobs.JobState.TheVariants.{Waiting}
 use Rattle.um_model.specs.declared.jobs.UnitJobs.{UnitJobs}
 use Rattle.um_model.specs.declared.service.ActiveState.{ActiveState}
 use Rattle.um_model.specs.declared.service.ActiveState.TheVariants.{Inactive, Activating, Active, Deactivating, Failed}
+use Rattle.um_model.specs.declared.service.SubState.{SubState}
+use Rattle.um_model.specs.declared.service.SubState.TheVariants.{AutoRestart}
 use Rattle.um_model.specs.declared.service.UnitState.{UnitState}
 use Rattle.um_model.specs.declared.transition.UnitEvent.TheVariants.{DeadlinePasses, Reset}
 use Rattle.um_model.proofs.AlongLaws.{before_or_not}
@@ -136,24 +138,28 @@ a_restart s unit = by_jobs (same_jobs (jobs_of_unit s.pending unit) no_jobs)
     by_circle : jobs_of_unit s.pending unit ≡ no_jobs
         → ((cycle : List Job) × IsCycle (ComesBefore (IsBefore s.loaded) (with_start_alone s unit).pending) cycle) ⊎ AreFree (IsBefore s.loaded) (with_start_alone s unit).pending
         → (u : State) × Restarts s unit u
-    by_circle none (inl (cycle, closed)) = (s, closes_a_circle cycle none closed)
+    by_circle none (inl (cycle, closed)) = (s, isnt_put (λ may. may.1 cycle closed))
     by_circle none (inr free) = (with_start_alone s unit, puts none free)
 
     by_jobs : IsDecided (jobs_of_unit s.pending unit ≡ no_jobs) → (u : State) × Restarts s unit u
     by_jobs (inl none) = by_circle none (jobs_cycle_or_none (IsBefore s.loaded) (before_or_not s.loaded) (with_start_alone s unit).pending)
-    by_jobs (inr some) = (s, has_a_job some)
+    by_jobs (inr some) = (s, isnt_put (λ may. some may.0))
+
+waits_or_not : (sub : SubState) → IsDecided (sub ≡ AutoRestart)
+waits_or_not AutoRestart = inl refl
+waits_or_not _ = inr (λ e. cc)
 
 -- what comes of a deadline is carried out
 a_due : (t : ℕ) (s : State) (unit : List ℕ) → HasOutcome (ComesDue t s unit)
-a_due t s unit = by_test (awaits_restart (state_of_unit s.units unit).sub) refl
+a_due t s unit = by_test (waits_or_not (state_of_unit s.units unit).sub)
   where
-    by_test : (awaits : Bool) → awaits_restart (state_of_unit s.units unit).sub ≡ awaits → HasOutcome (ComesDue t s unit)
-    by_test true e =
+    by_test : IsDecided ((state_of_unit s.units unit).sub ≡ AutoRestart) → HasOutcome (ComesDue t s unit)
+    by_test (inl is) =
         let now = a_restart s unit in
-        ([], now.0, restarts e now.1)
-    by_test false e =
+        ([], now.0, restarts is now.1)
+    by_test (inr isnt) =
         let now = a_happening t unit DeadlinePasses s in
-        (now.0, now.1, ComesDue.passes e now.2)
+        (now.0, now.1, ComesDue.passes isnt now.2)
 
 -- a timer that is due fires, or has changed by now, and then the others
 fires_by : (t : ℕ) (timers : Timers) (s : State) → ((later : Timers) (u : State) → map.len later < map.len timers → HasOutcome (Fires t later u))

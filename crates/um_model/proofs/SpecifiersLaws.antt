@@ -5,12 +5,15 @@ use Rattle.std.specs.Str.{IsUtf8, is_utf8}
 use Rattle.std.proofs.lemmas.List.Sums.{suffix_len_is}
 use Rattle.std.proofs.lemmas.Bool.{cases_Bool, cond-true, cond-false, ne_eqb, eq-eqb, true≢false}
 use Rattle.std.proofs.lemmas.Str.{IsUtf8-from_is_utf8, is_utf8-from_IsUtf8}
-use Rattle.um_model.specs.Finds.{Finds}
-use Rattle.um_model.specs.Names.{unescape_front, StandsForBytes}
-use Rattle.um_model.specs.Pieces.{Gives, StandsForText, reading}
-use Rattle.um_model.specs.Specifiers.{instance_or_empty, specifier_front, as_text, unescaped_of, expanded_of}
+use Rattle.um_model.proofs.FindsLaws.{Finds}
+use Rattle.um_model.specs.Names.{unescape_front}
+use Rattle.um_model.proofs.EscapesLaws.{StandsForBytes}
+use Rattle.um_model.specs.Pieces.{Gives, reading}
+use Rattle.um_model.specs.Specifiers.{specifier_front, unescaped_of, expanded_of}
 use Rattle.um_model.proofs.FindsLaws.{one_found}
-use Rattle.um_model.proofs.PiecesLaws.{one_reading, no_reading, reading-StandsForText, StandsForText-reading}
+use Rattle.um_model.proofs.PiecesLaws.{StandsForText, one_reading, no_reading, reading-StandsForText, StandsForText-reading}
+use Rattle.um_model.proofs.Forms.{as_text}
+use Rattle.um_model.proofs.FileForms.{instance_or_empty}
 
 -- the text that the bytes' escapes stand for, where it is one
 abbrev pub IsUnescaped : List ℕ → Option (List ℕ) → Type 0

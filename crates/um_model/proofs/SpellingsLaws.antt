@@ -1,11 +1,12 @@
 -- The laws of the bytes of what the state holds of a unit.
 use Rattle.std.proofs.Common.{◌≡◌, ℕ, ◌-◌, ◌++◌, List, Some, refl, arith}
 use Rattle.std.specs.Prelude.{⊤}
-use Rattle.um_model.specs.Bytes.{IsCanonical, in_table, arm_in, text_spelling}
+use Rattle.std.specs.List.{slice_get}
+use Rattle.um_model.specs.Bytes.{IsCanonical, arm_in, text_spelling, table_at, tagged}
 use Rattle.um_model.specs.Names.{is_unit_name}
 use Rattle.um_model.proofs.BytesLaws.{canonical8, canonical32, canonical_pair, canonical_form, canonical_as, canonical_option, canonical_tag, table_back, canonical_between, canonical_truth, canonical_text, canonical_only, AllTell, tells, tells_just, canonical_arms}
 use Rattle.um_model.specs.Moments.{moment_limit, deadline_limit, process_limit}
-use Rattle.um_model.specs.Spellings.{sub_tag, sub_states, sub_spelling, sub_at, result_tag, results, result_spelling, result_at, kind_tag, kinds, kind_spelling, kind_at, job_state_tag, job_states, job_state_spelling, job_state_at}
+use Rattle.um_model.specs.Spellings.{sub_tag, sub_states, result_tag, results, kind_tag, kinds, job_state_tag, job_states}
 use Rattle.um_model.specs.Spellings.{end_tag, end_fields, end_arms, end_spelling, end_at, FitEnd, moment_at, FitMoment, deadline_at, FitDeadline, process_at, FitProcess, next_at, FitNext}
 use Rattle.um_model.specs.Spellings.{unit_name_at, FitUnitName, counted_spelling, counted_of, counted_at, FitCounted, unit_spelling, UnitFields, unit_of, unit_at, FitUnit}
 use Rattle.byteorder.specs.Endian.{big_bytes}
@@ -23,7 +24,7 @@ use Rattle.um_model.specs.declared.service.UnitState.{UnitState}
 
 -- ---- choices without fields
 
-pub sub_again : (s : SubState) → in_table sub_states (sub_tag s) ≡ Some s
+pub sub_again : (s : SubState) → slice_get sub_states (sub_tag s) ≡ Some s
 sub_again sub.Dead = refl
 sub_again sub.Start = refl
 sub_again sub.Running = refl
@@ -35,13 +36,13 @@ sub_again sub.Failed = refl
 sub_again sub.AutoRestart = refl
 sub_again sub.Active = refl
 
-pub sub_back : (n : ℕ) (a : SubState) → in_table sub_states n ≡ Some a → sub_tag a ≡ n
+pub sub_back : (n : ℕ) (a : SubState) → slice_get sub_states n ≡ Some a → sub_tag a ≡ n
 sub_back = table_back sub_tag sub_states (refl, (refl, (refl, (refl, (refl, (refl, (refl, (refl, (refl, (refl, tt))))))))))
 
-pub canonical_sub : IsCanonical (λ s. ⊤) sub_spelling sub_at
-canonical_sub = canonical_tag sub_tag (in_table sub_states) sub_again sub_back
+pub canonical_sub : IsCanonical (λ s. ⊤) (tagged sub_tag) (table_at sub_states)
+canonical_sub = canonical_tag sub_tag (slice_get sub_states) sub_again sub_back
 
-pub result_again : (r : UnitResult) → in_table results (result_tag r) ≡ Some r
+pub result_again : (r : UnitResult) → slice_get results (result_tag r) ≡ Some r
 result_again result.Success = refl
 result_again result.ExitCode = refl
 result_again result.Signal = refl
@@ -52,31 +53,31 @@ result_again result.Dependency = refl
 result_again result.NotLoaded = refl
 result_again result.Resources = refl
 
-pub result_back : (n : ℕ) (a : UnitResult) → in_table results n ≡ Some a → result_tag a ≡ n
+pub result_back : (n : ℕ) (a : UnitResult) → slice_get results n ≡ Some a → result_tag a ≡ n
 result_back = table_back result_tag results (refl, (refl, (refl, (refl, (refl, (refl, (refl, (refl, (refl, tt)))))))))
 
-pub canonical_result : IsCanonical (λ r. ⊤) result_spelling result_at
-canonical_result = canonical_tag result_tag (in_table results) result_again result_back
+pub canonical_result : IsCanonical (λ r. ⊤) (tagged result_tag) (table_at results)
+canonical_result = canonical_tag result_tag (slice_get results) result_again result_back
 
-pub kind_again : (k : JobKind) → in_table kinds (kind_tag k) ≡ Some k
+pub kind_again : (k : JobKind) → slice_get kinds (kind_tag k) ≡ Some k
 kind_again kind.Stop = refl
 kind_again kind.Start = refl
 
-pub kind_back : (n : ℕ) (a : JobKind) → in_table kinds n ≡ Some a → kind_tag a ≡ n
+pub kind_back : (n : ℕ) (a : JobKind) → slice_get kinds n ≡ Some a → kind_tag a ≡ n
 kind_back = table_back kind_tag kinds (refl, (refl, tt))
 
-pub canonical_kind : IsCanonical (λ k. ⊤) kind_spelling kind_at
-canonical_kind = canonical_tag kind_tag (in_table kinds) kind_again kind_back
+pub canonical_kind : IsCanonical (λ k. ⊤) (tagged kind_tag) (table_at kinds)
+canonical_kind = canonical_tag kind_tag (slice_get kinds) kind_again kind_back
 
-pub job_state_again : (s : JobState) → in_table job_states (job_state_tag s) ≡ Some s
+pub job_state_again : (s : JobState) → slice_get job_states (job_state_tag s) ≡ Some s
 job_state_again Waiting = refl
 job_state_again Running = refl
 
-pub job_state_back : (n : ℕ) (a : JobState) → in_table job_states n ≡ Some a → job_state_tag a ≡ n
+pub job_state_back : (n : ℕ) (a : JobState) → slice_get job_states n ≡ Some a → job_state_tag a ≡ n
 job_state_back = table_back job_state_tag job_states (refl, (refl, tt))
 
-pub canonical_job_state : IsCanonical (λ s. ⊤) job_state_spelling job_state_at
-canonical_job_state = canonical_tag job_state_tag (in_table job_states) job_state_again job_state_back
+pub canonical_job_state : IsCanonical (λ s. ⊤) (tagged job_state_tag) (table_at job_states)
+canonical_job_state = canonical_tag job_state_tag (slice_get job_states) job_state_again job_state_back
 
 -- ---- an end
 

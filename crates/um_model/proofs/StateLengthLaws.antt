@@ -10,14 +10,14 @@ use Rattle.std.specs.FinMap.Entries.{find}
 use Rattle.std.specs.List.{list_all, sum_by, AllByRecursion}
 use Rattle.std.specs.Ordering.{nat_cmp, eq_by_cmp}
 use Rattle.byteorder.specs.Endian.{big_bytes}
-use Rattle.um_model.specs.Bytes.{Spelling, ByText, text_spelling, pair_spelling, option_spelling, truth_spelling, list_spelling}
+use Rattle.um_model.specs.Bytes.{Spelling, ByText, text_spelling, pair_spelling, option_spelling, list_spelling, tagged, truth_tag}
 use Rattle.um_model.specs.Dependencies.{CountsFor, extra}
 use Rattle.um_model.specs.Jobs.{JobShown, job_shown, jobs_shown_of, jobs_shown}
 use Rattle.um_model.specs.Machine.{State, IsHeld, boot_limit}
 use Rattle.um_model.specs.Names.{is_unit_name}
 use Rattle.um_model.specs.Reached.{first}
-use Rattle.um_model.specs.Spellings.{sub_spelling, result_spelling, kind_spelling, job_state_spelling, end_spelling, counted_spelling, unit_spelling}
-use Rattle.um_model.specs.StateSpellings.{entry_spelling, tree_spelling, units_spelling, job_spelling, pending_spelling, FitJob, state_spelling, FitState}
+use Rattle.um_model.specs.Spellings.{end_spelling, counted_spelling, unit_spelling, sub_tag, result_tag, kind_tag, job_state_tag}
+use Rattle.um_model.specs.StateSpellings.{entry_spelling, tree_spelling, units_spelling, job_spelling, pending_spelling, state_spelling, FitState}
 use Rattle.um_model.specs.Tree.{Tree, Entry, File, Link}
 use Rattle.um_model.specs.Weight.{tree_weight, weight_of}
 use Rattle.um_model.specs.declared.jobs.JobKind.{JobKind}
@@ -34,6 +34,7 @@ use Rattle.um_model.proofs.LeastLaws.{Among}
 use Rattle.um_model.proofs.OnceLaws.{no_more, among_at}
 use Rattle.um_model.proofs.UnitLaws.{alike}
 use Rattle.um_model.proofs.WeightLaws.{short_name, weight_by_entry}
+use Rattle.um_model.proofs.Forms.{FitJob}
 
 -- ---- the entries of a map are no more than the names of which it holds something
 
@@ -85,19 +86,19 @@ two_long a b m n h k = omega (arith, length-append a b)
 unit_long : (u : UnitState) → length (unit_spelling u) ≤ 50
 unit_long u =
     let number : Option ℕ → List ℕ = option_spelling (big_bytes 8) in
-    let last = truth_spelling u.asked ++ option_spelling end_spelling u.last in
+    let last = tagged truth_tag u.asked ++ option_spelling end_spelling u.last in
     let window = option_spelling counted_spelling u.window ++ last in
     let deadline = number u.deadline ++ window in
     let index = big_bytes 4 u.index ++ deadline in
     let control = number u.control ++ index in
     let main = number u.main ++ control in
-    let last_long = two_long (truth_spelling u.asked) (option_spelling end_spelling u.last) 1 3 (omega arith) (option_long end_spelling 2 end_long u.last) in
+    let last_long = two_long (tagged truth_tag u.asked) (option_spelling end_spelling u.last) 1 3 (omega arith) (option_long end_spelling 2 end_long u.last) in
     let window_long = two_long (option_spelling counted_spelling u.window) last 13 4 (option_long counted_spelling 12 counted_long u.window) last_long in
     let deadline_long = two_long (number u.deadline) window 9 17 (number8_long u.deadline) window_long in
     let index_long = two_long (big_bytes 4 u.index) deadline 4 26 (omega (arith, number_long 4 u.index)) deadline_long in
     let control_long = two_long (number u.control) index 9 30 (number8_long u.control) index_long in
     let main_long = two_long (number u.main) control 9 39 (number8_long u.main) control_long in
-    two_long (sub_spelling u.sub) (result_spelling u.result ++ main) 1 49 (omega arith) (two_long (result_spelling u.result) main 1 48 (omega arith) main_long)
+    two_long (tagged sub_tag u.sub) (tagged result_tag u.result ++ main) 1 49 (omega arith) (two_long (tagged result_tag u.result) main 1 48 (omega arith) main_long)
 
 unit_entries_long : (es : List (List ℕ × UnitState)) → list_all (λ e. is_unit_name e.0) es ≡ true → length (flat_map (pair_spelling text_spelling unit_spelling) es) ≤ length es * 309
 unit_entries_long [] named = omega arith
@@ -122,7 +123,7 @@ jobs_long (j ∷ js) fit =
     omega (
       arith,
       length-append (job_spelling j) (flat_map job_spelling js),
-      length-append (text_spelling j.unit) (kind_spelling j.kind ++ job_state_spelling j.state),
+      length-append (text_spelling j.unit) (tagged kind_tag j.kind ++ tagged job_state_tag j.state),
       text_long j.unit,
     )
 

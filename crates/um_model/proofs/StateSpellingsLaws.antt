@@ -4,9 +4,9 @@ use Rattle.std.specs.FinMap as map
 use Rattle.std.proofs.lemmas.Bool.{leb-true, le-leb}
 use Rattle.um_model.specs.Bytes.{IsCanonical, text_spelling, arm_in}
 use Rattle.um_model.specs.Names.{is_unit_name}
-use Rattle.um_model.specs.Tree.{Tree, Entry, File, Link, IsTree, is_fit_at, is_fit_entry, entry_limit}
+use Rattle.um_model.specs.Tree.{Tree, Entry, File, Link, IsTree, is_fit_entry, entry_limit}
 use Rattle.um_model.specs.Service.{ByUnit, AreTidyUnits, holds_nothing, dead_unit}
-use Rattle.um_model.specs.StateSpellings.{entry_tag, entry_fields, entry_arms, entry_spelling, entry_at, FitEntry, any_text, tree_spelling, is_tree, tree_at, FitTree, units_spelling, are_known, units_at, FitUnits}
+use Rattle.um_model.specs.StateSpellings.{entry_tag, entry_arms, entry_spelling, entry_at, FitEntry, any_text, tree_spelling, is_tree, tree_at, FitTree, units_spelling, are_known, units_at, FitUnits}
 use Rattle.um_model.specs.StateSpellings.{is_boot, boot_at, FitBoot, state_spelling, StateFields, state_of, is_sound, state_at, FitState}
 use Rattle.um_model.specs.Machine.{State}
 use Rattle.um_model.proofs.BytesLaws.{AllTell, tells, canonical_arms, canonical_text, canonical_map, canonical_only, canonical_fits, canonical_marked, canonical_as, canonical_pair}
@@ -15,6 +15,7 @@ use Rattle.um_model.proofs.PendingSpellingsLaws.{canonical_pending}
 use Rattle.um_model.proofs.EntriesLaws.{left_true, right_true, both_true, at_each, from_each}
 use Rattle.um_model.proofs.UnitLaws.{nothing_held, not_dead}
 use Rattle.um_model.specs.declared.service.UnitState.{UnitState}
+use Rattle.um_model.proofs.Forms.{is_fit_at, entry_fields}
 
 -- ---- a tree
 

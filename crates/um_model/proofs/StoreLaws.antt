@@ -11,7 +11,7 @@ use Rattle.um_model.proofs.DiskLaws.{started, weaker}
 use Rattle.um_model.specs.declared.layout.Layout.{Layout}
 use Rattle.um_model.specs.declared.layout.Slot.{Slot}
 use Rattle.um_model.specs.declared.layout.Slot.TheVariants.{A, B}
-use Rattle.um_model.specs.Store.{log_start, log_end, IsRecord, AreRecords, stops, goes_on, IsOf, IsFree, IsLogEnd, IsStore, IsStoreOf, GoesOn, EitherSnapshot, AfterSnapshot, filled, superblock, slot_start, other, body_limit, header_sector, IsHeader, sector_count, joined, body_at, IsNewest, HasNoHeader, body_sector, IsSnapshot, MaybeSnapshot, IsSlotRead, head, behind, log_sector, part_count, part_of}
+use Rattle.um_model.specs.Store.{log_start, log_end, IsRecord, AreRecords, stops, goes_on, IsOf, IsFree, IsLogEnd, IsStore, GoesOn, filled, superblock, slot_start, other, body_limit, header_sector, IsHeader, sector_count, joined, body_at, IsNewest, HasNoHeader, IsSlotRead, head, behind, log_sector, part_count, part_of}
 
 -- ---- headers
 
@@ -82,42 +82,6 @@ pub take-filled : (front rest : List ℕ) → take (length front) (filled front 
 unfolding filled
 take-filled front rest = ap (take (length front)) (append_assoc front (replicate (512 - length front) 0) rest) ∙ take-append_seam front (replicate (512 - length front) 0 ++ rest)
 
--- a body's next sector is the first of what is behind
-next_sector : (bytes : List ℕ) (i : ℕ) → body_sector bytes (suc i) ≡ body_sector (drop 512 bytes) i
-next_sector bytes i =
-    let moved : 512 * suc i ≡ 512 + 512 * i = omega arith in
-    ap (λ (l : List ℕ). filled (take 512 l)) (ap (λ (n : ℕ). drop n bytes) moved ∙ sym (drop-drop (512 * i) 512 bytes))
-
--- the first sector of a body, and then the rest
-body_step : (bytes : List ℕ) (sector : Sector) (rest : List ℕ) → sector ≡ filled (take 512 bytes) → take (length (drop 512 bytes)) rest ≡ drop 512 bytes
-    → take (length bytes) (sector ++ rest) ≡ bytes
-body_step bytes sector rest is back = ⊎_elim long short (cases_lt 512 (length bytes))
-  where
-    long : 512 < length bytes → take (length bytes) (sector ++ rest) ≡ bytes
-    long more =
-        let size : length (take 512 bytes) ≡ 512 = omega (arith, length-take 512 bytes, more) in
-        let whole : sector ≡ take 512 bytes = is ∙ filled_whole (take 512 bytes) size in
-        let count : length bytes ≡ length (take 512 bytes) + length (drop 512 bytes) = omega (arith, size, length-drop 512 bytes, more) in
-        (λ k. take (count k) (whole k ++ rest))
-        ∙ take-append-add (take 512 bytes) rest (length (drop 512 bytes))
-        ∙ ap (λ (l : List ℕ). take 512 bytes ++ l) back ∙ take-append-drop 512 bytes
-
-    short : length bytes ≤ 512 → take (length bytes) (sector ++ rest) ≡ bytes
-    short few =
-        let all : take 512 bytes ≡ bytes = take_all 512 bytes few in
-        ap (λ (s : Sector). take (length bytes) (s ++ rest)) (is ∙ ap filled all) ∙ take-filled bytes rest
-
--- A body that stands as it is written is read back.
-pub body_back : (n : ℕ) (bytes : List ℕ) (image : Image) (at : ℕ) → length bytes ≤ 512 * n → ((i : ℕ) → i < n → image (at + i) ≡ body_sector bytes i)
-    → take (length bytes) (joined n image at) ≡ bytes
-body_back zero bytes image at fits stands =
-    let none : bytes ≡ [] = nil_from_length bytes (omega (arith, fits)) in ap (λ (l : List ℕ). take (length l) []) none ∙ sym none
-body_back (suc n) bytes image at fits stands =
-    let here : at ≡ at + 0 = omega arith in
-    body_step bytes (image at) (joined n image (suc at)) (ap image here ∙ stands 0 (omega arith))
-    (body_back n (drop 512 bytes) image (suc at) (omega (arith, fits, length-drop 512 bytes))
-    (λ i below. let moved : suc at + i ≡ at + suc i = omega arith in ap image moved ∙ stands (suc i) (omega (arith, below)) ∙ next_sector bytes i))
-
 -- ---- what the reading of the newest body doesn't look at
 
 module _ (layout : Layout) (a b : Image) (same : (j : ℕ) → IsSlotRead layout a j → b j ≡ a j) where
@@ -170,13 +134,13 @@ log_payload generation number part size payload = take-append_seam payload (zero
 -- ---- a snapshot into the other slot
 
 -- a slot's sectors are none of the other's
-apart : (layout : Layout) (slot : Slot) (j : ℕ) → slot_start layout slot ≤ j → j < slot_start layout slot + layout.slot_sectors
+pub apart : (layout : Layout) (slot : Slot) (j : ℕ) → slot_start layout slot ≤ j → j < slot_start layout slot + layout.slot_sectors
     → (j < slot_start layout (other slot)) ⊎ (slot_start layout (other slot) + layout.slot_sectors ≤ j)
 apart layout A j low high = inl (omega (arith, high))
 apart layout B j low high = inr (omega (arith, low))
 
 -- the log lies behind both
-behind_slot : (layout : Layout) (slot : Slot) (generation j : ℕ) → log_start layout generation ≤ j → slot_start layout slot + layout.slot_sectors ≤ j
+pub behind_slot : (layout : Layout) (slot : Slot) (generation j : ℕ) → log_start layout generation ≤ j → slot_start layout slot + layout.slot_sectors ≤ j
 behind_slot layout A generation j low = omega (arith, low)
 behind_slot layout B generation j low = omega (arith, low)
 
@@ -191,7 +155,7 @@ body_within layout size i fits below = omega (arith, fits, below, layout.slot_le
 
 module _ {layout : Layout} {old image : Image} {slot : Slot} {generation : ℕ} {before : List ℕ} (newest : IsNewest layout old slot generation before)
     (outside : (j : ℕ) → (j < slot_start layout (other slot)) ⊎ (slot_start layout (other slot) + layout.slot_sectors ≤ j) → image j ≡ old j) where
-  home_same : image (slot_start layout slot) ≡ old (slot_start layout slot)
+  pub home_same : image (slot_start layout slot) ≡ old (slot_start layout slot)
   home_same = outside _ (apart layout slot (slot_start layout slot) (omega arith) (omega (arith, layout.slot_least)))
 
   -- what changes in the other slot behind its header isn't read
@@ -203,32 +167,6 @@ module _ {layout : Layout} {old image : Image} {slot : Slot} {generation : ℕ} 
     body_is = newest.body_is ∙ ap (take newest.size) (sym (same_joined (sector_count newest.size) old image (slot_start layout slot + 1)
         (λ i below. let inside = body_within layout newest.size i newest.header.fits below in outside _ (apart layout slot (slot_start layout slot + 1 + i) (omega arith) (omega (arith, inside))))));
   }
-
--- a header that is written there is well-formed
-written_header : {layout : Layout} {image : Image} {slot : Slot} {generation : ℕ} {body : List ℕ} → 1 ≤ generation → generation < 2 ^ 64 → length body ≤ body_limit layout
-    → IsSnapshot layout image slot generation body → IsHeader layout (image (slot_start layout slot)) generation (length body)
-written_header first last fits snapshot = record { first = first; last = last; fits = fits; is = snapshot.header }
-
--- and the body behind it is read back
-written_body : {layout : Layout} {image : Image} {slot : Slot} {generation : ℕ} {body : List ℕ} → IsSnapshot layout image slot generation body → body ≡ body_at layout image slot (length body)
-written_body {layout} {image} {slot} {generation} {body} snapshot = sym (body_back (sector_count (length body)) body image (slot_start layout slot + 1) (omega arith) snapshot.sectors)
-
--- The snapshot of the next generation in the other slot is the newest.
-pub new_newest : {layout : Layout} {old image : Image} {slot : Slot} {generation : ℕ} {before body : List ℕ} → IsNewest layout old slot generation before
-    → image (slot_start layout slot) ≡ old (slot_start layout slot) → generation + 1 < 2 ^ 64 → length body ≤ body_limit layout
-    → IsSnapshot layout image (other slot) (generation + 1) body → IsNewest layout image (other slot) (generation + 1) body
-new_newest {layout} {old} {image} {slot = A} {generation} {before} {body} newest same last fits snapshot = record {
-  size = length body;
-  header = written_header (omega arith) last fits snapshot;
-  newer = λ theirs size header. let g = same_header (subst (λ (s : Sector). IsHeader layout s theirs size) same header) newest.header in omega (arith, g.0);
-  body_is = written_body snapshot;
-}
-new_newest {layout} {old} {image} {slot = B} {generation} {before} {body} newest same last fits snapshot = record {
-  size = length body;
-  header = written_header (omega arith) last fits snapshot;
-  newer = λ theirs size header. let g = same_header (subst (λ (s : Sector). IsHeader layout s theirs size) same header) newest.header in omega (arith, g.0);
-  body_is = written_body snapshot;
-}
 
 -- ---- records
 
@@ -261,68 +199,6 @@ same_records number at (bytes ∷ records) same (goes_on is rest) =
     goes_on (same_record is (λ i below. let within = is.within in same (at + i) (omega arith) (omega (arith, within, below))))
     (same_records (suc number) (at + part_count (length bytes)) records (λ j low high. same j (omega (arith, low)) high) rest)
 
--- ---- the whole store while a snapshot is written into the other slot
-
-module _ {layout : Layout} {old image : Image} {slot : Slot} {generation : ℕ} {before body : List ℕ} {records : List (List ℕ)} (store : IsStore layout old slot generation before records)
-    (maybe : MaybeSnapshot layout old (other slot) (generation + 1) body image) where
-  log_same : (j : ℕ) → log_start layout generation ≤ j → image j ≡ old j
-  log_same j low = maybe.outside j (inr (behind_slot layout (other slot) generation j low))
-
-  first_same : image 0 ≡ superblock layout
-  first_same = maybe.outside 0 (inl (before_slot layout (other slot))) ∙ store.first
-
-  -- no log sector is of the next generation
-  pub next_free : IsFree layout (generation + 1) image (log_start layout (generation + 1))
-  next_free theirs j low high is = store.none_later theirs j low high (subst (IsOf theirs) (log_same j low) is)
-
-  kept_store : image (slot_start layout (other slot)) ≡ old (slot_start layout (other slot)) → IsStore layout image slot generation before records
-  kept_store same = record {
-    first = first_same;
-    newest = kept_newest store.newest maybe.outside same;
-    records_are = same_records 0 (log_start layout generation) records (λ j low high. log_same j low) store.records_are;
-    none_later = next_free;
-  }
-
-  -- with the whole snapshot, nothing of its generation stands in the log
-  pub new_store : generation + 1 < 2 ^ 64 → length body ≤ body_limit layout → IsSnapshot layout image (other slot) (generation + 1) body → IsStore layout image (other slot) (generation + 1) body []
-  new_store last fits snapshot = record {
-    first = first_same;
-    newest = new_newest store.newest (home_same store.newest maybe.outside) last fits snapshot;
-    records_are = stops (λ bytes. none_of last next_free 0 (log_start layout (generation + 1)) bytes (omega arith));
-    none_later = λ theirs j low high is. let below = next_free theirs j low high is in omega (arith, below);
-  }
-
-  -- What a crash leaves meanwhile is the store as it was, or with the new snapshot and no record.
-  pub either_store : generation + 1 < 2 ^ 64 → length body ≤ body_limit layout
-      → IsStore layout image slot generation before records ⊎ IsStore layout image (other slot) (generation + 1) body []
-  either_store last fits = ⊎_elim (λ same. inl (kept_store same)) (λ snapshot. inr (new_store last fits snapshot)) maybe.inside
-
-  -- The log of a new snapshot begins at its first sector.
-  pub new_end : IsLogEnd layout (generation + 1) image [] 0 (log_start layout (generation + 1))
-  new_end = record { count = refl; place = omega arith; within = omega arith; free = next_free }
-
--- ---- the same of whole runs of calls
-
-module _ {layout : Layout} (past : Past) {slot : Slot} {generation : ℕ} {before : List ℕ} (stores : Images past (IsStoreOf layout slot generation before)) where
-  -- before the first call
-  pub before_other : (body : List ℕ) → During past past (EitherSnapshot layout past slot generation before body)
-  before_other body = started past _ (λ image is. inl (record { from = image; was = is; store = stores image is }))
-
-  -- while a snapshot is written into the other slot
-  pub during_other : {new : Past} {body : List ℕ} → generation + 1 < 2 ^ 64 → length body ≤ body_limit layout
-      → During past new (AfterSnapshot layout past (other slot) (generation + 1) body) → During past new (EitherSnapshot layout past slot generation before body)
-  during_other {new} {body} last fits run = weaker past new _ _
-      (λ image m. ⊎_elim {C = EitherSnapshot layout past slot generation before body image} (λ kept. inl (record { from = m.from; was = m.was; store = kept })) (λ done. inr done) (either_store (stores m.from m.was) m.maybe last fits)) run
-
-  -- and behind it
-  pub goes_on_other : {new : Past} {body : List ℕ} → generation + 1 < 2 ^ 64 → length body ≤ body_limit layout → IsImage past (seen past)
-      → MaybeSnapshot layout (seen past) (other slot) (generation + 1) body (seen new) → IsSnapshot layout (seen new) (other slot) (generation + 1) body → IsSettled new
-      → GoesOn layout new (other slot) (generation + 1) body [] 0 (log_start layout (generation + 1))
-  goes_on_other {new} {body} last fits is maybe snapshot done = record {
-    store = λ image at. subst (λ i. IsStore layout i (other slot) (generation + 1) body []) (sym (done image at)) (new_store (stores (seen past) is) maybe last fits snapshot);
-    end = λ image at. subst (λ i. IsLogEnd layout (generation + 1) i [] 0 (log_start layout (generation + 1))) (sym (done image at)) (new_end (stores (seen past) is) maybe);
-  }
-
 -- ---- the first snapshot of a store
 
 -- a sector of zeros is no header
@@ -336,16 +212,6 @@ blank_log generation is = no_name is.name
     no_name : 0 ∷ 0 ∷ 0 ∷ 0 ∷ [] ≡ codes "UMLG" → ⊥
     no_name e = absurd (cc)
 
--- On a disk without a header the first snapshot in slot A is the newest.
-pub first_newest : {layout : Layout} {old image : Image} {generation : ℕ} {body : List ℕ} → HasNoHeader layout old → 1 ≤ generation → generation < 2 ^ 64 → length body ≤ body_limit layout
-    → MaybeSnapshot layout old A generation body image → IsSnapshot layout image A generation body → IsNewest layout image A generation body
-first_newest {layout} {old} {image} nothing first last fits maybe snapshot = record {
-  size = _;
-  header = written_header first last fits snapshot;
-  newer = λ theirs size header. absurd (nothing B theirs size (subst (λ (s : Sector). IsHeader layout s theirs size) (maybe.outside (slot_start layout B) (inr (omega arith))) header));
-  body_is = written_body snapshot;
-}
-
 -- With sector 0 it is a store without records.
 pub made_store : {layout : Layout} {old image : Image} {slot : Slot} {generation : ℕ} {body : List ℕ} → IsNewest layout old slot generation body → generation < 2 ^ 64 → IsFree layout generation old (log_start layout generation)
     → ((j : ℕ) → 1 ≤ j → image j ≡ old j) → image 0 ≡ superblock layout → IsStore layout image slot generation body []
@@ -355,11 +221,6 @@ made_store {layout} {old} {image} {slot} {generation} {body} newest last free sa
   records_are = stops (λ bytes. none_of last (λ theirs j low high is. free theirs j low high (subst (IsOf theirs) (same j (omega (arith, low))) is)) 0 (log_start layout generation) bytes (omega arith));
   none_later = λ theirs j low high is. let below = free theirs j low high (subst (IsOf theirs) (same j (omega (arith, low))) is) in omega (arith, below);
 }
-
--- The log stays as free as it was.
-pub kept_free : {layout : Layout} {old image : Image} {slot : Slot} {generation later : ℕ} {body : List ℕ} → MaybeSnapshot layout old slot generation body image
-    → IsFree layout later old (log_start layout later) → IsFree layout later image (log_start layout later)
-kept_free {layout} {slot} {later} maybe free theirs j low high is = free theirs j low high (subst (IsOf theirs) (maybe.outside j (inr (behind_slot layout slot later j low))) is)
 
 -- ---- sector 0
 

@@ -2,15 +2,18 @@
 use Rattle.std.proofs.Common.{◌≡◌, ◌≢◌, ℕ, zero, suc, ◌-◌, Bool, true, false, cond, eqb, List, [], ◌∷◌, ◌++◌, length, Option, Some, None, refl, sym, ap, ◌∙◌, subst, inl, inr, append_assoc, append-nil}
 use Rattle.std.proofs.lemmas.Bool.{cases_Bool, cond-true, cond-false, ne_eqb}
 use Rattle.std.proofs.lemmas.Option.{none-some, same_Some}
+use Rattle.std.specs.Option.{option_map_or}
 use Rattle.um_model.specs.Ascii.{is_space}
-use Rattle.um_model.specs.Pieces.{Front, Gives, StandsForText}
+use Rattle.um_model.specs.Pieces.{Front, Gives, reading, Unreadable}
 use Rattle.um_model.proofs.WordSteps.{bare, begun-read}
-use Rattle.um_model.specs.Words.{is_quote, Word, word_front, piece_of_words, word_values, AreWords}
-use Rattle.um_model.specs.Substitution.{Variable, value_of, whole_name, braced_name, variable_front, dollar_front, piece_front, Becomes, splits, fills, AllBecome, no_more, one_more, AreSubstituted, no_words, first_stays}
+use Rattle.um_model.specs.Words.{is_quote, Word, word_front, piece_of_words, words_of}
+use Rattle.um_model.specs.Substitution.{Variable, value_of, whole_name, braced_name, dollar_front, piece_front, Becomes, splits, fills, AllBecome, no_more, one_more, AreSubstituted, no_words, first_stays}
 use Rattle.um_model.specs.declared.words.WordRules.TheVariants.{Plain}
 use Rattle.um_model.specs.Text.{first_passes}
-use Rattle.um_model.proofs.PiecesLaws.{one_reading, IsRead, has_reading}
-use Rattle.um_model.proofs.WordsLaws.{read, by_spelling, with_front, first_word, same_words}
+use Rattle.um_model.proofs.PiecesLaws.{StandsForText, reading-StandsForText, IsRead, has_reading}
+use Rattle.um_model.proofs.WordsLaws.{read, by_spelling, with_front, first_word, words_of-AreWords}
+use Rattle.um_model.proofs.Forms.{variable_front}
+use Rattle.um_model.proofs.FileForms.{word_values}
 
 -- a byte that is no `$` stands for itself
 pub plain_piece : (environment : List Variable) (b : ℕ) (bs : List ℕ) → b ≢ 36 → piece_front environment b bs ≡ Gives (b ∷ []) 1
@@ -20,11 +23,11 @@ plain_piece environment b bs differ = cond-false _ _ _ (ne_eqb b 36 differ)
 pub same_becomes : (environment : List Variable) (word : List ℕ) (a b : List (List ℕ)) → Becomes environment word a → Becomes environment word b → a ≡ b
 same_becomes environment word a b (splits w name words whole are) (splits v other more same others) =
     let name_is : name ≡ other = same_Some name other (sym whole ∙ same) in
-    same_words Plain (value_of environment other) words more (subst (λ n. AreWords Plain (value_of environment n) words) name_is are) others
+    same_Some words more (sym are ∙ ap (λ n. words_of Plain (value_of environment n)) name_is ∙ others)
 same_becomes environment word a b (splits w name words whole are) (fills v text none_whole stand) = absurd (none-some name (sym none_whole ∙ whole))
 same_becomes environment word a b (fills w text none_whole stand) (splits v name words whole are) = absurd (none-some name (sym none_whole ∙ whole))
 same_becomes environment word a b (fills w text none_whole stand) (fills v other none_other stands_too) =
-    ap (λ t. t ∷ []) (one_reading (piece_front environment) word text other stand stands_too)
+    ap (λ t. t ∷ []) (same_Some text other (sym stand ∙ stands_too))
 
 abbrev Same : List Variable → List (List ℕ) → Type 0
 Same environment words = (a b : List (List ℕ)) → AllBecome environment words a → AllBecome environment words b → a ≡ b
@@ -99,7 +102,7 @@ have_read b bs = elim (cases_Bool (is_space b)) [
   | inl white ↦ ([], 1, cond-true _ _ _ white)
   | inr apart ↦
       let found = plain_reads (b ∷ bs) 0 None in
-      (first_word (b ∷ bs) found.1 found.0 ∷ [], length (b ∷ bs) - length found.1, cond-false _ _ _ apart ∙ ap (word_front (b ∷ bs)) (begun-read Plain (b ∷ bs) ∙ found.2))
+      (first_word (b ∷ bs) found.1 found.0 ∷ [], length (b ∷ bs) - length found.1, cond-false _ _ _ apart ∙ ap (λ o. option_map_or (word_front (b ∷ bs)) o Unreadable) (begun-read Plain (b ∷ bs) ∙ found.2))
 ]
 
 -- each value reads as words
@@ -126,10 +129,10 @@ become_some : (environment : List Variable) (word : List ℕ) → (words : List 
 become_some environment word = elim (whole_name word) as (λ o. whole_name word ≡ o → (words : List (List ℕ)) × Becomes environment word words) [
   | Some name ↦ λ whole.
       let found = has_words (value_of environment name) in
-      (word_values found.0, splits word name (word_values found.0) whole (found.0, found.1, refl))
+      (word_values found.0, splits word name (word_values found.0) whole (words_of-AreWords Plain (value_of environment name) (word_values found.0) (found.0, found.1, refl)))
   | None ↦ λ none_whole.
       let filled = has_reading (piece_front environment) (piece_reads environment) word in
-      (filled.0 ∷ [], fills word filled.0 none_whole filled.1)
+      (filled.0 ∷ [], fills word filled.0 none_whole (reading-StandsForText (piece_front environment) word filled.0 filled.1))
 ] refl
 
 all_become_some : (environment : List Variable) (words : List (List ℕ)) → (out : List (List ℕ)) × AllBecome environment words out

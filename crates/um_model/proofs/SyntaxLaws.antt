@@ -11,9 +11,12 @@ use Rattle.std.proofs.lemmas.Option.{none-some, same_Some}
 use Rattle.std.specs.Option.{is_some, option_map_or}
 use Rattle.std.proofs.Math.Bool.{or-false, or-true}
 use Rattle.um_model.specs.Ascii.{is_space}
-use Rattle.um_model.specs.Text.{trim_start, trim_end, trim, is_empty, is_blank, without_last}
-use Rattle.um_model.specs.Syntax.{Line, is_comment, continues, physical_line, joined_line, Statement, Blank, Head, Pair, Stray, Item, Section, Assignment, Warned, items_of, is_head, Placed, in_sections, physical, first_text, joined, joined_lines, in_brackets, before_bracket, has_equals, pair_of, statement_of, section_after, line_number, items_in, reading_of}
-use Rattle.um_model.specs.declared.warnings.WarningKind.TheVariants.{BeforeAnySection}
+use Rattle.um_model.specs.Text.{trim_start, trim, is_empty, is_blank}
+use Rattle.std.specs.Ffi.{without_last}
+use Rattle.um_model.specs.Syntax.{Line, is_comment, continues, Statement, Blank, Head, Pair, Stray, Item, Section, Assignment, Warned, Placed, physical, first_text, joined, joined_lines, in_brackets, statement_of, section_after, placed_of, placed_in, line_number, reading_of}
+use Rattle.um_model.specs.declared.warnings.WarningKind.TheVariants.{BeforeAnySection, NoEqualsSign}
+use Rattle.um_model.proofs.FileForms.{trim_end, items_of, is_head, items_in, section_past, in_sections}
+use Rattle.um_model.proofs.FileForms.{physical_line, joined_line, before_bracket, has_equals, pair_of}
 
 -- What a text says as a relation, line by line
 
@@ -290,6 +293,23 @@ give_is begun all items (gives_line b l ls statement later says more) =
 
 -- The reading
 
+-- what a line gives, and then what the others do
+line_placed : (l : Line) (ls : List Line) (statement : Statement) (section : Option (List ℕ)) → ((later : Option (List ℕ)) → placed_in later ls ≡ in_sections later (items_in (is_some later) ls))
+    → placed_of statement section l ++ placed_in (section_after statement section) ls ≡ in_sections section (items_of statement (is_some section) l.number l.whole ++ items_in (is_some section || is_head statement) ls)
+line_placed l ls Blank None rest = rest None
+line_placed l ls Blank (Some s) rest = rest (Some s)
+line_placed l ls (Head name) None rest = ap (λ k. record { section = Some name; item = Section name l.number } ∷ k) (rest (Some name))
+line_placed l ls (Head name) (Some s) rest = ap (λ k. record { section = Some name; item = Section name l.number } ∷ k) (rest (Some name))
+line_placed l ls (Pair key value) None rest = ap (λ k. record { section = None; item = Warned BeforeAnySection l.number } ∷ k) (rest None)
+line_placed l ls (Pair key value) (Some s) rest = ap (λ k. record { section = Some s; item = Assignment key value l.number l.whole } ∷ k) (rest (Some s))
+line_placed l ls Stray None rest = ap (λ k. record { section = None; item = Warned NoEqualsSign l.number } ∷ k) (rest None)
+line_placed l ls Stray (Some s) rest = ap (λ k. record { section = Some s; item = Warned NoEqualsSign l.number } ∷ k) (rest (Some s))
+
+-- the items with their sections are what the lines give in them
+pub placed_is : (section : Option (List ℕ)) (ls : List Line) → placed_in section ls ≡ in_sections section (items_in (is_some section) ls)
+placed_is section [] = refl
+placed_is section (l ∷ ls) = line_placed l ls (statement_of l.text) section (λ later. placed_is later ls)
+
 pub reading_given : (text : List ℕ) → IsReading text (reading_of text)
 reading_given text = record {
   kept = physical 1 (lines text);
@@ -298,13 +318,14 @@ reading_given text = record {
   keeps = kept_are 1 (lines text);
   joins = joined_are (physical 1 (lines text));
   gives = give_of false (joined_lines text);
-  places = refl;
+  places = placed_is None (joined_lines text);
 }
 
 pub reading_is : (text : List ℕ) (reading : List Placed) → IsReading text reading → reading ≡ reading_of text
 reading_is text reading r =
     r.places ∙ ap (in_sections None) (give_is false r.joined_ones r.items r.gives
     ∙ ap (items_in false) (joined_is r.kept r.joined_ones r.joins ∙ ap joined (kept_is 1 (lines text) r.kept r.keeps)))
+    ∙ sym (placed_is None (joined_lines text))
 
 -- The lines of a reading rise
 
@@ -356,7 +377,7 @@ items_rise begun n (l ∷ ls) rise =
 
 same_numbers : (section : Option (List ℕ)) (items : List Item) → map (λ p. line_number p.item) (in_sections section items) ≡ map line_number items
 same_numbers section [] = refl
-same_numbers section (i ∷ is) = ap (λ ns. line_number i ∷ ns) (same_numbers (section_after section i) is)
+same_numbers section (i ∷ is) = ap (λ ns. line_number i ∷ ns) (same_numbers (section_past section i) is)
 
 rises_at : (n : ℕ) (xs : List ℕ) (k : ℕ) → Rises n xs → k + 1 < length xs → slice_index xs k < slice_index xs (k + 1)
 rises_at n [] k rise lt = absurd (omega arith)
@@ -369,7 +390,7 @@ rises_at n (x ∷ y ∷ ys) (suc k) rise lt =
 -- the items of a reading stand in the order of their lines, and a line gives one at most
 pub lines_rise : (text : List ℕ) (reading : List Placed) → IsReading text reading → IsStrictlyIncreasing (map (λ p. line_number p.item) reading)
 lines_rise text reading r =
-    subst IsStrictlyIncreasing (sym (ap (map (λ p. line_number p.item)) (reading_is text reading r) ∙ same_numbers None (items_in false (joined_lines text))))
+    subst IsStrictlyIncreasing (sym (ap (map (λ p. line_number p.item)) (reading_is text reading r ∙ placed_is None (joined_lines text)) ∙ same_numbers None (items_in false (joined_lines text))))
     (λ k. rises_at 1 (map line_number (items_in false (joined_lines text))) k
     (items_rise false 1 (joined_lines text) (joined_rise 1 (physical 1 (lines text)) (physical_rise 1 (lines text)))))
 
@@ -400,4 +421,4 @@ all_stand_well (l ∷ ls) begun section same =
 pub sections_fit : (text : List ℕ) (reading : List Placed) → IsReading text reading → AllPass (λ p. stands_well p.section p.item) reading
 sections_fit text reading r =
     AllPass-from_list_all (λ p. stands_well p.section p.item) reading
-    (subst AllStandWell (sym (reading_is text reading r)) (all_stand_well (joined_lines text) false None refl))
+    (subst AllStandWell (sym (reading_is text reading r ∙ placed_is None (joined_lines text))) (all_stand_well (joined_lines text) false None refl))

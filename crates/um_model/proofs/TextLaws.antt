@@ -4,7 +4,8 @@ use Rattle.std.specs.List.{list_all}
 use Rattle.std.proofs.lemmas.List.{reverse-append, reverse-reverse}
 use Rattle.std.proofs.lemmas.List.Folds.{list_all-append}
 use Rattle.um_model.specs.Ascii.{is_space}
-use Rattle.um_model.specs.Text.{trim_start, trim_end, first_passes}
+use Rattle.um_model.specs.Text.{trim_start, first_passes}
+use Rattle.um_model.proofs.FileForms.{trim_end}
 
 -- whitespace alone was cut off in front, and none is left there
 pub record IsCutInFront (text rest : List ℕ) : Type 0 where

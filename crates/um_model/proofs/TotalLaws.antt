@@ -6,14 +6,15 @@ use Rattle.um_model.specs.Least.{IsNamedBefore}
 use Rattle.um_model.specs.Refusals.{Refused, FirstCause, at_first, at_second, no_room, no_such_job, not_loaded}
 use Rattle.um_model.specs.Tree.{Tree, put_file, put_link, remove_at}
 use Rattle.um_model.specs.Install.{Installs, RefusesInstall}
-use Rattle.um_model.specs.Units.{load}
+use Rattle.um_model.specs.Units.{load, Loading, NotFound}
 use Rattle.um_model.specs.Service.{Action, ByUnit, state_of_unit}
 use Rattle.um_model.specs.Plan.{IsPlan, CausesOfPlan}
-use Rattle.um_model.specs.Ends.{is_starting, may_be_asked}
+use Rattle.um_model.specs.Ends.{is_starting, has_one_command}
 use Rattle.um_model.specs.Transitions.{HasNumber}
-use Rattle.um_model.specs.Machine.{State, Command, PutFile, PutLink, Remove, DaemonReload, ForUnit, Cancel, ResetFailed, Install, Happening, ProcessEnded, ProcessExecuted, Tick, Booted, Event, Commanded, Happened, Input, Reply, Done, Refusal, IsHeld, IsHeldOr, IsBefore, IsProcessOf, IsOver, end_of, acting_in, AwaitsReport, booted, Follows, ends, reports, ticks, boots, HasNoEffect, is_over, isnt_awaited, is_idle, is_known, is_found, active_asked, demand_of, wants_it_there, jobs_asked, unit_asked, scene_at, IsCrowded, IsNotThere, IsMissing, HasNoPlan, has_waiting, HasNoneWaiting, CausesOfCancel, CausesOf, CausesOfLoad, Refuses, puts_none, links_none, removes_none, plans_none, cancels_none, resets_none, reloads_none, installs_none, Changes, puts, links, removes, reloads, plans, demands_nothing, cancels, installs, units_reset, Does, changes, resets, Takes, obeys, meets, moment_of, HasNoRoom, Step, refused, crowded_out, idle, taken}
+use Rattle.um_model.specs.Machine.{State, Command, PutFile, PutLink, Remove, DaemonReload, ForUnit, Cancel, ResetFailed, Install, Happening, ProcessEnded, ProcessExecuted, Tick, Booted, Event, Commanded, Happened, Input, Reply, Done, Refusal, IsHeld, IsHeldOr, IsBefore, IsProcessOf, IsOver, end_of, settings_in, AwaitsReport, booted, Follows, ends, reports, ticks, boots, HasNoEffect, is_over, isnt_awaited, is_idle, is_known, active_asked, demand_of, jobs_asked, unit_asked, scene_at, IsCrowded, IsNotThere, to_stop, to_try_restart, IsMissing, HasNoPlan, HasNoneWaiting, CausesOfLoad, Refuses, Changes, puts, links, removes, reloads, plans, demands_nothing, cancels, installs, units_reset, Does, changes, resets, TakesEffect, obeys, meets, moment_of, HasNoRoom, Step, refused, crowded_out, idle, taken}
 use Rattle.um_model.specs.declared.commands.JobMode.{JobMode}
 use Rattle.um_model.specs.declared.commands.UnitVerb.{UnitVerb}
+use Rattle.um_model.specs.declared.commands.UnitVerb.TheVariants as verbs
 use Rattle.um_model.specs.declared.dependencies.Demand.{Demand}
 use Rattle.um_model.specs.declared.install.InstallVerb.{InstallVerb}
 use Rattle.um_model.specs.declared.jobs.UnitJobs.{UnitJobs}
@@ -34,25 +35,44 @@ use Rattle.um_model.proofs.SameUnits.{same_units, same_pending}
 use Rattle.um_model.proofs.ScanLaws.{held_with_number}
 use Rattle.um_model.proofs.SceneLaws.{finite_scene, held_list, held_or_list}
 use Rattle.um_model.proofs.SettleLaws.{a_settling, a_firing, a_reset, a_deadline_map}
+use Rattle.um_model.proofs.WaitingLaws.{has_waiting, none_told, none_waiting}
 use Rattle.um_model.proofs.TimersLaws.{same_name, same_number, same_option, one_named_first, named_trans, among_keys}
 
 -- ---- why a command for a unit is refused, if it is
 
 missing_or_not : (s : State) (asked : List ℕ) → OneOrNone (IsMissing s asked)
-missing_or_not s asked = by_tests (is_found (load s.loaded asked)) (map.get s.units asked) refl refl
+missing_or_not s asked = by_tests (load s.loaded asked) (map.get s.units asked) refl refl
   where
-    by_tests : (found : Bool) (held : Option UnitState) → is_found (load s.loaded asked) ≡ found → map.get s.units asked ≡ held → OneOrNone (IsMissing s asked)
-    by_tests true held f g = inr (λ r h. true≢false (sym f ∙ h.isnt_found))
-    by_tests false (Some u) f g = inr (λ r h. let is = h.isnt_held in cc)
-    by_tests false None f g = inl (not_loaded asked, record { isnt_found = f; isnt_held = g; refusal = refl })
+    by_held : (held : Option UnitState) → load s.loaded asked ≡ NotFound → map.get s.units asked ≡ held → OneOrNone (IsMissing s asked)
+    by_held (Some u) f g = inr (λ r h. let is = h.isnt_held in cc)
+    by_held None f g = inl (not_loaded asked, record { isnt_found = f; isnt_held = g; refusal = refl })
+
+    by_tests : (found : Loading) (held : Option UnitState) → load s.loaded asked ≡ found → map.get s.units asked ≡ held → OneOrNone (IsMissing s asked)
+    by_tests NotFound held f g = by_held held f g
+    by_tests _ held f g = inr (λ r h. let isnt = h.isnt_found in cc)
 
 there_or_not : (s : State) (verb : UnitVerb) (asked : List ℕ) → OneOrNone (IsNotThere s verb asked)
-there_or_not s verb asked = by_tests (wants_it_there verb) (missing_or_not s asked) refl
+there_or_not s verb asked = by_missing verb (missing_or_not s asked)
   where
-    by_tests : (wanted : Bool) → OneOrNone (IsMissing s asked) → wants_it_there verb ≡ wanted → OneOrNone (IsNotThere s verb asked)
-    by_tests false missing e = inr (λ r h. true≢false (sym h.wanted ∙ e))
-    by_tests true (inl missing) e = inl (missing.0, record { wanted = e; missing = missing.1 })
-    by_tests true (inr none) e = inr (λ r h. none r h.missing)
+    by_missing : (verb : UnitVerb) → OneOrNone (IsMissing s asked) → OneOrNone (IsNotThere s verb asked)
+    by_missing verbs.Stop (inl missing) = inl (missing.0, to_stop missing.1)
+    by_missing verbs.TryRestart (inl missing) = inl (missing.0, to_try_restart missing.1)
+    by_missing verbs.Stop (inr there) = inr stops
+      where
+        stops : (r : Refused) → ¬ IsNotThere s verbs.Stop asked r
+        stops r (to_stop h) = there r h
+    by_missing verbs.TryRestart (inr there) = inr tries
+      where
+        tries : (r : Refused) → ¬ IsNotThere s verbs.TryRestart asked r
+        tries r (to_try_restart h) = there r h
+    by_missing verbs.Start missing = inr starts
+      where
+        starts : (r : Refused) → ¬ IsNotThere s verbs.Start asked r
+        starts r h = absurd (let b : ⊥ = elim h [ ] in b)
+    by_missing verbs.Restart missing = inr restarts
+      where
+        restarts : (r : Refused) → ¬ IsNotThere s verbs.Restart asked r
+        restarts r h = absurd (let b : ⊥ = elim h [ ] in b)
 
 -- the plan of what a command demands
 module _ (s : State) (verb : UnitVerb) (asked : List ℕ) (mode : JobMode) where
@@ -122,7 +142,7 @@ module _ (s : State) (verb : UnitVerb) (asked : List ℕ) (mode : JobMode) where
           (record s { pending = made.0 }, plans e made.1)
 
   -- and so of all causes
-  planned_or_not : OneOrNone (CausesOf s verb asked mode)
+  planned_or_not : OneOrNone (Refuses s (ForUnit verb asked mode))
   planned_or_not =
       let held = held_or_list s (unit_asked s asked) in
       first_or_none _ _ (crowded_or_none (IsHeldOr s (unit_asked s asked)) held.0 held.1 s.loaded) (first_or_none _ _ (there_or_not s verb asked) plan_or_none)
@@ -137,25 +157,25 @@ isnt_refused : (result : Result Tree Refused) (tree : Tree) (r : Refused) → re
 isnt_refused result tree r e f = cc
 
 put_becomes : (s : State) (path text : List ℕ) (result : Result Tree Refused) → put_file s.tree path text ≡ result → Becomes s (PutFile path text)
-put_becomes s path text (Err r) e = inl (r, puts_none e)
+put_becomes s path text (Err r) e = inl (r, e)
 put_becomes s path text (Ok tree) e = inr (free, (_, puts e))
   where
     free : (r : Refused) → ¬ (Refuses s (PutFile path text) r)
-    free r (puts_none f) = isnt_refused (put_file s.tree path text) tree r e f
+    free r f = isnt_refused (put_file s.tree path text) tree r e f
 
 link_becomes : (s : State) (path target : List ℕ) (result : Result Tree Refused) → put_link s.tree path target ≡ result → Becomes s (PutLink path target)
-link_becomes s path target (Err r) e = inl (r, links_none e)
+link_becomes s path target (Err r) e = inl (r, e)
 link_becomes s path target (Ok tree) e = inr (free, (_, links e))
   where
     free : (r : Refused) → ¬ (Refuses s (PutLink path target) r)
-    free r (links_none f) = isnt_refused (put_link s.tree path target) tree r e f
+    free r f = isnt_refused (put_link s.tree path target) tree r e f
 
 removal_becomes : (s : State) (path : List ℕ) (result : Result Tree Refused) → remove_at s.tree path ≡ result → Becomes s (Remove path)
-removal_becomes s path (Err r) e = inl (r, removes_none e)
+removal_becomes s path (Err r) e = inl (r, e)
 removal_becomes s path (Ok tree) e = inr (free, (_, removes e))
   where
     free : (r : Refused) → ¬ (Refuses s (Remove path) r)
-    free r (removes_none f) = isnt_refused (remove_at s.tree path) tree r e f
+    free r f = isnt_refused (remove_at s.tree path) tree r e f
 
 -- one cause keeps a tree from being loaded, or none does
 load_or_none : (s : State) (tree : Tree) → OneOrNone (CausesOfLoad s tree)
@@ -164,50 +184,50 @@ load_or_none s tree =
     first_or_none _ _ (crowded_or_none (IsHeld s) held.0 held.1 tree) (cycle_or_no_refusal (IsBefore tree) (before_or_not tree) s.pending)
 
 reload_becomes : (s : State) → OneOrNone (CausesOfLoad s s.tree) → Becomes s DaemonReload
-reload_becomes s (inl found) = inl (found.0, reloads_none found.1)
+reload_becomes s (inl found) = inl (found.0, found.1)
 reload_becomes s (inr none) = inr (free, (_, reloads))
   where
     free : (r : Refused) → ¬ (Refuses s DaemonReload r)
-    free r (reloads_none h) = none r h
+    free r h = none r h
 
-plan_becomes : (s : State) (verb : UnitVerb) (asked : List ℕ) (mode : JobMode) → OneOrNone (CausesOf s verb asked mode) → Becomes s (ForUnit verb asked mode)
-plan_becomes s verb asked mode (inl found) = inl (found.0, plans_none found.1)
+plan_becomes : (s : State) (verb : UnitVerb) (asked : List ℕ) (mode : JobMode) → OneOrNone (Refuses s (ForUnit verb asked mode)) → Becomes s (ForUnit verb asked mode)
+plan_becomes s verb asked mode (inl found) = inl (found.0, found.1)
 plan_becomes s verb asked mode (inr none) = inr (free, a_planned s verb asked mode)
   where
     free : (r : Refused) → ¬ (Refuses s (ForUnit verb asked mode) r)
-    free r (plans_none h) = none r h
+    free r h = none r h
 
 waits_or_not : (s : State) (asked : List ℕ) → OneOrNone (HasNoneWaiting s asked)
 waits_or_not s asked = by_test (has_waiting (jobs_asked s asked)) refl
   where
     by_test : (waits : Bool) → has_waiting (jobs_asked s asked) ≡ waits → OneOrNone (HasNoneWaiting s asked)
-    by_test true e = inr (λ r h. true≢false (sym e ∙ h.none))
-    by_test false e = inl (no_such_job (unit_asked s asked), record { none = e; refusal = refl })
+    by_test true e = inr (λ r h. true≢false (sym e ∙ none_told (jobs_asked s asked) h.none))
+    by_test false e = inl (no_such_job (unit_asked s asked), record { none = none_waiting (jobs_asked s asked) e; refusal = refl })
 
-cancel_becomes : (s : State) (asked : List ℕ) → OneOrNone (CausesOfCancel s asked) → Becomes s (Cancel asked)
-cancel_becomes s asked (inl found) = inl (found.0, cancels_none found.1)
+cancel_becomes : (s : State) (asked : List ℕ) → OneOrNone (Refuses s (Cancel asked)) → Becomes s (Cancel asked)
+cancel_becomes s asked (inl found) = inl (found.0, found.1)
 cancel_becomes s asked (inr none) = inr (free, (_, cancels))
   where
     free : (r : Refused) → ¬ (Refuses s (Cancel asked) r)
-    free r (cancels_none h) = none r h
+    free r h = none r h
 
 install_becomes : (s : State) (verb : InstallVerb) (unit : List ℕ) → Becomes s (Install verb unit)
 install_becomes s verb unit = by_tree (an_install s.tree verb unit)
   where
     is_free : (tree : Tree) → Installs s.tree verb unit tree → ((r : Refused) → ¬ (RefusesInstall s.tree verb unit r)) → ((r : Refused) → ¬ (CausesOfLoad s tree r))
         → (r : Refused) → ¬ (Refuses s (Install verb unit) r)
-    is_free tree made none free r (installs_none (at_first h)) = none r h
-    is_free tree made none free r (installs_none (at_second _ h)) =
+    is_free tree made none free r (at_first h) = none r h
+    is_free tree made none free r (at_second _ h) =
         free r (subst (λ t. CausesOfLoad s t r) (one_install s.tree verb unit h.tree tree h.installs made) h.cause)
 
     by_load : (tree : Tree) → Installs s.tree verb unit tree → ((r : Refused) → ¬ (RefusesInstall s.tree verb unit r)) → OneOrNone (CausesOfLoad s tree)
         → Becomes s (Install verb unit)
-    by_load tree made none (inl found) = inl (found.0, installs_none (at_second none (record { tree = tree; installs = made; cause = found.1 })))
+    by_load tree made none (inl found) = inl (found.0, (at_second none (record { tree = tree; installs = made; cause = found.1 })))
     by_load tree made none (inr free) = inr (is_free tree made none free, (_, installs made))
 
     by_tree : ((r : Refused) × RefusesInstall s.tree verb unit r) ⊎ (((r : Refused) → ¬ (RefusesInstall s.tree verb unit r)) × ((tree : Tree) × Installs s.tree verb unit tree))
         → Becomes s (Install verb unit)
-    by_tree (inl found) = inl (found.0, installs_none (at_first found.1))
+    by_tree (inl found) = inl (found.0, (at_first found.1))
     by_tree (inr made) = by_load made.1.0 made.1.1 made.0 (load_or_none s made.1.0)
 
 -- ---- a command is refused or obeyed
@@ -226,11 +246,11 @@ reset_done t s asked =
     (done.0, done.1, resets done.2)
 
 reset_one : (t : ℕ) (s : State) (asked : List ℕ) → OneOrNone (IsMissing s asked) → IsAnswered t s (ResetFailed (Some asked))
-reset_one t s asked (inl found) = inl (found.0, resets_none found.1)
+reset_one t s asked (inl found) = inl (found.0, found.1)
 reset_one t s asked (inr none) = inr (free, reset_done t s (Some asked))
   where
     free : (r : Refused) → ¬ (Refuses s (ResetFailed (Some asked)) r)
-    free r (resets_none h) = none r h
+    free r h = none r h
 
 reset_all : (t : ℕ) (s : State) → IsAnswered t s (ResetFailed None)
 reset_all t s = inr (λ r h. elim h [ ], reset_done t s None)
@@ -288,7 +308,7 @@ awaits_or_not : (s : State) (number : ℕ) (unit : List ℕ) → IsDecided (Awai
 awaits_or_not s number unit =
     decided_as (λ h. record { starts = h.0; kind = h.1.0; main = h.1.1 }) (λ a. (a.starts, (a.kind, a.main)))
     (both_decided (passes_or_not (is_starting (state_of_unit s.units unit).sub) true)
-    (both_decided (passes_or_not (may_be_asked (acting_in s.loaded unit).settings.kind) true) (same_option same_number (state_of_unit s.units unit).main (Some number))))
+    (both_decided (passes_or_not (has_one_command (settings_in s.loaded unit).kind) true) (same_option same_number (state_of_unit s.units unit).main (Some number))))
 
 a_report : (t : ℕ) (s : State) (number : ℕ) → HasEffect t s (ProcessExecuted number)
 a_report t s number = by_process (process_or_over s.units number)
@@ -345,7 +365,7 @@ room_or_not size (Commanded command) u = heavy_or_not size u
 room_or_not size (Happened happening) u = inr (λ never. never)
 
 -- so that it is taken or crowded out
-taken_or_not : (size : ℕ) (s : State) (moment : ℕ) (event : Event) (actions : List Action) (u : State) → Takes (moment_of s moment) s event actions u
+taken_or_not : (size : ℕ) (s : State) (moment : ℕ) (event : Event) (actions : List Action) (u : State) → TakesEffect (moment_of s moment) s event actions u
     → IsDecided (HasNoRoom size event u) → HasStep size s moment event
 taken_or_not size s moment event actions u takes (inl heavy) = (Refusal no_room, [], s, crowded_out takes heavy)
 taken_or_not size s moment event actions u takes (inr light) = (_, actions, _, taken takes light)

@@ -5,10 +5,10 @@ use Rattle.um_model.specs.Moments.{process_limit}
 use Rattle.um_model.specs.Commands.{Command}
 use Rattle.um_model.specs.Substitution.{Variable, AreSubstituted}
 use Rattle.um_model.specs.Limit.{counted}
-use Rattle.um_model.specs.Service.{Action, SpawnProcess, SendSignal, active_state_of}
+use Rattle.um_model.specs.Service.{Action, SpawnProcess, SendSignal, active_state_of, is_success}
 use Rattle.um_model.specs.Settings.{ServiceSettings, environment_texts, commands_in, has_place}
-use Rattle.um_model.specs.Ends.{is_clean, is_restart_wanted}
-use Rattle.um_model.specs.Transitions.{deadline_after, has_number, is_live, just, asking, start_ends, start_fails, stop_ends, resting, rests_for_good, awaits_restart, rests, terminates, stop_command, winds_down, next_stop, lacks_number, start_command, start_simple, start_of, starts_if, starts, exits, next_start, start_goes_on, executed, rests_unless_live, noted, without_main, without_control, timed_out, asked, unless_failed, forgiven, is_well, row, is_going, transition, AreStarted, no_command, substituted, as_written, AreActions, nothing, spawn, signals, spawned, live_numbers, has_its_process, HasItsProcess, HasNumber}
+use Rattle.um_model.specs.Ends.{is_clean, is_failed, is_restart_wanted, has_one_command}
+use Rattle.um_model.specs.Transitions.{deadline_after, has_number, is_live, just, asking, start_ends, start_fails, stop_ends, rests_for_good, waits_to_restart, rests, terminates, stop_command, winds_down, first_command, start_of, starts_if, starts, exits, next_command, start_goes_on, rests_unless_live, noted, without_main, without_control, timed_out, told_to_stop, forgiven, is_stop_done, row, is_going, transition, AreStarted, no_command, substituted, as_written, AreActions, nothing, spawn, signals, spawned, live_numbers, HasNumber}
 use Rattle.um_model.specs.declared.limit.Counted.{Counted}
 use Rattle.um_model.specs.declared.service.End.{End}
 use Rattle.um_model.specs.declared.service.Signal as signal
@@ -31,20 +31,26 @@ use Rattle.um_model.specs.declared.transition.UnitKind.{UnitKind}
 use Rattle.um_model.specs.declared.transition.UnitKind.TheVariants.{Simple, Exec, Oneshot, Target}
 use Rattle.um_model.proofs.SubstitutionLaws.{same_substituted, have_substituted}
 
+-- a unit that starts or runs has a main process, one that its ExecStop= commands stop a control process, and one that is told to
+-- end one of them
+abbrev pub has_its_process : SubState → UnitState → Bool
+has_its_process Start u = is_some u.main
+has_its_process Running u = is_some u.main
+has_its_process Stop u = is_some u.control
+has_its_process StopSigterm u = is_live u
+has_its_process StopSigkill u = is_live u
+has_its_process other u = true
+
+abbrev pub HasItsProcess : UnitState → Type 0
+HasItsProcess u = has_its_process u.sub u ≡ true
+
 pub by_cond : (P : Change → Type 0) (b : Bool) (x y : Change) → (b ≡ true → P x) → (b ≡ false → P y) → P (cond b x y)
 by_cond P true x y f g = f refl
 by_cond P false x y f g = g refl
 
-held_at_rest : (r : UnitResult) (w : UnitState) → has_its_process (resting r) w ≡ true
-held_at_rest result.Success w = refl
-held_at_rest result.ExitCode w = refl
-held_at_rest result.Signal w = refl
-held_at_rest result.Timeout w = refl
-held_at_rest result.Lost w = refl
-held_at_rest result.StartLimitHit w = refl
-held_at_rest result.Dependency w = refl
-held_at_rest result.NotLoaded w = refl
-held_at_rest result.Resources w = refl
+held_at_rest : (well : Bool) (w : UnitState) → has_its_process (cond well Dead Failed) w ≡ true
+held_at_rest true w = refl
+held_at_rest false w = refl
 
 -- only the numbers count
 pub same_held : (sub : SubState) (w v : UnitState) → w.main ≡ v.main → w.control ≡ v.control → has_its_process sub w ≡ true → has_its_process sub v ≡ true
@@ -70,9 +76,9 @@ noted_control w e false = refl
 held_with_main : (sub : SubState) → sub ≡ Start → (v : UnitState) → is_some v.main ≡ true → has_its_process sub v ≡ true
 held_with_main sub is v h = subst (λ x. has_its_process x v ≡ true) (sym is) h
 
-held_unless_failed : (sub : SubState) (w : UnitState) → has_its_process sub w ≡ true → has_its_process (unless_failed sub) w ≡ true
-held_unless_failed Failed w h = refl
-held_unless_failed _ w h = h
+held_unless_failed : (failed : Bool) (sub : SubState) (w : UnitState) → has_its_process sub w ≡ true → has_its_process (cond failed Dead sub) w ≡ true
+held_unless_failed true sub w h = refl
+held_unless_failed false sub w h = h
 
 -- Known: the numbers that the unit had
 module _ (s : ServiceSettings) (c : Around) (Known : ℕ → Type 0) (Held : Type 0) where
@@ -92,10 +98,10 @@ module _ (s : ServiceSettings) (c : Around) (Known : ℕ → Type 0) (Held : Typ
   none_known n (inr e) = absurd (let b : ⊥ = cc in b)
 
   rests_for_good_good : (w : UnitState) → Good (rests_for_good w)
-  rests_for_good_good w = record { held = λ q. held_at_rest w.result (record w { sub = resting w.result; main = None; control = None; deadline = None }); fresh = λ n k. inl (none_known n k); below = inl refl }
+  rests_for_good_good w = record { held = λ q. held_at_rest (is_success w.result) (record w { sub = cond (is_success w.result) Dead Failed; main = None; control = None; deadline = None }); fresh = λ n k. inl (none_known n k); below = inl refl }
 
   rests_good : (w : UnitState) → Good (rests s c w)
-  rests_good w = by_cond Good (not w.asked && not c.stop_waits && is_restart_wanted s w) (awaits_restart s c w) (rests_for_good w)
+  rests_good w = by_cond Good (not w.asked && not c.stop_waits && is_restart_wanted s w) (waits_to_restart s c w) (rests_for_good w)
       (λ e. record { held = λ q. refl; fresh = λ n k. inl (none_known n k); below = inl refl })
       (λ e. rests_for_good_good w)
 
@@ -117,11 +123,8 @@ module _ (s : ServiceSettings) (c : Around) (Known : ℕ → Type 0) (Held : Typ
       (λ e. record { held = λ q. refl; fresh = next_known w old; below = inr (ltb-true _ _ e) })
       (λ e. terminates_good (record w { result = result.Resources; index = i }) old)
 
-  winds_down_good : (w : UnitState) → Old w → Good (winds_down s c w)
-  winds_down_good w old = by_cond Good (has_place s.stop 0) (stop_command s c w 0) (terminates s c w) (λ e. stop_command_good w 0 old) (λ e. terminates_good w old)
-
-  next_stop_good : (w : UnitState) → Old w → Good (next_stop s c w)
-  next_stop_good w old = by_cond Good (has_place s.stop (w.index + 1)) (stop_command s c w (w.index + 1)) (terminates s c w) (λ e. stop_command_good w (w.index + 1) old) (λ e. terminates_good w old)
+  winds_down_good : (w : UnitState) (i : ℕ) → Old w → Good (winds_down s c w i)
+  winds_down_good w i old = by_cond Good (has_place s.stop i) (stop_command s c w i) (terminates s c w) (λ e. stop_command_good w i old) (λ e. terminates_good w old)
 
   -- what becomes of the Start job changes nothing of this
   started : (v : Change) → Good v → Good (start_ends v)
@@ -133,24 +136,26 @@ module _ (s : ServiceSettings) (c : Around) (Known : ℕ → Type 0) (Held : Typ
   stopped : (v : Change) → Good v → Good (stop_ends v)
   stopped v g = record { held = g.held; fresh = g.fresh; below = g.below }
 
-  spent : (w : UnitState) → Good (lacks_number w)
+  spent : (w : UnitState) → Good (start_fails (rests_for_good (record w { result = result.Resources })))
   spent w = failed (rests_for_good (record w { result = result.Resources })) (rests_for_good_good (record w { result = result.Resources }))
 
-  start_command_good : (w : UnitState) (i : ℕ) → Old w → Good (start_command s c w i)
-  start_command_good w i old = by_cond Good (has_number c) (asking (Spawn OfStart i) (just (record w { sub = Start; main = Some c.next; deadline = deadline_after c.moment s.timeout_start }))) (lacks_number w)
+  first_command_good : (w : UnitState) → Old w → Good (first_command s c w)
+  first_command_good w old = by_cond Good (has_number c) (asking (Spawn OfStart 0) (just (record w { sub = Start; main = Some c.next; deadline = deadline_after c.moment s.timeout_start })))
+      (start_fails (rests_for_good (record w { result = result.Resources })))
       (λ e. record { held = λ q. refl; fresh = known_next w old; below = inr (ltb-true _ _ e) })
       (λ e. spent w)
 
-  start_simple_good : (w : UnitState) → Old w → Good (start_simple c w)
-  start_simple_good w old = by_cond Good (has_number c) (start_ends (asking (Spawn OfStart 0) (just (record w { sub = Running; main = Some c.next; deadline = None })))) (lacks_number w)
+  start_simple_good : (w : UnitState) → Old w → Good (start_of Simple s c w)
+  start_simple_good w old = by_cond Good (has_number c) (start_ends (asking (Spawn OfStart 0) (just (record w { sub = Running; main = Some c.next; deadline = None }))))
+      (start_fails (rests_for_good (record w { result = result.Resources })))
       (λ e. record { held = λ q. refl; fresh = known_next w old; below = inr (ltb-true _ _ e) })
       (λ e. spent w)
 
   start_of_good : (k : UnitKind) (w : UnitState) → Old w → Good (start_of k s c w)
   start_of_good Target w old = record { held = λ q. refl; fresh = λ n k. inl (old n k); below = inl refl }
   start_of_good Simple w old = start_simple_good w old
-  start_of_good Exec w old = start_command_good w 0 old
-  start_of_good Oneshot w old = by_cond Good (has_place s.start 0) (start_command s c w 0) (start_ends (just (record w { sub = Exited; deadline = None }))) (λ e. start_command_good w 0 old)
+  start_of_good Exec w old = first_command_good w old
+  start_of_good Oneshot w old = by_cond Good (has_place s.start 0) (first_command s c w) (start_ends (just (record w { sub = Exited; deadline = None }))) (λ e. first_command_good w old)
       (λ e. record { held = λ q. refl; fresh = λ n k. inl (old n k); below = inl refl })
 
   starts_if_good : (through : Bool) (window : Option Counted) (w : UnitState) → Old w → Good (starts_if through window s c w)
@@ -161,37 +166,31 @@ module _ (s : ServiceSettings) (c : Around) (Known : ℕ → Type 0) (Held : Typ
   starts_good w old = let answer = counted s.limit_interval s.limit_burst c.moment w.window in starts_if_good answer.0 answer.1 w old
 
   exits_good : (w : UnitState) → Old w → Good (exits s c w)
-  exits_good w old = by_cond Good s.remains (just (record w { sub = Exited; deadline = None })) (winds_down s c w)
+  exits_good w old = by_cond Good s.remains (just (record w { sub = Exited; deadline = None })) (winds_down s c w 0)
       (λ e. record { held = λ q. refl; fresh = λ n k. inl (old n k); below = inl refl })
-      (λ e. winds_down_good w old)
+      (λ e. winds_down_good w 0 old)
 
   rests_unless_live_good : (w : UnitState) → Old w → (is_live w ≡ true → Held → HasItsProcess w) → Good (rests_unless_live s c w)
   rests_unless_live_good w old h = by_cond Good (is_live w) (just w) (rests s c w) (λ e. just_good w old (h e)) (λ e. rests_good w)
 
-  next_start_good : (w : UnitState) → Old w → w.sub ≡ Start → Good (next_start s c w)
-  next_start_good w old is = by_cond Good (has_place s.start (w.index + 1))
-      (cond (has_number c)
-      (asking (Spawn OfStart (w.index + 1)) (just (record w { main = Some c.next; index = w.index + 1 })))
-      (lacks_number (record w { index = w.index + 1 })))
-      (start_ends (exits s c w))
-      (λ h. by_cond Good (has_number c)
-      (asking (Spawn OfStart (w.index + 1)) (just (record w { main = Some c.next; index = w.index + 1 })))
-      (lacks_number (record w { index = w.index + 1 }))
-      (λ e. record { held = λ q. held_with_main w.sub is (record w { main = Some c.next; index = w.index + 1 }) refl; fresh = known_next w old; below = inr (ltb-true _ _ e) })
-      (λ e. spent (record w { index = w.index + 1 })))
-      (λ h. started (exits s c w) (exits_good w old))
+  next_command_good : (w : UnitState) (i : ℕ) → Old w → w.sub ≡ Start → Good (next_command c w i)
+  next_command_good w i old is = by_cond Good (has_number c) (asking (Spawn OfStart i) (just (record w { main = Some c.next; index = i })))
+      (start_fails (rests_for_good (record w { index = i; result = result.Resources })))
+      (λ e. record { held = λ q. held_with_main w.sub is (record w { main = Some c.next; index = i }) refl; fresh = known_next w old; below = inr (ltb-true _ _ e) })
+      (λ e. spent (record w { index = i }))
 
   start_goes_on_good : (k : UnitKind) (w : UnitState) → Old w → w.sub ≡ Start → Good (start_goes_on k s c w)
   start_goes_on_good Simple w old is = started (exits s c w) (exits_good w old)
   start_goes_on_good Exec w old is = started (exits s c w) (exits_good w old)
-  start_goes_on_good Oneshot w old is = next_start_good w old is
+  start_goes_on_good Oneshot w old is = by_cond Good (has_place s.start (w.index + 1)) (next_command c w (w.index + 1)) (start_ends (exits s c w))
+      (λ e. next_command_good w (w.index + 1) old is) (λ e. started (exits s c w) (exits_good w old))
   start_goes_on_good Target w old is = started (exits s c w) (exits_good w old)
 
-  executed_good : (k : UnitKind) (u : UnitState) → u.sub ≡ Start → Old u → (Held → HasItsProcess u) → Good (executed k u)
-  executed_good Simple u is old h = record { held = λ q. subst (λ x. has_its_process x u ≡ true) is (h q); fresh = λ n k. inl (old n k); below = inl refl }
-  executed_good Exec u is old h = record { held = λ q. subst (λ x. has_its_process x u ≡ true) is (h q); fresh = λ n k. inl (old n k); below = inl refl }
-  executed_good Oneshot u is old h = just_good u old h
-  executed_good Target u is old h = just_good u old h
+  executed_good : (u : UnitState) → u.sub ≡ Start → Old u → (Held → HasItsProcess u)
+      → Good (cond (has_one_command s.kind) (start_ends (just (record u { sub = Running; deadline = None }))) (just u))
+  executed_good u is old h = by_cond Good (has_one_command s.kind) (start_ends (just (record u { sub = Running; deadline = None }))) (just u)
+      (λ e. record { held = λ q. subst (λ x. has_its_process x u ≡ true) is (h q); fresh = λ n k. inl (old n k); below = inl refl })
+      (λ e. just_good u old h)
 
   noted_old : (w : UnitState) (e : End) (clean : Bool) → Old w → Old (noted w e clean)
   noted_old w e true old = old
@@ -226,59 +225,64 @@ module _ (s : ServiceSettings) (c : Around) (Known : ℕ → Type 0) (Held : Typ
       (subst (λ x. is_some x ≡ true) (sym (noted_control (record u { main = None; last = Some e }) e (is_clean s u Main e)))
       (subst (λ x. has_its_process x u ≡ true) is (h q)))
 
-  row_good : (sub : SubState) (event : UnitEvent) (well : Bool) (u : UnitState) → u.sub ≡ sub → Old u → (Held → HasItsProcess u) → Good (row s c u sub event well)
-  row_good sub StartBegins false u is old h = failed (just (record u { result = result.NotLoaded }))
-      (just_good (record u { result = result.NotLoaded }) old (λ q. same_held u.sub u (record u { result = result.NotLoaded }) refl refl (h q)))
-  row_good sub Reset well u is old h =
-      just_good (forgiven u) old (λ q. same_held (unless_failed u.sub) u (forgiven u) refl refl (held_unless_failed u.sub u (h q)))
-  row_good Running StartBegins true u is old h = started (just u) (just_good u old h)
-  row_good Exited StartBegins true u is old h = started (just u) (just_good u old h)
-  row_good Active StartBegins true u is old h = started (just u) (just_good u old h)
-  row_good Dead StartBegins true u is old h = starts_good u old
-  row_good Failed StartBegins true u is old h = starts_good u old
-  row_good AutoRestart StartBegins true u is old h = starts_good u old
-  row_good Start Executed well u is old h = executed_good s.kind u is old h
-  row_good Start (MainEnds e) true u is old h = start_goes_on_good s.kind (without_main s u e) (without_main_old u e old) (main_sub u e ∙ is)
-  row_good Start (MainEnds e) false u is old h = failed (rests s c (without_main s u e)) (rests_good (without_main s u e))
-  row_good Start DeadlinePasses well u is old h = failed (terminates s c (record u { result = result.Timeout })) (terminates_good (record u { result = result.Timeout }) old)
-  row_good Running (MainEnds e) true u is old h = exits_good (without_main s u e) (without_main_old u e old)
-  row_good Running (MainEnds e) false u is old h = winds_down_good (without_main s u e) (without_main_old u e old)
-  row_good Running StopBegins well u is old h = winds_down_good (asked u) old
-  row_good Exited StopBegins well u is old h = winds_down_good (asked u) old
-  row_good Start StopBegins well u is old h = failed (terminates s c (asked u)) (terminates_good (asked u) old)
-  row_good AutoRestart StopBegins well u is old h = record { held = λ q. refl; fresh = λ n k. inl (old n k); below = inl refl }
-  row_good Stop StopBegins well u is old h = just_good (asked u) old (λ q. same_held u.sub u (asked u) refl refl (h q))
-  row_good StopSigterm StopBegins well u is old h = just_good (asked u) old (λ q. same_held u.sub u (asked u) refl refl (h q))
-  row_good StopSigkill StopBegins well u is old h = just_good (asked u) old (λ q. same_held u.sub u (asked u) refl refl (h q))
-  row_good Active StopBegins well u is old h = record { held = λ q. refl; fresh = λ n k. inl (old n k); below = inl refl }
-  row_good Dead StopBegins well u is old h = stopped (just u) (just_good u old h)
-  row_good Failed StopBegins well u is old h = stopped (just u) (just_good u old h)
-  row_good Stop (ControlEnds e) true u is old h = next_stop_good (record u { control = None }) (with_no_control_old u old)
-  row_good Stop (ControlEnds e) false u is old h = terminates_good (without_control s u e) (without_control_old u e old)
-  row_good Stop (MainEnds e) well u is old h = just_good (without_main s u e) (without_main_old u e old) (control_stays u e is h)
-  row_good Stop DeadlinePasses well u is old h = terminates_good (timed_out u) old
-  row_good StopSigterm (MainEnds e) well u is old h =
+  row_good : (sub : SubState) (event : UnitEvent) (u : UnitState) → u.sub ≡ sub → Old u → (Held → HasItsProcess u) → Good (row s c u (active_state_of sub) sub event)
+  row_good sub Reset u is old h =
+      just_good (forgiven u) old (λ q. same_held (cond (is_failed u.sub) Dead u.sub) u (forgiven u) refl refl (held_unless_failed (is_failed u.sub) u.sub u (h q)))
+  row_good Running StartBegins u is old h = started (just u) (just_good u old h)
+  row_good Exited StartBegins u is old h = started (just u) (just_good u old h)
+  row_good Active StartBegins u is old h = started (just u) (just_good u old h)
+  row_good Dead StartBegins u is old h = starts_good u old
+  row_good Failed StartBegins u is old h = starts_good u old
+  row_good AutoRestart StartBegins u is old h = starts_good u old
+  row_good Start Executed u is old h = executed_good u is old h
+  row_good Start (MainEnds e) u is old h =
+      by_cond Good (is_clean s u Main e) (start_goes_on s.kind s c (without_main s u e)) (start_fails (rests s c (without_main s u e)))
+      (λ _. start_goes_on_good s.kind (without_main s u e) (without_main_old u e old) (main_sub u e ∙ is)) (λ _. failed (rests s c (without_main s u e)) (rests_good (without_main s u e)))
+  row_good Start DeadlinePasses u is old h = failed (terminates s c (record u { result = result.Timeout })) (terminates_good (record u { result = result.Timeout }) old)
+  row_good Running (MainEnds e) u is old h =
+      by_cond Good (is_clean s u Main e) (exits s c (without_main s u e)) (winds_down s c (without_main s u e) 0)
+      (λ _. exits_good (without_main s u e) (without_main_old u e old)) (λ _. winds_down_good (without_main s u e) 0 (without_main_old u e old))
+  row_good Running StopBegins u is old h = winds_down_good (told_to_stop u) 0 old
+  row_good Exited StopBegins u is old h = winds_down_good (told_to_stop u) 0 old
+  row_good Start StopBegins u is old h = failed (terminates s c (told_to_stop u)) (terminates_good (told_to_stop u) old)
+  row_good AutoRestart StopBegins u is old h = record { held = λ q. refl; fresh = λ n k. inl (old n k); below = inl refl }
+  row_good Stop StopBegins u is old h = just_good (told_to_stop u) old (λ q. same_held u.sub u (told_to_stop u) refl refl (h q))
+  row_good StopSigterm StopBegins u is old h = just_good (told_to_stop u) old (λ q. same_held u.sub u (told_to_stop u) refl refl (h q))
+  row_good StopSigkill StopBegins u is old h = just_good (told_to_stop u) old (λ q. same_held u.sub u (told_to_stop u) refl refl (h q))
+  row_good Active StopBegins u is old h = record { held = λ q. refl; fresh = λ n k. inl (old n k); below = inl refl }
+  row_good Dead StopBegins u is old h = stopped (just u) (just_good u old h)
+  row_good Failed StopBegins u is old h = stopped (just u) (just_good u old h)
+  row_good Stop (ControlEnds e) u is old h =
+      by_cond Good (is_stop_done s u e) (winds_down s c (record u { control = None }) (u.index + 1)) (terminates s c (without_control s u e))
+      (λ _. winds_down_good (record u { control = None }) (u.index + 1) (with_no_control_old u old)) (λ _. terminates_good (without_control s u e) (without_control_old u e old))
+  row_good Stop (MainEnds e) u is old h = just_good (without_main s u e) (without_main_old u e old) (control_stays u e is h)
+  row_good Stop DeadlinePasses u is old h = terminates_good (timed_out u) old
+  row_good StopSigterm (MainEnds e) u is old h =
       rests_unless_live_good (without_main s u e) (without_main_old u e old) (λ l q. held_in StopSigterm (without_main s u e) (main_sub u e ∙ is) l)
-  row_good StopSigterm (ControlEnds e) well u is old h =
+  row_good StopSigterm (ControlEnds e) u is old h =
       rests_unless_live_good (without_control s u e) (without_control_old u e old) (λ l q. held_in StopSigterm (without_control s u e) (control_sub u e ∙ is) l)
-  row_good StopSigkill (MainEnds e) well u is old h =
+  row_good StopSigkill (MainEnds e) u is old h =
       rests_unless_live_good (without_main s u e) (without_main_old u e old) (λ l q. held_in StopSigkill (without_main s u e) (main_sub u e ∙ is) l)
-  row_good StopSigkill (ControlEnds e) well u is old h =
+  row_good StopSigkill (ControlEnds e) u is old h =
       rests_unless_live_good (without_control s u e) (without_control_old u e old) (λ l q. held_in StopSigkill (without_control s u e) (control_sub u e ∙ is) l)
-  row_good StopSigterm DeadlinePasses well u is old h = record { held = λ q. subst (λ x. has_its_process x u ≡ true) is (h q); fresh = λ n k. inl (old n k); below = inl refl }
-  row_good StopSigkill DeadlinePasses well u is old h = rests_for_good_good (timed_out u)
-  row_good sub event well u is old h = just_good u old h
+  row_good StopSigterm DeadlinePasses u is old h = record { held = λ q. subst (λ x. has_its_process x u ≡ true) is (h q); fresh = λ n k. inl (old n k); below = inl refl }
+  row_good StopSigkill DeadlinePasses u is old h = rests_for_good_good (timed_out u)
+  row_good sub event u is old h = just_good u old h
 
   transition_good : (u : UnitState) (e : UnitEvent) → Old u → (Held → HasItsProcess u) → Good (transition s c u e)
-  transition_good u BoundStop old h = by_cond Good (is_going (active_state_of u.sub)) (row s c u u.sub StopBegins true) (just u)
-      (λ e. row_good u.sub StopBegins true u refl old h) (λ e. just_good u old h)
-  transition_good u StartBegins old h = row_good u.sub StartBegins (is_well s c u StartBegins) u refl old h
-  transition_good u StopBegins old h = row_good u.sub StopBegins true u refl old h
-  transition_good u Executed old h = row_good u.sub Executed true u refl old h
-  transition_good u (MainEnds e) old h = row_good u.sub (MainEnds e) (is_well s c u (MainEnds e)) u refl old h
-  transition_good u (ControlEnds e) old h = row_good u.sub (ControlEnds e) (is_well s c u (ControlEnds e)) u refl old h
-  transition_good u DeadlinePasses old h = row_good u.sub DeadlinePasses true u refl old h
-  transition_good u Reset old h = row_good u.sub Reset true u refl old h
+  transition_good u BoundStop old h = by_cond Good (is_going (active_state_of u.sub)) (row s c u (active_state_of u.sub) u.sub StopBegins) (just u)
+      (λ e. row_good u.sub StopBegins u refl old h) (λ e. just_good u old h)
+  transition_good u StartBegins old h =
+      by_cond Good c.loadable (row s c u (active_state_of u.sub) u.sub StartBegins) (start_fails (just (record u { result = result.NotLoaded })))
+      (λ e. row_good u.sub StartBegins u refl old h)
+      (λ e. failed (just (record u { result = result.NotLoaded }))
+      (just_good (record u { result = result.NotLoaded }) old (λ q. same_held u.sub u (record u { result = result.NotLoaded }) refl refl (h q))))
+  transition_good u StopBegins old h = row_good u.sub StopBegins u refl old h
+  transition_good u Executed old h = row_good u.sub Executed u refl old h
+  transition_good u (MainEnds e) old h = row_good u.sub (MainEnds e) u refl old h
+  transition_good u (ControlEnds e) old h = row_good u.sub (ControlEnds e) u refl old h
+  transition_good u DeadlinePasses old h = row_good u.sub DeadlinePasses u refl old h
+  transition_good u Reset old h = row_good u.sub Reset u refl old h
 
 -- a unit that starts, runs or stops keeps a live process
 pub keeps_process : (s : ServiceSettings) (c : Around) (u : UnitState) (e : UnitEvent) → HasItsProcess u → HasItsProcess (transition s c u e).unit

@@ -1,5 +1,5 @@
 -- Laws of the tree: what each change keeps, and that a served path has its parts and no others.
-use Rattle.std.proofs.Common.{◌≡◌, ℕ, ◌+◌, ◌-◌, ◌<◌, ◌≤◌, nat_eq, nat_le, nat_lt, Bool, true, false, not, ◌&&◌, ◌||◌, cond, T, List, [], ◌∷◌, ◌++◌, length, take, drop, get_or, codes, Option, Some, None, is_none, is_some, option_map, option_and_then, Ordering, Less, Equal, Greater, refl, sym, ap, ◌∙◌, subst, append_assoc, append-nil, take-append-drop, take_at, length-append, lit≤, arith}
+use Rattle.std.proofs.Common.{◌≡◌, ℕ, ◌+◌, ◌-◌, ◌<◌, ◌≤◌, nat_eq, nat_le, nat_lt, Bool, true, false, not, ◌&&◌, ◌||◌, cond, T, List, [], ◌∷◌, ◌++◌, length, take, drop, get_or, codes, Option, Some, None, is_none, is_some, option_map, Ordering, Less, Equal, Greater, refl, sym, ap, ◌∙◌, subst, append_assoc, append-nil, take-append-drop, take_at, length-append, lit≤, arith}
 use Rattle.std.specs.Cmp.{tied_itself}
 use Rattle.std.specs.Cmp.Lexicographic.{slice_cmp, nat_list_cmp_total}
 use Rattle.std.specs.FinMap as map
@@ -17,14 +17,16 @@ use Rattle.std.proofs.lemmas.List.Prefix.{end_rest}
 use Rattle.std.proofs.lemmas.List.Sums.{count_by-le-length, length-filter, split_at_first, passes_at_first}
 use Rattle.std.proofs.lemmas.Option.{same_Some}
 use Rattle.std.proofs.lemmas.Slice.Eq.{bytes_eq-Decides, starts_is}
-use Rattle.um_model.specs.Names.{is_prefix_byte, is_instance_byte, is_fit_instance, instance_text, suffix_text, is_unit_name, is_template}
-use Rattle.um_model.specs.Refusals.{Refused, cause, first_cause}
-use Rattle.um_model.specs.Tree.{layer_text, Place, Unit, DropIn, Wants, Requires, place_text, PathParts, is_drop_in_name, is_plain_name, is_fit_place, IsPathOf, is_slash, behind, before, around_slash, layer_and_rest, place_in, unit_and_place, where_fit, path_parts, Entry, File, Link, Tree, IsTree, entry_limit, text_limit, is_served, is_fit_entry, is_fit_at, is_fit_target, is_link, is_other_than_link, is_full_for, put_cause, link_cause, is_volatile, has_run, without_run, path_text, are_fit}
+use Rattle.um_model.specs.Names.{is_prefix_byte, is_instance_byte, suffix_text, is_unit_name, is_template}
+use Rattle.um_model.specs.Refusals.{Refused}
+use Rattle.um_model.specs.Tree.{layer_text, Place, Unit, DropIn, Wants, Requires, place_text, PathParts, is_drop_in_name, is_plain_name, is_fit_place, IsPathOf, is_slash, behind, before, around_slash, layer_and_rest, place_in, unit_and_place, path_parts, Entry, File, Link, Tree, IsTree, entry_limit, text_limit, is_served, is_fit_entry, is_fit_target, is_link, is_other_than_link, is_full_for, put_cause, link_cause, is_volatile, without_run, path_text}
 use Rattle.um_model.specs.declared.names.Suffix.{Suffix}
 use Rattle.um_model.specs.declared.names.Suffix.TheVariants.{Service, Socket, Device, Mount, Automount, Swap, Target, Path, Timer, Slice, Scope}
 use Rattle.um_model.specs.declared.tree.Layer.{Layer}
 use Rattle.um_model.specs.declared.tree.Layer.TheVariants.{Etc, Run, Lib}
 use Rattle.um_model.proofs.NamesLaws.{named_by_parts}
+use Rattle.um_model.proofs.Forms.{where_fit, is_fit_at, instance_text, is_fit_instance}
+use Rattle.um_model.specs.Bytes.{◌>>=◌}
 
 tied : (o : Ordering) → is_eq o ≡ true → o ≡ Equal
 tied Less e = cc
@@ -35,13 +37,13 @@ same_order : (a b : List ℕ) → eq_by_cmp (slice_cmp nat_cmp) a b ≡ true →
 same_order a b e = slice_cmp-IsAntisymmetric nat_cmp-IsAntisymmetric a b (tied _ e)
 
 -- where none of three causes is told, none of them holds
-pub none_of_three : (a b c : Bool) (r s t : Refused) → first_cause (cause a r ∷ cause b s ∷ cause c t ∷ []) ≡ None → (a ≡ false) × (b ≡ false) × (c ≡ false)
+pub none_of_three : (a b c : Bool) (r s t : Refused) → cond a (Some r) (cond b (Some s) (cond c (Some t) None)) ≡ None → (a ≡ false) × (b ≡ false) × (c ≡ false)
 none_of_three true b c r s t e = cc
 none_of_three false true c r s t e = cc
 none_of_three false false true r s t e = cc
 none_of_three false false false r s t e = (refl, refl, refl)
 
-pub none_of_four : (a b c d : Bool) (r s t u : Refused) → first_cause (cause a r ∷ cause b s ∷ cause c t ∷ cause d u ∷ []) ≡ None → (a ≡ false) × (b ≡ false) × (c ≡ false) × (d ≡ false)
+pub none_of_four : (a b c d : Bool) (r s t u : Refused) → cond a (Some r) (cond b (Some s) (cond c (Some t) (cond d (Some u) None))) ≡ None → (a ≡ false) × (b ≡ false) × (c ≡ false) × (d ≡ false)
 none_of_four true b c d r s t u e = cc
 none_of_four false b c d r s t u e = let rest = none_of_three b c d s t u e in (refl, rest.0, rest.1, rest.2)
 
@@ -126,6 +128,10 @@ all_kept (e ∷ es) h = by (is_volatile e.0) refl h (all_kept es)
         → cond (not (is_volatile e.0)) (e ∷ where_key (slice_cmp nat_cmp) (λ path. not (is_volatile path)) es) (where_key (slice_cmp nat_cmp) (λ path. not (is_volatile path)) es) ≡ e ∷ es
     by true t h rest = cc
     by false t h rest = ap (λ b. cond (not b) (e ∷ where_key (slice_cmp nat_cmp) (λ path. not (is_volatile path)) es) (where_key (slice_cmp nat_cmp) (λ path. not (is_volatile path)) es)) t ∙ ap (λ xs. e ∷ xs) (rest h)
+
+-- an entry stands under `run/`
+abbrev pub has_run : Tree → Bool
+has_run tree = list_any (λ e. is_volatile e.0) (map.entries tree)
 
 pub without_run_same : (tree : Tree) → has_run tree ≡ false → without_run tree ≡ tree
 unfolding without_run
@@ -292,7 +298,7 @@ unit-parts rest (Some p) around q e = around-parts rest p around ∙ place-parts
 abbrev parts_of : Layer → List ℕ × Place → PathParts
 parts_of layer q = record { layer = layer; unit = q.0; place = q.1 }
 
-fit-parts : (layer : Layer) (rest : List ℕ) (o : Option (List ℕ × Place)) → unit_and_place rest ≡ o → (p : PathParts) → option_and_then (λ u. where_fit (parts_of layer u)) o ≡ Some p
+fit-parts : (layer : Layer) (rest : List ℕ) (o : Option (List ℕ × Place)) → unit_and_place rest ≡ o → (p : PathParts) → (o >>= λ u. where_fit (parts_of layer u)) ≡ Some p
     → IsPathOf (layer_text layer ++ rest) p
 fit-parts layer rest None found p e = cc
 fit-parts layer rest (Some q) found p e =
@@ -302,7 +308,7 @@ fit-parts layer rest (Some q) found p e =
 
 -- the parts by the layer and what follows it
 abbrev parts_behind : Option (Layer × List ℕ) → Option PathParts
-parts_behind o = option_and_then (λ l. option_and_then (λ u. where_fit (parts_of l.0 u)) (unit_and_place l.1)) o
+parts_behind o = o >>= λ l. unit_and_place l.1 >>= λ u. where_fit (parts_of l.0 u)
 
 path-parts : (path : List ℕ) (o : Option (Layer × List ℕ)) → layer_and_rest path ≡ o → (p : PathParts) → parts_behind o ≡ Some p → IsPathOf path p
 path-parts path None found p e = cc
@@ -453,15 +459,15 @@ unit-place unit (Wants other) is = in_directory unit (codes ".wants") other _ is
 unit-place unit (Requires other) is = in_directory unit (codes ".requires") other _ is refl (in_requires unit other)
 
 -- the parts of a path of a unit name are told where they fit together
-pub parts_at : (p : PathParts) → is_unit_name p.unit ≡ true → path_parts (path_text p) ≡ cond (are_fit p) (Some p) None
+pub parts_at : (p : PathParts) → is_unit_name p.unit ≡ true → path_parts (path_text p) ≡ cond (is_fit_place p.unit p.place) (Some p) None
 unfolding path_parts
 parts_at p is =
-    ap parts_behind (layer-text p.layer (p.unit ++ place_text p.place)) ∙ ap (option_and_then (λ u. where_fit (parts_of p.layer u))) (unit-place p.unit p.place is)
+    ap parts_behind (layer-text p.layer (p.unit ++ place_text p.place)) ∙ ap (λ o. o >>= λ u. where_fit (parts_of p.layer u)) (unit-place p.unit p.place is)
 
 -- the parts of a path are told
 pub parts_of_path : (path : List ℕ) (p : PathParts) → IsPathOf path p → path_parts path ≡ Some p
 parts_of_path path p of =
-    ap path_parts of.spelled ∙ parts_at p (fit-name p.unit p.place of.fit) ∙ cond-true (are_fit p) (Some p) None of.fit
+    ap path_parts of.spelled ∙ parts_at p (fit-name p.unit p.place of.fit) ∙ cond-true (is_fit_place p.unit p.place) (Some p) None of.fit
 
 -- a path has one sequence of parts at most
 pub one_path_reading : (path : List ℕ) (p q : PathParts) → IsPathOf path p → IsPathOf path q → p ≡ q

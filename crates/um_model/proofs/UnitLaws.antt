@@ -8,7 +8,7 @@ use Rattle.std.specs.FinMap as map
 use Rattle.std.specs.Cmp.Lexicographic.{slice_cmp, nat_list_cmp_total}
 use Rattle.std.specs.Cmp.{eq_by_cmp_equiv}
 use Rattle.std.specs.Ordering.{nat_cmp, eq_by_cmp}
-use Rattle.um_model.specs.Service.{ByUnit, is_dead, is_success, has_no_process, has_no_moment, has_no_past, holds_nothing, dead_unit, state_of_unit, with_unit}
+use Rattle.um_model.specs.Service.{ByUnit, is_dead, is_success, holds_nothing, dead_unit, state_of_unit, with_unit}
 use Rattle.um_model.specs.Jobs.{no_jobs, jobs_of_unit, has_job, with_jobs}
 use Rattle.um_model.specs.declared.jobs.UnitJobs.{UnitJobs}
 use Rattle.um_model.specs.declared.service.SubState.{SubState}
@@ -16,6 +16,7 @@ use Rattle.um_model.specs.declared.service.SubState.TheVariants.{Dead}
 use Rattle.um_model.specs.declared.service.UnitResult.{UnitResult}
 use Rattle.um_model.specs.declared.service.UnitResult.TheVariants.{Success}
 use Rattle.um_model.specs.declared.service.UnitState.{UnitState}
+use Rattle.um_model.proofs.Forms.{has_no_process, has_no_moment, has_no_past}
 
 both : (a b : Bool) → (a && b) ≡ true → (a ≡ true) × (b ≡ true)
 both true b h = (refl, h)

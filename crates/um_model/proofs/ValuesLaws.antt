@@ -3,7 +3,7 @@ use Rattle.std.proofs.Common.{◌≡◌, ◌<◌, ◌≤◌, ℕ, zero, suc, ◌
 use Rattle.std.specs.Prelude.{nat_lt, option_and_then, sum}
 use Rattle.std.specs.Char.{to_ascii_lowercase}
 use Rattle.std.specs.List.{list_any, list_all}
-use Rattle.std.specs.Str.{bytes_eq}
+use Rattle.std.specs.Str.{bytes_eq, str_eq_ignore_ascii_case}
 use Rattle.std.proofs.Math.Path.{fun_ext}
 use Rattle.std.proofs.lemmas.List.{take-append-drop}
 use Rattle.std.proofs.lemmas.List.Sums.{take_while-cons, sum_by-cons}
@@ -11,25 +11,27 @@ use Rattle.std.proofs.lemmas.Option.{same_Some, none-some}
 use Rattle.std.proofs.lemmas.Bool.{cases_Bool, cond-true, cond-false, and_from, and_parts, or_cases, not-true, eqb-true, lt-ltb, ltb-true, le-leb, leb-true, false_from_ne_true, true≢false}
 use Rattle.std.proofs.lemmas.Slice.Eq.{bytes_eq-Decides}
 use Rattle.um_model.specs.Ascii.{is_space, is_digit}
-use Rattle.um_model.specs.Pieces.{front_of, StandsForText, done, reading}
+use Rattle.std.specs.Option.{option_map_or}
+use Rattle.um_model.specs.Pieces.{Gives, Unreadable, reading}
 use Rattle.um_model.specs.Text.{trim_start, is_empty, is_blank}
-use Rattle.um_model.specs.Finds.{Finds}
+use Rattle.um_model.proofs.FindsLaws.{Finds}
 use Rattle.um_model.specs.Moments.{span_limit}
-use Rattle.um_model.specs.Values.{words_for, is_same_in_any_case, boolean_of, decimal, is_decimal, number_limit, number_of, unit_size, digits_of, unit_of, past_part, time_of, time_front, span_within, span_of, words_in, tells_end, is_exit, exits_of, restart_text, policies, policy_named}
+use Rattle.um_model.specs.Values.{words_for, boolean_of, decimal, is_decimal, number_of, time_of, time_front, span_of, exits_of, restart_text, policy_named}
 use Rattle.um_model.specs.declared.service.End.{End}
 use Rattle.um_model.specs.declared.settings.RestartPolicy.{RestartPolicy}
 use Rattle.um_model.specs.declared.settings.RestartPolicy.TheVariants.{No, Always, OnSuccess, OnFailure, OnAbnormal, OnAbort, OnWatchdog}
 use Rattle.um_model.proofs.FindsLaws.{one_found}
-use Rattle.um_model.proofs.PiecesLaws.{prefixed, prefixed-nil, reading_first, reading_unreadable, reading-StandsForText, StandsForText-reading, Follows, past_piece}
+use Rattle.um_model.proofs.PiecesLaws.{StandsForText, done, prefixed, prefixed-nil, reading_first, reading_unreadable, reading-StandsForText, StandsForText-reading, Follows, past_piece}
 use Rattle.um_model.proofs.TextLaws.{trim_start_cuts}
-use Rattle.um_model.specs.declared.settings.TimeSpan.{TimeSpan}
-use Rattle.um_model.specs.declared.settings.TimeSpan.TheVariants.{Micros, Infinite}
+use Rattle.um_model.proofs.Forms.{span_within, tells_end, is_exit}
+use Rattle.um_model.proofs.FileForms.{number_limit, unit_size, digits_of, unit_of, past_part}
+use Rattle.um_model.proofs.FileForms.{words_in, policies}
 
 -- ---- the values as relations
 
 -- the text is one of the words for this truth value, in any ASCII case
 abbrev pub IsBoolean : List ℕ → Bool → Type 0
-IsBoolean text b = list_any (is_same_in_any_case text) (words_for b) ≡ true
+IsBoolean text b = list_any (str_eq_ignore_ascii_case text) (words_for b) ≡ true
 
 -- the text spells this number, which isn't too great
 pub record IsNumber (text : List ℕ) (n : ℕ) : Type 0 where
@@ -42,9 +44,9 @@ abbrev pub AddUpTo : List ℕ → ℕ → Type 0
 AddUpTo text n = (times : List ℕ) × StandsForText time_front text times × (sum times ≡ n)
 
 -- the text is `infinity`, or it has one part at least and its parts add up to this
-abbrev pub IsSpan : List ℕ → TimeSpan → Type 0
-IsSpan text Infinite = text ≡ codes "infinity"
-IsSpan text (Micros n) = (is_blank text ≡ false) × AddUpTo text n × (n ≤ span_limit)
+abbrev pub IsSpan : List ℕ → Option ℕ → Type 0
+IsSpan text None = text ≡ codes "infinity"
+IsSpan text (Some n) = (is_blank text ≡ false) × AddUpTo text n × (n ≤ span_limit)
 
 -- each word of the text tells an end, and the set holds the ends that they tell and no other
 pub record IsExitSet (text : List ℕ) (holds : End → Bool) : Type 0 where
@@ -154,7 +156,7 @@ part_sum b bs first apart time =
     let text = b ∷ bs in
     let past = past_part text in
     let n = length text - length past in
-    let front = cond-false _ _ _ apart ∙ ap (λ t. front_of (option_map (λ m. m ∷ []) t) n) (time_of-IsTime (digits_of text) (unit_of text) first time) in
+    let front = cond-false _ _ _ apart ∙ ap (λ t. option_map_or (λ m. Gives (m ∷ []) n) t Unreadable) (time_of-IsTime (digits_of text) (unit_of text) first time) in
     ap (option_map sum) (reading_first time_front b n bs (first ∷ []) front ∙ ap (λ t. prefixed (first ∷ []) (reading time_front t)) (past_piece b bs past (past_follows b bs time.some)))
     ∙ sum_of_first first (reading time_front past)
 
@@ -180,7 +182,7 @@ sum-first (b ∷ bs) n trimmed some adds = elim (cases_Bool (is_space b)) [
       elim (time_of (digits_of text) (unit_of text)) as
       (λ t. time_of (digits_of text) (unit_of text) ≡ t → (first : ℕ) × (m : ℕ) × IsTime (digits_of text) (unit_of text) first × AddUpTo (past_part text) m × (n ≡ first + m)) [
         | None ↦ λ e.
-            let none = ap (option_map sum) (reading_unreadable time_front b bs (cond-false _ _ _ apart ∙ ap (λ t. front_of (option_map (λ m. m ∷ []) t) size) e)) in
+            let none = ap (option_map sum) (reading_unreadable time_front b bs (cond-false _ _ _ apart ∙ ap (λ t. option_map_or (λ m. Gives (m ∷ []) size) t Unreadable) e)) in
             absurd (none-some n (sym none ∙ sum_in-AddUpTo text n adds))
         | Some first ↦ λ e.
             let time = IsTime-time_of (digits_of text) (unit_of text) first e in
@@ -202,11 +204,11 @@ no_sum n sum = let q = sum-first (codes "infinity") n refl refl sum in omega (ar
 -- The same as functions.
 
 -- no word for yes is one for no
-no_word_for_both : (lower : List ℕ) (words : List (List ℕ)) → list_all (λ w. not (list_any (is_same_in_any_case w) (words_for true))) words ≡ true
+no_word_for_both : (lower : List ℕ) (words : List (List ℕ)) → list_all (λ w. not (list_any (str_eq_ignore_ascii_case w) (words_for true))) words ≡ true
     → list_any (λ w. bytes_eq lower (map to_ascii_lowercase w)) words ≡ true → list_any (λ w. bytes_eq lower (map to_ascii_lowercase w)) (words_for true) ≡ false
 no_word_for_both lower [] apart h = absurd (true≢false (sym h))
 no_word_for_both lower (w ∷ words) apart h =
-    let t = and_parts (not (list_any (is_same_in_any_case w) (words_for true))) _ apart in
+    let t = and_parts (not (list_any (str_eq_ignore_ascii_case w) (words_for true))) _ apart in
     elim (or_cases (bytes_eq lower (map to_ascii_lowercase w)) _ h) [
       | inl same ↦ ap (λ x. list_any (λ v. bytes_eq x (map to_ascii_lowercase v)) (words_for true)) ((bytes_eq-Decides lower (map to_ascii_lowercase w)).0 same) ∙ not-true _ t.0
       | inr later ↦ no_word_for_both lower words t.1 later
@@ -218,7 +220,7 @@ unfolding boolean_of
 boolean_of-IsBoolean text true is = cond-true _ _ _ is
 boolean_of-IsBoolean text false is = cond-false _ _ _ (no_word_for_both (map to_ascii_lowercase text) (words_for false) refl is) ∙ cond-true _ _ _ is
 
-boolean_by : (text : List ℕ) (y n b : Bool) → list_any (is_same_in_any_case text) (words_for true) ≡ y → list_any (is_same_in_any_case text) (words_for false) ≡ n
+boolean_by : (text : List ℕ) (y n b : Bool) → list_any (str_eq_ignore_ascii_case text) (words_for true) ≡ y → list_any (str_eq_ignore_ascii_case text) (words_for false) ≡ n
     → cond y (Some true) (cond n (Some false) None) ≡ Some b → IsBoolean text b
 boolean_by text true n b is other e = subst (IsBoolean text) (same_Some true b e) is
 boolean_by text false true b other is e = subst (IsBoolean text) (same_Some false b e) is
@@ -290,31 +292,31 @@ not_endless text n sum =
     false_from_ne_true _ (λ e. no_sum n (subst (λ x. AddUpTo x n) ((bytes_eq-Decides text (codes "infinity")).0 e) sum))
 
 -- the function tells the time span of a text
-pub span_of-IsSpan : (text : List ℕ) (span : TimeSpan) → IsSpan text span → span_of text ≡ Some span
+pub span_of-IsSpan : (text : List ℕ) (span : Option ℕ) → IsSpan text span → span_of text ≡ Some span
 unfolding span_of
-span_of-IsSpan text Infinite is = cond-true _ _ _ ((bytes_eq-Decides text (codes "infinity")).1 is)
-span_of-IsSpan text (Micros n) is =
+span_of-IsSpan text None is = cond-true _ _ _ ((bytes_eq-Decides text (codes "infinity")).1 is)
+span_of-IsSpan text (Some n) is =
     cond-false _ _ _ (not_endless text n is.1)
     ∙ cond-false _ _ _ is.0
     ∙ ap (option_and_then span_within) (sum_in-AddUpTo text n is.1)
     ∙ cond-true _ _ _ (le-leb n span_limit is.2)
 
-within_limit : (r : Option ℕ) (span : TimeSpan) → option_and_then span_within r ≡ Some span → (n : ℕ) × (r ≡ Some n) × (n ≤ span_limit) × (Micros n ≡ span)
+within_limit : (r : Option ℕ) (span : Option ℕ) → option_and_then span_within r ≡ Some span → (n : ℕ) × (r ≡ Some n) × (n ≤ span_limit) × (Some n ≡ span)
 within_limit None span e = absurd (none-some span e)
 within_limit (Some n) span e = elim (cases_Bool (leb n span_limit)) [
-  | inl fits ↦ (n, refl, leb-true n span_limit fits, same_Some (Micros n) span (sym (cond-true _ _ _ fits) ∙ e))
+  | inl fits ↦ (n, refl, leb-true n span_limit fits, same_Some (Some n) span (sym (cond-true _ _ _ fits) ∙ e))
   | inr other ↦ absurd (none-some span (sym (cond-false _ _ _ other) ∙ e))
 ]
 
-span_by : (text : List ℕ) (endless empty : Bool) (span : TimeSpan) → bytes_eq text (codes "infinity") ≡ endless → is_blank text ≡ empty
-    → cond endless (Some Infinite) (cond empty None (option_and_then span_within (sum_in text))) ≡ Some span → IsSpan text span
-span_by text true empty span is other e = subst (IsSpan text) (same_Some Infinite span e) ((bytes_eq-Decides text (codes "infinity")).0 is)
+span_by : (text : List ℕ) (endless empty : Bool) (span : Option ℕ) → bytes_eq text (codes "infinity") ≡ endless → is_blank text ≡ empty
+    → cond endless (Some None) (cond empty None (option_and_then span_within (sum_in text))) ≡ Some span → IsSpan text span
+span_by text true empty span is other e = subst (IsSpan text) (same_Some None span e) ((bytes_eq-Decides text (codes "infinity")).0 is)
 span_by text false true span is other e = absurd (none-some span e)
 span_by text false false span is some e =
     let t = within_limit (sum_in text) span e in
     subst (IsSpan text) t.3 (some, AddUpTo-sum_in text t.0 t.1, t.2)
 
-pub IsSpan-span_of : (text : List ℕ) (span : TimeSpan) → span_of text ≡ Some span → IsSpan text span
+pub IsSpan-span_of : (text : List ℕ) (span : Option ℕ) → span_of text ≡ Some span → IsSpan text span
 unfolding span_of
 IsSpan-span_of text span e = span_by text _ _ span refl refl e
 
@@ -339,5 +341,5 @@ pub finds_policy : (text : List ℕ) → Finds (policy_named text) (λ policy. r
 finds_policy text = λ policy. (restart_text-policy_named text policy, λ is. subst (λ t. policy_named t ≡ Some policy) is (policy_named-restart_text policy))
 
 -- a text is one time span at most
-pub one_span : (text : List ℕ) (a b : TimeSpan) → IsSpan text a → IsSpan text b → a ≡ b
+pub one_span : (text : List ℕ) (a b : Option ℕ) → IsSpan text a → IsSpan text b → a ≡ b
 one_span text = one_found (span_of text) (IsSpan text) (finds_span text)

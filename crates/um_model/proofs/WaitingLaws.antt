@@ -8,8 +8,8 @@ use Rattle.std.proofs.lemmas.Bool.{cases_lt}
 use Rattle.std.proofs.lemmas.Map.Lookups.{exact_bytes}
 use Rattle.std.proofs.lemmas.Map.Views.{tells_apart}
 use Rattle.um_model.proofs.UnitLaws.{jobs_here, jobs_apart}
-use Rattle.um_model.specs.Jobs.{Job, job_of, jobs_of_unit, no_jobs, with_jobs, with_running, unless_running, start_left, jobs_left, BeginsNext}
-use Rattle.um_model.specs.Machine.{State, Carries, Becomes, alone, along, TakesAlong, FallDown, Happens, begins, begun, changed, change_of, IsBefore}
+use Rattle.um_model.specs.Jobs.{Job, job_of, jobs_of_unit, no_jobs, with_jobs, unless_running, start_left, jobs_left, BeginsNext}
+use Rattle.um_model.specs.Machine.{State, is_waiting, Carries, Becomes, alone, along, TakesAlong, FallDown, Happens, begins, begun, changed, change_of, IsBefore}
 use Rattle.um_model.specs.Service.{ByUnit, Action}
 use Rattle.um_model.specs.declared.jobs.JobKind.{JobKind}
 use Rattle.um_model.specs.declared.jobs.JobKind.TheVariants.{Stop, Start}
@@ -22,6 +22,28 @@ use Rattle.um_model.specs.declared.transition.StartJob.{StartJob}
 use Rattle.um_model.specs.declared.transition.StartJob.TheVariants.{Stays, Ends, Fails}
 use Rattle.um_model.proofs.FallLaws.{over_falls}
 use Rattle.um_model.proofs.TimersLaws.{same_name}
+use Rattle.um_model.proofs.Forms.{with_running}
+
+-- a job of the unit waits, as it is tested
+abbrev pub has_waiting : UnitJobs → Bool
+has_waiting j = is_waiting j.stop || is_waiting j.start
+
+neither : (a b : Bool) → (a || b) ≡ false → (a ≡ false) × (b ≡ false)
+neither false false e = (refl, refl)
+neither true b e = absurd (true≢false e)
+neither false true e = absurd (true≢false e)
+
+pub none_waiting : (j : UnitJobs) → has_waiting j ≡ false → (kind : JobKind) → job_of kind j ≢ Some Waiting
+none_waiting j none Stop is = true≢false (sym (ap is_waiting is) ∙ (neither (is_waiting j.stop) (is_waiting j.start) none).0)
+none_waiting j none Start is = true≢false (sym (ap is_waiting is) ∙ (neither (is_waiting j.stop) (is_waiting j.start) none).1)
+
+isnt_waiting : (o : Option JobState) → o ≢ Some Waiting → is_waiting o ≡ false
+isnt_waiting None isnt = refl
+isnt_waiting (Some Running) isnt = refl
+isnt_waiting (Some Waiting) isnt = absurd (isnt refl)
+
+pub none_told : (j : UnitJobs) → ((kind : JobKind) → job_of kind j ≢ Some Waiting) → has_waiting j ≡ false
+none_told j none = ap (λ b. b || is_waiting j.start) (isnt_waiting j.stop (none Stop)) ∙ isnt_waiting j.start (none Start)
 
 abbrev pub waits : Option JobState → ℕ
 waits (Some Waiting) = 1

@@ -23,8 +23,8 @@ use Rattle.um_model.specs.Refusals.{Refused}
 use Rattle.um_model.specs.Servable.{IsServable}
 use Rattle.um_model.specs.Service.{Action, dead_unit, state_of_unit}
 use Rattle.um_model.specs.Spellings.{FitProcess, FitDeadline, FitCounted, FitUnitName, FitUnit}
-use Rattle.um_model.specs.StateSpellings.{FitEntry, FitTree, FitJob, has_begun, numbers_in, are_distinct, state_spelling, FitState}
-use Rattle.um_model.specs.Transitions.{numbers, live_numbers, HasNumber}
+use Rattle.um_model.specs.StateSpellings.{FitEntry, FitTree, numbers_in, are_distinct, state_spelling, FitState}
+use Rattle.um_model.specs.Transitions.{live_numbers, HasNumber}
 use Rattle.um_model.specs.Tree.{Tree, Entry, File, Link}
 use Rattle.um_model.specs.Weight.{weight_of}
 use Rattle.um_model.specs.declared.jobs.JobState.{JobState}
@@ -44,6 +44,7 @@ use Rattle.um_model.proofs.InputLengthLaws.{number_long, accepted_short}
 use Rattle.um_model.proofs.LeastLaws.{Among}
 use Rattle.um_model.proofs.SceneLaws.{held_list}
 use Rattle.um_model.proofs.StateLengthLaws.{spelled_short}
+use Rattle.um_model.proofs.Forms.{numbers, has_begun, FitJob}
 
 -- ---- what holds of each entry holds of what stands at a text
 

@@ -8,9 +8,11 @@ use Rattle.um_model.specs.Ascii.{is_space}
 use Rattle.um_model.specs.declared.words.WordRules.{WordRules}
 use Rattle.um_model.specs.declared.words.WordRules.TheVariants.{Escaped, Plain, Names}
 use Rattle.um_model.specs.Pieces.{Front, Unreadable, Ends, Gives, by_front, begun}
-pub use Rattle.um_model.specs.Pieces.{with_front}
-use Rattle.um_model.specs.Words.{begins_with_digits, meaning_of, hex_value, hex_front, is_left_out, rare_front, backslash_front, begins_escape, is_quote, quoted_front, may_stay_open, quote_front, piece_of_word}
+use Rattle.um_model.specs.Words.{begins_with_digits, is_left_out, rare_front, backslash_front, begins_escape, is_quote, quoted_front, quote_front, piece_of_word}
 use Rattle.um_model.proofs.PiecesLaws.{begun_step, BeginsWith-begun, left_follows, Follows, past_piece}
+use Rattle.um_model.proofs.FileForms.{meaning_of, hex_value}
+pub use Rattle.um_model.proofs.FileForms.{with_front}
+use Rattle.um_model.proofs.FileForms.{hex_front}
 
 -- the front of a text, inside a quote or not: the word ends before it, it can't be read, a quote opens or closes,
 -- it means a byte and takes so many bytes, or so many bytes stay as written
@@ -180,7 +182,8 @@ same_piece rules quote front after size b bs s goes agrees small is spelled same
 -- what is read behind a quote, where so much is found inside
 abbrev past_quote : WordRules → Option (List ℕ × List ℕ) → Option (List ℕ × List ℕ)
 past_quote rules None = None
-past_quote rules (Some (found, [])) = if may_stay_open rules then Some (found, []) else None
+past_quote Plain (Some (found, [])) = Some (found, [])
+past_quote rules (Some (found, [])) = None
 past_quote rules (Some (found, quote ∷ left)) = with_front found (read rules 0 None left)
 
 past_more : (rules : WordRules) (xs : List ℕ) (r : Option (List ℕ × List ℕ)) → past_quote rules (with_front xs r) ≡ with_front xs (past_quote rules r)

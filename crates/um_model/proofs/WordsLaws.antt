@@ -5,17 +5,19 @@ use Rattle.std.specs.List.{prefix_len, flat_map, slice_split, onto_first}
 use Rattle.std.proofs.lemmas.List.{drop-drop, length-drop}
 use Rattle.std.proofs.lemmas.Bool.{cases_Bool, true≢false, cond-true, cond-false, or_parts, or_cases, not-true, not-false, eqb-true}
 use Rattle.std.proofs.lemmas.Option.{some_pair_parts, none-some, same_Some}
+use Rattle.std.specs.Option.{option_map_or}
 use Rattle.um_model.specs.Ascii.{is_space}
-use Rattle.um_model.specs.Finds.{Finds}
+use Rattle.um_model.proofs.FindsLaws.{Finds}
 use Rattle.um_model.specs.declared.words.WordRules.{WordRules}
 use Rattle.um_model.specs.declared.words.WordRules.TheVariants.{Escaped, Plain, Names}
 pub use Rattle.um_model.proofs.WordSteps.{with_front, at_end, by_spelling, read}
 use Rattle.um_model.proofs.WordSteps.{Spelling, Stop, Bad, Turn, Means, Kept, escape, bare, spelled_at, may_end, read_skip, front_of_front, no_front, is_piece, escape_piece, begun-read}
 use Rattle.um_model.proofs.FindsLaws.{one_found}
-use Rattle.um_model.specs.Words.{is_quote, begins_escape, Word, word_front, piece_of_words, word_values, AreWords, words_of}
-use Rattle.um_model.specs.Commands.{Command, is_separator, value_in_command, command_of, commands_among, commands_read}
-use Rattle.um_model.specs.Pieces.{StandsForText, reading}
-use Rattle.um_model.proofs.PiecesLaws.{prefixed, reading_first, reading_unreadable, reading-StandsForText, StandsForText-reading, prefixed-nil, Follows, follows_more, past_piece}
+use Rattle.um_model.specs.Words.{is_quote, begins_escape, Word, word_front, piece_of_words, words_of}
+use Rattle.um_model.specs.Commands.{Command, is_separator, value_in_command, command_of, commands_read}
+use Rattle.um_model.specs.Pieces.{reading, Unreadable}
+use Rattle.um_model.proofs.PiecesLaws.{StandsForText, prefixed, reading_first, reading_unreadable, reading-StandsForText, StandsForText-reading, prefixed-nil, Follows, follows_more, past_piece}
+use Rattle.um_model.proofs.FileForms.{word_values, commands_among}
 
 -- the byte ends or turns a word, outside quotes or in one
 abbrev pub marks : Option ℕ → ℕ → Bool
@@ -258,7 +260,7 @@ first_read : (rules : WordRules) (b : ℕ) (bs value rest : List ℕ) → is_spa
 first_read rules b bs value rest apart found =
     let inside = InWord-read rules (length (b ∷ bs)) None (b ∷ bs) value rest (omega arith) found in
     let first = first_word (b ∷ bs) rest value in
-    reading_first (piece_of_words rules) b (length (b ∷ bs) - length rest) bs (first ∷ []) (cond-false _ _ _ apart ∙ ap (word_front (b ∷ bs)) (begun-read rules (b ∷ bs) ∙ found))
+    reading_first (piece_of_words rules) b (length (b ∷ bs) - length rest) bs (first ∷ []) (cond-false _ _ _ apart ∙ ap (λ o. option_map_or (word_front (b ∷ bs)) o Unreadable) (begun-read rules (b ∷ bs) ∙ found))
     ∙ ap (λ t. prefixed (first ∷ []) (reading (piece_of_words rules) t)) (past_piece b bs rest (rest_follows_first rules b bs value rest apart inside))
 
 -- a text that begins with a word is this word, and the words that follow it
@@ -274,7 +276,11 @@ word_read rules text rest later b value e apart found =
 pub none_read : (rules : WordRules) (text later : List ℕ) (b : ℕ) → text ≡ b ∷ later → is_space b ≡ false → read rules 0 None text ≡ None → reading (piece_of_words rules) text ≡ None
 none_read rules text later b e apart nothing =
     ap (reading (piece_of_words rules)) e
-    ∙ reading_unreadable (piece_of_words rules) b later (cond-false _ _ _ apart ∙ ap (word_front (b ∷ later)) (begun-read rules (b ∷ later) ∙ ap (read rules 0 None) (sym e) ∙ nothing))
+    ∙ reading_unreadable (piece_of_words rules) b later (cond-false _ _ _ apart ∙ ap (λ o. option_map_or (word_front (b ∷ later)) o Unreadable) (begun-read rules (b ∷ later) ∙ ap (read rules 0 None) (sym e) ∙ nothing))
+
+-- the text reads as these words
+abbrev pub AreWords : WordRules → List ℕ → List (List ℕ) → Type 0
+AreWords rules text words = (spelled : List Word) × StandsForText (piece_of_words rules) text spelled × (word_values spelled ≡ words)
 
 -- the same of what the words stand for
 pub words_of-AreWords : (rules : WordRules) (text : List ℕ) (words : List (List ℕ)) → AreWords rules text words → words_of rules text ≡ Some words

@@ -11,10 +11,6 @@ is_space b = b == 32 || b == 9
 abbrev pub is_digit : ℕ → Bool
 is_digit b = nat_le 48 b && nat_le b 57
 
--- a to z
-abbrev pub is_small_letter : ℕ → Bool
-is_small_letter b = nat_le 97 b && nat_le b 122
-
 -- A to Z, a to z
 abbrev pub is_letter : ℕ → Bool
-is_letter b = (nat_le 65 b && nat_le b 90) || is_small_letter b
+is_letter b = (nat_le 65 b && nat_le b 90) || (nat_le 97 b && nat_le b 122)

@@ -3,11 +3,12 @@
 -- The bytes of inputs and states, slots and the log stand on this file.
 use Rattle.std.specs.Prelude.{◌≡◌, ℕ, zero, suc, ◌<◌, ◌≤◌, ◌^◌, nat_lt, nat_le, Bool, true, false, ◌&&◌, List, [], ◌∷◌, ◌++◌, length, take, drop}
 use Rattle.std.specs.Prelude.{slice_index, Option, Some, None, if◌then◌else◌}
-use Rattle.std.specs.List.{flat_map, list_all, AllByRecursion}
+use Rattle.std.specs.List.{flat_map, list_all, AllByRecursion, slice_get}
 use Rattle.std.specs.Str.{is_utf8}
 use Rattle.std.specs.Ordering.{is_lt, nat_cmp}
 use Rattle.std.specs.Cmp.Lexicographic.{slice_cmp}
 use Rattle.std.specs.FinMap as map
+use Rattle.std.specs.Option.{option_map_or}
 use Rattle.byteorder.specs.Endian.{big_number, big_bytes}
 
 -- how values are spelled
@@ -34,9 +35,8 @@ pub record IsInFront (front bytes : List ℕ) : Type 0 where
 
 -- the value of a reading behind which nothing is left
 abbrev pub nothing_left : {V : Type 0} → Option (V × List ℕ) → Option V
-nothing_left None = None
 nothing_left (Some (v, [])) = Some v
-nothing_left (Some (v, b ∷ rest)) = None
+nothing_left other = None
 
 infixl 10 ◌>>=◌
 -- what the second makes of the first, where there is one
@@ -94,16 +94,18 @@ between_at first last = only_at (is_between first last) (number_at 8)
 
 -- ---- a choice, told by its tag
 
--- the choice at this place of a table, from 0
-abbrev pub in_table : {A : Type 0} → List A → ℕ → Option A
-in_table [] tag = None
-in_table (a ∷ table) zero = Some a
-in_table (a ∷ table) (suc tag) = in_table table tag
-
 -- a choice without fields
 abbrev pub tag_at : {A : Type 0} → (ℕ → Option A) → Reading A
 tag_at of [] = None
 tag_at of (tag ∷ rest) = of tag >>= λ a. Some (a, rest)
+
+-- a choice without fields, by its place in a table, from 0
+abbrev pub table_at : {A : Type 0} → List A → Reading A
+table_at table = tag_at (slice_get table)
+
+-- its tag alone
+abbrev pub tagged : {A : Type 0} → (A → ℕ) → Spelling A
+tagged tag a = tag a ∷ []
 
 -- a choice with fields: each tag has its reading
 abbrev pub choice_at : {A : Type 0} → (ℕ → Reading A) → Reading A
@@ -131,33 +133,19 @@ abbrev pub truth_tag : Bool → ℕ
 truth_tag false = 0
 truth_tag true = 1
 
--- 0 is no, 1 is yes, and nothing else is either
-abbrev pub truth_of : ℕ → Option Bool
-truth_of zero = Some false
-truth_of (suc zero) = Some true
-truth_of (suc (suc n)) = None
-
--- the tag alone
-abbrev pub truth_spelling : Spelling Bool
-truth_spelling b = truth_tag b ∷ []
-
--- no or yes
-abbrev pub truth_at : Reading Bool
-truth_at = tag_at truth_of
+-- by their tags
+abbrev pub truths : List Bool
+truths = false ∷ true ∷ []
 
 -- ---- an option: 0, or 1 and the value
 
 -- 0 where there is no value; else 1 and the value
 abbrev pub option_spelling : {A : Type 0} → Spelling A → Spelling (Option A)
-option_spelling one None = 0 ∷ []
-option_spelling one (Some x) = 1 ∷ one x
+option_spelling one o = option_map_or (λ x. 1 ∷ one x) o (0 ∷ [])
 
 -- no value behind a 0, one behind a 1
 abbrev pub option_at : {A : Type 0} → Reading A → Reading (Option A)
-option_at one [] = None
-option_at one (zero ∷ rest) = Some (None, rest)
-option_at one (suc zero ∷ rest) = one rest >>= λ a. Some (Some a.0, a.1)
-option_at one (suc (suc n) ∷ rest) = None
+option_at one = choice_at (arm_in (just_at None ∷ as_at Some one ∷ []))
 
 -- ---- a text: how many bytes it has, and those, in UTF-8
 
@@ -202,15 +190,14 @@ list_at one bytes = number_at 4 bytes >>= λ n. many_at one n.0 n.1
 abbrev pub ByText : Type 0 → Type 0
 ByText A = map.FinMap (slice_cmp nat_cmp) A
 
--- the key is below that of the next entry, where there is one
-abbrev pub is_below_next : {A : Type 0} → List ℕ → List (List ℕ × A) → Bool
-is_below_next key [] = true
-is_below_next key (e ∷ es) = is_lt (slice_cmp nat_cmp key e.0)
+-- each is below the next
+abbrev pub all_ascend : {A : Type 0} → (A → A → Bool) → List A → Bool
+all_ascend is_below [] = true
+all_ascend is_below (a ∷ others) = option_map_or (is_below a) (slice_get others 0) true && all_ascend is_below others
 
--- each key is below the next
+-- so by their keys
 abbrev pub ascends : {A : Type 0} → List (List ℕ × A) → Bool
-ascends [] = true
-ascends (e ∷ es) = is_below_next e.0 es && ascends es
+ascends entries = all_ascend (λ e next. is_lt (slice_cmp nat_cmp e.0 next.0)) entries
 
 -- each key passes the test
 abbrev pub are_keys : {A : Type 0} → (List ℕ → Bool) → List (List ℕ × A) → Bool

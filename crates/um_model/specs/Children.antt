@@ -1,11 +1,9 @@
 -- What is asked of the children of the manager and what they tell, as one history of calls, the oldest first.
 -- No manual page has this: processes under numbers are the project's own (docs/FORMATS.md, "The runner's files").
 -- Receipts, children and the running manager stand on this file.
-use Rattle.std.specs.Prelude.{◌≡◌, ◌∷◌, ◌++◌, ◌==◌, ◌&&◌, [], List, ℕ, Bool, true, false, Option, Some, None, Result, Ok, Err, flat_map}
-use Rattle.std.specs.List.{list_any}
+use Rattle.std.specs.Prelude.{◌∷◌, [], List, ℕ, Bool, false, Option, flat_map}
 use Rattle.um_model.specs.Service.{Action, SpawnProcess, SendSignal}
 use Rattle.um_model.specs.declared.children.Fate.{Fate}
-use Rattle.um_model.specs.declared.children.Fate.TheVariants.{Starting, Executed, Ended, Absent}
 use Rattle.um_model.specs.declared.service.Signal.{Signal}
 
 -- what is to be started: under which number, with which words and environment
@@ -34,23 +32,10 @@ orders_in (Asked number claim told) = []
 abbrev pub orders : List Call → List Action
 orders calls = flat_map orders_in calls
 
--- the number that a call starts, if any
-abbrev pub starts_in : Call → List ℕ
-starts_in (Spawned spawn is_taken true) = spawn.number ∷ []
-starts_in (Spawned spawn is_taken false) = []
-starts_in (Signalled number signal) = []
-starts_in (Asked number claim told) = []
-
--- the numbers started
-abbrev pub started : List Call → List ℕ
-started calls = flat_map starts_in calls
-
 -- the number whose start a call refused, if any
 abbrev pub refusals_in : Call → List ℕ
-refusals_in (Spawned spawn true starts) = []
 refusals_in (Spawned spawn false starts) = spawn.number ∷ []
-refusals_in (Signalled number signal) = []
-refusals_in (Asked number claim told) = []
+refusals_in other = []
 
 -- the numbers whose start was refused
 abbrev pub refused : List Call → List ℕ
@@ -65,66 +50,8 @@ pub record Tale : Type 0 where
 -- the fate that a call asks, if any
 abbrev pub tales_in : Call → List Tale
 tales_in (Asked number claim told) = record { number = number; claim = claim; told = told } ∷ []
-tales_in (Spawned spawn is_taken starts) = []
-tales_in (Signalled number signal) = []
+tales_in other = []
 
 -- the fates asked
 abbrev pub tales : List Call → List Tale
 tales calls = flat_map tales_in calls
-
-abbrev pub is_absent : Fate → Bool
-is_absent Absent = true
-is_absent Starting = false
-is_absent Executed = false
-is_absent (Ended end) = false
-
--- whether absence was told
-abbrev pub tells_absent : Option Fate → Bool
-tells_absent None = false
-tells_absent (Some fate) = is_absent fate
-
--- whether a call starts the number
-abbrev pub is_start : ℕ → Call → Bool
-is_start n (Spawned spawn is_taken starts) = starts && (spawn.number == n)
-is_start n (Signalled number signal) = false
-is_start n (Asked number claim told) = false
-
--- whether a call tells that the number is absent
-abbrev pub is_absence : ℕ → Call → Bool
-is_absence n (Asked number claim told) = tells_absent told && (number == n)
-is_absence n (Spawned spawn is_taken starts) = false
-is_absence n (Signalled number signal) = false
-
--- whether the number was started
-abbrev pub has_started : List Call → ℕ → Bool
-has_started calls n = list_any (is_start n) calls
-
--- whether the number was told absent
-abbrev pub was_absent : List Call → ℕ → Bool
-was_absent calls n = list_any (is_absence n) calls
-
--- no number that was told absent starts
-abbrev pub IsFinal : List Call → Type 0
-IsFinal calls = (n : ℕ) → was_absent calls n ≡ true → has_started calls n ≡ false
-
--- whether a call was answered Ok
-abbrev pub is_answered : {T E : Type 0} → Result T E → Bool
-is_answered (Ok x) = true
-is_answered (Err e) = false
-
--- what a fate that was asked told
-abbrev pub told_by : {E : Type 0} → Result Fate E → Option Fate
-told_by (Ok fate) = Some fate
-told_by (Err e) = None
-
--- A start is one call more, whatever it answered; only the children know whether its number starts.
-abbrev pub Spawns : {E : Type 0} → Spawn → Result Unit E → List Call → List Call → Type 0
-Spawns spawn result old new = (starts : Bool) × (new ≡ old ++ Spawned spawn (is_answered result) starts ∷ [])
-
--- a signal is one call more, whatever it answered
-abbrev pub Signals : ℕ → Signal → List Call → List Call → Type 0
-Signals number signal old new = new ≡ old ++ Signalled number signal ∷ []
-
--- a fate that was asked is one call more, with what was told
-abbrev pub Asks : {E : Type 0} → ℕ → Bool → Result Fate E → List Call → List Call → Type 0
-Asks number claim result old new = new ≡ old ++ Asked number claim (told_by result) ∷ []

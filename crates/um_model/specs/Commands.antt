@@ -25,27 +25,18 @@ value_in_command word = if bytes_eq word.spelling (92 ∷ 59 ∷ []) then 59 ∷
 abbrev pub is_sign : ℕ → Bool
 is_sign b = b == 45 || b == 58 || b == 43 || b == 33
 
--- the signs in front of a first word
-abbrev pub signs_of : List ℕ → List ℕ
-signs_of first = take_while is_sign first
-
 -- the command of these words, the signs cut off: `-` ignores failure, `:` leaves variables alone. Without words there is none
 abbrev pub command_of : List (List ℕ) → List Command
 command_of [] = []
 command_of (first ∷ others) =
-    record {
-      words = drop (length (signs_of first)) first ∷ others;
-      ignores_failure = list_any (λ b. b == 45) (signs_of first);
-      substitutes = not (list_any (λ b. b == 58) (signs_of first));
-    } ∷ []
+    let signs = take_while is_sign first in
+    let says = λ (sign : ℕ). list_any (λ b. b == sign) signs in
+    record { words = drop (length signs) first ∷ others; ignores_failure = says 45; substitutes = not (says 58) } ∷ []
 
--- the commands of words, parted at each separator
-abbrev pub commands_among : List Word → List Command
-commands_among words = flat_map (λ part. command_of (map value_in_command part)) (slice_split is_separator words)
-
--- the commands that the text reads as, where it can be read
+-- the commands that the text reads as, where it can be read: its words, parted at each separator
 unfoldable pub commands_read : List ℕ → Option (List Command)
-commands_read text = option_map commands_among (reading (piece_of_words Escaped) text)
+commands_read text =
+    option_map (λ words. flat_map (λ part. command_of (map value_in_command part)) (slice_split is_separator words)) (reading (piece_of_words Escaped) text)
 
 -- the word can be run: an absolute path, or a name without `/`
 abbrev pub is_executable_word : List ℕ → Bool

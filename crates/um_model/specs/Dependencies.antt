@@ -1,18 +1,19 @@
 -- How units depend on one another by a tree, which of them are known, and which come before which.
 -- Follows systemd.unit(5), "Wants=" to "Conflicts=", "Before=", "After=" and "Default Dependencies".
 -- Transactions, the job order and the limit of known units stand on this file.
-use Rattle.std.specs.Prelude.{◌≡◌, ◌≢◌, ◌⊎◌, ◌↔◌, ℕ, ◌<◌, max, Bool, true, false, not, ◌&&◌, if◌then◌else◌, List, length, AllPairs, All, Contains, Option, Some, None, codes}
+use Rattle.std.specs.Prelude.{◌≡◌, ◌≢◌, ◌⊎◌, ◌↔◌, ℕ, ◌<◌, max, Bool, true, false, not, ◌&&◌, if◌then◌else◌, List, length, AllPairs, All, Contains, Option, Some, None, is_some}
 use Rattle.std.specs.Str.{bytes_eq}
 use Rattle.std.specs.FinMap as map
 use Rattle.um_model.specs.Reached.{Reached}
 use Rattle.um_model.specs.Names.{is_template, suffix_of}
-use Rattle.um_model.specs.Tree.{Tree, Entry, Link, PathParts, Unit, Wants, Requires, path_parts, without_run}
+use Rattle.um_model.specs.Resolution.{unit_path, shutdown_target}
+use Rattle.um_model.specs.Tree.{Tree, Link, PathParts, Wants, Requires, is_plain_name, path_parts, without_run}
 use Rattle.um_model.specs.Units as units
 use Rattle.um_model.specs.Units.{LoadedUnit, Loading, Found, load, unit_named}
 use Rattle.um_model.specs.declared.dependencies.DependencyKind.{DependencyKind}
 use Rattle.um_model.specs.declared.dependencies.DependencyKind.TheVariants as kinds
-use Rattle.um_model.specs.declared.names.Suffix.{Suffix}
 use Rattle.um_model.specs.declared.names.Suffix.TheVariants.{Target}
+use Rattle.um_model.specs.declared.tree.Layer.{Layer}
 
 -- ---- what a tree says of names
 
@@ -25,16 +26,6 @@ loadable_of other = None
 abbrev pub loadable_in : Tree → List ℕ → Option LoadedUnit
 loadable_in tree name = loadable_of (load tree name)
 
-abbrev pub shutdown_target : List ℕ
-shutdown_target = codes "shutdown.target"
-
-abbrev pub is_target : List ℕ → Bool
-is_target unit = is_target_type (suffix_of unit)
-  where
-    is_target_type : Option Suffix → Bool
-    is_target_type (Some Target) = true
-    is_target_type other = false
-
 -- what the settings name in the list of this kind
 abbrev pub names_in : DependencyKind → units.Dependencies → List (List ℕ)
 names_in kinds.Wants d = d.wants
@@ -43,30 +34,18 @@ names_in kinds.BindsTo d = d.binds_to
 names_in kinds.PartOf d = d.part_of
 names_in kinds.Conflicts d = d.conflicts
 
--- what a path says by itself: a link in the directory of the unit x for what it wants or requires is named y
-pub data Says : PathParts → DependencyKind → List ℕ → List ℕ → Type 0 where
-  wants : (p : PathParts) (other : List ℕ) → p.place ≡ Wants other → Says p kinds.Wants p.unit other
-  requires : (p : PathParts) (other : List ℕ) → p.place ≡ Requires other → Says p kinds.Requires p.unit other
-
--- the tree has such a link
-pub record Links (tree : Tree) (kind : DependencyKind) (x y : List ℕ) : Type 0 where
-  pub path : List ℕ
-  pub target : List ℕ
-  pub parts : PathParts
-  pub link : map.get tree path ≡ Some (Link target)
-  pub served : path_parts path ≡ Some parts
-  pub says : Says parts kind x y
+-- the tree has a link in the directory of a unit for what it wants or requires, with the name of that
+pub data Links (tree : Tree) : DependencyKind → List ℕ → List ℕ → Type 0 where
+  wants : (path target y : List ℕ) (p : PathParts) → map.get tree path ≡ Some (Link target) → path_parts path ≡ Some p → p.place ≡ Wants y
+      → Links tree kinds.Wants p.unit y
+  requires : (path target y : List ℕ) (p : PathParts) → map.get tree path ≡ Some (Link target) → path_parts path ≡ Some p → p.place ≡ Requires y
+      → Links tree kinds.Requires p.unit y
 
 -- the tree has an entry of this name, which is no template
 pub record HasEntry (tree : Tree) (x : List ℕ) : Type 0 where
-  pub path : List ℕ
-  pub entry : Entry
-  pub parts : PathParts
-  pub held : map.get tree path ≡ Some entry
-  pub served : path_parts path ≡ Some parts
-  pub own : parts.place ≡ Unit
-  pub named : parts.unit ≡ x
-  pub single : is_template x ≡ false
+  pub layer : Layer
+  pub held : is_some (map.get tree (unit_path layer x)) ≡ true
+  pub plain : is_plain_name x ≡ true
 
 -- each loadable unit but shutdown.target, unless it says DefaultDependencies=no
 abbrev pub has_defaults : LoadedUnit → Bool
@@ -154,17 +133,13 @@ pub record IsDeclared (tree : Tree) (Extra : List ℕ → Type 0) (x y : List �
   pub declares : Declares tree name x y
 
 -- a unit that can be loaded and says DefaultDependencies=no
-pub record Declines (tree : Tree) (x : List ℕ) : Type 0 where
-  pub unit : LoadedUnit
-  pub loadable : loadable_in tree x ≡ Some unit
-  pub says : unit.settings.dependencies.default_dependencies ≡ false
+abbrev pub Declines : Tree → List ℕ → Type 0
+Declines tree x = (unit : LoadedUnit) × (loadable_in tree x ≡ Some unit) × (unit.settings.dependencies.default_dependencies ≡ false)
 
 -- the target x wants or requires y, and neither declines what follows from that
 pub record PullsIn (tree : Tree) (Extra : List ℕ → Type 0) (x y : List ℕ) : Type 0 where
-  pub holds : is_target x ≡ true
-  pub kind : DependencyKind
-  pub wants : (kind ≡ kinds.Wants) ⊎ (kind ≡ kinds.Requires)
-  pub depends : Depends tree Extra kind x y
+  pub target : suffix_of x ≡ Some Target
+  pub depends : Depends tree Extra kinds.Wants x y ⊎ Depends tree Extra kinds.Requires x y
   pub accepts : ¬ Declines tree x
   pub too : ¬ Declines tree y
 

@@ -1,9 +1,10 @@
 -- The disk model: what was asked of a disk since it was made, what a read gives, and which images a crash may leave.
 -- No manual page has it: it is the usual model of sectors whose writes reach the disk in any order until a sync answers.
 -- The trait `Disk` and its devices, the log, the slots and the keeper stand on this file.
-use Rattle.std.specs.Prelude.{◌≡◌, ◌⊎◌, ◌+◌, ◌-◌, ◌^◌, ◌<◌, ◌≤◌, min, ℕ, zero, suc, ◌==◌, if◌then◌else◌, List, [], ◌∷◌, ◌++◌, length, map}
-use Rattle.std.specs.Prelude.{filter, nat_lt, count_by, Bool, true, false, slice_index_or, Result, Ok, Err}
-use Rattle.std.specs.List.{Contains, range_with_len}
+use Rattle.std.specs.Prelude.{◌≡◌, ◌⊎◌, ◌+◌, ◌<◌, ◌≤◌, min, ℕ, zero, suc, ◌==◌, if◌then◌else◌, List, [], ◌∷◌, ◌++◌, length}
+use Rattle.std.specs.Prelude.{slice_index_or, Result, Ok, Err}
+use Rattle.std.specs.List.{Contains}
+use Rattle.um_model.specs.Moments.{last_of_64_bits}
 
 -- the 512 bytes of a sector
 abbrev pub Sector : Type 0
@@ -85,21 +86,7 @@ Synced (Err e) old new = new ≡ old
 
 -- one more, in a count that stays at the last value of a `u64`
 abbrev pub one_more : ℕ → ℕ
-one_more count = min (count + 1) (2 ^ 64 - 1)
-
--- one more, so many times
-abbrev pub more : ℕ → ℕ → ℕ
-more count zero = count
-more count (suc n) = one_more (more count n)
-
--- the count of failures rises exactly at `Err`
-abbrev pub CountsFailure : {T E : Type 0} → Result T E → ℕ → ℕ → Type 0
-CountsFailure (Ok x) old new = new ≡ old
-CountsFailure (Err e) old new = new ≡ one_more old
-
--- a count that rose, or stands at its last value
-abbrev pub HasRisen : ℕ → ℕ → Type 0
-HasRisen old new = (old < new) ⊎ (new ≡ 2 ^ 64 - 1)
+one_more count = min (count + 1) last_of_64_bits
 
 -- each image now has P
 abbrev pub Images : Past → (Image → Type 0) → Type 0
@@ -118,49 +105,3 @@ pub record During (old new : Past) (P : Image → Type 0) : Type 0 where
 -- a crash leaves just what a read gives
 abbrev pub IsSettled : Past → Type 0
 IsSettled past = Images past (λ image. image ≡ seen past)
-
--- the run stands at its place, and all else is as before
-pub record IsLaid (old : Image) (at : ℕ) (run : List Sector) (image : Image) : Type 0 where
-  pub inside : (i : ℕ) → i < length run → image (at + i) ≡ slice_index_or run i []
-  pub outside : (j : ℕ) → (j < at) ⊎ (at + length run ≤ j) → image j ≡ old j
-
--- each sector of the run's place is old or new, and all else is as before
-pub record MaybeLaid (old : Image) (at : ℕ) (run : List Sector) (image : Image) : Type 0 where
-  pub inside : (i : ℕ) → i < length run → (image (at + i) ≡ old (at + i)) ⊎ (image (at + i) ≡ slice_index_or run i [])
-  pub outside : (j : ℕ) → (j < at) ⊎ (at + length run ≤ j) → image j ≡ old j
-
--- an image of before, with any of the run's sectors
-pub record AfterRun (past : Past) (at : ℕ) (run : List Sector) (image : Image) : Type 0 where
-  pub from : Image
-  pub was : IsImage past from
-  pub laid : MaybeLaid from at run image
-
--- outside so many sectors from a place on, an image of before
-pub record IsElsewhere (past : Past) (at count : ℕ) (image : Image) : Type 0 where
-  pub from : Image
-  pub was : IsImage past from
-  pub same : (j : ℕ) → (j < at) ⊎ (at + count ≤ j) → image j ≡ from j
-
--- whether a call is a sync
-abbrev pub is_sync : Call → Bool
-is_sync synced = true
-is_sync (wrote k value kept) = false
-
--- how many syncs answered Ok
-abbrev pub sync_count : Past → ℕ
-sync_count past = count_by is_sync past.calls
-
--- a sector with the number of its candidates
-abbrev pub candidate_count : Past → ℕ → ℕ × ℕ
-candidate_count past k = (k, length (candidates past k))
-
--- the sectors below n with more than one candidate, ascending, with the number of candidates
-abbrev pub unsynced : Past → ℕ → List (ℕ × ℕ)
-unsynced past n = filter (λ sector. nat_lt 1 sector.1) (map (candidate_count past) (range_with_len 0 n))
-
--- The image that these picks choose: of each sector with more than one candidate, ascending, the index of its candidate
--- (0, the value at the last sync, where the pick is missing or there is no such candidate).
-abbrev pub picked : Past → List ℕ → Image
-picked past picks k =
-    let choices = candidates past k in
-    slice_index_or choices (slice_index_or picks (length (unsynced past k)) 0) (slice_index_or choices 0 [])

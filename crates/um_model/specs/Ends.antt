@@ -1,7 +1,10 @@
 -- How the end of a process counts: clean ends, the result that an unclean one leaves, and whether a restart is wanted.
 -- Follows systemd.service(5), "SuccessExitStatus=", "Restart=", "RestartPreventExitStatus=" and "RestartForceExitStatus=".
 -- The service table stands on this file.
-use Rattle.std.specs.Prelude.{ℕ, ◌&&◌, ◌||◌, Bool, true, false, not, ◌==◌, Option, Some, None}
+use Rattle.std.specs.Prelude.{ℕ, ◌&&◌, ◌||◌, Bool, true, false, not, ◌==◌, ◌∷◌, List, []}
+use Rattle.std.specs.Option.{option_map_or}
+use Rattle.std.specs.List.{list_any}
+use Rattle.std.specs.Str.{bytes_eq}
 use Rattle.um_model.specs.Settings.{ServiceSettings, has_dash}
 use Rattle.um_model.specs.declared.service.End.{End}
 use Rattle.um_model.specs.declared.service.End.TheVariants.{Code, Signal, Lost}
@@ -17,12 +20,12 @@ use Rattle.um_model.specs.declared.transition.Process.{Process}
 use Rattle.um_model.specs.declared.transition.Process.TheVariants.{Main, Control}
 use Rattle.um_model.specs.declared.transition.UnitKind.{UnitKind}
 use Rattle.um_model.specs.declared.transition.UnitKind.TheVariants.{Simple, Exec, Oneshot}
+use Rattle.um_model.specs.Values.{restart_text}
 
 -- the end was told: by a code or a signal
 abbrev pub is_told : End → Bool
-is_told (Code code) = true
-is_told (Signal number) = true
 is_told Lost = false
+is_told other = true
 
 -- the stop states
 abbrev pub is_stopping : SubState → Bool
@@ -43,36 +46,31 @@ is_failed other = false
 abbrev pub asks_to_end : ℕ → Bool
 asks_to_end n = n == 1 || n == 2 || n == 13 || n == 15
 
--- simple and exec services may end by a signal that asks them to
-abbrev pub may_be_asked : UnitKind → Bool
-may_be_asked Simple = true
-may_be_asked Exec = true
-may_be_asked other = false
+-- a simple or an exec service runs one command, which is its main process for as long as it runs
+abbrev pub has_one_command : UnitKind → Bool
+has_one_command Simple = true
+has_one_command Exec = true
+has_one_command other = false
 
--- clean whatever is set: code 0; a signal that asks for the end, where the kind may be asked; in a stop state a signal that isn't told
+-- clean whatever is set: code 0; of a service that runs one command a signal that asks for the end; in a stop state a signal that isn't told
 abbrev pub is_clean_alone : UnitKind → SubState → End → Bool
 is_clean_alone kind sub (Code code) = code == 0
-is_clean_alone kind sub (Signal n) = may_be_asked kind && asks_to_end n || n == 0 && is_stopping sub
+is_clean_alone kind sub (Signal n) = has_one_command kind && asks_to_end n || n == 0 && is_stopping sub
 is_clean_alone kind sub Lost = false
 
--- in these states the main process of a oneshot is its command at the index
-abbrev pub is_at_index : SubState → Bool
-is_at_index Start = true
-is_at_index StopSigterm = true
-is_at_index StopSigkill = true
-is_at_index other = false
-
--- the command of the main process is written with `-`
-abbrev pub main_has_dash : UnitKind → ServiceSettings → UnitState → Bool
-main_has_dash Simple s u = has_dash s OfStart 0
-main_has_dash Exec s u = has_dash s OfStart 0
-main_has_dash Oneshot s u = is_at_index u.sub && has_dash s OfStart u.index
-main_has_dash other s u = false
+-- the command of the main process is written with `-`: in these states a oneshot's main process is its command at the index
+abbrev pub main_has_dash : UnitKind → SubState → ServiceSettings → UnitState → Bool
+main_has_dash Simple sub s u = has_dash s OfStart 0
+main_has_dash Exec sub s u = has_dash s OfStart 0
+main_has_dash Oneshot Start s u = has_dash s OfStart u.index
+main_has_dash Oneshot StopSigterm s u = has_dash s OfStart u.index
+main_has_dash Oneshot StopSigkill s u = has_dash s OfStart u.index
+main_has_dash other sub s u = false
 
 -- the end of a process of the unit is clean
 abbrev pub is_clean : ServiceSettings → UnitState → Process → End → Bool
 is_clean s u Control e = is_clean_alone s.kind u.sub e || s.success e
-is_clean s u Main e = is_clean_alone s.kind u.sub e || s.success e || is_told e && main_has_dash s.kind s u
+is_clean s u Main e = is_clean_alone s.kind u.sub e || s.success e || is_told e && main_has_dash s.kind u.sub s u
 
 -- the result that an unclean end leaves
 abbrev pub unclean_result : End → UnitResult
@@ -85,29 +83,20 @@ abbrev pub or_later : UnitResult → UnitResult → UnitResult
 or_later result.Success later = later
 or_later first later = first
 
--- the table of Restart=: after which results it wants a restart
-abbrev pub restarts_after : UnitResult → RestartPolicy → Bool
-restarts_after result.Success Always = true
-restarts_after result.Success OnSuccess = true
-restarts_after result.ExitCode Always = true
-restarts_after result.ExitCode OnFailure = true
-restarts_after result.Signal Always = true
-restarts_after result.Signal OnFailure = true
-restarts_after result.Signal OnAbnormal = true
-restarts_after result.Signal OnAbort = true
-restarts_after result.Timeout Always = true
-restarts_after result.Timeout OnFailure = true
-restarts_after result.Timeout OnAbnormal = true
-restarts_after result.Lost Always = true
-restarts_after result.Lost OnFailure = true
-restarts_after result.Lost OnAbnormal = true
-restarts_after other policy = false
+-- the table of Restart=: the policies that want a restart after this result
+abbrev pub policies_after : UnitResult → List RestartPolicy
+policies_after result.Success = Always ∷ OnSuccess ∷ []
+policies_after result.ExitCode = Always ∷ OnFailure ∷ []
+policies_after result.Signal = Always ∷ OnFailure ∷ OnAbnormal ∷ OnAbort ∷ []
+policies_after result.Timeout = Always ∷ OnFailure ∷ OnAbnormal ∷ []
+policies_after result.Lost = Always ∷ OnFailure ∷ OnAbnormal ∷ []
+policies_after other = []
 
--- the main process ended so, and the set holds that end
-abbrev pub ended_in : (End → Bool) → Option End → Bool
-ended_in set None = false
-ended_in set (Some e) = set e
+-- so this one does
+abbrev pub restarts_after : UnitResult → RestartPolicy → Bool
+restarts_after left policy = list_any (λ p. bytes_eq (restart_text p) (restart_text policy)) (policies_after left)
 
 -- a restart is wanted: by the last end of the main process, else by the result
 abbrev pub is_restart_wanted : ServiceSettings → UnitState → Bool
-is_restart_wanted s u = not (ended_in s.prevents_restart u.last) && (ended_in s.forces_restart u.last || restarts_after u.result s.restart)
+is_restart_wanted s u =
+    not (option_map_or s.prevents_restart u.last false) && (option_map_or s.forces_restart u.last false || restarts_after u.result s.restart)

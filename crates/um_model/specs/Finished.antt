@@ -6,7 +6,7 @@ use Rattle.um_model.specs.Ends.{is_starting, is_stopping}
 use Rattle.um_model.specs.Service.{Action, is_dead, is_success, state_of_unit}
 use Rattle.um_model.specs.Jobs.{jobs_of_unit}
 use Rattle.um_model.specs.Refusals.{Refused}
-use Rattle.um_model.specs.Machine.{State, Input, Commanded, ForUnit, Reply, Changes, Refuses, Step, acting_in}
+use Rattle.um_model.specs.Machine.{State, Input, Commanded, ForUnit, Reply, Changes, Refuses, Step, settings_in}
 use Rattle.um_model.specs.declared.commands.JobMode.{JobMode}
 use Rattle.um_model.specs.declared.commands.UnitVerb.{UnitVerb}
 use Rattle.um_model.specs.declared.service.SubState.{SubState}
@@ -24,7 +24,7 @@ has_finished u = is_exited u.sub || is_dead u.sub && is_success u.result
 
 -- from one state to the other the oneshot finished: it came from start or a stop state to exited, or to dead with success
 pub record Finishes (s t : State) (unit : List ℕ) : Type 0 where
-  pub kind : (acting_in s.loaded unit).settings.kind ≡ Oneshot
+  pub kind : (settings_in s.loaded unit).kind ≡ Oneshot
   pub busy : (is_starting (state_of_unit s.units unit).sub || is_stopping (state_of_unit s.units unit).sub) ≡ true
   pub finished : has_finished (state_of_unit t.units unit) ≡ true
 

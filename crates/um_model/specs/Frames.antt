@@ -55,10 +55,6 @@ pub data IsStream : List ℕ → List (List ℕ) → Ending → Type 0 where
   frame : {stream rest bytes : List ℕ} {frames : List (List ℕ)} {ending : Ending} → BeginsWith stream bytes rest
       → IsStream rest frames ending → IsStream stream (bytes ∷ frames) ending
 
--- the size of the store that `umd --memory` works over, in bytes
-abbrev pub memory_size : ℕ
-memory_size = 8388096
-
 -- the input of a request: its moment is the clock's where it tells none
 abbrev pub input_of : State → Option ℕ → Event → Input
 input_of s at e = record { moment = unwrap_or at s.clock; event = e }
@@ -79,9 +75,8 @@ pub data Answers (size : ℕ) (s : State) (kept : List Action) (bytes : List ℕ
 
 -- what is written at the end of a stream: a length past the limit is refused
 abbrev pub last_reply : Ending → List ℕ
-last_reply Between = []
-last_reply Inside = []
 last_reply TooLong = frame_of (reply_text (Refusal (too_large Frame)))
+last_reply other = []
 
 -- what is written for the frames from a state on, with the actions kept, one reply each, and at the end
 pub data AreReplies (size : ℕ) (ending : Ending) : State → List Action → List (List ℕ) → List ℕ → Type 0 where
@@ -94,13 +89,3 @@ pub record Serves (size : ℕ) (s : State) (kept : List Action) (stream out : Li
   pub frames : List (List ℕ)
   pub read : IsStream stream frames ending
   pub written : AreReplies size ending s kept frames out
-
--- a beginning of what is written for a stream: the replies to some of its frames, and a front of the next or of the last one
-pub data Begins (size : ℕ) : State → List Action → (stream out : List ℕ) → Type 0 where
-  stops : {s : State} {kept : List Action} {stream : List ℕ} → Begins size s kept stream []
-  in_reply : {s t : State} {kept left : List Action} {stream bytes rest front : List ℕ} (r : Reply) (more : List ℕ) → BeginsWith stream bytes rest
-      → Answers size s kept bytes r t left → frame_of (reply_text r) ≡ front ++ more → Begins size s kept stream front
-  at_end : {s : State} {kept : List Action} {stream front : List ℕ} (ending : Ending) (more : List ℕ) → EndsSo stream ending
-      → last_reply ending ≡ front ++ more → Begins size s kept stream front
-  goes_on : {s t : State} {kept left : List Action} {stream bytes rest out : List ℕ} (r : Reply) → BeginsWith stream bytes rest
-      → Answers size s kept bytes r t left → Begins size t left rest out → Begins size s kept stream (frame_of (reply_text r) ++ out)

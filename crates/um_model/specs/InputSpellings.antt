@@ -3,7 +3,7 @@
 -- The code that reads and writes inputs, and the log of the store stand on this file.
 use Rattle.std.specs.Prelude.{ℕ, ◌<◌, ◌^◌, ⊤, List, [], ◌∷◌, ◌++◌, IfSome}
 use Rattle.byteorder.specs.Endian.{big_bytes}
-use Rattle.um_model.specs.Bytes.{Spelling, Reading, number_at, pair_at, as_at, marked_at, tag_at, in_table, choice_at, arm_in, just_at, none_at}
+use Rattle.um_model.specs.Bytes.{Spelling, Reading, number_at, pair_at, as_at, marked_at, choice_at, arm_in, just_at, none_at, table_at, tagged}
 use Rattle.um_model.specs.Bytes.{FitText, text_spelling, text_at, option_spelling, option_at}
 use Rattle.um_model.specs.Machine.{Command, PutFile, PutLink, Remove, DaemonReload, ForUnit, Cancel, ResetFailed, Install, Happening, ProcessEnded, ProcessExecuted, Tick, Booted, Event}
 use Rattle.um_model.specs.Machine.{Commanded, Happened, Input}
@@ -26,14 +26,6 @@ mode_tag mode.Fail = 1
 -- the modes by their tags
 abbrev pub modes : List JobMode
 modes = mode.Replace ∷ mode.Fail ∷ []
-
--- the tag alone
-abbrev pub mode_spelling : Spelling JobMode
-mode_spelling m = mode_tag m ∷ []
-
--- the mode of the tag in front
-abbrev pub mode_at : Reading JobMode
-mode_at = tag_at (in_table modes)
 
 -- ---- the tags of what comes in
 
@@ -82,7 +74,7 @@ command_fields (PutFile path text) = text_spelling path ++ text_spelling text
 command_fields (PutLink path target) = text_spelling path ++ text_spelling target
 command_fields (Remove path) = text_spelling path
 command_fields DaemonReload = []
-command_fields (ForUnit verb unit mode) = text_spelling unit ++ mode_spelling mode
+command_fields (ForUnit verb unit mode) = text_spelling unit ++ tagged mode_tag mode
 command_fields (Cancel unit) = text_spelling unit
 command_fields (ResetFailed unit) = option_spelling text_spelling unit
 command_fields (Install verb unit) = text_spelling unit
@@ -115,7 +107,7 @@ texts_at = pair_at text_at text_at
 
 -- a command for a unit: its name, and the mode
 abbrev pub for_unit_at : UnitVerb → Reading Input
-for_unit_at verb = comes_at (λ f. Commanded (ForUnit verb f.0 f.1)) (pair_at unit_name_at mode_at)
+for_unit_at verb = comes_at (λ f. Commanded (ForUnit verb f.0 f.1)) (pair_at unit_name_at (table_at modes))
 
 -- enabling or its kin: the name of the unit
 abbrev pub install_at : InstallVerb → Reading Input

@@ -1,13 +1,13 @@
 -- What enabling a unit makes, what disabling and unmasking remove, and how a unit is enabled.
 -- Follows systemctl(1), "enable", "disable", "mask", "unmask" and "is-enabled", and systemd.unit(5), "[INSTALL] SECTION OPTIONS".
 -- The machine stands on this file.
-use Rattle.std.specs.Prelude.{◌≡◌, ◌≢◌, ℕ, ◌<◌, Bool, true, false, not, ◌&&◌, ◌||◌, if◌then◌else◌, List, [], ◌∷◌, ◌++◌, map as each, Contains}
+use Rattle.std.specs.Prelude.{◌≡◌, ◌≢◌, ◌⊎◌, ℕ, ◌<◌, Bool, true, false, not, if◌then◌else◌, List, [], ◌∷◌, ◌++◌, map as each, Contains}
 use Rattle.std.specs.Prelude.{Option, Some, None, is_none, option_and_then, Ok, Err, codes}
 use Rattle.std.specs.Bool.{Decides}
 use Rattle.std.specs.List.{filter}
 use Rattle.std.specs.Str.{bytes_eq}
 use Rattle.std.specs.FinMap as map
-use Rattle.um_model.specs.Least.{IsLeast, IsNamedBefore}
+use Rattle.um_model.specs.Least.{NamesLeast}
 use Rattle.um_model.specs.Reached.{Reached}
 use Rattle.um_model.specs.Refusals.{Refused, FirstCause, not_found, masked, bad_setting, exists_at, bad_path, too_large}
 use Rattle.um_model.specs.Names.{is_template, with_instance, named}
@@ -49,12 +49,11 @@ path_in_etc unit place = path_text (record { layer = Etc; unit = unit; place = p
 
 -- WantedBy=, RequiredBy= and Alias= ask for a link each, to the unit's file
 abbrev pub links_to : InstallSettings → Option (List ℕ) → Option (List ℕ) → List LinkAt
-links_to install None path = []
-links_to install (Some name) None = []
 links_to install (Some name) (Some path) =
     each (λ unit. link_at (path_in_etc unit (Wants name)) path) install.wanted_by
     ++ each (λ unit. link_at (path_in_etc unit (Requires name)) path) install.required_by
     ++ each (λ alias. link_at (path_in_etc alias Unit) path) install.alias
+links_to install name path = []
 
 -- the links that a unit asks for, by what was found of it
 abbrev pub links_of : Loading → List LinkAt
@@ -77,22 +76,16 @@ pub record IsAskedFor (tree : Tree) (asked : List ℕ) (link : LinkAt) : Type 0 
   pub taken : IsTaken tree asked unit
   pub among : Contains (links_of (load tree unit)) link
 
--- a link is asked for at the path
-abbrev pub IsPathAsked : Tree → List ℕ → List ℕ → Type 0
-IsPathAsked tree asked path = (target : List ℕ) × IsAskedFor tree asked (link_at path target)
-
 -- the other tree is this one with the links that are asked for, and no other change
 pub record IsEnabled (tree : Tree) (asked : List ℕ) (enabled : Tree) : Type 0 where
   pub linked : (path target : List ℕ) → IsAskedFor tree asked (link_at path target) → map.get enabled path ≡ Some (Link target)
-  pub kept : (path : List ℕ) → ¬ IsPathAsked tree asked path → map.get enabled path ≡ map.get tree path
+  pub kept : (path : List ℕ) → ¬ ((target : List ℕ) × IsAskedFor tree asked (link_at path target)) → map.get enabled path ≡ map.get tree path
 
 -- Why a unit isn't enabled.
 
 -- a link that is asked for has no served path, or may not stand there
-pub record IsUnfit (tree : Tree) (asked path : List ℕ) : Type 0 where
-  pub target : List ℕ
-  pub wanted : IsAskedFor tree asked (link_at path target)
-  pub unfit : is_fit_target (path_parts path) target ≡ false
+abbrev pub IsUnfit : Tree → List ℕ → List ℕ → Type 0
+IsUnfit tree asked path = (target : List ℕ) × IsAskedFor tree asked (link_at path target) × (is_fit_target (path_parts path) target ≡ false)
 
 -- at its path something else stands, or another link is asked for
 pub data IsOccupied (tree : Tree) (asked path : List ℕ) : Type 0 where
@@ -101,10 +94,8 @@ pub data IsOccupied (tree : Tree) (asked path : List ℕ) : Type 0 where
       → IsOccupied tree asked path
 
 -- the tree with the links has too many entries
-pub record IsTooMany (tree : Tree) (asked : List ℕ) : Type 0 where
-  pub enabled : Tree
-  pub all : IsEnabled tree asked enabled
-  pub many : entry_limit < map.len enabled
+pub data HasTooMany (tree : Tree) (asked : List ℕ) : Refused → Type 0 where
+  too_many : {enabled : Tree} → IsEnabled tree asked enabled → entry_limit < map.len enabled → HasTooMany tree asked (too_large Entries)
 
 -- the unit can't be enabled: it isn't found, is masked, has a refused setting, or is a template without a fit default instance
 pub data CannotEnable (unit : List ℕ) : Loading → Refused → Type 0 where
@@ -119,65 +110,29 @@ pub record IsBarred (tree : Tree) (asked unit : List ℕ) : Type 0 where
   pub refusal : Refused
   pub cause : CannotEnable unit (load tree unit) refusal
 
--- each cause names the least path, or the least unit, of which it holds
-pub record NamesUnfit (tree : Tree) (asked : List ℕ) (r : Refused) : Type 0 where
-  pub path : List ℕ
-  pub least : IsLeast IsNamedBefore (IsUnfit tree asked) path
-  pub refusal : r ≡ bad_path path
-
-pub record NamesOccupied (tree : Tree) (asked : List ℕ) (r : Refused) : Type 0 where
-  pub path : List ℕ
-  pub least : IsLeast IsNamedBefore (IsOccupied tree asked) path
-  pub refusal : r ≡ exists_at path
-
-pub record HasTooMany (tree : Tree) (asked : List ℕ) (r : Refused) : Type 0 where
-  pub many : IsTooMany tree asked
-  pub refusal : r ≡ too_large Entries
-
-pub record NamesBarred (tree : Tree) (asked : List ℕ) (r : Refused) : Type 0 where
-  pub unit : List ℕ
-  pub least : IsLeast IsNamedBefore (IsBarred tree asked) unit
-  pub cause : CannotEnable unit (load tree unit) r
-
--- the causes in the order in which they are looked at
+-- the causes in the order in which they are looked at; each tells of the least path, or the least unit, of which it holds
 abbrev pub CausesOfEnable : Tree → List ℕ → Refused → Type 0
 CausesOfEnable tree asked =
-    FirstCause (NamesUnfit tree asked) (FirstCause (NamesOccupied tree asked) (FirstCause (HasTooMany tree asked) (NamesBarred tree asked)))
+    FirstCause (NamesLeast (IsUnfit tree asked) (λ path r. r ≡ bad_path path))
+    (FirstCause (NamesLeast (IsOccupied tree asked) (λ path r. r ≡ exists_at path))
+    (FirstCause (HasTooMany tree asked) (NamesLeast (IsBarred tree asked) (λ unit r. CannotEnable unit (load tree unit) r))))
 
 -- ---- disable
 
--- a name as it is written in Also= of the unit
-abbrev pub IsWrittenIn : Tree → List ℕ → List ℕ → Type 0
-IsWrittenIn tree unit name = Contains (install_of (load tree unit)).also name
-
--- disabling goes by the name, those written in its Also=, and so on for those
+-- disabling goes by the name, those of its Also= as they are written there, and so on for those
 abbrev pub IsMeant : Tree → List ℕ → List ℕ → Type 0
-IsMeant tree asked = Reached (λ name. name ≡ asked) (IsWrittenIn tree)
+IsMeant tree asked = Reached (λ name. name ≡ asked) (λ unit name. Contains (install_of (load tree unit)).also name)
 
-abbrev pub is_etc : Layer → Bool
-is_etc Etc = true
-is_etc other = false
-
--- a link at such a place wants or requires the unit of this name
-abbrev pub pulls_in : Place → List ℕ → Bool
-pulls_in (Wants other) name = bytes_eq other name
-pulls_in (Requires other) name = bytes_eq other name
-pulls_in other name = false
-
--- a link to the target, which lies in `etc/`, pulls the unit of this name in or leads to it
-abbrev pub is_link_for : List ℕ → PathParts → List ℕ → Bool
-is_link_for name p target = is_etc p.layer && (pulls_in p.place name || bytes_eq (unit_in_target target) name)
-
--- what stands at a path of these parts is such a link
-abbrev pub is_link_of : List ℕ → Option PathParts → Option Entry → Bool
-is_link_of name (Some p) (Some (Link target)) = is_link_for name p target
-is_link_of name parts entry = false
-
--- what stands at the path is removed by disabling the unit
+-- disabling removes the link at the path: it lies in `etc/`, and wants or requires a unit that is meant, or leads to it
 pub record IsUnlinked (tree : Tree) (asked path : List ℕ) : Type 0 where
   pub name : List ℕ
+  pub target : List ℕ
+  pub parts : PathParts
   pub meant : IsMeant tree asked name
-  pub leads : is_link_of name (path_parts path) (map.get tree path) ≡ true
+  pub link : map.get tree path ≡ Some (Link target)
+  pub served : path_parts path ≡ Some parts
+  pub in_etc : parts.layer ≡ Etc
+  pub leads : (parts.place ≡ Wants name) ⊎ ((parts.place ≡ Requires name) ⊎ (unit_in_target target ≡ name))
 
 -- the other tree is this one without the links that are removed, and no other change
 pub record IsDisabled (tree : Tree) (asked : List ℕ) (disabled : Tree) : Type 0 where
@@ -186,16 +141,13 @@ pub record IsDisabled (tree : Tree) (asked : List ℕ) (disabled : Tree) : Type 
 
 -- ---- mask and unmask
 
-abbrev pub path_of_mask : List ℕ → List ℕ
-path_of_mask unit = unit_path Etc unit
-
 abbrev pub is_masking : Option Entry → Bool
 is_masking (Some (Link target)) = is_mask target
 is_masking other = false
 
 -- the tree without the link that masks the unit, where there is one
 abbrev pub unmasked : Tree → List ℕ → Tree
-unmasked tree unit = if is_masking (map.get tree (path_of_mask unit)) then map.remove tree (path_of_mask unit) else tree
+unmasked tree unit = if is_masking (map.get tree (unit_path Etc unit)) then map.remove tree (unit_path Etc unit) else tree
 
 -- ---- all four
 
@@ -203,13 +155,13 @@ unmasked tree unit = if is_masking (map.get tree (path_of_mask unit)) then map.r
 pub data Installs (tree : Tree) : InstallVerb → List ℕ → Tree → Type 0 where
   enables : {unit : List ℕ} {enabled : Tree} → IsEnabled tree unit enabled → Installs tree verbs.Enable unit enabled
   disables : {unit : List ℕ} {disabled : Tree} → IsDisabled tree unit disabled → Installs tree verbs.Disable unit disabled
-  masks : {unit : List ℕ} {changed : Tree} → put_link tree (path_of_mask unit) (codes "/dev/null") ≡ Ok changed → Installs tree verbs.Mask unit changed
+  masks : {unit : List ℕ} {changed : Tree} → put_link tree (unit_path Etc unit) (codes "/dev/null") ≡ Ok changed → Installs tree verbs.Mask unit changed
   unmasks : {unit : List ℕ} → Installs tree verbs.Unmask unit (unmasked tree unit)
 
 -- why the verb is refused, if it is
 pub data RefusesInstall (tree : Tree) : InstallVerb → List ℕ → Refused → Type 0 where
   enables_none : {unit : List ℕ} {r : Refused} → CausesOfEnable tree unit r → RefusesInstall tree verbs.Enable unit r
-  masks_none : {unit : List ℕ} {r : Refused} → put_link tree (path_of_mask unit) (codes "/dev/null") ≡ Err r → RefusesInstall tree verbs.Mask unit r
+  masks_none : {unit : List ℕ} {r : Refused} → put_link tree (unit_path Etc unit) (codes "/dev/null") ≡ Err r → RefusesInstall tree verbs.Mask unit r
 
 -- the paths at which something stands in the one tree and nothing in the other, ascending
 abbrev pub paths_beyond : Tree → Tree → List (List ℕ)

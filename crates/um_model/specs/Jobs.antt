@@ -1,12 +1,13 @@
--- Pending jobs: what a command makes of those of its unit, and which job is ready to begin.
+-- Pending jobs: what a demand makes of those of its unit, and which job is ready to begin.
 -- Follows systemctl(1), "start" and "stop", and systemd.unit(5), "Before=".
 -- The machine stands on this file.
 use Rattle.std.specs.Prelude.{◌≡◌, ◌≢◌, ℕ, Bool, true, false, ◌||◌, if◌then◌else◌, List, [], ◌∷◌, ◌++◌, flat_map, Option, Some, None, is_some, unwrap_or, codes}
 use Rattle.std.specs.FinMap as map
+use Rattle.std.specs.Option.{option_map_or}
 use Rattle.um_model.specs.Least.{IsLeast, IsNamedBefore}
 use Rattle.um_model.specs.Service.{ByUnit, active_state_of, state_of_unit}
-use Rattle.um_model.specs.declared.commands.UnitVerb.{UnitVerb}
-use Rattle.um_model.specs.declared.commands.UnitVerb.TheVariants as verbs
+use Rattle.um_model.specs.declared.dependencies.Demand.{Demand}
+use Rattle.um_model.specs.declared.dependencies.Demand.TheVariants as demands
 use Rattle.um_model.specs.declared.jobs.JobKind.{JobKind}
 use Rattle.um_model.specs.declared.jobs.JobKind.TheVariants.{Stop, Start}
 use Rattle.um_model.specs.declared.jobs.JobState.{JobState}
@@ -44,7 +45,7 @@ abbrev pub job_of : JobKind → UnitJobs → Option JobState
 job_of Stop j = j.stop
 job_of Start j = j.start
 
--- ---- what a command makes of the jobs of its unit
+-- ---- what a demand makes of the jobs of its unit
 
 -- neither inactive nor failed
 abbrev pub is_up : ActiveState → Bool
@@ -56,33 +57,25 @@ abbrev pub is_active : ActiveState → Bool
 is_active Active = true
 is_active other = false
 
--- start, where no start job is pending: a stop job that waits is dropped, one that runs stays; a start job is put, unless the unit
--- is active and no stop job remains
-abbrev pub started_anew : ActiveState → Option JobState → UnitJobs
-started_anew a (Some Running) = jobs (Some Running) (Some Waiting)
-started_anew a other = jobs None (if is_active a then None else Some Waiting)
-
--- start: a start job that is pending stays as it is
+-- start: where a start job is pending all stays as it is; else a stop job that waits is dropped, one that runs stays, and a start job is
+-- put, unless the unit is active and no stop job remains
 abbrev pub started : ActiveState → Option JobState → Option JobState → UnitJobs
 started a stop (Some start) = jobs stop (Some start)
-started a stop None = started_anew a stop
+started a (Some Running) None = jobs (Some Running) (Some Waiting)
+started a other None = jobs None (if is_active a then None else Some Waiting)
 
 -- stop: the start job is dropped; a stop job is put where none is pending and the unit is up
 abbrev pub stopped : ActiveState → Option JobState → UnitJobs
 stopped a (Some stop) = jobs (Some stop) None
 stopped a None = jobs (if is_up a then Some Waiting else None) None
 
--- restart of a unit that is up: a start job that runs is dropped; a stop job is put where none is pending, a start job where none waits
-abbrev pub restarted : Option JobState → UnitJobs
-restarted stop = jobs (Some (unwrap_or stop Waiting)) (Some Waiting)
-
--- the pending jobs of a unit in this state after a command for it. A restart of a unit that is down is a start; where the unit isn't
--- active a try-restart does nothing
-abbrev pub jobs_after : UnitVerb → ActiveState → UnitJobs → UnitJobs
-jobs_after verbs.Start a j = started a j.stop j.start
-jobs_after verbs.Stop a j = stopped a j.stop
-jobs_after verbs.Restart a j = if is_up a then restarted j.stop else started a j.stop j.start
-jobs_after verbs.TryRestart a j = if is_active a then restarted j.stop else j
+-- the pending jobs of a unit in this state after a demand on it, if there is one. By a restart of a unit that is up a start job that runs
+-- is dropped, a stop job is put where none is pending, a start job where none waits; a restart of one that is down is a start
+abbrev pub jobs_for : Option Demand → ActiveState → UnitJobs → UnitJobs
+jobs_for None a j = j
+jobs_for (Some demands.Start) a j = started a j.stop j.start
+jobs_for (Some demands.Stop) a j = stopped a j.stop
+jobs_for (Some demands.Restart) a j = if is_up a then jobs (Some (unwrap_or j.stop Waiting)) (Some Waiting) else started a j.stop j.start
 
 -- ---- what a cancel leaves of them
 
@@ -115,10 +108,6 @@ stop_job unit = record { unit = unit; kind = Stop }
 abbrev pub start_job : List ℕ → Job
 start_job unit = record { unit = unit; kind = Start }
 
--- the order that puts no unit before another
-abbrev pub Unordered : List ℕ → List ℕ → Type 0
-Unordered unit other = ⊥
-
 -- by an order of units one job goes before another: units start in that order and stop against it, and whichever of two is stopped goes
 -- before the start of the other; of one unit the stop job goes first
 pub data GoesBefore (IsBefore : List ℕ → List ℕ → Type 0) : Job → Job → Type 0 where
@@ -135,18 +124,15 @@ state_of_job pending job = job_of job.kind (jobs_of_unit pending job.unit)
 abbrev pub IsPending : ByUnit UnitJobs → Job → Type 0
 IsPending pending job = state_of_job pending job ≢ None
 
-abbrev pub IsWaiting : ByUnit UnitJobs → Job → Type 0
-IsWaiting pending job = state_of_job pending job ≡ Some Waiting
-
 -- a pending job comes before one that waits: nothing comes before a job that runs
 pub record ComesBefore (IsBefore : List ℕ → List ℕ → Type 0) (pending : ByUnit UnitJobs) (job other : Job) : Type 0 where
   pub pends : IsPending pending job
-  pub waits : IsWaiting pending other
+  pub waits : state_of_job pending other ≡ Some Waiting
   pub goes : GoesBefore IsBefore job other
 
 -- a job is ready: it waits, none comes before it, and one that starts its unit doesn't find it deactivating
 pub record IsReady (IsBefore : List ℕ → List ℕ → Type 0) (units : ByUnit UnitState) (pending : ByUnit UnitJobs) (job : Job) : Type 0 where
-  pub waits : IsWaiting pending job
+  pub waits : state_of_job pending job ≡ Some Waiting
   pub free : (other : Job) → ¬ ComesBefore IsBefore pending other job
   pub still : job.kind ≡ Start → active_state_of (state_of_unit units job.unit).sub ≢ Deactivating
 
@@ -174,8 +160,7 @@ pub record JobShown : Type 0 where
   pub state : JobState
 
 abbrev pub job_shown : List ℕ → JobKind → Option JobState → List JobShown
-job_shown unit kind None = []
-job_shown unit kind (Some state) = record { unit = unit; kind = kind; state = state } ∷ []
+job_shown unit kind state = option_map_or (λ s. record { unit = unit; kind = kind; state = s } ∷ []) state []
 
 -- those of a unit, its stop job first
 abbrev pub jobs_shown_of : List ℕ → UnitJobs → List JobShown
@@ -185,10 +170,10 @@ jobs_shown_of unit j = job_shown unit Stop j.stop ++ job_shown unit Start j.star
 abbrev pub jobs_shown : ByUnit UnitJobs → List JobShown
 jobs_shown pending = flat_map (λ e. jobs_shown_of e.0 e.1) (map.entries pending)
 
--- with a job of this kind running
-abbrev pub with_running : JobKind → UnitJobs → UnitJobs
-with_running Stop j = jobs (Some Running) j.start
-with_running Start j = jobs j.stop (Some Running)
+-- with a job of this kind in this state
+abbrev pub with_job : JobKind → JobState → UnitJobs → UnitJobs
+with_job Stop state j = jobs (Some state) j.start
+with_job Start state j = jobs j.stop (Some state)
 
 -- ---- what an event leaves of the jobs of its unit
 

@@ -12,59 +12,40 @@ use Rattle.um_model.specs.declared.units.ValueKind.{ValueKind}
 use Rattle.um_model.specs.declared.units.ValueKind.TheVariants.{Text, Unused, Units, Aliases, Instance, Truth, Span, Number, Commands}
 use Rattle.um_model.specs.declared.units.ValueKind.TheVariants.{Environment, Exits, Policy, ServiceType, Refused}
 
--- a key with the kind of its values
-abbrev pub Keys : Type 0
-Keys = List (List ℕ × ValueKind)
-
--- the keys of [Unit]
-abbrev pub unit_keys : Keys
-unit_keys =
+-- the keys of [Unit], [Install] and [Service], each with the kind of its values
+abbrev pub keys_of : List ℕ → List (List ℕ × ValueKind)
+keys_of section =
+    if bytes_eq section (codes "Unit") then
     (codes "Description", Text) ∷ (codes "Documentation", Unused) ∷ (codes "After", Units) ∷ (codes "Before", Units) ∷ (codes "Wants", Units)
     ∷ (codes "Requires", Units) ∷ (codes "BindsTo", Units) ∷ (codes "PartOf", Units) ∷ (codes "Conflicts", Units)
     ∷ (codes "DefaultDependencies", Truth) ∷ (codes "StartLimitIntervalSec", Span) ∷ (codes "StartLimitBurst", Number) ∷ []
-
--- the keys of [Service]
-abbrev pub service_keys : Keys
-service_keys =
+    else (if bytes_eq section (codes "Install") then
+    (codes "Alias", Aliases) ∷ (codes "WantedBy", Units) ∷ (codes "RequiredBy", Units) ∷ (codes "Also", Units) ∷ (codes "DefaultInstance", Instance) ∷ []
+    else
     (codes "Type", ServiceType) ∷ (codes "ExecStart", Commands) ∷ (codes "ExecStop", Commands) ∷ (codes "Environment", Environment)
     ∷ (codes "RemainAfterExit", Truth) ∷ (codes "Restart", Policy) ∷ (codes "RestartSec", Span) ∷ (codes "TimeoutStartSec", Span)
     ∷ (codes "TimeoutStopSec", Span) ∷ (codes "TimeoutSec", Span) ∷ (codes "SuccessExitStatus", Exits)
     ∷ (codes "RestartPreventExitStatus", Exits) ∷ (codes "RestartForceExitStatus", Exits) ∷ (codes "StartLimitInterval", Span)
-    ∷ (codes "StartLimitBurst", Number) ∷ []
+    ∷ (codes "StartLimitBurst", Number) ∷ [])
 
--- the keys of [Install]
-abbrev pub install_keys : Keys
-install_keys =
-    (codes "Alias", Aliases) ∷ (codes "WantedBy", Units) ∷ (codes "RequiredBy", Units) ∷ (codes "Also", Units) ∷ (codes "DefaultInstance", Instance) ∷ []
-
--- keys that no unit may have, in any section: a start that ignored one would do what its author didn't write
-abbrev pub refused_keys : List (List ℕ)
-refused_keys =
-    codes "User" ∷ codes "Group" ∷ codes "DynamicUser" ∷ codes "RootDirectory" ∷ codes "WorkingDirectory" ∷ codes "EnvironmentFile"
-    ∷ codes "ExecCondition" ∷ codes "ExecStartPre" ∷ codes "ExecStartPost" ∷ codes "ExecStopPost" ∷ codes "Requisite" ∷ codes "Upholds"
-    ∷ codes "OnFailure" ∷ codes "OnSuccess" ∷ []
-
-abbrev pub begins_with : List ℕ → List ℕ → Bool
-begins_with front text = starts_with nat_eq text front
-
--- a key of those, or one that begins with Condition or Assert
+-- a key that no unit may have, in any section, as a start that ignored it would do what its author didn't write: one of these, or one that
+-- begins with Condition or Assert
 abbrev pub is_refused_key : List ℕ → Bool
 is_refused_key key =
-    list_any (λ refused. bytes_eq key refused) refused_keys || begins_with (codes "Condition") key || begins_with (codes "Assert") key
+    list_any (λ refused. bytes_eq key refused) (
+    codes "User" ∷ codes "Group" ∷ codes "DynamicUser" ∷ codes "RootDirectory" ∷ codes "WorkingDirectory" ∷ codes "EnvironmentFile"
+    ∷ codes "ExecCondition" ∷ codes "ExecStartPre" ∷ codes "ExecStartPost" ∷ codes "ExecStopPost" ∷ codes "Requisite" ∷ codes "Upholds"
+    ∷ codes "OnFailure" ∷ codes "OnSuccess" ∷ [])
+    || starts_with nat_eq key (codes "Condition") || starts_with nat_eq key (codes "Assert")
 
 -- a section or a key that isn't ours
 abbrev pub is_foreign : List ℕ → Bool
-is_foreign text = begins_with (codes "X-") text
+is_foreign text = starts_with nat_eq text (codes "X-")
 
 -- [Unit] and [Install], and in a service [Service]
 abbrev pub is_known_section : Option Suffix → List ℕ → Bool
 is_known_section (Some Service) section = bytes_eq section (codes "Unit") || bytes_eq section (codes "Install") || bytes_eq section (codes "Service")
 is_known_section other section = bytes_eq section (codes "Unit") || bytes_eq section (codes "Install")
-
--- the keys of a known section
-abbrev pub keys_of : List ℕ → Keys
-keys_of section =
-    if bytes_eq section (codes "Unit") then unit_keys else (if bytes_eq section (codes "Install") then install_keys else service_keys)
 
 -- the kind of a key's values in a known section, where the key is known
 unfoldable pub kind_of_key : List ℕ → List ℕ → Option ValueKind

@@ -1,5 +1,6 @@
 pub mod Refusals
 pub mod Moments
+pub mod Results
 pub mod Least
 pub mod Reached
 pub mod Ascii
@@ -16,12 +17,10 @@ pub mod Limit
 pub mod Values
 pub mod Settings
 pub mod Resolution
-pub mod Leads
 pub mod Keys
 pub mod Readings
 pub mod Units
 pub mod Install
-pub mod Enabled
 pub mod Dependencies
 pub mod Demands
 pub mod Service
@@ -31,15 +30,12 @@ pub mod Jobs
 pub mod Plan
 pub mod Weight
 pub mod Machine
-pub mod Live
 pub mod Finished
-pub mod Few
 pub mod Servable
 pub mod Numbers
 pub mod Requests
 pub mod Replies
 pub mod Frames
-pub mod Alike
 pub mod Timers
 pub mod Specifiers
 pub mod Disk
@@ -50,7 +46,5 @@ pub mod InputSpellings
 pub mod Store
 pub mod Stands
 pub mod Lives
-pub mod Finds
 pub mod Sessions
 pub mod Children
-pub mod Runner

@@ -14,15 +14,11 @@ abbrev pub is_over : Option ℕ → ℕ → ℕ → Bool
 is_over None t began = false
 is_over (Some interval) t began = nat_lt (began + interval) t
 
--- the window that a start at the moment t begins
-abbrev pub window_from : ℕ → Option Counted
-window_from t = Some (record { began = t; count = 1 })
-
 -- where there is a limit: a start begins a window where there is none or it is over, else is counted where it has room, else is refused
 abbrev pub limited : Option ℕ → ℕ → ℕ → Option Counted → Bool × Option Counted
-limited interval burst t None = (true, window_from t)
+limited interval burst t None = (true, Some (record { began = t; count = 1 }))
 limited interval burst t (Some w) =
-    if is_over interval t w.began then (true, window_from t)
+    if is_over interval t w.began then (true, Some (record { began = t; count = 1 }))
     else (if nat_lt w.count burst then (true, Some (record w { count = w.count + 1 })) else (false, Some w))
 
 -- a start at the moment t: whether it is let through, and the window after it

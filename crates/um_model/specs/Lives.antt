@@ -87,8 +87,7 @@ pub data RunsThrough (size : ℕ) : State → List Life → List Input → State
 -- the input, where it was answered
 abbrev pub where_answered : Outcome → Input → List Input
 where_answered (answered reply) input = input ∷ []
-where_answered turned_away input = []
-where_answered unanswered input = []
+where_answered other input = []
 
 -- the inputs of a life that were answered
 abbrev pub answered_in : List Offer → List Input

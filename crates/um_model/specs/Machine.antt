@@ -1,8 +1,9 @@
 -- The machine: its state, what comes in, what is answered, one step, and a run.
 -- The rules of single inputs follow systemctl(1); the machine itself is this project's own.
 -- The engine, the keeper, the manager and the program stand on this file.
-use Rattle.std.specs.Prelude.{◌≡◌, ◌≢◌, ◌⊎◌, ◌↔◌, ⊤, ℕ, ◌+◌, ◌<◌, ◌≤◌, max, Bool, true, false, not, ◌||◌, if◌then◌else◌, List, [], ◌∷◌, ◌++◌, Option, Some, None, Ok, Err, codes, map as each, AllPairs, Contains}
+use Rattle.std.specs.Prelude.{◌≡◌, ◌≢◌, ◌⊎◌, ◌↔◌, ⊤, ℕ, ◌+◌, ◌<◌, ◌≤◌, max, Bool, true, false, not, ◌||◌, if◌then◌else◌, List, [], ◌∷◌, ◌++◌, Option, Some, None, is_some, Ok, Err, codes, map as each, AllPairs, Contains}
 use Rattle.std.specs.FinMap as map
+use Rattle.std.specs.Option.{option_map_or}
 use Rattle.um_model.specs.Least.{IsLeast, IsNamedBefore}
 use Rattle.um_model.specs.Refusals.{Refused, not_found, masked, bad_setting, not_loaded, no_such_job, no_room, too_large, FirstCause}
 use Rattle.um_model.specs.Names.{is_template}
@@ -12,11 +13,10 @@ use Rattle.um_model.specs.Resolution.{UnitFile, Resolution, AtFile, AtNoFile, At
 use Rattle.um_model.specs.Units.{LoadedUnit, Loading, Found, Masked, NotFound, BadSetting, load, name_in, Warning}
 use Rattle.um_model.specs.Dependencies.{IsKnown, KnowsTooMany, CountsFor, Depends, Precedes, loadable_in}
 use Rattle.um_model.specs.Install.{Installs, RefusesInstall, paths_beyond, IsEnabledAs}
-use Rattle.um_model.specs.Service.{ByUnit, AreTidyUnits, state_of_unit, with_unit, active_state_of, is_dead, is_number, Action}
-use Rattle.um_model.specs.Ends.{is_failed, is_starting, may_be_asked}
+use Rattle.um_model.specs.Service.{ByUnit, AreTidyUnits, state_of_unit, with_unit, active_state_of, is_number, Action}
+use Rattle.um_model.specs.Ends.{is_starting, has_one_command}
 use Rattle.um_model.specs.Transitions.{transition, AreActions, HasNumber, spawned, is_going}
-use Rattle.um_model.specs.Jobs.{Job, jobs, no_jobs, jobs_of_unit, with_jobs, AreTidyJobs, is_active, cancelled, JobShown, jobs_shown, jobs_left, without_start, with_running, ComesBefore, IsReady, BeginsNext}
-use Rattle.um_model.specs.Order.{IsCycle}
+use Rattle.um_model.specs.Jobs.{Job, job_of, jobs, no_jobs, jobs_of_unit, with_jobs, AreTidyJobs, is_active, cancelled, JobShown, jobs_shown, jobs_left, without_start, ComesBefore, IsReady, BeginsNext, with_job}
 use Rattle.um_model.specs.Plan.{Scene, IsPlan, CausesOfPlan, NamesCycle, AreFree}
 use Rattle.um_model.specs.Reached.{Reached}
 use Rattle.um_model.specs.Timers.{Timers, IsDueFirst}
@@ -156,12 +156,10 @@ pub data Reply : Type 0 where
 abbrev pub shown_without_settings : List ℕ → LoadState → UnitState → UnitShown
 shown_without_settings unit load state = record { id = unit; load = load; description = []; warnings = []; state = state }
 
-abbrev pub shown_of_loaded : LoadedUnit → UnitState → UnitShown
-shown_of_loaded l state = record { id = l.name; load = load_state.Loaded; description = l.settings.description; warnings = l.warnings; state = state }
-
 -- a description and warnings are shown of a loaded unit alone
 abbrev pub shown_of : List ℕ → Loading → UnitState → UnitShown
-shown_of asked (Found l) state = shown_of_loaded l state
+shown_of asked (Found l) state =
+    record { id = l.name; load = load_state.Loaded; description = l.settings.description; warnings = l.warnings; state = state }
 shown_of asked (Masked unit) state = shown_without_settings unit load_state.Masked state
 shown_of asked NotFound state = shown_without_settings asked load_state.NotFound state
 shown_of asked (BadSetting unit reason) state = shown_without_settings unit load_state.BadSetting state
@@ -175,10 +173,9 @@ state_asked s asked = state_of_unit s.units (unit_asked s asked)
 
 -- the files of a unit, if it is found and not masked
 abbrev pub files_told : Tree → List ℕ → Resolution → Reply
-files_told tree asked (AtFile unit path text) = Files (files_at tree (AtFile unit path text))
-files_told tree asked (AtNoFile unit) = Files (files_at tree (AtNoFile unit))
 files_told tree asked (AtMask unit) = Refusal (masked unit)
 files_told tree asked Nowhere = Refusal (not_found asked)
+files_told tree asked found = Files (files_at tree found)
 
 -- ---- which units count
 
@@ -190,9 +187,9 @@ IsHeld s unit = (map.get s.units unit ≢ None) ⊎ (map.get s.pending unit ≢ 
 abbrev pub IsHeldOr : State → List ℕ → List ℕ → Type 0
 IsHeldOr s named unit = IsHeld s unit ⊎ (unit ≡ named)
 
--- the known units, by name
-pub record AreKnownUnits (s : State) (names : List (List ℕ)) : Type 0 where
-  pub each : (unit : List ℕ) → Contains names unit ↔ IsKnown s.loaded (IsHeld s) unit
+-- these are the units of that kind, by name
+pub record AreByName (Is : List ℕ → Type 0) (names : List (List ℕ)) : Type 0 where
+  pub each : (unit : List ℕ) → Contains names unit ↔ Is unit
   pub sorted : AllPairs IsNamedBefore names
 
 abbrev pub unit_listed : State → List ℕ → UnitListed
@@ -205,28 +202,14 @@ pub data IsReplyTo (s : State) : Query → Reply → Type 0 where
   tells_failure : {asked : List ℕ} → IsReplyTo s (IsFailed asked) (Activity (active_state_of (state_asked s asked).sub))
   tells_files : {asked : List ℕ} → IsReplyTo s (Cat asked) (files_told s.tree asked (resolution_of s.tree asked))
   tells_enabling : {asked : List ℕ} {answer : Enabling} → IsEnabledAs s.tree asked answer → IsReplyTo s (IsEnabled asked) (EnabledAs answer)
-  lists_units : {names : List (List ℕ)} → AreKnownUnits s names → IsReplyTo s ListUnits (Listed (each (unit_listed s) names))
+  lists_units : {names : List (List ℕ)} → AreByName (IsKnown s.loaded (IsHeld s)) names → IsReplyTo s ListUnits (Listed (each (unit_listed s) names))
   lists_jobs : IsReplyTo s ListJobs (Jobs (jobs_shown s.pending))
 
 -- ---- one unit and what happens to it
 
--- what the service table knows of a unit: the settings that it acts by, and whether it can be started
-pub record Acting : Type 0 where
-  pub settings : ServiceSettings
-  pub loadable : Bool
-
--- a unit that isn't loadable, a template among them, acts as a simple service with default settings
-abbrev pub acting_unloadable : Acting
-acting_unloadable = record { settings = default_settings Simple; loadable = false }
-
--- how a unit acts, by what was found of it
-abbrev pub acting_of : Loading → Acting
-acting_of (Found l) = if is_template l.name then acting_unloadable else record { settings = l.settings.service; loadable = true }
-acting_of other = acting_unloadable
-
--- how a unit acts by this tree
-abbrev pub acting_in : Tree → List ℕ → Acting
-acting_in tree unit = acting_of (load tree unit)
+-- the settings that a unit acts by: its own where it can be loaded, else those of a simple service where nothing is set
+abbrev pub settings_in : Tree → List ℕ → ServiceSettings
+settings_in tree unit = option_map_or (λ l. l.settings.service) (loadable_in tree unit) (default_settings Simple)
 
 abbrev pub is_waiting : Option JobState → Bool
 is_waiting (Some Waiting) = true
@@ -234,16 +217,12 @@ is_waiting other = false
 
 -- what stands around the unit at the moment t
 abbrev pub around : ℕ → State → List ℕ → Around
-around t s unit = record {
-  moment = t;
-  next = s.next;
-  loadable = (acting_in s.loaded unit).loadable;
-  stop_waits = is_waiting (jobs_of_unit s.pending unit).stop;
-}
+around t s unit =
+    record { moment = t; next = s.next; loadable = is_some (loadable_in s.loaded unit); stop_waits = is_waiting (jobs_of_unit s.pending unit).stop }
 
 -- what follows for the unit
 abbrev pub change_of : ℕ → State → List ℕ → UnitEvent → Change
-change_of t s unit event = transition (acting_in s.loaded unit).settings (around t s unit) (state_of_unit s.units unit) event
+change_of t s unit event = transition (settings_in s.loaded unit) (around t s unit) (state_of_unit s.units unit) event
 
 -- the state with what follows for the unit
 abbrev pub changed : State → List ℕ → Change → State
@@ -269,62 +248,44 @@ pub record NeedsStart (s : State) (other unit : List ℕ) : Type 0 where
 abbrev pub IsTakenAlong : State → List ℕ → List ℕ → Type 0
 IsTakenAlong s failed = Reached (NeedsStart s failed) (NeedsStart s)
 
-abbrev pub with_result_dependency : UnitState → UnitState
-with_result_dependency u = record u { result = Dependency }
-
 -- the starts that the failed start of a unit takes along are gone, and their units tell so
 pub record TakesAlong (s : State) (failed : List ℕ) (s' : State) : Type 0 where
   pub starts : (unit : List ℕ) → IsTakenAlong s failed unit → jobs_of_unit s'.pending unit ≡ without_start (jobs_of_unit s.pending unit)
-  pub results : (unit : List ℕ) → IsTakenAlong s failed unit → state_of_unit s'.units unit ≡ with_result_dependency (state_of_unit s.units unit)
+  pub results : (unit : List ℕ) → IsTakenAlong s failed unit → state_of_unit s'.units unit ≡ record (state_of_unit s.units unit) { result = Dependency }
   pub other_jobs : (unit : List ℕ) → ¬ IsTakenAlong s failed unit → jobs_of_unit s'.pending unit ≡ jobs_of_unit s.pending unit
   pub other_units : (unit : List ℕ) → ¬ IsTakenAlong s failed unit → state_of_unit s'.units unit ≡ state_of_unit s.units unit
   pub tidy_jobs : AreTidyJobs s'.pending
   pub tidy_units : AreTidyUnits s'.units
   pub rest : s' ≡ record s { units = s'.units; pending = s'.pending }
 
--- a start job of the unit runs, and the change fails it
-abbrev pub fails_start : StartJob → Option JobState → Bool
-fails_start Fails (Some Running) = true
-fails_start start job = false
-
--- the state after a change of a unit: where its start fails, with the starts that it takes along gone
+-- the state after a change of a unit: where that fails its running start job, with the starts that this takes along gone
 pub data Becomes (s : State) (unit : List ℕ) (c : Change) : State → Type 0 where
-  alone : fails_start c.start (jobs_of_unit s.pending unit).start ≡ false → Becomes s unit c (changed s unit c)
-  along : {s' : State} → fails_start c.start (jobs_of_unit s.pending unit).start ≡ true → TakesAlong (changed s unit c) unit s' → Becomes s unit c s'
+  alone : ¬ ((c.start ≡ Fails) × ((jobs_of_unit s.pending unit).start ≡ Some Running)) → Becomes s unit c (changed s unit c)
+  along : {s' : State} → (c.start ≡ Fails) × ((jobs_of_unit s.pending unit).start ≡ Some Running) → TakesAlong (changed s unit c) unit s' → Becomes s unit c s'
 
 -- what happens to a unit at the moment t is carried out, for that unit by itself
 pub record Carries (t : ℕ) (unit : List ℕ) (event : UnitEvent) (s : State) (actions : List Action) (s' : State) : Type 0 where
   pub state : Becomes s unit (change_of t s unit event) s'
-  pub asked : AreActions (acting_in s.loaded unit).settings (around t s unit) (change_of t s unit event).unit (change_of t s unit event).order actions
+  pub asked : AreActions (settings_in s.loaded unit) (around t s unit) (change_of t s unit event).unit (change_of t s unit event).order actions
 
 -- ---- the units that fall with one
 
--- so a unit came to rest: it is dead or failed, and wasn't the same before
-abbrev pub comes_to_rest : (before after : SubState) → Bool
-comes_to_rest before Dead = not (is_dead before)
-comes_to_rest before Failed = not (is_failed before)
-comes_to_rest before other = false
-
--- the unit came to rest from one state to the other, and the other unit, which is active or activating, is bound to it
+-- the unit came to rest from one state to the other, dead or failed now, and the other unit, which is active or activating, is bound to it
 pub record FallsWith (s u : State) (unit other : List ℕ) : Type 0 where
-  pub rests : comes_to_rest (state_of_unit s.units unit).sub (state_of_unit u.units unit).sub ≡ true
+  pub rests : ((state_of_unit u.units unit).sub ≡ Dead) ⊎ ((state_of_unit u.units unit).sub ≡ Failed)
+  pub anew : (state_of_unit s.units unit).sub ≢ (state_of_unit u.units unit).sub
   pub goes : is_going (active_state_of (state_of_unit u.units other).sub) ≡ true
   pub bound : Depends s.loaded (λ x. ⊤) BindsTo other unit
-
--- the units that fall with it, by name
-pub record AreFalling (s u : State) (unit : List ℕ) (names : List (List ℕ)) : Type 0 where
-  pub each : (other : List ℕ) → Contains names other ↔ FallsWith s u unit other
-  pub sorted : AllPairs IsNamedBefore names
 
 -- these units are told to stop at once, one after another; where one comes to rest by that, those bound to it come first
 pub data FallDown (t : ℕ) : List (List ℕ) → State → List Action → State → Type 0 where
   all_told : {s : State} → FallDown t [] s [] s
   told_next : {unit : List ℕ} {units falling : List (List ℕ)} {s u v : State} {first more : List Action} → Carries t unit BoundStop s first u
-      → AreFalling s u unit falling → FallDown t (falling ++ units) u more v → FallDown t (unit ∷ units) s (first ++ more) v
+      → AreByName (FallsWith s u unit) falling → FallDown t (falling ++ units) u more v → FallDown t (unit ∷ units) s (first ++ more) v
 
 -- what happens to a unit at the moment t is carried out, with all units that fall with it
 pub data Happens (t : ℕ) (unit : List ℕ) (event : UnitEvent) (s : State) : List Action → State → Type 0 where
-  happens : {falling : List (List ℕ)} {u v : State} {first more : List Action} → Carries t unit event s first u → AreFalling s u unit falling
+  happens : {falling : List (List ℕ)} {u v : State} {first more : List Action} → Carries t unit event s first u → AreByName (FallsWith s u unit) falling
       → FallDown t falling u more v → Happens t unit event s (first ++ more) v
 
 -- ---- jobs begin
@@ -336,7 +297,7 @@ begins job.Stop = StopBegins
 
 -- the state with that job running
 abbrev pub begun : State → Job → State
-begun s j = record s { pending = with_jobs s.pending j.unit (with_running j.kind (jobs_of_unit s.pending j.unit)) }
+begun s j = record s { pending = with_jobs s.pending j.unit (with_job j.kind Running (jobs_of_unit s.pending j.unit)) }
 
 -- no job is ready to begin
 abbrev pub IsStill : State → Type 0
@@ -349,10 +310,6 @@ pub data Settles (t : ℕ) : State → List Action → State → Type 0 where
       → Happens t j.unit (begins j.kind) (begun s j) first u → Settles t u more v → Settles t s (first ++ more) v
 
 -- ---- what a command does
-
-abbrev pub is_found : Loading → Bool
-is_found NotFound = false
-is_found other = true
 
 -- why a unit can't be started, by what was found of it
 pub data CannotStart (asked : List ℕ) : Loading → Refused → Type 0 where
@@ -370,12 +327,6 @@ demand_of verbs.Start a = Some demands.Start
 demand_of verbs.Stop a = Some demands.Stop
 demand_of verbs.Restart a = Some demands.Restart
 demand_of verbs.TryRestart a = if is_active a then Some demands.Restart else None
-
--- the command is for a unit that is there already
-abbrev pub wants_it_there : UnitVerb → Bool
-wants_it_there verbs.Stop = true
-wants_it_there verbs.TryRestart = true
-wants_it_there other = false
 
 abbrev pub jobs_asked : State → List ℕ → UnitJobs
 jobs_asked s asked = jobs_of_unit s.pending (unit_asked s asked)
@@ -395,14 +346,14 @@ scene_at s named = record {
 
 -- the unit is neither found in the loaded tree nor held in the state
 pub record IsMissing (s : State) (asked : List ℕ) (r : Refused) : Type 0 where
-  pub isnt_found : is_found (load s.loaded asked) ≡ false
+  pub isnt_found : load s.loaded asked ≡ NotFound
   pub isnt_held : map.get s.units asked ≡ None
   pub refusal : r ≡ not_loaded asked
 
--- the command is for a unit that is there already, and it is missing
-pub record IsNotThere (s : State) (verb : UnitVerb) (asked : List ℕ) (r : Refused) : Type 0 where
-  pub wanted : wants_it_there verb ≡ true
-  pub missing : IsMissing s asked r
+-- a stop or a try-restart is for a unit that is there already, and it is missing
+pub data IsNotThere (s : State) : UnitVerb → List ℕ → Refused → Type 0 where
+  to_stop : {asked : List ℕ} {r : Refused} → IsMissing s asked r → IsNotThere s verbs.Stop asked r
+  to_try_restart : {asked : List ℕ} {r : Refused} → IsMissing s asked r → IsNotThere s verbs.TryRestart asked r
 
 -- more units would be known than may be, by the tree or by it without its entries under `run/`
 pub record IsCrowded (tree : Tree) (Extra : List ℕ → Type 0) (r : Refused) : Type 0 where
@@ -418,24 +369,12 @@ pub record HasNoPlan (s : State) (verb : UnitVerb) (asked : List ℕ) (mode : Jo
   pub cause : FirstCause (CausesOfPlan (scene_at s (unit_asked s asked)) (demand, unit_asked s asked) mode after)
       (IsCrowded s.loaded (IsHeld (record s { pending = after }))) r
 
--- the causes in the order in which they are looked at
-abbrev pub CausesOf : State → UnitVerb → List ℕ → JobMode → Refused → Type 0
-CausesOf s verb asked mode =
-    FirstCause (IsCrowded s.loaded (IsHeldOr s (unit_asked s asked))) (FirstCause (IsNotThere s verb asked) (HasNoPlan s verb asked mode))
-
 -- Why the waiting jobs of a unit aren't dropped.
-
-abbrev pub has_waiting : UnitJobs → Bool
-has_waiting j = is_waiting j.stop || is_waiting j.start
 
 -- no job of the unit waits
 pub record HasNoneWaiting (s : State) (asked : List ℕ) (r : Refused) : Type 0 where
-  pub none : has_waiting (jobs_asked s asked) ≡ false
+  pub none : (kind : JobKind) → job_of kind (jobs_asked s asked) ≢ Some Waiting
   pub refusal : r ≡ no_such_job (unit_asked s asked)
-
--- the causes in their order
-abbrev pub CausesOfCancel : State → List ℕ → Refused → Type 0
-CausesOfCancel s asked = FirstCause (IsMissing s asked) (HasNoneWaiting s asked)
 
 -- Why a tree isn't loaded: too many units would be known, or the pending jobs would wait for one another in a circle.
 
@@ -449,16 +388,17 @@ pub record LoadsNone (s : State) (verb : InstallVerb) (unit : List ℕ) (r : Ref
   pub cause : CausesOfLoad s tree r
 
 -- a command is refused for the first of its causes that holds
-pub data Refuses (s : State) : Command → Refused → Type 0 where
-  puts_none : {path text : List ℕ} {r : Refused} → put_file s.tree path text ≡ Err r → Refuses s (PutFile path text) r
-  links_none : {path target : List ℕ} {r : Refused} → put_link s.tree path target ≡ Err r → Refuses s (PutLink path target) r
-  removes_none : {path : List ℕ} {r : Refused} → remove_at s.tree path ≡ Err r → Refuses s (Remove path) r
-  plans_none : {verb : UnitVerb} {asked : List ℕ} {mode : JobMode} {r : Refused} → CausesOf s verb asked mode r → Refuses s (ForUnit verb asked mode) r
-  cancels_none : {asked : List ℕ} {r : Refused} → CausesOfCancel s asked r → Refuses s (Cancel asked) r
-  resets_none : {asked : List ℕ} {r : Refused} → IsMissing s asked r → Refuses s (ResetFailed (Some asked)) r
-  reloads_none : {r : Refused} → CausesOfLoad s s.tree r → Refuses s DaemonReload r
-  installs_none : {verb : InstallVerb} {unit : List ℕ} {r : Refused} → FirstCause (RefusesInstall s.tree verb unit) (LoadsNone s verb unit) r
-      → Refuses s (Install verb unit) r
+abbrev pub Refuses : State → Command → Refused → Type 0
+Refuses s (PutFile path text) r = put_file s.tree path text ≡ Err r
+Refuses s (PutLink path target) r = put_link s.tree path target ≡ Err r
+Refuses s (Remove path) r = remove_at s.tree path ≡ Err r
+Refuses s DaemonReload r = CausesOfLoad s s.tree r
+Refuses s (ForUnit verb asked mode) r =
+    FirstCause (IsCrowded s.loaded (IsHeldOr s (unit_asked s asked))) (FirstCause (IsNotThere s verb asked) (HasNoPlan s verb asked mode)) r
+Refuses s (Cancel asked) r = FirstCause (IsMissing s asked) (HasNoneWaiting s asked) r
+Refuses s (ResetFailed (Some asked)) r = IsMissing s asked r
+Refuses s (ResetFailed None) r = ⊥
+Refuses s (Install verb unit) r = FirstCause (RefusesInstall s.tree verb unit) (LoadsNone s verb unit) r
 
 -- the state with these pending jobs of the unit
 abbrev pub with_plan : State → List ℕ → UnitJobs → State
@@ -520,18 +460,12 @@ with_start_alone s unit = with_plan s unit (jobs None (Some Waiting))
 pub data Restarts (s : State) (unit : List ℕ) : State → Type 0 where
   puts : jobs_of_unit s.pending unit ≡ no_jobs → AreFree (IsBefore s.loaded) (with_start_alone s unit).pending
       → Restarts s unit (with_start_alone s unit)
-  has_a_job : jobs_of_unit s.pending unit ≢ no_jobs → Restarts s unit s
-  closes_a_circle : (cycle : List Job) → jobs_of_unit s.pending unit ≡ no_jobs
-      → IsCycle (ComesBefore (IsBefore s.loaded) (with_start_alone s unit).pending) cycle → Restarts s unit s
-
-abbrev pub awaits_restart : SubState → Bool
-awaits_restart AutoRestart = true
-awaits_restart other = false
+  isnt_put : ¬ ((jobs_of_unit s.pending unit ≡ no_jobs) × AreFree (IsBefore s.loaded) (with_start_alone s unit).pending) → Restarts s unit s
 
 -- what comes of a deadline of the unit that is there: where it waits for that, its restart
 pub data ComesDue (t : ℕ) (s : State) (unit : List ℕ) : List Action → State → Type 0 where
-  restarts : {u : State} → awaits_restart (state_of_unit s.units unit).sub ≡ true → Restarts s unit u → ComesDue t s unit [] u
-  passes : {actions : List Action} {u : State} → awaits_restart (state_of_unit s.units unit).sub ≡ false
+  restarts : {u : State} → (state_of_unit s.units unit).sub ≡ AutoRestart → Restarts s unit u → ComesDue t s unit [] u
+  passes : {actions : List Action} {u : State} → (state_of_unit s.units unit).sub ≢ AutoRestart
       → Happens t unit DeadlinePasses s actions u → ComesDue t s unit actions u
 
 -- of these deadlines those up to the moment t fire, earliest first; one that is gone or changed by then doesn't
@@ -546,7 +480,7 @@ pub data Fires (t : ℕ) : Timers → State → List Action → State → Type 0
 -- the unit waits for the report that the program of its main process runs, and that process has this number
 pub record AwaitsReport (s : State) (number : ℕ) (unit : List ℕ) : Type 0 where
   pub starts : is_starting (state_of_unit s.units unit).sub ≡ true
-  pub kind : may_be_asked (acting_in s.loaded unit).settings.kind ≡ true
+  pub kind : has_one_command (settings_in s.loaded unit).kind ≡ true
   pub main : (state_of_unit s.units unit).main ≡ Some number
 
 -- the state after a boot with this id: nothing is held of any unit, and what stood under `run/` is gone; process numbers go on
@@ -569,21 +503,16 @@ pub data HasNoEffect (t : ℕ) (s : State) : Happening → Type 0 where
   is_idle : Follows t s Tick [] s → HasNoEffect t s Tick
   is_known : {boot : List ℕ} → boot ≡ s.boot → HasNoEffect t s (Booted boot)
 
--- an event without effect: a command that isn't refused has one always
-abbrev pub LacksEffect : ℕ → State → Event → Type 0
-LacksEffect t s (Commanded command) = ⊥
-LacksEffect t s (Happened happening) = HasNoEffect t s happening
-
 -- the moment of a step: the input's, or the clock's where that is later
 abbrev pub moment_of : State → ℕ → ℕ
 moment_of s moment = max s.clock moment
 
 -- an event has its effect at the moment t: a command that isn't refused changes the state and jobs begin; what happens has what follows
-pub data Takes (t : ℕ) (s : State) : Event → List Action → State → Type 0 where
+pub data TakesEffect (t : ℕ) (s : State) : Event → List Action → State → Type 0 where
   obeys : {command : Command} {first more : List Action} {u v : State} → ((r : Refused) → ¬ Refuses s command r) → Does t s command first u
-      → Settles t u more v → Takes t s (Commanded command) (first ++ more) v
+      → Settles t u more v → TakesEffect t s (Commanded command) (first ++ more) v
   meets : {happening : Happening} {actions : List Action} {v : State} → ¬ HasNoEffect t s happening → Follows t s happening actions v
-      → Takes t s (Happened happening) actions v
+      → TakesEffect t s (Happened happening) actions v
 
 -- the reply to an event that has its effect: enabling and its kin tell the paths that they made and removed
 abbrev pub reply_after : Event → (before after : Tree) → Reply
@@ -606,11 +535,11 @@ HasNoRoom size (Happened happening) u = ⊥
 pub data Step (size : ℕ) (s : State) : Input → Reply → List Action → State → Type 0 where
   refused : {moment : ℕ} {command : Command} {r : Refused} → Refuses s command r
       → Step size s (record { moment = moment; event = Commanded command }) (Refusal r) [] s
-  crowded_out : {moment : ℕ} {event : Event} {actions : List Action} {u : State} → Takes (moment_of s moment) s event actions u → HasNoRoom size event u
+  crowded_out : {moment : ℕ} {event : Event} {actions : List Action} {u : State} → TakesEffect (moment_of s moment) s event actions u → HasNoRoom size event u
       → Step size s (record { moment = moment; event = event }) (Refusal no_room) [] s
   idle : {moment : ℕ} {happening : Happening} → HasNoEffect (moment_of s moment) s happening
       → Step size s (record { moment = moment; event = Happened happening }) Done [] s
-  taken : {moment : ℕ} {event : Event} {actions : List Action} {u : State} → Takes (moment_of s moment) s event actions u → ¬ HasNoRoom size event u
+  taken : {moment : ℕ} {event : Event} {actions : List Action} {u : State} → TakesEffect (moment_of s moment) s event actions u → ¬ HasNoRoom size event u
       → Step size s (record { moment = moment; event = event }) (reply_after event s.tree u.tree) actions (record u { clock = moment_of s moment })
 
 -- one step after another

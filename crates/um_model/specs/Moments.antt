@@ -1,7 +1,7 @@
 -- Time in microseconds; the bounds of moments, spans, deadlines and process numbers.
 -- Follows systemd.time(7) in counting microseconds; the bounds are this project's own.
 -- Service transitions, the machine, requests and canonical bytes stand on this file.
-use Rattle.std.specs.Prelude.{ℕ, ◌*◌, ◌^◌}
+use Rattle.std.specs.Prelude.{ℕ, ◌-◌, ◌*◌, ◌^◌}
 
 -- microseconds in a millisecond, a second, a minute, an hour, a day and a week
 abbrev pub millisecond : ℕ
@@ -37,3 +37,7 @@ deadline_limit = 2 ^ 63
 -- processes have the numbers below 2^63
 abbrev pub process_limit : ℕ
 process_limit = 2 ^ 63
+
+-- the last number of 64 bits
+abbrev pub last_of_64_bits : ℕ
+last_of_64_bits = 2 ^ 64 - 1

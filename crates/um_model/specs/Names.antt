@@ -7,7 +7,7 @@ use Rattle.std.specs.Option.{option_map_or}
 use Rattle.std.specs.List.{list_all, ends_with, flat_map}
 use Rattle.std.specs.Char.{digit_char, digit_value}
 use Rattle.um_model.specs.Ascii.{is_digit, is_letter}
-use Rattle.um_model.specs.Pieces.{Front, Unreadable, Gives, StandsForText}
+use Rattle.um_model.specs.Pieces.{Front, Unreadable, Gives}
 use Rattle.um_model.specs.declared.names.Suffix.{Suffix}
 use Rattle.um_model.specs.declared.names.Suffix.TheVariants.{Service, Socket, Device, Mount, Automount, Swap, Target, Path, Timer, Slice, Scope}
 
@@ -39,25 +39,15 @@ pub record NameParts : Type 0 where
   pub instance : Option (List ℕ)
   pub suffix : Suffix
 
--- an instance with the `@` before it
-abbrev pub instance_text : Option (List ℕ) → List ℕ
-instance_text None = []
-instance_text (Some instance) = 64 ∷ instance
-
--- the parts one behind the other
+-- the parts one behind the other, with an `@` before an instance
 abbrev pub name_text : NameParts → List ℕ
-name_text p = p.prefix ++ (instance_text p.instance ++ suffix_text p.suffix)
+name_text p = p.prefix ++ (option_map_or (λ instance. 64 ∷ instance) p.instance [] ++ suffix_text p.suffix)
 
--- where there is an instance, it has its bytes alone; it may be empty
-abbrev pub is_fit_instance : Option (List ℕ) → Bool
-is_fit_instance None = true
-is_fit_instance (Some instance) = list_all is_instance_byte instance
-
--- the prefix isn't empty, and each part has its bytes alone
+-- the prefix isn't empty, and each part has its bytes alone; an instance may be empty
 pub record AreFit (p : NameParts) : Type 0 where
   pub some : 0 < length p.prefix
   pub prefix_bytes : list_all is_prefix_byte p.prefix ≡ true
-  pub instance_bytes : is_fit_instance p.instance ≡ true
+  pub instance_bytes : option_map_or (list_all is_instance_byte) p.instance true ≡ true
 
 -- a unit name has at most so many bytes
 abbrev pub name_limit : ℕ
@@ -75,22 +65,13 @@ pub record IsNameOf (text : List ℕ) (p : NameParts) : Type 0 where
 abbrev pub suffixes : List Suffix
 suffixes = Service ∷ Socket ∷ Device ∷ Mount ∷ Automount ∷ Swap ∷ Target ∷ Path ∷ Timer ∷ Slice ∷ Scope ∷ []
 
--- the text ends in the suffix
-abbrev pub ends_in : List ℕ → Suffix → Bool
-ends_in text s = ends_with nat_eq text (suffix_text s)
-
 -- the suffix that the text ends in
 unfoldable pub suffix_of : List ℕ → Option Suffix
-suffix_of text = find (ends_in text) suffixes
+suffix_of text = find (λ s. ends_with nat_eq text (suffix_text s)) suffixes
 
--- what stands before that suffix, or all
-abbrev pub stem_before : List ℕ → Option Suffix → List ℕ
-stem_before text None = text
-stem_before text (Some s) = take (length text - length (suffix_text s)) text
-
--- what stands before the suffix
+-- what stands before the suffix, or all
 unfoldable pub stem_of : List ℕ → List ℕ
-stem_of text = stem_before text (suffix_of text)
+stem_of text = option_map_or (λ s. take (length text - length (suffix_text s)) text) (suffix_of text) text
 
 -- what stands before the first `@`, or all
 abbrev pub before_at : List ℕ → List ℕ
@@ -124,8 +105,7 @@ is_template name = option_map_or (λ instance. length instance == 0) (instance_o
 
 -- the text of a suffix, where there is one
 abbrev pub suffix_text_of : Option Suffix → List ℕ
-suffix_text_of None = []
-suffix_text_of (Some s) = suffix_text s
+suffix_text_of suffix = option_map_or suffix_text suffix []
 
 -- the name with this instance, in place of its own where it has one
 abbrev pub with_instance : List ℕ → List ℕ → List ℕ
@@ -153,14 +133,10 @@ is_plain_byte b = is_letter b || is_digit b || b == 58 || b == 95 || b == 46
 abbrev pub escape_of : ℕ → List ℕ
 escape_of b = if b == 47 then 45 ∷ [] else (if is_plain_byte b then b ∷ [] else byte_escape b)
 
--- a dot at the front doesn't stay
-abbrev pub first_escape_of : ℕ → List ℕ
-first_escape_of b = if b == 46 then byte_escape b else escape_of b
-
--- the bytes as a text that can stand in a name
+-- the bytes as a text that can stand in a name; a dot at the front doesn't stay
 abbrev pub escaped : List ℕ → List ℕ
 escaped [] = []
-escaped (b ∷ bs) = first_escape_of b ++ flat_map escape_of bs
+escaped (b ∷ bs) = (if b == 46 then byte_escape b else escape_of b) ++ flat_map escape_of bs
 
 -- 0 to 9, a to f
 abbrev pub is_hex_digit : ℕ → Bool
@@ -168,18 +144,12 @@ is_hex_digit b = is_digit b || (nat_le 97 b && nat_le b 102)
 
 -- what follows a `\` is an `x` and two hexadecimal digits, and gives their byte; anything else is ill escaped
 abbrev pub escape_front : List ℕ → Front ℕ
-escape_front [] = Unreadable
-escape_front (x ∷ []) = Unreadable
-escape_front (x ∷ high ∷ []) = Unreadable
 escape_front (x ∷ high ∷ low ∷ rest) =
     if x == 120 && is_hex_digit high && is_hex_digit low
     then Gives ((16 * digit_value high + digit_value low) ∷ []) 4
     else Unreadable
+escape_front other = Unreadable
 
 -- `-` becomes `/`, an escape its byte, and any other byte stays
 abbrev pub unescape_front : ℕ → List ℕ → Front ℕ
 unescape_front b bs = if b == 45 then Gives (47 ∷ []) 1 else (if b == 92 then escape_front bs else Gives (b ∷ []) 1)
-
--- the text stands for these bytes
-abbrev pub StandsForBytes : List ℕ → List ℕ → Type 0
-StandsForBytes text bytes = StandsForText unescape_front text bytes

@@ -1,7 +1,8 @@
 -- A text that stands for something, piece by piece from its front: for another text, for words, for times.
 -- The common form of several rules: escapes in names, specifiers, substitution, time spans, quotes, words and lists of words.
 -- Names, Values, Words, Substitution and Specifiers stand on this file.
-use Rattle.std.specs.Prelude.{◌≡◌, ℕ, zero, suc, ◌-◌, List, [], ◌∷◌, ◌++◌, length, drop, Option, Some, None, option_map}
+use Rattle.std.specs.Prelude.{ℕ, zero, suc, ◌-◌, List, [], ◌∷◌, ◌++◌, length, drop, Option, Some, None, option_map}
+use Rattle.um_model.specs.Bytes.{nothing_left}
 
 -- the front of a text can't be read, ends what is read before it, or stands for these and takes so many bytes
 pub data Front (A : Type 0) : Type 0 where
@@ -9,33 +10,11 @@ pub data Front (A : Type 0) : Type 0 where
   Ends : Front A
   Gives : List A → ℕ → Front A
 
--- what was found, if anything, and takes so many bytes
-abbrev pub front_of : {A : Type 0} → Option (List A) → ℕ → Front A
-front_of None n = Unreadable
-front_of (Some found) n = Gives found n
-
--- the text begins with pieces, which stand for these one behind the other, up to its end or to a front that ends them; this is left
-pub data BeginsWith {A : Type 0} (front : ℕ → List ℕ → Front A) : List ℕ → List A → List ℕ → Type 0 where
-  done : BeginsWith front [] [] []
-  stops : (b : ℕ) (bs : List ℕ) → front b bs ≡ Ends → BeginsWith front (b ∷ bs) [] (b ∷ bs)
-  piece : (b n : ℕ) (bs : List ℕ) (out more : List A) (left : List ℕ) → front b bs ≡ Gives out n → BeginsWith front (drop (n - 1) bs) more left
-      → BeginsWith front (b ∷ bs) (out ++ more) left
-
--- the text is pieces alone, which stand for these
-abbrev pub StandsForText : {A : Type 0} → (ℕ → List ℕ → Front A) → List ℕ → List A → Type 0
-StandsForText front text found = BeginsWith front text found []
-
--- The same as functions, for definitions that go on from a reading; the laws in proofs/PiecesLaws say that they tell the relation.
-
--- these in front of what is found
-abbrev pub with_front : {A : Type 0} → List A → Option (List A × List ℕ) → Option (List A × List ℕ)
-with_front found later = option_map (λ r. (found ++ r.0, r.1)) later
-
 -- what is found in a text, where its front is this one and what follows it is found so
 abbrev pub by_front : {A : Type 0} → Front A → List ℕ → (ℕ → Option (List A × List ℕ)) → Option (List A × List ℕ)
 by_front Unreadable text later = None
 by_front Ends text later = Some ([], text)
-by_front (Gives found n) text later = with_front found (later (n - 1))
+by_front (Gives found n) text later = option_map (λ r. (found ++ r.0, r.1)) (later (n - 1))
 
 -- what a text begins with, in so many pieces at most, and what is left
 abbrev pub begun_in : {A : Type 0} → ℕ → (ℕ → List ℕ → Front A) → List ℕ → Option (List A × List ℕ)
@@ -43,16 +22,10 @@ begun_in pieces front [] = Some ([], [])
 begun_in zero front (b ∷ bs) = None
 begun_in (suc pieces) front (b ∷ bs) = by_front (front b bs) (b ∷ bs) (λ n. begun_in pieces front (drop n bs))
 
--- what a text begins with, and what is left; it has no more pieces than bytes
+-- what a text begins with, and what is left; it has no more pieces than bytes, and the laws in proofs/PiecesLaws tell the same as a relation
 abbrev pub begun : {A : Type 0} → (ℕ → List ℕ → Front A) → List ℕ → Option (List A × List ℕ)
 begun front text = begun_in (length text) front text
 
--- what was found, where nothing is left
-abbrev pub whole : {A : Type 0} → Option (List A × List ℕ) → Option (List A)
-whole None = None
-whole (Some (found, [])) = Some found
-whole (Some (found, b ∷ left)) = None
-
 -- what a text stands for
 abbrev pub reading : {A : Type 0} → (ℕ → List ℕ → Front A) → List ℕ → Option (List A)
-reading front text = whole (begun front text)
+reading front text = nothing_left (begun front text)

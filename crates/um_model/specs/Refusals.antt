@@ -1,7 +1,7 @@
--- What a refusal tells: its number, its name and its details; and how the first cause of several is told.
+-- What a refusal tells: its number, its name and its details; and which of two causes is told.
 -- No manual page has this: it is the project's own protocol (docs/FORMATS.md, "Refusals").
 -- Every definition of a call that can refuse stands on this file.
-use Rattle.std.specs.Prelude.{ℕ, List, [], ◌∷◌, Bool, true, false, Option, Some, None, Result, Ok, Err, codes, decimal}
+use Rattle.std.specs.Prelude.{ℕ, List, [], ◌∷◌, Option, Some, None, Result, Ok, Err, codes, decimal}
 use Rattle.um_model.specs.declared.refusals.Limit.{Limit}
 use Rattle.um_model.specs.declared.refusals.Limit.TheVariants.{Frame, Text, Entries, Units, Reply}
 
@@ -114,17 +114,6 @@ other_layout = refused 22 (codes "OtherLayout") []
 pub data FirstCause (First Second : Refused → Type 0) (r : Refused) : Type 0 where
   at_first : First r → FirstCause First Second r
   at_second : ((other : Refused) → ¬ First other) → Second r → FirstCause First Second r
-
--- a cause of refusal: that refusal, where the test holds
-abbrev pub cause : Bool → Refused → Option Refused
-cause true r = Some r
-cause false r = None
-
--- of causes in a row, the first that holds
-abbrev pub first_cause : List (Option Refused) → Option Refused
-first_cause [] = None
-first_cause (Some r ∷ causes) = Some r
-first_cause (None ∷ causes) = first_cause causes
 
 -- the value, unless a cause of refusal holds
 abbrev pub unless_refused : {A : Type 0} → Option Refused → A → Result A Refused

@@ -11,17 +11,20 @@ use Rattle.um_model.specs.declared.service.Signal.{Signal}
 use Rattle.um_model.specs.declared.service.Signal.TheVariants.{Term, Kill}
 use Rattle.um_model.specs.Syntax.{warning_number}
 use Rattle.um_model.specs.Units.{Warning, load_state_text}
-use Rattle.um_model.specs.Resolution.{UnitFile}
 use Rattle.um_model.specs.Install.{enabling_text}
-use Rattle.um_model.specs.Jobs.{JobShown, job_kind_text, job_state_text}
-use Rattle.um_model.specs.Machine.{Reply, Done, Shown, Activity, Files, Relinked, EnabledAs, Listed, Jobs, Told, Refusal, UnitShown, UnitListed}
+use Rattle.um_model.specs.Jobs.{job_kind_text, job_state_text}
+use Rattle.um_model.specs.Machine.{Reply, Done, Shown, Activity, Files, Relinked, EnabledAs, Listed, Jobs, Told, Refusal, UnitShown}
 use Rattle.um_model.specs.declared.refusals.Limit.TheVariants.{Reply as ReplyLimit}
 
 abbrev pub number_data : ℕ → Data
 number_data n = number (unsigned n)
 
+-- a list, each of its values written so
+abbrev pub list_data : {A : Type 0} → (A → Data) → List A → Data
+list_data written values = array (items_of (map written values))
+
 abbrev pub texts_data : List (List ℕ) → Data
-texts_data texts = array (items_of (map string texts))
+texts_data = list_data string
 
 -- a warning: its number, the path of its file and its line
 abbrev pub warning_data : Warning → Data
@@ -37,7 +40,7 @@ shown_data u =
     (member (codes "MainNumber") (number_data (unwrap_or u.state.main 0))
     (member (codes "Result") (string (result_text u.state.result))
     (member (codes "SubState") (string (sub_state_text u.state.sub))
-    (member (codes "Warnings") (array (items_of (map warning_data u.warnings))) no_members))))))))
+    (member (codes "Warnings") (list_data warning_data u.warnings) no_members))))))))
 
 abbrev pub signal_text : Signal → List ℕ
 signal_text Term = codes "TERM"
@@ -48,22 +51,6 @@ abbrev pub action_data : Action → Data
 action_data (SpawnProcess n words environment) = array (items_of (string (codes "spawn") ∷ number_data n ∷ texts_data words ∷ []))
 action_data (SendSignal n signal) = array (items_of (string (codes "signal") ∷ number_data n ∷ string (signal_text signal) ∷ []))
 
--- a file: its path and its text
-abbrev pub file_data : UnitFile → Data
-file_data file = texts_data (file.path ∷ file.text ∷ [])
-
--- the paths that were made and removed
-abbrev pub relinked_data : (made removed : List (List ℕ)) → Data
-relinked_data made removed = object (member (codes "made") (texts_data made) (member (codes "removed") (texts_data removed) no_members))
-
--- a known unit: its name, its active state and its sub state
-abbrev pub unit_data : UnitListed → Data
-unit_data u = texts_data (u.unit ∷ active_state_text (active_state_of u.sub) ∷ sub_state_text u.sub ∷ [])
-
--- a pending job: its unit, what it does, and how far it is
-abbrev pub job_data : JobShown → Data
-job_data j = texts_data (j.unit ∷ job_kind_text j.kind ∷ job_state_text j.state ∷ [])
-
 -- a reply with a value
 abbrev pub valued : Data → Data
 valued value = object (member (codes "ok") (boolean true) (member (codes "value") value no_members))
@@ -72,32 +59,28 @@ abbrev pub refused_data : Refused → Data
 refused_data r =
     object (member (codes "detail") (texts_data r.detail) (member (codes "error") (number_data r.number) (member (codes "ok") (boolean false) no_members)))
 
+-- of a file its path and its text are told, of a unit its name, its active state and its sub state, of a job its unit, what it does and how far it is
 abbrev pub reply_data : Reply → Data
 reply_data Done = object (member (codes "ok") (boolean true) no_members)
 reply_data (Shown u) = valued (shown_data u)
 reply_data (Activity state) = valued (string (active_state_text state))
-reply_data (Files files) = valued (array (items_of (map file_data files)))
-reply_data (Relinked made removed) = valued (relinked_data made removed)
+reply_data (Files files) = valued (list_data (λ f. texts_data (f.path ∷ f.text ∷ [])) files)
+reply_data (Relinked made removed) = valued (object (member (codes "made") (texts_data made) (member (codes "removed") (texts_data removed) no_members)))
 reply_data (EnabledAs answer) = valued (string (enabling_text answer))
-reply_data (Listed units) = valued (array (items_of (map unit_data units)))
-reply_data (Jobs jobs) = valued (array (items_of (map job_data jobs)))
-reply_data (Told actions) = valued (array (items_of (map action_data actions)))
+reply_data (Listed units) = valued (list_data (λ u. texts_data (u.unit ∷ active_state_text (active_state_of u.sub) ∷ sub_state_text u.sub ∷ [])) units)
+reply_data (Jobs jobs) = valued (list_data (λ j. texts_data (j.unit ∷ job_kind_text j.kind ∷ job_state_text j.state ∷ [])) jobs)
+reply_data (Told actions) = valued (list_data action_data actions)
 reply_data (Refusal r) = refused_data r
 
 -- the longest text of a reply, in bytes
 abbrev pub reply_limit : ℕ
 reply_limit = 2 ^ 24
 
-abbrev pub is_short : List ℕ → Bool
-is_short text = nat_le (length text) reply_limit
-
-abbrev pub within_limit : List ℕ → List ℕ
-within_limit text = if is_short text then text else compact_text (refused_data (too_large ReplyLimit))
+-- the reply tells what it has to tell: its text isn't too long
+unfoldable pub is_told_whole : Reply → Bool
+is_told_whole reply = nat_le (length (compact_text (reply_data reply))) reply_limit
 
 -- the text of a reply; one that would be too long is refused instead
 unfoldable pub reply_text : Reply → List ℕ
-reply_text reply = within_limit (compact_text (reply_data reply))
-
--- the reply tells what it has to tell: its text isn't too long
-unfoldable pub is_told_whole : Reply → Bool
-is_told_whole reply = is_short (compact_text (reply_data reply))
+unfolding is_told_whole
+reply_text reply = compact_text (if is_told_whole reply then reply_data reply else refused_data (too_large ReplyLimit))

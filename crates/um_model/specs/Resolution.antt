@@ -3,7 +3,7 @@
 -- Settings, `cat` and enabling stand on this file.
 use Rattle.std.specs.Prelude.{ℕ, zero, suc, Bool, true, false, if◌then◌else◌, List, [], ◌∷◌, ◌++◌, map as each, Option, Some, None}
 use Rattle.std.specs.Prelude.{option_map, option_and_then, codes}
-use Rattle.std.specs.Option.{option_or, option_map_or}
+use Rattle.std.specs.Option.{option_or, option_map_or, option_and_then}
 use Rattle.std.specs.List.{flat_map, after_last}
 use Rattle.std.specs.Str.{bytes_eq}
 use Rattle.std.specs.FinMap as map
@@ -36,13 +36,11 @@ unit_in_target target = after_last is_slash target
 
 -- a link to the unit's own template stands for what the template is
 abbrev pub leads_to_template : Option (List ℕ) → Entry → Bool
-leads_to_template None entry = false
-leads_to_template (Some template) (File text) = false
 leads_to_template (Some template) (Link target) = bytes_eq (unit_in_target target) template
+leads_to_template template entry = false
 
 abbrev pub unless_to_template : Option (List ℕ) → Option (List ℕ × Entry) → Option (List ℕ × Entry)
-unless_to_template template None = None
-unless_to_template template (Some found) = if leads_to_template template found.1 then None else Some found
+unless_to_template template held = option_and_then (λ found. if leads_to_template template found.1 then None else Some found) held
 
 -- the unit's own entry, or else that of its template
 abbrev pub held : Tree → List ℕ → Option (List ℕ × Entry)
@@ -63,9 +61,9 @@ is_served_type (Some Service) = true
 is_served_type (Some Target) = true
 is_served_type other = false
 
--- shutdown.target is found even where nothing holds it
-abbrev pub needs_no_file : List ℕ → Bool
-needs_no_file unit = bytes_eq unit (codes "shutdown.target")
+-- this unit is found even where nothing holds it
+abbrev pub shutdown_target : List ℕ
+shutdown_target = codes "shutdown.target"
 
 -- a link to this masks its unit
 abbrev pub is_mask : List ℕ → Bool
@@ -75,22 +73,18 @@ is_mask target = bytes_eq target (codes "/dev/null")
 abbrev pub is_of_same_type : List ℕ → List ℕ → Bool
 is_of_same_type unit other = bytes_eq (suffix_text_of (suffix_of unit)) (suffix_text_of (suffix_of other))
 
-abbrev pub of_same_type : List ℕ → Option (List ℕ) → Option (List ℕ)
-of_same_type unit None = None
-of_same_type unit (Some other) = if is_of_same_type unit other then Some other else None
-
 -- a template takes the instance of the name that leads to it, where there is one
 abbrev pub with_instance_of : Option (List ℕ) → List ℕ → List ℕ
-with_instance_of None other = other
-with_instance_of (Some instance) other = if is_template other then with_instance other instance else other
+with_instance_of instance other = option_map_or (λ i. if is_template other then with_instance other i else other) instance other
 
 -- one hop: the name that a link leads on to, which has the same suffix
 abbrev pub next_name : List ℕ → List ℕ → Option (List ℕ)
-next_name unit target = of_same_type unit (named (with_instance_of (instance_of unit) (unit_in_target target)))
+next_name unit target =
+    option_and_then (λ other. if is_of_same_type unit other then Some other else None) (named (with_instance_of (instance_of unit) (unit_in_target target)))
 
 -- where a name leads by what holds it: an empty file and a link to `/dev/null` mask, any other link leads on
 abbrev pub resolution_at : List ℕ → Option (List ℕ × Entry) → (List ℕ → Resolution) → Resolution
-resolution_at unit None follow = if needs_no_file unit then AtNoFile unit else Nowhere
+resolution_at unit None follow = if bytes_eq unit shutdown_target then AtNoFile unit else Nowhere
 resolution_at unit (Some (path, File [])) follow = AtMask unit
 resolution_at unit (Some (path, File (b ∷ bs))) follow = AtFile unit path (b ∷ bs)
 resolution_at unit (Some (path, Link target)) follow = if is_mask target then AtMask unit else option_map_or follow (next_name unit target) Nowhere
@@ -109,59 +103,35 @@ resolution_of tree unit = if is_served_type (suffix_of unit) then resolved hop_l
 
 -- ---- drop-ins
 
--- a drop-in: its name in its folder, its path and its text
-pub record DropIn : Type 0 where
-  pub file : List ℕ
-  pub path : List ℕ
-  pub text : List ℕ
-
--- a layer's folder of drop-ins of a unit
-abbrev pub drop_in_folder : List ℕ → Layer → List ℕ
-drop_in_folder unit layer = layer_text layer ++ (unit ++ codes ".d/")
-
-abbrev pub folders_of : List ℕ → List (List ℕ)
-folders_of unit = each (drop_in_folder unit) (Etc ∷ Run ∷ Lib ∷ [])
-
--- the folders of drop-ins, of equal files the earlier counts: the unit's own, and then its template's
-abbrev pub drop_in_folders : List ℕ → List (List ℕ)
-drop_in_folders unit = folders_of unit ++ option_map_or folders_of (template_of unit) []
-
-abbrev pub drop_in_named : Option (List ℕ) → List ℕ × Entry → List DropIn
-drop_in_named None held = []
-drop_in_named (Some file) (path, File text) = record { file = file; path = path; text = text } ∷ []
-drop_in_named (Some file) (path, Link target) = []
-
--- the drop-in that an entry of the tree is, where it is a file in the folder
-abbrev pub drop_in_at : List ℕ → List ℕ × Entry → List DropIn
-drop_in_at folder held = drop_in_named (behind folder held.0) held
-
-abbrev pub drop_ins_in : Tree → List ℕ → List DropIn
-drop_ins_in tree folder = flat_map (drop_in_at folder) (map.entries tree)
-
-abbrev pub by_file : DropIn → List ℕ × DropIn
-by_file d = (d.file, d)
-
--- drop-ins by their files' names; of equal ones the first counts
-abbrev pub drop_ins_by_file : List DropIn → map.FinMap (slice_cmp nat_cmp) DropIn
-drop_ins_by_file drop_ins = map.from_entries (each by_file drop_ins)
-
--- the drop-ins of a unit, by the names of their files, whatever layer they lie in
-unfoldable pub drop_ins_of : Tree → List ℕ → List DropIn
-drop_ins_of tree unit = map.values (drop_ins_by_file (flat_map (drop_ins_in tree) (drop_in_folders unit)))
-
--- ---- files
-
 -- a file of a unit: its path and its text
 pub record UnitFile : Type 0 where
   pub path : List ℕ
   pub text : List ℕ
 
-abbrev pub file_of_drop_in : DropIn → UnitFile
-file_of_drop_in d = record { path = d.path; text = d.text }
+-- the folders of drop-ins of a unit, a layer each
+abbrev pub folders_of : List ℕ → List (List ℕ)
+folders_of unit = each (λ layer. layer_text layer ++ (unit ++ codes ".d/")) (Etc ∷ Run ∷ Lib ∷ [])
+
+-- the unit's own, and then its template's
+abbrev pub drop_in_folders : List ℕ → List (List ℕ)
+drop_in_folders unit = folders_of unit ++ option_map_or folders_of (template_of unit) []
+
+-- the drop-in that an entry of the tree is, with its name in the folder, where it is a file there
+abbrev pub drop_in_at : List ℕ → List ℕ × Entry → List (List ℕ × UnitFile)
+drop_in_at folder (path, File text) = option_map_or (λ name. (name, record { path = path; text = text }) ∷ []) (behind folder path) []
+drop_in_at folder (path, Link target) = []
+
+abbrev pub drop_ins_in : Tree → List ℕ → List (List ℕ × UnitFile)
+drop_ins_in tree folder = flat_map (drop_in_at folder) (map.entries tree)
+
+-- the drop-ins of a unit by their names, whatever folder they lie in; of equal names the first counts
+unfoldable pub drop_ins_of : Tree → List ℕ → map.FinMap (slice_cmp nat_cmp) UnitFile
+drop_ins_of tree unit = map.from_entries (flat_map (drop_ins_in tree) (drop_in_folders unit))
+
+-- ---- files
 
 -- the files of a unit in the order in which they are read: its own and then its drop-ins
 abbrev pub files_at : Tree → Resolution → List UnitFile
-files_at tree (AtFile unit path text) = record { path = path; text = text } ∷ each file_of_drop_in (drop_ins_of tree unit)
-files_at tree (AtNoFile unit) = each file_of_drop_in (drop_ins_of tree unit)
-files_at tree (AtMask unit) = []
-files_at tree Nowhere = []
+files_at tree (AtFile unit path text) = record { path = path; text = text } ∷ map.values (drop_ins_of tree unit)
+files_at tree (AtNoFile unit) = map.values (drop_ins_of tree unit)
+files_at tree other = []

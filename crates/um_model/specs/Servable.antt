@@ -2,9 +2,17 @@
 -- Follows no manual page: the store and its limits are this project's own.
 -- The law of steps in proofs/ServableLaws depends on this file, the engine and the keeper stand on it.
 use Rattle.std.specs.Prelude.{ℕ}
-use Rattle.um_model.specs.Few.{IsFew}
-use Rattle.um_model.specs.Live.{IsFree}
-use Rattle.um_model.specs.Machine.{State, IsTooHeavy}
+use Rattle.um_model.specs.Machine.{State, IsHeld, IsCrowded, IsBefore, IsTooHeavy}
+use Rattle.um_model.specs.Plan.{AreFree}
+use Rattle.um_model.specs.Refusals.{Refused}
+
+-- no more units are known than may be, by the loaded tree and by it without its entries under `run/`
+abbrev pub IsFew : State → Type 0
+IsFew s = (r : Refused) → ¬ IsCrowded s.loaded (IsHeld s) r
+
+-- the pending jobs don't wait for one another in a circle
+abbrev pub IsFree : State → Type 0
+IsFree s = AreFree (IsBefore s.loaded) s.pending
 
 -- a store of so many bytes may hold the state: it isn't too heavy, not too many units are known, and no pending jobs wait in a circle
 pub record IsServable (size : ℕ) (s : State) : Type 0 where

@@ -1,10 +1,11 @@
 -- What the state holds of a unit: its sub state, result, process numbers and deadline.
 -- Follows systemctl(1) and systemd.service(5) in the names of states and results.
 -- The machine, replies and canonical bytes stand on this file.
-use Rattle.std.specs.Prelude.{◌≢◌, ℕ, Bool, true, false, ◌&&◌, ◌==◌, not, if◌then◌else◌, List, Option, Some, None, is_some, unwrap_or, codes}
+use Rattle.std.specs.Prelude.{◌≢◌, ℕ, Bool, true, false, ◌&&◌, ◌==◌, not, if◌then◌else◌, List, Option, Some, None, unwrap_or, codes, is_none}
 use Rattle.std.specs.FinMap as map
 use Rattle.std.specs.Cmp.Lexicographic.{slice_cmp}
 use Rattle.std.specs.Ordering.{nat_cmp}
+use Rattle.std.specs.Option.{option_map_or}
 use Rattle.um_model.specs.declared.service.SubState.{SubState}
 use Rattle.um_model.specs.declared.service.SubState.TheVariants.{Dead, Start, Running, Exited, Stop, StopSigterm, StopSigkill, Failed, AutoRestart, Active}
 use Rattle.um_model.specs.declared.service.ActiveState.{ActiveState}
@@ -30,15 +31,13 @@ sub_state_text Active = codes "active"
 -- the active state of a unit in this sub state
 abbrev pub active_state_of : SubState → ActiveState
 active_state_of Dead = active.Inactive
+active_state_of Failed = active.Failed
 active_state_of Start = active.Activating
 active_state_of AutoRestart = active.Activating
-active_state_of Running = active.Active
-active_state_of Exited = active.Active
-active_state_of Active = active.Active
 active_state_of Stop = active.Deactivating
 active_state_of StopSigterm = active.Deactivating
 active_state_of StopSigkill = active.Deactivating
-active_state_of Failed = active.Failed
+active_state_of other = active.Active
 
 -- the word for an active state
 abbrev pub active_state_text : ActiveState → List ℕ
@@ -72,23 +71,15 @@ abbrev pub is_success : UnitResult → Bool
 is_success result.Success = true
 is_success other = false
 
-abbrev pub has_no_process : UnitState → Bool
-has_no_process u = not (is_some u.main) && not (is_some u.control)
-
-abbrev pub has_no_moment : UnitState → Bool
-has_no_moment u = not (is_some u.deadline) && not (is_some u.window)
-
-abbrev pub has_no_past : UnitState → Bool
-has_no_past u = u.index == 0 && not u.asked && not (is_some u.last)
-
 -- nothing is held of the unit: it is a dead one
 abbrev pub holds_nothing : UnitState → Bool
-holds_nothing u = is_dead u.sub && is_success u.result && has_no_process u && (has_no_moment u && has_no_past u)
+holds_nothing u =
+    is_dead u.sub && is_success u.result && (is_none u.main && is_none u.control)
+    && ((is_none u.deadline && is_none u.window) && (u.index == 0 && not u.asked && is_none u.last))
 
 -- it is that number
 abbrev pub is_number : ℕ → Option ℕ → Bool
-is_number number None = false
-is_number number (Some n) = n == number
+is_number number o = option_map_or (λ n. n == number) o false
 
 -- values by the names of units
 abbrev pub ByUnit : Type 0 → Type 0

@@ -2,6 +2,7 @@
 -- No manual page has this: it is the project's own protocol (docs/FORMATS.md, "Frames").
 -- Sessions and the running manager stand on this file.
 use Rattle.std.specs.Prelude.{◌≡◌, ◌⊎◌, ℕ, List, [], ◌∷◌, ◌++◌, map, Bool, true, false, if◌then◌else◌, Option, Some, None, Result, Err}
+use Rattle.std.specs.Option.{option_to_list}
 use Rattle.um_model.specs.Frames.{frame_of, BeginsWith, IsPartial, BeginsTooLong}
 use Rattle.um_model.specs.Refusals.{Refused, too_large}
 use Rattle.um_model.specs.Requests.{Request, request_of}
@@ -66,12 +67,8 @@ bytes_fed (Feed bytes) = bytes
 bytes_fed other = []
 
 -- what was read
-abbrev pub asked_in : Option Asked → List Asked
-asked_in None = []
-asked_in (Some asked) = asked ∷ []
-
 abbrev pub readings : Deed → List Asked
-readings (Read asked) = asked_in asked
+readings (Read asked) = option_to_list asked
 readings other = []
 
 -- what was put out

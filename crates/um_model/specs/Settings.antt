@@ -4,7 +4,6 @@
 use Rattle.std.specs.Prelude.{ℕ, ◌^◌, ◌&&◌, Bool, false, List, [], ◌∷◌, ◌++◌, length, map, nat_lt, slice_get}
 use Rattle.std.specs.Option.{option_map_or}
 use Rattle.um_model.specs.Commands.{Command}
-use Rattle.um_model.specs.Substitution.{Variable}
 use Rattle.um_model.specs.Units.{service_settings_with}
 pub use Rattle.um_model.specs.Units.{ServiceSettings}
 use Rattle.um_model.specs.declared.transition.CommandList.{CommandList}
@@ -20,21 +19,14 @@ abbrev pub commands_in : ServiceSettings → CommandList → List Command
 commands_in s OfStart = s.start
 commands_in s OfStop = s.stop
 
--- a place in a list of commands is a number of 32 bits
-abbrev pub place_limit : ℕ
-place_limit = 2 ^ 32
-
--- the list has a command at this place; its commands past the place 2^32 - 1 count as not there
+-- the list has a command at this place, which is a number of 32 bits: its commands past the place 2^32 - 1 count as not there
 abbrev pub has_place : List Command → ℕ → Bool
-has_place commands i = nat_lt i (length commands) && nat_lt i place_limit
+has_place commands i = nat_lt i (length commands) && nat_lt i (2 ^ 32)
 
 -- the command at this place is written with `-`
 abbrev pub has_dash : ServiceSettings → CommandList → ℕ → Bool
 has_dash s which i = option_map_or (λ c. c.ignores_failure) (slice_get (commands_in s which) i) false
 
--- a variable as a process is given it: `NAME=value`
-abbrev pub variable_text : Variable → List ℕ
-variable_text v = v.name ++ (61 ∷ v.value)
-
+-- the environment as a process is given it: `NAME=value`
 abbrev pub environment_texts : ServiceSettings → List (List ℕ)
-environment_texts s = map variable_text s.environment
+environment_texts s = map (λ v. v.name ++ (61 ∷ v.value)) s.environment

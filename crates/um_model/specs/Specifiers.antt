@@ -3,46 +3,36 @@
 -- Settings and enabling stand on this file.
 use Rattle.std.specs.Prelude.{ℕ, List, [], ◌∷◌, Option, Some, None, option_and_then, unwrap_or, if◌then◌else◌, ◌==◌}
 use Rattle.std.specs.Map.{lookup}
+use Rattle.std.specs.Option.{option_map_or}
 use Rattle.std.specs.List.{after_last}
 use Rattle.std.specs.Str.{is_utf8}
 use Rattle.um_model.specs.Ascii.{is_letter}
 use Rattle.um_model.specs.Names.{stem_of, prefix_of, instance_of, unescape_front}
-use Rattle.um_model.specs.Pieces.{Front, Gives, front_of, reading}
+use Rattle.um_model.specs.Pieces.{Front, Unreadable, Gives, reading}
 
--- the instance of a name; empty where it has none
-abbrev pub instance_or_empty : List ℕ → List ℕ
-instance_or_empty name = unwrap_or (instance_of name) []
-
--- what the letters stand for: `n` the full name, `N` without the suffix, `p` the prefix, `i` the instance as written, `I` unescaped,
--- `j` what follows the last `-` of the prefix
-abbrev pub specifiers : List ℕ → Option (List ℕ) → List (ℕ × Option (List ℕ))
-specifiers name unescaped =
-    (110, Some name) ∷ (78, Some (stem_of name)) ∷ (112, Some (prefix_of name)) ∷ (105, Some (instance_or_empty name)) ∷ (73, unescaped)
-    ∷ (106, Some (after_last (λ b. b == 45) (prefix_of name))) ∷ []
-
--- what a letter stands for
+-- what a letter stands for: `n` the full name, `N` without the suffix, `p` the prefix, `i` the instance as written, empty where there
+-- is none, `I` unescaped, `j` what follows the last `-` of the prefix
 abbrev pub specified : List ℕ → Option (List ℕ) → ℕ → Option (List ℕ)
-specified name unescaped letter = option_and_then (λ said. said) (lookup (λ c. letter == c) (specifiers name unescaped))
+specified name unescaped letter =
+    option_and_then (λ said. said) (lookup (λ c. letter == c) (
+    (110, Some name) ∷ (78, Some (stem_of name)) ∷ (112, Some (prefix_of name)) ∷ (105, Some (unwrap_or (instance_of name) [])) ∷ (73, unescaped)
+    ∷ (106, Some (after_last (λ b. b == 45) (prefix_of name))) ∷ []))
 
 -- what follows a `%`: another `%` is one, a letter what it stands for; before anything else the `%` stays
 abbrev pub percent_front : List ℕ → Option (List ℕ) → List ℕ → Front ℕ
 percent_front name unescaped [] = Gives (37 ∷ []) 1
 percent_front name unescaped (b ∷ bs) =
     if b == 37 then Gives (37 ∷ []) 2
-    else (if is_letter b then front_of (specified name unescaped b) 2 else Gives (37 ∷ []) 1)
+    else (if is_letter b then option_map_or (λ said. Gives said 2) (specified name unescaped b) Unreadable else Gives (37 ∷ []) 1)
 
 -- any byte but a `%` stays
 abbrev pub specifier_front : List ℕ → Option (List ℕ) → ℕ → List ℕ → Front ℕ
 specifier_front name unescaped b bs = if b == 37 then percent_front name unescaped bs else Gives (b ∷ []) 1
 
--- the bytes, where they are a text
-abbrev pub as_text : Option (List ℕ) → Option (List ℕ)
-as_text bytes = option_and_then (λ text. if is_utf8 text then Some text else None) bytes
-
 -- the text that the escapes of an instance stand for, where it is one
 abbrev pub unescaped_of : List ℕ → Option (List ℕ)
-unescaped_of escaped = as_text (reading unescape_front escaped)
+unescaped_of escaped = option_and_then (λ text. if is_utf8 text then Some text else None) (reading unescape_front escaped)
 
 -- what the text stands for in the files of the unit of that name
 unfoldable pub expanded_of : List ℕ → List ℕ → Option (List ℕ)
-expanded_of name text = reading (specifier_front name (unescaped_of (instance_or_empty name))) text
+expanded_of name text = reading (specifier_front name (unescaped_of (unwrap_or (instance_of name) []))) text

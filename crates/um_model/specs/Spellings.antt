@@ -3,9 +3,9 @@
 -- The bytes of states and inputs, and the code that reads and writes them stand on this file.
 use Rattle.std.specs.Prelude.{◌≡◌, ℕ, ◌-◌, ◌<◌, ◌^◌, ⊤, Bool, true, List, [], ◌∷◌, ◌++◌, Option, IfSome}
 use Rattle.byteorder.specs.Endian.{big_bytes}
-use Rattle.um_model.specs.Bytes.{Spelling, Reading, byte_at, number_at, between_at, FitBetween, pair_at, as_at, only_at, tag_at, in_table, choice_at}
+use Rattle.um_model.specs.Bytes.{Spelling, Reading, byte_at, number_at, between_at, FitBetween, pair_at, as_at, only_at, choice_at, table_at, tagged, truth_tag, truths}
 use Rattle.um_model.specs.Bytes.{arm_in, just_at}
-use Rattle.um_model.specs.Bytes.{truth_spelling, truth_at, option_spelling, option_at, FitText, text_at}
+use Rattle.um_model.specs.Bytes.{option_spelling, option_at, FitText, text_at}
 use Rattle.um_model.specs.Names.{is_unit_name}
 use Rattle.um_model.specs.Moments.{moment_limit, deadline_limit, process_limit}
 use Rattle.um_model.specs.declared.jobs.JobKind.{JobKind}
@@ -40,14 +40,6 @@ sub_tag sub.Active = 9
 abbrev pub sub_states : List SubState
 sub_states = sub.Dead ∷ sub.Start ∷ sub.Running ∷ sub.Exited ∷ sub.Stop ∷ sub.StopSigterm ∷ sub.StopSigkill ∷ sub.Failed ∷ sub.AutoRestart ∷ sub.Active ∷ []
 
--- the tag alone
-abbrev pub sub_spelling : Spelling SubState
-sub_spelling s = sub_tag s ∷ []
-
--- the sub state of the tag in front
-abbrev pub sub_at : Reading SubState
-sub_at = tag_at (in_table sub_states)
-
 -- the tag of a result
 abbrev pub result_tag : UnitResult → ℕ
 result_tag result.Success = 0
@@ -66,14 +58,6 @@ results =
     result.Success ∷ result.ExitCode ∷ result.Signal ∷ result.Timeout ∷ result.Lost ∷ result.StartLimitHit ∷ result.Dependency ∷ result.NotLoaded
     ∷ result.Resources ∷ []
 
--- the tag alone
-abbrev pub result_spelling : Spelling UnitResult
-result_spelling r = result_tag r ∷ []
-
--- the result of the tag in front
-abbrev pub result_at : Reading UnitResult
-result_at = tag_at (in_table results)
-
 -- the tag of what a job does
 abbrev pub kind_tag : JobKind → ℕ
 kind_tag kind.Stop = 0
@@ -83,14 +67,6 @@ kind_tag kind.Start = 1
 abbrev pub kinds : List JobKind
 kinds = kind.Stop ∷ kind.Start ∷ []
 
--- the tag alone
-abbrev pub kind_spelling : Spelling JobKind
-kind_spelling k = kind_tag k ∷ []
-
--- what a job with the tag in front does
-abbrev pub kind_at : Reading JobKind
-kind_at = tag_at (in_table kinds)
-
 -- the tag of how far a job is
 abbrev pub job_state_tag : JobState → ℕ
 job_state_tag Waiting = 0
@@ -99,14 +75,6 @@ job_state_tag Running = 1
 -- how far jobs are, by their tags
 abbrev pub job_states : List JobState
 job_states = Waiting ∷ Running ∷ []
-
--- the tag alone
-abbrev pub job_state_spelling : Spelling JobState
-job_state_spelling s = job_state_tag s ∷ []
-
--- how far a job with the tag in front is
-abbrev pub job_state_at : Reading JobState
-job_state_at = tag_at (in_table job_states)
 
 -- ---- an end: its tag, and the code or signal, which is any byte
 
@@ -207,9 +175,9 @@ FitCounted c = FitMoment c.began × (c.count < 2 ^ 32)
 -- each field behind the one before
 abbrev pub unit_spelling : Spelling UnitState
 unit_spelling u =
-    sub_spelling u.sub ++ (result_spelling u.result ++ (option_spelling (big_bytes 8) u.main ++ (option_spelling (big_bytes 8) u.control
+    tagged sub_tag u.sub ++ (tagged result_tag u.result ++ (option_spelling (big_bytes 8) u.main ++ (option_spelling (big_bytes 8) u.control
     ++ (big_bytes 4 u.index ++ (option_spelling (big_bytes 8) u.deadline ++ (option_spelling counted_spelling u.window
-    ++ (truth_spelling u.asked ++ option_spelling end_spelling u.last)))))))
+    ++ (tagged truth_tag u.asked ++ option_spelling end_spelling u.last)))))))
 
 -- the fields alone
 abbrev pub UnitFields : Type 0
@@ -217,23 +185,14 @@ UnitFields = SubState × (UnitResult × (Option ℕ × (Option ℕ × (ℕ × (O
 
 -- the unit of its fields
 abbrev pub unit_of : UnitFields → UnitState
-unit_of (sub, (result, (main, (control, (index, (deadline, (window, (asked, last)))))))) = record {
-  sub = sub;
-  result = result;
-  main = main;
-  control = control;
-  index = index;
-  deadline = deadline;
-  window = window;
-  asked = asked;
-  last = last;
-}
+unit_of (sub, (result, (main, (control, (index, (deadline, (window, (asked, last)))))))) =
+    record { sub = sub; result = result; main = main; control = control; index = index; deadline = deadline; window = window; asked = asked; last = last }
 
 -- each field behind the one before
 abbrev pub unit_at : Reading UnitState
 unit_at =
-    as_at unit_of (pair_at sub_at (pair_at result_at (pair_at (option_at process_at) (pair_at (option_at process_at) (pair_at (number_at 4)
-    (pair_at (option_at deadline_at) (pair_at (option_at counted_at) (pair_at truth_at (option_at end_at)))))))))
+    as_at unit_of (pair_at (table_at sub_states) (pair_at (table_at results) (pair_at (option_at process_at) (pair_at (option_at process_at)
+    (pair_at (number_at 4) (pair_at (option_at deadline_at) (pair_at (option_at counted_at) (pair_at (table_at truths) (option_at end_at)))))))))
 
 -- a unit that has bytes: what stands in its fields has some
 pub record FitUnit (u : UnitState) : Type 0 where

@@ -8,7 +8,7 @@ use Rattle.um_model.specs.InputSpellings.{input_at}
 use Rattle.um_model.specs.Machine.{State, Input, Run}
 use Rattle.um_model.specs.Servable.{IsServable}
 use Rattle.um_model.specs.StateSpellings.{state_at}
-use Rattle.um_model.specs.Store.{superblock, body_limit, log_start, Newest, newest_of, records_of, IsSlotRead, IsFree, IsLogRead}
+use Rattle.um_model.specs.Store.{superblock, body_limit, log_start, newest_of, records_of, IsFree}
 use Rattle.um_model.specs.declared.layout.Layout.{Layout}
 use Rattle.um_model.specs.declared.layout.Slot.{Slot}
 
@@ -42,10 +42,3 @@ pub record StandsFor (layout : Layout) (image : Image) (s : State) : Type 0 wher
 pub record IsStoreOf (layout : Layout) (image : Image) (s : State) : Type 0 where
   pub stands : StandsFor layout image s
   pub none_later : IsFree layout (stands.contents.generation + 1) image (log_start layout (stands.contents.generation + 1))
-
--- a sector that the reading of a store looks at: the first, those of its slots, and of the log those of the newest generation
-pub data IsRead (layout : Layout) (image : Image) : ℕ → Type 0 where
-  is_first : IsRead layout image 0
-  of_slots : {j : ℕ} → IsSlotRead layout image j → IsRead layout image j
-  of_log : {j : ℕ} (n : Newest) → newest_of layout image ≡ Some n → IsLogRead layout n.generation image 0 (log_start layout n.generation) j
-      → IsRead layout image j

@@ -1,28 +1,28 @@
 -- Canonical bytes of the state of the manager: its trees, its units and its pending jobs.
 -- No manual page has this: it is the project's own format (docs/FORMATS.md, "Canonical bytes").
 -- The code that reads and writes states, and the slots of the store stand on this file.
-use Rattle.std.specs.Prelude.{◌≡◌, ℕ, nat_lt, nat_le, Bool, true, not, ◌&&◌, ◌==◌, List, [], ◌∷◌, ◌++◌, length, flat_map, Option, Some, None}
+use Rattle.std.specs.Prelude.{◌≡◌, ℕ, nat_lt, nat_le, Bool, true, not, ◌&&◌, ◌==◌, List, [], ◌∷◌, ◌++◌, length, flat_map}
 use Rattle.std.specs.List.{list_all}
 use Rattle.std.specs.Ordering.{is_lt, nat_cmp, ordering_then}
 use Rattle.std.specs.Cmp.Lexicographic.{slice_cmp}
 use Rattle.std.specs.FinMap as map
+use Rattle.std.specs.Option.{option_map_or}
 use Rattle.byteorder.specs.Endian.{big_bytes}
-use Rattle.um_model.specs.Bytes.{Spelling, Reading, pair_at, as_at, only_at, marked_at, choice_at, arm_in, FitText, text_spelling, text_at}
+use Rattle.um_model.specs.Bytes.{Spelling, Reading, pair_at, as_at, only_at, marked_at, choice_at, arm_in, FitText, text_spelling, text_at, table_at, tagged, all_ascend}
 use Rattle.um_model.specs.Bytes.{FitList, list_spelling, list_at, FitMap, map_spelling, map_at}
 use Rattle.um_model.specs.Names.{is_unit_name}
 use Rattle.um_model.specs.Tree.{Tree, Entry, File, Link, IsTree, is_fit_entry, entry_limit}
 use Rattle.um_model.specs.Service.{ByUnit, AreTidyUnits, holds_nothing}
 use Rattle.um_model.specs.Transitions.{live_numbers}
-use Rattle.um_model.specs.Jobs.{AreTidyJobs, JobShown, jobs, jobs_of_unit, jobs_shown}
+use Rattle.um_model.specs.Jobs.{AreTidyJobs, JobShown, jobs_of_unit, jobs_shown, with_job}
 use Rattle.um_model.specs.Machine.{State, boot_limit}
-use Rattle.um_model.specs.Spellings.{kind_tag, kind_spelling, kind_at, job_state_spelling, job_state_at, moment_at, FitMoment, next_at, FitNext}
+use Rattle.um_model.specs.Spellings.{kind_tag, moment_at, FitMoment, next_at, FitNext, job_state_tag, kinds, job_states}
 use Rattle.um_model.specs.Spellings.{unit_name_at, FitUnitName, unit_spelling, unit_at, FitUnit}
 use Rattle.um_model.specs.declared.jobs.JobKind.{JobKind}
-use Rattle.um_model.specs.declared.jobs.JobKind.TheVariants as kind
 use Rattle.um_model.specs.declared.jobs.JobState.{JobState}
 use Rattle.um_model.specs.declared.jobs.UnitJobs.{UnitJobs}
-use Rattle.um_model.specs.declared.limit.Counted.{Counted}
 use Rattle.um_model.specs.declared.service.UnitState.{UnitState}
+use Rattle.um_model.specs.Weight.{text_of_entry}
 
 -- ---- a tree: a map from paths to files and links
 
@@ -31,14 +31,9 @@ abbrev pub entry_tag : Entry → ℕ
 entry_tag (File text) = 0
 entry_tag (Link target) = 1
 
--- the text of a file, or the target of a link
-abbrev pub entry_fields : Spelling Entry
-entry_fields (File text) = text_spelling text
-entry_fields (Link target) = text_spelling target
-
 -- the tag, and what stands behind it
 abbrev pub entry_spelling : Spelling Entry
-entry_spelling e = entry_tag e ∷ entry_fields e
+entry_spelling e = entry_tag e ∷ text_spelling (text_of_entry e)
 
 -- the entries by their tags
 abbrev pub entry_arms : List (Reading Entry)
@@ -50,8 +45,7 @@ entry_at = choice_at (arm_in entry_arms)
 
 -- an entry that has bytes: its text or target has some
 abbrev pub FitEntry : Entry → Type 0
-FitEntry (File text) = FitText text
-FitEntry (Link target) = FitText target
+FitEntry e = FitText (text_of_entry e)
 
 -- each text is a key
 abbrev pub any_text : List ℕ → Bool
@@ -97,7 +91,7 @@ pub record FitUnits (units : ByUnit UnitState) : Type 0 where
 
 -- the name of its unit, what it does, and how far it is
 abbrev pub job_spelling : Spelling JobShown
-job_spelling j = text_spelling j.unit ++ (kind_spelling j.kind ++ job_state_spelling j.state)
+job_spelling j = text_spelling j.unit ++ (tagged kind_tag j.kind ++ tagged job_state_tag j.state)
 
 -- the job of its fields
 abbrev pub job_of_fields : List ℕ × (JobKind × JobState) → JobShown
@@ -105,26 +99,15 @@ job_of_fields (unit, (kind, state)) = record { unit = unit; kind = kind; state =
 
 -- the name of a unit, what the job does, and how far it is
 abbrev pub job_at : Reading JobShown
-job_at = as_at job_of_fields (pair_at unit_name_at (pair_at kind_at job_state_at))
+job_at = as_at job_of_fields (pair_at unit_name_at (pair_at (table_at kinds) (table_at job_states)))
 
 -- one job stands before another: by the names of their units, and of one unit the stop job first
 abbrev pub is_job_before : JobShown → JobShown → Bool
 is_job_before j k = is_lt (ordering_then (slice_cmp nat_cmp j.unit k.unit) (nat_cmp (kind_tag j.kind) (kind_tag k.kind)))
 
--- a job stands before the next one, where there is one
-abbrev pub is_before_next : JobShown → List JobShown → Bool
-is_before_next j [] = true
-is_before_next j (k ∷ more) = is_job_before j k
-
--- each job stands before the next
+-- jobs ascend so
 abbrev pub jobs_ascend : List JobShown → Bool
-jobs_ascend [] = true
-jobs_ascend (j ∷ more) = is_before_next j more && jobs_ascend more
-
--- with that job beside what is pending for the unit
-abbrev pub with_job : JobKind → JobState → UnitJobs → UnitJobs
-with_job kind.Stop state j = jobs (Some state) j.start
-with_job kind.Start state j = jobs j.stop (Some state)
+jobs_ascend told = all_ascend is_job_before told
 
 -- the jobs of a list, by unit
 abbrev pub pending_of : List JobShown → ByUnit UnitJobs
@@ -139,13 +122,9 @@ pending_spelling pending = list_spelling job_spelling (jobs_shown pending)
 abbrev pub pending_at : Reading (ByUnit UnitJobs)
 pending_at = as_at pending_of (only_at jobs_ascend (list_at job_at))
 
--- a job that has bytes: its unit is a unit name
-abbrev pub FitJob : JobShown → Type 0
-FitJob j = FitUnitName j.unit
-
 -- pending jobs that have bytes: each has some, and a unit without a job stands for none
 pub record FitPending (pending : ByUnit UnitJobs) : Type 0 where
-  pub jobs : FitList FitJob (jobs_shown pending)
+  pub jobs : FitList (λ j. FitUnitName j.unit) (jobs_shown pending)
   pub tidy : AreTidyJobs pending
 
 -- ---- the state: its version, and its fields in order
@@ -177,14 +156,9 @@ boot_at = only_at is_boot text_at
 abbrev pub FitBoot : List ℕ → Type 0
 FitBoot id = FitText id × (is_boot id ≡ true)
 
--- a window began, up to the clock
-abbrev pub has_begun : ℕ → Option Counted → Bool
-has_begun clock None = true
-has_begun clock (Some c) = nat_le c.began clock
-
 -- no window began after the clock
 abbrev pub have_begun : ℕ → ByUnit UnitState → Bool
-have_begun clock units = list_all (λ e. has_begun clock e.1.window) (map.entries units)
+have_begun clock units = list_all (λ e. option_map_or (λ c. nat_le c.began clock) e.1.window true) (map.entries units)
 
 -- the numbers of the live processes of all units
 abbrev pub numbers_in : ByUnit UnitState → List ℕ

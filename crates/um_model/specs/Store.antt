@@ -135,26 +135,6 @@ newer_held layout image (Some a) (Some b) = if nat_le b.0 a.0 then Some (held_by
 unfoldable pub newest_of : Layout → Image → Option Newest
 newest_of layout image = newer_held layout image (header_of layout (image (slot_start layout A))) (header_of layout (image (slot_start layout B)))
 
--- a body's sectors as they are written, each by its place
-abbrev pub body_sector : List ℕ → ℕ → Sector
-body_sector body i = filled (take sector_bytes (drop (sector_bytes * i) body))
-
--- a body and its header stand in a slot, as they are written
-pub record IsSnapshot (layout : Layout) (image : Image) (slot : Slot) (generation : ℕ) (body : List ℕ) : Type 0 where
-  pub header : image (slot_start layout slot) ≡ header_sector generation (length body)
-  pub sectors : (i : ℕ) → i < sector_count (length body) → image (slot_start layout slot + 1 + i) ≡ body_sector body i
-
--- While a snapshot is written into a slot: all else is as before, and its header is too, or all of the snapshot stands there.
-pub record MaybeSnapshot (layout : Layout) (old : Image) (slot : Slot) (generation : ℕ) (body : List ℕ) (image : Image) : Type 0 where
-  pub outside : (j : ℕ) → (j < slot_start layout slot) ⊎ (slot_start layout slot + layout.slot_sectors ≤ j) → image j ≡ old j
-  pub inside : (image (slot_start layout slot) ≡ old (slot_start layout slot)) ⊎ IsSnapshot layout image slot generation body
-
--- an image of before, with the snapshot partly or wholly written
-pub record AfterSnapshot (layout : Layout) (past : Past) (slot : Slot) (generation : ℕ) (body : List ℕ) (image : Image) : Type 0 where
-  pub from : Image
-  pub was : IsImage past from
-  pub maybe : MaybeSnapshot layout from slot generation body image
-
 -- a sector that the reading of the newest body looks at: both headers, and what the newest one's length covers
 pub data IsSlotRead (layout : Layout) (image : Image) : ℕ → Type 0 where
   head : (slot : Slot) → IsSlotRead layout image (slot_start layout slot)
@@ -293,26 +273,6 @@ pub record IsStore (layout : Layout) (image : Image) (slot : Slot) (generation :
   pub newest : IsNewest layout image slot generation body
   pub records_are : HasRecords layout generation image records
   pub none_later : IsFree layout (generation + 1) image (log_start layout (generation + 1))
-
--- a store with this newest snapshot, and the records that count in the image
-abbrev pub IsStoreOf : Layout → Slot → ℕ → List ℕ → Image → Type 0
-IsStoreOf layout slot generation body image = IsStore layout image slot generation body (records_of layout generation image)
-
--- the store of an image of before
-pub record WasStore (layout : Layout) (past : Past) (slot : Slot) (generation : ℕ) (body : List ℕ) (image : Image) : Type 0 where
-  pub from : Image
-  pub was : IsImage past from
-  pub store : IsStore layout image slot generation body (records_of layout generation from)
-
--- the store of before, or with this body as the next generation and no record
-abbrev pub EitherSnapshot : Layout → Past → Slot → ℕ → List ℕ → List ℕ → Image → Type 0
-EitherSnapshot layout past slot generation before body image =
-    WasStore layout past slot generation before image ⊎ IsStore layout image (other slot) (generation + 1) body []
-
--- the store as it was, or with this record behind the others
-abbrev pub EitherRecord : Layout → Slot → ℕ → List ℕ → List (List ℕ) → List ℕ → Image → Type 0
-EitherRecord layout slot generation body records bytes image =
-    IsStore layout image slot generation body records ⊎ IsStore layout image slot generation body (records ++ bytes ∷ [])
 
 -- Whichever image a crash leaves, it is of that store, and the log goes on from there: a sector that isn't read may have several candidates.
 pub record GoesOn (layout : Layout) (past : Past) (slot : Slot) (generation : ℕ) (body : List ℕ) (records : List (List ℕ)) (number next : ℕ) : Type 0 where

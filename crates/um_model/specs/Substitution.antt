@@ -7,8 +7,8 @@ use Rattle.std.specs.Option.{option_map_or}
 use Rattle.std.specs.List.{list_all}
 use Rattle.um_model.specs.Ascii.{is_letter, is_digit}
 use Rattle.um_model.specs.Text.{first_passes}
-use Rattle.um_model.specs.Pieces.{Front, Gives, StandsForText}
-use Rattle.um_model.specs.Words.{AreWords}
+use Rattle.um_model.specs.Pieces.{Front, Gives, reading}
+use Rattle.um_model.specs.Words.{words_of}
 use Rattle.um_model.specs.declared.words.WordRules.TheVariants.{Plain}
 
 -- a variable of the environment
@@ -38,26 +38,18 @@ abbrev pub whole_name : List ℕ → Option (List ℕ)
 whole_name [] = None
 whole_name (b ∷ bs) = if b == 36 && is_variable_name bs then Some bs else None
 
--- the name at the front of a text, with a `}` behind it
-abbrev pub closed_name : List ℕ → Option (List ℕ)
-closed_name bs =
-    let name = take_while is_name_byte bs in
-    if is_variable_name name && first_passes (λ b. b == 125) (drop (length name) bs) then Some name else None
-
 -- the name of a text that begins with `{NAME}`
 abbrev pub braced_name : List ℕ → Option (List ℕ)
 braced_name [] = None
-braced_name (b ∷ bs) = if b == 123 then closed_name bs else None
+braced_name (b ∷ bs) =
+    let name = take_while is_name_byte bs in
+    if b == 123 then (if is_variable_name name && first_passes (λ c. c == 125) (drop (length name) bs) then Some name else None) else None
 
--- `${NAME}` stands for the value; a `$` before anything else stands for itself
-abbrev pub variable_front : List Variable → Option (List ℕ) → Front ℕ
-variable_front environment None = Gives (36 ∷ []) 1
-variable_front environment (Some name) = Gives (value_of environment name) (length name + 3)
-
--- a `$`, by what follows it; `$$` stands for one
+-- a `$`, by what follows it: `$$` stands for one, and `${NAME}` for the value; before anything else it stands for itself
 abbrev pub dollar_front : List Variable → List ℕ → Front ℕ
 dollar_front environment bs =
-    if first_passes (λ b. b == 36) bs then Gives (36 ∷ []) 2 else variable_front environment (braced_name bs)
+    if first_passes (λ b. b == 36) bs then Gives (36 ∷ []) 2
+    else option_map_or (λ name. Gives (value_of environment name) (length name + 3)) (braced_name bs) (Gives (36 ∷ []) 1)
 
 -- any other byte stands for itself
 abbrev pub piece_front : List Variable → ℕ → List ℕ → Front ℕ
@@ -65,9 +57,9 @@ piece_front environment b bs = if b == 36 then dollar_front environment bs else 
 
 -- a word becomes these words: the value's where it is `$NAME` whole, else one, piece by piece
 pub data Becomes (environment : List Variable) : List ℕ → List (List ℕ) → Type 0 where
-  splits : (word name : List ℕ) (words : List (List ℕ)) → whole_name word ≡ Some name → AreWords Plain (value_of environment name) words
+  splits : (word name : List ℕ) (words : List (List ℕ)) → whole_name word ≡ Some name → words_of Plain (value_of environment name) ≡ Some words
       → Becomes environment word words
-  fills : (word text : List ℕ) → whole_name word ≡ None → StandsForText (piece_front environment) word text
+  fills : (word text : List ℕ) → whole_name word ≡ None → reading (piece_front environment) word ≡ Some text
       → Becomes environment word (text ∷ [])
 
 -- each word becomes its words, in order

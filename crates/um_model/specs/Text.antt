@@ -1,7 +1,7 @@
 -- A text without the spaces and tabs at its ends.
 -- Follows systemd.syntax(7) in what counts as whitespace.
 -- Unit files, values and words stand on this file.
-use Rattle.std.specs.Prelude.{ℕ, ◌-◌, Bool, true, false, List, [], ◌∷◌, length, take, reverse, if◌then◌else◌}
+use Rattle.std.specs.Prelude.{ℕ, Bool, true, false, List, [], ◌∷◌, reverse, if◌then◌else◌}
 use Rattle.um_model.specs.Ascii.{is_space}
 
 -- without the whitespace in front
@@ -9,13 +9,9 @@ abbrev pub trim_start : List ℕ → List ℕ
 trim_start [] = []
 trim_start (b ∷ bs) = if is_space b then trim_start bs else b ∷ bs
 
--- without the whitespace at the end
-abbrev pub trim_end : List ℕ → List ℕ
-trim_end text = reverse (trim_start (reverse text))
-
 -- without the whitespace at both ends
 abbrev pub trim : List ℕ → List ℕ
-trim text = trim_end (trim_start text)
+trim text = reverse (trim_start (reverse (trim_start text)))
 
 -- a text without a byte, or another list with nothing in it
 abbrev pub is_empty : {A : Type 0} → List A → Bool
@@ -30,7 +26,3 @@ is_blank text = is_empty (trim_start text)
 abbrev pub first_passes : (ℕ → Bool) → List ℕ → Bool
 first_passes passes [] = false
 first_passes passes (b ∷ bs) = passes b
-
--- all but the last byte
-abbrev pub without_last : List ℕ → List ℕ
-without_last text = take (length text - 1) text

@@ -2,16 +2,17 @@
 -- Follows systemd.service(5), "Type=", "ExecStart=", "ExecStop=", "TimeoutStartSec=", "TimeoutStopSec=", "RestartSec=".
 -- The machine stands on this file.
 use Rattle.std.specs.Prelude.{◌≡◌, ℕ, ◌+◌, ◌&&◌, ◌||◌, ◌⊎◌, Bool, true, false, not, if◌then◌else◌, List, [], ◌∷◌, ◌++◌, map, slice_get, nat_lt, Option, Some, None, is_some}
+use Rattle.std.specs.Option.{option_to_list, option_map}
 use Rattle.um_model.specs.Moments.{process_limit}
 use Rattle.um_model.specs.Commands.{Command}
 use Rattle.um_model.specs.Substitution.{Variable, AreSubstituted}
 use Rattle.um_model.specs.Limit.{counted}
-use Rattle.um_model.specs.Service.{Action, SpawnProcess, SendSignal, active_state_of}
+use Rattle.um_model.specs.Service.{Action, SpawnProcess, SendSignal, active_state_of, is_success}
 use Rattle.um_model.specs.Settings.{ServiceSettings, commands_in, has_place, has_dash, environment_texts}
-use Rattle.um_model.specs.Ends.{is_clean, is_told, unclean_result, or_later, is_restart_wanted}
+use Rattle.um_model.specs.Ends.{is_clean, is_told, unclean_result, or_later, is_restart_wanted, is_failed, has_one_command}
 use Rattle.um_model.specs.declared.limit.Counted.{Counted}
 use Rattle.um_model.specs.declared.service.ActiveState.{ActiveState}
-use Rattle.um_model.specs.declared.service.ActiveState.TheVariants.{Activating, Active as IsActive}
+use Rattle.um_model.specs.declared.service.ActiveState.TheVariants.{Activating, Active as IsActive, Deactivating}
 use Rattle.um_model.specs.declared.service.End.{End}
 use Rattle.um_model.specs.declared.service.Signal as sent
 use Rattle.um_model.specs.declared.service.Signal.TheVariants.{Term, Kill}
@@ -35,8 +36,7 @@ use Rattle.um_model.specs.declared.transition.UnitKind.TheVariants.{Simple, Exec
 
 -- the deadline a span after the moment; none where the span never ends
 abbrev pub deadline_after : ℕ → Option ℕ → Option ℕ
-deadline_after t None = None
-deadline_after t (Some span) = Some (t + span)
+deadline_after t span = option_map (λ s. t + s) span
 
 -- there is a process number left
 abbrev pub has_number : Around → Bool
@@ -66,76 +66,50 @@ start_fails c = record c { start = Fails }
 abbrev pub stop_ends : Change → Change
 stop_ends c = record c { stop_ends = true }
 
--- dead where all went well, else failed
-abbrev pub resting : UnitResult → SubState
-resting result.Success = Dead
-resting other = Failed
-
--- the unit comes to rest for good
+-- the unit comes to rest for good: dead where all went well, else failed
 abbrev pub rests_for_good : UnitState → Change
-rests_for_good u = stop_ends (just (record u { sub = resting u.result; main = None; control = None; deadline = None }))
+rests_for_good u = stop_ends (just (record u { sub = if is_success u.result then Dead else Failed; main = None; control = None; deadline = None }))
 
 -- the unit waits for its restart
-abbrev pub awaits_restart : ServiceSettings → Around → UnitState → Change
-awaits_restart s c u =
+abbrev pub waits_to_restart : ServiceSettings → Around → UnitState → Change
+waits_to_restart s c u =
     stop_ends (just (record u { sub = AutoRestart; main = None; control = None; deadline = deadline_after c.moment s.restart_delay }))
 
 -- the unit comes to rest; one that nobody asked to stop may wait for a restart instead
 abbrev pub rests : ServiceSettings → Around → UnitState → Change
-rests s c u = if not u.asked && not c.stop_waits && is_restart_wanted s u then awaits_restart s c u else rests_for_good u
+rests s c u = if not u.asked && not c.stop_waits && is_restart_wanted s u then waits_to_restart s c u else rests_for_good u
 
 -- its live processes are told to end; without one it comes to rest
 abbrev pub terminates : ServiceSettings → Around → UnitState → Change
 terminates s c u =
-    if is_live u
-    then asking (Signal Term) (just (record u { sub = StopSigterm; deadline = deadline_after c.moment s.timeout_stop }))
-    else rests s c u
+    if is_live u then asking (Signal Term) (just (record u { sub = StopSigterm; deadline = deadline_after c.moment s.timeout_stop })) else rests s c u
 
 -- the ExecStop= command at this place is started; without a number for it the unit's processes are told to end
 abbrev pub stop_command : ServiceSettings → Around → UnitState → ℕ → Change
 stop_command s c u i =
     if has_number c
-    then asking (Spawn OfStop i)
-    (just (record u { sub = Stop; control = Some c.next; index = i; deadline = deadline_after c.moment s.timeout_stop }))
+    then asking (Spawn OfStop i) (just (record u { sub = Stop; control = Some c.next; index = i; deadline = deadline_after c.moment s.timeout_stop }))
     else terminates s c (record u { result = result.Resources; index = i })
 
--- the unit goes down: by its ExecStop= commands where it has any
-abbrev pub winds_down : ServiceSettings → Around → UnitState → Change
-winds_down s c u = if has_place s.stop 0 then stop_command s c u 0 else terminates s c u
+-- the unit goes down by its ExecStop= commands from this place on; where there is none its processes are told to end
+abbrev pub winds_down : ServiceSettings → Around → UnitState → ℕ → Change
+winds_down s c u i = if has_place s.stop i then stop_command s c u i else terminates s c u
 
--- the next ExecStop= command; after the last its processes are told to end
-abbrev pub next_stop : ServiceSettings → Around → UnitState → Change
-next_stop s c u = if has_place s.stop (u.index + 1) then stop_command s c u (u.index + 1) else terminates s c u
+-- the unit starts so, where there is a number for the process; else the start fails
+abbrev pub starts_so : Around → UnitState → Change → Change
+starts_so c u change = if has_number c then change else start_fails (rests_for_good (record u { result = result.Resources }))
 
--- a start for which there is no process number
-abbrev pub lacks_number : UnitState → Change
-lacks_number u = start_fails (rests_for_good (record u { result = result.Resources }))
+-- the first ExecStart= command is started as the main process, and the start goes on
+abbrev pub first_command : ServiceSettings → Around → UnitState → Change
+first_command s c u =
+    starts_so c u (asking (Spawn OfStart 0) (just (record u { sub = Start; main = Some c.next; deadline = deadline_after c.moment s.timeout_start })))
 
--- the ExecStart= command at this place is started as the main process, and the start goes on
-abbrev pub start_command : ServiceSettings → Around → UnitState → ℕ → Change
-start_command s c u i =
-    if has_number c
-    then asking (Spawn OfStart i) (just (record u { sub = Start; main = Some c.next; deadline = deadline_after c.moment s.timeout_start }))
-    else lacks_number u
-
--- simple: the main process is started, and the start is done
-abbrev pub start_simple : Around → UnitState → Change
-start_simple c u =
-    if has_number c
-    then start_ends (asking (Spawn OfStart 0) (just (record u { sub = Running; main = Some c.next; deadline = None })))
-    else lacks_number u
-
--- oneshot: its first command is started; without one it has exited
-abbrev pub start_oneshot : ServiceSettings → Around → UnitState → Change
-start_oneshot s c u =
-    if has_place s.start 0 then start_command s c u 0 else start_ends (just (record u { sub = Exited; deadline = None }))
-
--- a start by the kind of the unit
+-- a start by the kind of the unit: a simple service runs once its main process is started, a oneshot without a command has exited
 abbrev pub start_of : UnitKind → ServiceSettings → Around → UnitState → Change
 start_of Target s c u = start_ends (just (record u { sub = Active; deadline = None }))
-start_of Simple s c u = start_simple c u
-start_of Exec s c u = start_command s c u 0
-start_of Oneshot s c u = start_oneshot s c u
+start_of Simple s c u = starts_so c u (start_ends (asking (Spawn OfStart 0) (just (record u { sub = Running; main = Some c.next; deadline = None }))))
+start_of Exec s c u = first_command s c u
+start_of Oneshot s c u = if has_place s.start 0 then first_command s c u else start_ends (just (record u { sub = Exited; deadline = None }))
 
 -- the limit refuses a start, or lets it through and has this window after it
 abbrev pub starts_if : Bool → Option Counted → ServiceSettings → Around → UnitState → Change
@@ -148,30 +122,16 @@ starts s c u = let answer = counted s.limit_interval s.limit_burst c.moment u.wi
 
 -- the main process ended well: the unit has exited, or goes down
 abbrev pub exits : ServiceSettings → Around → UnitState → Change
-exits s c u = if s.remains then just (record u { sub = Exited; deadline = None }) else winds_down s c u
+exits s c u = if s.remains then just (record u { sub = Exited; deadline = None }) else winds_down s c u 0
 
 -- the oneshot's next command is started as its main process
 abbrev pub next_command : Around → UnitState → ℕ → Change
-next_command c u i =
-    if has_number c
-    then asking (Spawn OfStart i) (just (record u { main = Some c.next; index = i }))
-    else lacks_number (record u { index = i })
+next_command c u i = starts_so c (record u { index = i }) (asking (Spawn OfStart i) (just (record u { main = Some c.next; index = i })))
 
--- a command of a oneshot ended well: the next one, or the start is done
-abbrev pub next_start : ServiceSettings → Around → UnitState → Change
-next_start s c u =
-    if has_place s.start (u.index + 1) then next_command c u (u.index + 1) else start_ends (exits s c u)
-
--- the main process ended well during the start: a oneshot goes on with its next command
+-- the main process ended well during the start: a oneshot goes on with its next command, else the start is done
 abbrev pub start_goes_on : UnitKind → ServiceSettings → Around → UnitState → Change
-start_goes_on Oneshot s c u = next_start s c u
+start_goes_on Oneshot s c u = if has_place s.start (u.index + 1) then next_command c u (u.index + 1) else start_ends (exits s c u)
 start_goes_on other s c u = start_ends (exits s c u)
-
--- the program of the main process runs: a start that waits for it is done
-abbrev pub executed : UnitKind → UnitState → Change
-executed Simple u = start_ends (just (record u { sub = Running; deadline = None }))
-executed Exec u = start_ends (just (record u { sub = Running; deadline = None }))
-executed other u = just u
 
 -- the unit comes to rest, once no process of it is live
 abbrev pub rests_unless_live : ServiceSettings → Around → UnitState → Change
@@ -179,8 +139,7 @@ rests_unless_live s c u = if is_live u then just u else rests s c u
 
 -- an unclean end sets the result
 abbrev pub noted : UnitState → End → Bool → UnitState
-noted u e true = u
-noted u e false = record u { result = or_later u.result (unclean_result e) }
+noted u e clean = if clean then u else record u { result = or_later u.result (unclean_result e) }
 
 -- the unit without its main process, which ended so
 abbrev pub without_main : ServiceSettings → UnitState → End → UnitState
@@ -194,72 +153,53 @@ without_control s u e = noted (record u { control = None }) e (is_clean s u Cont
 abbrev pub timed_out : UnitState → UnitState
 timed_out u = record u { result = or_later u.result result.Timeout }
 
--- its live processes are killed
-abbrev pub kills : ServiceSettings → Around → UnitState → Change
-kills s c u = asking (Signal Kill) (just (record u { sub = StopSigkill; deadline = deadline_after c.moment s.timeout_stop }))
-
 -- a stop was asked for
-abbrev pub asked : UnitState → UnitState
-asked u = record u { asked = true }
+abbrev pub told_to_stop : UnitState → UnitState
+told_to_stop u = record u { asked = true }
 
 -- it is dead at once
 abbrev pub dies : UnitState → Change
 dies u = stop_ends (just (record u { sub = Dead; deadline = None }))
 
-abbrev pub unless_failed : SubState → SubState
-unless_failed Failed = Dead
-unless_failed other = other
-
 -- that it failed is forgotten, and how often it was started
 abbrev pub forgiven : UnitState → UnitState
-forgiven u = record u { sub = unless_failed u.sub; result = result.Success; window = None }
+forgiven u = record u { sub = if is_failed u.sub then Dead else u.sub; result = result.Success; window = None }
 
 -- ---- the table
 
--- the event as it should be: the unit to be started is loadable; the process ended cleanly, or an ExecStop= command as its `-` allows
-abbrev pub is_well : ServiceSettings → Around → UnitState → UnitEvent → Bool
-is_well s c u StartBegins = c.loadable
-is_well s c u (MainEnds e) = is_clean s u Main e
-is_well s c u (ControlEnds e) = is_clean s u Control e || is_told e && has_dash s OfStop u.index
-is_well s c u other = true
+-- an ExecStop= command ended well: cleanly, or as its `-` allows
+abbrev pub is_stop_done : ServiceSettings → UnitState → End → Bool
+is_stop_done s u e = is_clean s u Control e || is_told e && has_dash s OfStop u.index
 
--- the rows: what follows in this sub state from this event, which is well or not; by the last one the unit stays as it is
-abbrev pub row : ServiceSettings → Around → UnitState → SubState → UnitEvent → Bool → Change
-row s c u sub StartBegins false = start_fails (just (record u { result = result.NotLoaded }))
-row s c u sub Reset well = just (forgiven u)
-row s c u Running StartBegins well = start_ends (just u)
-row s c u Exited StartBegins well = start_ends (just u)
-row s c u Active StartBegins well = start_ends (just u)
-row s c u Dead StartBegins well = starts s c u
-row s c u Failed StartBegins well = starts s c u
-row s c u AutoRestart StartBegins well = starts s c u
-row s c u Start Executed well = executed s.kind u
-row s c u Start (MainEnds e) true = start_goes_on s.kind s c (without_main s u e)
-row s c u Start (MainEnds e) false = start_fails (rests s c (without_main s u e))
-row s c u Start DeadlinePasses well = start_fails (terminates s c (record u { result = result.Timeout }))
-row s c u Running (MainEnds e) true = exits s c (without_main s u e)
-row s c u Running (MainEnds e) false = winds_down s c (without_main s u e)
-row s c u Running StopBegins well = winds_down s c (asked u)
-row s c u Exited StopBegins well = winds_down s c (asked u)
-row s c u Start StopBegins well = start_fails (terminates s c (asked u))
-row s c u AutoRestart StopBegins well = dies u
-row s c u Stop StopBegins well = just (asked u)
-row s c u StopSigterm StopBegins well = just (asked u)
-row s c u StopSigkill StopBegins well = just (asked u)
-row s c u Active StopBegins well = dies u
-row s c u Dead StopBegins well = stop_ends (just u)
-row s c u Failed StopBegins well = stop_ends (just u)
-row s c u Stop (ControlEnds e) true = next_stop s c (record u { control = None })
-row s c u Stop (ControlEnds e) false = terminates s c (without_control s u e)
-row s c u Stop (MainEnds e) well = just (without_main s u e)
-row s c u Stop DeadlinePasses well = terminates s c (timed_out u)
-row s c u StopSigterm (MainEnds e) well = rests_unless_live s c (without_main s u e)
-row s c u StopSigterm (ControlEnds e) well = rests_unless_live s c (without_control s u e)
-row s c u StopSigkill (MainEnds e) well = rests_unless_live s c (without_main s u e)
-row s c u StopSigkill (ControlEnds e) well = rests_unless_live s c (without_control s u e)
-row s c u StopSigterm DeadlinePasses well = kills s c (timed_out u)
-row s c u StopSigkill DeadlinePasses well = rests_for_good (timed_out u)
-row s c u sub event well = just u
+-- the rows: what follows in this sub state, by its active state, from this event; by the last one the unit stays as it is
+abbrev pub row : ServiceSettings → Around → UnitState → ActiveState → SubState → UnitEvent → Change
+row s c u active sub Reset = just (forgiven u)
+row s c u IsActive sub StartBegins = start_ends (just u)
+row s c u active Dead StartBegins = starts s c u
+row s c u active Failed StartBegins = starts s c u
+row s c u active AutoRestart StartBegins = starts s c u
+row s c u active Start Executed = if has_one_command s.kind then start_ends (just (record u { sub = Running; deadline = None })) else just u
+row s c u active Start (MainEnds e) =
+    if is_clean s u Main e then start_goes_on s.kind s c (without_main s u e) else start_fails (rests s c (without_main s u e))
+row s c u active Start DeadlinePasses = start_fails (terminates s c (record u { result = result.Timeout }))
+row s c u active Running (MainEnds e) = if is_clean s u Main e then exits s c (without_main s u e) else winds_down s c (without_main s u e) 0
+row s c u active Active StopBegins = dies u
+row s c u active AutoRestart StopBegins = dies u
+row s c u IsActive sub StopBegins = winds_down s c (told_to_stop u) 0
+row s c u active Start StopBegins = start_fails (terminates s c (told_to_stop u))
+row s c u Deactivating sub StopBegins = just (told_to_stop u)
+row s c u active Dead StopBegins = stop_ends (just u)
+row s c u active Failed StopBegins = stop_ends (just u)
+row s c u active Stop (ControlEnds e) =
+    if is_stop_done s u e then winds_down s c (record u { control = None }) (u.index + 1) else terminates s c (without_control s u e)
+row s c u active Stop (MainEnds e) = just (without_main s u e)
+row s c u Deactivating sub (MainEnds e) = rests_unless_live s c (without_main s u e)
+row s c u Deactivating sub (ControlEnds e) = rests_unless_live s c (without_control s u e)
+row s c u active Stop DeadlinePasses = terminates s c (timed_out u)
+row s c u active StopSigterm DeadlinePasses =
+    asking (Signal Kill) (just (record (timed_out u) { sub = StopSigkill; deadline = deadline_after c.moment s.timeout_stop }))
+row s c u active StopSigkill DeadlinePasses = rests_for_good (timed_out u)
+row s c u active sub event = just u
 
 -- active or activating
 abbrev pub is_going : ActiveState → Bool
@@ -267,20 +207,18 @@ is_going IsActive = true
 is_going Activating = true
 is_going other = false
 
--- the table: a bound stop is as a stop job that begins, where the unit is active or activating
+-- the table: a unit that can't be loaded isn't started; a bound stop is as a stop job that begins, where the unit is active or activating
 abbrev pub transition : ServiceSettings → Around → UnitState → UnitEvent → Change
-transition s c u BoundStop = if is_going (active_state_of u.sub) then row s c u u.sub StopBegins true else just u
-transition s c u event = row s c u u.sub event (is_well s c u event)
+transition s c u StartBegins =
+    if c.loadable then row s c u (active_state_of u.sub) u.sub StartBegins else start_fails (just (record u { result = result.NotLoaded }))
+transition s c u BoundStop = if is_going (active_state_of u.sub) then row s c u (active_state_of u.sub) u.sub StopBegins else just u
+transition s c u event = row s c u (active_state_of u.sub) u.sub event
 
 -- ---- what is asked, as actions
 
-abbrev pub numbers : Option ℕ → List ℕ
-numbers None = []
-numbers (Some n) = n ∷ []
-
 -- the live process numbers of a unit, ascending: the main process is the elder
 abbrev pub live_numbers : UnitState → List ℕ
-live_numbers u = numbers u.main ++ numbers u.control
+live_numbers u = option_to_list u.main ++ option_to_list u.control
 
 -- the words that a command is started with: its variables stand for their values, unless it is written with `:`
 pub data AreStarted (environment : List Variable) : Option Command → List (List ℕ) → Type 0 where
@@ -298,24 +236,8 @@ pub data AreActions (s : ServiceSettings) (c : Around) (u : UnitState) : Order �
 
 -- how many process numbers an order takes
 abbrev pub spawned : Order → ℕ
-spawned Nothing = 0
 spawned (Spawn which i) = 1
-spawned (Signal signal) = 0
-
--- ---- units with live processes
-
--- a unit that starts or runs has a main process, one that its ExecStop= commands stop a control process, and one that is told to
--- end one of them
-abbrev pub has_its_process : SubState → UnitState → Bool
-has_its_process Start u = is_some u.main
-has_its_process Running u = is_some u.main
-has_its_process Stop u = is_some u.control
-has_its_process StopSigterm u = is_live u
-has_its_process StopSigkill u = is_live u
-has_its_process other u = true
-
-abbrev pub HasItsProcess : UnitState → Type 0
-HasItsProcess u = has_its_process u.sub u ≡ true
+spawned other = 0
 
 -- the number is that of one of the unit's live processes
 abbrev pub HasNumber : UnitState → ℕ → Type 0

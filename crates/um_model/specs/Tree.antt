@@ -1,20 +1,21 @@
 -- The manager's own tree: a finite map from served paths to files and links.
 -- Follows systemd.unit(5), "Unit File Load Path".
 -- Resolution, drop-ins, dependencies by links, enabling and the state stand on this file.
-use Rattle.std.specs.Prelude.{◌≡◌, ℕ, ◌-◌, ◌≤◌, nat_le, nat_lt, nat_eq, Bool, true, false, not, ◌&&◌, ◌||◌, ◌==◌, List, [], ◌∷◌, ◌++◌}
-use Rattle.std.specs.Prelude.{length, take, drop, Option, Some, None, is_none, is_some, option_map, option_and_then, Result, if◌then◌else◌, codes}
+use Rattle.std.specs.Prelude.{◌≡◌, ℕ, ◌-◌, ◌≤◌, nat_le, nat_lt, nat_eq, Bool, true, false, not, ◌&&◌, ◌||◌, ◌==◌, List, [], ◌++◌}
+use Rattle.std.specs.Prelude.{length, take, drop, Option, Some, None, is_none, is_some, option_map, Result, if◌then◌else◌, codes}
 use Rattle.std.specs.Option.{option_or, option_map_or}
-use Rattle.std.specs.List.{list_all, list_any, starts_with, ends_with, position_or_len, before_first, after_first, after_last}
+use Rattle.std.specs.List.{list_all, starts_with, ends_with, position_or_len, before_first, after_first, after_last}
 use Rattle.std.specs.Str.{bytes_eq}
 use Rattle.std.specs.Ordering.{nat_cmp}
 use Rattle.std.specs.Cmp.Lexicographic.{slice_cmp}
 use Rattle.std.specs.FinMap as map
 use Rattle.um_model.specs.Ascii.{is_digit, is_letter}
 use Rattle.um_model.specs.Names.{is_unit_name, is_template}
-use Rattle.um_model.specs.Refusals.{Refused, cause, first_cause, unless_refused, bad_path, exists_at, too_large}
+use Rattle.um_model.specs.Refusals.{Refused, unless_refused, bad_path, exists_at, too_large}
 use Rattle.um_model.specs.declared.refusals.Limit.TheVariants.{Text, Entries}
 use Rattle.um_model.specs.declared.tree.Layer.{Layer}
 use Rattle.um_model.specs.declared.tree.Layer.TheVariants.{Etc, Run, Lib}
+use Rattle.um_model.specs.Bytes.{◌>>=◌}
 
 -- ---- paths, by their parts
 
@@ -64,20 +65,16 @@ is_drop_in_name name = nat_le 1 (length name) && nat_le (length name) drop_in_li
 abbrev pub is_plain_name : List ℕ → Bool
 is_plain_name text = is_unit_name text && not (is_template text)
 
--- in a directory of links neither name is a template
+-- the parts of a path fit together; in a directory of links neither name is a template
 abbrev pub is_fit_place : List ℕ → Place → Bool
 is_fit_place unit Unit = is_unit_name unit
 is_fit_place unit (DropIn name) = is_unit_name unit && is_drop_in_name name
 is_fit_place unit (Wants other) = is_plain_name unit && is_plain_name other
 is_fit_place unit (Requires other) = is_plain_name unit && is_plain_name other
 
--- the parts of a path fit together
-abbrev pub are_fit : PathParts → Bool
-are_fit p = is_fit_place p.unit p.place
-
 -- the text is the path of these parts
 pub record IsPathOf (text : List ℕ) (p : PathParts) : Type 0 where
-  pub fit : are_fit p ≡ true
+  pub fit : is_fit_place p.unit p.place ≡ true
   pub spelled : text ≡ path_text p
 
 -- ---- the parts as a function, for definitions that branch on them; the laws in proofs/TreeLaws say that it tells the parts above
@@ -117,14 +114,11 @@ place_in directory file =
 abbrev pub unit_and_place : List ℕ → Option (List ℕ × Place)
 unit_and_place rest = option_map_or (λ parts. place_in parts.0 parts.1) (around_slash rest) (Some (rest, Unit))
 
--- the parts, if they are fit
-abbrev pub where_fit : PathParts → Option PathParts
-where_fit p = if are_fit p then Some p else None
-
 -- the parts of a served path: the layer, and then the unit and the place
 unfoldable pub path_parts : List ℕ → Option PathParts
 path_parts path =
-    option_and_then (λ l. option_and_then (λ u. where_fit (record { layer = l.0; unit = u.0; place = u.1 })) (unit_and_place l.1)) (layer_and_rest path)
+    layer_and_rest path >>= λ l. unit_and_place l.1 >>= λ u.
+    let parts : PathParts = record { layer = l.0; unit = u.0; place = u.1 } in if is_fit_place u.0 u.1 then Some parts else None
 
 -- ---- the tree
 
@@ -162,8 +156,7 @@ is_other_name unit text = is_unit_name text && not (bytes_eq text unit)
 abbrev pub may_lead_to : List ℕ → Place → List ℕ → Bool
 may_lead_to unit Unit target = bytes_eq target (codes "/dev/null") || is_other_name unit (after_last is_slash target)
 may_lead_to unit (DropIn name) target = false
-may_lead_to unit (Wants other) target = true
-may_lead_to unit (Requires other) target = true
+may_lead_to unit place target = true
 
 -- a link to the target may stand at a path of these parts
 abbrev pub is_fit_target : Option PathParts → List ℕ → Bool
@@ -175,21 +168,15 @@ abbrev pub is_fit_entry : List ℕ → Entry → Bool
 is_fit_entry path (File text) = is_served path && nat_le (length text) text_limit
 is_fit_entry path (Link target) = is_fit_target (path_parts path) target
 
--- what stands at the path, if anything, may stand there
-abbrev pub is_fit_at : List ℕ → Option Entry → Bool
-is_fit_at path None = true
-is_fit_at path (Some entry) = is_fit_entry path entry
-
 -- each entry may stand at its path, and there are no more than the limit
 pub record IsTree (tree : Tree) : Type 0 where
-  pub fit : (path : List ℕ) → is_fit_at path (map.get tree path) ≡ true
+  pub fit : (path : List ℕ) → option_map_or (is_fit_entry path) (map.get tree path) true ≡ true
   pub few : map.len tree ≤ entry_limit
 
 -- a link stands there
 abbrev pub is_link : Option Entry → Bool
-is_link None = false
-is_link (Some (File text)) = false
 is_link (Some (Link target)) = true
+is_link other = false
 
 -- something else than the link to the target stands there
 abbrev pub is_other_than_link : Option Entry → List ℕ → Bool
@@ -204,12 +191,10 @@ is_full_for tree path = is_none (map.get tree path) && nat_le entry_limit (map.l
 -- the first cause why no file with the text may be put at the path
 abbrev pub put_cause : Tree → List ℕ → List ℕ → Option Refused
 put_cause tree path text =
-    first_cause
-    (cause (not (is_served path)) (bad_path path)
-    ∷ cause (is_link (map.get tree path)) (exists_at path)
-    ∷ cause (nat_lt text_limit (length text)) (too_large Text)
-    ∷ cause (is_full_for tree path) (too_large Entries)
-    ∷ [])
+    if not (is_served path) then Some (bad_path path)
+    else (if is_link (map.get tree path) then Some (exists_at path)
+    else (if nat_lt text_limit (length text) then Some (too_large Text)
+    else (if is_full_for tree path then Some (too_large Entries) else None)))
 
 -- the tree with the file put at the path, in place of a file that stands there
 unfoldable pub put_file : Tree → List ℕ → List ℕ → Result Tree Refused
@@ -218,11 +203,9 @@ put_file tree path text = unless_refused (put_cause tree path text) (map.insert 
 -- the first cause why no link to the target may be put at the path
 abbrev pub link_cause : Tree → List ℕ → List ℕ → Option Refused
 link_cause tree path target =
-    first_cause
-    (cause (not (is_fit_target (path_parts path) target)) (bad_path path)
-    ∷ cause (is_other_than_link (map.get tree path) target) (exists_at path)
-    ∷ cause (is_full_for tree path) (too_large Entries)
-    ∷ [])
+    if not (is_fit_target (path_parts path) target) then Some (bad_path path)
+    else (if is_other_than_link (map.get tree path) target then Some (exists_at path)
+    else (if is_full_for tree path then Some (too_large Entries) else None))
 
 -- the tree with the link put at the path, where nothing stands or the same link
 unfoldable pub put_link : Tree → List ℕ → List ℕ → Result Tree Refused
@@ -230,7 +213,7 @@ put_link tree path target = unless_refused (link_cause tree path target) (map.in
 
 -- the cause why nothing may be removed at the path: nothing stands there
 abbrev pub remove_cause : Tree → List ℕ → Option Refused
-remove_cause tree path = cause (is_none (map.get tree path)) (bad_path path)
+remove_cause tree path = if is_none (map.get tree path) then Some (bad_path path) else None
 
 -- the tree without what stands at the path
 unfoldable pub remove_at : Tree → List ℕ → Result Tree Refused
@@ -243,7 +226,3 @@ is_volatile path = starts_with nat_eq path (layer_text Run)
 -- the tree as it comes out of a boot
 unfoldable pub without_run : Tree → Tree
 without_run tree = map.retain_keys tree (λ path. not (is_volatile path))
-
--- an entry stands under `run/`
-abbrev pub has_run : Tree → Bool
-has_run tree = list_any (λ e. is_volatile e.0) (map.entries tree)

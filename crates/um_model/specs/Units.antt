@@ -1,12 +1,13 @@
 -- What a unit's files set and warn of, by one list of assignments, and whether the unit can be loaded.
 -- Follows systemd.unit(5) and systemd.service(5).
 -- The machine stands on this file: what `show` tells, and what a start does.
-use Rattle.std.specs.Prelude.{ℕ, ◌*◌, Bool, true, false, not, ◌&&◌, ◌||◌, ◌==◌, List, [], ◌∷◌, ◌++◌, length, find, filter_map, map as each}
-use Rattle.std.specs.Prelude.{Option, Some, None, option_map, if◌then◌else◌, codes}
-use Rattle.std.specs.Option.{option_or}
+use Rattle.std.specs.Prelude.{ℕ, ◌*◌, Bool, true, false, not, ◌&&◌, ◌||◌, ◌==◌, List, [], ◌∷◌, ◌++◌, length, find, fold, filter_map, map as each}
+use Rattle.std.specs.Prelude.{Option, Some, None, Result, option_map, if◌then◌else◌, codes}
+use Rattle.std.specs.Option.{ok_or, option_or, option_map_or, option_and_then}
 use Rattle.std.specs.Result.{result_ok, result_err, result_unwrap_or}
 use Rattle.std.specs.List.{flat_map, list_any, after_last}
 use Rattle.std.specs.Str.{bytes_eq}
+use Rattle.std.specs.Map.{lookup}
 use Rattle.um_model.specs.Names.{suffix_of, is_unit_name}
 use Rattle.um_model.specs.Text.{is_empty}
 use Rattle.um_model.specs.Syntax.{Item, Section, Assignment, Warned, Placed, line_number, reading_of}
@@ -14,16 +15,14 @@ use Rattle.um_model.specs.Tree.{Tree}
 use Rattle.um_model.specs.Resolution.{is_of_same_type, UnitFile, Resolution, AtFile, AtNoFile, AtMask, Nowhere, files_at, resolution_of}
 use Rattle.um_model.specs.Keys.{is_foreign, is_known_section, is_refused_key, kind_of_key}
 use Rattle.um_model.specs.Readings.{text_reading, commands_reading, environment_reading, names_reading}
-use Rattle.um_model.specs.Readings.{first_warning, names_said, value_reading, instance_in}
+use Rattle.um_model.specs.Readings.{all_read, instance_in}
 use Rattle.um_model.specs.Moments.{millisecond, second}
-use Rattle.um_model.specs.Values.{boolean_of, number_of, span_of, exits_of, policy_named}
+use Rattle.um_model.specs.Values.{boolean_of, number_of, span_of, exits_of, policy_named, restart_text}
 use Rattle.um_model.specs.Commands.{Command}
 use Rattle.um_model.specs.Substitution.{Variable}
 use Rattle.um_model.specs.declared.service.End.{End}
 use Rattle.um_model.specs.declared.settings.RestartPolicy.{RestartPolicy}
 use Rattle.um_model.specs.declared.settings.RestartPolicy.TheVariants.{No, Always, OnSuccess}
-use Rattle.um_model.specs.declared.settings.TimeSpan.{TimeSpan}
-use Rattle.um_model.specs.declared.settings.TimeSpan.TheVariants.{Micros, Infinite}
 use Rattle.um_model.specs.declared.transition.UnitKind.{UnitKind}
 use Rattle.um_model.specs.declared.transition.UnitKind.TheVariants.{Simple, Exec, Oneshot, Target}
 use Rattle.um_model.specs.declared.names.Suffix.{Suffix}
@@ -33,7 +32,7 @@ use Rattle.um_model.specs.declared.units.LoadState.TheVariants as load_state
 use Rattle.um_model.specs.declared.units.ValueKind.{ValueKind}
 use Rattle.um_model.specs.declared.units.ValueKind.TheVariants as kind
 use Rattle.um_model.specs.declared.warnings.WarningKind.{WarningKind}
-use Rattle.um_model.specs.declared.warnings.WarningKind.TheVariants.{UnknownSection, UnknownKey}
+use Rattle.um_model.specs.declared.warnings.WarningKind.TheVariants.{UnknownSection, UnknownKey, UnreadableValue}
 
 -- the word for a load state
 abbrev pub load_state_text : LoadState → List ℕ
@@ -59,8 +58,7 @@ pub record Assigned : Type 0 where
   pub value : List ℕ
 
 abbrev pub assigned_by : Option Suffix → Option (List ℕ) → Item → List Assigned
-assigned_by type (Some section) (Assignment key value line whole) =
-    if is_known_section type section then record { section = section; key = key; value = value } ∷ [] else []
+assigned_by type (Some s) (Assignment k v line whole) = if is_known_section type s then record { section = s; key = k; value = v } ∷ [] else []
 assigned_by type section other = []
 
 -- the assignments of a unit's files as one list, in the order in which they are read
@@ -71,40 +69,23 @@ assignments_in type sources = flat_map (λ s. flat_map (λ p. assigned_by type p
 abbrev pub Key : Type 0
 Key = List ℕ × List ℕ
 
-abbrev pub assigns : List Key → Assigned → Bool
-assigns keys a = list_any (λ key. bytes_eq a.section key.0 && bytes_eq a.key key.1) keys
-
 -- the values of one setting, in order: each assignment to one of its keys
 abbrev pub values_of : List Key → List Assigned → List (List ℕ)
-values_of keys assigned = flat_map (λ a. if assigns keys a then a.value ∷ [] else []) assigned
-
-abbrev pub in_unit : List ℕ → Key
-in_unit key = (codes "Unit", key)
-
-abbrev pub in_service : List ℕ → Key
-in_service key = (codes "Service", key)
-
-abbrev pub in_install : List ℕ → Key
-in_install key = (codes "Install", key)
+values_of keys assigned = flat_map (λ a. if list_any (λ key. bytes_eq a.section key.0 && bytes_eq a.key key.1) keys then a.value ∷ [] else []) assigned
 
 -- ---- settings, each by its own rule over the one list of assignments
 
--- the last one, or the default
-abbrev pub last_or : {A : Type 0} → A → List A → A
-last_or default [] = default
-last_or default (value ∷ values) = last_or value values
+-- a single value: of all assignments to these keys the last that can be read, or the default
+abbrev pub last_read : {A : Type 0} → (List ℕ → Option A) → A → List Key → List Assigned → A
+last_read read default keys assigned = fold (λ earlier value. value) default (filter_map read (values_of keys assigned))
 
--- a single value: the last that can be read
-abbrev pub last_read : {A : Type 0} → (List ℕ → Option A) → A → List (List ℕ) → A
-last_read read default values = last_or default (filter_map read values)
+-- a list that an empty value clears: the values behind the last empty one
+abbrev pub since_empty : Key → List Assigned → List (List ℕ)
+since_empty key assigned = after_last is_empty (values_of (key ∷ []) assigned)
 
--- a list that an empty value clears: all that the values behind the last empty one say
-abbrev pub since_empty : List (List ℕ) → List (List ℕ)
-since_empty values = after_last is_empty values
-
--- everything that is named
+-- everything that these values name
 abbrev pub names_of : (List ℕ → Bool) → List ℕ → List (List ℕ) → List (List ℕ)
-names_of fits unit values = flat_map (names_said fits unit) values
+names_of fits unit values = flat_map (λ value. filter_map result_ok (names_reading fits unit value)) values
 
 -- what other units the unit names, each list in order: as After=, Before=, Wants=, Requires=, BindsTo=, PartOf= and Conflicts=
 pub record Dependencies : Type 0 where
@@ -118,7 +99,7 @@ pub record Dependencies : Type 0 where
   pub default_dependencies : Bool
 
 abbrev pub units_named : List ℕ → List ℕ → List Assigned → List (List ℕ)
-units_named key unit assigned = names_of is_unit_name unit (values_of (in_unit key ∷ []) assigned)
+units_named key unit assigned = names_of is_unit_name unit (values_of ((codes "Unit", key) ∷ []) assigned)
 
 unfoldable pub dependencies_of : List ℕ → List Assigned → Dependencies
 dependencies_of unit assigned = record {
@@ -129,7 +110,7 @@ dependencies_of unit assigned = record {
   binds_to = units_named (codes "BindsTo") unit assigned;
   part_of = units_named (codes "PartOf") unit assigned;
   conflicts = units_named (codes "Conflicts") unit assigned;
-  default_dependencies = last_read boolean_of true (values_of (in_unit (codes "DefaultDependencies") ∷ []) assigned);
+  default_dependencies = last_read boolean_of true ((codes "Unit", codes "DefaultDependencies") ∷ []) assigned;
 }
 
 -- what enabling the unit makes
@@ -153,11 +134,11 @@ default_instance_in value = if is_empty value then Some None else option_map Som
 
 unfoldable pub install_settings_of : List ℕ → List Assigned → InstallSettings
 install_settings_of unit assigned = record {
-  alias = names_of (is_alias_for unit) unit (since_empty (values_of (in_install (codes "Alias") ∷ []) assigned));
-  wanted_by = names_of is_unit_name unit (since_empty (values_of (in_install (codes "WantedBy") ∷ []) assigned));
-  required_by = names_of is_unit_name unit (since_empty (values_of (in_install (codes "RequiredBy") ∷ []) assigned));
-  also = names_of is_unit_name unit (values_of (in_install (codes "Also") ∷ []) assigned);
-  default_instance = last_read default_instance_in None (values_of (in_install (codes "DefaultInstance") ∷ []) assigned);
+  alias = names_of (is_alias_for unit) unit (since_empty (codes "Install", codes "Alias") assigned);
+  wanted_by = names_of is_unit_name unit (since_empty (codes "Install", codes "WantedBy") assigned);
+  required_by = names_of is_unit_name unit (since_empty (codes "Install", codes "RequiredBy") assigned);
+  also = names_of is_unit_name unit (values_of ((codes "Install", codes "Also") ∷ []) assigned);
+  default_instance = last_read default_instance_in None ((codes "Install", codes "DefaultInstance") ∷ []) assigned;
 }
 
 -- what Type= says: a type that is served, or one that isn't; any other word can't be read
@@ -166,20 +147,16 @@ pub data TypeSaid : Type 0 where
   Served : UnitKind → TypeSaid
   Unserved : TypeSaid
 
-abbrev pub is_unserved_type : List ℕ → Bool
-is_unserved_type value =
-    list_any (λ word. bytes_eq value word) (codes "notify" ∷ codes "notify-reload" ∷ codes "dbus" ∷ codes "forking" ∷ codes "idle" ∷ [])
-
+-- what a word for a type says
 unfoldable pub type_said : List ℕ → Option TypeSaid
 type_said value =
-    if bytes_eq value (codes "simple") then Some (Served Simple)
-    else (if bytes_eq value (codes "exec") then Some (Served Exec)
-    else (if bytes_eq value (codes "oneshot") then Some (Served Oneshot)
-    else (if is_unserved_type value then Some Unserved else None)))
+    lookup (bytes_eq value) (
+    (codes "simple", Served Simple) ∷ (codes "exec", Served Exec) ∷ (codes "oneshot", Served Oneshot) ∷ (codes "notify", Unserved)
+    ∷ (codes "notify-reload", Unserved) ∷ (codes "dbus", Unserved) ∷ (codes "forking", Unserved) ∷ (codes "idle", Unserved) ∷ [])
 
 -- Type= of the unit
 abbrev pub type_of : List Assigned → TypeSaid
-type_of assigned = last_read type_said Unsaid (values_of (in_service (codes "Type") ∷ []) assigned)
+type_of assigned = last_read type_said Unsaid ((codes "Service", codes "Type") ∷ []) assigned
 
 -- simple where nothing is said and a command is left, oneshot where neither is given
 abbrev pub kind_by : TypeSaid → List Command → UnitKind
@@ -187,36 +164,17 @@ kind_by Unsaid start = if is_empty start then Oneshot else Simple
 kind_by (Served kind) start = kind
 kind_by Unserved start = Simple
 
--- all commands of the setting with this key
-abbrev pub commands_of : List ℕ → List ℕ → List Assigned → List Command
-commands_of key unit assigned = flat_map (λ value. result_unwrap_or (commands_reading unit value) []) (since_empty (values_of (in_service key ∷ []) assigned))
-
-abbrev pub environment_of : List ℕ → List Assigned → List Variable
-environment_of unit assigned =
-    flat_map (λ value. result_unwrap_or (environment_reading unit value) []) (since_empty (values_of (in_service (codes "Environment") ∷ []) assigned))
-
-abbrev pub tells_any : List (End → Bool) → End → Bool
-tells_any sets end = list_any (λ set. set end) sets
+-- all that the values of a list in [Service] say, but for those that can't be read
+abbrev pub all_said : {A : Type 0} → (List ℕ → Result (List A) WarningKind) → List ℕ → List Assigned → List A
+all_said read key assigned = flat_map (λ value. result_unwrap_or (read value) []) (since_empty (codes "Service", key) assigned)
 
 -- the ends that the setting's values tell
 abbrev pub exits_in : List ℕ → List Assigned → End → Bool
-exits_in key assigned = tells_any (filter_map exits_of (since_empty (values_of (in_service key ∷ []) assigned)))
-
--- microseconds, or none where the span never ends
-abbrev pub micros_in : TimeSpan → Option ℕ
-micros_in Infinite = None
-micros_in (Micros n) = Some n
+exits_in key assigned end = list_any (λ set. set end) (filter_map exits_of (since_empty (codes "Service", key) assigned))
 
 -- a time-out of 0 never passes
-abbrev pub timeout_in : TimeSpan → Option ℕ
-timeout_in Infinite = None
-timeout_in (Micros n) = if n == 0 then None else Some n
-
-abbrev pub span_said : List ℕ → Option (Option ℕ)
-span_said value = option_map micros_in (span_of value)
-
 abbrev pub timeout_said : List ℕ → Option (Option ℕ)
-timeout_said value = option_map timeout_in (span_of value)
+timeout_said value = option_map (λ span. option_and_then (λ n. if n == 0 then None else Some n) span) (span_of value)
 
 -- of a service: spans are in microseconds, and one that is None never ends
 pub record ServiceSettings : Type 0 where
@@ -235,42 +193,42 @@ pub record ServiceSettings : Type 0 where
   pub prevents_restart : End → Bool  -- RestartPreventExitStatus=
   pub forces_restart : End → Bool  -- RestartForceExitStatus=
 
--- what counts where nothing is set: so long before a restart, for a start and for a stop, and so many starts in so long
+-- where nothing is set, a restart waits so long
 abbrev pub default_restart_delay : ℕ
 default_restart_delay = 100 * millisecond
 
+-- a start and a stop may take so long
 abbrev pub default_timeout : ℕ
 default_timeout = 90 * second
 
+-- and so many starts are allowed in so long
 abbrev pub default_limit_interval : ℕ
 default_limit_interval = 10 * second
 
 abbrev pub default_limit_burst : ℕ
 default_limit_burst = 5
 
--- a oneshot service may start as long as it likes
+-- a oneshot service may start as long as it likes, where nothing is set
 abbrev pub default_timeout_start : UnitKind → Option ℕ
 default_timeout_start Oneshot = None
 default_timeout_start other = Some default_timeout
 
--- the settings of a service of this kind with these commands
+-- the settings of a service of this kind with these commands; each default stands with its setting
 abbrev pub service_settings_with : List Command → UnitKind → List ℕ → List Assigned → ServiceSettings
 service_settings_with start kind unit assigned = record {
   kind = kind;
   start = start;
-  stop = commands_of (codes "ExecStop") unit assigned;
-  environment = environment_of unit assigned;
-  remains = last_read boolean_of false (values_of (in_service (codes "RemainAfterExit") ∷ []) assigned);
-  restart = last_read policy_named No (values_of (in_service (codes "Restart") ∷ []) assigned);
-  restart_delay = last_read span_said (Some default_restart_delay) (values_of (in_service (codes "RestartSec") ∷ []) assigned);
+  stop = all_said (commands_reading unit) (codes "ExecStop") assigned;
+  environment = all_said (environment_reading unit) (codes "Environment") assigned;
+  remains = last_read boolean_of false ((codes "Service", codes "RemainAfterExit") ∷ []) assigned;
+  restart = last_read policy_named No ((codes "Service", codes "Restart") ∷ []) assigned;
+  restart_delay = last_read span_of (Some default_restart_delay) ((codes "Service", codes "RestartSec") ∷ []) assigned;
   timeout_start =
-      last_read timeout_said (default_timeout_start kind) (values_of (in_service (codes "TimeoutStartSec") ∷ in_service (codes "TimeoutSec") ∷ []) assigned);
-  timeout_stop =
-      last_read timeout_said (Some default_timeout) (values_of (in_service (codes "TimeoutStopSec") ∷ in_service (codes "TimeoutSec") ∷ []) assigned);
+      last_read timeout_said (default_timeout_start kind) ((codes "Service", codes "TimeoutStartSec") ∷ (codes "Service", codes "TimeoutSec") ∷ []) assigned;
+  timeout_stop = last_read timeout_said (Some default_timeout) ((codes "Service", codes "TimeoutStopSec") ∷ (codes "Service", codes "TimeoutSec") ∷ []) assigned;
   limit_interval =
-      last_read span_said (Some default_limit_interval)
-      (values_of (in_unit (codes "StartLimitIntervalSec") ∷ in_service (codes "StartLimitInterval") ∷ []) assigned);
-  limit_burst = last_read number_of default_limit_burst (values_of (in_unit (codes "StartLimitBurst") ∷ in_service (codes "StartLimitBurst") ∷ []) assigned);
+      last_read span_of (Some default_limit_interval) ((codes "Unit", codes "StartLimitIntervalSec") ∷ (codes "Service", codes "StartLimitInterval") ∷ []) assigned;
+  limit_burst = last_read number_of default_limit_burst ((codes "Unit", codes "StartLimitBurst") ∷ (codes "Service", codes "StartLimitBurst") ∷ []) assigned;
   success = exits_in (codes "SuccessExitStatus") assigned;
   prevents_restart = exits_in (codes "RestartPreventExitStatus") assigned;
   forces_restart = exits_in (codes "RestartForceExitStatus") assigned;
@@ -279,7 +237,7 @@ service_settings_with start kind unit assigned = record {
 -- of a unit that isn't a service, the list has no assignment in [Service]: it is a target in which the limit alone may be set
 unfoldable pub service_settings_of : Option Suffix → List ℕ → List Assigned → ServiceSettings
 service_settings_of (Some Service) unit assigned =
-    let start = commands_of (codes "ExecStart") unit assigned in service_settings_with start (kind_by (type_of assigned) start) unit assigned
+    let start = all_said (commands_reading unit) (codes "ExecStart") assigned in service_settings_with start (kind_by (type_of assigned) start) unit assigned
 service_settings_of other unit assigned = service_settings_with [] Target unit assigned
 
 -- what a unit's files set: its description, what other units it names, what it says of its processes, and what enabling it makes
@@ -289,12 +247,9 @@ pub record Settings : Type 0 where
   pub service : ServiceSettings
   pub install : InstallSettings
 
-abbrev pub description_in : List ℕ → List ℕ → Option (List ℕ)
-description_in unit value = result_ok (text_reading unit value)
-
 abbrev pub settings_of : List ℕ → List Assigned → Settings
 settings_of unit assigned = record {
-  description = last_read (description_in unit) [] (values_of (in_unit (codes "Description") ∷ []) assigned);
+  description = last_read (λ value. result_ok (text_reading unit value)) [] ((codes "Unit", codes "Description") ∷ []) assigned;
   dependencies = dependencies_of unit assigned;
   service = service_settings_of (suffix_of unit) unit assigned;
   install = install_settings_of unit assigned;
@@ -302,38 +257,22 @@ settings_of unit assigned = record {
 
 -- ---- settings that are refused
 
-abbrev pub is_refused : Assigned → Bool
-is_refused a = is_refused_key a.key && not (is_empty a.value)
-
 -- `setting` and the first key that no unit may have, where it is given a value
 abbrev pub refused_setting : List Assigned → Option (List ℕ)
-refused_setting assigned = option_map (λ a. codes "setting " ++ a.key) (find is_refused assigned)
+refused_setting assigned = option_map (λ a. codes "setting " ++ a.key) (find (λ a. is_refused_key a.key && not (is_empty a.value)) assigned)
 
-abbrev pub is_unserved : TypeSaid → Bool
-is_unserved Unserved = true
-is_unserved other = false
-
--- a oneshot service has a command, or remains with a command to stop it
-abbrev pub lacks_command : ServiceSettings → Bool
-lacks_command s = is_empty s.start && not (s.remains && not (is_empty s.stop))
-
--- any other service has exactly one
-abbrev pub has_wrong_count : UnitKind → ServiceSettings → Bool
-has_wrong_count Oneshot s = lacks_command s
-has_wrong_count other s = not (length s.start == 1)
-
--- a oneshot service isn't started again after a success
-abbrev pub restarts_after_success : UnitKind → RestartPolicy → Bool
-restarts_after_success Oneshot Always = true
-restarts_after_success Oneshot OnSuccess = true
-restarts_after_success kind policy = false
+-- why a service of this kind can't be loaded: a oneshot one has a command, or remains with a command to stop it, and isn't started again after
+-- a success; any other has exactly one command
+abbrev pub refused_kind : UnitKind → ServiceSettings → Option (List ℕ)
+refused_kind Oneshot s =
+    if is_empty s.start && not (s.remains && not (is_empty s.stop)) then Some (codes "exec-count")
+    else (if list_any (λ p. bytes_eq (restart_text p) (restart_text s.restart)) (Always ∷ OnSuccess ∷ []) then Some (codes "restart") else None)
+refused_kind other s = if length s.start == 1 then None else Some (codes "exec-count")
 
 -- why a service can't be loaded, by its type, its commands and its restarts
 abbrev pub refused_service : Option Suffix → TypeSaid → ServiceSettings → Option (List ℕ)
-refused_service (Some Service) said s =
-    if is_unserved said then Some (codes "type")
-    else (if has_wrong_count s.kind s then Some (codes "exec-count")
-    else (if restarts_after_success s.kind s.restart then Some (codes "restart") else None))
+refused_service (Some Service) Unserved s = Some (codes "type")
+refused_service (Some Service) said s = refused_kind s.kind s
 refused_service other said s = None
 
 -- the first reason why a unit can't be loaded
@@ -346,48 +285,32 @@ reason_of unit assigned =
 -- the warning that a value of this kind gives
 unfoldable pub value_warning : List ℕ → ValueKind → List ℕ → Option WarningKind
 value_warning unit kind.Text value = result_err (text_reading unit value)
-value_warning unit kind.Unused value = None
-value_warning unit kind.Units value = first_warning (names_reading is_unit_name unit value)
-value_warning unit kind.Aliases value = first_warning (names_reading (is_alias_for unit) unit value)
-value_warning unit kind.Instance value = result_err (value_reading (instance_in value))
-value_warning unit kind.Truth value = result_err (value_reading (boolean_of value))
-value_warning unit kind.Span value = result_err (value_reading (span_of value))
-value_warning unit kind.Number value = result_err (value_reading (number_of value))
+value_warning unit kind.Units value = result_err (all_read (names_reading is_unit_name unit value))
+value_warning unit kind.Aliases value = result_err (all_read (names_reading (is_alias_for unit) unit value))
+value_warning unit kind.Instance value = result_err (ok_or (instance_in value) UnreadableValue)
+value_warning unit kind.Truth value = result_err (ok_or (boolean_of value) UnreadableValue)
+value_warning unit kind.Span value = result_err (ok_or (span_of value) UnreadableValue)
+value_warning unit kind.Number value = result_err (ok_or (number_of value) UnreadableValue)
 value_warning unit kind.Commands value = result_err (commands_reading unit value)
 value_warning unit kind.Environment value = result_err (environment_reading unit value)
-value_warning unit kind.Exits value = result_err (value_reading (exits_of value))
-value_warning unit kind.Policy value = result_err (value_reading (policy_named value))
-value_warning unit kind.ServiceType value = result_err (value_reading (type_said value))
-value_warning unit kind.Refused value = None
-
-abbrev pub warning_by_kind : List ℕ → Option ValueKind → List ℕ → Option WarningKind
-warning_by_kind unit None value = Some UnknownKey
-warning_by_kind unit (Some kind) value = value_warning unit kind value
+value_warning unit kind.Exits value = result_err (ok_or (exits_of value) UnreadableValue)
+value_warning unit kind.Policy value = result_err (ok_or (policy_named value) UnreadableValue)
+value_warning unit kind.ServiceType value = result_err (ok_or (type_said value) UnreadableValue)
+value_warning unit other value = None
 
 -- an assignment in a known section: an unknown key, unless it is foreign, or a value that can't be read
 abbrev pub assignment_warning : List ℕ → List ℕ → List ℕ → List ℕ → Option WarningKind
-assignment_warning unit section key value = if is_foreign key then None else warning_by_kind unit (kind_of_key section key) value
+assignment_warning unit section key value =
+    if is_foreign key then None else option_map_or (λ kind. value_warning unit kind value) (kind_of_key section key) (Some UnknownKey)
 
--- the head of a section: an unknown one, unless it is foreign
-abbrev pub head_warning : Option Suffix → List ℕ → Option WarningKind
-head_warning type name = if is_known_section type name || is_foreign name then None else Some UnknownSection
-
--- the warning that an assignment gives; the lines of a section that isn't known give none
-abbrev pub warning_of_assignment : List ℕ → Option (List ℕ) → List ℕ → List ℕ → Option WarningKind
-warning_of_assignment unit None key value = None
-warning_of_assignment unit (Some section) key value =
-    if is_known_section (suffix_of unit) section then assignment_warning unit section key value else None
-
--- a warning of the syntax stands, but for those in a section that isn't known
-abbrev pub warning_of_syntax : Option Suffix → Option (List ℕ) → WarningKind → Option WarningKind
-warning_of_syntax type None warning = Some warning
-warning_of_syntax type (Some section) warning = if is_known_section type section then Some warning else None
-
--- the warning that an item gives in a file of this unit
+-- the warning that an item gives in a file of this unit: the head of a section that isn't known, unless that is foreign; of what stands in
+-- such a section nothing gives one
 abbrev pub warning_of : List ℕ → Option (List ℕ) → Item → Option WarningKind
-warning_of unit section (Section name line) = head_warning (suffix_of unit) name
-warning_of unit section (Assignment key value line whole) = warning_of_assignment unit section key value
-warning_of unit section (Warned warning line) = warning_of_syntax (suffix_of unit) section warning
+warning_of unit section (Section name line) = if is_known_section (suffix_of unit) name || is_foreign name then None else Some UnknownSection
+warning_of unit None (Assignment k v line whole) = None
+warning_of unit (Some s) (Assignment k v line whole) = if is_known_section (suffix_of unit) s then assignment_warning unit s k v else None
+warning_of unit None (Warned warning line) = Some warning
+warning_of unit (Some s) (Warned warning line) = if is_known_section (suffix_of unit) s then Some warning else None
 
 -- a warning of a unit: its kind, the path of the file and the line
 pub record Warning : Type 0 where
@@ -395,17 +318,10 @@ pub record Warning : Type 0 where
   pub path : List ℕ
   pub line : ℕ
 
-abbrev pub warnings_at : List ℕ → ℕ → Option WarningKind → List Warning
-warnings_at path line None = []
-warnings_at path line (Some kind) = record { kind = kind; path = path; line = line } ∷ []
-
 -- the warnings of a file, by line
 abbrev pub warnings_in : List ℕ → Source → List Warning
-warnings_in unit source = flat_map (λ p. warnings_at source.path (line_number p.item) (warning_of unit p.section p.item)) source.reading
-
--- the warnings of a unit, by file in the order in which they are read
-abbrev pub warnings_of : List ℕ → List Source → List Warning
-warnings_of unit sources = flat_map (warnings_in unit) sources
+warnings_in unit s =
+    flat_map (λ p. option_map_or (λ w. record { kind = w; path = s.path; line = line_number p.item } ∷ []) (warning_of unit p.section p.item) []) s.reading
 
 -- ---- loading
 
@@ -425,23 +341,13 @@ pub data Loading : Type 0 where
 
 -- a unit by its files
 abbrev pub unit_by : List ℕ → Option (List ℕ) → List Source → LoadedUnit
-unit_by unit path sources = record {
-  name = unit;
-  path = path;
-  settings = settings_of unit (assignments_in (suffix_of unit) sources);
-  warnings = warnings_of unit sources;
-}
-
-abbrev pub found_unless : Option (List ℕ) → LoadedUnit → Loading
-found_unless None u = Found u
-found_unless (Some reason) u = BadSetting u.name reason
+unit_by unit path sources =
+    record { name = unit; path = path; settings = settings_of unit (assignments_in (suffix_of unit) sources); warnings = flat_map (warnings_in unit) sources }
 
 -- a unit with a file: found, unless a setting is refused
 abbrev pub loading_by_file : List ℕ → List ℕ → List Source → Loading
-loading_by_file unit path sources = found_unless (reason_of unit (assignments_in (suffix_of unit) sources)) (unit_by unit (Some path) sources)
-
-abbrev pub without_install : LoadedUnit → LoadedUnit
-without_install u = record u { settings = record u.settings { install = nothing_installed } }
+loading_by_file unit path sources =
+    option_map_or (BadSetting unit) (reason_of unit (assignments_in (suffix_of unit) sources)) (Found (unit_by unit (Some path) sources))
 
 -- the sources of a unit
 abbrev pub sources_at : Tree → Resolution → List Source
@@ -450,7 +356,8 @@ sources_at tree resolution = each source_of (files_at tree resolution)
 -- a unit that needs no file is found, whatever its drop-ins set; nothing in them enables it
 abbrev pub loading_at : Tree → Resolution → Loading
 loading_at tree (AtFile unit path text) = loading_by_file unit path (sources_at tree (AtFile unit path text))
-loading_at tree (AtNoFile unit) = Found (without_install (unit_by unit None (sources_at tree (AtNoFile unit))))
+loading_at tree (AtNoFile unit) =
+    let u = unit_by unit None (sources_at tree (AtNoFile unit)) in Found (record u { settings = record u.settings { install = nothing_installed } })
 loading_at tree (AtMask unit) = Masked unit
 loading_at tree Nowhere = NotFound
 

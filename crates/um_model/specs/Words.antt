@@ -1,14 +1,14 @@
 -- A text as words, with quotes and escapes.
 -- Follows systemd.syntax(7), "Quoting".
 -- Commands, substitution and the settings of units stand on this file.
-use Rattle.std.specs.Prelude.{◌≡◌, ℕ, ◌+◌, ◌*◌, ◌-◌, Bool, true, false, ◌&&◌, ◌||◌, ◌==◌, nat_lt, nat_le, if◌then◌else◌}
+use Rattle.std.specs.Prelude.{ℕ, ◌+◌, ◌*◌, ◌-◌, Bool, false, ◌&&◌, ◌||◌, ◌==◌, nat_lt, nat_le, if◌then◌else◌}
 use Rattle.std.specs.Prelude.{List, [], ◌∷◌, length, map, take, slice_index, Option, Some, None, option_map}
 use Rattle.std.specs.Char.{digit_value}
 use Rattle.std.specs.List.{list_all}
 use Rattle.std.specs.Map.{lookup}
 use Rattle.std.specs.Option.{option_map_or}
 use Rattle.um_model.specs.Ascii.{is_space}
-use Rattle.um_model.specs.Pieces.{Front, Unreadable, Ends, Gives, StandsForText, begun, reading}
+use Rattle.um_model.specs.Pieces.{Front, Unreadable, Ends, Gives, begun, reading}
 use Rattle.um_model.specs.declared.words.WordRules.{WordRules}
 use Rattle.um_model.specs.declared.words.WordRules.TheVariants.{Escaped, Plain}
 
@@ -22,32 +22,23 @@ begins_with_digits base n bs = nat_le n (length bs) && list_all (λ b. nat_lt (d
 abbrev pub meanings : List (ℕ × ℕ)
 meanings = (97, 7) ∷ (98, 8) ∷ (102, 12) ∷ (110, 10) ∷ (114, 13) ∷ (116, 9) ∷ (118, 11) ∷ (115, 32) ∷ (92, 92) ∷ (34, 34) ∷ (39, 39) ∷ []
 
-abbrev pub meaning_of : ℕ → Option ℕ
-meaning_of b = lookup (λ c. b == c) meanings
-
--- the number that the first two digits write
-abbrev pub hex_value : List ℕ → ℕ
-hex_value bs = 16 * digit_value (slice_index bs 0) + digit_value (slice_index bs 1)
-
--- \x and two digits, from 01 to 7f
-abbrev pub hex_front : ℕ → Front ℕ
-hex_front value = if nat_lt 0 value && nat_lt value 128 then Gives (value ∷ []) 4 else Unreadable
-
 -- the escapes left out: three octal digits, u and four hexadecimal ones, U and eight
 abbrev pub is_left_out : ℕ → List ℕ → Bool
 is_left_out b bs = begins_with_digits 8 3 (b ∷ bs) || ((b == 117 && begins_with_digits 16 4 bs) || (b == 85 && begins_with_digits 16 8 bs))
 
--- a backslash and a byte that has no meaning alone: whitespace stays behind its backslash, as any other byte does by itself
+-- a backslash and a byte that has no meaning alone: \x and two digits are the byte from 01 to 7f that they write, whitespace stays behind its
+-- backslash, as any other byte does by itself
 abbrev pub rare_front : ℕ → List ℕ → Front ℕ
 rare_front b bs =
-    if b == 120 && begins_with_digits 16 2 bs then hex_front (hex_value bs)
+    let value = 16 * digit_value (slice_index bs 0) + digit_value (slice_index bs 1) in
+    if b == 120 && begins_with_digits 16 2 bs then (if nat_lt 0 value && nat_lt value 128 then Gives (value ∷ []) 4 else Unreadable)
     else (if is_left_out b bs then Unreadable
     else (if is_space b then Gives (92 ∷ b ∷ []) 2 else Gives (92 ∷ []) 1))
 
 -- a backslash, by what follows it; the last byte of a text stays
 abbrev pub backslash_front : List ℕ → Front ℕ
 backslash_front [] = Gives (92 ∷ []) 1
-backslash_front (b ∷ bs) = option_map_or (λ meaning. Gives (meaning ∷ []) 2) (meaning_of b) (rare_front b bs)
+backslash_front (b ∷ bs) = option_map_or (λ meaning. Gives (meaning ∷ []) 2) (lookup (λ c. b == c) meanings) (rare_front b bs)
 
 -- the byte begins an escape: a backslash in a setting that is words, but not in a variable's value or a list of unit names
 abbrev pub begins_escape : WordRules → ℕ → Bool
@@ -64,15 +55,12 @@ is_quote b = b == 34 || b == 39
 abbrev pub quoted_front : WordRules → ℕ → ℕ → List ℕ → Front ℕ
 quoted_front rules quote b bs = if begins_escape rules b then backslash_front bs else (if b == quote then Ends else Gives (b ∷ []) 1)
 
--- a quote may stay open to the end of the text: in a variable's value
-abbrev pub may_stay_open : WordRules → Bool
-may_stay_open Plain = true
-may_stay_open other = false
-
--- a text that begins with a quote stands for what is found in it, and takes that and both quotes
+-- a text that begins with a quote stands for what is found in it, and takes that and both quotes; a quote may stay open to the end of the
+-- text in a variable's value
 abbrev pub quote_front : WordRules → List ℕ → Option (List ℕ × List ℕ) → Front ℕ
 quote_front rules text None = Unreadable
-quote_front rules text (Some (found, [])) = if may_stay_open rules then Gives found (length text) else Unreadable
+quote_front Plain text (Some (found, [])) = Gives found (length text)
+quote_front rules text (Some (found, [])) = Unreadable
 quote_front rules text (Some (found, quote ∷ left)) = Gives found (length text - length left)
 
 -- ---- words
@@ -90,23 +78,14 @@ pub record Word : Type 0 where
   pub value : List ℕ
 
 -- a word that was found at the front of a text, with what follows it: its spelling is all that stands before that
-abbrev pub word_front : List ℕ → Option (List ℕ × List ℕ) → Front Word
-word_front text None = Unreadable
-word_front text (Some (value, rest)) =
-    let taken = length text - length rest in Gives (record { spelling = take taken text; value = value } ∷ []) taken
+abbrev pub word_front : List ℕ → List ℕ × List ℕ → Front Word
+word_front text found =
+    let taken = length text - length found.1 in Gives (record { spelling = take taken text; value = found.0 } ∷ []) taken
 
 -- a piece of a text of words: whitespace, or a word
 abbrev pub piece_of_words : WordRules → ℕ → List ℕ → Front Word
-piece_of_words rules b bs = if is_space b then Gives [] 1 else word_front (b ∷ bs) (begun (piece_of_word rules) (b ∷ bs))
-
--- what words stand for
-abbrev pub word_values : List Word → List (List ℕ)
-word_values words = map (λ w. w.value) words
-
--- the text reads as these words
-abbrev pub AreWords : WordRules → List ℕ → List (List ℕ) → Type 0
-AreWords rules text words = (spelled : List Word) × StandsForText (piece_of_words rules) text spelled × (word_values spelled ≡ words)
+piece_of_words rules b bs = if is_space b then Gives [] 1 else option_map_or (word_front (b ∷ bs)) (begun (piece_of_word rules) (b ∷ bs)) Unreadable
 
 -- the words that the text reads as, where it can be read
 unfoldable pub words_of : WordRules → List ℕ → Option (List (List ℕ))
-words_of rules text = option_map word_values (reading (piece_of_words rules) text)
+words_of rules text = option_map (map (λ w. w.value)) (reading (piece_of_words rules) text)

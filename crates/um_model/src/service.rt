@@ -1,5 +1,5 @@
-ghost use Rattle.std.specs.Prelude.{◌≡◌, ◌||◌};
-ghost use Rattle.um_model.specs.Service.{has_no_process, has_no_moment, has_no_past, holds_nothing, sub_state_text, active_state_of, active_state_text, result_text, is_number};
+ghost use Rattle.std.specs.Prelude.{◌≡◌, ◌||◌, ◌&&◌, ◌==◌, not, is_none};
+ghost use Rattle.um_model.specs.Service.{holds_nothing, sub_state_text, active_state_of, active_state_text, result_text, is_number};
 
 use crate::limit::Counted;
 use crate::processes::ProcessNumber;
@@ -114,19 +114,19 @@ impl UnitState {
     }
 
     fn has_no_process(&self) -> bool
-        ensures { result ≡ has_no_process self.now }
+        ensures { result ≡ (is_none self.now.main && is_none self.now.control) }
     {
         self.main.is_none() && self.control.is_none()
     }
 
     fn has_no_moment(&self) -> bool
-        ensures { result ≡ has_no_moment self.now }
+        ensures { result ≡ (is_none self.now.deadline && is_none self.now.window) }
     {
         self.deadline.is_none() && self.window.is_none()
     }
 
     fn has_no_past(&self) -> bool
-        ensures { result ≡ has_no_past self.now }
+        ensures { result ≡ (self.now.index == 0 && not self.now.asked && is_none self.now.last) }
     {
         self.index == 0 && !self.asked && self.last.is_none()
     }

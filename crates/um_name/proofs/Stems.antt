@@ -1,7 +1,8 @@
 -- The stem of any text.
 use Rattle.std.proofs.Common.{◌≡◌, ◌==◌, ℕ, false, List, length, Option, None, ap, sym}
 use Rattle.std.specs.Option.{option_map_or}
-use Rattle.um_model.specs.Names.{suffix_of, stem_before, stem_of, after_at, instance_of, is_template}
+use Rattle.um_model.specs.Names.{suffix_of, stem_of, after_at, instance_of, is_template}
+use Rattle.um_model.proofs.Forms.{stem_before}
 
 -- a text without a suffix is all before it
 pub stem_whole : (text : List ℕ) → suffix_of text ≡ None → text ≡ stem_of text

@@ -1,6 +1,7 @@
 //! Other text in a name: any bytes as a text that can stand there, and back.
-ghost use Rattle.std.specs.Prelude.{◌≡◌, ◌+◌, ◌<◌, ◌≤◌, ◌++◌, ℕ, List, length, true, IfOk, OnOk, IfSome, MatchOption, string_bytes};
+ghost use Rattle.std.specs.Prelude.{◌≡◌, ◌+◌, ◌<◌, ◌≤◌, ◌++◌, ℕ, List, length, true, IfOk, OnOk, IfSome, MatchOption, string_bytes, ◌==◌, if◌then◌else◌};
 ghost use Rattle.std.specs.Char.{digit_char, digit_value};
+ghost use Rattle.um_model.proofs.EscapesLaws.{StandsForBytes};
 ghost use Rattle.um_model.specs.Names as names;
 ghost use Rattle.um_name.specs.Escapes.{front_of};
 
@@ -45,7 +46,7 @@ fn push_escape(text: &mut String, b: u8) -> Result<(), AllocError>
 
 /// Writes what stands for the first byte.
 fn push_first_escape(text: &mut String, b: u8) -> Result<(), AllocError>
-    ensures { OnOk result (string_bytes text.new ≡ string_bytes text.old ++ names.first_escape_of b) }
+    ensures { OnOk result (string_bytes text.new ≡ string_bytes text.old ++ (if b == 46 then names.byte_escape b else names.escape_of b)) }
 {
     if b == b'.' {
         push_byte_escape(text, b)
@@ -130,8 +131,8 @@ fn read_front(first: u8, more: &[u8]) -> Option<Piece>
 /// Names").
 pub fn unescape(alloc: Global, text: &str) -> Result<Option<Vec<u8>>, AllocError>
     ensures { IfOk result (λ r. MatchOption r
-        ((bytes : List ℕ) → ¬ (names.StandsForBytes text.now bytes))
-        (λ bytes. names.StandsForBytes text.now bytes.items)) }
+        ((bytes : List ℕ) → ¬ (StandsForBytes text.now bytes))
+        (λ bytes. StandsForBytes text.now bytes.items)) }
 {
     let mut bytes = Vec::new(alloc);
     let mut rest = text.as_bytes();

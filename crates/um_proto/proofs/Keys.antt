@@ -16,6 +16,6 @@ list_all-map p f (x ∷ xs) = ap (λ b. p (f x) && b) (list_all-map p f xs)
 
 -- the keys of a map are those of the object that it is
 pub keys_seen : (p : List ℕ → Bool) (es : List (String Global × Value))
-    → list_all (λ k. p (string_bytes k)) (keys_of es) ≡ list_all p (model.keys_of (members_view es))
+    → list_all (λ k. p (string_bytes k)) (keys_of es) ≡ list_all p (model.member_keys (members_view es))
 keys_seen p [] = refl
 keys_seen p (e ∷ es) = ap (λ b. p (string_bytes e.0) && b) (keys_seen p es)

@@ -1,11 +1,12 @@
 //! A request as it lies in its frame: what it asks for or why it asks for nothing is found without memory.
 
-ghost use Rattle.std.specs.Prelude.{◌≡◌, option_map};
+ghost use Rattle.std.specs.Prelude.{◌≡◌, None, if◌then◌else◌, option_map};
 ghost use Rattle.serde_json.specs.View.{view};
 ghost use Rattle.um_model.specs.Requests as model;
+ghost use Rattle.um_model.specs.declared.requests.Verb.TheVariants as verbs;
 ghost use Rattle.um_proto.specs.View.{asking_of, leads_to};
 
-use crate::fields::{end_at, has_its_fields, job_mode_at, moment_at, number_at, text_at};
+use crate::fields::{end_told, has_its_fields, job_mode_told, moment_told, number_told, text_told};
 use crate::verb::verb_in;
 use serde_json::Value;
 use um_model::{End, InstallVerb, JobMode, Mode, Moment, UnitVerb, Verb};
@@ -83,29 +84,26 @@ pub enum Cause<'v> {
     UnknownVerb(&'v str),
 }
 
-#[tactic(auto, unfolding(um_model::specs::Requests::put_file))]
-fn put_file<'v>(value: &'v Value) -> Option<Asking<'v>>
-    ensures { option_map asking_of result ≡ model.put_file (view value.now) }
+fn file_asked<'v>(value: &'v Value) -> Option<Asking<'v>>
+    ensures { option_map asking_of result ≡ (model.row_of verbs.PutFile).asks (view value.now) }
 {
-    let path = text_at(value, "path")?;
-    let text = text_at(value, "text")?;
+    let path = text_told(value, "path")?;
+    let text = text_told(value, "text")?;
     Some(Asking::PutFile { path, text })
 }
 
-#[tactic(auto, unfolding(um_model::specs::Requests::put_link))]
-fn put_link<'v>(value: &'v Value) -> Option<Asking<'v>>
-    ensures { option_map asking_of result ≡ model.put_link (view value.now) }
+fn link_asked<'v>(value: &'v Value) -> Option<Asking<'v>>
+    ensures { option_map asking_of result ≡ (model.row_of verbs.PutLink).asks (view value.now) }
 {
-    let path = text_at(value, "path")?;
-    let target = text_at(value, "target")?;
+    let path = text_told(value, "path")?;
+    let target = text_told(value, "target")?;
     Some(Asking::PutLink { path, target })
 }
 
-#[tactic(auto, unfolding(um_model::specs::Requests::remove))]
-fn remove<'v>(value: &'v Value) -> Option<Asking<'v>>
-    ensures { option_map asking_of result ≡ model.remove (view value.now) }
+fn removal_asked<'v>(value: &'v Value) -> Option<Asking<'v>>
+    ensures { option_map asking_of result ≡ (model.row_of verbs.Remove).asks (view value.now) }
 {
-    let path = text_at(value, "path")?;
+    let path = text_told(value, "path")?;
     Some(Asking::Remove { path })
 }
 
@@ -114,8 +112,8 @@ fn remove<'v>(value: &'v Value) -> Option<Asking<'v>>
 fn for_unit<'v>(verb: UnitVerb, value: &'v Value) -> Option<Asking<'v>>
     ensures { option_map asking_of result ≡ model.for_unit verb (view value.now) }
 {
-    let mode = job_mode_at(value)?;
-    let unit = text_at(value, "unit")?;
+    let mode = job_mode_told(value)?;
+    let unit = text_told(value, "unit")?;
     Some(Asking::ForUnit { verb, unit, mode })
 }
 
@@ -124,36 +122,36 @@ fn for_unit<'v>(verb: UnitVerb, value: &'v Value) -> Option<Asking<'v>>
 fn install<'v>(verb: InstallVerb, value: &'v Value) -> Option<Asking<'v>>
     ensures { option_map asking_of result ≡ model.install verb (view value.now) }
 {
-    let unit = text_at(value, "unit")?;
+    let unit = text_told(value, "unit")?;
     Some(Asking::Install { verb, unit })
 }
 
-#[tactic(auto, unfolding(um_model::specs::Requests::process_ended))]
-fn process_ended<'v>(value: &'v Value) -> Option<Asking<'v>>
-    ensures { option_map asking_of result ≡ model.process_ended (view value.now) }
+#[tactic(auto, unfolding(um_model::specs::Requests::of_process))]
+fn end_asked<'v>(value: &'v Value) -> Option<Asking<'v>>
+    ensures { option_map asking_of result ≡ (model.row_of verbs.End).asks (view value.now) }
 {
-    let number = number_at(value, "number", u64::MAX)?;
-    let end = end_at(value)?;
+    let number = number_told(value, "number", u64::MAX)?;
+    let end = end_told(value)?;
     Some(Asking::ProcessEnded { number, end })
 }
 
-#[tactic(auto, unfolding(um_model::specs::Requests::process_executed))]
-fn process_executed<'v>(value: &'v Value) -> Option<Asking<'v>>
-    ensures { option_map asking_of result ≡ model.process_executed (view value.now) }
+#[tactic(auto, unfolding(um_model::specs::Requests::of_process))]
+fn run_asked<'v>(value: &'v Value) -> Option<Asking<'v>>
+    ensures { option_map asking_of result ≡ (model.row_of verbs.Executed).asks (view value.now) }
 {
-    let number = number_at(value, "number", u64::MAX)?;
+    let number = number_told(value, "number", u64::MAX)?;
     Some(Asking::ProcessExecuted { number })
 }
 
 /// That failures are forgotten: of all units where none is told.
-#[tactic(auto, unfolding(um_model::specs::Requests::reset_failed, um_model::specs::Requests::of_unit))]
-fn reset_failed<'v>(value: &'v Value) -> Option<Asking<'v>>
-    ensures { option_map asking_of result ≡ model.reset_failed (view value.now) }
+#[tactic(auto, unfolding(um_model::specs::Requests::of_unit))]
+fn reset_asked<'v>(value: &'v Value) -> Option<Asking<'v>>
+    ensures { option_map asking_of result ≡ (model.row_of verbs.ResetFailed).asks (view value.now) }
 {
     if value.get("unit").is_none() {
         return Some(Asking::ResetFailed { unit: None });
     }
-    let unit = text_at(value, "unit")?;
+    let unit = text_told(value, "unit")?;
     Some(Asking::ResetFailed { unit: Some(unit) })
 }
 
@@ -163,55 +161,55 @@ fn asking_with<'v>(verb: Verb, value: &'v Value) -> Option<Asking<'v>>
     ensures { option_map asking_of result ≡ (model.row_of verb).asks (view value.now) }
 {
     match verb {
-        Verb::PutFile => put_file(value),
-        Verb::PutLink => put_link(value),
-        Verb::Remove => remove(value),
+        Verb::PutFile => file_asked(value),
+        Verb::PutLink => link_asked(value),
+        Verb::Remove => removal_asked(value),
         Verb::DaemonReload => Some(Asking::DaemonReload),
         Verb::Start => for_unit(UnitVerb::Start, value),
         Verb::Stop => for_unit(UnitVerb::Stop, value),
         Verb::Restart => for_unit(UnitVerb::Restart, value),
         Verb::TryRestart => for_unit(UnitVerb::TryRestart, value),
         Verb::Cancel => {
-            let unit = text_at(value, "unit")?;
+            let unit = text_told(value, "unit")?;
             Some(Asking::Cancel { unit })
         }
-        Verb::ResetFailed => reset_failed(value),
+        Verb::ResetFailed => reset_asked(value),
         Verb::Enable => install(InstallVerb::Enable, value),
         Verb::Disable => install(InstallVerb::Disable, value),
         Verb::Mask => install(InstallVerb::Mask, value),
         Verb::Unmask => install(InstallVerb::Unmask, value),
         Verb::Show => {
-            let unit = text_at(value, "unit")?;
+            let unit = text_told(value, "unit")?;
             Some(Asking::Show { unit })
         }
         Verb::IsActive => {
-            let unit = text_at(value, "unit")?;
+            let unit = text_told(value, "unit")?;
             Some(Asking::IsActive { unit })
         }
         Verb::IsFailed => {
-            let unit = text_at(value, "unit")?;
+            let unit = text_told(value, "unit")?;
             Some(Asking::IsFailed { unit })
         }
         Verb::IsEnabled => {
-            let unit = text_at(value, "unit")?;
+            let unit = text_told(value, "unit")?;
             Some(Asking::IsEnabled { unit })
         }
         Verb::Cat => {
-            let unit = text_at(value, "unit")?;
+            let unit = text_told(value, "unit")?;
             Some(Asking::Cat { unit })
         }
         Verb::ListUnits => Some(Asking::ListUnits),
         Verb::ListJobs => Some(Asking::ListJobs),
         Verb::Tick => Some(Asking::Tick),
-        Verb::End => process_ended(value),
-        Verb::Executed => process_executed(value),
+        Verb::End => end_asked(value),
+        Verb::Executed => run_asked(value),
         Verb::Actions => Some(Asking::Actions),
     }
 }
 
 /// What a verb asks for with exactly its fields.
 fn asking_by<'v>(mode: Mode, verb: Verb, value: &'v Value) -> Option<Asking<'v>>
-    ensures { option_map asking_of result ≡ model.asking_by mode (model.row_of verb) (view value.now) }
+    ensures { option_map asking_of result ≡ (if model.has_its_fields mode (model.row_of verb) (view value.now) then (model.row_of verb).asks (view value.now) else None) }
 {
     if !has_its_fields(mode, verb, value) {
         return None;
@@ -224,13 +222,13 @@ fn asking_by<'v>(mode: Mode, verb: Verb, value: &'v Value) -> Option<Asking<'v>>
 pub fn draft_of<'v>(mode: Mode, value: &'v Value) -> Result<Draft<'v>, Cause<'v>>
     ensures { leads_to result ≡ model.request_of_data mode (view value.now) }
 {
-    let Some(text) = text_at(value, "verb") else {
+    let Some(text) = text_told(value, "verb") else {
         return Err(Cause::BadRequest);
     };
     let Some(verb) = verb_in(mode, text) else {
         return Err(Cause::UnknownVerb(text));
     };
-    let Some(at) = moment_at(value, mode) else {
+    let Some(at) = moment_told(value, mode) else {
         return Err(Cause::BadRequest);
     };
     let Some(asking) = asking_by(mode, verb, value) else {

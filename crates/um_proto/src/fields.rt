@@ -1,4 +1,4 @@
-ghost use Rattle.std.specs.Prelude.{◌≡◌, ◌≤◌, IfSome, is_some, map, option_map};
+ghost use Rattle.std.specs.Prelude.{◌≡◌, ◌≤◌, IfSome, is_some, map, option_and_then, option_map};
 ghost use Rattle.std.specs.List.{list_all};
 ghost use Rattle.serde_json.specs.Find.{get};
 ghost use Rattle.serde_json.specs.View.{view};
@@ -9,9 +9,9 @@ use serde_json::Value;
 use um_model::{End, JobMode, Mode, Moment, Verb};
 
 /// The text of a field: none where it is missing, no text, or has U+0000.
-#[tactic(auto, unfolding(um_model::specs::Requests::text_at))]
-pub fn text_at<'v>(value: &'v Value, name: &str) -> Option<&'v str>
-    ensures { option_map (λ s. s.now) result ≡ model.text_at name.now (view value.now) }
+#[tactic(auto, unfolding(um_model::specs::Requests::text_told))]
+pub fn text_told<'v>(value: &'v Value, name: &str) -> Option<&'v str>
+    ensures { option_map (λ s. s.now) result ≡ model.text_told name.now (view value.now) }
 {
     let text = value.get(name)?.as_str()?;
     if text.as_bytes().contains(&0) {
@@ -33,18 +33,17 @@ fn number_in(value: &Value, limit: u64) -> Option<u64>
 }
 
 /// The whole number of a field, of at most this size.
-#[tactic(auto, unfolding(um_model::specs::Requests::number_at))]
-pub fn number_at(value: &Value, name: &str, limit: u64) -> Option<u64>
-    ensures { result ≡ model.number_at name.now limit (view value.now) }
+pub fn number_told(value: &Value, name: &str, limit: u64) -> Option<u64>
+    ensures { result ≡ option_and_then (model.number_in limit) (get name.now (view value.now)) }
 {
     let field = value.get(name)?;
     number_in(field, limit)
 }
 
 /// The moment that a request tells, if any; over a socket it tells none. None where what it tells is no moment.
-#[tactic(auto, unfolding(um_model::specs::Requests::moment_at))]
-pub fn moment_at(value: &Value, mode: Mode) -> Option<Option<Moment>>
-    ensures { result ≡ model.moment_at mode (view value.now) }
+#[tactic(auto, unfolding(um_model::specs::Requests::moment_told))]
+pub fn moment_told(value: &Value, mode: Mode) -> Option<Option<Moment>>
+    ensures { result ≡ model.moment_told mode (view value.now) }
 {
     if let Mode::Service = mode {
         return Some(None);
@@ -57,9 +56,9 @@ pub fn moment_at(value: &Value, mode: Mode) -> Option<Option<Moment>>
 }
 
 /// How a process ended: exactly one field tells it.
-#[tactic(auto, unfolding(um_model::specs::Requests::end_at))]
-pub fn end_at(value: &Value) -> Option<End>
-    ensures { result ≡ model.end_at (view value.now) }
+#[tactic(auto, unfolding(um_model::specs::Requests::end_told))]
+pub fn end_told(value: &Value) -> Option<End>
+    ensures { result ≡ model.end_told (view value.now) }
 {
     match (value.get("code"), value.get("signal"), value.get("lost")) {
         (Some(code), None, None) => {
@@ -83,9 +82,9 @@ pub fn end_at(value: &Value) -> Option<End>
 
 /// What becomes of pending jobs in a command's way; they are dropped where nothing is told. None where what is told is no such
 /// word.
-#[tactic(auto, unfolding(um_model::specs::Requests::job_mode_at))]
-pub fn job_mode_at(value: &Value) -> Option<JobMode>
-    ensures { result ≡ model.job_mode_at (view value.now) }
+#[tactic(auto, unfolding(um_model::specs::Requests::job_mode_told))]
+pub fn job_mode_told(value: &Value) -> Option<JobMode>
+    ensures { result ≡ model.job_mode_told (view value.now) }
 {
     let Some(field) = value.get("mode") else {
         return Some(JobMode::Replace);

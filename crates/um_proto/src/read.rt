@@ -28,8 +28,8 @@ fn completed(alloc: Global, text: &str) -> Result<String, AllocError>
 }
 
 /// The unit that a text asks for; what isn't a name is refused as it was asked.
-fn unit_named(alloc: Global, text: &str) -> Result<UnitName, Refusal>
-    ensures { Gives (λ n. n) result (model.unit_named text.now) }
+fn name_asked(alloc: Global, text: &str) -> Result<UnitName, Refusal>
+    ensures { Gives (λ n. n) result (model.name_asked text.now) }
 {
     let name = completed(alloc, text)?;
     if !is_unit_name(name.as_str()) {
@@ -53,7 +53,7 @@ fn happened(happening: Happening) -> Asked
 
 /// What is asked for, with its texts copied and its unit named.
 fn asked_by(alloc: Global, asking: Asking) -> Result<Asked, Refusal>
-    ensures { Gives asked_of result (model.named (asking_of asking.entry)) }
+    ensures { Gives asked_of result (asking_of asking.entry) }
 {
     match asking {
         Asking::PutFile { path, text } => {
@@ -72,40 +72,40 @@ fn asked_by(alloc: Global, asking: Asking) -> Result<Asked, Refusal>
         }
         Asking::DaemonReload => Ok(commanded(Command::DaemonReload)),
         Asking::ForUnit { verb, unit, mode } => {
-            let unit = unit_named(alloc, unit)?;
+            let unit = name_asked(alloc, unit)?;
             Ok(commanded(Command::ForUnit { verb, unit, mode }))
         }
         Asking::Cancel { unit } => {
-            let unit = unit_named(alloc, unit)?;
+            let unit = name_asked(alloc, unit)?;
             Ok(commanded(Command::Cancel { unit }))
         }
         Asking::ResetFailed { unit: None } => Ok(commanded(Command::ResetFailed { unit: None })),
         Asking::ResetFailed { unit: Some(unit) } => {
-            let unit = Some(unit_named(alloc, unit)?);
+            let unit = Some(name_asked(alloc, unit)?);
             Ok(commanded(Command::ResetFailed { unit }))
         }
         Asking::Install { verb, unit } => {
-            let unit = unit_named(alloc, unit)?;
+            let unit = name_asked(alloc, unit)?;
             Ok(commanded(Command::Install { verb, unit }))
         }
         Asking::Show { unit } => {
-            let unit = unit_named(alloc, unit)?;
+            let unit = name_asked(alloc, unit)?;
             Ok(Asked::Query(Query::Show { unit }))
         }
         Asking::IsActive { unit } => {
-            let unit = unit_named(alloc, unit)?;
+            let unit = name_asked(alloc, unit)?;
             Ok(Asked::Query(Query::IsActive { unit }))
         }
         Asking::IsFailed { unit } => {
-            let unit = unit_named(alloc, unit)?;
+            let unit = name_asked(alloc, unit)?;
             Ok(Asked::Query(Query::IsFailed { unit }))
         }
         Asking::Cat { unit } => {
-            let unit = unit_named(alloc, unit)?;
+            let unit = name_asked(alloc, unit)?;
             Ok(Asked::Query(Query::Cat { unit }))
         }
         Asking::IsEnabled { unit } => {
-            let unit = unit_named(alloc, unit)?;
+            let unit = name_asked(alloc, unit)?;
             Ok(Asked::Query(Query::IsEnabled { unit }))
         }
         Asking::ListUnits => Ok(Asked::Query(Query::ListUnits)),

@@ -2,6 +2,7 @@ ghost use Rattle.std.specs.Prelude.{◌≡◌, [], map, string_bytes, IfOk, leng
 ghost use Rattle.serde_json.specs.Data.{array};
 ghost use Rattle.serde_json.specs.View.{view, items_of};
 ghost use Rattle.um_model.specs.Replies as model;
+ghost use Rattle.um_proto.specs.Written as written;
 ghost use Rattle.um_resolve.specs.View.{file_of};
 ghost use Rattle.um_state.specs.View.{action_of, job_of, listed_of, shown_of, reply_of};
 ghost use Rattle.um_unit.specs.View.{warning_of};
@@ -155,13 +156,13 @@ fn actions_value(alloc: Global, actions: &[Action]) -> Result<Value, AllocError>
 
 /// A file: its path and its text.
 fn file_value(alloc: Global, file: &UnitFile) -> Result<Value, AllocError>
-    ensures { IfOk result (λ v. view v ≡ model.file_data (file_of file.now)) }
+    ensures { IfOk result (λ v. view v ≡ written.file_data (file_of file.now)) }
 {
     json!(in alloc; [&file.path, &file.text])
 }
 
 fn files_value(alloc: Global, files: &[UnitFile]) -> Result<Value, AllocError>
-    ensures { IfOk result (λ v. view v ≡ array (items_of (map model.file_data (map file_of files.now)))) }
+    ensures { IfOk result (λ v. view v ≡ array (items_of (map written.file_data (map file_of files.now)))) }
 {
     let mut list = Vec::new(alloc);
     for file in files {
@@ -172,7 +173,7 @@ fn files_value(alloc: Global, files: &[UnitFile]) -> Result<Value, AllocError>
 
 /// The paths that were made and removed.
 fn relinked_value(alloc: Global, made: &[String], removed: &[String]) -> Result<Value, AllocError>
-    ensures { IfOk result (λ v. view v ≡ model.relinked_data (map string_bytes made.now) (map string_bytes removed.now)) }
+    ensures { IfOk result (λ v. view v ≡ written.relinked_data (map string_bytes made.now) (map string_bytes removed.now)) }
 {
     let made = texts_value(alloc, made)?;
     let removed = texts_value(alloc, removed)?;
@@ -181,13 +182,13 @@ fn relinked_value(alloc: Global, made: &[String], removed: &[String]) -> Result<
 
 /// A known unit: its name, its active state and its sub state.
 fn unit_value(alloc: Global, unit: &UnitListed) -> Result<Value, AllocError>
-    ensures { IfOk result (λ v. view v ≡ model.unit_data (listed_of unit.now)) }
+    ensures { IfOk result (λ v. view v ≡ written.unit_data (listed_of unit.now)) }
 {
     json!(in alloc; [unit.unit.as_str(), unit.sub.active_state().text(), unit.sub.text()])
 }
 
 fn units_value(alloc: Global, units: &[UnitListed]) -> Result<Value, AllocError>
-    ensures { IfOk result (λ v. view v ≡ array (items_of (map model.unit_data (map listed_of units.now)))) }
+    ensures { IfOk result (λ v. view v ≡ array (items_of (map written.unit_data (map listed_of units.now)))) }
 {
     let mut list = Vec::new(alloc);
     for unit in units {
@@ -198,13 +199,13 @@ fn units_value(alloc: Global, units: &[UnitListed]) -> Result<Value, AllocError>
 
 /// A pending job: its unit, what it does, and how far it is.
 fn job_value(alloc: Global, job: &JobShown) -> Result<Value, AllocError>
-    ensures { IfOk result (λ v. view v ≡ model.job_data (job_of job.now)) }
+    ensures { IfOk result (λ v. view v ≡ written.job_data (job_of job.now)) }
 {
     json!(in alloc; [job.unit.as_str(), job.kind.text(), job.state.text()])
 }
 
 fn jobs_value(alloc: Global, jobs: &[JobShown]) -> Result<Value, AllocError>
-    ensures { IfOk result (λ v. view v ≡ array (items_of (map model.job_data (map job_of jobs.now)))) }
+    ensures { IfOk result (λ v. view v ≡ array (items_of (map written.job_data (map job_of jobs.now)))) }
 {
     let mut list = Vec::new(alloc);
     for job in jobs {

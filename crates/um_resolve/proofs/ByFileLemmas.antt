@@ -14,9 +14,9 @@ use Rattle.std.specs.List.{flat_map}
 use Rattle.std.proofs.lemmas.Grind.{flat_map-append}
 use Rattle.std.proofs.Common.{append-nil}
 use Rattle.std.specs.Option.{option_or}
-use Rattle.um_model.specs.Resolution.{DropIn, by_file, drop_ins_by_file}
+use Rattle.um_model.specs.Resolution.{UnitFile}
 use Rattle.um_tree.proofs.TextMaps.{get-map_of, entries-map_of, map_of_inserted}
-use Rattle.um_resolve.specs.View.{ByFile, added, by_file_of, drop_in_of, drop_ins_seen, file_and_drop_in, first_kept}
+use Rattle.um_resolve.specs.View.{ByFile, added, by_file_of, drop_in_of, drop_ins_seen, file_and_drop_in, first_kept, text_of}
 use Rattle.um_resolve.specs.declared.drop_ins.DropIn as code
 
 is_some-map : {A B : Type 0} (f : A → B) (o : Option A) → is_some (option_map f o) ≡ is_some o
@@ -25,24 +25,24 @@ is_some-map f (Some x) = refl
 
 -- whether there is one of that file
 pub contains_file : (m : BTreeMap (String Global) code.DropIn) (file : List ℕ) → is_some (tree.get_by_text m file) ≡ map.contains_key (by_file_of m.entries) file
-contains_file m file = sym (is_some-map drop_in_of (tree.get_by_text m file)) ∙ sym (ap is_some (get-map_of drop_in_of m file))
+contains_file m file = sym (is_some-map text_of (tree.get_by_text m file)) ∙ sym (ap is_some (get-map_of text_of m file))
 
-kept_by : (b : Bool) (m : ByFile) (d : DropIn) → map.contains_key m d.file ≡ b → first_kept m d ≡ cond b m (map.insert m d.file d)
-kept_by b m d e = ap (λ t. cond t m (map.insert m d.file d)) e
+kept_by : (b : Bool) (m : ByFile) (d : List ℕ × UnitFile) → map.contains_key m d.0 ≡ b → first_kept m d ≡ cond b m (map.insert m d.0 d.1)
+kept_by b m d e = ap (λ t. cond t m (map.insert m d.0 d.1)) e
 
 -- where there is one, or none
-pub kept_old : (m : ByFile) (d : DropIn) → map.contains_key m d.file ≡ true → m ≡ first_kept m d
+pub kept_old : (m : ByFile) (d : List ℕ × UnitFile) → map.contains_key m d.0 ≡ true → m ≡ first_kept m d
 kept_old m d e = sym (kept_by true m d e)
 
-pub kept_new : (m : ByFile) (d : DropIn) → map.contains_key m d.file ≡ false → map.insert m d.file d ≡ first_kept m d
+pub kept_new : (m : ByFile) (d : List ℕ × UnitFile) → map.contains_key m d.0 ≡ false → map.insert m d.0 d.1 ≡ first_kept m d
 kept_new m d e = sym (kept_by false m d e)
 
 -- those of two lists
-pub added-append : (m : ByFile) (ds es : List DropIn) → added m (ds ++ es) ≡ added (added m ds) es
+pub added-append : (m : ByFile) (ds es : List (List ℕ × UnitFile)) → added m (ds ++ es) ≡ added (added m ds) es
 added-append m [] es = refl
 added-append m (d ∷ ds) es = added-append (first_kept m d) ds es
 
-chosen : (b : Bool) (here there : Option DropIn) (d : DropIn) → (b ≡ true → here ≡ there) → cond (is_some there) here (cond b (Some d) here) ≡ option_or here (cond b (Some d) None)
+chosen : (b : Bool) (here there : Option UnitFile) (d : UnitFile) → (b ≡ true → here ≡ there) → cond (is_some there) here (cond b (Some d) here) ≡ option_or here (cond b (Some d) None)
 chosen true here None d e = rw (e refl) refl
 chosen true here (Some x) d e = rw (e refl) refl
 chosen false None None d e = refl
@@ -57,63 +57,63 @@ get-cond false m n q = refl
 same_place : (m : ByFile) (q file : List ℕ) → eq_by_cmp (slice_cmp nat_cmp) q file ≡ true → map.get m q ≡ map.get m file
 same_place m q file e = ap (map.get m) (tells_apart exact_bytes q file e)
 
-get-first_kept : (m : ByFile) (d : DropIn) (q : List ℕ) → map.get (first_kept m d) q ≡ option_or (map.get m q) (cond (eq_by_cmp (slice_cmp nat_cmp) q d.file) (Some d) None)
+get-first_kept : (m : ByFile) (d : List ℕ × UnitFile) (q : List ℕ) → map.get (first_kept m d) q ≡ option_or (map.get m q) (cond (eq_by_cmp (slice_cmp nat_cmp) q d.0) (Some d.1) None)
 get-first_kept m d q =
-    get-cond (map.contains_key m d.file) m (map.insert m d.file d) q
-    ∙ ap (cond (map.contains_key m d.file) (map.get m q)) (map.get-insert nat_list_cmp_total m d.file d q)
-    ∙ chosen (eq_by_cmp (slice_cmp nat_cmp) q d.file) (map.get m q) (map.get m d.file) d (same_place m q d.file)
+    get-cond (map.contains_key m d.0) m (map.insert m d.0 d.1) q
+    ∙ ap (cond (map.contains_key m d.0) (map.get m q)) (map.get-insert nat_list_cmp_total m d.0 d.1 q)
+    ∙ chosen (eq_by_cmp (slice_cmp nat_cmp) q d.0) (map.get m q) (map.get m d.0) d.1 (same_place m q d.0)
 
-or_else-assoc : (b : Bool) (o rest : Option DropIn) (d : DropIn) → option_or (option_or o (cond b (Some d) None)) rest ≡ option_or o (cond b (Some d) rest)
+or_else-assoc : (b : Bool) (o rest : Option UnitFile) (d : UnitFile) → option_or (option_or o (cond b (Some d) None)) rest ≡ option_or o (cond b (Some d) rest)
 or_else-assoc b (Some x) rest d = refl
 or_else-assoc true None rest d = refl
 or_else-assoc false None rest d = refl
 
-or_else-none : (o : Option DropIn) → o ≡ option_or o None
+or_else-none : (o : Option UnitFile) → o ≡ option_or o None
 or_else-none None = refl
 or_else-none (Some x) = refl
 
-get-added : (m : ByFile) (ds : List DropIn) (q : List ℕ) → map.get (added m ds) q ≡ option_or (map.get m q) (map.find (slice_cmp nat_cmp) q (each by_file ds))
+get-added : (m : ByFile) (ds : List (List ℕ × UnitFile)) (q : List ℕ) → map.get (added m ds) q ≡ option_or (map.get m q) (map.find (slice_cmp nat_cmp) q ds)
 get-added m [] q = or_else-none (map.get m q)
 get-added m (d ∷ ds) q =
     get-added (first_kept m d) ds q
-    ∙ ap (λ o. option_or o (map.find (slice_cmp nat_cmp) q (each by_file ds))) (get-first_kept m d q)
-    ∙ or_else-assoc (eq_by_cmp (slice_cmp nat_cmp) q d.file) (map.get m q) (map.find (slice_cmp nat_cmp) q (each by_file ds)) d
+    ∙ ap (λ o. option_or o (map.find (slice_cmp nat_cmp) q ds)) (get-first_kept m d q)
+    ∙ or_else-assoc (eq_by_cmp (slice_cmp nat_cmp) q d.0) (map.get m q) (map.find (slice_cmp nat_cmp) q ds) d.1
 
 -- all of them, added to nothing
-pub added_all : (ds : List DropIn) → added map.empty ds ≡ drop_ins_by_file ds
+pub added_all : (ds : List (List ℕ × UnitFile)) → added map.empty ds ≡ map.from_entries ds
 added_all ds =
     map.same_map nat_list_cmp_total (slice_cmp-IsAntisymmetric nat_cmp-IsAntisymmetric) _ _
     (λ q. get-added map.empty ds q
-    ∙ ap (λ o. option_or o (map.find (slice_cmp nat_cmp) q (each by_file ds))) (map.get-empty (slice_cmp nat_cmp) q)
-    ∙ sym (map.get-from_entries nat_list_cmp_total (each by_file ds) q))
+    ∙ ap (λ o. option_or o (map.find (slice_cmp nat_cmp) q ds)) (map.get-empty (slice_cmp nat_cmp) q)
+    ∙ sym (map.get-from_entries nat_list_cmp_total ds q))
 
-values-each : (es : List (String Global × code.DropIn)) → each drop_in_of (values_of es) ≡ each (λ e. e.1) (each file_and_drop_in es)
+values-each : (es : List (String Global × code.DropIn)) → each text_of (values_of es) ≡ each (λ e. e.1) (each file_and_drop_in es)
 values-each [] = refl
-values-each (e ∷ es) = ap (λ ds. drop_in_of e.1 ∷ ds) (values-each es)
+values-each (e ∷ es) = ap (λ ds. text_of e.1 ∷ ds) (values-each es)
 
 -- after one is put in
 pub inserted : (m n : BTreeMap (String Global) code.DropIn) (key file : List ℕ) (d : code.DropIn) → key ≡ file → tree.UpdatesBy string_cmp (λ k. slice_cmp nat_cmp key (string_bytes k)) m n (Some d)
-    → by_file_of n.entries ≡ map.insert (by_file_of m.entries) file (drop_in_of d)
-inserted m n key file d e u = map_of_inserted drop_in_of key m n d u ∙ ap (λ k. map.insert (by_file_of m.entries) k (drop_in_of d)) e
+    → by_file_of n.entries ≡ map.insert (by_file_of m.entries) file (text_of d)
+inserted m n key file d e u = map_of_inserted text_of key m n d u ∙ ap (λ k. map.insert (by_file_of m.entries) k (text_of d)) e
 
 -- those that an entry is, and what is behind
-pub added-entry : (m n : ByFile) (o : Option code.DropIn) (d : code.DropIn) (ds : List DropIn) → o ≡ Some d → n ≡ first_kept m (drop_in_of d) → added n ds ≡ added m (drop_ins_seen o ++ ds)
+pub added-entry : (m n : ByFile) (o : Option code.DropIn) (d : code.DropIn) (ds : List (List ℕ × UnitFile)) → o ≡ Some d → n ≡ first_kept m (drop_in_of d) → added n ds ≡ added m (drop_ins_seen o ++ ds)
 added-entry m n o d ds e f = rw (e, f) refl
 
 -- the values in the order of the files
-pub values_by_file : (m : BTreeMap (String Global) code.DropIn) → tree.IsOrdered string_cmp m → each drop_in_of (tree.values m) ≡ map.values (by_file_of m.entries)
-values_by_file m ordered = values-each m.entries ∙ ap (each (λ e. e.1)) (sym (entries-map_of drop_in_of m ordered))
+pub values_by_file : (m : BTreeMap (String Global) code.DropIn) → tree.IsOrdered string_cmp m → each text_of (tree.values m) ≡ map.values (by_file_of m.entries)
+values_by_file m ordered = values-each m.entries ∙ ap (each (λ e. e.1)) (sym (entries-map_of text_of m ordered))
 
 -- those of three folders
-pub added_three : (m n o : ByFile) (ds es fs : List DropIn) → n ≡ added m ds → o ≡ added n es → added o fs ≡ added m (ds ++ (es ++ (fs ++ [])))
+pub added_three : (m n o : ByFile) (ds es fs : List (List ℕ × UnitFile)) → n ≡ added m ds → o ≡ added n es → added o fs ≡ added m (ds ++ (es ++ (fs ++ [])))
 added_three m n o ds es fs first second =
     ap (λ x. added x fs) (second ∙ ap (λ x. added x es) first)
     ∙ ap (added (added (added m ds) es)) (sym (append-nil fs))
     ∙ sym (added-append m ds (es ++ (fs ++ [])) ∙ added-append (added m ds) es (fs ++ []))
 
 -- those of some folders and of others, added to nothing
-pub added_both : (f : List ℕ → List DropIn) (folders others : List (List ℕ)) (m n o : ByFile) → m ≡ map.empty → n ≡ added m (flat_map f folders) → o ≡ added n (flat_map f others)
-    → o ≡ drop_ins_by_file (flat_map f (folders ++ others))
+pub added_both : (f : List ℕ → List (List ℕ × UnitFile)) (folders others : List (List ℕ)) (m n o : ByFile) → m ≡ map.empty → n ≡ added m (flat_map f folders) → o ≡ added n (flat_map f others)
+    → o ≡ map.from_entries (flat_map f (folders ++ others))
 added_both f folders others m n o none first second =
     second
     ∙ ap (λ x. added x (flat_map f others)) (first ∙ ap (λ x. added x (flat_map f folders)) none)

@@ -1,2 +1,3 @@
 pub mod ResolutionLemmas
 pub mod ByFileLemmas
+pub mod LeadsLaws

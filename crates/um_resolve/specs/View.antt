@@ -34,29 +34,32 @@ abbrev pub after_step : Step → (List ℕ → model.Resolution) → model.Resol
 after_step (step.Ends end) follow = resolution_of end
 after_step (step.LeadsOn other) follow = follow other
 
-abbrev pub drop_in_of : DropIn → model.DropIn
-drop_in_of d = record { file = d.file.now; path = d.path.now; text = d.text.now }
+abbrev pub text_of : DropIn → model.UnitFile
+text_of d = record { path = d.path.now; text = d.text.now }
 
-abbrev pub drop_ins_seen : Option DropIn → List model.DropIn
+abbrev pub drop_in_of : DropIn → List ℕ × model.UnitFile
+drop_in_of d = (d.file.now, text_of d)
+
+abbrev pub drop_ins_seen : Option DropIn → List (List ℕ × model.UnitFile)
 drop_ins_seen None = []
 drop_ins_seen (Some d) = drop_in_of d ∷ []
 
 -- drop-ins by the names of their files
 abbrev pub ByFile : Type 0
-ByFile = map.FinMap (slice_cmp nat_cmp) model.DropIn
+ByFile = map.FinMap (slice_cmp nat_cmp) model.UnitFile
 
-abbrev pub file_and_drop_in : String Global × DropIn → List ℕ × model.DropIn
-file_and_drop_in e = (string_bytes e.0, drop_in_of e.1)
+abbrev pub file_and_drop_in : String Global × DropIn → List ℕ × model.UnitFile
+file_and_drop_in e = (string_bytes e.0, text_of e.1)
 
 abbrev pub by_file_of : List (String Global × DropIn) → ByFile
 by_file_of es = map.from_entries (each file_and_drop_in es)
 
 -- with a drop-in, unless there is one of that file already
-abbrev pub first_kept : ByFile → model.DropIn → ByFile
-first_kept found d = if map.contains_key found d.file then found else map.insert found d.file d
+abbrev pub first_kept : ByFile → List ℕ × model.UnitFile → ByFile
+first_kept found d = if map.contains_key found d.0 then found else map.insert found d.0 d.1
 
 -- with these drop-ins, one after another
-abbrev pub added : ByFile → List model.DropIn → ByFile
+abbrev pub added : ByFile → List (List ℕ × model.UnitFile) → ByFile
 added found [] = found
 added found (d ∷ ds) = added (first_kept found d) ds
 

@@ -1,12 +1,13 @@
-ghost use Rattle.std.specs.Prelude.{◌≡◌, IfOk, OnOk, [], map as each, option_copied, option_map, string_bytes};
+ghost use Rattle.std.specs.Prelude.{◌≡◌, ◌++◌, IfOk, OnOk, [], codes, map as each, option_copied, option_map, string_bytes};
 ghost use Rattle.std.specs.FinMap as map;
 ghost use Rattle.std.specs.List.{flat_map};
 ghost use Rattle.std.specs.Option.{option_map_or};
 ghost use Rattle.um_model.specs.Resolution as model;
-ghost use Rattle.um_model.specs.Tree.{behind};
+ghost use Rattle.um_model.specs.Tree.{behind, layer_text};
 ghost use Rattle.um_tree.specs.View.{entry_of};
-ghost use Rattle.um_resolve.specs.View.{added, by_file_of, drop_in_of, drop_ins_seen, first_kept};
+ghost use Rattle.um_resolve.specs.View.{added, by_file_of, drop_in_of, drop_ins_seen, first_kept, unit_file_of};
 
+use crate::files::SourceFile;
 use std::alloc::{AllocError, Global};
 use std::collections::BTreeMap;
 use um_model::Layer;
@@ -26,7 +27,7 @@ type ByFile<'t> = BTreeMap<String, DropIn<'t>>;
 
 /// A layer's folder of drop-ins of a unit.
 fn drop_in_folder(alloc: Global, unit: &str, layer: Layer) -> Result<String, AllocError>
-    ensures { IfOk result (λ folder. string_bytes folder ≡ model.drop_in_folder unit.now layer) }
+    ensures { IfOk result (λ folder. string_bytes folder ≡ layer_text layer ++ (unit.now ++ codes ".d/")) }
 {
     let mut folder = String::from_str(alloc, layer.text())?;
     folder.push_str(unit)?;
@@ -90,7 +91,7 @@ fn add_layer<'t>(
     layer: Layer,
 ) -> Result<(), AllocError>
     ensures { OnOk result (by_file_of by_file.new.entries
-        ≡ added (by_file_of by_file.old.entries) (model.drop_ins_in tree.now (model.drop_in_folder unit.now layer))) }
+        ≡ added (by_file_of by_file.old.entries) (model.drop_ins_in tree.now (layer_text layer ++ (unit.now ++ codes ".d/")))) }
 {
     let folder = drop_in_folder(alloc, unit, layer)?;
     add_folder(alloc, by_file, tree, folder.as_str())?;
@@ -131,7 +132,7 @@ fn add_template<'t>(
 
 /// Those of the unit and of its template.
 fn by_file<'t>(alloc: Global, tree: &'t Tree, unit: &UnitName) -> Result<ByFile<'t>, AllocError>
-    ensures { IfOk result (λ found. by_file_of found.entries ≡ model.drop_ins_by_file (flat_map (model.drop_ins_in tree.now) (model.drop_in_folders unit.now))) }
+    ensures { IfOk result (λ found. by_file_of found.entries ≡ map.from_entries (flat_map (model.drop_ins_in tree.now) (model.drop_in_folders unit.now))) }
 {
     let mut found = BTreeMap::new(alloc);
     let template = unit.template()?;
@@ -147,13 +148,16 @@ pub fn drop_ins<'t>(
     alloc: Global,
     tree: &'t Tree,
     unit: &UnitName,
-) -> Result<Vec<DropIn<'t>>, AllocError>
-    ensures { IfOk result (λ found. each drop_in_of found.items ≡ model.drop_ins_of tree.now unit.now) }
+) -> Result<Vec<SourceFile<'t>>, AllocError>
+    ensures { IfOk result (λ found. each unit_file_of found.items ≡ map.values (model.drop_ins_of tree.now unit.now)) }
 {
     let by_file = by_file(alloc, tree, unit)?;
     let mut found = Vec::new(alloc);
     for drop_in in by_file.values() {
-        found.push(*drop_in)?;
+        found.push(SourceFile {
+            path: drop_in.path,
+            text: drop_in.text,
+        })?;
     }
     Ok(found)
 }

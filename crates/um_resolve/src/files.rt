@@ -1,4 +1,5 @@
 ghost use Rattle.std.specs.Prelude.{◌≡◌, ◌++◌, IfOk, map as each};
+ghost use Rattle.std.specs.FinMap as map;
 ghost use Rattle.um_model.specs.Machine.{files_told};
 ghost use Rattle.um_model.specs.Resolution as model;
 ghost use Rattle.um_resolve.specs.View.{file_of, reply_by, resolution_of, unit_file_of};
@@ -41,14 +42,11 @@ fn with_drop_ins<'t>(
     unit: &UnitName,
 ) -> Result<Vec<SourceFile<'t>>, AllocError>
     ensures { IfOk result (λ all. each unit_file_of all.items
-        ≡ each unit_file_of files.entry.items ++ each model.file_of_drop_in (model.drop_ins_of tree.now unit.now)) }
+        ≡ each unit_file_of files.entry.items ++ map.values (model.drop_ins_of tree.now unit.now)) }
 {
     let mut files = files;
     for drop_in in &drop_ins(alloc, tree, unit)? {
-        files.push(SourceFile {
-            path: drop_in.path,
-            text: drop_in.text,
-        })?;
+        files.push(*drop_in)?;
     }
     Ok(files)
 }

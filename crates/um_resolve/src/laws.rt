@@ -2,7 +2,7 @@ ghost use Rattle.std.specs.Prelude.{◌≡◌, ◌↔◌, ℕ, List, true, false
 ghost use Rattle.um_model.specs.Names.{suffix_of};
 ghost use Rattle.um_model.specs.Resolution.{Resolution, Nowhere, hop_limit, is_served_type, resolution_of, resolved};
 ghost use Rattle.um_model.specs.Tree.{Tree};
-ghost use Rattle.um_model.specs.Leads.{Leads};
+ghost use Rattle.um_resolve.specs.Leads.{Leads};
 
 /// A name leads to a file, a mask, a unit that needs no file, or nowhere, exactly where a chain of hops does, each by a link from
 /// one name to the next of the same suffix: of so many hops at most as are allowed, which are eight for a service or a target. A

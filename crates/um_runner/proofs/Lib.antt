@@ -3,3 +3,4 @@ mod Entries
 mod Numerals
 mod Lines
 mod Living
+pub mod RunnerLaws

@@ -4,10 +4,10 @@ use Rattle.std.specs.Prelude.{decimal, bytes_eq}
 use Rattle.std.proofs.lemmas.Bool.{true≢false}
 use Rattle.std.proofs.lemmas.List.{append_cancel_left, append_cancel_right, take_at, drop_at}
 use Rattle.std.proofs.lemmas.Slice.Eq.{bytes_eq-Decides}
-use Rattle.um_model.specs.Runner.{pid_text, pid_limit, IsPid, pid, status_text, IsStatus, exited, killed}
+use Rattle.um_runner.specs.Runner.{pid_text, pid_limit, IsPid, pid, status_text, IsStatus, exited, killed}
 use Rattle.um_model.specs.declared.service.End.{End}
 use Rattle.um_model.specs.declared.service.End.TheVariants.{Code, Signal, Lost}
-use Rattle.um_model.proofs.RunnerLaws.{pid_parts, number_behind, CanBeTold, status_parts}
+use Rattle.um_runner.proofs.RunnerLaws.{pid_parts, number_behind, CanBeTold, status_parts}
 
 -- ---- what stands in front and behind
 

@@ -3,9 +3,10 @@ use Rattle.std.proofs.Common.{◌≡◌, ℕ, Bool, true, false, ◌&&◌, List,
 use Rattle.std.specs.Prelude.{is_ok}
 use Rattle.std.specs.Result.{IsErr}
 use Rattle.std.proofs.lemmas.Bool.{true≢false, false≢true}
-use Rattle.um_model.specs.Runner.{Deed, Claims, Starts, Writes, Waits, Ours, Taken, Refused, yields, fails, refuses, runs, pid_text, status_text, not_executed}
-use Rattle.um_model.specs.declared.runner.RunnerFile.TheVariants.{Pid, Status}
+use Rattle.um_runner.specs.Runner.{pid_text, status_text}
+use Rattle.um_runner.specs.declared.runner_file.RunnerFile.TheVariants.{Pid, Status}
 use Rattle.um_model.specs.declared.service.End.{End}
+use Rattle.um_runner.specs.Deeds.{Deed, not_executed, Ours, Taken, Refused, Claims, Starts, Writes, Waits, yields, fails, refuses, runs}
 use Rattle.um_runner.specs.Lives.{LivesOn, claimed_when}
 
 -- deeds behind deeds

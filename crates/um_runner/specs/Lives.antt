@@ -1,7 +1,7 @@
 -- The life of a runner in what its host notes.
 -- The contracts of Host and run cite it.
 use Rattle.std.specs.Prelude.{◌≡◌, ℕ, Bool, true, false, List, ◌++◌, Result, Ok, Err}
-use Rattle.um_model.specs.Runner.{Claimed, Ours, Taken, Refused, Deed, Life}
+use Rattle.um_runner.specs.Deeds.{Claimed, Deed, Life, Ours, Taken, Refused}
 
 -- what came of claiming, by the answer
 abbrev pub claimed_when : Bool → Claimed

@@ -4,7 +4,7 @@
 use Rattle.std.specs.Prelude.{◌≡◌, ◌≤◌, ◌<◌, ℕ, true, List, ◌∷◌, length, codes}
 use Rattle.std.specs.List.{list_all}
 use Rattle.um_model.specs.Moments.{process_limit}
-use Rattle.um_model.specs.Runner.{runner_words}
+use Rattle.um_runner.specs.Runner.{runner_words}
 use Rattle.um_runner.specs.Jobs.{is_entry}
 
 -- the words of a runner, whatever stands for its numbers and behind `--`

@@ -4,11 +4,12 @@ ghost use Rattle.std.specs.Prelude.{◌≡◌, ◌≤◌, ◌≢◌, length, Non
 
 use crate::fault::FolderFault;
 use crate::paths::file_path;
+use crate::runner_file::RunnerFile;
 use std::alloc::Global;
 use std::fs::{File, Files};
 use std::io::{ErrorKind, Read};
 use std::{fs, io};
-use um_model::{ProcessNumber, RunnerFile};
+use um_model::ProcessNumber;
 
 /// So many bytes are read of a file: a few more than the longest text has.
 const LIMIT: usize = 16;

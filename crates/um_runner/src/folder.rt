@@ -5,12 +5,13 @@ use crate::files::replace_file;
 use crate::host::Host;
 use crate::job::Job;
 use crate::notes::{Claiming, claim};
+use crate::runner_file::{Claimant, RunnerFile};
 use crate::texts::{pid_text, status_text};
 use std::alloc::Global;
 use std::fs::Files;
 use std::os::unix::process::ExitStatusExt;
 use std::process::{Child, ExitStatus, Processes};
-use um_model::{Claimant, End, ProcessNumber, RunnerFile};
+use um_model::{End, ProcessNumber};
 
 /// A real folder, and a real process that is started for a number.
 #[derive(Drop)]

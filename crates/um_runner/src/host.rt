@@ -1,6 +1,7 @@
 ghost use Rattle.std.specs.Prelude.{◌≡◌, ◌∷◌, ◌++◌, [], List, Bool, IsTrue, is_ok};
-ghost use Rattle.um_model.specs.Runner.{Deed, Claims, Starts, Writes, Waits, pid_text, status_text};
-ghost use Rattle.um_model.specs.declared.runner.RunnerFile.TheVariants as files;
+ghost use Rattle.um_runner.specs.Runner.{pid_text, status_text};
+ghost use Rattle.um_runner.specs.declared.runner_file.RunnerFile.TheVariants as files;
+ghost use Rattle.um_runner.specs.Deeds.{Deed, Claims, Starts, Writes, Waits};
 ghost use Rattle.um_runner.specs.Jobs.{words_of, entries_of};
 ghost use Rattle.um_runner.specs.Lives.{claimed_of};
 

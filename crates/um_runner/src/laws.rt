@@ -2,10 +2,9 @@
 
 ghost use Rattle.std.specs.Prelude.{◌≡◌, ◌<◌, ◌^◌, ℕ, List, false};
 ghost use Rattle.std.specs.List.{list_any};
-ghost use Rattle.um_model.proofs.RunnerLaws.{is_slash};
-ghost use Rattle.um_model.specs.Runner.{IsPid, IsStatus, TellsEnd, claimant_of, claim_text, file_name};
-ghost use Rattle.um_model.specs.declared.runner.Claimant as claimants;
-ghost use Rattle.um_model.specs.declared.runner.RunnerFile as files;
+ghost use Rattle.um_runner.specs.Runner.{IsPid, IsStatus, TellsEnd, claimant_of, claim_text, file_name, is_slash};
+ghost use Rattle.um_runner.specs.declared.runner_file.Claimant as claimants;
+ghost use Rattle.um_runner.specs.declared.runner_file.RunnerFile as files;
 ghost use Rattle.um_model.specs.declared.service.End as ends;
 
 /// A text tells one pid, one end and one claimant at most, and what is written for an end is read as that end.

@@ -12,6 +12,7 @@ mod life;
 mod line;
 mod notes;
 mod paths;
+mod runner_file;
 mod texts;
 
 pub use fault::FolderFault;
@@ -23,5 +24,6 @@ pub use life::run;
 pub use line::RunnerLine;
 pub use notes::{Claiming, Told, claim, pid_in, status_in};
 pub use paths::{file_name, file_path};
+pub use runner_file::{Claimant, RunnerFile};
 pub use texts::{number_in, pid_text, read_claim, read_pid, read_status, status_text};
-pub use um_model::{Claimant, End, ProcessNumber, RunnerFile};
+pub use um_model::{End, ProcessNumber};

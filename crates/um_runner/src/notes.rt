@@ -2,10 +2,11 @@
 
 use crate::fault::FolderFault;
 use crate::files::{create_file, read_file};
+use crate::runner_file::{Claimant, RunnerFile};
 use crate::texts::{read_claim, read_pid, read_status};
 use std::alloc::Global;
 use std::fs::Files;
-use um_model::{Claimant, End, ProcessNumber, RunnerFile};
+use um_model::{End, ProcessNumber};
 
 /// What came of claiming a number.
 #[derive(Clone, Copy, Debug, PartialEq, Eq)]

@@ -1,10 +1,12 @@
 //! The names of the files.
 
 ghost use Rattle.std.specs.Prelude.{◌≡◌, IfOk, string_bytes};
-ghost use Rattle.um_model.specs.Runner as runner;
+ghost use Rattle.um_runner.specs.Runner as runner;
+ghost use Rattle.um_runner.specs.Deeds as deeds;
 
+use crate::runner_file::RunnerFile;
 use std::alloc::{AllocError, Global};
-use um_model::{ProcessNumber, RunnerFile};
+use um_model::ProcessNumber;
 
 /// The name of the file: the number in decimal digits, and its ending.
 pub fn file_name(
@@ -25,7 +27,7 @@ pub fn file_path(
     number: ProcessNumber,
     file: RunnerFile,
 ) -> Result<String, AllocError>
-    ensures { IfOk result (λ path. string_bytes path ≡ runner.file_path folder.now number file) }
+    ensures { IfOk result (λ path. string_bytes path ≡ deeds.file_path folder.now number file) }
 {
     let (number, ending) = (number.get(), file.ending());
     format!(in alloc; "{folder}/{number}{ending}")

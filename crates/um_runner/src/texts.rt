@@ -1,14 +1,15 @@
 //! The texts of the files.
 
 ghost use Rattle.std.specs.Prelude.{◌≡◌, ◌≢◌, ◌≤◌, ◌<◌, ◌⊎◌, ◌++◌, ◌^◌, ℕ, MatchOption, IfSome, IfOk, codes, decimal, string_bytes};
-ghost use Rattle.um_model.specs.Runner as runner;
+ghost use Rattle.um_runner.specs.Runner as runner;
 ghost use Rattle.um_model.specs.declared.service.End as ends;
 ghost use Rattle.um_model.specs.declared.service.End.TheVariants as told;
 ghost use Rattle.um_runner.specs.Numerals.{is_plain};
 
+use crate::runner_file::Claimant;
 use std::alloc::{AllocError, Global};
 use std::str;
-use um_model::{Claimant, End};
+use um_model::End;
 
 /// From this number on no number is a pid: 2^31.
 const PID_LIMIT: u64 = 1 << 31;

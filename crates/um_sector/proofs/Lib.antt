@@ -1,3 +1,4 @@
 mod Front
 mod Notes
 mod Picks
+pub mod RunLaws

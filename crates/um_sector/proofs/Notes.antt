@@ -6,7 +6,8 @@ use Rattle.std.proofs.lemmas.List.Sums.{fold-append}
 use Rattle.std.proofs.lemmas.List.Recursion.{is_count_by}
 use Rattle.std.proofs.lemmas.List.FromFn.{filter_of_map_range_with_len_more}
 use Rattle.std.proofs.lemmas.List.{append-nil, take_more, reverse-append, map-append}
-use Rattle.um_model.specs.Disk.{Past, is_sync, candidates, candidate_count, unsynced}
+use Rattle.um_model.specs.Disk.{Past, candidates}
+use Rattle.um_sector.specs.Unsynced.{is_sync, candidate_count, unsynced}
 use Rattle.um_sector.specs.declared.noted.Noted.{Noted}
 use Rattle.um_sector.specs.Noted.{call_of}
 

@@ -1,4 +1,6 @@
+pub mod Unsynced
 pub mod Noted
 pub mod Refused
 pub mod Memory
 pub mod Fused
+pub mod Runs

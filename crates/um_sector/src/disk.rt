@@ -1,5 +1,7 @@
 ghost use Rattle.std.specs.Prelude.{◌≡◌, ◌<◌, ℕ, Bool, IsTrue, OnOk};
-ghost use Rattle.um_model.specs.Disk.{Past, IsImage, seen, Wrote, Synced, one_more, CountsFailure};
+ghost use Rattle.um_model.specs.Disk.{Past, IsImage, seen, Wrote, Synced};
+ghost use Rattle.um_sector.specs.Runs.{CountsFailure};
+ghost use Rattle.um_model.specs.Disk.{one_more};
 
 use crate::fault::Fault;
 use um_model::SECTOR_BYTES;

@@ -1,6 +1,8 @@
 ghost use Rattle.std.specs.Prelude.{◌≡◌, ◌≢◌, ◌+◌, ◌<◌, ◌==◌, OnOk, IsErr, IsTrue};
 ghost use Rattle.std.specs.Bool.{OnTrue, OnFalse};
-ghost use Rattle.um_model.specs.Disk.{seen, Wrote, Synced, one_more, CountsFailure};
+ghost use Rattle.um_model.specs.Disk.{seen, Wrote, Synced};
+ghost use Rattle.um_sector.specs.Runs.{CountsFailure};
+ghost use Rattle.um_model.specs.Disk.{one_more};
 ghost use Rattle.um_sector.specs.Fused.{own_failures, failures_with};
 
 use crate::disk::{Disk, Sector};

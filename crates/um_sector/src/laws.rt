@@ -1,6 +1,7 @@
 //! What the disk model says of single calls and of crashes, as functions that do nothing.
 ghost use Rattle.std.specs.Prelude.{◌≡◌, ◌⊎◌, ◌<◌, ℕ, List, [], Bool, IsTrue};
-ghost use Rattle.um_model.specs.Disk.{Sector, Image, Past, IsImage, IsSettled, with_sector, wrote, synced, after, seen, picked, Images, During};
+ghost use Rattle.um_model.specs.Disk.{Sector, Image, Past, IsImage, IsSettled, with_sector, wrote, synced, after, seen, Images, During};
+ghost use Rattle.um_sector.specs.Unsynced.{picked};
 
 /// A disk that was just made leaves what it was made with.
 pub fn a_new_disk_is_settled()

@@ -1,6 +1,9 @@
 ghost use Rattle.std.specs.Prelude.{◌≡◌, ◌<◌, ℕ, [], length, true, map, replicate, slice_index_or, IfOk};
 ghost use Rattle.um_model.specs.Disk as model;
-ghost use Rattle.um_model.specs.Disk.{seen, Wrote, Synced, one_more, CountsFailure};
+ghost use Rattle.um_sector.specs.Unsynced as syncs;
+ghost use Rattle.um_model.specs.Disk.{seen, Wrote, Synced};
+ghost use Rattle.um_sector.specs.Runs.{CountsFailure};
+ghost use Rattle.um_model.specs.Disk.{one_more};
 ghost use Rattle.um_sector.specs.Noted.{past_of, blank, seen_is_image};
 ghost use Rattle.std.specs.List.{range_with_len};
 
@@ -77,7 +80,7 @@ impl MemDisk {
 
     /// The sectors with more than one candidate, ascending, with the number of candidates.
     pub fn unsynced(&self, alloc: Global) -> Result<Vec<(usize, usize)>, AllocError>
-        ensures { IfOk result (λ list. list.items ≡ model.unsynced (history self.now) (length self.now.held.items)) }
+        ensures { IfOk result (λ list. list.items ≡ syncs.unsynced (history self.now) (length self.now.held.items)) }
     {
         let mut list = Vec::new(alloc);
         for k in 0..self.held.len() {
@@ -92,7 +95,7 @@ impl MemDisk {
     /// The disk that a crash leaves: of each sector that `unsynced` lists, in that order, the candidate at that index of
     /// `picks`. Index 0 is the value at the last sync; so is an index that is missing or past the last candidate.
     pub fn crash(&self, alloc: Global, picks: &[usize]) -> Result<MemDisk, AllocError>
-        ensures picked { IfOk result (λ disk. disk.start.items ≡ map (model.picked (history self.now) picks.now) (range_with_len 0 (length self.now.held.items))) }
+        ensures picked { IfOk result (λ disk. disk.start.items ≡ map (syncs.picked (history self.now) picks.now) (range_with_len 0 (length self.now.held.items))) }
         ensures fresh { IfOk result (λ disk. disk.noted.items ≡ []) }
         ensures counts { IfOk result (λ disk. (disk.calls ≡ 0) × (disk.failures ≡ 0)) }
     {
@@ -131,14 +134,14 @@ impl MemDisk {
 
     /// How many syncs answered Ok.
     pub fn syncs(&self) -> usize
-        ensures { result ≡ model.sync_count (history self.now) }
+        ensures { result ≡ syncs.sync_count (history self.now) }
     {
         self.noted.iter().filter(|noted| noted.is_sync()).count()
     }
 
     /// The sectors of the image that these picks choose.
     fn picked(&self, alloc: Global, picks: &[usize]) -> Result<Vec<Sector>, AllocError>
-        ensures { IfOk result (λ list. list.items ≡ map (model.picked (history self.now) picks.now) (range_with_len 0 (length self.now.held.items))) }
+        ensures { IfOk result (λ list. list.items ≡ map (syncs.picked (history self.now) picks.now) (range_with_len 0 (length self.now.held.items))) }
     {
         let mut list = Vec::new(alloc);
         let mut turn = 0;

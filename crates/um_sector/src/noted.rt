@@ -1,5 +1,6 @@
 ghost use Rattle.std.specs.Prelude.{◌≡◌};
 ghost use Rattle.um_model.specs.Disk as model;
+ghost use Rattle.um_sector.specs.Unsynced as syncs;
 
 use crate::disk::Sector;
 
@@ -14,7 +15,7 @@ impl Noted {
     ghost use Rattle.um_sector.specs.Noted.{call_of};
 
     pub fn is_sync(&self) -> bool
-        ensures { result ≡ model.is_sync (call_of self.now) }
+        ensures { result ≡ syncs.is_sync (call_of self.now) }
     {
         matches!(self, Noted::Sync)
     }

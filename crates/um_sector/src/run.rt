@@ -1,6 +1,7 @@
 ghost use Rattle.std.specs.Prelude.{◌≡◌, ◌+◌, ◌<◌, ◌≤◌, length, replicate, IsTrue, OnOk};
 ghost use Rattle.um_sector.specs.Noted.{blank};
-ghost use Rattle.um_model.specs.Disk.{seen, more, CountsFailure, During, IsSettled, IsLaid, MaybeLaid, AfterRun};
+ghost use Rattle.um_model.specs.Disk.{seen, During, IsSettled};
+ghost use Rattle.um_sector.specs.Runs.{more, CountsFailure, IsLaid, MaybeLaid, AfterRun};
 
 use crate::disk::{Disk, Sector};
 use crate::fault::Fault;

@@ -3,10 +3,11 @@
 ghost use Rattle.std.specs.Prelude.{◌≡◌, ◌<◌, ◌∷◌, ℕ, [], Some, IfOk, map, slice_get, string_bytes};
 ghost use Rattle.um_model.specs.Moments.{process_limit};
 ghost use Rattle.um_model.specs.Service.{SendSignal};
-ghost use Rattle.um_model.specs.Settings.{variable_text, commands_in};
+ghost use Rattle.um_model.specs.Settings.{commands_in};
 ghost use Rattle.um_model.specs.Transitions.{AreStarted, AreActions, live_numbers};
 ghost use Rattle.um_model.specs.declared.service.UnitState.{UnitState};
 ghost use Rattle.um_model.specs.declared.transition.Order.TheVariants.{Spawn};
+ghost use Rattle.um_service.specs.Variables.{variable_text};
 ghost use Rattle.um_service.specs.View.{HasRoom, action_of};
 ghost use Rattle.um_unit.specs.ServiceView.{service_settings_of};
 ghost use Rattle.um_words.specs.Commands.{command_seen};

@@ -1,7 +1,8 @@
 //! How the end of a process counts.
 
-ghost use Rattle.std.specs.Prelude.{◌≡◌, ℕ};
-ghost use Rattle.um_model.specs.Ends.{is_told, is_stopping, asks_to_end, may_be_asked, is_clean_alone, is_at_index, main_has_dash, is_clean, unclean_result, or_later, restarts_after, ended_in, is_restart_wanted};
+ghost use Rattle.std.specs.Prelude.{◌≡◌, ℕ, false};
+ghost use Rattle.std.specs.Option.{option_map_or};
+ghost use Rattle.um_model.specs.Ends.{is_told, is_stopping, asks_to_end, has_one_command, is_clean_alone, main_has_dash, is_clean, unclean_result, or_later, restarts_after, is_restart_wanted};
 ghost use Rattle.um_unit.specs.ServiceView.{service_settings_of};
 ghost use Rattle.um_value.specs.ExitSet.{holds};
 
@@ -38,9 +39,9 @@ fn asks_to_end(signal: u8) -> bool
     signal == 1 || signal == 2 || signal == 13 || signal == 15
 }
 
-/// Whether a unit of this kind may end by a signal that asks it to.
-pub fn may_be_asked(kind: UnitKind) -> bool
-    ensures { result ≡ may_be_asked kind }
+/// Whether a unit of this kind runs one command, which is its main process.
+pub fn has_one_command(kind: UnitKind) -> bool
+    ensures { result ≡ has_one_command kind }
 {
     match kind {
         UnitKind::Simple | UnitKind::Exec => true,
@@ -54,31 +55,21 @@ fn is_clean_alone(kind: UnitKind, sub: SubState, end: End) -> bool
 {
     match end {
         End::Code(code) => code == 0,
-        End::Signal(signal) => may_be_asked(kind) && asks_to_end(signal)
+        End::Signal(signal) => has_one_command(kind) && asks_to_end(signal)
             || signal == 0 && is_stopping(sub),
         End::Lost => false,
     }
 }
 
-/// Whether the main process of a oneshot is its command at the unit's index.
-fn is_at_index(sub: SubState) -> bool
-    ensures { result ≡ is_at_index sub }
-{
-    match sub {
-        SubState::Start | SubState::StopSigterm | SubState::StopSigkill => true,
-        _ => false,
-    }
-}
-
-/// Whether the command of the main process is written with `-`.
+/// Whether the command of the main process is written with `-`: in these states that of a oneshot is its command at the unit's index.
 fn main_has_dash(settings: &ServiceSettings, unit: &UnitState) -> bool
-    ensures { result ≡ main_has_dash settings.now.kind (service_settings_of settings.now) unit.now }
+    ensures { result ≡ main_has_dash settings.now.kind unit.now.sub (service_settings_of settings.now) unit.now }
 {
-    match settings.kind {
-        UnitKind::Simple | UnitKind::Exec => has_dash(settings, CommandList::OfStart, 0),
-        UnitKind::Oneshot => is_at_index(unit.sub)
-            && has_dash(settings, CommandList::OfStart, unit.index),
-        UnitKind::Target => false,
+    match (settings.kind, unit.sub) {
+        (UnitKind::Simple | UnitKind::Exec, _) => has_dash(settings, CommandList::OfStart, 0),
+        (UnitKind::Oneshot, SubState::Start | SubState::StopSigterm | SubState::StopSigkill) =>
+            has_dash(settings, CommandList::OfStart, unit.index),
+        _ => false,
     }
 }
 
@@ -140,7 +131,7 @@ fn restarts_after(left: UnitResult, policy: RestartPolicy) -> bool
 
 /// Whether the main process ended so that the set holds it.
 fn ended_in(set: &ExitSet, last: Option<End>) -> bool
-    ensures { result ≡ ended_in (holds set.now) last }
+    ensures { result ≡ option_map_or (holds set.now) last false }
 {
     match last {
         Some(end) => set.holds(end),

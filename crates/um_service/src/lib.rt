@@ -14,7 +14,7 @@ mod stop;
 mod table;
 
 pub use actions::Action;
-pub use ends::may_be_asked;
+pub use ends::has_one_command;
 pub use laws::{
     a_process_is_kept, an_order_has_one_list_of_actions, new_numbers_are_the_next,
     the_next_number_stays_small,

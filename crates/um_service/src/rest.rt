@@ -1,7 +1,9 @@
 //! How a unit comes to rest.
 
-ghost use Rattle.std.specs.Prelude.{◌≡◌, ℕ};
-ghost use Rattle.um_model.specs.Transitions.{resting, rests_for_good, awaits_restart, rests, rests_unless_live, terminates};
+ghost use Rattle.std.specs.Prelude.{◌≡◌, ℕ, if◌then◌else◌};
+ghost use Rattle.um_model.specs.Service.{is_success};
+ghost use Rattle.um_model.specs.Transitions.{rests_for_good, waits_to_restart, rests, rests_unless_live, terminates};
+ghost use Rattle.um_model.specs.declared.service.SubState.TheVariants.{Dead, Failed};
 ghost use Rattle.um_unit.specs.ServiceView.{service_settings_of};
 
 use crate::change::{asking, deadline_after, is_live, just, stop_ends};
@@ -11,7 +13,7 @@ use um_unit::ServiceSettings;
 
 /// Dead where all went well, else failed.
 fn resting(left: UnitResult) -> SubState
-    ensures { result ≡ resting left }
+    ensures { result ≡ (if is_success left then Dead else Failed) }
 {
     match left {
         UnitResult::Success => SubState::Dead,
@@ -33,8 +35,8 @@ pub fn rests_for_good(unit: UnitState) -> Change
 }
 
 /// The unit waits for its restart (systemd.service(5), `RestartSec=`).
-fn awaits_restart(settings: &ServiceSettings, around: Around, unit: UnitState) -> Change
-    ensures { result ≡ awaits_restart (service_settings_of settings.now) around unit }
+fn waits_to_restart(settings: &ServiceSettings, around: Around, unit: UnitState) -> Change
+    ensures { result ≡ waits_to_restart (service_settings_of settings.now) around unit }
 {
     stop_ends(just(UnitState {
         sub: SubState::AutoRestart,
@@ -50,7 +52,7 @@ pub fn rests(settings: &ServiceSettings, around: Around, unit: UnitState) -> Cha
     ensures { result ≡ rests (service_settings_of settings.now) around unit }
 {
     if !unit.asked && !around.stop_waits && is_restart_wanted(settings, &unit) {
-        awaits_restart(settings, around, unit)
+        waits_to_restart(settings, around, unit)
     } else {
         rests_for_good(unit)
     }

@@ -1,7 +1,9 @@
 //! How a unit starts.
 
 ghost use Rattle.std.specs.Prelude.{◌≡◌, ℕ};
-ghost use Rattle.um_model.specs.Transitions.{lacks_number, start_command, start_simple, start_oneshot, start_of, starts, next_command, next_start, start_goes_on, executed};
+ghost use Rattle.um_model.specs.Transitions.{start_fails, rests_for_good, first_command, start_of, starts, next_command, start_goes_on};
+ghost use Rattle.um_model.specs.declared.service.UnitResult.TheVariants.{Resources};
+ghost use Rattle.um_model.specs.declared.transition.UnitKind.TheVariants.{Simple, Oneshot};
 ghost use Rattle.um_unit.specs.ServiceView.{service_settings_of};
 
 use crate::change::{asking, deadline_after, just, start_ends, start_fails};
@@ -14,7 +16,7 @@ use um_unit::ServiceSettings;
 
 /// A start for which there is no process number.
 fn lacks_number(unit: UnitState) -> Change
-    ensures { result ≡ lacks_number unit }
+    ensures { result ≡ start_fails (rests_for_good (record unit { result = Resources })) }
 {
     start_fails(rests_for_good(UnitState {
         result: UnitResult::Resources,
@@ -22,15 +24,15 @@ fn lacks_number(unit: UnitState) -> Change
     }))
 }
 
-/// The `ExecStart=` command at this place is started as the main process, and the start goes on.
-fn start_command(settings: &ServiceSettings, around: Around, unit: UnitState, index: u32) -> Change
-    ensures { result ≡ start_command (service_settings_of settings.now) around unit index }
+/// The first `ExecStart=` command is started as the main process, and the start goes on.
+fn first_command(settings: &ServiceSettings, around: Around, unit: UnitState) -> Change
+    ensures { result ≡ first_command (service_settings_of settings.now) around unit }
 {
     let Some(number) = around.next.process() else {
         return lacks_number(unit);
     };
     asking(
-        Order::Spawn(CommandList::OfStart, index),
+        Order::Spawn(CommandList::OfStart, 0),
         UnitState {
             sub: SubState::Start,
             main: Some(number),
@@ -41,8 +43,8 @@ fn start_command(settings: &ServiceSettings, around: Around, unit: UnitState, in
 }
 
 /// The main process is started, and the start is done.
-fn start_simple(around: Around, unit: UnitState) -> Change
-    ensures { result ≡ start_simple around unit }
+fn start_simple(settings: &ServiceSettings, around: Around, unit: UnitState) -> Change
+    ensures { result ≡ start_of Simple (service_settings_of settings.now) around unit }
 {
     let Some(number) = around.next.process() else {
         return lacks_number(unit);
@@ -60,10 +62,10 @@ fn start_simple(around: Around, unit: UnitState) -> Change
 
 /// The first command is started; without one the unit has exited.
 fn start_oneshot(settings: &ServiceSettings, around: Around, unit: UnitState) -> Change
-    ensures { result ≡ start_oneshot (service_settings_of settings.now) around unit }
+    ensures { result ≡ start_of Oneshot (service_settings_of settings.now) around unit }
 {
     if has_place(settings, CommandList::OfStart, 0) {
-        return start_command(settings, around, unit, 0);
+        return first_command(settings, around, unit);
     }
     start_ends(just(UnitState {
         sub: SubState::Exited,
@@ -82,8 +84,8 @@ fn start_of(settings: &ServiceSettings, around: Around, unit: UnitState) -> Chan
             deadline: None,
             ..unit
         })),
-        UnitKind::Simple => start_simple(around, unit),
-        UnitKind::Exec => start_command(settings, around, unit, 0),
+        UnitKind::Simple => start_simple(settings, around, unit),
+        UnitKind::Exec => first_command(settings, around, unit),
         UnitKind::Oneshot => start_oneshot(settings, around, unit),
     }
 }
@@ -131,7 +133,7 @@ fn next_command(around: Around, unit: UnitState, index: u32) -> Change
 
 /// A command of a oneshot ended well: the next one is started, or the start is done.
 fn next_start(settings: &ServiceSettings, around: Around, unit: UnitState) -> Change
-    ensures { result ≡ next_start (service_settings_of settings.now) around unit }
+    ensures { result ≡ start_goes_on Oneshot (service_settings_of settings.now) around unit }
 {
     match next_place(settings, CommandList::OfStart, unit.index) {
         Some(next) => next_command(around, unit, next),
@@ -148,19 +150,5 @@ pub fn start_goes_on(settings: &ServiceSettings, around: Around, unit: UnitState
         UnitKind::Simple | UnitKind::Exec | UnitKind::Target => {
             start_ends(exits(settings, around, unit))
         }
-    }
-}
-
-/// The program of the main process runs: a start that waits for it is done.
-pub fn executed(kind: UnitKind, unit: UnitState) -> Change
-    ensures { result ≡ executed kind unit }
-{
-    match kind {
-        UnitKind::Simple | UnitKind::Exec => start_ends(just(UnitState {
-            sub: SubState::Running,
-            deadline: None,
-            ..unit
-        })),
-        UnitKind::Oneshot | UnitKind::Target => just(unit),
     }
 }

@@ -1,7 +1,11 @@
 //! How a unit stops.
 
-ghost use Rattle.std.specs.Prelude.{◌≡◌, ℕ};
-ghost use Rattle.um_model.specs.Transitions.{stop_command, winds_down, next_stop, exits, asked, dies, kills, unless_failed, forgiven};
+ghost use Rattle.std.specs.Prelude.{◌≡◌, ◌+◌, ℕ, if◌then◌else◌};
+ghost use Rattle.um_model.specs.Transitions.{asking, deadline_after, dies, exits, forgiven, just, stop_command, told_to_stop, winds_down};
+ghost use Rattle.um_model.specs.Ends.{is_failed};
+ghost use Rattle.um_model.specs.declared.service.Signal.TheVariants.{Kill};
+ghost use Rattle.um_model.specs.declared.service.SubState.TheVariants.{Dead, StopSigkill};
+ghost use Rattle.um_model.specs.declared.transition.Order.TheVariants.{Signal as SignalAll};
 ghost use Rattle.um_unit.specs.ServiceView.{service_settings_of};
 
 use crate::change::{asking, deadline_after, just, stop_ends};
@@ -36,7 +40,7 @@ fn stop_command(settings: &ServiceSettings, around: Around, unit: UnitState, ind
 
 /// The unit goes down, by its `ExecStop=` commands where it has any.
 pub fn winds_down(settings: &ServiceSettings, around: Around, unit: UnitState) -> Change
-    ensures { result ≡ winds_down (service_settings_of settings.now) around unit }
+    ensures { result ≡ winds_down (service_settings_of settings.now) around unit 0 }
 {
     if has_place(settings, CommandList::OfStop, 0) {
         stop_command(settings, around, unit, 0)
@@ -47,7 +51,7 @@ pub fn winds_down(settings: &ServiceSettings, around: Around, unit: UnitState) -
 
 /// The next `ExecStop=` command is started; after the last the unit's processes are told to end.
 pub fn next_stop(settings: &ServiceSettings, around: Around, unit: UnitState) -> Change
-    ensures { result ≡ next_stop (service_settings_of settings.now) around unit }
+    ensures { result ≡ winds_down (service_settings_of settings.now) around unit (unit.index + 1) }
 {
     match next_place(settings, CommandList::OfStop, unit.index) {
         Some(next) => stop_command(settings, around, unit, next),
@@ -70,8 +74,8 @@ pub fn exits(settings: &ServiceSettings, around: Around, unit: UnitState) -> Cha
 }
 
 /// A stop was asked for.
-pub fn asked(unit: UnitState) -> UnitState
-    ensures { result ≡ asked unit }
+pub fn told_to_stop(unit: UnitState) -> UnitState
+    ensures { result ≡ told_to_stop unit }
 {
     UnitState {
         asked: true,
@@ -91,7 +95,7 @@ pub fn dies(unit: UnitState) -> Change
 }
 
 fn unless_failed(sub: SubState) -> SubState
-    ensures { result ≡ unless_failed sub }
+    ensures { result ≡ (if is_failed sub then Dead else sub) }
 {
     match sub {
         SubState::Failed => SubState::Dead,
@@ -113,7 +117,7 @@ pub fn forgiven(unit: UnitState) -> UnitState
 
 /// The unit's live processes are killed.
 pub fn kills(settings: &ServiceSettings, around: Around, unit: UnitState) -> Change
-    ensures { result ≡ kills (service_settings_of settings.now) around unit }
+    ensures { result ≡ asking (SignalAll Kill) (just (record unit { sub = StopSigkill; deadline = deadline_after around.moment (service_settings_of settings.now).timeout_stop })) }
 {
     asking(
         Order::Signal(Signal::Kill),

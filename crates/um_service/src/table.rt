@@ -2,15 +2,18 @@
 
 ghost use Rattle.std.specs.Prelude.{◌≡◌};
 ghost use Rattle.um_model.specs.Service.{active_state_of};
-ghost use Rattle.um_model.specs.Transitions.{noted, without_main, without_control, timed_out, is_well, is_going, row, transition};
+ghost use Rattle.um_model.specs.Transitions.{noted, without_main, without_control, timed_out, is_stop_done, is_going, row, transition};
+ghost use Rattle.um_model.specs.declared.service.ActiveState.TheVariants.{Activating, Active as IsActive, Deactivating};
+ghost use Rattle.um_model.specs.declared.service.SubState.TheVariants.{Start, Running, Stop};
+ghost use Rattle.um_model.specs.declared.transition.UnitEvent.TheVariants.{MainEnds, ControlEnds};
 ghost use Rattle.um_unit.specs.ServiceView.{service_settings_of};
 
 use crate::change::{just, start_ends, start_fails, stop_ends};
-use crate::ends::{is_clean, is_told, or_later, unclean_result};
+use crate::ends::{has_one_command, is_clean, is_told, or_later, unclean_result};
 use crate::rest::{rests, rests_for_good, rests_unless_live, terminates};
 use crate::settings::has_dash;
-use crate::start::{executed, start_goes_on, starts};
-use crate::stop::{asked, dies, exits, forgiven, kills, next_stop, winds_down};
+use crate::start::{start_goes_on, starts};
+use crate::stop::{dies, exits, forgiven, kills, next_stop, told_to_stop, winds_down};
 use um_model::{
     ActiveState, Around, Change, CommandList, End, Process, SubState, UnitEvent, UnitResult,
     UnitState,
@@ -65,36 +68,60 @@ fn timed_out(unit: UnitState) -> UnitState
     }
 }
 
-/// Whether the event is as it should be: the unit to be started is loadable; the process ended cleanly, or an `ExecStop=`
-/// command as its `-` allows.
-fn is_well(settings: &ServiceSettings, around: &Around, unit: &UnitState, event: UnitEvent) -> bool
-    ensures { result ≡ is_well (service_settings_of settings.now) around.now unit.now event }
+/// Whether an `ExecStop=` command ended well: cleanly, or as its `-` allows.
+fn is_stop_done(settings: &ServiceSettings, unit: &UnitState, end: End) -> bool
+    ensures { result ≡ is_stop_done (service_settings_of settings.now) unit.now end }
 {
-    let index = unit.index;
-    match event {
-        UnitEvent::StartBegins => around.loadable,
-        UnitEvent::MainEnds(end) => is_clean(settings, unit, Process::Main, end),
-        UnitEvent::ControlEnds(end) => {
-            is_clean(settings, unit, Process::Control, end)
-                || is_told(end) && has_dash(settings, CommandList::OfStop, index)
-        }
-        UnitEvent::StopBegins
-        | UnitEvent::BoundStop
-        | UnitEvent::Executed
-        | UnitEvent::DeadlinePasses
-        | UnitEvent::Reset => true,
+    is_clean(settings, unit, Process::Control, end)
+        || is_told(end) && has_dash(settings, CommandList::OfStop, unit.index)
+}
+
+/// The main process ended during the start: cleanly, so that the start goes on, or so that it fails.
+fn start_meets(settings: &ServiceSettings, around: Around, unit: UnitState, end: End) -> Change
+    ensures { result ≡ row (service_settings_of settings.now) around unit Activating Start (MainEnds end) }
+{
+    let clean = is_clean(settings, &unit, Process::Main, end);
+    let left = without_main(settings, unit, end);
+    if clean {
+        start_goes_on(settings, around, left)
+    } else {
+        start_fails(rests(settings, around, left))
     }
 }
 
-/// The rows: what follows from the event, which is well or not. The first that fits counts.
-fn row(
-    settings: &ServiceSettings,
-    around: Around,
-    unit: UnitState,
-    event: UnitEvent,
-    well: bool,
-) -> Change
-    ensures { result ≡ row (service_settings_of settings.now) around unit unit.sub event well }
+/// The main process of a unit that runs ended.
+fn run_meets(settings: &ServiceSettings, around: Around, unit: UnitState, end: End) -> Change
+    ensures { result ≡ row (service_settings_of settings.now) around unit IsActive Running (MainEnds end) }
+{
+    let clean = is_clean(settings, &unit, Process::Main, end);
+    let left = without_main(settings, unit, end);
+    if clean {
+        exits(settings, around, left)
+    } else {
+        winds_down(settings, around, left)
+    }
+}
+
+/// An `ExecStop=` command ended.
+fn stop_meets(settings: &ServiceSettings, around: Around, unit: UnitState, end: End) -> Change
+    ensures { result ≡ row (service_settings_of settings.now) around unit Deactivating Stop (ControlEnds end) }
+{
+    if is_stop_done(settings, &unit, end) {
+        return next_stop(
+            settings,
+            around,
+            UnitState {
+                control: None,
+                ..unit
+            },
+        );
+    }
+    terminates(settings, around, without_control(settings, unit, end))
+}
+
+/// The rows: what follows from the event. The first that fits counts.
+fn row(settings: &ServiceSettings, around: Around, unit: UnitState, event: UnitEvent) -> Change
+    ensures { result ≡ row (service_settings_of settings.now) around unit (active_state_of unit.sub) unit.sub event }
 {
     use SubState::{
         Active, AutoRestart, Dead, Exited, Failed, Running, Start, Stop, StopSigkill, StopSigterm,
@@ -102,24 +129,18 @@ fn row(
     use UnitEvent::{
         ControlEnds, DeadlinePasses, Executed, MainEnds, Reset, StartBegins, StopBegins,
     };
-    match (unit.sub, event, well) {
-        (_, StartBegins, false) => start_fails(just(UnitState {
-            result: UnitResult::NotLoaded,
+    match (unit.sub, event) {
+        (_, Reset) => just(forgiven(unit)),
+        (Running | Exited | Active, StartBegins) => start_ends(just(unit)),
+        (Dead | Failed | AutoRestart, StartBegins) => starts(settings, around, unit),
+        (Start, Executed) if has_one_command(settings.kind) => start_ends(just(UnitState {
+            sub: Running,
+            deadline: None,
             ..unit
         })),
-        (_, Reset, _) => just(forgiven(unit)),
-        (Running | Exited | Active, StartBegins, _) => start_ends(just(unit)),
-        (Dead | Failed | AutoRestart, StartBegins, _) => starts(settings, around, unit),
-        (Start, Executed, _) => executed(settings.kind, unit),
-        (Start, MainEnds(end), true) => {
-            start_goes_on(settings, around, without_main(settings, unit, end))
-        }
-        (Start, MainEnds(end), false) => start_fails(rests(
-            settings,
-            around,
-            without_main(settings, unit, end),
-        )),
-        (Start, DeadlinePasses, _) => start_fails(terminates(
+        (Start, Executed) => just(unit),
+        (Start, MainEnds(end)) => start_meets(settings, around, unit, end),
+        (Start, DeadlinePasses) => start_fails(terminates(
             settings,
             around,
             UnitState {
@@ -127,47 +148,29 @@ fn row(
                 ..unit
             },
         )),
-        (Running, MainEnds(end), true) => exits(
-            settings,
-            around,
-            without_main(settings, unit, end),
-        ),
-        (Running, MainEnds(end), false) => {
-            winds_down(settings, around, without_main(settings, unit, end))
-        }
-        (Running | Exited, StopBegins, _) => winds_down(settings, around, asked(unit)),
-        (Start, StopBegins, _) => start_fails(terminates(settings, around, asked(unit))),
-        (AutoRestart, StopBegins, _) => dies(unit),
-        (Stop | StopSigterm | StopSigkill, StopBegins, _) => just(asked(unit)),
-        (Active, StopBegins, _) => dies(unit),
-        (Dead | Failed, StopBegins, _) => stop_ends(just(unit)),
-        (Stop, ControlEnds(_), true) => next_stop(
-            settings,
-            around,
-            UnitState {
-                control: None,
-                ..unit
-            },
-        ),
-        (Stop, ControlEnds(end), false) => {
-            terminates(settings, around, without_control(settings, unit, end))
-        }
-        (Stop, MainEnds(end), _) => just(without_main(settings, unit, end)),
-        (Stop, DeadlinePasses, _) => terminates(settings, around, timed_out(unit)),
-        (StopSigterm, MainEnds(end), _) => {
+        (Running, MainEnds(end)) => run_meets(settings, around, unit, end),
+        (Active | AutoRestart, StopBegins) => dies(unit),
+        (Running | Exited, StopBegins) => winds_down(settings, around, told_to_stop(unit)),
+        (Start, StopBegins) => start_fails(terminates(settings, around, told_to_stop(unit))),
+        (Stop | StopSigterm | StopSigkill, StopBegins) => just(told_to_stop(unit)),
+        (Dead | Failed, StopBegins) => stop_ends(just(unit)),
+        (Stop, ControlEnds(end)) => stop_meets(settings, around, unit, end),
+        (Stop, MainEnds(end)) => just(without_main(settings, unit, end)),
+        (StopSigterm, MainEnds(end)) => {
             rests_unless_live(settings, around, without_main(settings, unit, end))
         }
-        (StopSigterm, ControlEnds(end), _) => {
+        (StopSigterm, ControlEnds(end)) => {
             rests_unless_live(settings, around, without_control(settings, unit, end))
         }
-        (StopSigkill, MainEnds(end), _) => {
+        (StopSigkill, MainEnds(end)) => {
             rests_unless_live(settings, around, without_main(settings, unit, end))
         }
-        (StopSigkill, ControlEnds(end), _) => {
+        (StopSigkill, ControlEnds(end)) => {
             rests_unless_live(settings, around, without_control(settings, unit, end))
         }
-        (StopSigterm, DeadlinePasses, _) => kills(settings, around, timed_out(unit)),
-        (StopSigkill, DeadlinePasses, _) => rests_for_good(timed_out(unit)),
+        (Stop, DeadlinePasses) => terminates(settings, around, timed_out(unit)),
+        (StopSigterm, DeadlinePasses) => kills(settings, around, timed_out(unit)),
+        (StopSigkill, DeadlinePasses) => rests_for_good(timed_out(unit)),
         _ => just(unit),
     }
 }
@@ -182,7 +185,8 @@ fn is_going(sub: SubState) -> bool
     )
 }
 
-/// What follows from the event. A bound stop is as a stop job that begins, where the unit is active or activating.
+/// What follows from the event. A unit that can't be loaded isn't started; a bound stop is as a stop job that begins, where the unit is
+/// active or activating.
 pub fn transition(
     settings: &ServiceSettings,
     around: Around,
@@ -192,13 +196,14 @@ pub fn transition(
     ensures { result ≡ transition (service_settings_of settings.now) around unit event }
 {
     match event {
+        UnitEvent::StartBegins if !around.loadable => start_fails(just(UnitState {
+            result: UnitResult::NotLoaded,
+            ..unit
+        })),
         UnitEvent::BoundStop if is_going(unit.sub) => {
-            row(settings, around, unit, UnitEvent::StopBegins, true)
+            row(settings, around, unit, UnitEvent::StopBegins)
         }
         UnitEvent::BoundStop => just(unit),
-        _ => {
-            let well = is_well(settings, &around, &unit, event);
-            row(settings, around, unit, event, well)
-        }
+        _ => row(settings, around, unit, event),
     }
 }

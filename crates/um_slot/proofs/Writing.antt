@@ -1,12 +1,14 @@
 -- What a crash leaves while a snapshot is written into a slot.
 use Rattle.std.specs.Prelude.{◌≡◌, ◌⊎◌, ◌+◌, ◌<◌, ◌≤◌, ℕ, List, [], ◌∷◌, length, slice_index_or}
 use Rattle.std.proofs.Common.{refl, sym, ◌∙◌, ap, inl, inr, ⊎_elim, arith}
-use Rattle.um_model.specs.Disk.{Sector, Image, Past, seen, IsImage, Images, During, IsLaid, MaybeLaid, AfterRun}
+use Rattle.um_model.specs.Disk.{Sector, Image, Past, seen, IsImage, Images, During}
+use Rattle.um_sector.specs.Runs.{IsLaid, MaybeLaid, AfterRun}
 use Rattle.um_model.proofs.DiskLaws.{started, weaker, followed}
 use Rattle.um_model.specs.declared.layout.Layout.{Layout}
 use Rattle.um_model.specs.declared.layout.Slot.{Slot}
 use Rattle.um_model.proofs.StoreLaws.{before_slot}
-use Rattle.um_model.specs.Store.{slot_start, body_limit, sector_count, body_sector, header_sector, IsSnapshot, MaybeSnapshot, AfterSnapshot}
+use Rattle.um_model.specs.Store.{slot_start, body_limit, sector_count, header_sector}
+use Rattle.um_slot.specs.Snapshots.{body_sector, IsSnapshot, MaybeSnapshot, AfterSnapshot}
 
 -- nothing of it is written yet
 pub nothing_written : (layout : Layout) (old : Image) (slot : Slot) (generation : ℕ) (body : List ℕ) → MaybeSnapshot layout old slot generation body old

@@ -1,5 +1,6 @@
 ghost use Rattle.std.specs.Prelude.{◌≡◌, ◌≤◌, ◌<◌, ℕ, List, [], length, IfOk, slice_index_or};
-ghost use Rattle.um_model.specs.Store.{filled, body_sector, sector_count};
+ghost use Rattle.um_model.specs.Store.{filled, sector_count};
+ghost use Rattle.um_slot.specs.Snapshots.{body_sector};
 
 use std::alloc::{AllocError, Global};
 use std::marker::Model;

@@ -1,6 +1,8 @@
 ghost use Rattle.std.specs.Prelude.{◌≡◌, ◌⊎◌, ◌↔◌, ◌+◌, ◌-◌, ◌<◌, ◌≤◌, ◌^◌, ℕ, List, [], length, Ok, Err, Some, None, IfOk, IfErr, IfSome, OnOk, IsTrue, slice_index_or};
 ghost use Rattle.um_model.specs.Disk.{Sector, seen, Images, During, IsSettled};
-ghost use Rattle.um_model.specs.Store.{other, body_limit, log_start, sector_count, body_sector, HasNoHeader, IsNewest, IsSnapshot, MaybeSnapshot, AfterSnapshot, IsFree, IsStore, IsStoreOf, GoesOn, EitherSnapshot};
+ghost use Rattle.um_model.specs.Store.{other, body_limit, log_start, sector_count, HasNoHeader, IsNewest, IsFree, IsStore, GoesOn};
+ghost use Rattle.um_slot.specs.Snapshots.{HasStore};
+ghost use Rattle.um_slot.specs.Snapshots.{body_sector, IsSnapshot, MaybeSnapshot, AfterSnapshot, EitherSnapshot};
 ghost use Rattle.um_model.specs.declared.layout.Slot.TheVariants.{A};
 ghost use Rattle.um_sector.specs.Refused.{CountsDevice, IsLost};
 
@@ -56,9 +58,9 @@ pub fn write_other<D: Disk>(
     home: Home,
     body: &[u8],
 ) -> Result<Option<Home>, Refusal>
-    ensures during { IsTrue (D.honest disk.old) → (before : List ℕ) → Images (D.past disk.old) (IsStoreOf layout home.slot home.generation before)
+    ensures during { IsTrue (D.honest disk.old) → (before : List ℕ) → Images (D.past disk.old) (HasStore layout home.slot home.generation before)
         → During (D.past disk.old) (D.past disk.new) (EitherSnapshot layout (D.past disk.old) home.slot home.generation before body.now) }
-    ensures ok { IfOk result (λ to. IfSome to (λ to. IsTrue (D.honest disk.old) → (before : List ℕ) → Images (D.past disk.old) (IsStoreOf layout home.slot home.generation before)
+    ensures ok { IfOk result (λ to. IfSome to (λ to. IsTrue (D.honest disk.old) → (before : List ℕ) → Images (D.past disk.old) (HasStore layout home.slot home.generation before)
         → GoesOn layout (D.past disk.new) to.slot to.generation body.now [] 0 (log_start layout to.generation))) }
     ensures settled { IfOk result (λ to. IfSome to (λ _. IsTrue (D.honest disk.old) → IsSettled (D.past disk.new))) }
     ensures home { IfOk result (λ to. IfSome to (λ to. (to.slot ≡ other home.slot) × (to.generation ≡ home.generation + 1))) }

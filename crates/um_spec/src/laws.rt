@@ -1,7 +1,7 @@
 //! What the definition of specifiers says, as functions that do nothing.
 
 ghost use Rattle.std.specs.Prelude.{◌≡◌, ℕ, List};
-ghost use Rattle.um_model.specs.Finds.{Finds};
+ghost use Rattle.um_model.proofs.FindsLaws.{Finds};
 ghost use Rattle.um_model.specs.Specifiers.{expanded_of};
 ghost use Rattle.um_model.proofs.SpecifiersLaws.{IsExpanded};
 

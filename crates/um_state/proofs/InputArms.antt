@@ -3,8 +3,8 @@ use Rattle.std.proofs.Common.{◌≡◌, ℕ, zero, suc, ◌-◌, nat_lt, Bool, 
 use Rattle.std.proofs.Common.{◌<◌, ◌≤◌, ◌+◌, drop, slice_index, arith}
 use Rattle.std.specs.Prelude.{⊤}
 use Rattle.std.proofs.lemmas.Bool.{ltb-true, ltb-false}
-use Rattle.um_model.specs.Bytes.{Reading, ◌>>=◌, arm_in, as_at, pair_at, none_at, number_at, option_at, text_at}
-use Rattle.um_model.specs.InputSpellings.{comes_at, for_unit_at, input_arms, input_at, install_at, mode_at, nothing_at, texts_at}
+use Rattle.um_model.specs.Bytes.{Reading, ◌>>=◌, arm_in, as_at, pair_at, none_at, number_at, option_at, text_at, table_at}
+use Rattle.um_model.specs.InputSpellings.{comes_at, for_unit_at, input_arms, input_at, install_at, nothing_at, texts_at, modes}
 use Rattle.um_model.specs.Machine.{PutFile, PutLink, Remove, DaemonReload, ForUnit, Cancel, ResetFailed, Install, ProcessEnded, ProcessExecuted, Tick, Booted, Event, Commanded, Happened, Input}
 use Rattle.um_model.specs.Spellings.{end_at, moment_at, unit_name_at}
 use Rattle.um_model.specs.StateSpellings.{boot_at}
@@ -109,7 +109,7 @@ all_same = (
   ),
 ) where
   for_units : (v : UnitVerb) → Same (for_unit_at v) (timed (as_at Commanded (for_unit v)))
-  for_units v = comes (λ f. ForUnit v f.0 f.1) Commanded (pair_at unit_name_at mode_at)
+  for_units v = comes (λ f. ForUnit v f.0 f.1) Commanded (pair_at unit_name_at (table_at modes))
 
   install_same : (v : InstallVerb) → Same (install_at v) (timed (as_at Commanded (installs v)))
   install_same v = comes (λ unit. Install v unit) Commanded unit_name_at

@@ -2,8 +2,8 @@
 use Rattle.std.proofs.Common.{◌≡◌, List, [], ◌∷◌, ◌++◌, refl, ap}
 use Rattle.std.specs.FinMap as map
 use Rattle.um_model.specs.Service.{ByUnit}
-use Rattle.um_model.specs.Jobs.{JobShown, jobs_of_unit, with_jobs}
-use Rattle.um_model.specs.StateSpellings.{pending_of, with_job}
+use Rattle.um_model.specs.Jobs.{JobShown, jobs_of_unit, with_jobs, with_job}
+use Rattle.um_model.specs.StateSpellings.{pending_of}
 use Rattle.um_model.proofs.PendingSpellingsLaws.{has_with_job}
 use Rattle.um_model.specs.declared.jobs.UnitJobs.{UnitJobs}
 

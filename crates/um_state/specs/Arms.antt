@@ -2,8 +2,8 @@
 -- No manual page has it: it is the order in which the code reads an input.
 -- The code that reads inputs stands on this file.
 use Rattle.std.specs.Prelude.{ℕ, ◌-◌, nat_lt, List, [], ◌∷◌, if◌then◌else◌}
-use Rattle.um_model.specs.Bytes.{Reading, arm_in, as_at, none_at, number_at, option_at, pair_at, text_at}
-use Rattle.um_model.specs.InputSpellings.{mode_at, nothing_at, texts_at}
+use Rattle.um_model.specs.Bytes.{Reading, arm_in, as_at, none_at, number_at, option_at, pair_at, text_at, table_at}
+use Rattle.um_model.specs.InputSpellings.{nothing_at, texts_at, modes}
 use Rattle.um_model.specs.Machine.{Command, PutFile, PutLink, Remove, DaemonReload, ForUnit, Cancel, ResetFailed, Install, Happening, ProcessEnded, ProcessExecuted, Tick, Booted, Event}
 use Rattle.um_model.specs.Machine.{Commanded, Happened, Input}
 use Rattle.um_model.specs.Spellings.{end_at, moment_at, unit_name_at}
@@ -15,7 +15,7 @@ use Rattle.um_model.specs.declared.install.InstallVerb.TheVariants as install
 
 -- a command for a unit: its name, and the mode
 abbrev pub for_unit : UnitVerb → Reading Command
-for_unit verb = as_at (λ f. ForUnit verb f.0 f.1) (pair_at unit_name_at mode_at)
+for_unit verb = as_at (λ f. ForUnit verb f.0 f.1) (pair_at unit_name_at (table_at modes))
 
 -- enabling or its kin: the name of the unit
 abbrev pub installs : InstallVerb → Reading Command

@@ -1,9 +1,9 @@
 //! The canonical bytes of inputs: a 1, a tag, the moment, and the fields of what comes in.
 ghost use Rattle.std.specs.Prelude.{◌≡◌, ◌≤◌, ◌++◌, ℕ, length, drop, IfOk, IfSome, OnOk, OnErr};
 ghost use Rattle.std.specs.Option.{option_map};
-ghost use Rattle.um_model.specs.Bytes.{IsInFront, arm_in, as_at, pair_at};
-ghost use Rattle.um_model.specs.InputSpellings.{FitCommand, FitEvent, FitHappening, FitInput, command_fields, command_tag, event_fields, event_tag, happening_fields, happening_tag};
-ghost use Rattle.um_model.specs.InputSpellings.{input_at, input_spelling, install_tag, mode_at, verb_tag};
+ghost use Rattle.um_model.specs.Bytes.{IsInFront, arm_in, as_at, pair_at, table_at};
+ghost use Rattle.um_model.specs.InputSpellings.{FitCommand, FitEvent, FitHappening, FitInput, command_fields, command_tag, event_fields, event_tag, happening_fields, happening_tag, modes};
+ghost use Rattle.um_model.specs.InputSpellings.{input_at, input_spelling, install_tag, verb_tag};
 ghost use Rattle.um_model.specs.Machine as model;
 ghost use Rattle.um_model.specs.Spellings.{unit_name_at};
 ghost use Rattle.um_model.proofs.InputSpellingsLaws.{canonical_input};
@@ -144,7 +144,7 @@ fn for_unit_in(
     verb: UnitVerb,
     bytes: &[u8],
 ) -> Result<Option<(Command, usize)>, AllocError>
-    ensures read { IfOk result (λ found. as_at (λ f. model.ForUnit verb f.0 f.1) (pair_at unit_name_at mode_at) bytes.now
+    ensures read { IfOk result (λ found. as_at (λ f. model.ForUnit verb f.0 f.1) (pair_at unit_name_at (table_at modes)) bytes.now
         ≡ option_map (λ x. (command_of x.0, drop x.1 bytes.now)) found) }
     ensures within { IfOk result (λ found. IfSome found (λ x. x.1 ≤ length bytes.now)) }
 {

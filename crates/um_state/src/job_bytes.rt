@@ -2,9 +2,11 @@
 ghost use Rattle.std.specs.Prelude.{◌≡◌, map, IfOk};
 ghost use Rattle.um_model.specs.Jobs as model;
 ghost use Rattle.um_model.specs.Service.{ByUnit};
-ghost use Rattle.um_model.specs.StateSpellings.{FitJob, FitPending, is_job_before, job_at, job_spelling, jobs_ascend, pending_at, pending_of, pending_spelling, with_job};
+ghost use Rattle.um_model.specs.StateSpellings.{FitPending, is_job_before, job_at, job_spelling, jobs_ascend, pending_at, pending_of, pending_spelling};
 ghost use Rattle.um_model.proofs.PendingSpellingsLaws.{canonical_job, canonical_pending};
 ghost use Rattle.um_model.specs.declared.jobs.UnitJobs as jobs;
+ghost use Rattle.um_model.specs.Jobs.{with_job};
+ghost use Rattle.um_model.specs.Spellings.{FitUnitName};
 ghost use Rattle.um_state.specs.Shown.{job_of};
 
 use crate::reply::JobShown;
@@ -21,7 +23,7 @@ impl Canon for JobShown {
 
     ghost value = { job_of };
 
-    ghost fits = { FitJob };
+    ghost fits = { λ j. FitUnitName j.unit };
 
     ghost spelling = { job_spelling };
 

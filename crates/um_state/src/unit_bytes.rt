@@ -1,9 +1,10 @@
 //! The canonical bytes of units: a map from names to units of which something is known.
-ghost use Rattle.std.specs.Prelude.{◌≡◌, ◌++◌, IfOk, OnOk};
+ghost use Rattle.std.specs.Prelude.{◌≡◌, ◌++◌, true, IfOk, OnOk};
+ghost use Rattle.std.specs.Prelude.{nat_le};
+ghost use Rattle.std.specs.Option.{option_map_or, option_to_list};
 ghost use Rattle.std.specs.FinMap as maps;
 ghost use Rattle.um_model.specs.Service.{ByUnit};
-ghost use Rattle.um_model.specs.StateSpellings.{FitUnits, are_distinct, are_known, has_begun, have_begun, numbers_in, units_at, units_spelling};
-ghost use Rattle.um_model.specs.Transitions.{numbers};
+ghost use Rattle.um_model.specs.StateSpellings.{FitUnits, are_distinct, are_known, have_begun, numbers_in, units_at, units_spelling};
 ghost use Rattle.um_model.proofs.StateSpellingsLaws.{canonical_units};
 ghost use Rattle.um_model.specs.declared.service.UnitState as unit;
 
@@ -57,7 +58,7 @@ impl Canon for Units {
 
 /// Whether a window began, up to the clock, or none is there.
 fn has_begun(clock: Moment, window: Option<Counted>) -> bool
-    ensures { result ≡ has_begun clock window }
+    ensures { result ≡ option_map_or (λ c. nat_le c.began clock) window true }
 {
     match window {
         Some(window) => window.began.micros() <= clock.micros(),
@@ -67,7 +68,7 @@ fn has_begun(clock: Moment, window: Option<Counted>) -> bool
 
 /// Adds the number of a process, if it is there, behind the others.
 fn push_number(told: &mut Vec<u64>, process: Option<ProcessNumber>) -> Result<(), AllocError>
-    ensures { OnOk result (told.new.items ≡ told.old.items ++ numbers process) }
+    ensures { OnOk result (told.new.items ≡ told.old.items ++ option_to_list process) }
 {
     if let Some(process) = process {
         told.push(process.get())?;

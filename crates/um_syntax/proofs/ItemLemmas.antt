@@ -4,7 +4,9 @@ use Rattle.std.specs.Prelude.{All, IfSome}
 use Rattle.std.specs.Option.{option_to_list}
 use Rattle.std.proofs.lemmas.List.{drop_more, drop_all, map-append}
 use Rattle.std.proofs.lemmas.List.Elements.{All-push}
-use Rattle.um_model.specs.Syntax.{Line, statement_of, items_of, items_in, is_head, joined_lines, in_sections, reading_of}
+use Rattle.um_model.proofs.FileForms.{items_of, items_in, is_head, in_sections}
+use Rattle.um_model.proofs.SyntaxLaws.{placed_is}
+use Rattle.um_model.specs.Syntax.{Line, statement_of, joined_lines, reading_of}
 use Rattle.um_model.specs.Syntax as said
 use Rattle.um_syntax.specs.declared.joiner.Joined.{Joined}
 use Rattle.um_syntax.specs.declared.items.Item.{Item}
@@ -55,4 +57,4 @@ read_all source lines i begun items past told are =
     let nothing : drop i lines ≡ [] = drop_all i lines past in
     let same : map item_of items ≡ items_in false (joined_lines source) =
     sym (append-nil (map item_of items)) ∙ ap (λ ls. map item_of items ++ items_in begun (map line_of ls)) (sym nothing) ∙ told ∙ ap (items_in false) are in
-    ap (in_sections None) same
+    ap (in_sections None) same ∙ sym (placed_is None (joined_lines source))

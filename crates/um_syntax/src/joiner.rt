@@ -1,9 +1,10 @@
 //! Joined lines.
 
 ghost use Rattle.std.specs.Prelude.{◌≡◌, ◌∷◌, List, IfOk, OnOk, All, map, ℕ};
-ghost use Rattle.um_model.specs.Syntax.{Line, physical_line, joined_lines};
+ghost use Rattle.um_model.specs.Syntax.{Line, joined_lines};
 ghost use Rattle.um_syntax.specs.Joining.{line_of, all_lines, LiesIn};
 ghost use Rattle.um_syntax.specs.Places.{LiesAt};
+ghost use Rattle.um_model.proofs.FileForms.{physical_line};
 
 use crate::lines::{continued, cut_line, is_comment};
 use std::alloc::{AllocError, Global};

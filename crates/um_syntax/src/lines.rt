@@ -2,7 +2,7 @@
 
 ghost use Rattle.std.specs.Prelude.{◌≡◌, ◌<◌, ◌≤◌, ◌∷◌, ◌-◌, take, drop, length, MatchOption, true, false};
 ghost use Rattle.std.specs.Str.Lines.{lines};
-ghost use Rattle.um_model.specs.Text.{without_last};
+ghost use Rattle.std.specs.Ffi.{without_last};
 ghost use Rattle.um_model.specs.Syntax.{is_comment, continues};
 
 use um_text::trim_start;

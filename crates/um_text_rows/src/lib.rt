@@ -7,7 +7,6 @@ mod answers;
 mod name;
 #[cfg(test)]
 mod resolve;
-pub mod spans;
 #[cfg(test)]
 mod spec;
 #[cfg(test)]

@@ -1,5 +1,5 @@
 //! Unit names, their parts and escapes.
-use crate::answers::{is_refused, list, same, same_at, text};
+use crate::answers::{is_refused, same, same_at, text};
 use std::collections::BTreeMap;
 use std::process::Abort;
 use um_name::{Suffix, UnitName, escape, is_unit_name, suffix_of, unescape};
@@ -9,14 +9,9 @@ fn unit(rt: &(impl AllocGlobal + Abort), text: &str) -> UnitName {
     UnitName::parse(rt.alloc(), text).expect(rt, "no unit")
 }
 
-/// Asserts that the text is taken as a name.
-fn is_taken(rt: &(impl AllocGlobal + Abort), text: &str) {
-    same_at(rt, is_unit_name(text), true, text);
-    same(rt, unit(rt, text).as_str(), text);
-}
-
-/// A name with each suffix.
-const EACH_SUFFIX: &[&str] = &[
+/// Names.
+const TAKEN: &[&str] = &[
+    // with each suffix
     "a.service",
     "a.socket",
     "a.device",
@@ -28,17 +23,7 @@ const EACH_SUFFIX: &[&str] = &[
     "a.timer",
     "a.slice",
     "a.scope",
-];
-
-#[test]
-fn names_with_each_suffix_are_taken(rt: HostRuntime) {
-    for text in EACH_SUFFIX {
-        is_taken(&rt, text);
-    }
-}
-
-/// Names with each kind of byte, and at the edges of their form.
-const EACH_BYTE: &[&str] = &[
+    // with each kind of byte, and at the edges of their form
     "AMZamz059:-_.\\.service",
     "a@AMZamz059:-_.\\@.service",
     "a@b@c.service",
@@ -49,22 +34,16 @@ const EACH_BYTE: &[&str] = &[
 ];
 
 #[test]
-fn names_with_each_kind_of_byte_are_taken(rt: HostRuntime) {
-    for text in EACH_BYTE {
-        is_taken(&rt, text);
+fn names_are_taken(rt: HostRuntime) {
+    for text in TAKEN {
+        let name = unit(&rt, text);
+        same(&rt, (name.as_str(), is_unit_name(text)), (*text, true));
     }
 }
 
-/// Asserts that the text is refused as a name.
-fn is_no_name(rt: &(impl AllocGlobal + Abort), text: &str) {
-    let wanted = format!(in rt.alloc(); "E3 BadName {text}").expect(rt, "no memory");
-    let refused = UnitName::parse(rt.alloc(), text);
-    is_refused(rt, refused, Some(wanted.as_str()), text);
-    same_at(rt, is_unit_name(text), false, text);
-}
-
-/// Texts without the form of a name.
-const NO_FORM: &[&str] = &[
+/// Texts that are no names.
+const REFUSED: &[&str] = &[
+    // without the form of a name
     "",
     "a",
     "a.b",
@@ -76,17 +55,7 @@ const NO_FORM: &[&str] = &[
     "a.services",
     "a.service ",
     "a@b.conf",
-];
-
-#[test]
-fn texts_without_the_form_of_a_name_are_refused(rt: HostRuntime) {
-    for text in NO_FORM {
-        is_no_name(&rt, text);
-    }
-}
-
-/// Texts with bytes that no name has.
-const OTHER_BYTES: &[&str] = &[
+    // with bytes that no name has
     "a b.service",
     "a/b.service",
     "a[b.service",
@@ -104,9 +73,12 @@ const OTHER_BYTES: &[&str] = &[
 ];
 
 #[test]
-fn texts_with_other_bytes_are_refused(rt: HostRuntime) {
-    for text in OTHER_BYTES {
-        is_no_name(&rt, text);
+fn other_texts_are_refused_as_names(rt: HostRuntime) {
+    for text in REFUSED {
+        let wanted = format!(in rt.alloc(); "E3 BadName {text}").expect(&rt, "no memory");
+        let refused = UnitName::parse(rt.alloc(), text);
+        is_refused(&rt, refused, Some(wanted.as_str()), text);
+        same_at(&rt, is_unit_name(text), false, text);
     }
 }
 
@@ -120,94 +92,129 @@ fn a_name_has_at_most_255_bytes(rt: HostRuntime) {
     }
 }
 
-/// What a name tells of its parts.
-#[derive(Clone, Copy, Debug, PartialEq)]
-struct Told<'a> {
-    prefix: &'a str,
-    instance: Option<&'a str>,
+/// A name, its parts and its template.
+struct Parts {
+    name: &'static str,
+    prefix: &'static str,
+    instance: Option<&'static str>,
     suffix: Suffix,
+    template: Option<&'static str>,
 }
 
-/// The parts that the name tells.
-fn parts(name: &UnitName) -> Told<'_> {
-    Told {
-        prefix: name.prefix(),
-        instance: name.instance(),
-        suffix: name.suffix(),
-    }
-}
+const PARTS: &[Parts] = &[
+    Parts {
+        name: "a.service",
+        prefix: "a",
+        instance: None,
+        suffix: Suffix::Service,
+        template: None,
+    },
+    Parts {
+        name: "a@b@c.timer",
+        prefix: "a",
+        instance: Some("b@c"),
+        suffix: Suffix::Timer,
+        template: Some("a@.timer"),
+    },
+    Parts {
+        name: "a@.service",
+        prefix: "a",
+        instance: Some(""),
+        suffix: Suffix::Service,
+        template: Some("a@.service"),
+    },
+    Parts {
+        name: "a.b@c.d.automount",
+        prefix: "a.b",
+        instance: Some("c.d"),
+        suffix: Suffix::Automount,
+        template: Some("a.b@.automount"),
+    },
+    Parts {
+        name: "x.service.target",
+        prefix: "x.service",
+        instance: None,
+        suffix: Suffix::Target,
+        template: None,
+    },
+];
 
-/// Asserts that the template is that name; None: that there is none.
+/// Asserts that the made name is that one; None: that there is none.
 fn is_named(rt: &impl Abort, made: Option<UnitName>, wanted: Option<&str>, row: &str) {
     same_at(rt, made.as_ref().map(|made| made.as_str()), wanted, row);
 }
 
-/// Asserts that the name has these parts and this template.
-fn has_parts(
-    rt: &(impl AllocGlobal + Abort),
-    text: &str,
-    wanted: Told<'_>,
-    template: Option<&str>,
-) {
-    let name = unit(rt, text);
-    same_at(rt, parts(&name), wanted, text);
-    same_at(rt, suffix_of(text), Some(wanted.suffix), text);
-    same_at(rt, name.is_template(), wanted.instance == Some(""), text);
-    let made = name.template().expect(rt, "no memory");
-    is_named(rt, made, template, text);
-}
-
-/// These parts.
-fn of<'a>(prefix: &'a str, instance: Option<&'a str>, suffix: Suffix) -> Told<'a> {
-    Told {
-        prefix,
-        instance,
-        suffix,
+#[test]
+fn the_parts_of_a_name_are_told(rt: HostRuntime) {
+    for row in PARTS {
+        let name = unit(&rt, row.name);
+        let parts = (name.prefix(), name.instance(), Some(name.suffix()));
+        let wanted = (row.prefix, row.instance, suffix_of(row.name));
+        same_at(&rt, parts, wanted, row.name);
+        let is_template = row.instance == Some("");
+        let told = (name.suffix(), name.is_template());
+        same_at(&rt, told, (row.suffix, is_template), row.name);
+        let made = name.template().expect(&rt, "no memory");
+        is_named(&rt, made, row.template, row.name);
     }
 }
 
-#[test]
-fn the_parts_of_a_name_are_told(rt: HostRuntime) {
-    has_parts(&rt, "a.service", of("a", None, Suffix::Service), None);
-    let timer = of("a", Some("b@c"), Suffix::Timer);
-    has_parts(&rt, "a@b@c.timer", timer, Some("a@.timer"));
-    let template = of("a", Some(""), Suffix::Service);
-    has_parts(&rt, "a@.service", template, Some("a@.service"));
-    let automount = of("a.b", Some("c.d"), Suffix::Automount);
-    has_parts(&rt, "a.b@c.d.automount", automount, Some("a.b@.automount"));
-    let target = of("x.service", None, Suffix::Target);
-    has_parts(&rt, "x.service.target", target, None);
+/// A name, an instance, and the name with that instance; None where it has none.
+struct Instance {
+    name: &'static str,
+    instance: &'static str,
+    made: Option<&'static str>,
 }
 
-/// Asserts that the name with the instance is that name; None: that it has none.
-fn takes(rt: &(impl AllocGlobal + Abort), text: &str, instance: &str, wanted: Option<&str>) {
-    let made: Result<_, _> = unit(rt, text).with_instance(instance);
-    is_named(rt, made.expect(rt, "no memory"), wanted, text);
-}
+const INSTANCES: &[Instance] = &[
+    Instance {
+        name: "a@.service",
+        instance: "x",
+        made: Some("a@x.service"),
+    },
+    Instance {
+        name: "a@b.service",
+        instance: "x@y",
+        made: Some("a@x@y.service"),
+    },
+    Instance {
+        name: "a.service",
+        instance: "x",
+        made: Some("a@x.service"),
+    },
+    Instance {
+        name: "a@b.service",
+        instance: "",
+        made: Some("a@.service"),
+    },
+    Instance {
+        name: "a@.service",
+        instance: "x y",
+        made: None,
+    },
+    Instance {
+        name: "a@.service",
+        instance: "x/y",
+        made: None,
+    },
+];
 
 #[test]
 fn an_instance_is_put_into_a_name(rt: HostRuntime) {
-    takes(&rt, "a@.service", "x", Some("a@x.service"));
-    takes(&rt, "a@b.service", "x@y", Some("a@x@y.service"));
-    takes(&rt, "a.service", "x", Some("a@x.service"));
-    takes(&rt, "a@b.service", "", Some("a@.service"));
-    takes(&rt, "a@.service", "x y", None);
-    takes(&rt, "a@.service", "x/y", None);
-}
-
-/// Asserts that an instance of so many bytes is taken exactly where the name has no more than 255.
-fn takes_an_instance(rt: &(impl AllocGlobal + Abort), name: &UnitName, size: usize) {
-    let instance = "x".repeat(rt.alloc(), size).expect(rt, "no memory");
-    let made: Result<_, _> = name.with_instance(instance.as_str());
-    let made = made.expect(rt, "no memory");
-    same_at(rt, made.is_some(), size + 10 <= 255, size);
+    for row in INSTANCES {
+        let made: Result<_, _> = unit(&rt, row.name).with_instance(row.instance);
+        is_named(&rt, made.expect(&rt, "no memory"), row.made, row.name);
+    }
 }
 
 #[test]
 fn an_instance_leaves_a_name_of_255_bytes_at_most(rt: HostRuntime) {
     let name = unit(&rt, "a@.service");
     for size in 0..300_usize {
-        takes_an_instance(&rt, &name, size);
+        let instance = "x".repeat(rt.alloc(), size).expect(&rt, "no memory");
+        let made: Result<_, _> = name.with_instance(instance.as_str());
+        let made = made.expect(&rt, "no memory");
+        same_at(&rt, made.is_some(), size + 10 <= 255, size);
     }
 }
 
@@ -217,8 +224,8 @@ fn names_are_copied_and_shown(rt: HostRuntime) {
     let copied: Result<_, _> = name.copy();
     let copy = copied.expect(&rt, "no memory");
     same(&rt, &copy, &name);
-    same(&rt, copy.as_str(), "b@x.service");
-    same(&rt, copy.suffix(), Suffix::Service);
+    let told = (copy.as_str(), copy.suffix());
+    same(&rt, told, ("b@x.service", Suffix::Service));
     let shown = format!(in rt.alloc(); "{name} {name:?}").expect(&rt, "no memory");
     same(&rt, shown.as_str(), r#"b@x.service "b@x.service""#);
 }
@@ -239,11 +246,12 @@ fn units(rt: &(impl AllocGlobal + Abort)) -> BTreeMap<UnitName, &'static str> {
     units
 }
 
-/// The names of the units, in the order of the map.
-fn row(rt: &(impl AllocGlobal + Abort), units: &BTreeMap<UnitName, &str>) -> Vec<String> {
-    let mut row = Vec::new(rt.alloc());
+/// The names of the units, in the order of the map, each with a space behind it.
+fn row(rt: &(impl AllocGlobal + Abort), units: &BTreeMap<UnitName, &str>) -> String {
+    let mut row = text(rt, "");
     for unit in units.keys() {
-        row.push(text(rt, unit.as_str())).expect(rt, "no memory");
+        row.push_str(unit.as_str()).expect(rt, "no memory");
+        row.push(' ').expect(rt, "no memory");
     }
     row
 }
@@ -251,23 +259,10 @@ fn row(rt: &(impl AllocGlobal + Abort), units: &BTreeMap<UnitName, &str>) -> Vec
 #[test]
 fn names_are_ordered_by_bytes(rt: HostRuntime) {
     let units = units(&rt);
-    let ascending = [
-        "Z.service",
-        "a.service",
-        "a.target",
-        "b.service",
-        "b@x.service",
-    ];
-    same(&rt, row(&rt, &units), list(&rt, &ascending));
+    let ascending = "Z.service a.service a.target b.service b@x.service ";
+    same(&rt, row(&rt, &units).as_str(), ascending);
     let found = units.get(&unit(&rt, "b@x.service")).copied();
     same(&rt, found, Some("b@x.service"));
-}
-
-/// Asserts that the bytes are escaped so.
-fn is_escaped(rt: &(impl AllocGlobal + Abort), bytes: &str, wanted: &str) {
-    let escaped: Result<_, _> = escape(rt.alloc(), bytes.as_bytes());
-    let text = escaped.expect(rt, "no memory");
-    same_at(rt, text.as_str(), wanted, bytes);
 }
 
 /// Bytes, and the text that they are escaped as.
@@ -286,16 +281,10 @@ const ESCAPED: &[(&str, &str)] = &[
 #[test]
 fn bytes_are_escaped(rt: HostRuntime) {
     for (bytes, wanted) in ESCAPED {
-        is_escaped(&rt, bytes, wanted);
+        let escaped: Result<_, _> = escape(rt.alloc(), bytes.as_bytes());
+        let text = escaped.expect(&rt, "no memory");
+        same_at(&rt, text.as_str(), *wanted, bytes);
     }
-}
-
-/// Asserts that the escaped text stands for the bytes of this one; None: that it can't be read.
-fn is_read(rt: &(impl AllocGlobal + Abort), text: &str, wanted: Option<&str>) {
-    let read: Result<_, _> = unescape(rt.alloc(), text);
-    let bytes = read.expect(rt, "no memory");
-    let wanted = wanted.map(|wanted| wanted.as_bytes());
-    same_at(rt, bytes.as_deref(), wanted, text);
 }
 
 /// Escaped texts, and the bytes that each stands for, where it can be read.
@@ -323,7 +312,10 @@ const ESCAPES: &[(&str, Option<&str>)] = &[
 #[test]
 fn escapes_are_read_back(rt: HostRuntime) {
     for (text, wanted) in ESCAPES {
-        is_read(&rt, text, *wanted);
+        let read: Result<_, _> = unescape(rt.alloc(), text);
+        let bytes = read.expect(&rt, "no memory");
+        let wanted = wanted.map(|wanted| wanted.as_bytes());
+        same_at(&rt, bytes.as_deref(), wanted, text);
     }
 }
 

@@ -1,5 +1,5 @@
 //! Served paths, and the tree of files and links.
-use crate::answers::{is_refused, list, same, same_at, text};
+use crate::answers::{is_refused, list, put, same, same_at, text, tree_of};
 use std::process::Abort;
 use um_tree::{Entry, Layer, Place, ServedPath, Tree};
 
@@ -44,92 +44,86 @@ fn paths_have_four_forms(rt: HostRuntime) {
     }
 }
 
-/// Asserts that a drop-in with a name of so many bytes is served, or isn't.
-fn is_served(rt: &(impl AllocGlobal + Abort), count: usize, served: bool) {
-    let name = long(rt, count);
-    let path = format!(in rt.alloc(); "etc/a.service.d/{name}.conf").expect(rt, "no memory");
-    let parsed = ServedPath::parse(path.as_str()).is_some();
-    same_at(rt, parsed, served, count);
-}
-
 #[test]
 fn a_drop_in_has_a_name_of_1_to_200_bytes(rt: HostRuntime) {
-    is_served(&rt, 0, false);
-    is_served(&rt, 1, true);
-    is_served(&rt, 200, true);
-    is_served(&rt, 201, false);
+    for (count, served) in [(0, false), (1, true), (200, true), (201, false)] {
+        let name = long(&rt, count);
+        let path = format!(in rt.alloc(); "etc/a.service.d/{name}.conf").expect(&rt, "no memory");
+        let parsed = ServedPath::parse(path.as_str()).is_some();
+        same_at(&rt, parsed, served, count);
+    }
 }
 
-/// Asserts that the path has these parts.
-fn has_parts(rt: &impl Abort, path: &str, layer: Layer, unit: &str, place: Place<'_>) {
-    let parts = ServedPath::parse(path).expect(rt, "no served path");
-    let told = (parts.layer(), parts.unit(), parts.place());
-    same_at(rt, told, (layer, unit, place), path);
+/// A path and its parts.
+struct Parts {
+    path: &'static str,
+    layer: Layer,
+    unit: &'static str,
+    place: Place<'static>,
 }
+
+const PARTS: &[Parts] = &[
+    Parts {
+        path: "etc/a.service",
+        layer: Layer::Etc,
+        unit: "a.service",
+        place: Place::Unit,
+    },
+    Parts {
+        path: "run/a.service.d/10.conf",
+        layer: Layer::Run,
+        unit: "a.service",
+        place: Place::DropIn("10"),
+    },
+    Parts {
+        path: "lib/m.target.wants/b.service",
+        layer: Layer::Lib,
+        unit: "m.target",
+        place: Place::Wants("b.service"),
+    },
+    Parts {
+        path: "lib/m.target.requires/b.service",
+        layer: Layer::Lib,
+        unit: "m.target",
+        place: Place::Requires("b.service"),
+    },
+];
 
 #[test]
 fn a_path_is_told_by_its_parts(rt: HostRuntime) {
-    has_parts(&rt, "etc/a.service", Layer::Etc, "a.service", Place::Unit);
-    let drop_in = Place::DropIn("10");
-    has_parts(
-        &rt,
-        "run/a.service.d/10.conf",
-        Layer::Run,
-        "a.service",
-        drop_in,
-    );
-    let wants = Place::Wants("b.service");
-    has_parts(
-        &rt,
-        "lib/m.target.wants/b.service",
-        Layer::Lib,
-        "m.target",
-        wants,
-    );
-    let needs = Place::Requires("b.service");
-    has_parts(
-        &rt,
-        "lib/m.target.requires/b.service",
-        Layer::Lib,
-        "m.target",
-        needs,
-    );
+    for row in PARTS {
+        let parts = ServedPath::parse(row.path).expect(&rt, "no served path");
+        let told = (parts.layer(), parts.unit(), parts.place());
+        same_at(&rt, told, (row.layer, row.unit, row.place), row.path);
+    }
 }
 
-/// Puts a file.
-fn put(rt: &impl Abort, tree: &mut Tree, path: &str, text: &str) {
-    tree.put(path, text).expect(rt, "not put");
-}
+/// Files, one of which is replaced, and a link.
+const FILLED: &[(&str, Entry<'static>)] = &[
+    ("lib/b.service", Entry::File("one")),
+    ("etc/a.service", Entry::File("two")),
+    ("lib/b.service", Entry::File("three")),
+    ("etc/m.target.wants/b.service", Entry::Link("lib/b.service")),
+    ("etc/n.target.wants/b.service", Entry::File("")),
+];
 
-/// Sets a link.
-fn link(rt: &impl Abort, tree: &mut Tree, path: &str, target: &str) {
-    tree.link(path, target).expect(rt, "not linked");
-}
-
-/// A tree of three files, one of them replaced, and a link.
-fn filled(rt: &(impl AllocGlobal + Abort)) -> Tree {
-    let mut tree = Tree::new(rt.alloc());
-    put(rt, &mut tree, "lib/b.service", "one");
-    put(rt, &mut tree, "etc/a.service", "two");
-    put(rt, &mut tree, "lib/b.service", "three");
-    link(
-        rt,
-        &mut tree,
+/// Paths, and what stands at each then.
+const STANDING: &[(&str, Option<Entry<'static>>)] = &[
+    ("lib/b.service", Some(Entry::File("three"))),
+    (
         "etc/m.target.wants/b.service",
-        "lib/b.service",
-    );
-    put(rt, &mut tree, "etc/n.target.wants/b.service", "");
-    tree
-}
+        Some(Entry::Link("lib/b.service")),
+    ),
+    ("lib/c.service", None),
+];
 
 #[test]
 fn a_file_is_put_and_replaced(rt: HostRuntime) {
-    let tree = filled(&rt);
+    let tree = tree_of(&rt, FILLED);
     same(&rt, tree.len(), 4);
-    same(&rt, tree.get("lib/b.service"), Some(Entry::File("three")));
-    let linked = tree.get("etc/m.target.wants/b.service");
-    same(&rt, linked, Some(Entry::Link("lib/b.service")));
-    same(&rt, tree.get("lib/c.service"), None);
+    for (path, wanted) in STANDING {
+        same_at(&rt, tree.get(path), *wanted, path);
+    }
 }
 
 /// The paths of the tree.
@@ -141,50 +135,99 @@ fn paths(rt: &(impl AllocGlobal + Abort), tree: &Tree) -> Vec<String> {
     paths
 }
 
+/// The paths of that tree.
+const ASCENDING: &[&str] = &[
+    "etc/a.service",
+    "etc/m.target.wants/b.service",
+    "etc/n.target.wants/b.service",
+    "lib/b.service",
+];
+
 #[test]
 fn a_removal_leaves_a_copy_as_it_was(rt: HostRuntime) {
-    let mut tree = filled(&rt);
+    let mut tree = tree_of(&rt, FILLED);
     let copied: Result<_, _> = tree.copy();
     let copy = copied.expect(&rt, "no memory");
     tree.remove("etc/a.service").expect(&rt, "not removed");
     same(&rt, (tree.len(), tree.get("etc/a.service")), (3, None));
-    let ascending = [
-        "etc/a.service",
-        "etc/m.target.wants/b.service",
-        "etc/n.target.wants/b.service",
-        "lib/b.service",
-    ];
-    same(&rt, paths(&rt, &copy), list(&rt, &ascending));
+    same(&rt, paths(&rt, &copy), list(&rt, ASCENDING));
 }
 
-/// Puts a file of so many bytes, and asserts that this is refused so; None: that it is put.
-fn puts(
-    rt: &(impl AllocGlobal + Abort),
-    tree: &mut Tree,
-    path: &str,
+/// What is put one after another: a file or a link at a path, with a text or a target of so many bytes, and what it is refused by.
+struct Sized {
+    path: &'static str,
+    is_link: bool,
     size: usize,
-    wanted: Option<&str>,
-) {
-    let text = long(rt, size);
-    is_refused(rt, tree.put(path, text.as_str()), wanted, (path, size));
+    wanted: Option<&'static str>,
 }
 
-/// Files of so many bytes that are put one after another, and what each is refused by.
-const PUTS: &[(&str, usize, Option<&str>)] = &[
-    ("lib/../x", 65_537, Some("E12 BadPath lib/../x")),
-    ("etc/z.service", 65_537, Some("E11 Exists etc/z.service")),
-    ("etc/a.service", 65_537, Some("E13 TooLarge text")),
-    ("etc/a.service", 65_536, None),
+/// Puts into a tree that has a link at `etc/z.service`.
+const SIZED: &[Sized] = &[
+    // a file is refused in order
+    Sized {
+        path: "lib/../x",
+        is_link: false,
+        size: 65_537,
+        wanted: Some("E12 BadPath lib/../x"),
+    },
+    Sized {
+        path: "etc/z.service",
+        is_link: false,
+        size: 65_537,
+        wanted: Some("E11 Exists etc/z.service"),
+    },
+    Sized {
+        path: "etc/a.service",
+        is_link: false,
+        size: 65_537,
+        wanted: Some("E13 TooLarge text"),
+    },
+    Sized {
+        path: "etc/a.service",
+        is_link: false,
+        size: 65_536,
+        wanted: None,
+    },
+    // a link that is wanted has a target of 1 to 512 bytes
+    Sized {
+        path: "etc/m.target.wants/a.service",
+        is_link: true,
+        size: 0,
+        wanted: Some("E12 BadPath etc/m.target.wants/a.service"),
+    },
+    Sized {
+        path: "etc/m.target.wants/a.service",
+        is_link: true,
+        size: 513,
+        wanted: Some("E12 BadPath etc/m.target.wants/a.service"),
+    },
+    Sized {
+        path: "etc/m.target.wants/a.service",
+        is_link: true,
+        size: 512,
+        wanted: None,
+    },
+    Sized {
+        path: "etc/m.target.requires/a.service",
+        is_link: true,
+        size: 1,
+        wanted: None,
+    },
 ];
 
 #[test]
-fn put_is_refused_in_order(rt: HostRuntime) {
-    let mut tree = Tree::new(rt.alloc());
-    link(&rt, &mut tree, "etc/z.service", "lib/a.service");
-    for (path, size, wanted) in PUTS {
-        puts(&rt, &mut tree, path, *size, *wanted);
+fn texts_and_targets_have_limits(rt: HostRuntime) {
+    let mut tree = tree_of(&rt, &[("etc/z.service", Entry::Link("lib/a.service"))]);
+    for row in SIZED {
+        let text = long(&rt, row.size);
+        let answer = if row.is_link {
+            tree.link(row.path, text.as_str())
+        } else {
+            tree.put(row.path, text.as_str())
+        };
+        is_refused(&rt, answer, row.wanted, (row.path, row.size));
     }
-    same(&rt, tree.len(), 2);
+    same(&rt, tree.len(), 4);
 }
 
 /// Links that are set one after another, and what each is refused by.
@@ -239,80 +282,51 @@ const LINKS: &[(&str, &str, Option<&str>)] = &[
 
 #[test]
 fn link_is_refused_in_order(rt: HostRuntime) {
-    let mut tree = Tree::new(rt.alloc());
-    put(&rt, &mut tree, "etc/f.service", "");
+    let mut tree = tree_of(&rt, &[("etc/f.service", Entry::File(""))]);
     for (path, target, wanted) in LINKS {
         is_refused(&rt, tree.link(path, target), *wanted, (path, target));
     }
     same(&rt, tree.len(), 4);
 }
 
-/// Sets a link to a target of so many bytes, and asserts that this is refused so; None: that it is set.
-fn links(
-    rt: &(impl AllocGlobal + Abort),
-    tree: &mut Tree,
-    path: &str,
-    size: usize,
-    wanted: Option<&str>,
-) {
-    let target = long(rt, size);
-    is_refused(rt, tree.link(path, target.as_str()), wanted, (path, size));
-}
-
-#[test]
-fn a_link_that_is_wanted_has_a_target_of_1_to_512_bytes(rt: HostRuntime) {
-    let wants = "etc/m.target.wants/a.service";
-    let ill = Some("E12 BadPath etc/m.target.wants/a.service");
-    let mut tree = Tree::new(rt.alloc());
-    links(&rt, &mut tree, wants, 0, ill);
-    links(&rt, &mut tree, wants, 513, ill);
-    links(&rt, &mut tree, wants, 512, None);
-    links(&rt, &mut tree, "etc/m.target.requires/a.service", 1, None);
-    same(&rt, tree.len(), 2);
-}
+/// Paths, and what a removal there is refused by.
+const REMOVALS: &[(&str, Option<&str>)] = &[
+    ("lib/b.service", Some("E12 BadPath lib/b.service")),
+    ("nowhere", Some("E12 BadPath nowhere")),
+    ("lib/a.service", None),
+];
 
 #[test]
 fn remove_is_refused_where_nothing_stands(rt: HostRuntime) {
-    let mut tree = Tree::new(rt.alloc());
-    put(&rt, &mut tree, "lib/a.service", "");
-    for (path, wanted) in [
-        ("lib/b.service", Some("E12 BadPath lib/b.service")),
-        ("nowhere", Some("E12 BadPath nowhere")),
-        ("lib/a.service", None),
-    ] {
-        is_refused(&rt, tree.remove(path), wanted, path);
+    let mut tree = tree_of(&rt, &[("lib/a.service", Entry::File(""))]);
+    for (path, wanted) in REMOVALS {
+        is_refused(&rt, tree.remove(path), *wanted, path);
     }
     same(&rt, tree.len(), 0);
 }
 
-/// Asserts that a removal at a path with a name of so many bytes is refused, and tells the path.
-fn is_not_removed(rt: &(impl AllocGlobal + Abort), size: usize) {
-    let name = long(rt, size);
-    let path = format!(in rt.alloc(); "lib/{name}.service").expect(rt, "no memory");
-    let wanted = format!(in rt.alloc(); "E12 BadPath {path}").expect(rt, "no memory");
-    let removed = Tree::new(rt.alloc()).remove(path.as_str());
-    is_refused(rt, removed, Some(wanted.as_str()), size);
-}
-
 #[test]
 fn a_removal_at_a_longer_path_than_a_name_tells_the_path(rt: HostRuntime) {
-    is_not_removed(&rt, 244);
-    is_not_removed(&rt, 248);
-    is_not_removed(&rt, 60_000);
+    for size in [244, 248, 60_000] {
+        let name = long(&rt, size);
+        let path = format!(in rt.alloc(); "lib/{name}.service").expect(&rt, "no memory");
+        let wanted = format!(in rt.alloc(); "E12 BadPath {path}").expect(&rt, "no memory");
+        let removed = Tree::new(rt.alloc()).remove(path.as_str());
+        is_refused(&rt, removed, Some(wanted.as_str()), size);
+    }
 }
+
+/// Entries under `run/`, and two files elsewhere.
+const UNDER_RUN: &[(&str, Entry<'static>)] = &[
+    ("run/a.service", Entry::File("")),
+    ("run/m.target.wants/a.service", Entry::Link("lib/a.service")),
+    ("etc/run.service", Entry::File("")),
+    ("lib/a.service", Entry::File("")),
+];
 
 #[test]
 fn a_boot_leaves_nothing_under_run(rt: HostRuntime) {
-    let mut tree = Tree::new(rt.alloc());
-    put(&rt, &mut tree, "run/a.service", "");
-    link(
-        &rt,
-        &mut tree,
-        "run/m.target.wants/a.service",
-        "lib/a.service",
-    );
-    put(&rt, &mut tree, "etc/run.service", "");
-    put(&rt, &mut tree, "lib/a.service", "");
+    let mut tree = tree_of(&rt, UNDER_RUN);
     tree.clear_run();
     let left = (tree.get("etc/run.service"), tree.get("lib/a.service"));
     let file = Some(Entry::File(""));
@@ -324,19 +338,32 @@ fn full(rt: &(impl AllocGlobal + Abort)) -> Tree {
     let mut tree = Tree::new(rt.alloc());
     for number in 0..4_096u32 {
         let path = format!(in rt.alloc(); "lib/a{number}.service").expect(rt, "no memory");
-        put(rt, &mut tree, path.as_str(), "");
+        tree.put(path.as_str(), "").expect(rt, "not put");
     }
     tree
 }
 
+/// What is put into a tree of 4,096 files, and what it is refused by.
+const PAST_THE_LIMIT: &[(&str, Entry<'static>, Option<&str>)] = &[
+    (
+        "lib/b.service",
+        Entry::File(""),
+        Some("E13 TooLarge entries"),
+    ),
+    (
+        "lib/b.service",
+        Entry::Link("/dev/null"),
+        Some("E13 TooLarge entries"),
+    ),
+    ("lib/a0.service", Entry::File("x"), None),
+];
+
 #[test]
 fn a_tree_has_4096_entries_at_most(rt: HostRuntime) {
     let mut tree = full(&rt);
-    same(&rt, tree.len(), 4_096);
-    let entries = Some("E13 TooLarge entries");
-    is_refused(&rt, tree.put("lib/b.service", ""), entries, "put");
-    let linked = tree.link("lib/b.service", "/dev/null");
-    is_refused(&rt, linked, entries, "link");
-    is_refused(&rt, tree.put("lib/a0.service", "x"), None, "again");
+    for (path, entry, wanted) in PAST_THE_LIMIT {
+        same(&rt, tree.len(), 4_096);
+        is_refused(&rt, put(&mut tree, path, *entry), *wanted, path);
+    }
     same(&rt, tree.len(), 4_096);
 }

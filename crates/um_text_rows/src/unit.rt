@@ -1,11 +1,11 @@
 //! Units by their files: settings, warnings, and why they can't be loaded.
-use crate::answers::{list, same, same_at, text};
+use crate::answers::{Wanted, commands_of, list, same_at, text};
 use std::process::Abort;
 use um_model::{End, RestartPolicy, Span, UnitKind};
 use um_name::UnitName;
 use um_tree::Tree;
 use um_unit::{LoadedUnit, Loading, ServiceSettings, load};
-use um_words::{Command, Variable};
+use um_words::Variable;
 
 /// What becomes of a unit in a tree of these files.
 fn loaded(rt: &(impl AllocGlobal + Abort), name: &str, files: &[(&str, &str)]) -> Loading {
@@ -25,221 +25,383 @@ fn found(rt: &(impl AllocGlobal + Abort), name: &str, files: &[(&str, &str)]) ->
     }
 }
 
-/// The service of a file of this text.
-fn service(rt: &(impl AllocGlobal + Abort), text: &str) -> LoadedUnit {
-    found(rt, "a.service", &[("etc/a.service", text)])
+/// A unit, its files, and its warnings, each its number and its line; they are of the file at the path.
+struct Warned {
+    name: &'static str,
+    files: &'static [(&'static str, &'static str)],
+    warnings: &'static [(u64, usize)],
+    path: &'static str,
 }
 
-/// Asserts that these are the unit's warnings, each as its number and its line.
-fn warns(rt: &(impl AllocGlobal + Abort), unit: &LoadedUnit, wanted: &[(u64, usize)]) {
-    let mut warnings = Vec::new(rt.alloc());
-    for warning in &unit.warnings {
-        let told = (warning.kind.number(), warning.line);
-        warnings.push(told).expect(rt, "no memory");
-    }
-    same(rt, warnings.as_slice(), wanted);
-}
+/// A service with words that are quoted and variables.
+const ECHO: &str =
+    "[Service]\nEnvironment=\"X=p  q\"\nExecStart=-/bin/echo \"a b\" $X ${X}c $$ \\x41\n";
 
-/// A command of these words, without signs.
-fn command(rt: &(impl AllocGlobal + Abort), words: &[&str]) -> Command {
-    Command {
-        words: list(rt, words),
-        ignores_failure: false,
-        substitutes: true,
-    }
-}
-
-/// Asserts that the commands have these words, and no signs.
-fn runs(rt: &(impl AllocGlobal + Abort), commands: &[Command], wanted: &[&[&str]]) {
-    let mut list = Vec::new(rt.alloc());
-    for words in wanted {
-        list.push(command(rt, words)).expect(rt, "no memory");
-    }
-    same(rt, commands, list.as_slice());
-}
-
-/// Asserts that the texts are these.
-fn names(rt: &(impl AllocGlobal + Abort), texts: &[String], wanted: &[&str]) {
-    let list = list(rt, wanted);
-    same(rt, texts, list.as_slice());
-}
-
-/// A span of so many microseconds.
-fn micros(count: u32) -> Option<Span> {
-    Some(Span::from_micros(count))
-}
-
-/// Asserts that this is the only command, and its failure is ignored.
-fn runs_ignoring(rt: &(impl AllocGlobal + Abort), commands: &[Command], words: &[&str]) {
-    let mut wanted = command(rt, words);
-    wanted.ignores_failure = true;
-    let list = vec![in rt.alloc(); wanted].expect(rt, "no memory");
-    same(rt, commands, list.as_slice());
-}
-
-/// Asserts that this is the only variable.
-fn has_variable(rt: &(impl AllocGlobal + Abort), got: &[Variable], name: &str, value: &str) {
-    let variable = Variable {
-        name: text(rt, name),
-        value: text(rt, value),
-    };
-    let list = vec![in rt.alloc(); variable].expect(rt, "no memory");
-    same(rt, got, list.as_slice());
-}
-
-#[test]
-fn the_words_of_a_command_and_its_environment_are_kept(rt: HostRuntime) {
-    let text =
-        "[Service]\nEnvironment=\"X=p  q\"\nExecStart=-/bin/echo \"a b\" $X ${X}c $$ \\x41\n";
-    let unit = service(&rt, text);
-    let settings = &unit.settings.service;
-    same(&rt, settings.kind, UnitKind::Simple);
-    let words = ["/bin/echo", "a b", "$X", "${X}c", "$$", "A"];
-    runs_ignoring(&rt, &settings.start, &words);
-    has_variable(&rt, &settings.environment, "X", "p  q");
-    warns(&rt, &unit, &[]);
-}
-
-#[test]
-fn spans_are_read(rt: HostRuntime) {
-    let text =
-        "[Service]\nExecStart=a\nRestartSec=1min 200ms\nTimeoutStartSec=0\nTimeoutSec=infinity\nTimeoutStopSec=5\n";
-    let unit = service(&rt, text);
-    let settings = &unit.settings.service;
-    same(&rt, settings.restart_delay, micros(60_200_000));
-    same(&rt, settings.timeout_start, None);
-    same(&rt, settings.timeout_stop, micros(5_000_000));
-    same(&rt, settings.limit_interval, micros(10_000_000));
-}
-
-#[test]
-fn a_span_that_cannot_be_read_leaves_the_one_before(rt: HostRuntime) {
-    let unit = service(&rt, "[Service]\nExecStart=a\nRestartSec=1.5s\n");
-    let settings = &unit.settings.service;
-    same(&rt, settings.restart_delay, micros(100_000));
-    same(&rt, settings.timeout_start, micros(90_000_000));
-    warns(&rt, &unit, &[(5, 3)]);
-}
-
-/// Asserts that each warning is of the file at this path.
-fn warns_of(rt: &impl Abort, unit: &LoadedUnit, path: &str) {
-    for warning in &unit.warnings {
-        same(rt, warning.path.as_str(), path);
-    }
-}
-
-#[test]
-fn each_line_of_a_target_is_warned_of_by_its_kind(rt: HostRuntime) {
-    let text =
-        "Description=x\n[Unit]\nfoo\nFrob=1\nDefaultDependencies=maybe\nDescription=%z\n[Zed]\na=b\n";
-    let unit = found(&rt, "w.target", &[("lib/w.target", text)]);
-    warns(
-        &rt,
-        &unit,
-        &[(1, 1), (2, 3), (4, 4), (5, 5), (6, 6), (3, 7)],
-    );
-    warns_of(&rt, &unit, "lib/w.target");
-    same(&rt, unit.settings.description.as_str(), "");
-    let defaults = unit.settings.dependencies.default_dependencies;
-    same(
-        &rt,
-        (defaults, unit.settings.service.kind),
-        (true, UnitKind::Target),
-    );
-}
-
-#[test]
-fn what_is_foreign_is_not_warned_of(rt: HostRuntime) {
-    let text = "X-a=b\n[X-Zed]\na=b\n[Unit]\nX-Frob=1\nDocumentation=%z\n[Service]\nExecStart=a\n";
-    let unit = found(&rt, "w.target", &[("lib/w.target", text)]);
-    warns(&rt, &unit, &[(1, 1), (3, 7)]);
-}
-
-/// A service of one shot, with three commands for its start and one for its stop.
-const ONE_SHOT: &str = "[Service]\nType=oneshot\nExecStart=a\nExecStart=b ; c\nExecStop=d\n";
-
-#[test]
-fn the_commands_of_a_service_of_one_shot_are_kept(rt: HostRuntime) {
-    let unit = service(&rt, ONE_SHOT);
-    let settings = &unit.settings.service;
-    let told = (settings.kind, settings.timeout_start);
-    same(&rt, told, (UnitKind::Oneshot, None));
-    runs(&rt, &settings.start, &[&["a"], &["b"], &["c"]]);
-}
-
-#[test]
-fn an_empty_value_in_a_drop_in_clears_the_commands(rt: HostRuntime) {
-    let drop_in = "[Service]\nExecStart=\nExecStart=e\nTimeoutStartSec=7\n";
-    let files = [
-        ("etc/a.service", ONE_SHOT),
-        ("etc/a.service.d/x.conf", drop_in),
-    ];
-    let unit = found(&rt, "a.service", &files);
-    let settings = &unit.settings.service;
-    runs(&rt, &settings.start, &[&["e"]]);
-    runs(&rt, &settings.stop, &[&["d"]]);
-    same(&rt, settings.timeout_start, micros(7_000_000));
-}
-
-#[test]
-fn an_empty_value_in_a_drop_in_clears_no_dependencies(rt: HostRuntime) {
-    let files = [
-        ("lib/u.target", "[Unit]\nAfter=a.service\n"),
-        (
-            "etc/u.target.d/10.conf",
-            "[Unit]\nAfter=\nAfter=b.service\n",
-        ),
-    ];
-    let unit = found(&rt, "u.target", &files);
-    let after = &unit.settings.dependencies.after;
-    names(&rt, after, &["a.service", "b.service"]);
-}
-
-#[test]
-fn the_earlier_layers_drop_in_of_a_name_is_read_alone(rt: HostRuntime) {
-    let files = [
-        (
-            "lib/o.service",
-            "[Service]\nType=oneshot\nExecStart=/bin/a\nExecStart=/bin/b\n",
-        ),
-        ("lib/o.service.d/10.conf", "[Service]\nExecStart=/bin/l\n"),
-        (
-            "etc/o.service.d/10.conf",
-            "[Service]\nExecStart=\nExecStart=/bin/c\n",
-        ),
-    ];
-    let unit = found(&rt, "o.service", &files);
-    runs(&rt, &unit.settings.service.start, &[&["/bin/c"]]);
-}
+/// A target with a line of each kind that is warned of.
+const ILL_TARGET: &str =
+    "Description=x\n[Unit]\nfoo\nFrob=1\nDefaultDependencies=maybe\nDescription=%z\n[Zed]\na=b\n";
 
 /// A unit with specifiers in its settings.
 const SPECIFIERS: &str =
     "[Unit]\nDescription=%p %i %I %j %%\nAfter=db@%i.service cache.service %z x\nAfter=\"%N.target\"\nAfter=\n[Service]\nExecStart=run-%p %I\n[Install]\nAlias=a.target b@%i.service c\nWantedBy=x.target\nWantedBy=\nWantedBy=y.target\nDefaultInstance=z\nDefaultInstance=/\n";
 
-/// The unit with specifiers.
-fn specified(rt: &(impl AllocGlobal + Abort)) -> LoadedUnit {
-    let file = ("etc/app@x-y.service", SPECIFIERS);
-    found(rt, "app@x-y.service", &[file])
+/// A service with restarts and exits.
+const RESTARTS: &str =
+    "[Unit]\nStartLimitBurst=7\n[Service]\nExecStart=a\nRestart=on-abort\nRestart=often\nSuccessExitStatus=1\nSuccessExitStatus=\nSuccessExitStatus=2 SIGKILL\nSuccessExitStatus=3 x\nSuccessExitStatus=4\nStartLimitInterval=infinity\n";
+
+const WARNED: &[Warned] = &[
+    Warned {
+        name: "a.service",
+        files: &[("etc/a.service", ECHO)],
+        warnings: &[],
+        path: "etc/a.service",
+    },
+    // a span that can't be read
+    Warned {
+        name: "a.service",
+        files: &[("etc/a.service", "[Service]\nExecStart=a\nRestartSec=1.5s\n")],
+        warnings: &[(5, 3)],
+        path: "etc/a.service",
+    },
+    Warned {
+        name: "w.target",
+        files: &[("lib/w.target", ILL_TARGET)],
+        warnings: &[(1, 1), (2, 3), (4, 4), (5, 5), (6, 6), (3, 7)],
+        path: "lib/w.target",
+    },
+    // what is foreign is not warned of
+    Warned {
+        name: "w.target",
+        files: &[(
+            "lib/w.target",
+            "X-a=b\n[X-Zed]\na=b\n[Unit]\nX-Frob=1\nDocumentation=%z\n[Service]\nExecStart=a\n",
+        )],
+        warnings: &[(1, 1), (3, 7)],
+        path: "lib/w.target",
+    },
+    Warned {
+        name: "app@x-y.service",
+        files: &[("etc/app@x-y.service", SPECIFIERS)],
+        warnings: &[(6, 3), (5, 9), (5, 14)],
+        path: "etc/app@x-y.service",
+    },
+    Warned {
+        name: "a.service",
+        files: &[("etc/a.service", RESTARTS)],
+        warnings: &[(5, 6), (5, 10)],
+        path: "etc/a.service",
+    },
+];
+
+/// Asserts that these are the unit's warnings, and that each is of the file at the path.
+fn warns(rt: &(impl AllocGlobal + Abort), unit: &LoadedUnit, row: &Warned) {
+    let mut warnings = Vec::new(rt.alloc());
+    for warning in &unit.warnings {
+        let told = (warning.kind.number(), warning.line);
+        warnings.push(told).expect(rt, "no memory");
+        same_at(rt, warning.path.as_str(), row.path, row.name);
+    }
+    same_at(rt, warnings.as_slice(), row.warnings, row.name);
 }
 
 #[test]
-fn specifiers_stand_for_parts_of_the_units_name(rt: HostRuntime) {
-    let unit = specified(&rt);
-    let settings = &unit.settings;
-    same(&rt, settings.description.as_str(), "app x-y x/y app %");
-    let after = ["db@x-y.service", "cache.service", "app@x-y.target"];
-    names(&rt, &settings.dependencies.after, &after);
-    runs(&rt, &settings.service.start, &[&["run-app", "x/y"]]);
-    warns(&rt, &unit, &[(6, 3), (5, 9), (5, 14)]);
+fn each_line_is_warned_of_by_its_kind(rt: HostRuntime) {
+    for row in WARNED {
+        warns(&rt, &found(&rt, row.name, row.files), row);
+    }
+}
+
+/// A unit, its files, and the commands of its service.
+struct Commanded {
+    name: &'static str,
+    files: &'static [(&'static str, &'static str)],
+    start: &'static [Wanted],
+    stop: &'static [Wanted],
+}
+
+/// A service of one shot, with three commands for its start and one for its stop.
+const ONE_SHOT: &str = "[Service]\nType=oneshot\nExecStart=a\nExecStart=b ; c\nExecStop=d\n";
+
+const CLEARED: (&str, &str) = (
+    "etc/a.service.d/x.conf",
+    "[Service]\nExecStart=\nExecStart=e\nTimeoutStartSec=7\n",
+);
+
+const COMMANDED: &[Commanded] = &[
+    Commanded {
+        name: "a.service",
+        files: &[("etc/a.service", ECHO)],
+        start: &[Wanted::Ignoring(&["/bin/echo", "a b", "$X", "${X}c", "$$", "A"])],
+        stop: &[],
+    },
+    Commanded {
+        name: "a.service",
+        files: &[("etc/a.service", ONE_SHOT)],
+        start: &[
+            Wanted::Plain(&["a"]),
+            Wanted::Plain(&["b"]),
+            Wanted::Plain(&["c"]),
+        ],
+        stop: &[Wanted::Plain(&["d"])],
+    },
+    // an empty value in a drop-in clears the commands
+    Commanded {
+        name: "a.service",
+        files: &[("etc/a.service", ONE_SHOT), CLEARED],
+        start: &[Wanted::Plain(&["e"])],
+        stop: &[Wanted::Plain(&["d"])],
+    },
+    // of drop-ins of a name, that of the earlier layer is read alone
+    Commanded {
+        name: "o.service",
+        files: &[
+            (
+                "lib/o.service",
+                "[Service]\nType=oneshot\nExecStart=/bin/a\nExecStart=/bin/b\n",
+            ),
+            ("lib/o.service.d/10.conf", "[Service]\nExecStart=/bin/l\n"),
+            (
+                "etc/o.service.d/10.conf",
+                "[Service]\nExecStart=\nExecStart=/bin/c\n",
+            ),
+        ],
+        start: &[Wanted::Plain(&["/bin/c"])],
+        stop: &[],
+    },
+    Commanded {
+        name: "app@x-y.service",
+        files: &[("etc/app@x-y.service", SPECIFIERS)],
+        start: &[Wanted::Plain(&["run-app", "x/y"])],
+        stop: &[],
+    },
+];
+
+#[test]
+fn the_commands_of_a_service_are_kept(rt: HostRuntime) {
+    for row in COMMANDED {
+        let unit = found(&rt, row.name, row.files);
+        let start = commands_of(&rt, row.start);
+        let service = &unit.settings.service;
+        same_at(&rt, service.start.as_slice(), start.as_slice(), row.name);
+        let stop = commands_of(&rt, row.stop);
+        same_at(&rt, service.stop.as_slice(), stop.as_slice(), row.name);
+    }
 }
 
 #[test]
-fn specifiers_stand_in_what_is_installed(rt: HostRuntime) {
-    let unit = specified(&rt);
-    let install = &unit.settings.install;
-    names(&rt, &install.alias, &["b@x-y.service"]);
-    names(&rt, &install.wanted_by, &["y.target"]);
-    same(&rt, install.default_instance.as_deref(), Some("z"));
+fn the_environment_of_a_service_is_kept(rt: HostRuntime) {
+    let unit = found(&rt, "a.service", &[("etc/a.service", ECHO)]);
+    let variable = Variable {
+        name: text(&rt, "X"),
+        value: text(&rt, "p  q"),
+    };
+    let wanted = vec![in rt.alloc(); variable].expect(&rt, "no memory");
+    let environment = unit.settings.service.environment.as_slice();
+    same_at(&rt, environment, wanted.as_slice(), "a.service");
+}
+
+/// A unit, its files, and the plain settings of its service; each span in microseconds, where there is one.
+struct Kept {
+    name: &'static str,
+    files: &'static [(&'static str, &'static str)],
+    kind: UnitKind,
+    restart: RestartPolicy,
+    burst: u32,
+    interval: Option<u32>,
+    delay: Option<u32>,
+    start: Option<u32>,
+    stop: Option<u32>,
+}
+
+const KEPT: &[Kept] = &[
+    Kept {
+        name: "a.service",
+        files: &[("etc/a.service", ECHO)],
+        kind: UnitKind::Simple,
+        restart: RestartPolicy::No,
+        burst: 5,
+        interval: Some(10_000_000),
+        delay: Some(100_000),
+        start: Some(90_000_000),
+        stop: Some(90_000_000),
+    },
+    Kept {
+        name: "a.service",
+        files: &[(
+            "etc/a.service",
+            "[Service]\nExecStart=a\nRestartSec=1min 200ms\nTimeoutStartSec=0\nTimeoutSec=infinity\nTimeoutStopSec=5\n",
+        )],
+        kind: UnitKind::Simple,
+        restart: RestartPolicy::No,
+        burst: 5,
+        interval: Some(10_000_000),
+        delay: Some(60_200_000),
+        start: None,
+        stop: Some(5_000_000),
+    },
+    // a span that can't be read leaves the one before
+    Kept {
+        name: "a.service",
+        files: &[("etc/a.service", "[Service]\nExecStart=a\nRestartSec=1.5s\n")],
+        kind: UnitKind::Simple,
+        restart: RestartPolicy::No,
+        burst: 5,
+        interval: Some(10_000_000),
+        delay: Some(100_000),
+        start: Some(90_000_000),
+        stop: Some(90_000_000),
+    },
+    Kept {
+        name: "a.service",
+        files: &[("etc/a.service", ONE_SHOT)],
+        kind: UnitKind::Oneshot,
+        restart: RestartPolicy::No,
+        burst: 5,
+        interval: Some(10_000_000),
+        delay: Some(100_000),
+        start: None,
+        stop: Some(90_000_000),
+    },
+    Kept {
+        name: "a.service",
+        files: &[("etc/a.service", ONE_SHOT), CLEARED],
+        kind: UnitKind::Oneshot,
+        restart: RestartPolicy::No,
+        burst: 5,
+        interval: Some(10_000_000),
+        delay: Some(100_000),
+        start: Some(7_000_000),
+        stop: Some(90_000_000),
+    },
+    Kept {
+        name: "a.service",
+        files: &[("etc/a.service", RESTARTS)],
+        kind: UnitKind::Simple,
+        restart: RestartPolicy::OnAbort,
+        burst: 7,
+        interval: None,
+        delay: Some(100_000),
+        start: Some(90_000_000),
+        stop: Some(90_000_000),
+    },
+];
+
+/// A span of so many microseconds.
+fn micros(count: Option<u32>) -> Option<Span> {
+    Some(Span::from_micros(count?))
+}
+
+#[test]
+fn the_plain_settings_of_a_service_are_kept(rt: HostRuntime) {
+    for row in KEPT {
+        let unit = found(&rt, row.name, row.files);
+        let service = &unit.settings.service;
+        let got = (service.kind, service.restart, service.limit_burst);
+        same_at(&rt, got, (row.kind, row.restart, row.burst), row.files);
+        let spans = [service.limit_interval, service.restart_delay];
+        let wanted = [micros(row.interval), micros(row.delay)];
+        same_at(&rt, spans, wanted, row.files);
+        let spans = [service.timeout_start, service.timeout_stop];
+        let wanted = [micros(row.start), micros(row.stop)];
+        same_at(&rt, spans, wanted, row.files);
+    }
+}
+
+/// A unit, its files, and what they tell beside its service.
+struct Told {
+    name: &'static str,
+    files: &'static [(&'static str, &'static str)],
+    path: Option<&'static str>,
+    description: &'static str,
+    after: &'static [&'static str],
+    alias: &'static [&'static str],
+    wanted_by: &'static [&'static str],
+    default_instance: Option<&'static str>,
+}
+
+const TOLD: &[Told] = &[
+    Told {
+        name: "w.target",
+        files: &[("lib/w.target", ILL_TARGET)],
+        path: Some("lib/w.target"),
+        description: "",
+        after: &[],
+        alias: &[],
+        wanted_by: &[],
+        default_instance: None,
+    },
+    // an empty value in a drop-in clears no dependencies
+    Told {
+        name: "u.target",
+        files: &[
+            ("lib/u.target", "[Unit]\nAfter=a.service\n"),
+            (
+                "etc/u.target.d/10.conf",
+                "[Unit]\nAfter=\nAfter=b.service\n",
+            ),
+        ],
+        path: Some("lib/u.target"),
+        description: "",
+        after: &["a.service", "b.service"],
+        alias: &[],
+        wanted_by: &[],
+        default_instance: None,
+    },
+    // specifiers stand for parts of the unit's name
+    Told {
+        name: "app@x-y.service",
+        files: &[("etc/app@x-y.service", SPECIFIERS)],
+        path: Some("etc/app@x-y.service"),
+        description: "app x-y x/y app %",
+        after: &["db@x-y.service", "cache.service", "app@x-y.target"],
+        alias: &["b@x-y.service"],
+        wanted_by: &["y.target"],
+        default_instance: Some("z"),
+    },
+    // a unit without a file has its drop-ins alone
+    Told {
+        name: "shutdown.target",
+        files: &[(
+            "etc/shutdown.target.d/x.conf",
+            "[Unit]\nUser=x\nDescription=y\n[Install]\nWantedBy=z.target\n",
+        )],
+        path: None,
+        description: "y",
+        after: &[],
+        alias: &[],
+        wanted_by: &[],
+        default_instance: None,
+    },
+];
+
+/// Asserts that the texts are these.
+fn names(rt: &(impl AllocGlobal + Abort), texts: &[String], wanted: &[&str], row: &str) {
+    let list = list(rt, wanted);
+    same_at(rt, texts, list.as_slice(), row);
+}
+
+#[test]
+fn what_a_unit_tells_beside_its_service_is_kept(rt: HostRuntime) {
+    for row in TOLD {
+        let unit = found(&rt, row.name, row.files);
+        let settings = &unit.settings;
+        let install = &settings.install;
+        let got = (unit.path.as_deref(), settings.description.as_str());
+        same_at(&rt, got, (row.path, row.description), row.name);
+        names(&rt, &settings.dependencies.after, row.after, row.name);
+        names(&rt, &install.alias, row.alias, row.name);
+        names(&rt, &install.wanted_by, row.wanted_by, row.name);
+        let instance = install.default_instance.as_deref();
+        same_at(&rt, instance, row.default_instance, row.name);
+    }
+}
+
+#[test]
+fn a_target_that_tells_no_truth_value_has_default_dependencies(rt: HostRuntime) {
+    let unit = found(&rt, "w.target", &[("lib/w.target", ILL_TARGET)]);
+    let defaults = unit.settings.dependencies.default_dependencies;
+    let got = (defaults, unit.settings.service.kind);
+    same_at(&rt, got, (true, UnitKind::Target), "w.target");
 }
 
 /// Why the service can't be loaded; None where it can.
@@ -249,13 +411,6 @@ fn reason(rt: &impl Abort, loading: Loading) -> Option<String> {
         Loading::Found(_) => None,
         _ => panic!(rt; "the unit is not found"),
     }
-}
-
-/// Asserts that a service of this text can't be loaded for this reason; None: that it can.
-fn is_bad(rt: &(impl AllocGlobal + Abort), text: &str, wanted: Option<&str>) {
-    let loading = loaded(rt, "a.service", &[("etc/a.service", text)]);
-    let reason = reason(rt, loading);
-    same_at(rt, reason.as_deref(), wanted, text);
 }
 
 /// Services, and why each cannot be loaded, where it cannot.
@@ -298,7 +453,9 @@ const REASONS: &[(&str, Option<&str>)] = &[
 #[test]
 fn the_first_reason_counts(rt: HostRuntime) {
     for (text, wanted) in REASONS {
-        is_bad(&rt, text, *wanted);
+        let loading = loaded(&rt, "a.service", &[("etc/a.service", text)]);
+        let reason = reason(&rt, loading);
+        same_at(&rt, reason.as_deref(), *wanted, text);
     }
 }
 
@@ -323,19 +480,9 @@ fn takes_ends(rt: &impl Abort, service: &ServiceSettings) {
 }
 
 #[test]
-fn restarts_and_exits_are_read(rt: HostRuntime) {
-    let text =
-        "[Unit]\nStartLimitBurst=7\n[Service]\nExecStart=a\nRestart=on-abort\nRestart=often\nSuccessExitStatus=1\nSuccessExitStatus=\nSuccessExitStatus=2 SIGKILL\nSuccessExitStatus=3 x\nSuccessExitStatus=4\nStartLimitInterval=infinity\n";
-    let unit = service(&rt, text);
-    let settings = &unit.settings.service;
-    same(&rt, settings.restart, RestartPolicy::OnAbort);
-    same(
-        &rt,
-        (settings.limit_burst, settings.limit_interval),
-        (7, None),
-    );
-    takes_ends(&rt, settings);
-    warns(&rt, &unit, &[(5, 6), (5, 10)]);
+fn exits_are_read(rt: HostRuntime) {
+    let unit = found(&rt, "a.service", &[("etc/a.service", RESTARTS)]);
+    takes_ends(&rt, &unit.settings.service);
 }
 
 /// The name of the unit that is masked; None where none is.
@@ -347,25 +494,13 @@ fn masked(rt: &(impl AllocGlobal + Abort), loading: &Loading) -> Option<String> 
 }
 
 #[test]
-fn a_unit_of_an_empty_file_is_masked(rt: HostRuntime) {
-    let loading = loaded(&rt, "a.service", &[("etc/a.service", "")]);
-    same(&rt, masked(&rt, &loading).as_deref(), Some("a.service"));
-}
-
-#[test]
-fn a_unit_without_a_file_is_not_found(rt: HostRuntime) {
+fn a_unit_is_masked_by_an_empty_file_and_not_found_without_one(rt: HostRuntime) {
+    let empty = loaded(&rt, "a.service", &[("etc/a.service", "")]);
+    let unit = masked(&rt, &empty);
+    same_at(&rt, unit.as_deref(), Some("a.service"), "an empty file");
     let lost = loaded(&rt, "a.service", &[]);
-    assert!(rt; matches!(lost, Loading::NotFound));
-}
-
-#[test]
-fn a_unit_without_a_file_has_its_drop_ins_alone(rt: HostRuntime) {
-    let drop_in = (
-        "etc/shutdown.target.d/x.conf",
-        "[Unit]\nUser=x\nDescription=y\n[Install]\nWantedBy=z.target\n",
+    assert!(rt;
+        matches!(lost, Loading::NotFound),
+        "a unit is found without a file"
     );
-    let unit = found(&rt, "shutdown.target", &[drop_in]);
-    same(&rt, unit.path.as_deref(), None);
-    same(&rt, unit.settings.description.as_str(), "y");
-    names(&rt, &unit.settings.install.wanted_by, &[]);
 }

@@ -4,138 +4,124 @@ use std::process::Abort;
 use um_model::{End, Span};
 use um_value::{ExitSet, RestartPolicy, TimeSpan, boolean, exit_set, number, restart, span};
 
-/// Texts that say yes.
-const TRUE_WORDS: &[&str] = &["1", "yes", "YES", "True", "on", "y", "T"];
-
-/// Texts that say no.
-const FALSE_WORDS: &[&str] = &["0", "no", "fALSE", "off", "N", "f"];
-
-/// Texts that say neither.
-const NO_TRUTH: &[&str] = &["", "maybe", "10", "yes ", "tru"];
+/// Texts, and the truth value of each; None where it has none.
+const TRUTHS: &[(&str, Option<bool>)] = &[
+    ("1", Some(true)),
+    ("yes", Some(true)),
+    ("YES", Some(true)),
+    ("True", Some(true)),
+    ("on", Some(true)),
+    ("y", Some(true)),
+    ("T", Some(true)),
+    ("0", Some(false)),
+    ("no", Some(false)),
+    ("fALSE", Some(false)),
+    ("off", Some(false)),
+    ("N", Some(false)),
+    ("f", Some(false)),
+    ("", None),
+    ("maybe", None),
+    ("10", None),
+    ("yes ", None),
+    ("tru", None),
+];
 
 #[test]
 fn a_truth_value_is_one_of_twelve_words(rt: HostRuntime) {
-    for text in TRUE_WORDS {
-        same_at(&rt, boolean(text), Some(true), text);
-    }
-    for text in FALSE_WORDS {
-        same_at(&rt, boolean(text), Some(false), text);
-    }
-    for text in NO_TRUTH {
-        same_at(&rt, boolean(text), None, text);
+    for (text, wanted) in TRUTHS {
+        same_at(&rt, boolean(text), *wanted, text);
     }
 }
 
-/// Texts that are no numbers.
-const NO_NUMBERS: &[&str] = &[
-    "",
-    "4294967296",
-    "-1",
-    "+1",
-    "1 ",
-    "1.0",
-    "000000000000000000000000000099999999999",
+/// Texts, and the number of each; None where it is none.
+const NUMBERS: &[(&str, Option<u32>)] = &[
+    ("5", Some(5)),
+    ("0010", Some(10)),
+    ("4294967295", Some(4_294_967_295)),
+    ("", None),
+    ("4294967296", None),
+    ("-1", None),
+    ("+1", None),
+    ("1 ", None),
+    ("1.0", None),
+    ("000000000000000000000000000099999999999", None),
 ];
 
 #[test]
 fn a_number_has_digits_alone(rt: HostRuntime) {
-    same(&rt, number("5"), Some(5));
-    same(&rt, number("0010"), Some(10));
-    same(&rt, number("4294967295"), Some(4_294_967_295));
-    for text in NO_NUMBERS {
-        same_at(&rt, number(text), None, text);
+    for (text, wanted) in NUMBERS {
+        same_at(&rt, number(text), *wanted, text);
     }
 }
 
-/// A span of so many microseconds.
-fn micros(count: u64) -> Option<TimeSpan> {
-    Some(TimeSpan::Micros(Span::new(count)?))
+/// A day, in microseconds.
+const DAY: Option<u64> = Some(86_400_000_000);
+
+/// A week, in microseconds.
+const WEEK: Option<u64> = Some(604_800_000_000);
+
+/// Texts, and the span of each in microseconds; None where it is none.
+const SPANS: &[(&str, Option<u64>)] = &[
+    // parts are added up
+    ("1min 200ms", Some(60_200_000)),
+    ("5", Some(5_000_000)),
+    ("\t5 s ", Some(5_000_000)),
+    ("1 2", Some(3_000_000)),
+    ("2h30min", Some(9_000_000_000)),
+    ("0", Some(0)),
+    ("4611686018427387904us", Some(4_611_686_018_427_387_904)),
+    ("4611686018427387903us 1us", Some(4_611_686_018_427_387_904)),
+    // each unit has its words
+    ("86400s", DAY),
+    ("86400sec", DAY),
+    ("86400second", DAY),
+    ("86400seconds", DAY),
+    ("1440m", DAY),
+    ("1440min", DAY),
+    ("1440minute", DAY),
+    ("1440minutes", DAY),
+    ("24h", DAY),
+    ("24hr", DAY),
+    ("24hour", DAY),
+    ("24hours", DAY),
+    ("1d", DAY),
+    ("1day", DAY),
+    ("1days", DAY),
+    ("604800000000us", WEEK),
+    ("604800000000usec", WEEK),
+    ("604800000ms", WEEK),
+    ("604800000msec", WEEK),
+    ("1w", WEEK),
+    ("1week", WEEK),
+    ("1weeks", WEEK),
+    // no spans, and at the end spans that are too long
+    ("", None),
+    (" ", None),
+    ("1.5s", None),
+    ("infinity 1", None),
+    (" infinity", None),
+    ("1sx", None),
+    ("1S", None),
+    ("s", None),
+    ("-1", None),
+    ("1s,2s", None),
+    ("4611686018427387905us", None),
+    ("4611686018427387904us 1us", None),
+    ("999999999999999999999999999999", None),
+    ("99999999999999w", None),
+];
+
+/// The span of so many microseconds.
+fn micros(count: Option<u64>) -> Option<TimeSpan> {
+    Some(TimeSpan::Micros(Span::new(count?)?))
 }
 
 #[test]
 fn parts_of_a_span_are_added_up(rt: HostRuntime) {
-    same(&rt, span("1min 200ms"), micros(60_200_000));
-    same(&rt, span("5"), micros(5_000_000));
-    same(&rt, span("\t5 s "), micros(5_000_000));
-    same(&rt, span("1 2"), micros(3_000_000));
-    same(&rt, span("2h30min"), micros(9_000_000_000));
-    same(&rt, span("0"), micros(0));
-    same(
-        &rt,
-        span("4611686018427387904us"),
-        micros(4_611_686_018_427_387_904),
-    );
-    same(
-        &rt,
-        span("4611686018427387903us 1us"),
-        micros(4_611_686_018_427_387_904),
-    );
+    for (text, wanted) in SPANS {
+        same_at(&rt, span(text), micros(*wanted), text);
+    }
     same(&rt, span("infinity"), Some(TimeSpan::Infinite));
-}
-
-/// A day in each unit that it fills.
-const DAYS: &[&str] = &[
-    "86400s",
-    "86400sec",
-    "86400second",
-    "86400seconds",
-    "1440m",
-    "1440min",
-    "1440minute",
-    "1440minutes",
-    "24h",
-    "24hr",
-    "24hour",
-    "24hours",
-    "1d",
-    "1day",
-    "1days",
-];
-
-/// A week in each of the other units.
-const WEEKS: &[&str] = &[
-    "604800000000us",
-    "604800000000usec",
-    "604800000ms",
-    "604800000msec",
-    "1w",
-    "1week",
-    "1weeks",
-];
-
-#[test]
-fn each_unit_has_its_words(rt: HostRuntime) {
-    for text in DAYS {
-        same_at(&rt, span(text), micros(86_400_000_000), text);
-    }
-    for text in WEEKS {
-        same_at(&rt, span(text), micros(604_800_000_000), text);
-    }
-}
-
-/// Texts that are no spans, and at the end spans that are too long.
-const NO_SPANS: &[&str] = &[
-    "",
-    " ",
-    "1.5s",
-    "infinity 1",
-    " infinity",
-    "1sx",
-    "1S",
-    "s",
-    "-1",
-    "1s,2s",
-    "4611686018427387905us",
-    "4611686018427387904us 1us",
-    "999999999999999999999999999999",
-    "99999999999999w",
-];
-
-#[test]
-fn other_texts_are_no_spans(rt: HostRuntime) {
-    for text in NO_SPANS {
-        same_at(&rt, span(text), None, text);
-    }
 }
 
 /// Which of some ends the set of the text holds; None where it can't be read.
@@ -150,24 +136,24 @@ fn held(text: &str) -> Option<[bool; 5]> {
     ])
 }
 
-/// Texts that are no sets of exits.
-const NO_SETS: &[&str] = &["256", "TERM", "sigterm", "SIGSTOP", "1,2", "\"0\"", "-1"];
+/// Texts, and which of those ends the set of each holds; None where it is no set of exits.
+const SETS: &[(&str, Option<[bool; 5]>)] = &[
+    ("0 1 SIGTERM", Some([true, false, false, false, true])),
+    ("007\t255  SIGHUP ", Some([false, true, true, true, false])),
+    (" ", Some([false, false, false, false, false])),
+    ("256", None),
+    ("TERM", None),
+    ("sigterm", None),
+    ("SIGSTOP", None),
+    ("1,2", None),
+    ("\"0\"", None),
+    ("-1", None),
+];
 
 #[test]
 fn an_exit_set_holds_what_its_words_tell(rt: HostRuntime) {
-    same(
-        &rt,
-        held("0 1 SIGTERM"),
-        Some([true, false, false, false, true]),
-    );
-    same(
-        &rt,
-        held("007\t255  SIGHUP "),
-        Some([false, true, true, true, false]),
-    );
-    same(&rt, held(" "), Some([false, false, false, false, false]));
-    for text in NO_SETS {
-        same_at(&rt, held(text), None, text);
+    for (text, wanted) in SETS {
+        same_at(&rt, held(text), *wanted, text);
     }
 }
 
@@ -189,21 +175,15 @@ const ENDS: &[(End, bool)] = &[
 ];
 
 #[test]
-fn a_set_is_joined_with_another(rt: HostRuntime) {
-    let mut set = set_of(&rt, "7 SIGHUP");
-    set.add(&set_of(&rt, "255 SIGHUP SIGTERM"));
-    for (end, wanted) in ENDS {
-        same_at(&rt, set.holds(*end), *wanted, end);
-    }
-}
-
-#[test]
-fn a_set_joined_with_none_stays(rt: HostRuntime) {
+fn a_set_is_joined_with_another_and_with_none(rt: HostRuntime) {
     let mut set = set_of(&rt, "7 SIGHUP");
     set.add(&set_of(&rt, "255 SIGHUP SIGTERM"));
     let joined = set;
     set.add(&ExitSet::empty());
     same(&rt, set, joined);
+    for (end, wanted) in ENDS {
+        same_at(&rt, joined.holds(*end), *wanted, end);
+    }
 }
 
 /// Asserts that the set of this name holds the end by this signal and no other end.
@@ -243,15 +223,22 @@ fn each_signal_has_its_number(rt: HostRuntime) {
     }
 }
 
+/// Words, and the restart policy of each; None where it has none.
+const POLICIES: &[(&str, Option<RestartPolicy>)] = &[
+    ("no", Some(RestartPolicy::No)),
+    ("always", Some(RestartPolicy::Always)),
+    ("on-success", Some(RestartPolicy::OnSuccess)),
+    ("on-failure", Some(RestartPolicy::OnFailure)),
+    ("on-abnormal", Some(RestartPolicy::OnAbnormal)),
+    ("on-abort", Some(RestartPolicy::OnAbort)),
+    ("on-watchdog", Some(RestartPolicy::OnWatchdog)),
+    ("Always", None),
+    ("on-failure ", None),
+];
+
 #[test]
 fn a_restart_policy_has_its_word(rt: HostRuntime) {
-    same(&rt, restart("no"), Some(RestartPolicy::No));
-    same(&rt, restart("always"), Some(RestartPolicy::Always));
-    same(&rt, restart("on-success"), Some(RestartPolicy::OnSuccess));
-    same(&rt, restart("on-failure"), Some(RestartPolicy::OnFailure));
-    same(&rt, restart("on-abnormal"), Some(RestartPolicy::OnAbnormal));
-    same(&rt, restart("on-abort"), Some(RestartPolicy::OnAbort));
-    same(&rt, restart("on-watchdog"), Some(RestartPolicy::OnWatchdog));
-    same(&rt, restart("Always"), None);
-    same(&rt, restart("on-failure "), None);
+    for (text, wanted) in POLICIES {
+        same_at(&rt, restart(text), *wanted, text);
+    }
 }

@@ -1,94 +1,162 @@
 //! Words, commands and the variables in them.
-use crate::answers::{list, same_at, text};
+use crate::answers::{Wanted, commands_of, list, same_at, text};
 use std::process::Abort;
 use um_words::{Command, Variable, commands, is_executable_word, names, substitute, words};
 
-/// Asserts that the words of the text are these.
-fn has_words(rt: &(impl AllocGlobal + Abort), text: &str, wanted: &[&str]) {
-    let got: Result<_, _> = words(rt.alloc(), text);
-    same_at(
-        rt,
-        got.expect(rt, "no memory"),
-        Some(list(rt, wanted)),
-        text,
-    );
+/// A text, and the words or names in it; None where it can't be read.
+struct Parted {
+    text: &'static str,
+    wanted: Option<&'static [&'static str]>,
 }
 
-#[test]
-fn words_are_split_at_whitespace_and_quoted(rt: HostRuntime) {
-    has_words(&rt, "", &[]);
-    has_words(&rt, " \t", &[]);
-    has_words(&rt, "a\tb  c ", &["a", "b", "c"]);
-    has_words(&rt, "a\"b c\"d", &["ab cd"]);
-    has_words(&rt, "'a \"b' \"c 'd\"", &["a \"b", "c 'd"]);
-    has_words(&rt, "\"\" a ''", &["", "a", ""]);
-    has_words(&rt, "\"a b\" c\u{a0}d", &["a b", "c\u{a0}d"]);
+/// Asserts that these are the wanted texts.
+fn is_parted(rt: &(impl AllocGlobal + Abort), got: Option<Vec<String>>, row: &Parted) {
+    let wanted = match row.wanted {
+        Some(texts) => Some(list(rt, texts)),
+        None => None,
+    };
+    same_at(rt, got, wanted, row.text);
 }
 
-#[test]
-fn escapes_are_read_inside_quotes_and_outside(rt: HostRuntime) {
-    has_words(
-        &rt,
-        "\\a\\b\\f\\n\\r\\t\\v",
-        &["\u{7}\u{8}\u{c}\n\r\t\u{b}"],
-    );
-    has_words(&rt, "\\\\\\\"\\'\\s", &["\\\"' "]);
-    has_words(&rt, "'\\'\\\"\\x7F\\x01'", &["'\"\u{7f}\u{1}"]);
-    has_words(&rt, "a\\ b", &["a\\ b"]);
-    has_words(&rt, "\\\u{e9} \\q\\", &["\\\u{e9}", "\\q\\"]);
-    has_words(
-        &rt,
-        "\\x4 \\18 \\u123 \\U1234567",
-        &["\\x4", "\\18", "\\u123", "\\U1234567"],
-    );
-    has_words(&rt, "\\x41", &["A"]);
-}
-
-/// Texts with an unclosed quote or an escape that is left out.
-const UNREADABLE: &[&str] = &[
-    "a \"b",
-    "'",
-    "\\x00",
-    "\\x80",
-    "\\101",
-    "\\u0041",
-    "\\U00000041",
-    "b \"\\x80\"",
+const WORDS: &[Parted] = &[
+    // words are split at whitespace, and quoted
+    Parted {
+        text: "",
+        wanted: Some(&[]),
+    },
+    Parted {
+        text: " \t",
+        wanted: Some(&[]),
+    },
+    Parted {
+        text: "a\tb  c ",
+        wanted: Some(&["a", "b", "c"]),
+    },
+    Parted {
+        text: "a\"b c\"d",
+        wanted: Some(&["ab cd"]),
+    },
+    Parted {
+        text: "'a \"b' \"c 'd\"",
+        wanted: Some(&["a \"b", "c 'd"]),
+    },
+    Parted {
+        text: "\"\" a ''",
+        wanted: Some(&["", "a", ""]),
+    },
+    Parted {
+        text: "\"a b\" c\u{a0}d",
+        wanted: Some(&["a b", "c\u{a0}d"]),
+    },
+    // escapes are read inside quotes and outside
+    Parted {
+        text: "\\a\\b\\f\\n\\r\\t\\v",
+        wanted: Some(&["\u{7}\u{8}\u{c}\n\r\t\u{b}"]),
+    },
+    Parted {
+        text: "\\\\\\\"\\'\\s",
+        wanted: Some(&["\\\"' "]),
+    },
+    Parted {
+        text: "'\\'\\\"\\x7F\\x01'",
+        wanted: Some(&["'\"\u{7f}\u{1}"]),
+    },
+    Parted {
+        text: "a\\ b",
+        wanted: Some(&["a\\ b"]),
+    },
+    Parted {
+        text: "\\\u{e9} \\q\\",
+        wanted: Some(&["\\\u{e9}", "\\q\\"]),
+    },
+    Parted {
+        text: "\\x4 \\18 \\u123 \\U1234567",
+        wanted: Some(&["\\x4", "\\18", "\\u123", "\\U1234567"]),
+    },
+    Parted {
+        text: "\\x41",
+        wanted: Some(&["A"]),
+    },
+    // a quote that isn't closed, and escapes that are left out
+    Parted {
+        text: "a \"b",
+        wanted: None,
+    },
+    Parted {
+        text: "'",
+        wanted: None,
+    },
+    Parted {
+        text: "\\x00",
+        wanted: None,
+    },
+    Parted {
+        text: "\\x80",
+        wanted: None,
+    },
+    Parted {
+        text: "\\101",
+        wanted: None,
+    },
+    Parted {
+        text: "\\u0041",
+        wanted: None,
+    },
+    Parted {
+        text: "\\U00000041",
+        wanted: None,
+    },
+    Parted {
+        text: "b \"\\x80\"",
+        wanted: None,
+    },
 ];
 
 #[test]
-fn unclosed_quotes_and_escapes_left_out_are_unreadable(rt: HostRuntime) {
-    for text in UNREADABLE {
-        let got: Result<_, _> = words(rt.alloc(), text);
-        same_at(&rt, got.expect(&rt, "no memory"), None, text);
+fn words_are_split_quoted_and_escaped(rt: HostRuntime) {
+    for row in WORDS {
+        let got: Result<_, _> = words(rt.alloc(), row.text);
+        is_parted(&rt, got.expect(&rt, "no memory"), row);
     }
 }
 
-/// Asserts that the names of the text are these.
-fn has_names(rt: &(impl AllocGlobal + Abort), text: &str, wanted: &[&str]) {
-    let got: Result<_, _> = names(rt.alloc(), text);
-    same_at(
-        rt,
-        got.expect(rt, "no memory"),
-        Some(list(rt, wanted)),
-        text,
-    );
-}
+const NAMES: &[Parted] = &[
+    Parted {
+        text: "",
+        wanted: Some(&[]),
+    },
+    Parted {
+        text: "a.service\tb.target",
+        wanted: Some(&["a.service", "b.target"]),
+    },
+    Parted {
+        text: "a\\x2db.service \\",
+        wanted: Some(&["a\\x2db.service", "\\"]),
+    },
+    Parted {
+        text: "\"a\\\" 'b c'd",
+        wanted: Some(&["a\\", "b cd"]),
+    },
+    Parted {
+        text: "\\\"a b\"",
+        wanted: Some(&["\\a b"]),
+    },
+    // a quote that isn't closed
+    Parted {
+        text: "a 'b",
+        wanted: None,
+    },
+    Parted {
+        text: "\"a\\\"\"",
+        wanted: None,
+    },
+];
 
 #[test]
 fn names_are_quoted_and_keep_each_backslash(rt: HostRuntime) {
-    has_names(&rt, "", &[]);
-    has_names(&rt, "a.service\tb.target", &["a.service", "b.target"]);
-    has_names(&rt, "a\\x2db.service \\", &["a\\x2db.service", "\\"]);
-    has_names(&rt, "\"a\\\" 'b c'd", &["a\\", "b cd"]);
-    has_names(&rt, "\\\"a b\"", &["\\a b"]);
-}
-
-#[test]
-fn names_with_an_unclosed_quote_are_unreadable(rt: HostRuntime) {
-    for text in ["a 'b", "\"a\\\"\""] {
-        let got: Result<_, _> = names(rt.alloc(), text);
-        same_at(&rt, got.expect(&rt, "no memory"), None, text);
+    for row in NAMES {
+        let got: Result<_, _> = names(rt.alloc(), row.text);
+        is_parted(&rt, got.expect(&rt, "no memory"), row);
     }
 }
 
@@ -114,104 +182,140 @@ fn environment(rt: &(impl AllocGlobal + Abort)) -> Vec<Variable> {
     environment
 }
 
-/// Asserts that the words of the text become these in that environment.
-fn becomes(rt: &(impl AllocGlobal + Abort), text: &str, wanted: &[&str]) {
-    let read: Result<_, _> = words(rt.alloc(), text);
-    let words = read.expect(rt, "no memory").expect(rt, "no words");
-    let got: Result<_, _> = substitute(rt.alloc(), &words, &environment(rt));
-    same_at(rt, got.expect(rt, "no memory"), list(rt, wanted), text);
-}
+/// Texts, and what their words become in that environment.
+const SUBSTITUTED: &[Parted] = &[
+    Parted {
+        text: "/bin/echo \"a b\" $X ${X}c $$ \\x41",
+        wanted: Some(&["/bin/echo", "a b", "p", "q", "p  qc", "$", "A"]),
+    },
+    Parted {
+        text: "echo $Y",
+        wanted: Some(&["echo", "two two", "too"]),
+    },
+    Parted {
+        text: "echo $Z",
+        wanted: Some(&["echo", "a\\", "b  c"]),
+    },
+    Parted {
+        text: "$X ${Y}",
+        wanted: Some(&["$X", "'two two' too"]),
+    },
+    Parted {
+        text: "echo a$X $X- ${X",
+        wanted: Some(&["echo", "a$X", "$X-", "${X"]),
+    },
+    Parted {
+        text: "echo $UNSET ${UNSET}",
+        wanted: Some(&["echo", ""]),
+    },
+    Parted {
+        text: "echo $$X ${_1}$${1} $",
+        wanted: Some(&["echo", "$X", "one${1}", "$"]),
+    },
+    Parted {
+        text: "",
+        wanted: Some(&[]),
+    },
+];
 
 #[test]
 fn variables_stand_for_their_values(rt: HostRuntime) {
-    becomes(
-        &rt,
-        "/bin/echo \"a b\" $X ${X}c $$ \\x41",
-        &["/bin/echo", "a b", "p", "q", "p  qc", "$", "A"],
-    );
-    becomes(&rt, "echo $Y", &["echo", "two two", "too"]);
-    becomes(&rt, "echo $Z", &["echo", "a\\", "b  c"]);
-    becomes(&rt, "$X ${Y}", &["$X", "'two two' too"]);
-    becomes(&rt, "echo a$X $X- ${X", &["echo", "a$X", "$X-", "${X"]);
-    becomes(&rt, "echo $UNSET ${UNSET}", &["echo", ""]);
-    becomes(
-        &rt,
-        "echo $$X ${_1}$${1} $",
-        &["echo", "$X", "one${1}", "$"],
-    );
-    becomes(&rt, "", &[]);
-}
-
-/// A command of these words with no sign, which is run with its variables.
-fn plain(rt: &(impl AllocGlobal + Abort), words: &[&str]) -> Command {
-    Command {
-        words: list(rt, words),
-        ignores_failure: false,
-        substitutes: true,
+    let environment = environment(&rt);
+    for row in SUBSTITUTED {
+        let read: Result<_, _> = words(rt.alloc(), row.text);
+        let words = read.expect(&rt, "no memory").expect(&rt, "no words");
+        let got: Result<_, _> = substitute(rt.alloc(), &words, &environment);
+        is_parted(&rt, Some(got.expect(&rt, "no memory")), row);
     }
 }
 
-/// Asserts that the text has these commands; None: that it can't be read.
-fn reads(rt: &(impl AllocGlobal + Abort), text: &str, wanted: Option<Vec<Command>>) {
-    let got: Result<_, _> = commands(rt.alloc(), text);
-    same_at(rt, got.expect(rt, "no memory"), wanted, text);
+/// A text, and the commands in it; None where it can't be read.
+struct Commanded {
+    text: &'static str,
+    wanted: Option<&'static [Wanted]>,
 }
 
-/// Asserts that the text has these commands, without signs.
-fn has_commands(rt: &(impl AllocGlobal + Abort), text: &str, wanted: &[&[&str]]) {
-    let mut list = Vec::new(rt.alloc());
-    for words in wanted {
-        list.push(plain(rt, words)).expect(rt, "no memory");
+const COMMANDS: &[Commanded] = &[
+    // commands are parted at lone semicolons
+    Commanded {
+        text: "a b ; c",
+        wanted: Some(&[Wanted::Plain(&["a", "b"]), Wanted::Plain(&["c"])]),
+    },
+    Commanded {
+        text: "; a ; ; b ;",
+        wanted: Some(&[Wanted::Plain(&["a"]), Wanted::Plain(&["b"])]),
+    },
+    Commanded {
+        text: "a \";\" \\x3b ;b",
+        wanted: Some(&[Wanted::Plain(&["a", ";", ";", ";b"])]),
+    },
+    Commanded {
+        text: "a \\; \"\\;\" \\\\;",
+        wanted: Some(&[Wanted::Plain(&["a", ";", "\\;", "\\;"])]),
+    },
+    Commanded {
+        text: "a 'b ; c'",
+        wanted: Some(&[Wanted::Plain(&["a", "b ; c"])]),
+    },
+    Commanded {
+        text: "@a",
+        wanted: Some(&[Wanted::Plain(&["@a"])]),
+    },
+    Commanded {
+        text: " ",
+        wanted: Some(&[]),
+    },
+    Commanded {
+        text: "a ; \"b",
+        wanted: None,
+    },
+    // signs are cut off the first word
+    Commanded {
+        text: "-+/bin/x -y",
+        wanted: Some(&[Wanted::Ignoring(&["/bin/x", "-y"])]),
+    },
+    Commanded {
+        text: "!:--a b",
+        wanted: Some(&[Wanted::IgnoringVerbatim(&["a", "b"])]),
+    },
+    Commanded {
+        text: "\"-a\" b",
+        wanted: Some(&[Wanted::Ignoring(&["a", "b"])]),
+    },
+    Commanded {
+        text: ":b c",
+        wanted: Some(&[Wanted::Verbatim(&["b", "c"])]),
+    },
+    Commanded {
+        text: "- x",
+        wanted: Some(&[Wanted::Ignoring(&["", "x"])]),
+    },
+    // each command has signs of its own
+    Commanded {
+        text: "\"-a\" ; :b",
+        wanted: Some(&[Wanted::Ignoring(&["a"]), Wanted::Verbatim(&["b"])]),
+    },
+];
+
+/// The wanted commands; None where the text can't be read.
+fn wanted(rt: &(impl AllocGlobal + Abort), row: &Commanded) -> Option<Vec<Command>> {
+    match row.wanted {
+        Some(wanted) => Some(commands_of(rt, wanted)),
+        None => None,
     }
-    reads(rt, text, Some(list));
 }
 
 #[test]
-fn commands_are_parted_at_lone_semicolons(rt: HostRuntime) {
-    has_commands(&rt, "a b ; c", &[&["a", "b"], &["c"]]);
-    has_commands(&rt, "; a ; ; b ;", &[&["a"], &["b"]]);
-    has_commands(&rt, "a \";\" \\x3b ;b", &[&["a", ";", ";", ";b"]]);
-    has_commands(&rt, "a \\; \"\\;\" \\\\;", &[&["a", ";", "\\;", "\\;"]]);
-    has_commands(&rt, "a 'b ; c'", &[&["a", "b ; c"]]);
-    has_commands(&rt, "@a", &[&["@a"]]);
-    has_commands(&rt, " ", &[]);
-    reads(&rt, "a ; \"b", None);
-}
-
-/// Asserts that the text has one command of two words, with these signs.
-fn has_signs(
-    rt: &(impl AllocGlobal + Abort),
-    text: &str,
-    words: [&str; 2],
-    ignores_failure: bool,
-    substitutes: bool,
-) {
-    let command = Command {
-        words: list(rt, &words),
-        ignores_failure,
-        substitutes,
-    };
-    let wanted = vec![in rt.alloc(); command].expect(rt, "no memory");
-    reads(rt, text, Some(wanted));
-}
-
-#[test]
-fn signs_are_cut_off_the_first_word(rt: HostRuntime) {
-    has_signs(&rt, "-+/bin/x -y", ["/bin/x", "-y"], true, true);
-    has_signs(&rt, "!:--a b", ["a", "b"], true, false);
-    has_signs(&rt, "\"-a\" b", ["a", "b"], true, true);
-    has_signs(&rt, ":b c", ["b", "c"], false, false);
-    has_signs(&rt, "- x", ["", "x"], true, true);
-}
-
-#[test]
-fn each_command_has_signs_of_its_own(rt: HostRuntime) {
-    let mut first = plain(&rt, &["a"]);
-    first.ignores_failure = true;
-    let mut second = plain(&rt, &["b"]);
-    second.substitutes = false;
-    let wanted = vec![in rt.alloc(); first, second].expect(&rt, "no memory");
-    reads(&rt, "\"-a\" ; :b", Some(wanted));
+fn commands_have_words_and_signs(rt: HostRuntime) {
+    for row in COMMANDS {
+        let got: Result<_, _> = commands(rt.alloc(), row.text);
+        same_at(
+            &rt,
+            got.expect(&rt, "no memory"),
+            wanted(&rt, row),
+            row.text,
+        );
+    }
 }
 
 /// Words, and whether they can be run.

@@ -1,9 +1,8 @@
 -- What is marked is what is demanded by name, and the plan by the marks is the plan of the definitions.
 use Rattle.std.proofs.Common.{◌≡◌, ◌↔◌, ◌∙◌, ◌<◌, ℕ, Bool, true, false, cond, List, length, Option, Some, None, refl, sym, ap, subst, inl, inr}
-use Rattle.um_model.specs.Demands.{IsStarting, starts, restarts}
-use Rattle.um_model.specs.Jobs.{jobs_of_unit}
+use Rattle.um_model.specs.Jobs.{jobs_of_unit, jobs_for}
 use Rattle.um_model.specs.Machine as machine
-use Rattle.um_model.specs.Plan.{Counts, Demands, IsPlan, IsStarted, Scene, jobs_for, restarted, started, stopped, left}
+use Rattle.um_model.specs.Plan.{Counts, Demands, IsPlan, IsStarted, Scene, restarted, started, stopped, left}
 use Rattle.um_model.specs.Refusals.{Refused}
 use Rattle.um_model.specs.Service.{ByUnit}
 use Rattle.um_model.specs.declared.dependencies.Demand.{Demand}
@@ -69,16 +68,13 @@ module _ (g : GraphView) (is : IsGraph g) (activity : List ActiveState) (pending
   -- ---- units that are started, and units that can't be
   pub started_named : (u : ℕ) → is_started (marks_at marks u) ≡ true → IsStarted scene root (name u)
   started_named u h = elim (or_cases (marks_at marks u).start (marks_at marks u).restart h) as (λ _. IsStarted scene root (name u)) [
-    | inl a ↦ record { by = Start; starting = starts; demanded = marked_named Start u a }
-    | inr b ↦ record { by = Restart; starting = restarts; demanded = marked_named Restart u b }
+    | inl a ↦ inl (marked_named Start u a)
+    | inr b ↦ inr (marked_named Restart u b)
   ]
 
-  named_by : (x : List ℕ) (d : Demand) → IsStarting d → Demands scene root (d, x) → (u : ℕ) × (name u ≡ x) × (u < length g.names) × (is_started (marks_at marks u) ≡ true)
-  named_by x d starts r = let b = named_marked Start x r in (b.0, b.1, b.2, or_left (marks_at marks b.0).start (marks_at marks b.0).restart b.3)
-  named_by x d restarts r = let b = named_marked Restart x r in (b.0, b.1, b.2, or_right (marks_at marks b.0).start (marks_at marks b.0).restart b.3)
-
   pub named_started : (x : List ℕ) → IsStarted scene root x → (u : ℕ) × (name u ≡ x) × (u < length g.names) × (is_started (marks_at marks u) ≡ true)
-  named_started x s = named_by x s.by s.starting s.demanded
+  named_started x (inl r) = let b = named_marked Start x r in (b.0, b.1, b.2, or_left (marks_at marks b.0).start (marks_at marks b.0).restart b.3)
+  named_started x (inr r) = let b = named_marked Restart x r in (b.0, b.1, b.2, or_right (marks_at marks b.0).start (marks_at marks b.0).restart b.3)
 
   pub cannot_named : (u : ℕ) (r : Refused) → u < length g.names → CannotStartBy g u r → scenes.CannotStart g (name u) r
   cannot_named u r h b = record {

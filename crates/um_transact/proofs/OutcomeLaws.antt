@@ -2,9 +2,9 @@
 use Rattle.std.proofs.Common.{◌≡◌, ◌↔◌, ◌∙◌, ◌<◌, ℕ, true, List, length, refl, sym, ap, subst, inl, inr, arith}
 use Rattle.std.proofs.lemmas.Bool.{cases_lt}
 use Rattle.um_model.specs.Jobs.{Job, ComesBefore, DropsOne, jobs_of_unit}
-use Rattle.um_model.specs.Least.{IsLeast, IsNamedBefore}
+use Rattle.um_model.specs.Least.{IsLeast, IsNamedBefore, NamesLeast}
 use Rattle.um_model.specs.Order.{IsCycle}
-use Rattle.um_model.specs.Plan.{CausesOfPlan, Clashes, IsBarred, NamesBarred, NamesClash, NamesCycle, NamesDrop}
+use Rattle.um_model.specs.Plan.{CausesOfPlan, Clashes, IsBarred, NamesCycle, NamesDrop}
 use Rattle.um_model.specs.Refusals.{Refused, FirstCause, at_first, at_second, clash, job_conflict}
 use Rattle.um_model.specs.declared.commands.JobMode.{JobMode}
 use Rattle.um_model.specs.declared.commands.JobMode.TheVariants.{Fail}
@@ -60,6 +60,9 @@ module _ (g : GraphView) (is : IsGraph g) (activity : List ActiveState) (pending
   None Refuses = (u : ℕ) → u < length g.names → (r : Refused) → ¬ Refuses u r
 
   -- ---- units that can't be started
+  abbrev NamesBarred : Refused → Type 0
+  NamesBarred = NamesLeast (IsBarred (scene_of g activity pending) (demand, name unit)) (scene_of g activity pending).CannotStart
+
   bars_sound : (u : ℕ) (r : Refused) → u < length g.names → BarsBy g marks u r → IsBarred (scene_of g activity pending) (demand, name unit) (name u)
   bars_sound u r h b = record {
     started = started_named g is activity pending demand unit known marks marked u b.started;
@@ -74,17 +77,20 @@ module _ (g : GraphView) (is : IsGraph g) (activity : List ActiveState) (pending
       let same : s.0 ≡ k.0 = one s.0 k.0 s.2 k.2 (s.1 ∙ sym k.1) in
       (k.0, k.1, k.2, b.refusal, record { started = subst (λ v. is_started (marks_at marks v) ≡ true) same s.3; cause = k.3 })
 
-  bars_named : (r : Refused) → RefusesFirst (BarsBy g marks) (length g.names) r → NamesBarred (scene_of g activity pending) (demand, name unit) r
+  bars_named : (r : Refused) → RefusesFirst (BarsBy g marks) (length g.names) r → NamesBarred r
   bars_named r f = record {
-    unit = name f.unit;
+    name = name f.unit;
     least = first_least g is (IsBarred (scene_of g activity pending) (demand, name unit)) (BarsBy g marks) bars_sound bars_whole r f;
-    cause = cannot_named g is activity pending demand unit known marks marked f.unit r f.within f.cause.cause;
+    told = cannot_named g is activity pending demand unit known marks marked f.unit r f.within f.cause.cause;
   }
 
-  no_bars : None (BarsBy g marks) → (r : Refused) → ¬ NamesBarred (scene_of g activity pending) (demand, name unit) r
-  no_bars none r b = none_has g is (IsBarred (scene_of g activity pending) (demand, name unit)) (BarsBy g marks) bars_sound bars_whole none b.unit b.least.has
+  no_bars : None (BarsBy g marks) → (r : Refused) → ¬ NamesBarred r
+  no_bars none r b = none_has g is (IsBarred (scene_of g activity pending) (demand, name unit)) (BarsBy g marks) bars_sound bars_whole none b.name b.least.has
 
   -- ---- units that are started and stopped
+  abbrev NamesClash : Refused → Type 0
+  NamesClash = NamesLeast (Clashes (scene_of g activity pending) (demand, name unit)) (λ unit r. r ≡ clash unit)
+
   clashes_sound : (u : ℕ) (r : Refused) → u < length g.names → ClashesBy g marks u r → Clashes (scene_of g activity pending) (demand, name unit) (name u)
   clashes_sound u r h b = record {
     started = started_named g is activity pending demand unit known marks marked u b.started;
@@ -98,15 +104,15 @@ module _ (g : GraphView) (is : IsGraph g) (activity : List ActiveState) (pending
       let same : s.0 ≡ k.0 = one s.0 k.0 s.2 k.2 (s.1 ∙ sym k.1) in
       (k.0, k.1, k.2, clash (name k.0), record { started = subst (λ v. is_started (marks_at marks v) ≡ true) same s.3; stopped = k.3; name = name k.0; known = name_got g.names k.0 k.2; refusal = refl })
 
-  clashes_named : (r : Refused) → RefusesFirst (ClashesBy g marks) (length g.names) r → NamesClash (scene_of g activity pending) (demand, name unit) r
+  clashes_named : (r : Refused) → RefusesFirst (ClashesBy g marks) (length g.names) r → NamesClash r
   clashes_named r f = record {
-    unit = name f.unit;
+    name = name f.unit;
     least = first_least g is (Clashes (scene_of g activity pending) (demand, name unit)) (ClashesBy g marks) clashes_sound clashes_whole r f;
-    refusal = f.cause.refusal ∙ ap clash (sym (name_is g.names f.unit f.cause.name f.cause.known));
+    told = f.cause.refusal ∙ ap clash (sym (name_is g.names f.unit f.cause.name f.cause.known));
   }
 
-  no_clashes : None (ClashesBy g marks) → (r : Refused) → ¬ NamesClash (scene_of g activity pending) (demand, name unit) r
-  no_clashes none r b = none_has g is (Clashes (scene_of g activity pending) (demand, name unit)) (ClashesBy g marks) clashes_sound clashes_whole none b.unit b.least.has
+  no_clashes : None (ClashesBy g marks) → (r : Refused) → ¬ NamesClash r
+  no_clashes none r b = none_has g is (Clashes (scene_of g activity pending) (demand, name unit)) (ClashesBy g marks) clashes_sound clashes_whole none b.name b.least.has
 
   -- ---- units of which a job is dropped
   abbrev DropsAt : List ℕ → Type 0
@@ -137,13 +143,15 @@ module _ (g : GraphView) (is : IsGraph g) (activity : List ActiveState) (pending
       let l = first_least g is DropsIn (DropsBy g mode pending plan) drops_sound drops_whole r f in
       record {
         fails = f.cause.fails;
-        unit = name f.unit;
-        least = record { has = l.has.1; first = λ other has apart. l.first other (f.cause.fails, has) apart };
-        refusal = f.cause.refusal ∙ ap job_conflict (sym (name_is g.names f.unit f.cause.name f.cause.known));
+        names = record {
+          name = name f.unit;
+          least = record { has = l.has.1; first = λ other has apart. l.first other (f.cause.fails, has) apart };
+          told = f.cause.refusal ∙ ap job_conflict (sym (name_is g.names f.unit f.cause.name f.cause.known));
+        };
       }
 
   no_drops : None (DropsBy g mode pending plan) → (r : Refused) → ¬ NamesDrop mode (jobs_by g.names pending) (jobs_by g.names plan) r
-  no_drops none r b = none_has g is DropsIn (DropsBy g mode pending plan) drops_sound drops_whole none b.unit (b.fails, b.least.has)
+  no_drops none r b = none_has g is DropsIn (DropsBy g mode pending plan) drops_sound drops_whole none b.names.name (b.fails, b.names.least.has)
 
   -- ---- the outcome
   abbrev Causes : Refused → Type 0
@@ -174,7 +182,7 @@ module _ (g : GraphView) (is : IsGraph g) (activity : List ActiveState) (pending
             last_unrefused r (at_first d) = no_drops keeps r d
             last_unrefused r (at_second none n) = free n.cycle n.closed
 
-            later_unrefused : (r : Refused) → ¬ FirstCause (NamesClash (scene_of g activity pending) (demand, name unit)) (FirstCause (NamesDrop mode (jobs_by g.names pending) (jobs_by g.names plan)) (NamesCycle (Joins g before_bit) (jobs_by g.names plan))) r
+            later_unrefused : (r : Refused) → ¬ FirstCause NamesClash (FirstCause (NamesDrop mode (jobs_by g.names pending) (jobs_by g.names plan)) (NamesCycle (Joins g before_bit) (jobs_by g.names plan))) r
             later_unrefused r (at_first b) = no_clashes apart r b
             later_unrefused r (at_second none n) = last_unrefused r n
 

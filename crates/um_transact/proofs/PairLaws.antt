@@ -7,8 +7,8 @@ use Rattle.std.proofs.lemmas.List.Elements.{Contains-append_left, Contains-appen
 use Rattle.um_model.specs.Jobs.{Job, ComesBefore, GoesBefore, starts, stops, stops_then_starts, stops_then_starts_before, of_one_unit, has_job, job_of, jobs_of_unit, no_jobs}
 use Rattle.um_model.specs.Least.{IsNamedBefore}
 use Rattle.um_model.specs.Machine.{is_waiting}
-use Rattle.um_model.specs.Order.{IsCycle, LeadsTo, IsNumbering, IsLeastFirstCycle, Precedes}
-use Rattle.um_model.specs.Order as numbers
+use Rattle.um_model.specs.Order.{IsCycle, LeadsTo}
+use Rattle.um_order.specs.Pairs as numbers
 use Rattle.um_model.specs.Plan.{BeginsWithLeast, NamesCycle, units_of}
 use Rattle.um_model.specs.Refusals.{Refused, ordering_cycle}
 use Rattle.um_model.specs.Service.{ByUnit}
@@ -18,6 +18,7 @@ use Rattle.um_model.specs.declared.jobs.JobKind.TheVariants.{Stop, Start}
 use Rattle.um_model.specs.declared.jobs.JobState.{JobState}
 use Rattle.um_model.specs.declared.jobs.JobState.TheVariants.{Waiting, Running}
 use Rattle.um_model.specs.declared.jobs.UnitJobs.{UnitJobs}
+use Rattle.um_order.specs.Pairs.{Precedes, IsNumbering, IsLeastFirstCycle}
 use Rattle.um_graph.specs.Graph.{GraphView, IsGraph, Stands, row_of}
 use Rattle.um_graph.specs.Kinds.{has, before_bit}
 use Rattle.um_graph.specs.declared.row.Neighbour.{Neighbour}

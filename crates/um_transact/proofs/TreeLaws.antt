@@ -1,5 +1,5 @@
 -- The scene of a tree's graph is alike that of the tree; so what is accepted or refused in the one is so in the other.
-use Rattle.std.proofs.Common.{◌≡◌, ◌↔◌, ◌∙◌, ℕ, List, Some, option_map, get_or, sym, ap, subst, inl, inr, arith}
+use Rattle.std.proofs.Common.{◌≡◌, ◌↔◌, ◌∙◌, ℕ, List, Some, option_map, get_or, sym, ap, subst, inl, inr, ⊎_elim, arith}
 use Rattle.std.proofs.lemmas.Option.{same_Some, slice_get-get_or}
 use Rattle.um_model.specs.Dependencies.{Depends, IsKnown, Orders, Precedes, declared, pulled_in, ending, ends, owner, other, earlier, later, loadable_in, loadable_of}
 use Rattle.um_model.specs.Jobs.{jobs_of_unit, no_jobs}
@@ -11,6 +11,7 @@ use Rattle.um_model.specs.Service.{ByUnit}
 use Rattle.um_model.specs.Tree.{Tree}
 use Rattle.um_model.specs.Units.{LoadedUnit, load}
 use Rattle.um_model.specs.declared.dependencies.DependencyKind.{DependencyKind}
+use Rattle.um_model.specs.declared.dependencies.DependencyKind.TheVariants.{Wants, Requires}
 use Rattle.um_model.specs.declared.jobs.UnitJobs.{UnitJobs}
 use Rattle.um_model.specs.declared.service.ActiveState.{ActiveState}
 use Rattle.um_model.proofs.PlanLaws.{AreAlike, alike_back, causes_same, free_same, plan_same}
@@ -40,7 +41,7 @@ module _ (tree : Tree) (Extra : List ℕ → Type 0) (g : GraphView) (is : IsGra
 
   orders_known : (x y : List ℕ) → Orders tree Extra x y → IsKnown tree Extra x × IsKnown tree Extra y
   orders_known x y (declared d) = (next d.known (earlier d.declares), next d.known (later d.declares))
-  orders_known x y (pulled_in p none) = let k = depends_known p.kind _ _ p.depends in (k.1, k.0)
+  orders_known x y (pulled_in p none) = let k = ⊎_elim (depends_known Wants _ _) (depends_known Requires _ _) p.depends in (k.1, k.0)
   orders_known x y (ending k l d) = (next k (owner (ends l d)), next k (other (ends l d)))
 
   joins_is : (kind : DependencyKind) (x y : List ℕ) → Joins g (bit_of kind) x y ↔ Depends tree Extra kind x y

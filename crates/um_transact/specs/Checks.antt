@@ -2,10 +2,10 @@
 -- Follows the definition of why a plan is refused: it says it by numbers.
 -- The order of refusals stands on this file.
 use Rattle.std.specs.Prelude.{◌≡◌, ◌≢◌, ℕ, ◌<◌, ◌||◌, if◌then◌else◌, Bool, true, List, Option, Some, None, Result, Ok, Err, slice_get}
-use Rattle.um_model.specs.Jobs.{Job, ComesBefore}
+use Rattle.um_model.specs.Jobs.{Job, ComesBefore, jobs_for}
 use Rattle.um_model.specs.Machine.{CannotStart}
 use Rattle.um_model.specs.Order.{IsCycle}
-use Rattle.um_model.specs.Plan.{jobs_for, NamesCycle}
+use Rattle.um_model.specs.Plan.{NamesCycle}
 use Rattle.um_model.specs.Refusals.{Refused, clash, job_conflict}
 use Rattle.um_model.specs.Service.{ByUnit}
 use Rattle.um_model.specs.declared.commands.JobMode.{JobMode}

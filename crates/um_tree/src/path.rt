@@ -160,7 +160,7 @@ impl<'a> ServedPath<'a> {
     /// What the path names, beside its unit.
     pub fn place(&self) -> Place<'a>
         ensures place { place_of result ≡ self.now.place }
-        ensures fit { model.are_fit self.now ≡ true }
+        ensures fit { model.is_fit_place self.now.unit self.now.place ≡ true }
     {
         self.place
     }

@@ -1,6 +1,7 @@
 ghost use Rattle.std.specs.Prelude.{◌≡◌, ◌≤◌, ◌^◌, Some, Ok, Err, IfErr, IfOk, IsOk, IsTrue, OnErr, OnOk, option_map};
 ghost use Rattle.std.specs.FinMap as map;
 ghost use Rattle.std.specs.Map.Iter.{ShowsInOrder};
+ghost use Rattle.um_model.proofs.TreeLaws.{has_run};
 ghost use Rattle.um_model.specs.Tree as model;
 ghost use Rattle.um_model.specs.Refusals as told;
 ghost use Rattle.um_model.specs.Weight.{entry_weight, tree_weight};
@@ -234,7 +235,7 @@ impl Tree {
 
     /// Whether an entry stands under `run/`. It takes no memory.
     pub fn has_run(&self) -> bool
-        ensures { result ≡ model.has_run self.now }
+        ensures { result ≡ has_run self.now }
     {
         for (path, _) in self.entries() {
             if is_volatile(path) {

@@ -3,7 +3,7 @@ use Rattle.std.proofs.Common.{◌≡◌, ◌<◌, ℕ, ◌+◌, ◌||◌, Bor, L
 use Rattle.std.proofs.lemmas.List.{map-append, take_more}
 use Rattle.std.proofs.lemmas.List.Elements.{filter_map-append}
 use Rattle.std.proofs.lemmas.List.Folds.{list_any-append}
-use Rattle.um_model.specs.Units.{tells_any}
+use Rattle.um_unit.specs.Tests.{tells_any}
 use Rattle.um_model.specs.Values.{exits_of}
 use Rattle.um_model.specs.declared.service.End.{End}
 

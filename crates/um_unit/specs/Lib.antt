@@ -2,3 +2,4 @@ pub mod View
 pub mod ServiceView
 pub mod Readings
 pub mod Sources
+pub mod Tests

@@ -1,7 +1,8 @@
 -- Sources and assignments of the code as those of the definitions.
 use Rattle.std.specs.Prelude.{List, Option, None, map}
 use Rattle.std.specs.List.{flat_map}
-use Rattle.um_model.specs.Syntax.{Placed, in_sections}
+use Rattle.um_model.proofs.FileForms.{in_sections}
+use Rattle.um_model.specs.Syntax.{Placed}
 use Rattle.um_model.specs.Units as model
 use Rattle.um_model.specs.declared.names.Suffix.{Suffix}
 use Rattle.um_syntax.specs.Items.{item_of}

@@ -1,6 +1,7 @@
 -- Units of the code as the units of the definitions.
 use Rattle.std.specs.Prelude.{List, None, option_map, map, string_bytes}
 use Rattle.um_model.specs.Resolution.{Resolution, AtFile, AtNoFile, AtMask, Nowhere}
+use Rattle.um_model.proofs.FileForms.{without_install}
 use Rattle.um_model.specs.Units as model
 use Rattle.um_unit.specs.ServiceView.{service_settings_of}
 use Rattle.um_unit.specs.declared.warnings.Warning.{Warning}
@@ -62,6 +63,6 @@ loading_of (loading.BadSetting unit reason) = model.BadSetting unit (string_byte
 -- what becomes of a name that leads there, with these files
 abbrev pub loading_with : Resolution → List model.Source → model.Loading
 loading_with (AtFile unit path text) sources = model.loading_by_file unit path sources
-loading_with (AtNoFile unit) sources = model.Found (model.without_install (model.unit_by unit None sources))
+loading_with (AtNoFile unit) sources = model.Found (without_install (model.unit_by unit None sources))
 loading_with (AtMask unit) sources = model.Masked unit
 loading_with Nowhere sources = model.NotFound

@@ -1,13 +1,14 @@
 //! The assignments of a unit's files as one list.
 
 ghost use Rattle.std.specs.Prelude.{◌≡◌, ◌&&◌, Some, None, IfOk, OnOk, ◌++◌, map, not, option_map, option_to_list};
-ghost use Rattle.std.specs.List.{suffix_len};
+ghost use Rattle.std.specs.List.{after_last, suffix_len};
 ghost use Rattle.std.specs.Str.{bytes_eq};
 ghost use Rattle.um_model.specs.Text.{is_empty};
-ghost use Rattle.um_model.specs.Syntax.{in_sections, section_after};
+ghost use Rattle.um_model.proofs.FileForms.{in_sections, section_past};
 ghost use Rattle.um_model.specs.Units as model;
 ghost use Rattle.um_syntax.specs.Items.{item_of};
 ghost use Rattle.um_unit.specs.Sources.{assigned_in, assigned_of, source_of};
+ghost use Rattle.um_unit.specs.Tests.{assigns};
 
 use crate::keys::is_known_section;
 use std::alloc::{AllocError, Global};
@@ -35,7 +36,7 @@ pub type Key<'k> = (&'k str, &'k str);
 
 /// The section after an item.
 pub fn section_after<'i>(section: Option<&'i str>, item: &'i Item<'_>) -> Option<&'i str>
-    ensures { option_map (λ s. s.now) result ≡ section_after (option_map (λ s. s.now) section.entry) (item_of item.now) }
+    ensures { option_map (λ s. s.now) result ≡ section_past (option_map (λ s. s.now) section.entry) (item_of item.now) }
 {
     match item {
         Item::Section { name, .. } => Some(name.as_str()),
@@ -108,7 +109,7 @@ fn is_of(assigned: &Assigned<'_>, section: &str, key: &str) -> bool
 
 /// Whether it assigns to one of the keys.
 fn assigns(keys: &[Key<'_>], assigned: &Assigned<'_>) -> bool
-    ensures { result ≡ model.assigns (map (λ k. (k.0.now, k.1.now)) keys.now) (assigned_of assigned.now) }
+    ensures { result ≡ assigns (map (λ k. (k.0.now, k.1.now)) keys.now) (assigned_of assigned.now) }
 {
     for (section, key) in keys {
         if is_of(assigned, section, key) {
@@ -145,7 +146,7 @@ fn said_len(values: &[&str]) -> usize
 
 /// The values behind the last empty one, which takes back those before it.
 pub fn since_empty<'v, 'a>(values: &'v [&'a str]) -> &'v [&'a str]
-    ensures { map (λ v. v.now) result.now ≡ model.since_empty (map (λ v. v.now) values.now) }
+    ensures { map (λ v. v.now) result.now ≡ after_last is_empty (map (λ v. v.now) values.now) }
 {
     &values[values.len() - said_len(values)..]
 }

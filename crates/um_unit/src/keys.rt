@@ -1,8 +1,7 @@
 //! The sections and keys of unit files.
 
-ghost use Rattle.std.specs.Prelude.{◌≡◌, Some, map};
-ghost use Rattle.std.specs.List.{list_any};
-ghost use Rattle.std.specs.Str.{bytes_eq};
+ghost use Rattle.std.specs.Prelude.{◌≡◌, Some, map, nat_eq};
+ghost use Rattle.std.specs.List.{list_any, starts_with};
 ghost use Rattle.std.specs.Map.{lookup};
 ghost use Rattle.std.specs.Str.{bytes_eq};
 ghost use Rattle.um_model.specs.Keys as keys;
@@ -78,7 +77,7 @@ fn is_among(text: &str, words: &[&str]) -> bool
 }
 
 fn begins_with(front: &str, text: &str) -> bool
-    ensures { result ≡ keys.begins_with front.now text.now }
+    ensures { result ≡ starts_with nat_eq text.now front.now }
 {
     text.as_bytes().starts_with(front.as_bytes())
 }

@@ -4,6 +4,7 @@
 
 mod assignments;
 mod keys;
+mod laws;
 mod lists;
 mod loaded;
 mod loader;
@@ -14,6 +15,7 @@ mod settings;
 mod singles;
 mod warnings;
 
+pub use laws::a_value_counts_or_warns;
 pub use loaded::{LoadedUnit, Loading};
 pub use loader::load;
 pub use service_settings::ServiceSettings;

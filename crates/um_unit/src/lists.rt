@@ -1,6 +1,6 @@
 //! Settings of several values: each adds to what the earlier ones say.
 
-ghost use Rattle.std.specs.Prelude.{◌≡◌, ◌++◌, ◌∷◌, [], IfOk, OnOk, map, string_bytes, filter_map};
+ghost use Rattle.std.specs.Prelude.{◌≡◌, ◌++◌, ◌∷◌, [], codes, IfOk, OnOk, map, string_bytes, filter_map};
 ghost use Rattle.std.specs.List.{flat_map};
 ghost use Rattle.std.specs.Result.{result_ok, result_unwrap_or};
 ghost use Rattle.um_model.specs.Names.{is_unit_name};
@@ -10,6 +10,7 @@ ghost use Rattle.um_model.specs.Values.{exits_of};
 ghost use Rattle.um_model.specs.declared.service.End as ends;
 ghost use Rattle.um_unit.specs.Readings.{fits_use, read_as};
 ghost use Rattle.um_unit.specs.Sources.{assigned_of};
+ghost use Rattle.um_unit.specs.Tests.{tells_any};
 ghost use Rattle.um_value.specs.ExitSet.{holds};
 ghost use Rattle.um_words.specs.Commands.{commands_seen};
 ghost use Rattle.um_words.specs.Environment.{variables_of};
@@ -78,7 +79,7 @@ pub fn install_names(
     key: &str,
 ) -> Result<Vec<String>, AllocError>
     ensures { IfOk result (λ names. map string_bytes names.items
-        ≡ model.names_of (fits_use uses unit.now) unit.now (model.since_empty (model.values_of (model.in_install key.now ∷ []) (map assigned_of assigned.now)))) }
+        ≡ model.names_of (fits_use uses unit.now) unit.now (model.since_empty (codes "Install", key.now) (map assigned_of assigned.now))) }
 {
     let values = values_of(alloc, assigned, &[("Install", key)])?;
     names_of(alloc, uses, unit, since_empty(values.as_slice()))
@@ -101,7 +102,7 @@ pub fn commands_of(
     assigned: &[Assigned<'_>],
     key: &str,
 ) -> Result<Vec<Command>, AllocError>
-    ensures { IfOk result (λ commands. commands_seen commands.items ≡ model.commands_of key.now unit.now (map assigned_of assigned.now)) }
+    ensures { IfOk result (λ commands. commands_seen commands.items ≡ model.all_said (said.commands_reading unit.now) key.now (map assigned_of assigned.now)) }
 {
     let values = values_of(alloc, assigned, &[("Service", key)])?;
     let mut commands = Vec::new(alloc);
@@ -127,7 +128,7 @@ pub fn environment_of(
     unit: &UnitName,
     assigned: &[Assigned<'_>],
 ) -> Result<Vec<Variable>, AllocError>
-    ensures { IfOk result (λ variables. variables_of variables.items ≡ model.environment_of unit.now (map assigned_of assigned.now)) }
+    ensures { IfOk result (λ variables. variables_of variables.items ≡ model.all_said (said.environment_reading unit.now) (codes "Environment") (map assigned_of assigned.now)) }
 {
     let values = values_of(alloc, assigned, &[("Service", "Environment")])?;
     let mut variables = Vec::new(alloc);
@@ -139,7 +140,7 @@ pub fn environment_of(
 
 /// The ends that a value tells, none where it can't be read.
 fn exits_said(value: &str) -> ExitSet
-    ensures { (end : ends.End) → holds result end ≡ model.tells_any (filter_map exits_of (value.now ∷ [])) end }
+    ensures { (end : ends.End) → holds result end ≡ tells_any (filter_map exits_of (value.now ∷ [])) end }
 {
     exit_set(value).unwrap_or(ExitSet::empty())
 }

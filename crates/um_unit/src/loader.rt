@@ -3,6 +3,7 @@
 ghost use Rattle.std.specs.Prelude.{◌≡◌, IfOk, Some, None, map, string_bytes};
 ghost use Rattle.um_model.specs.Names.{suffix_of};
 ghost use Rattle.um_model.specs.Resolution.{files_at};
+ghost use Rattle.um_model.proofs.FileForms.{without_install};
 ghost use Rattle.um_model.specs.Units as model;
 ghost use Rattle.um_resolve.specs.View.{resolution_of, unit_file_of};
 ghost use Rattle.um_unit.specs.Sources.{source_of};
@@ -71,7 +72,7 @@ fn unit_without_file(
     unit: &UnitName,
     sources: &[Source<'_>],
 ) -> Result<LoadedUnit, AllocError>
-    ensures { IfOk result (λ u. unit_of u ≡ model.without_install (model.unit_by unit.now None (map source_of sources.now))) }
+    ensures { IfOk result (λ u. unit_of u ≡ without_install (model.unit_by unit.now None (map source_of sources.now))) }
 {
     let assigned = assignments(alloc, unit.suffix(), sources)?;
     let mut settings = settings_of(alloc, unit, assigned.as_slice())?;

@@ -2,9 +2,12 @@
 
 ghost use Rattle.std.specs.Prelude.{◌≡◌, ◌∷◌, IfOk, map, option_copied, option_map, string_bytes};
 ghost use Rattle.um_model.specs.Names.{suffix_of, suffix_text_of};
+ghost use Rattle.um_model.specs.Commands.{is_executable_word};
+ghost use Rattle.um_model.proofs.FileForms.{unit_reading};
 ghost use Rattle.um_model.specs.Readings as said;
+ghost use Rattle.um_model.specs.Results.{◌and_then◌};
 ghost use Rattle.um_model.specs.Units as model;
-ghost use Rattle.um_unit.specs.Readings.{fits_use, read_as};
+ghost use Rattle.um_unit.specs.Readings.{command_reading, first_warning, fits_use, read_as, value_reading, variable_reading};
 ghost use Rattle.um_words.specs.Commands.{command_seen, commands_seen};
 ghost use Rattle.um_words.specs.Environment.{variable_of, variables_of};
 
@@ -19,7 +22,7 @@ pub type Reading<T> = Result<T, WarningKind>;
 
 /// What was read, or the warning of a value that can't be read.
 pub fn value_reading<T: Drop>(read: Option<T>) -> Reading<T>
-    ensures { result ≡ said.value_reading read }
+    ensures { result ≡ value_reading read }
 {
     read.ok_or(WarningKind::UnreadableValue)
 }
@@ -59,7 +62,7 @@ fn executable_reading(
     unit: &UnitName,
     word: &str,
 ) -> Result<Reading<String>, AllocError>
-    ensures { IfOk result (λ r. read_as string_bytes r ≡ said.then_read (said.text_reading unit.now word.now) said.if_executable) }
+    ensures { IfOk result (λ r. read_as string_bytes r ≡ (said.text_reading unit.now word.now and_then said.read_if is_executable_word)) }
 {
     match text_reading(alloc, unit, word)? {
         Ok(text) if !is_executable_word(text.as_str()) => Ok(Err(WarningKind::UnreadableValue)),
@@ -103,7 +106,7 @@ fn command_reading(
     unit: &UnitName,
     command: &Command,
 ) -> Result<Reading<Command>, AllocError>
-    ensures { IfOk result (λ r. read_as command_seen r ≡ said.command_reading unit.now (command_seen command.now)) }
+    ensures { IfOk result (λ r. read_as command_seen r ≡ command_reading unit.now (command_seen command.now)) }
 {
     match words_reading(alloc, unit, command.words.as_slice())? {
         Ok(words) => Ok(Ok(Command {
@@ -153,7 +156,7 @@ fn variable_reading(
     unit: &UnitName,
     word: &str,
 ) -> Result<Reading<Variable>, AllocError>
-    ensures { IfOk result (λ r. read_as variable_of r ≡ said.variable_reading unit.now word.now) }
+    ensures { IfOk result (λ r. read_as variable_of r ≡ variable_reading unit.now word.now) }
 {
     match text_reading(alloc, unit, word)? {
         Ok(text) => Ok(value_reading(variable_in(alloc, text.as_str())?)),
@@ -221,7 +224,7 @@ fn name_reading(
     unit: &UnitName,
     word: &str,
 ) -> Result<Reading<String>, AllocError>
-    ensures { IfOk result (λ r. read_as string_bytes r ≡ said.unit_reading (fits_use uses unit.now) unit.now word.now) }
+    ensures { IfOk result (λ r. read_as string_bytes r ≡ unit_reading (fits_use uses unit.now) unit.now word.now) }
 {
     match text_reading(alloc, unit, word)? {
         Ok(text) if !fits(uses, unit, text.as_str()) => Ok(Err(WarningKind::UnreadableValue)),
@@ -253,7 +256,7 @@ pub fn names_reading(
 
 /// The first warning of several readings.
 pub fn first_warning(readings: &[Reading<String>]) -> Option<WarningKind>
-    ensures { result ≡ said.first_warning (map (read_as string_bytes) readings.now) }
+    ensures { result ≡ first_warning (map (read_as string_bytes) readings.now) }
 {
     for reading in readings {
         if let Err(warning) = reading {

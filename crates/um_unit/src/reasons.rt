@@ -5,6 +5,7 @@ ghost use Rattle.std.specs.Option.{option_or};
 ghost use Rattle.um_model.specs.Units as model;
 ghost use Rattle.um_unit.specs.ServiceView.{service_settings_of};
 ghost use Rattle.um_unit.specs.Sources.{assigned_of};
+ghost use Rattle.um_unit.specs.Tests as tests;
 ghost use Rattle.um_unit.specs.View.{said_of};
 
 use crate::assignments::Assigned;
@@ -23,7 +24,7 @@ fn setting_reason(alloc: Global, key: &str) -> Result<String, AllocError>
 }
 
 fn is_refused(assigned: &Assigned<'_>) -> bool
-    ensures { result ≡ model.is_refused (assigned_of assigned.now) }
+    ensures { result ≡ tests.is_refused (assigned_of assigned.now) }
 {
     is_refused_key(assigned.key) && !assigned.value.is_empty()
 }
@@ -42,14 +43,14 @@ fn refused_setting(alloc: Global, assigned: &[Assigned<'_>]) -> Result<Option<St
 
 /// Whether it has neither a command of `ExecStart=` nor remains with one of `ExecStop=`.
 fn lacks_command(settings: &ServiceSettings) -> bool
-    ensures { result ≡ model.lacks_command (service_settings_of settings.now) }
+    ensures { result ≡ tests.lacks_command (service_settings_of settings.now) }
 {
     settings.start.is_empty() && !(settings.remains && !settings.stop.is_empty())
 }
 
 /// Whether a oneshot service has too few commands, or another doesn't have exactly one.
 fn has_wrong_count(settings: &ServiceSettings) -> bool
-    ensures { result ≡ model.has_wrong_count settings.now.kind (service_settings_of settings.now) }
+    ensures { result ≡ tests.has_wrong_count settings.now.kind (service_settings_of settings.now) }
 {
     match settings.kind {
         UnitKind::Oneshot => lacks_command(settings),
@@ -59,7 +60,7 @@ fn has_wrong_count(settings: &ServiceSettings) -> bool
 
 /// Whether a oneshot service is to be started again after a success.
 fn restarts_after_success(kind: UnitKind, policy: RestartPolicy) -> bool
-    ensures { result ≡ model.restarts_after_success kind policy }
+    ensures { result ≡ tests.restarts_after_success kind policy }
 {
     kind == UnitKind::Oneshot && matches!(policy, RestartPolicy::Always | RestartPolicy::OnSuccess)
 }
@@ -70,7 +71,7 @@ fn refused_service(
     said: TypeSaid,
     settings: &ServiceSettings,
 ) -> Option<&'static str>
-    ensures { option_map (λ reason. reason.now) result ≡ model.refused_service (Some suffix) (said_of said) (service_settings_of settings.now) }
+    ensures { option_map (λ reason. reason.now) result ≡ tests.refused_service (Some suffix) (said_of said) (service_settings_of settings.now) }
 {
     let Suffix::Service = suffix else {
         return None;
@@ -94,7 +95,7 @@ pub fn reason_of(
     settings: &ServiceSettings,
 ) -> Result<Option<String>, AllocError>
     ensures { IfOk result (λ reason. option_map string_bytes reason ≡ option_or (model.refused_setting (map assigned_of assigned.now))
-        (model.refused_service (Some suffix) (model.type_of (map assigned_of assigned.now)) (service_settings_of settings.now))) }
+        (tests.refused_service (Some suffix) (model.type_of (map assigned_of assigned.now)) (service_settings_of settings.now))) }
 {
     if let Some(reason) = refused_setting(alloc, assigned)? {
         return Ok(Some(reason));

@@ -1,10 +1,14 @@
 //! Settings of one value: the last that can be read counts, or else the default.
 
 ghost use Rattle.std.specs.Prelude.{◌≡◌, IfOk, List, Option, ℕ, map, option_copied, option_map, string_bytes};
+ghost use Rattle.std.specs.Result.{result_ok};
+ghost use Rattle.um_model.specs.Readings as said;
+ghost use Rattle.um_model.proofs.FileForms.{timeout_in};
 ghost use Rattle.um_model.specs.Units as model;
 ghost use Rattle.um_model.specs.Values as values;
 ghost use Rattle.um_model.specs.declared.settings.RestartPolicy as policies;
 ghost use Rattle.um_unit.specs.Sources.{assigned_of};
+ghost use Rattle.um_value.specs.Spans.{micros_in};
 ghost use Rattle.um_unit.specs.View.{said_of};
 
 use crate::assignments::{Assigned, Key, values_of};
@@ -41,7 +45,7 @@ pub fn last_read<R: Reader>(
     default: R::Said,
 ) -> Result<R::Said, AllocError>
     ensures { IfOk result (λ last. R.seen last
-        ≡ model.last_read (R.meaning reader.now) (R.seen default) (model.values_of (map (λ k. (k.0.now, k.1.now)) keys.now) (map assigned_of assigned.now))) }
+        ≡ model.last_read (R.meaning reader.now) (R.seen default) (map (λ k. (k.0.now, k.1.now)) keys.now) (map assigned_of assigned.now)) }
 {
     let mut last = default;
     for value in &values_of(alloc, assigned, keys)? {
@@ -66,7 +70,7 @@ impl Reader for Text<'_> {
 
     ghost seen = { string_bytes };
 
-    ghost meaning = { λ r. model.description_in r.unit.now };
+    ghost meaning = { λ r value. result_ok (said.text_reading r.unit.now value) };
 
     fn read(&self, value: &str) -> Result<Option<String>, AllocError> {
         Ok(text_reading(self.alloc, self.unit, value)?.ok())
@@ -131,7 +135,7 @@ impl Reader for Policy {
 
 /// The span, or none where it never ends.
 fn micros_in(span: TimeSpan) -> Option<Span>
-    ensures { result ≡ model.micros_in span }
+    ensures { result ≡ micros_in span }
 {
     match span {
         TimeSpan::Infinite => None,
@@ -141,7 +145,7 @@ fn micros_in(span: TimeSpan) -> Option<Span>
 
 /// The same of a time-out: one of 0 never passes.
 fn timeout_in(span: TimeSpan) -> Option<Span>
-    ensures { result ≡ model.timeout_in span }
+    ensures { result ≡ timeout_in (micros_in span) }
 {
     match span {
         TimeSpan::Infinite => None,
@@ -160,7 +164,7 @@ impl Reader for Delay {
 
     ghost seen = { λ span. span };
 
-    ghost meaning = { λ _. model.span_said };
+    ghost meaning = { λ _. values.span_of };
 
     fn read(&self, value: &str) -> Result<Option<Option<Span>>, AllocError> {
         Ok(span(value).map(micros_in))
@@ -229,31 +233,21 @@ pub enum TypeSaid {
     Unserved,
 }
 
-fn is_unserved_type(value: &str) -> bool
-    ensures { result ≡ model.is_unserved_type value.now }
-{
-    value == "notify"
-        || value == "notify-reload"
-        || value == "dbus"
-        || value == "forking"
-        || value == "idle"
-}
-
 /// What a value of `Type=` says, where it can be read (systemd.service(5)).
 #[tactic(auto, unfolding(um_model::specs::Units::type_said))]
 pub fn type_said(value: &str) -> Option<TypeSaid>
     ensures { option_map said_of result ≡ model.type_said value.now }
 {
-    if value == "simple" {
-        Some(TypeSaid::Served(UnitKind::Simple))
-    } else if value == "exec" {
-        Some(TypeSaid::Served(UnitKind::Exec))
-    } else if value == "oneshot" {
-        Some(TypeSaid::Served(UnitKind::Oneshot))
-    } else if is_unserved_type(value) {
-        Some(TypeSaid::Unserved)
-    } else {
-        None
+    match value {
+        "simple" => Some(TypeSaid::Served(UnitKind::Simple)),
+        "exec" => Some(TypeSaid::Served(UnitKind::Exec)),
+        "oneshot" => Some(TypeSaid::Served(UnitKind::Oneshot)),
+        "notify" => Some(TypeSaid::Unserved),
+        "notify-reload" => Some(TypeSaid::Unserved),
+        "dbus" => Some(TypeSaid::Unserved),
+        "forking" => Some(TypeSaid::Unserved),
+        "idle" => Some(TypeSaid::Unserved),
+        _ => None,
     }
 }
 

@@ -4,10 +4,12 @@ ghost use Rattle.std.specs.Prelude.{◌≡◌, ◌++◌, Some, OnOk, IfOk, map, 
 ghost use Rattle.std.specs.Result.{result_err};
 ghost use Rattle.um_model.specs.Readings as said;
 ghost use Rattle.um_model.specs.Syntax.{line_number};
+ghost use Rattle.um_model.proofs.FileForms.{warnings_of};
 ghost use Rattle.um_model.specs.Units as model;
 ghost use Rattle.um_syntax.specs.Items.{item_of};
-ghost use Rattle.um_unit.specs.Readings.{fits_use};
+ghost use Rattle.um_unit.specs.Readings.{fits_use, first_warning, value_reading};
 ghost use Rattle.um_unit.specs.Sources.{source_of};
+ghost use Rattle.um_unit.specs.Tests as tests;
 ghost use Rattle.um_unit.specs.View.{warning_of};
 
 use crate::assignments::{Source, section_after};
@@ -41,7 +43,7 @@ fn warning_in<T: Drop>(reading: Reading<T>) -> Option<WarningKind>
 
 /// The warning of a value that has no reading.
 fn unread<T: Drop>(read: Option<T>) -> Option<WarningKind>
-    ensures { result ≡ result_err (said.value_reading read) }
+    ensures { result ≡ result_err (value_reading read) }
 {
     warning_in(value_reading(read))
 }
@@ -52,7 +54,7 @@ fn names_warning(
     unit: &UnitName,
     value: &str,
 ) -> Result<Option<WarningKind>, AllocError>
-    ensures { IfOk result (λ w. w ≡ said.first_warning (said.names_reading (fits_use uses unit.now) unit.now value.now)) }
+    ensures { IfOk result (λ w. w ≡ first_warning (said.names_reading (fits_use uses unit.now) unit.now value.now)) }
 {
     let readings = names_reading(alloc, uses, unit, value)?;
     Ok(first_warning(readings.as_slice()))
@@ -105,7 +107,7 @@ fn assignment_warning(
 }
 
 fn head_warning(suffix: Suffix, name: &str) -> Option<WarningKind>
-    ensures { result ≡ model.head_warning (Some suffix) name.now }
+    ensures { result ≡ tests.head_warning (Some suffix) name.now }
 {
     if is_known_section(suffix, name) || is_foreign(name) {
         None
@@ -122,7 +124,7 @@ fn warning_of_assignment(
     key: &str,
     value: &str,
 ) -> Result<Option<WarningKind>, AllocError>
-    ensures { IfOk result (λ w. w ≡ model.warning_of_assignment unit.now (option_map (λ s. s.now) section.entry) key.now value.now) }
+    ensures { IfOk result (λ w. w ≡ tests.warning_of_assignment unit.now (option_map (λ s. s.now) section.entry) key.now value.now) }
 {
     match section {
         Some(section) if is_known_section(unit.suffix(), section) => assignment_warning(
@@ -137,7 +139,7 @@ fn warning_of_syntax(
     section: Option<&str>,
     kind: WarningKind,
 ) -> Option<WarningKind>
-    ensures { result ≡ model.warning_of_syntax (Some suffix) (option_map (λ s. s.now) section.entry) kind }
+    ensures { result ≡ tests.warning_of_syntax (Some suffix) (option_map (λ s. s.now) section.entry) kind }
 {
     match section {
         Some(section) if !is_known_section(suffix, section) => None,
@@ -204,7 +206,7 @@ pub fn warnings_of(
     unit: &UnitName,
     sources: &[Source<'_>],
 ) -> Result<Vec<Warning>, AllocError>
-    ensures { IfOk result (λ w. map warning_of w.items ≡ model.warnings_of unit.now (map source_of sources.now)) }
+    ensures { IfOk result (λ w. map warning_of w.items ≡ warnings_of unit.now (map source_of sources.now)) }
 {
     let mut warnings = Vec::new(alloc);
     for source in sources {

@@ -5,9 +5,10 @@ use Rattle.std.specs.List.{list_any, list_all}
 use Rattle.std.proofs.lemmas.List.{take_more}
 use Rattle.std.proofs.lemmas.List.Folds.{list_all-append, list_any-append}
 use Rattle.std.proofs.lemmas.Bool.{and_parts, false≢true}
-use Rattle.um_model.specs.Values.{exit_of, is_exit, is_end}
+use Rattle.um_model.specs.Values.{exit_of, is_end}
 use Rattle.um_model.specs.declared.service.End.{End}
 use Rattle.um_model.specs.declared.service.End.TheVariants.{Code, Signal, Lost}
+use Rattle.um_model.proofs.Forms.{is_exit}
 use Rattle.um_value.specs.ExitSet.{holds}
 use Rattle.um_value.specs.declared.exits.ExitSet.{ExitSet}
 

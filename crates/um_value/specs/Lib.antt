@@ -1,1 +1,2 @@
 pub mod ExitSet
+pub mod Spans

@@ -1,9 +1,9 @@
 //! Sets of exits.
 
 ghost use Rattle.std.specs.Prelude.{◌≡◌, ◌||◌, ◌<◌, true, false, Some, Bool, IfSome, IfNone, option_map, ℕ, length, slice_index_or};
-ghost use Rattle.um_model.specs.Values.{signal_number, exit_of, is_end, exits_of};
+ghost use Rattle.um_model.specs.Values.{exit_of, is_end, exits_of};
 ghost use Rattle.um_model.specs.declared.service.End as ends;
-ghost use Rattle.um_value.specs.ExitSet.{holds, fits};
+ghost use Rattle.um_value.specs.ExitSet.{holds, fits, signal_number};
 
 use crate::numbers::{decimal, is_decimal};
 use crate::tables::number_among;

@@ -1,18 +1,17 @@
 //! What the definitions of values say together, as functions that do nothing.
 
-ghost use Rattle.std.specs.Prelude.{◌≡◌, ℕ, List, Bool};
-ghost use Rattle.um_model.specs.Finds.{Finds};
+ghost use Rattle.std.specs.Prelude.{◌≡◌, ℕ, List, Bool, Option};
+ghost use Rattle.um_model.proofs.FindsLaws.{Finds};
 ghost use Rattle.um_model.proofs.ValuesLaws.{IsBoolean, IsNumber, IsTime, IsSpan, IsExitSet};
 ghost use Rattle.um_model.specs.Values.{restart_text, boolean_of, time_of, number_of, span_of, exits_of, policy_named};
 ghost use Rattle.um_model.specs.declared.service.End as ends;
 ghost use Rattle.um_model.specs.declared.settings.RestartPolicy as policies;
-ghost use Rattle.um_model.specs.declared.settings.TimeSpan as spans;
 
 /// A text has one reading at most as a value of each kind.
 pub fn a_value_has_one_reading()
     ensures boolean { (text : List ℕ) (a b : Bool) → IsBoolean text a → IsBoolean text b → a ≡ b }
     ensures number { (text : List ℕ) (a b : ℕ) → IsNumber text a → IsNumber text b → a ≡ b }
-    ensures span { (text : List ℕ) (a b : spans.TimeSpan) → IsSpan text a → IsSpan text b → a ≡ b }
+    ensures span { (text : List ℕ) (a b : Option ℕ) → IsSpan text a → IsSpan text b → a ≡ b }
     ensures exits { (text : List ℕ) (a b : ends.End → Bool) → IsExitSet text a → IsExitSet text b → (end : ends.End) → a end ≡ b end }
     ensures restart { (a b : policies.RestartPolicy) → restart_text a ≡ restart_text b → a ≡ b }
 {}

@@ -1,9 +1,10 @@
 //! Time spans.
 
-ghost use Rattle.std.specs.Prelude.{◌≡◌, ◌+◌, ◌<◌, ◌≤◌, ◌^◌, ℕ, length, IfSome, IfNone};
-ghost use Rattle.um_model.specs.Values.{span_of, unit_size, digits_of, unit_of, past_part};
+ghost use Rattle.std.specs.Prelude.{◌≡◌, ◌+◌, ◌<◌, ◌≤◌, ◌^◌, ℕ, length, option_map, IfSome, IfNone};
+ghost use Rattle.um_model.specs.Values.{span_of};
 ghost use Rattle.um_model.proofs.ValuesLaws.{IsTime, IsSpan};
-ghost use Rattle.um_model.specs.declared.settings.TimeSpan.TheVariants.{Micros};
+ghost use Rattle.um_value.specs.Spans.{micros_in};
+ghost use Rattle.um_model.proofs.FileForms.{unit_size, digits_of, unit_of, past_part};
 
 use crate::numbers::decimal;
 use crate::tables::number_among;
@@ -81,8 +82,8 @@ fn time(digits: &str, unit: &str) -> Option<Span>
 /// The sum of the parts. None where the text has no part, or isn't parts alone, or where they are longer
 /// than a span can be.
 fn sum_of_parts(text: &str) -> Option<Span>
-    ensures found { IfSome result (λ n. IsSpan text.now (Micros n)) }
-    ensures none { IfNone result ((n : ℕ) → ¬ (IsSpan text.now (Micros n))) }
+    ensures found { IfSome result (λ n. IsSpan text.now (Some n)) }
+    ensures none { IfNone result ((n : ℕ) → ¬ (IsSpan text.now (Some n))) }
 {
     let mut rest = trim_start(text);
     if rest.is_empty() {
@@ -102,7 +103,7 @@ fn sum_of_parts(text: &str) -> Option<Span>
 /// and `w week weeks`; a part without one is seconds. Whitespace may stand around each number and unit (systemd.time(7),
 /// "Parsing Time Spans"). None for any other text.
 pub fn span(text: &str) -> Option<TimeSpan>
-    ensures { result ≡ span_of text.now }
+    ensures { option_map micros_in result ≡ span_of text.now }
 {
     if text == "infinity" {
         return Some(TimeSpan::Infinite);

@@ -1,7 +1,8 @@
 //! Choices without fields, told by a tag of one byte.
 ghost use Rattle.std.specs.Prelude.{◌≡◌, ◌≤◌, ◌++◌, ◌∷◌, [], ℕ, Bool, Option, Some, length, drop, IfSome, OnOk, OnErr, ⊤};
 ghost use Rattle.std.specs.Option.{option_map};
-ghost use Rattle.um_model.specs.Bytes.{IsInFront, tag_at, truth_at, truth_of, truth_spelling, truth_tag};
+ghost use Rattle.std.specs.List.{slice_get};
+ghost use Rattle.um_model.specs.Bytes.{IsInFront, tag_at, truth_tag, truths};
 ghost use Rattle.um_model.proofs.BytesLaws.{canonical_tag, truth_again, truth_back};
 
 use crate::canon::Canon;
@@ -57,7 +58,7 @@ pub fn get_tag<T: Tagged>(bytes: &[u8]) -> Option<(T, usize)>
 impl Tagged for bool {
     ghost tag_of = { truth_tag };
 
-    ghost with_tag = { truth_of };
+    ghost with_tag = { slice_get truths };
 
     fn tag(&self) -> u8 {
         u8::from(*self)

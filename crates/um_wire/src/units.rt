@@ -1,5 +1,4 @@
 //! What the state holds of one unit: choices by their tags, how a process ended, a start window, and the unit.
-ghost use Rattle.um_model.specs.Bytes.{in_table};
 ghost use Rattle.um_model.specs.InputSpellings.{mode_tag, modes};
 ghost use Rattle.um_model.specs.Spellings.{FitCounted, FitEnd, FitUnit, counted_at, counted_spelling, end_at, end_spelling, unit_at, unit_spelling};
 ghost use Rattle.um_model.specs.Spellings.{job_state_tag, job_states, kind_tag, kinds, result_tag, results, sub_states, sub_tag};
@@ -9,6 +8,7 @@ ghost use Rattle.um_model.proofs.SpellingsLaws.{job_state_again, job_state_back,
 ghost use Rattle.um_model.specs.declared.limit.Counted as counted;
 ghost use Rattle.um_model.specs.declared.service.End as end;
 ghost use Rattle.um_model.specs.declared.service.UnitState as unit;
+ghost use Rattle.std.specs.List.{slice_get};
 
 use crate::canon::Canon;
 use crate::choices::Tagged;
@@ -21,7 +21,7 @@ use um_model::{
 impl Tagged for SubState {
     ghost tag_of = { sub_tag };
 
-    ghost with_tag = { in_table sub_states };
+    ghost with_tag = { slice_get sub_states };
 
     fn tag(&self) -> u8 {
         match self {
@@ -62,7 +62,7 @@ impl Tagged for SubState {
 impl Tagged for UnitResult {
     ghost tag_of = { result_tag };
 
-    ghost with_tag = { in_table results };
+    ghost with_tag = { slice_get results };
 
     fn tag(&self) -> u8 {
         match self {
@@ -101,7 +101,7 @@ impl Tagged for UnitResult {
 impl Tagged for JobKind {
     ghost tag_of = { kind_tag };
 
-    ghost with_tag = { in_table kinds };
+    ghost with_tag = { slice_get kinds };
 
     fn tag(&self) -> u8 {
         match self {
@@ -126,7 +126,7 @@ impl Tagged for JobKind {
 impl Tagged for JobState {
     ghost tag_of = { job_state_tag };
 
-    ghost with_tag = { in_table job_states };
+    ghost with_tag = { slice_get job_states };
 
     fn tag(&self) -> u8 {
         match self {
@@ -151,7 +151,7 @@ impl Tagged for JobState {
 impl Tagged for JobMode {
     ghost tag_of = { mode_tag };
 
-    ghost with_tag = { in_table modes };
+    ghost with_tag = { slice_get modes };
 
     fn tag(&self) -> u8 {
         match self {

@@ -4,7 +4,8 @@ use Rattle.std.specs.Prelude.{string_bytes, String, slice_set}
 use Rattle.std.specs.declared.alloc.Global.{Global}
 use Rattle.std.specs.List.{list_any}
 use Rattle.um_model.specs.Commands as pure
-use Rattle.um_model.specs.Commands.{command_of, signs_of}
+use Rattle.um_model.specs.Commands.{command_of}
+use Rattle.um_words.specs.Commands.{signs_of}
 
 -- the words of a command, the first without its signs, and what they say
 pub command_cut : (items : List (String Global)) (first word : String Global) (text signs rest : List ℕ) (ignores substitutes : Bool) → 0 < length items

@@ -9,10 +9,10 @@ use Rattle.std.proofs.lemmas.List.Sums.{take_while-cons}
 use Rattle.std.proofs.lemmas.Bool.{cond-true, cond-false, ne_eqb}
 use Rattle.std.proofs.lemmas.Bool.Decides.{nat_tests}
 use Rattle.um_model.specs.Text.{first_passes}
-use Rattle.um_model.specs.Pieces.{Gives, StandsForText}
+use Rattle.um_model.specs.Pieces.{Gives}
 use Rattle.um_model.specs.Substitution as pure
-use Rattle.um_model.specs.Substitution.{is_name_byte, is_variable_name, whole_name, closed_name, braced_name, value_of, dollar_front, piece_front}
-use Rattle.um_model.proofs.PiecesLaws.{prefixed, reading, reading-append, reading_more_after, StandsForText-reading}
+use Rattle.um_model.specs.Substitution.{is_name_byte, is_variable_name, whole_name, braced_name, value_of, dollar_front, piece_front}
+use Rattle.um_model.proofs.PiecesLaws.{StandsForText, prefixed, reading, reading-append, reading_more_after, StandsForText-reading}
 use Rattle.um_model.proofs.SubstitutionLaws.{plain_piece}
 use Rattle.um_words.proofs.WordLemmas.{boundary_behind}
 use Rattle.um_words.specs.declared.variables.Variable.{Variable}

@@ -3,9 +3,9 @@
 ghost use Rattle.std.specs.Prelude.{◌≡◌, ◌++◌, ◌==◌, ℕ, List, IfOk, OnOk, MatchOption, bytes_eq, drop, length, map, string_bytes};
 ghost use Rattle.std.specs.Option.{option_map};
 ghost use Rattle.std.specs.List.{list_any, prefix_len};
-ghost use Rattle.um_model.specs.Commands.{commands_read, command_of, is_separator, is_sign, signs_of, value_in_command, is_executable_word};
+ghost use Rattle.um_model.specs.Commands.{commands_read, command_of, is_separator, is_sign, value_in_command, is_executable_word};
 ghost use Rattle.um_words.specs.Views.{word_of};
-ghost use Rattle.um_words.specs.Commands.{command_seen, commands_seen};
+ghost use Rattle.um_words.specs.Commands.{command_seen, commands_seen, signs_of};
 
 use crate::splitting::spelled;
 use crate::word::Spelled;

@@ -1,8 +1,9 @@
 //! Variables in the words of a command, as the command starts.
 
 ghost use Rattle.std.specs.Prelude.{◌≡◌, ◌≤◌, ◌+◌, ◌-◌, ◌++◌, ℕ, List, IfOk, OnOk, length, drop, map, string_bytes};
-ghost use Rattle.um_model.specs.Pieces.{Gives, StandsForText};
-ghost use Rattle.um_model.specs.Words.{AreWords};
+ghost use Rattle.um_model.specs.Pieces.{Gives};
+ghost use Rattle.um_model.proofs.PiecesLaws.{StandsForText};
+ghost use Rattle.um_model.proofs.WordsLaws.{AreWords};
 ghost use Rattle.um_model.specs.declared.words.WordRules.TheVariants.{Plain};
 ghost use Rattle.um_model.specs.Substitution.{dollar_front, piece_front, Becomes, AreSubstituted};
 ghost use Rattle.um_words.specs.Environment.{variables_of};

@@ -2,7 +2,7 @@ use Rattle.std.proofs.Common.{◌≡◌, false, ℕ, List, [], Option}
 use Rattle.um_bin.specs.Managers.{size_of, WritesReplies, WritesBeginning}
 use Rattle.um_bin.specs.Streams.{WritesFrom, BeginsFrom}
 use Rattle.um_keeper.specs.Keepers.{has_failed}
-use Rattle.um_model.specs.Frames.{memory_size}
+use Rattle.um_bin.specs.Stores.{memory_size}
 use Rattle.um_model.specs.Machine.{empty_state}
 use Rattle.um_model.specs.declared.frames.Ending.{Ending}
 use Rattle.um_bin.proofs.serving.memory.Given as goal

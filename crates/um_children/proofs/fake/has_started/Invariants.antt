@@ -1,5 +1,5 @@
 use Rattle.std.proofs.Common.{◌≡◌, drop}
-use Rattle.um_model.specs.Children.{has_started}
+use Rattle.um_children.specs.History.{has_started}
 use Rattle.um_children.specs.Calls.{calls_of}
 use Rattle.um_children.proofs.fake.has_started.Given as goal
 

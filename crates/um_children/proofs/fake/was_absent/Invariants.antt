@@ -1,5 +1,5 @@
 use Rattle.std.proofs.Common.{◌≡◌, drop}
-use Rattle.um_model.specs.Children.{was_absent}
+use Rattle.um_children.specs.History.{was_absent}
 use Rattle.um_children.specs.Calls.{calls_of}
 use Rattle.um_children.proofs.fake.was_absent.Given as goal
 

@@ -1,10 +1,15 @@
-use Rattle.std.proofs.Common.{◌≡◌, ◌∙◌, List, [], Result, Ok, Err, map, ap, refl, rules, subst, sym}
+use Rattle.std.proofs.Common.{◌≡◌, ◌≢◌, ◌∙◌, List, [], Result, Ok, Err, map, ap, refl, rules, subst, sym}
 use Rattle.std.specs.Prelude.{IfOk}
 use Rattle.um_model.specs.Machine as model
-use Rattle.um_model.specs.Machine.{State}
+use Rattle.um_model.specs.Machine.{State, Command}
+use Rattle.um_model.specs.Refusals.{Refused}
+use Rattle.um_wire.specs.Gives.{RefusesBy}
+use Rattle.um_wire.specs.Refusal.{refused_of}
+use Rattle.um_wire.specs.declared.refusal.Refusal.TheVariants.{NoMemory}
 use Rattle.um_state.specs.View.{action_of, command_of, state_of}
-use Rattle.um_model.specs.Few.{HoldsNoMore}
+use Rattle.um_model.proofs.FewLaws.{HoldsNoMore}
 use Rattle.um_engine.proofs.KnownLaws.{put_holds_no_more, link_holds_no_more, remove_holds_no_more, waiting_holds_no_more}
+use Rattle.um_engine.proofs.PlannedLaws.{refuses_on}
 use Rattle.um_engine.proofs.Stepped.{does_so}
 use Rattle.um_engine.proofs.commands.done.Goals as goal
 
@@ -84,3 +89,44 @@ returns-in-Install-clause-does c =
     (λ o h none. does_so c.args.moment s o.served.state o.served.state (command_of c.args.command.now) (map action_of o.actions.items)
     (subst (λ q. model.Changes s q o.served.state) (sym (ap command_of c.in-Install.is)) (subst (λ (x : State). model.Changes x command o.served.state) c.state-state.ensures.state h))
     refl (ap (map action_of) none)) c.installed.ensures.changed c.installed.ensures.actions
+
+-- ---- why a command is refused
+
+pub returns-in_err-reloaded-in-DaemonReload-clause-refused : goal.returns-in_err-reloaded-in-DaemonReload-clause-refused
+returns-in_err-reloaded-in-DaemonReload-clause-refused c =
+    let s = c.args.served.now.state in
+    let e = c.in_err-reloaded-in-DaemonReload.field-0.0 in
+    let step = subst (λ (x : State). e ≢ NoMemory → model.Refuses x model.DaemonReload (refused_of e)) c.state-state.ensures.state
+    c.in_err-reloaded-in-DaemonReload.ensures.refused in
+    refuses_on (model.Refuses s (command_of c.args.command.now)) c.from_residual-in_err-reloaded-in-DaemonReload.result e
+    c.from_residual-in_err-reloaded-in-DaemonReload.ensures.1
+    (subst (λ (q : Command). e ≢ NoMemory → model.Refuses s q (refused_of e)) (sym (ap command_of c.in-DaemonReload.is)) step)
+
+pub returns-in_err-planned-in-ForUnit-clause-refused : goal.returns-in_err-planned-in-ForUnit-clause-refused
+returns-in_err-planned-in-ForUnit-clause-refused c =
+    let s = c.args.served.now.state in
+    let e = c.in_err-planned-in-ForUnit.field-0.0 in
+    refuses_on (model.Refuses s (command_of c.args.command.now)) c.from_residual-in_err-planned-in-ForUnit.result e
+    c.from_residual-in_err-planned-in-ForUnit.ensures.1
+    (subst (λ (q : Command). e ≢ NoMemory → model.Refuses s q (refused_of e)) (sym (ap command_of c.in-ForUnit.is)) c.in_err-planned-in-ForUnit.ensures.refused)
+
+pub returns-in_ok-reloaded-in-DaemonReload-clause-refused : goal.returns-in_ok-reloaded-in-DaemonReload-clause-refused
+returns-in_ok-reloaded-in-DaemonReload-clause-refused c =
+    subst (λ (q : Command). (r : Refused) → model.Refuses c.args.served.now.state q r → ⊥) (sym (ap command_of c.in-DaemonReload.is))
+    (subst (λ (x : State). (r : Refused) → model.Refuses x model.DaemonReload r → ⊥) c.state-state.ensures.state c.in_ok-reloaded-in-DaemonReload.ensures.refused)
+
+pub returns-in_ok-planned-in-ForUnit-clause-refused : goal.returns-in_ok-planned-in-ForUnit-clause-refused
+returns-in_ok-planned-in-ForUnit-clause-refused c =
+    subst (λ (q : Command). (r : Refused) → model.Refuses c.args.served.now.state q r → ⊥) (sym (ap command_of c.in-ForUnit.is))
+    c.in_ok-planned-in-ForUnit.ensures.refused
+
+pub returns-in_ok-kept-in-Cancel-clause-refused : goal.returns-in_ok-kept-in-Cancel-clause-refused
+returns-in_ok-kept-in-Cancel-clause-refused c =
+    subst (λ (q : Command). (r : Refused) → model.Refuses c.args.served.now.state q r → ⊥) (sym (ap command_of c.in-Cancel.is))
+    c.in_ok-changed-in-Cancel.ensures.refused
+
+pub returns-in-Install-clause-refused : goal.returns-in-Install-clause-refused
+returns-in-Install-clause-refused c =
+    let command = model.Install c.in-Install.verb c.in-Install.unit in
+    subst (λ (q : Command). RefusesBy (model.Refuses c.args.served.now.state q) c.installed.result) (sym (ap command_of c.in-Install.is))
+    (subst (λ (x : State). RefusesBy (model.Refuses x command) c.installed.result) c.state-state.ensures.state c.installed.ensures.refused)

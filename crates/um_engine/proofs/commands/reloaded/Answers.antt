@@ -12,7 +12,7 @@ pub returns-in_err-known-clause-refused : goal.returns-in_err-known-clause-refus
 returns-in_err-known-clause-refused c =
     let s = state_of c.args.state.now in
     let step : c.in_err-known.field-0.0 ≢ NoMemory → model.Refuses s model.DaemonReload (refused_of c.in_err-known.field-0.0) =
-    λ differs. model.reloads_none (subst (λ t. model.CausesOfLoad s t (refused_of c.in_err-known.field-0.0)) c.tree.ensures (c.in_err-known.ensures.refused differs)) in
+    λ differs. (subst (λ t. model.CausesOfLoad s t (refused_of c.in_err-known.field-0.0)) c.tree.ensures (c.in_err-known.ensures.refused differs)) in
     search (rules, step)
 
 pub with-requires-clause-few : goal.with-requires-clause-few

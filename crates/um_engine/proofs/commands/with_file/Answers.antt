@@ -20,5 +20,5 @@ returns-clause-changed c =
 pub returns-in_err-check_put-clause-refused : goal.returns-in_err-check_put-clause-refused
 returns-in_err-check_put-clause-refused c =
     let step : c.in_err-check_put.field-0.0 ≢ NoMemory → model.Refuses (state_of c.args.state.now) (model.PutFile c.args.path.now c.args.text.now) (refused_of c.in_err-check_put.field-0.0) =
-    λ differs. model.puts_none (c.in_err-check_put.ensures differs) in
+    λ differs. (c.in_err-check_put.ensures differs) in
     search (rules, step)

@@ -20,5 +20,5 @@ returns-clause-changed c =
 pub returns-in_err-check_link-clause-refused : goal.returns-in_err-check_link-clause-refused
 returns-in_err-check_link-clause-refused c =
     let step : c.in_err-check_link.field-0.0 ≢ NoMemory → model.Refuses (state_of c.args.state.now) (model.PutLink c.args.path.now c.args.target.now) (refused_of c.in_err-check_link.field-0.0) =
-    λ differs. model.links_none (c.in_err-check_link.ensures differs) in
+    λ differs. (c.in_err-check_link.ensures differs) in
     search (rules, step)

@@ -20,5 +20,5 @@ returns-clause-changed c =
 pub returns-in_err-check_remove-clause-refused : goal.returns-in_err-check_remove-clause-refused
 returns-in_err-check_remove-clause-refused c =
     let step : c.in_err-check_remove.field-0.0 ≢ NoMemory → model.Refuses (state_of c.args.state.now) (model.Remove c.args.path.now) (refused_of c.in_err-check_remove.field-0.0) =
-    λ differs. model.removes_none (c.in_err-check_remove.ensures differs) in
+    λ differs. (c.in_err-check_remove.ensures differs) in
     search (rules, step)

@@ -1,6 +1,7 @@
 use Rattle.std.proofs.Common.{◌≡◌, ◌∙◌, sym, ap, subst}
 use Rattle.um_model.specs.Jobs.{cancelled, jobs_of_unit}
 use Rattle.um_model.specs.Machine as model
+use Rattle.um_model.specs.Refusals.{Refused}
 use Rattle.um_model.specs.Machine.{State}
 use Rattle.um_model.specs.Units.{load, name_in}
 use Rattle.um_state.specs.View.{state_of}
@@ -25,3 +26,7 @@ returns-clause-changed c =
     c.cancelled-jobs.ensures ∙ ap cancelled (c.get.ensures.jobs ∙ (ap (λ p. jobs_of_unit p unit) pending ∙ ap (jobs_of_unit s.pending) leads)) in
     cancels_to s asked (state_of c.in_ok-changed.changed) (state_of c.set_jobs.new.self) unit c.cancelled-jobs.result
     (c.in_ok-changed.ensures ∙ c.state-state.ensures.state) leads jobs c.in_ok-set_jobs.ensures.ok
+
+pub returns-clause-refused : goal.returns-clause-refused
+returns-clause-refused c =
+    subst (λ (x : State). (r : Refused) → model.Refuses x (model.Cancel c.args.asked.now) r → ⊥) c.state-state.ensures.state c.in_ok-check_cancel.ensures

@@ -1,5 +1,5 @@
 use Rattle.std.proofs.Common.{rules, ◌≡◌, false}
-use Rattle.um_model.specs.Tree.{has_run}
+use Rattle.um_model.proofs.TreeLaws.{has_run}
 use Rattle.um_state.specs.View.{state_of}
 use Rattle.um_engine.proofs.KnownLaws.{few_known}
 use Rattle.um_engine.proofs.planning.served_after.Goals as goal

@@ -1,6 +1,7 @@
+use Rattle.um_falling.specs.Carrying.{Adds}
+use Rattle.um_model.specs.Machine.{AreReset}
 use Rattle.std.proofs.Common.{◌≡◌, ◌<◌, ◌≤◌, ◌+◌, ◌∙◌, ◌∷◌, ◌++◌, [], ap, get_or, length, map, take, arith, rules, subst}
 use Rattle.std.proofs.lemmas.List.{take_more, take_all}
-use Rattle.um_engine.specs.Engine.{ResetsTo}
 use Rattle.um_state.specs.View.{state_of, action_of}
 use Rattle.um_engine.proofs.ResetLaws.{resets_more, resets_no_unit}
 use Rattle.um_engine.proofs.resetting.reset_all.Goals as goal
@@ -28,4 +29,4 @@ returns c = λ serves.
     let units = c.args.units.now in
     let high : length units ≤ c.loop-unit.unit-index = omega (arith, c.loop-unit-test.false) in
     let (told, still) = c.loop-unit.invariant serves in
-    (subst (λ l. ResetsTo c.args.moment l (state_of c.args.state.now) (map action_of c.args.actions.now.items) (state_of c.loop-unit.state) (map action_of c.loop-unit.actions.items)) (take_all c.loop-unit.unit-index units high) told, still)
+    (subst (λ l. Adds (AreReset c.args.moment l (state_of c.args.state.now)) (map action_of c.args.actions.now.items) (state_of c.loop-unit.state) (map action_of c.loop-unit.actions.items)) (take_all c.loop-unit.unit-index units high) told, still)

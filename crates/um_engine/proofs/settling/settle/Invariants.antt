@@ -1,5 +1,6 @@
+use Rattle.um_falling.specs.Carrying.{Adds}
+use Rattle.um_model.specs.Machine.{Settles}
 use Rattle.std.proofs.Common.{List, map}
-use Rattle.um_engine.specs.Engine.{SettlesTo}
 use Rattle.um_engine.specs.Filled.{Tells}
 use Rattle.um_falling.specs.Over.{Serves}
 use Rattle.um_model.specs.Machine.{State}
@@ -13,8 +14,8 @@ abbrev pub invariant-jobs : goal.invariant-jobs
 invariant-jobs l = record {
   tells : Tells l.graph (state_of l.state) l.jobs;
   whole : Serves l.graph (state_of l.initial.state)
-      → ((v : State) (after : List Action) → SettlesTo l.moment (state_of l.state) (map action_of l.actions.items) v after
-      → SettlesTo l.moment (state_of l.initial.state) (map action_of l.initial.actions.items) v after) × Serves l.graph (state_of l.state);
+      → ((v : State) (after : List Action) → Adds (Settles l.moment (state_of l.state)) (map action_of l.actions.items) v after
+      → Adds (Settles l.moment (state_of l.initial.state)) (map action_of l.initial.actions.items) v after) × Serves l.graph (state_of l.state);
 }
 
 -- the jobs that wait

@@ -1,4 +1,4 @@
-use Rattle.um_model.proofs.EnablingLaws.{disabling_undoes}
+use Rattle.um_install.proofs.EnablingLaws.{disabling_undoes}
 use Rattle.um_install.proofs.laws.disabling_undoes_enabling.Goals as goal
 
 pub returns : goal.returns

@@ -1,4 +1,4 @@
-use Rattle.um_model.proofs.EnablingLaws.{enable_twice, enable_twice_tells_none}
+use Rattle.um_install.proofs.EnablingLaws.{enable_twice, enable_twice_tells_none}
 use Rattle.um_install.proofs.laws.enabling_twice_makes_nothing.Goals as goal
 
 pub returns-clause-free : goal.returns-clause-free

@@ -1,6 +1,7 @@
 use Rattle.std.proofs.Common.{◌≡◌, ◌≤◌, ◌∙◌, List, ℕ, [], ◌∷◌, ap, sym, subst, arith}
 use Rattle.std.specs.Prelude.{length, IfSome}
-use Rattle.um_model.specs.Disk.{seen, Past, Sector, Image, Images, During, IsLaid, MaybeLaid}
+use Rattle.um_model.specs.Disk.{seen, Past, Sector, Image, Images, During}
+use Rattle.um_sector.specs.Runs.{IsLaid, MaybeLaid}
 use Rattle.um_model.specs.Machine.{empty_state}
 use Rattle.um_model.specs.StateSpellings.{state_spelling}
 use Rattle.um_model.specs.Store.{superblock, log_start, IsNewest, IsFree}

@@ -1,6 +1,7 @@
 use Rattle.std.proofs.Common.{◌≡◌, ◌+◌, ◌∙◌, ℕ, subst, arith}
 use Rattle.std.specs.Prelude.{replicate}
-use Rattle.um_model.specs.Disk.{seen, IsLaid}
+use Rattle.um_model.specs.Disk.{seen}
+use Rattle.um_sector.specs.Runs.{IsLaid}
 use Rattle.um_model.specs.Store.{log_start}
 use Rattle.um_keeper.specs.Creating.{blank}
 use Rattle.um_keeper.proofs.Results.{ok_from}

@@ -6,6 +6,7 @@ use Rattle.um_model.specs.Disk.{Images}
 use Rattle.um_model.specs.Servable.{IsServable}
 use Rattle.um_model.specs.Store.{body_limit, log_start, GoesOn}
 use Rattle.um_model.specs.Store as sectors
+use Rattle.um_slot.specs.Snapshots.{HasStore}
 use Rattle.um_model.proofs.DiskLaws.{started}
 use Rattle.um_model.proofs.WholeLaws.{spelled_room}
 use Rattle.um_keeper.specs.Keeping.{Keeps}
@@ -48,7 +49,7 @@ returns-clause-ok g c h settled taken =
     let layout = c.args.found.layout in
     let past = g.D.Disk.past c.write_other.new.disk in
     let body = spelled c.deref.result.now c.put.new.out.items c.new-body.result.items (state_of c.state.result.now) s c.deref.ensures.value c.in_ok-put.ensures.put c.new-body.ensures.items c.state.ensures in
-    let stores : Images (g.D.Disk.past c.args.disk.now) (sectors.IsStoreOf layout c.args.found.home.slot c.args.found.home.generation taken.body) = λ image at. subst (sectors.IsStoreOf layout c.args.found.home.slot c.args.found.home.generation taken.body) (sym (settled image at)) taken.store in
+    let stores : Images (g.D.Disk.past c.args.disk.now) (HasStore layout c.args.found.home.slot c.args.found.home.generation taken.body) = λ image at. subst (HasStore layout c.args.found.home.slot c.args.found.home.generation taken.body) (sym (settled image at)) taken.store in
     let some = λ (P : _ → Type 0) (o : IfSome c.in_ok-home.field-0 P). subst (λ x. IfSome x P) c.in-Some.is o in
     let on = some _ c.in_ok-home.ensures.ok h taken.body stores in
     let kept = keeps_anew (g.met.D.Disk.seen_is_image c.write_other.new.disk (c.write_other.ensures.honest ∙ h))

@@ -1,6 +1,6 @@
 use Rattle.std.proofs.Common.{◌≡◌, map, take}
 use Rattle.serde_json.specs.View.{view}
-use Rattle.um_model.specs.Replies.{file_data}
+use Rattle.um_proto.specs.Written.{file_data}
 use Rattle.um_resolve.specs.View.{file_of}
 use Rattle.um_proto.proofs.write.files_value.Given as goal
 

@@ -1,6 +1,6 @@
 use Rattle.std.proofs.Common.{◌≡◌, map, take}
 use Rattle.serde_json.specs.View.{view}
-use Rattle.um_model.specs.Replies.{job_data}
+use Rattle.um_proto.specs.Written.{job_data}
 use Rattle.um_state.specs.View.{job_of}
 use Rattle.um_proto.proofs.write.jobs_value.Given as goal
 

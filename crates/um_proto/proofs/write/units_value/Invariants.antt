@@ -1,6 +1,6 @@
 use Rattle.std.proofs.Common.{◌≡◌, map, take}
 use Rattle.serde_json.specs.View.{view}
-use Rattle.um_model.specs.Replies.{unit_data}
+use Rattle.um_proto.specs.Written.{unit_data}
 use Rattle.um_state.specs.View.{listed_of}
 use Rattle.um_proto.proofs.write.units_value.Given as goal
 

@@ -1,4 +1,4 @@
-use Rattle.um_model.proofs.LeadsLaws.{leads_by_hops, leads_by_eight, unserved_nowhere}
+use Rattle.um_resolve.proofs.LeadsLaws.{leads_by_hops, leads_by_eight, unserved_nowhere}
 use Rattle.um_resolve.proofs.laws.a_unit_is_found_by_hops.Goals as goal
 
 pub returns-clause-hops : goal.returns-clause-hops

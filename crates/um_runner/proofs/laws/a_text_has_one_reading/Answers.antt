@@ -1,4 +1,4 @@
-use Rattle.um_model.proofs.RunnerLaws.{one_pid, one_status, one_end, claim_read}
+use Rattle.um_runner.proofs.RunnerLaws.{one_pid, one_status, one_end, claim_read}
 use Rattle.um_runner.proofs.laws.a_text_has_one_reading.Goals as goal
 
 pub returns-clause-pid : goal.returns-clause-pid

@@ -1,4 +1,4 @@
-use Rattle.um_model.proofs.RunnerLaws.{name_without, one_name}
+use Rattle.um_runner.proofs.RunnerLaws.{name_without, one_name}
 use Rattle.um_runner.proofs.laws.no_path_leads_out.Goals as goal
 
 pub returns-clause-slash : goal.returns-clause-slash

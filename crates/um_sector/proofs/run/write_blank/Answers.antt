@@ -1,8 +1,9 @@
 use Rattle.std.specs.Prelude.{◌≡◌, ◌<◌, ℕ, [], length, replicate, slice_index_or}
 use Rattle.std.proofs.lemmas.List.{get_or-replicate, length-replicate}
 use Rattle.std.proofs.Common.{◌+◌, refl, sym, ◌∙◌, subst, take, arith}
-use Rattle.um_model.specs.Disk.{seen, IsLaid}
-use Rattle.um_model.proofs.DiskLaws.{laid_start, laid_write, run_start, run_step}
+use Rattle.um_model.specs.Disk.{seen}
+use Rattle.um_sector.specs.Runs.{IsLaid}
+use Rattle.um_sector.proofs.RunLaws.{laid_start, laid_write, run_start, run_step}
 use Rattle.um_sector.specs.Noted.{blank}
 use Rattle.um_sector.proofs.run.write_blank.Goals as goal
 

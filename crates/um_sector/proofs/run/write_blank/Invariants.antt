@@ -1,6 +1,7 @@
 use Rattle.std.proofs.Common.{◌≡◌, take}
 use Rattle.std.specs.Prelude.{IsTrue, replicate}
-use Rattle.um_model.specs.Disk.{seen, During, IsLaid, AfterRun}
+use Rattle.um_model.specs.Disk.{seen, During}
+use Rattle.um_sector.specs.Runs.{IsLaid, AfterRun}
 use Rattle.um_sector.specs.Noted.{blank}
 use Rattle.um_sector.proofs.run.write_blank.Given as goal
 

@@ -1,6 +1,8 @@
 use Rattle.std.proofs.Common.{◌+◌, refl, sym, ◌∙◌, ap, subst, take, arith}
-use Rattle.um_model.specs.Disk.{seen, IsLaid, one_more}
-use Rattle.um_model.proofs.DiskLaws.{laid_start, laid_write, run_start, run_step, more-add_one, more-le}
+use Rattle.um_model.specs.Disk.{seen}
+use Rattle.um_sector.specs.Runs.{IsLaid}
+use Rattle.um_model.specs.Disk.{one_more}
+use Rattle.um_sector.proofs.RunLaws.{laid_start, laid_write, run_start, run_step, more-add_one, more-le}
 use Rattle.um_sector.proofs.run.write_run.Goals as goal
 
 pub loop-i-init : goal.loop-i-init

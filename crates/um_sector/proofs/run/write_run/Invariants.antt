@@ -1,6 +1,7 @@
 use Rattle.std.proofs.Common.{◌≡◌, take}
 use Rattle.std.specs.Prelude.{IsTrue}
-use Rattle.um_model.specs.Disk.{seen, During, IsLaid, AfterRun, more}
+use Rattle.um_model.specs.Disk.{seen, During}
+use Rattle.um_sector.specs.Runs.{IsLaid, AfterRun, more}
 use Rattle.um_sector.proofs.run.write_run.Given as goal
 
 abbrev pub invariant-loop-i : goal.invariant-loop-i

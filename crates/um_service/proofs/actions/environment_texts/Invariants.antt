@@ -1,5 +1,5 @@
 use Rattle.std.proofs.Common.{◌≡◌, ◌++◌, map, drop, string_bytes}
-use Rattle.um_model.specs.Settings.{variable_text}
+use Rattle.um_service.specs.Variables.{variable_text}
 use Rattle.um_words.specs.Environment.{variables_of}
 use Rattle.um_service.proofs.actions.environment_texts.Given as goal
 

@@ -1,9 +1,10 @@
 use Rattle.std.proofs.Common.{◌≡◌, ◌∷◌, ℕ, [], List, map, string_bytes, sym, ap, subst, ◌∙◌}
 use Rattle.std.proofs.lemmas.Result.{IfOk-weaker}
 use Rattle.um_model.specs.Service.{SpawnProcess}
-use Rattle.um_model.specs.Settings.{environment_texts, variable_text}
+use Rattle.um_model.specs.Settings.{environment_texts}
 use Rattle.um_model.specs.Transitions.{AreActions, spawn}
 use Rattle.um_model.specs.declared.transition.Order.TheVariants.{Spawn}
+use Rattle.um_service.specs.Variables.{variable_text}
 use Rattle.um_service.specs.View.{action_of}
 use Rattle.um_unit.specs.ServiceView.{service_settings_of}
 use Rattle.um_words.specs.Environment.{variables_of}

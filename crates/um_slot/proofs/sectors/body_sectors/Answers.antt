@@ -3,7 +3,8 @@ use Rattle.std.proofs.Common.{sym, ◌∙◌, ap, ⊎_elim, arith}
 use Rattle.std.proofs.lemmas.Bool.{cases_eq}
 use Rattle.std.proofs.lemmas.List.{drop-drop, get_or_push, get_or_append_left, length-append}
 use Rattle.um_model.specs.Disk.{Sector}
-use Rattle.um_model.specs.Store.{filled, body_sector}
+use Rattle.um_model.specs.Store.{filled}
+use Rattle.um_slot.specs.Snapshots.{body_sector}
 use Rattle.um_slot.proofs.sectors.body_sectors.Goals as goal
 
 -- one sector more

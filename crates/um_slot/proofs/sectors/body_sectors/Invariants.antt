@@ -1,5 +1,5 @@
 use Rattle.std.specs.Prelude.{◌≡◌, ◌<◌, ◌*◌, ℕ, [], length, drop, slice_index_or}
-use Rattle.um_model.specs.Store.{body_sector}
+use Rattle.um_slot.specs.Snapshots.{body_sector}
 use Rattle.um_slot.proofs.sectors.body_sectors.Given as goal
 
 abbrev pub invariant-loop : goal.invariant-loop

@@ -2,8 +2,9 @@ use Rattle.std.specs.Prelude.{[]}
 use Rattle.std.proofs.Common.{◌+◌, sym, subst, arith}
 use Rattle.um_model.specs.Disk.{During, seen}
 use Rattle.um_model.specs.declared.layout.Slot.{Slot}
-use Rattle.um_model.specs.Store.{log_start, IsSnapshot, MaybeSnapshot, AfterSnapshot, GoesOn}
-use Rattle.um_model.proofs.StoreLaws.{before_other, during_other, goes_on_other}
+use Rattle.um_model.specs.Store.{log_start, GoesOn}
+use Rattle.um_slot.specs.Snapshots.{IsSnapshot, MaybeSnapshot, AfterSnapshot}
+use Rattle.um_slot.proofs.Snapshots.{before_other, during_other, goes_on_other}
 use Rattle.um_slot.proofs.write.write_other.Goals as goal
 
 pub returns-then-home-eq18446744073709551615-clause-during : goal.returns-then-home-eq18446744073709551615-clause-during

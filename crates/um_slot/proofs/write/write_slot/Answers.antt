@@ -1,6 +1,7 @@
 use Rattle.std.specs.Prelude.{List, ℕ, [], ◌∷◌, ◌+◌, ◌≡◌}
 use Rattle.std.proofs.Common.{◌∙◌, refl, ap, subst}
-use Rattle.um_model.specs.Disk.{Sector, seen, During, IsLaid, MaybeLaid, AfterRun}
+use Rattle.um_model.specs.Disk.{Sector, seen, During}
+use Rattle.um_sector.specs.Runs.{IsLaid, MaybeLaid, AfterRun}
 use Rattle.um_slot.proofs.Writing.{both_runs, header_done, done_maybe}
 use Rattle.um_slot.proofs.write.write_slot.Goals as goal
 

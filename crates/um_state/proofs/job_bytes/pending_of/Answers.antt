@@ -1,7 +1,6 @@
 use Rattle.std.proofs.Common.{map, ap, sym, ◌∙◌}
 use Rattle.std.proofs.lemmas.List.{map_push}
-use Rattle.um_model.specs.Jobs.{with_jobs}
-use Rattle.um_model.specs.StateSpellings.{with_job}
+use Rattle.um_model.specs.Jobs.{with_jobs, with_job}
 use Rattle.um_state.specs.Shown.{job_of}
 use Rattle.um_state.proofs.JobLists.{with_list, all_of_list, last_first, set_is}
 use Rattle.um_state.proofs.job_bytes.pending_of.Goals as goal

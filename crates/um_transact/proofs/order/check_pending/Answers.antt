@@ -2,7 +2,7 @@ use Rattle.std.proofs.Common.{◌≡◌, ◌*◌, length, refl, sym, arith, subs
 use Rattle.um_graph.specs.Kinds.{before_bit}
 use Rattle.um_graph.specs.Named.{Joins}
 use Rattle.um_jobs.specs.Named.{jobs_by}
-use Rattle.um_model.specs.Order.{IsLeastFirstCycle, Precedes}
+use Rattle.um_order.specs.Pairs.{Precedes, IsLeastFirstCycle}
 use Rattle.um_order.specs.Certificate.{IsCertificate}
 use Rattle.um_transact.specs.Order.{ArePairs}
 use Rattle.um_transact.proofs.PairLaws.{numbered, cycle_named}

@@ -1,7 +1,9 @@
 use Rattle.std.proofs.Common.{[], ◌∷◌, ◌||◌, map, take, filter_map, sym, ap, ◌∙◌}
 use Rattle.std.proofs.Math.Path.{fun_ext}
 use Rattle.std.proofs.lemmas.List.{take_all}
-use Rattle.um_model.specs.Units.{tells_any, since_empty}
+use Rattle.std.specs.List.{after_last}
+use Rattle.um_model.specs.Text.{is_empty}
+use Rattle.um_unit.specs.Tests.{tells_any}
 use Rattle.um_model.specs.Values.{exits_of}
 use Rattle.um_unit.proofs.SettingLemmas.{ends_more, value_more}
 use Rattle.um_unit.proofs.lists.exits_in.Goals as goal
@@ -10,8 +12,8 @@ pub returns : goal.returns
 returns c = fun_ext (λ end. c.loop-value.invariant end
     ∙ ap (λ values. tells_any (filter_map exits_of (map (λ v. v.now) values)) end) (take_all _ c.since_empty-value-items.result.now c.loop-value-test.false)
     ∙ ap (λ values. tells_any (filter_map exits_of values) end) c.since_empty-value-items.ensures
-    ∙ ap (λ values. tells_any (filter_map exits_of (since_empty (map (λ v. v.now) values))) end) c.as_slice.ensures.value
-    ∙ ap (λ values. tells_any (filter_map exits_of (since_empty values)) end) c.in_ok-values.ensures)
+    ∙ ap (λ values. tells_any (filter_map exits_of (after_last is_empty (map (λ v. v.now) values))) end) c.as_slice.ensures.value
+    ∙ ap (λ values. tells_any (filter_map exits_of (after_last is_empty values)) end) c.in_ok-values.ensures)
 
 pub loop-value-preserved : goal.loop-value-preserved
 loop-value-preserved c = λ end.

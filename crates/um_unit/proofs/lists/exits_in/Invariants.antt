@@ -1,5 +1,5 @@
 use Rattle.std.proofs.Common.{◌≡◌, map, take, filter_map}
-use Rattle.um_model.specs.Units.{tells_any}
+use Rattle.um_unit.specs.Tests.{tells_any}
 use Rattle.um_model.specs.Values.{exits_of}
 use Rattle.um_model.specs.declared.service.End.{End}
 use Rattle.um_value.specs.ExitSet.{holds}

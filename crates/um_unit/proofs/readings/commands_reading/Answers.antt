@@ -1,10 +1,10 @@
 use Rattle.std.proofs.Common.{◌≡◌, map, sym, ap, ◌∙◌, option_map}
 use Rattle.std.proofs.lemmas.List.{take_all}
-use Rattle.um_model.specs.Readings.{command_reading}
 use Rattle.um_unit.specs.Readings.{read_as}
 use Rattle.um_unit.proofs.ReadingLemmas.{commands_by, read_all}
 use Rattle.um_words.specs.Commands.{command_seen, commands_seen}
 use Rattle.um_unit.proofs.readings.commands_reading.Goals as goal
+use Rattle.um_unit.specs.Readings.{command_reading}
 
 pub returns : goal.returns
 returns c =

@@ -1,8 +1,8 @@
 use Rattle.std.proofs.Common.{◌≡◌, map, take}
-use Rattle.um_model.specs.Readings.{command_reading}
 use Rattle.um_unit.specs.Readings.{read_as}
 use Rattle.um_words.specs.Commands.{command_seen}
 use Rattle.um_unit.proofs.readings.commands_reading.Given as goal
+use Rattle.um_unit.specs.Readings.{command_reading}
 
 -- the readings of the commands so far
 abbrev pub invariant-loop-command : goal.invariant-loop-command

@@ -1,10 +1,10 @@
 use Rattle.std.proofs.Common.{◌≡◌, map, sym, ap, ◌∙◌, option_map, string_bytes}
 use Rattle.std.proofs.lemmas.List.{take_all}
-use Rattle.um_model.specs.Readings.{variable_reading}
 use Rattle.um_unit.specs.Readings.{read_as}
 use Rattle.um_unit.proofs.ReadingLemmas.{environment_by, read_all}
 use Rattle.um_words.specs.Environment.{variable_of}
 use Rattle.um_unit.proofs.readings.environment_reading.Goals as goal
+use Rattle.um_unit.specs.Readings.{variable_reading}
 
 pub returns : goal.returns
 returns c =

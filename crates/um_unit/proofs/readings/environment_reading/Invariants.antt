@@ -1,8 +1,8 @@
 use Rattle.std.proofs.Common.{◌≡◌, map, take, string_bytes}
-use Rattle.um_model.specs.Readings.{variable_reading}
 use Rattle.um_unit.specs.Readings.{read_as}
 use Rattle.um_words.specs.Environment.{variable_of}
 use Rattle.um_unit.proofs.readings.environment_reading.Given as goal
+use Rattle.um_unit.specs.Readings.{variable_reading}
 
 -- the readings of the words so far
 abbrev pub invariant-loop-word : goal.invariant-loop-word

@@ -1,7 +1,7 @@
 use Rattle.std.proofs.Common.{◌≡◌, map, drop, string_bytes}
-use Rattle.um_model.specs.Readings.{first_warning}
 use Rattle.um_unit.specs.Readings.{read_as}
 use Rattle.um_unit.proofs.readings.first_warning.Given as goal
+use Rattle.um_unit.specs.Readings.{first_warning}
 
 -- the readings so far give no warning
 abbrev pub invariant-loop-reading : goal.invariant-loop-reading

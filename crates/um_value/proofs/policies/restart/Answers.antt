@@ -4,9 +4,10 @@ use Rattle.std.proofs.lemmas.Iterator.{YieldsList-from_slice}
 use Rattle.std.proofs.lemmas.Iterator.Adapters.{option_map_id}
 use Rattle.std.proofs.lemmas.Iterator.Consumers.{YieldsList-from_copied}
 use Rattle.std.proofs.lemmas.Iterator.Search.{find_from_yields_List}
-use Rattle.um_model.specs.Values.{restart_text, policies, policy_named}
+use Rattle.um_model.specs.Values.{restart_text, policy_named}
 use Rattle.um_model.specs.declared.settings.RestartPolicy.{RestartPolicy}
 use Rattle.um_value.proofs.policies.restart.Goals as goal
+use Rattle.um_model.proofs.FileForms.{policies}
 
 pub returns : goal.returns
 unfolding policy_named

@@ -3,13 +3,14 @@ use Rattle.std.proofs.lemmas.List.{map-id}
 use Rattle.std.proofs.lemmas.Iterator.Adapters.{YieldsList-from_vec}
 use Rattle.std.proofs.lemmas.Iterator.Consumers.{YieldsList-end}
 use Rattle.um_model.specs.declared.words.WordRules.TheVariants.{Escaped}
-use Rattle.um_model.specs.Commands.{commands_among, commands_read}
+use Rattle.um_model.specs.Commands.{commands_read}
 use Rattle.um_model.specs.Pieces.{reading}
 use Rattle.um_model.specs.Words.{piece_of_words}
 use Rattle.um_model.proofs.WordsLaws.{commands_after, commands_are}
 use Rattle.um_words.specs.Views.{word_of}
 use Rattle.um_words.specs.Commands.{commands_seen}
 use Rattle.um_words.proofs.command.commands.Goals as goal
+use Rattle.um_model.proofs.FileForms.{commands_among}
 
 pub returns-in_default : goal.returns-in_default
 unfolding commands_read

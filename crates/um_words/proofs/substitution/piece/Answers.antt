@@ -1,7 +1,8 @@
 use Rattle.std.proofs.Common.{◌≡◌, ◌+◌, ◌-◌, length, None, cond, [], ◌∷◌, sym, ap, ◌∙◌, lit<, arith}
 use Rattle.std.proofs.lemmas.Str.Pattern.{strip_prefix_char}
 use Rattle.um_model.specs.Pieces.{Gives}
-use Rattle.um_model.specs.Substitution.{braced_name, variable_front}
+use Rattle.um_model.specs.Substitution.{braced_name}
+use Rattle.um_model.proofs.Forms.{variable_front}
 use Rattle.um_words.specs.Environment.{variables_of}
 use Rattle.um_words.proofs.VariableLemmas.{not_first}
 use Rattle.um_words.proofs.substitution.piece.Goals as goal

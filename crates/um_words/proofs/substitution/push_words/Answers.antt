@@ -5,11 +5,12 @@ use Rattle.std.proofs.lemmas.Iterator.Consumers.{YieldsList-end}
 use Rattle.std.proofs.lemmas.Option.{none-some}
 use Rattle.um_model.specs.declared.words.WordRules.TheVariants.{Plain}
 use Rattle.um_model.specs.Pieces.{reading}
-use Rattle.um_model.specs.Words.{piece_of_words, word_values}
+use Rattle.um_model.specs.Words.{piece_of_words}
 use Rattle.um_model.proofs.SubstitutionLaws.{has_words}
 use Rattle.um_model.proofs.PiecesLaws.{reading-StandsForText, StandsForText-reading}
 use Rattle.um_words.specs.Views.{word_of}
 use Rattle.um_words.proofs.substitution.push_words.Goals as goal
+use Rattle.um_model.proofs.FileForms.{word_values}
 
 pub unreachable-requires : goal.unreachable-requires
 unreachable-requires c =

@@ -1,5 +1,5 @@
 use Rattle.std.proofs.Common.{rules, ◌≡◌, subst, sym}
-use Rattle.um_model.specs.Children.{IsFinal}
+use Rattle.um_children.specs.History.{IsFinal}
 use Rattle.um_children.specs.Calls.{calls_of}
 use Rattle.um_children.proofs.fake.FakeChildren.copy.Goals as goal
 

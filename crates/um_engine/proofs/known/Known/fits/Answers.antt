@@ -1,5 +1,5 @@
 use Rattle.std.proofs.Common.{◌≡◌, true, false, option_copied, rules}
-use Rattle.um_model.specs.Tree.{has_run}
+use Rattle.um_model.proofs.TreeLaws.{has_run}
 use Rattle.um_state.specs.View.{state_of}
 use Rattle.um_engine.proofs.KnownLaws.{fits_for}
 use Rattle.um_engine.proofs.known.Known.fits.Goals as goal

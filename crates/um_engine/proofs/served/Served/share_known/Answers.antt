@@ -1,5 +1,5 @@
 use Rattle.std.proofs.Common.{subst}
-use Rattle.um_model.specs.Few.{IsFew}
+use Rattle.um_model.specs.Servable.{IsFew}
 use Rattle.um_engine.specs.Served.{ServedView}
 use Rattle.um_engine.proofs.served.Served.share_known.Goals as goal
 

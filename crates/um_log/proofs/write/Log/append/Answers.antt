@@ -1,9 +1,10 @@
 use Rattle.std.specs.Prelude.{◌≡◌, ◌+◌, ◌++◌, ◌∷◌, [], ℕ, List, length}
 use Rattle.std.proofs.Common.{subst, arith}
-use Rattle.um_model.specs.Disk.{Sector, seen, During, AfterRun, IsLaid}
+use Rattle.um_model.specs.Disk.{Sector, seen, During}
+use Rattle.um_sector.specs.Runs.{AfterRun, IsLaid}
 use Rattle.um_model.specs.Store.{part_count, GoesOn}
-use Rattle.um_model.proofs.DiskLaws.{before_elsewhere, during_elsewhere}
-use Rattle.um_model.proofs.LogLaws.{before_record, during_record, goes_on_record}
+use Rattle.um_log.proofs.Appending.{before_elsewhere, during_elsewhere}
+use Rattle.um_log.proofs.Appending.{before_record, during_record, goes_on_record}
 use Rattle.um_log.proofs.write.Log.append.Goals as goal
 
 pub returns-then-not-fits-clause-during : goal.returns-then-not-fits-clause-during

@@ -2,7 +2,8 @@ use Rattle.std.proofs.Common.{◌≡◌, ◌<◌, ◌≤◌, ◌+◌, ◌++◌, 
 use Rattle.std.specs.List.{range_with_len}
 use Rattle.std.proofs.lemmas.Grind.{common_steps}
 use Rattle.std.proofs.lemmas.List.FromFn.{map-range_with_len_more}
-use Rattle.um_model.specs.Disk.{candidates, unsynced, picked}
+use Rattle.um_model.specs.Disk.{candidates}
+use Rattle.um_sector.specs.Unsynced.{unsynced, picked}
 use Rattle.um_sector.specs.Noted.{past_of}
 use Rattle.um_sector.proofs.Notes.{unsynced_no, turn_yes}
 use Rattle.um_sector.proofs.memory.MemDisk.picked.Goals.{then-len-gt1, else-len-gt1}

@@ -1,6 +1,6 @@
 use Rattle.std.proofs.Common.{◌≡◌, ◌≤◌, length, map}
 use Rattle.std.specs.List.{range_with_len}
-use Rattle.um_model.specs.Disk.{unsynced, picked}
+use Rattle.um_sector.specs.Unsynced.{unsynced, picked}
 use Rattle.um_sector.specs.Noted.{past_of}
 use Rattle.um_sector.proofs.memory.MemDisk.picked.Given as goal
 

@@ -1,6 +1,6 @@
 use Rattle.std.proofs.Common.{rules, ◌≡◌, sym, ◌∙◌}
 use Rattle.std.specs.Prelude.{count_by}
-use Rattle.um_model.specs.Disk.{is_sync}
+use Rattle.um_sector.specs.Unsynced.{is_sync}
 use Rattle.um_sector.specs.Noted.{call_of}
 use Rattle.um_sector.proofs.Notes.{sync_count-notes}
 use Rattle.um_sector.proofs.memory.MemDisk.syncs.Goals as goal

@@ -1,6 +1,7 @@
 use Rattle.std.proofs.Common.{◌≡◌, ◌<◌, ◌≤◌, ◌++◌, ◌∷◌, [], length, sym, ◌∙◌, ap, subst, arith}
 use Rattle.std.proofs.lemmas.Grind.{common_steps}
-use Rattle.um_model.specs.Disk.{candidates, unsynced}
+use Rattle.um_model.specs.Disk.{candidates}
+use Rattle.um_sector.specs.Unsynced.{unsynced}
 use Rattle.um_sector.specs.Noted.{past_of}
 use Rattle.um_sector.proofs.Notes.{unsynced_yes, unsynced_no}
 use Rattle.um_sector.proofs.memory.MemDisk.unsynced.Goals.{then-count-gt1+in_ok-push, else-count-gt1}

@@ -1,5 +1,5 @@
 use Rattle.std.proofs.Common.{◌≡◌}
-use Rattle.um_model.specs.Disk.{unsynced}
+use Rattle.um_sector.specs.Unsynced.{unsynced}
 use Rattle.um_sector.specs.Noted.{past_of}
 use Rattle.um_sector.proofs.memory.MemDisk.unsynced.Given as goal
 

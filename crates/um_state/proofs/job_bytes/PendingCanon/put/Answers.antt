@@ -1,7 +1,7 @@
 use Rattle.std.proofs.Common.{subst}
 use Rattle.um_model.specs.Bytes.{FitList}
 use Rattle.um_model.specs.Jobs.{AreTidyJobs}
-use Rattle.um_model.specs.StateSpellings.{FitJob}
+use Rattle.um_model.proofs.Forms.{FitJob}
 use Rattle.um_state.proofs.job_bytes.PendingCanon.put.Goals as goal
 
 pub returns-clause-fits : goal.returns-clause-fits

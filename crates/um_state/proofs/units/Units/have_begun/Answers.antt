@@ -1,5 +1,6 @@
 use Rattle.std.proofs.Common.{◌≡◌, false, true, sym, subst, ◌∙◌}
-use Rattle.um_model.specs.StateSpellings.{has_begun, have_begun}
+use Rattle.um_model.specs.StateSpellings.{have_begun}
+use Rattle.um_model.proofs.Forms.{has_begun}
 use Rattle.um_state.proofs.UnitScans.{all_pass, one_fails}
 use Rattle.um_state.proofs.units.Units.have_begun.Goals as goal
 

@@ -1,6 +1,6 @@
 use Rattle.std.proofs.Common.{◌≡◌}
 use Rattle.std.specs.List.{list_all}
-use Rattle.um_model.specs.StateSpellings.{has_begun}
+use Rattle.um_model.proofs.Forms.{has_begun}
 use Rattle.um_state.proofs.units.Units.have_begun.Given as goal
 
 -- whether the windows of those that are left began is whether all did

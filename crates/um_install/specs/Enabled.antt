@@ -1,6 +1,6 @@
 -- What the laws of enabling speak of: a verb that a tree takes, a unit under its own name, links that are gone.
 -- Follows systemctl(1), "enable" and "disable".
--- Laws alone stand on this file.
+-- The laws of enabling in laws.rt stand on this file.
 use Rattle.std.specs.Prelude.{◌≡◌, ℕ, false, List, [], Contains, Some, None}
 use Rattle.std.specs.FinMap as map
 use Rattle.um_model.specs.Install.{IsTaken, path_in_etc, Installs, RefusesInstall}

@@ -1,7 +1,7 @@
 //! The files by which a runner tells the manager of a process.
 
 ghost use Rattle.std.specs.Prelude.{◌≡◌};
-ghost use Rattle.um_model.specs.Runner.{claim_text, ending_of};
+ghost use Rattle.um_runner.specs.Runner.{claim_text, ending_of};
 
 /// Who has claimed a process number: the one whose claim was there first.
 #[derive(Clone, Copy, Debug, PartialEq, Eq)]

@@ -9,21 +9,22 @@ use Rattle.std.proofs.lemmas.List.Sums.{AllPass-from_list_all}
 use Rattle.std.proofs.lemmas.Bool.{cond-false, cond-true}
 use Rattle.std.proofs.lemmas.Option.{none-some, same_Some}
 use Rattle.std.proofs.lemmas.Slice.Eq.{bytes_eq-Decides}
-use Rattle.um_model.specs.Enabled.{Obeys, IsFoundByName, IsUndone, HasNoAlias}
-use Rattle.um_model.specs.Install.{LinkAt, link_at, install_of, linked_name, path_in_etc, links_to, links_of, IsAlso, IsTaken, IsAskedFor, IsEnabled, IsUnfit, IsMeant, is_link_for, is_link_of, IsUnlinked, IsDisabled, enabling_of, IsEnabledAs, CausesOfEnable, Installs, enables, disables, RefusesInstall, enables_none, IsOccupied, stands, differs, IsTooMany, CannotEnable, IsBarred, enabling_by, paths_beyond}
+use Rattle.um_install.specs.Enabled.{Obeys, IsFoundByName, IsUndone, HasNoAlias}
+use Rattle.um_model.specs.Install.{LinkAt, link_at, install_of, linked_name, path_in_etc, links_to, links_of, IsAlso, IsTaken, IsAskedFor, IsEnabled, IsUnfit, IsMeant, IsUnlinked, IsDisabled, enabling_of, IsEnabledAs, CausesOfEnable, Installs, enables, disables, RefusesInstall, enables_none, IsOccupied, stands, differs, HasTooMany, too_many, CannotEnable, IsBarred, enabling_by, paths_beyond}
 use Rattle.um_model.specs.Names.{is_unit_name, is_template}
 use Rattle.um_model.specs.Reached.{first, next}
-use Rattle.um_model.specs.Refusals.{Refused, at_first, at_second}
+use Rattle.um_model.specs.Refusals.{Refused, at_first, at_second, too_large}
 use Rattle.um_model.specs.Resolution.{unit_in_target, unit_path}
-use Rattle.um_model.specs.Tree.{Tree, Link, PathParts, Place, Unit, Wants, Requires, path_text, path_parts, are_fit, is_fit_target, layer_text, entry_limit, is_other_than_link, is_slash}
+use Rattle.um_model.specs.Tree.{Tree, Link, PathParts, Place, Unit, Wants, Requires, path_text, path_parts, is_fit_place, is_fit_target, layer_text, entry_limit, is_other_than_link, is_slash}
 use Rattle.um_model.specs.Units.{LoadedUnit, Loading, Found, load, name_in, InstallSettings, Masked, NotFound, BadSetting}
 use Rattle.um_model.specs.declared.install.Enabling.{Enabling}
 use Rattle.um_model.specs.declared.install.Enabling.TheVariants as enabling
 use Rattle.um_model.specs.declared.install.InstallVerb.TheVariants as verbs
+use Rattle.um_model.specs.declared.refusals.Limit.TheVariants.{Entries}
 use Rattle.um_model.specs.declared.tree.Layer.{Layer}
 use Rattle.um_model.specs.declared.tree.Layer.TheVariants.{Etc, Run, Lib}
 use Rattle.um_model.proofs.AmongLaws.{among_contained, contains_among, among_map, among_left, among_right, among_either, AnyOf, from_map}
-use Rattle.um_model.proofs.InstallLaws.{also_any, any_also, enabled_drop_ins, free_of_causes, fit_of_causes, few_of_causes, open_of_causes, one_enabled, one_install, unlinked_or_not, disabled_drop_ins, same_tree}
+use Rattle.um_model.proofs.InstallLaws.{also_any, any_also, enabled_drop_ins, free_of_causes, fit_of_causes, few_of_causes, open_of_causes, one_enabled, one_install, unlinked_or_not, unlinked_by, disabled_drop_ins, same_tree, is_link_for, is_link_of}
 use Rattle.um_model.proofs.LeastLaws.{Among}
 use Rattle.um_model.proofs.LoadsLaws.{loads_as}
 use Rattle.um_model.proofs.NamedLaws.{AreNames, names_installed, named_by_name, also_names}
@@ -96,27 +97,20 @@ module _ (tree : Tree) (asked name file : List ℕ) (l : LoadedUnit) (is : IsLin
   module _ (fit : (path : List ℕ) → ¬ (IsUnfit tree asked path)) (u : Tree) (made : IsEnabled tree asked u) where
     -- the path of a link that is fit has its parts
     parts_of_link : (p : PathParts) → is_unit_name p.unit ≡ true → IsAskedFor tree asked (link_at (path_text p) file) → path_parts (path_text p) ≡ Some p
-    parts_of_link p unit w = by_fit (are_fit p) refl
+    parts_of_link p unit w = by_fit (is_fit_place p.unit p.place) refl
       where
-        by_fit : (b : Bool) → are_fit p ≡ b → path_parts (path_text p) ≡ Some p
+        by_fit : (b : Bool) → is_fit_place p.unit p.place ≡ b → path_parts (path_text p) ≡ Some p
         by_fit true e = parts_at p unit ∙ ap (λ b. cond b (Some p) None) e
         by_fit false e =
-            absurd (fit (path_text p) (record {
-              target = file;
-              wanted = w;
-              unfit = ap (λ o. is_fit_target o file) (parts_at p unit ∙ ap (λ b. cond b (Some p) None) e);
-            }))
+            absurd (fit (path_text p) (file, w, ap (λ o. is_fit_target o file) (parts_at p unit ∙ ap (λ b. cond b (Some p) None) e)))
 
     -- disabling by a name for which the link is removes it
     unlinks : (by : List ℕ) (p : PathParts) (meant : List ℕ) → IsMeant u by meant → is_unit_name p.unit ≡ true → IsAskedFor tree asked (link_at (path_text p) file)
         → is_link_for meant p file ≡ true → IsUnlinked u by (path_text p)
-    unlinks by p meant h unit w leads = record {
-      name = meant;
-      meant = h;
-      leads =
-          ap (is_link_of meant (path_parts (path_text p))) (made.linked (path_text p) file w)
-          ∙ (ap (λ parts. is_link_of meant parts (Some (Link file))) (parts_of_link p unit w) ∙ leads);
-    }
+    unlinks by p meant h unit w leads =
+        unlinked_by u by (path_text p) meant h
+        (ap (is_link_of meant (path_parts (path_text p))) (made.linked (path_text p) file w)
+        ∙ (ap (λ parts. is_link_of meant parts (Some (Link file))) (parts_of_link p unit w) ∙ leads))
 
     same_text : (text : List ℕ) → bytes_eq text text ≡ true
     same_text text = (bytes_eq-Decides text text).1 refl
@@ -246,12 +240,12 @@ record IsPulling (path : List ℕ) : Type 0 where
 
 -- it is no path of a unit itself
 no_unit_path : (path : List ℕ) → IsPulling path → (layer : Layer) (unit : List ℕ) → is_unit_name unit ≡ true → unit_path layer unit ≢ path
-no_unit_path path pulling layer unit is e = by_fit (are_fit pulling.parts) same
+no_unit_path path pulling layer unit is e = by_fit (is_fit_place pulling.parts.unit pulling.parts.place) same
   where
     own : PathParts
     own = record { layer = layer; unit = unit; place = Unit }
 
-    same : Some own ≡ cond (are_fit pulling.parts) (Some pulling.parts) None
+    same : Some own ≡ cond (is_fit_place pulling.parts.unit pulling.parts.place) (Some pulling.parts) None
     same =
         sym (parts_at own is ∙ cond-true (is_unit_name unit) (Some own) None is)
         ∙ (ap path_parts (ap (λ text. layer_text layer ++ text) (append-nil unit) ∙ (e ∙ pulling.spelled)) ∙ parts_at pulling.parts pulling.unit)
@@ -392,7 +386,7 @@ module _ (tree : Tree) (asked : List ℕ) (u : Tree) (is : is_unit_name asked �
   already = record { linked = λ path target w. made.linked path target (before (link_at path target) w); kept = λ path isnt. refl }
 
   fit_again : (path : List ℕ) → ¬ (IsUnfit u asked path)
-  fit_again path h = all_fit tree asked u obeys path (record { target = h.target; wanted = before (link_at path h.target) h.wanted; unfit = h.unfit })
+  fit_again path h = all_fit tree asked u obeys path (h.0, before (link_at path h.0) h.1, h.2)
 
   free_again : (path : List ℕ) → ¬ (IsOccupied u asked path)
   free_again path (stands {target = target} w other) =
@@ -403,10 +397,10 @@ module _ (tree : Tree) (asked : List ℕ) (u : Tree) (is : is_unit_name asked �
   free_again path (differs {target = target} {other = other} w v apart) =
       free_of_causes tree asked (no_cause tree asked u obeys) path (differs (before (link_at path target) w) (before (link_at path other) v) apart)
 
-  few_again : ¬ (IsTooMany u asked)
-  few_again h =
-      few_of_causes tree asked (no_cause tree asked u obeys)
-      (record { enabled = u; all = made; many = subst (λ t. entry_limit < map.len t) (one_enabled u asked h.enabled u h.all already) h.many })
+  few_again : (r : Refused) → ¬ (HasTooMany u asked r)
+  few_again r (too_many {enabled = other} all many) =
+      few_of_causes tree asked (no_cause tree asked u obeys) (too_large Entries)
+      (too_many made (subst (λ t. entry_limit < map.len t) (one_enabled u asked other u all already) many))
 
   open_again : (unit : List ℕ) → ¬ (IsBarred u asked unit)
   open_again unit h =
@@ -418,10 +412,10 @@ module _ (tree : Tree) (asked : List ℕ) (u : Tree) (is : is_unit_name asked �
       })
 
   obeyed_again : (r : Refused) → ¬ (RefusesInstall u verbs.Enable asked r)
-  obeyed_again r (enables_none (at_first unfit)) = fit_again unfit.path unfit.least.has
-  obeyed_again r (enables_none (at_second fit (at_first occupied))) = free_again occupied.path occupied.least.has
-  obeyed_again r (enables_none (at_second fit (at_second free (at_first many)))) = few_again many.many
-  obeyed_again r (enables_none (at_second fit (at_second free (at_second few barred)))) = open_again barred.unit barred.least.has
+  obeyed_again r (enables_none (at_first unfit)) = fit_again unfit.name unfit.least.has
+  obeyed_again r (enables_none (at_second fit (at_first occupied))) = free_again occupied.name occupied.least.has
+  obeyed_again r (enables_none (at_second fit (at_second free (at_first many)))) = few_again r many
+  obeyed_again r (enables_none (at_second fit (at_second free (at_second few barred)))) = open_again barred.name barred.least.has
 
   pub enable_twice : Obeys u verbs.Enable asked u
   enable_twice = record { free = obeyed_again; makes = enables already }
@@ -471,20 +465,21 @@ meant_as v tree same asked name is (next {a = unit} reached step) =
 none_left : (tree : Tree) (asked : List ℕ) (v : Tree) → is_unit_name asked ≡ true → RemovesNoName tree asked → Installs tree verbs.Disable asked v
     → (path : List ℕ) → ¬ (IsUnlinked v asked path)
 none_left tree asked v is no_name disabled path h = elim (unlinked_or_not tree asked path) as (λ _. ⊥) [
-  | inl was ↦ nothing_there (path_parts path) (ap (is_link_of h.name (path_parts path)) (sym (left.gone path was)) ∙ h.leads)
+  | inl was ↦ none-some (Link h.target) (sym (left.gone path was) ∙ h.link)
   | inr wasnt ↦ wasnt (record {
     name = h.name;
+    target = h.target;
+    parts = h.parts;
     meant = meant_as v tree (disabled_loads_as tree asked v no_name disabled) asked h.name is h.meant;
-    leads = ap (is_link_of h.name (path_parts path)) (sym (left.kept path wasnt)) ∙ h.leads;
+    link = sym (left.kept path wasnt) ∙ h.link;
+    served = h.served;
+    in_etc = h.in_etc;
+    leads = h.leads;
   })
 ]
   where
     left : IsDisabled tree asked v
     left = disabled_by tree asked v disabled
-
-    nothing_there : (parts : Option PathParts) → is_link_of h.name parts None ≡ true → ⊥
-    nothing_there None e = true≢false (sym e)
-    nothing_there (Some p) e = true≢false (sym e)
 
 -- a second disabling changes nothing
 pub disable_twice : (tree : Tree) (asked : List ℕ) (v w : Tree) → is_unit_name asked ≡ true → RemovesNoName tree asked → Installs tree verbs.Disable asked v

@@ -7,11 +7,11 @@ use Rattle.std.proofs.lemmas.List.{append_cancel_left, append_cancel_right}
 use Rattle.std.proofs.lemmas.List.Folds.{list_any-append}
 use Rattle.std.proofs.lemmas.Bool.{cond-false, or_parts}
 use Rattle.std.proofs.lemmas.Option.{same_Some}
-use Rattle.um_model.specs.Runner.{ending_of, file_name, claim_text, claimant_of, pid_text, pid_limit, IsPid, pid, status_text, IsStatus, exited, killed, TellsEnd, told, odd}
-use Rattle.um_model.specs.declared.runner.Claimant.{Claimant}
-use Rattle.um_model.specs.declared.runner.Claimant.TheVariants.{Manager, Runner}
-use Rattle.um_model.specs.declared.runner.RunnerFile.{RunnerFile}
-use Rattle.um_model.specs.declared.runner.RunnerFile.TheVariants.{Claim, Pid, Status, ManagerDraft, RunnerDraft, PidDraft, StatusDraft}
+use Rattle.um_runner.specs.Runner.{ending_of, file_name, is_slash, claim_text, claimant_of, pid_text, pid_limit, IsPid, pid, status_text, IsStatus, exited, killed, TellsEnd, told, odd}
+use Rattle.um_runner.specs.declared.runner_file.Claimant.{Claimant}
+use Rattle.um_runner.specs.declared.runner_file.Claimant.TheVariants.{Manager, Runner}
+use Rattle.um_runner.specs.declared.runner_file.RunnerFile.{RunnerFile}
+use Rattle.um_runner.specs.declared.runner_file.RunnerFile.TheVariants.{Claim, Pid, Status, ManagerDraft, RunnerDraft, PidDraft, StatusDraft}
 use Rattle.um_model.specs.declared.service.End.{End}
 use Rattle.um_model.specs.declared.service.End.TheVariants.{Code, Signal, Lost}
 
@@ -74,10 +74,7 @@ claim_read Runner = refl
 
 -- ---- names
 
--- a slash, and a dot
-abbrev pub is_slash : ℕ → Bool
-is_slash b = b == 47
-
+-- a dot parts the number from the ending
 abbrev is_dot : ℕ → Bool
 is_dot b = b == 46
 

@@ -1,8 +1,9 @@
 -- Where a name leads, in a reader's words: by a chain of hops, each from a name that a link holds to the next name, to one of four ends.
 -- Follows systemd.unit(5), "Description" (aliases).
--- The laws in proofs/LeadsLaws depend on this file, and by them a law of um_resolve.
+-- The law that a unit is found by hops stands on this file.
 use Rattle.std.specs.Prelude.{◌≡◌, ℕ, zero, suc, ◌<◌, true, false, List, [], length, Some, None}
-use Rattle.um_model.specs.Resolution.{Resolution, AtFile, AtNoFile, AtMask, Nowhere, held, is_mask, needs_no_file, next_name}
+use Rattle.std.specs.Str.{bytes_eq}
+use Rattle.um_model.specs.Resolution.{Resolution, AtFile, AtNoFile, AtMask, Nowhere, held, is_mask, shutdown_target, next_name}
 use Rattle.um_model.specs.Tree.{Tree, File, Link}
 
 -- a link that doesn't mask holds the name, and leads on to the next one
@@ -18,8 +19,8 @@ pub data EndsAt (tree : Tree) : List ℕ → Resolution → Type 0 where
   at_file : (unit path text : List ℕ) → held tree unit ≡ Some (path, File text) → 0 < length text → EndsAt tree unit (AtFile unit path text)
   at_empty_file : (unit path : List ℕ) → held tree unit ≡ Some (path, File []) → EndsAt tree unit (AtMask unit)
   at_mask : (unit path target : List ℕ) → held tree unit ≡ Some (path, Link target) → is_mask target ≡ true → EndsAt tree unit (AtMask unit)
-  at_no_file : (unit : List ℕ) → held tree unit ≡ None → needs_no_file unit ≡ true → EndsAt tree unit (AtNoFile unit)
-  at_nothing : (unit : List ℕ) → held tree unit ≡ None → needs_no_file unit ≡ false → EndsAt tree unit Nowhere
+  at_no_file : (unit : List ℕ) → held tree unit ≡ None → bytes_eq unit shutdown_target ≡ true → EndsAt tree unit (AtNoFile unit)
+  at_nothing : (unit : List ℕ) → held tree unit ≡ None → bytes_eq unit shutdown_target ≡ false → EndsAt tree unit Nowhere
   at_no_name : (unit path target : List ℕ) → held tree unit ≡ Some (path, Link target) → is_mask target ≡ false → next_name unit target ≡ None
       → EndsAt tree unit Nowhere
 

@@ -1,14 +1,15 @@
 -- Where a name leads is what a chain of hops tells, and only that.
 use Rattle.std.proofs.Common.{◌≡◌, ◌↔◌, ℕ, zero, suc, ◌<◌, Bool, true, false, cond, List, [], ◌∷◌, length, Option, Some, None, refl, sym, ap, ◌∙◌, subst, arith}
 use Rattle.std.specs.Option.{option_map_or}
+use Rattle.std.specs.Str.{bytes_eq}
 use Rattle.um_model.specs.Names.{suffix_of}
-use Rattle.um_model.specs.Resolution.{Resolution, AtFile, AtNoFile, AtMask, Nowhere, held, hop_limit, is_mask, is_served_type, needs_no_file, next_name, resolution_at, resolution_of, resolved}
+use Rattle.um_model.specs.Resolution.{Resolution, AtFile, AtNoFile, AtMask, Nowhere, held, hop_limit, is_mask, is_served_type, shutdown_target, next_name, resolution_at, resolution_of, resolved}
 use Rattle.um_model.specs.Tree.{Tree, Entry, File, Link}
-use Rattle.um_model.specs.Leads.{Hops, EndsAt, at_file, at_empty_file, at_mask, at_no_file, at_nothing, at_no_name, Leads, ends, hop, too_far}
+use Rattle.um_resolve.specs.Leads.{Hops, EndsAt, at_file, at_empty_file, at_mask, at_no_file, at_nothing, at_no_name, Leads, ends, hop, too_far}
 
 -- what is told goes the way of the function, if it does where a hop goes on
 module _ (limit : ℕ) (tree : Tree) (name : List ℕ) (follow : List ℕ → Resolution) (later : (next : List ℕ) → Hops tree name next → Leads tree limit name (follow next)) where
-  leads_nothing : (b : Bool) → held tree name ≡ None → needs_no_file name ≡ b → Leads tree limit name (cond b (AtNoFile name) Nowhere)
+  leads_nothing : (b : Bool) → held tree name ≡ None → bytes_eq name shutdown_target ≡ b → Leads tree limit name (cond b (AtNoFile name) Nowhere)
   leads_nothing true h e = ends limit name (AtNoFile name) (at_no_file name h e)
   leads_nothing false h e = ends limit name Nowhere (at_nothing name h e)
 
@@ -23,7 +24,7 @@ module _ (limit : ℕ) (tree : Tree) (name : List ℕ) (follow : List ℕ → Re
   leads_link path target false h unmasked = leads_next path target (next_name name target) h unmasked refl
 
   leads_at : (o : Option (List ℕ × Entry)) → held tree name ≡ o → Leads tree limit name (resolution_at name o follow)
-  leads_at None h = leads_nothing (needs_no_file name) h refl
+  leads_at None h = leads_nothing (bytes_eq name shutdown_target) h refl
   leads_at (Some (path, File [])) h = ends limit name (AtMask name) (at_empty_file name path h)
   leads_at (Some (path, File (b ∷ bs))) h = ends limit name (AtFile name path (b ∷ bs)) (at_file name path (b ∷ bs) h (omega arith))
   leads_at (Some (path, Link target)) h = leads_link path target (is_mask target) h refl

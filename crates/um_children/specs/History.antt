@@ -1,0 +1,51 @@
+-- What each call adds to the history of calls, and what the history says of a number.
+use Rattle.std.specs.Prelude.{◌≡◌, ◌&&◌, ◌==◌, ◌++◌, ◌∷◌, [], ℕ, List, Bool, true, false, Option, Result}
+use Rattle.std.specs.List.{list_any}
+use Rattle.std.specs.Option.{option_map_or}
+use Rattle.std.specs.Result.{is_ok, result_ok}
+use Rattle.um_model.specs.Children.{Spawn, Call, Spawned, Signalled, Asked}
+use Rattle.um_model.specs.declared.children.Fate.{Fate}
+use Rattle.um_model.specs.declared.children.Fate.TheVariants.{Absent}
+use Rattle.um_model.specs.declared.service.Signal.{Signal}
+
+abbrev pub is_absent : Fate → Bool
+is_absent Absent = true
+is_absent other = false
+
+-- whether absence was told
+abbrev pub tells_absent : Option Fate → Bool
+tells_absent told = option_map_or is_absent told false
+
+-- whether a call starts the number
+abbrev pub is_start : ℕ → Call → Bool
+is_start n (Spawned spawn is_taken starts) = starts && (spawn.number == n)
+is_start n other = false
+
+-- whether a call tells that the number is absent
+abbrev pub is_absence : ℕ → Call → Bool
+is_absence n (Asked number claim told) = tells_absent told && (number == n)
+is_absence n other = false
+
+-- whether the number was started
+abbrev pub has_started : List Call → ℕ → Bool
+has_started calls n = list_any (is_start n) calls
+
+-- whether the number was told absent
+abbrev pub was_absent : List Call → ℕ → Bool
+was_absent calls n = list_any (is_absence n) calls
+
+-- no number that was told absent starts
+abbrev pub IsFinal : List Call → Type 0
+IsFinal calls = (n : ℕ) → was_absent calls n ≡ true → has_started calls n ≡ false
+
+-- A start is one call more, whatever it answered; only the children know whether its number starts.
+abbrev pub Spawns : {E : Type 0} → Spawn → Result Unit E → List Call → List Call → Type 0
+Spawns spawn result old new = (starts : Bool) × (new ≡ old ++ Spawned spawn (is_ok result) starts ∷ [])
+
+-- a signal is one call more, whatever it answered
+abbrev pub Signals : ℕ → Signal → List Call → List Call → Type 0
+Signals number signal old new = new ≡ old ++ Signalled number signal ∷ []
+
+-- a fate that was asked is one call more, with what was told
+abbrev pub Asks : {E : Type 0} → ℕ → Bool → Result Fate E → List Call → List Call → Type 0
+Asks number claim result old new = new ≡ old ++ Asked number claim (result_ok result) ∷ []

@@ -1,0 +1,19 @@
+-- What the store is while a record is written behind the others.
+-- No manual page has it: it is the project's own format (docs/FORMATS.md, "The store on its disk").
+-- The writing of records and the keeper stand on this file.
+use Rattle.std.specs.Prelude.{◌≡◌, ◌⊎◌, ◌+◌, ◌<◌, ◌≤◌, ℕ, List, [], ◌∷◌, ◌++◌}
+use Rattle.um_model.specs.Disk.{Image, Past, IsImage}
+use Rattle.um_model.specs.Store.{IsStore}
+use Rattle.um_model.specs.declared.layout.Layout.{Layout}
+use Rattle.um_model.specs.declared.layout.Slot.{Slot}
+
+-- the store as it was, or with this record behind the others
+abbrev pub EitherRecord : Layout → Slot → ℕ → List ℕ → List (List ℕ) → List ℕ → Image → Type 0
+EitherRecord layout slot generation body records bytes image =
+    IsStore layout image slot generation body records ⊎ IsStore layout image slot generation body (records ++ bytes ∷ [])
+
+-- outside so many sectors from a place on, an image of before
+pub record IsElsewhere (past : Past) (at count : ℕ) (image : Image) : Type 0 where
+  pub from : Image
+  pub was : IsImage past from
+  pub same : (j : ℕ) → (j < at) ⊎ (at + count ≤ j) → image j ≡ from j

@@ -1,0 +1,26 @@
+-- What an order of numbered nodes by pairs is: a numbering that ascends along every pair, or a cycle of pairs.
+use Rattle.std.specs.Prelude.{◌≡◌, ◌≢◌, ◌<◌, ◌≤◌, ℕ, List, [], ◌∷◌, length, slice_index, ⊤}
+use Rattle.std.specs.List.{All, AllPairs, Contains}
+use Rattle.um_model.specs.Order.{IsCycle}
+
+-- one of the pairs puts x before y, and both are nodes: a pair that names a number past the count of nodes says nothing
+pub record Precedes (nodes : ℕ) (pairs : List (ℕ × ℕ)) (x y : ℕ) : Type 0 where
+  pub given : Contains pairs (x, y)
+  pub first : x < nodes
+  pub second : y < nodes
+
+-- a number for each node, and they ascend wherever one node is before another
+pub record IsNumbering (before : ℕ → ℕ → Type 0) (nodes : ℕ) (numbers : List ℕ) : Type 0 where
+  pub each : length numbers ≡ nodes
+  pub ascends : (x y : ℕ) → before x y → slice_index numbers x < slice_index numbers y
+
+-- none of the list is less than its first
+abbrev pub BeginsWithLeast : List ℕ → Type 0
+BeginsWithLeast [] = ⊤
+BeginsWithLeast (x ∷ xs) = All (λ y. x ≤ y) xs
+
+-- a cycle in which no node stands twice, told from its least node on
+pub record IsLeastFirstCycle (before : ℕ → ℕ → Type 0) (cycle : List ℕ) : Type 0 where
+  pub closed : IsCycle before cycle
+  pub once : AllPairs (λ x y. x ≢ y) cycle
+  pub least : BeginsWithLeast cycle

@@ -1,0 +1,157 @@
+-- A snapshot that is being written is there whole or not at all, and the store with it is the next generation.
+use Rattle.std.specs.Prelude.{◌≡◌, ◌⊎◌, ◌+◌, ◌-◌, ◌*◌, ◌^◌, ◌<◌, ◌≤◌, ℕ, zero, suc, List, [], ◌∷◌, ◌++◌, length, take, drop, refl}
+use Rattle.std.proofs.Common.{sym, ◌∙◌, ap, subst, inl, inr, ⊎_elim, arith}
+use Rattle.std.proofs.Math.Seq.{take-append-add}
+use Rattle.std.proofs.lemmas.Bool.{cases_lt}
+use Rattle.std.proofs.lemmas.List.{take-append-drop, length-drop, length-take, nil_from_length, take_all, drop-drop}
+use Rattle.um_model.specs.Disk.{Sector, Image, Past, seen, IsImage, Images, During, IsSettled}
+use Rattle.um_model.proofs.DiskLaws.{started, weaker}
+use Rattle.um_model.specs.declared.layout.Layout.{Layout}
+use Rattle.um_model.specs.declared.layout.Slot.{Slot}
+use Rattle.um_model.specs.declared.layout.Slot.TheVariants.{A, B}
+use Rattle.um_model.specs.Store.{log_start, log_end, stops, IsOf, IsFree, IsLogEnd, IsStore, GoesOn, filled, superblock, slot_start, other, body_limit, IsHeader, sector_count, joined, body_at, IsNewest, HasNoHeader}
+use Rattle.um_model.proofs.StoreLaws.{same_header, filled_whole, take-filled, behind_slot, before_slot, home_same, kept_newest, none_of, same_records}
+use Rattle.um_slot.specs.Snapshots.{body_sector, IsSnapshot, MaybeSnapshot, AfterSnapshot, HasStore, EitherSnapshot}
+
+-- ---- a body that is written
+
+-- a body's next sector is the first of what is behind
+next_sector : (bytes : List ℕ) (i : ℕ) → body_sector bytes (suc i) ≡ body_sector (drop 512 bytes) i
+next_sector bytes i =
+    let moved : 512 * suc i ≡ 512 + 512 * i = omega arith in
+    ap (λ (l : List ℕ). filled (take 512 l)) (ap (λ (n : ℕ). drop n bytes) moved ∙ sym (drop-drop (512 * i) 512 bytes))
+
+-- the first sector of a body, and then the rest
+body_step : (bytes : List ℕ) (sector : Sector) (rest : List ℕ) → sector ≡ filled (take 512 bytes) → take (length (drop 512 bytes)) rest ≡ drop 512 bytes
+    → take (length bytes) (sector ++ rest) ≡ bytes
+body_step bytes sector rest is back = ⊎_elim long short (cases_lt 512 (length bytes))
+  where
+    long : 512 < length bytes → take (length bytes) (sector ++ rest) ≡ bytes
+    long more =
+        let size : length (take 512 bytes) ≡ 512 = omega (arith, length-take 512 bytes, more) in
+        let whole : sector ≡ take 512 bytes = is ∙ filled_whole (take 512 bytes) size in
+        let count : length bytes ≡ length (take 512 bytes) + length (drop 512 bytes) = omega (arith, size, length-drop 512 bytes, more) in
+        (λ k. take (count k) (whole k ++ rest))
+        ∙ take-append-add (take 512 bytes) rest (length (drop 512 bytes))
+        ∙ ap (λ (l : List ℕ). take 512 bytes ++ l) back ∙ take-append-drop 512 bytes
+
+    short : length bytes ≤ 512 → take (length bytes) (sector ++ rest) ≡ bytes
+    short few =
+        let all : take 512 bytes ≡ bytes = take_all 512 bytes few in
+        ap (λ (s : Sector). take (length bytes) (s ++ rest)) (is ∙ ap filled all) ∙ take-filled bytes rest
+
+-- A body that stands as it is written is read back.
+pub body_back : (n : ℕ) (bytes : List ℕ) (image : Image) (at : ℕ) → length bytes ≤ 512 * n → ((i : ℕ) → i < n → image (at + i) ≡ body_sector bytes i)
+    → take (length bytes) (joined n image at) ≡ bytes
+body_back zero bytes image at fits stands =
+    let none : bytes ≡ [] = nil_from_length bytes (omega (arith, fits)) in ap (λ (l : List ℕ). take (length l) []) none ∙ sym none
+body_back (suc n) bytes image at fits stands =
+    let here : at ≡ at + 0 = omega arith in
+    body_step bytes (image at) (joined n image (suc at)) (ap image here ∙ stands 0 (omega arith))
+    (body_back n (drop 512 bytes) image (suc at) (omega (arith, fits, length-drop 512 bytes))
+    (λ i below. let moved : suc at + i ≡ at + suc i = omega arith in ap image moved ∙ stands (suc i) (omega (arith, below)) ∙ next_sector bytes i))
+
+-- ---- the snapshot in its slot
+
+-- a header that is written there is well-formed
+written_header : {layout : Layout} {image : Image} {slot : Slot} {generation : ℕ} {body : List ℕ} → 1 ≤ generation → generation < 2 ^ 64 → length body ≤ body_limit layout
+    → IsSnapshot layout image slot generation body → IsHeader layout (image (slot_start layout slot)) generation (length body)
+written_header first last fits snapshot = record { first = first; last = last; fits = fits; is = snapshot.header }
+
+-- and the body behind it is read back
+written_body : {layout : Layout} {image : Image} {slot : Slot} {generation : ℕ} {body : List ℕ} → IsSnapshot layout image slot generation body → body ≡ body_at layout image slot (length body)
+written_body {layout} {image} {slot} {generation} {body} snapshot = sym (body_back (sector_count (length body)) body image (slot_start layout slot + 1) (omega arith) snapshot.sectors)
+
+-- The snapshot of the next generation in the other slot is the newest.
+pub new_newest : {layout : Layout} {old image : Image} {slot : Slot} {generation : ℕ} {before body : List ℕ} → IsNewest layout old slot generation before
+    → image (slot_start layout slot) ≡ old (slot_start layout slot) → generation + 1 < 2 ^ 64 → length body ≤ body_limit layout
+    → IsSnapshot layout image (other slot) (generation + 1) body → IsNewest layout image (other slot) (generation + 1) body
+new_newest {layout} {old} {image} {slot = A} {generation} {before} {body} newest same last fits snapshot = record {
+  size = length body;
+  header = written_header (omega arith) last fits snapshot;
+  newer = λ theirs size header. let g = same_header (subst (λ (s : Sector). IsHeader layout s theirs size) same header) newest.header in omega (arith, g.0);
+  body_is = written_body snapshot;
+}
+new_newest {layout} {old} {image} {slot = B} {generation} {before} {body} newest same last fits snapshot = record {
+  size = length body;
+  header = written_header (omega arith) last fits snapshot;
+  newer = λ theirs size header. let g = same_header (subst (λ (s : Sector). IsHeader layout s theirs size) same header) newest.header in omega (arith, g.0);
+  body_is = written_body snapshot;
+}
+
+-- On a disk without a header the first snapshot in slot A is the newest.
+pub first_newest : {layout : Layout} {old image : Image} {generation : ℕ} {body : List ℕ} → HasNoHeader layout old → 1 ≤ generation → generation < 2 ^ 64 → length body ≤ body_limit layout
+    → MaybeSnapshot layout old A generation body image → IsSnapshot layout image A generation body → IsNewest layout image A generation body
+first_newest {layout} {old} {image} nothing first last fits maybe snapshot = record {
+  size = _;
+  header = written_header first last fits snapshot;
+  newer = λ theirs size header. absurd (nothing B theirs size (subst (λ (s : Sector). IsHeader layout s theirs size) (maybe.outside (slot_start layout B) (inr (omega arith))) header));
+  body_is = written_body snapshot;
+}
+
+-- The log stays as free as it was.
+pub kept_free : {layout : Layout} {old image : Image} {slot : Slot} {generation later : ℕ} {body : List ℕ} → MaybeSnapshot layout old slot generation body image
+    → IsFree layout later old (log_start layout later) → IsFree layout later image (log_start layout later)
+kept_free {layout} {slot} {later} maybe free theirs j low high is = free theirs j low high (subst (IsOf theirs) (maybe.outside j (inr (behind_slot layout slot later j low))) is)
+
+-- ---- the whole store while a snapshot is written into the other slot
+
+module _ {layout : Layout} {old image : Image} {slot : Slot} {generation : ℕ} {before body : List ℕ} {records : List (List ℕ)} (store : IsStore layout old slot generation before records)
+    (maybe : MaybeSnapshot layout old (other slot) (generation + 1) body image) where
+  log_same : (j : ℕ) → log_start layout generation ≤ j → image j ≡ old j
+  log_same j low = maybe.outside j (inr (behind_slot layout (other slot) generation j low))
+
+  first_same : image 0 ≡ superblock layout
+  first_same = maybe.outside 0 (inl (before_slot layout (other slot))) ∙ store.first
+
+  -- no log sector is of the next generation
+  pub next_free : IsFree layout (generation + 1) image (log_start layout (generation + 1))
+  next_free theirs j low high is = store.none_later theirs j low high (subst (IsOf theirs) (log_same j low) is)
+
+  kept_store : image (slot_start layout (other slot)) ≡ old (slot_start layout (other slot)) → IsStore layout image slot generation before records
+  kept_store same = record {
+    first = first_same;
+    newest = kept_newest store.newest maybe.outside same;
+    records_are = same_records 0 (log_start layout generation) records (λ j low high. log_same j low) store.records_are;
+    none_later = next_free;
+  }
+
+  -- with the whole snapshot, nothing of its generation stands in the log
+  pub new_store : generation + 1 < 2 ^ 64 → length body ≤ body_limit layout → IsSnapshot layout image (other slot) (generation + 1) body → IsStore layout image (other slot) (generation + 1) body []
+  new_store last fits snapshot = record {
+    first = first_same;
+    newest = new_newest store.newest (home_same store.newest maybe.outside) last fits snapshot;
+    records_are = stops (λ bytes. none_of last next_free 0 (log_start layout (generation + 1)) bytes (omega arith));
+    none_later = λ theirs j low high is. let below = next_free theirs j low high is in omega (arith, below);
+  }
+
+  -- What a crash leaves meanwhile is the store as it was, or with the new snapshot and no record.
+  pub either_store : generation + 1 < 2 ^ 64 → length body ≤ body_limit layout
+      → IsStore layout image slot generation before records ⊎ IsStore layout image (other slot) (generation + 1) body []
+  either_store last fits = ⊎_elim (λ same. inl (kept_store same)) (λ snapshot. inr (new_store last fits snapshot)) maybe.inside
+
+  -- The log of a new snapshot begins at its first sector.
+  pub new_end : IsLogEnd layout (generation + 1) image [] 0 (log_start layout (generation + 1))
+  new_end = record { count = refl; place = omega arith; within = omega arith; free = next_free }
+
+-- ---- the same of whole runs of calls
+
+module _ {layout : Layout} (past : Past) {slot : Slot} {generation : ℕ} {before : List ℕ} (stores : Images past (HasStore layout slot generation before)) where
+  -- before the first call
+  pub before_other : (body : List ℕ) → During past past (EitherSnapshot layout past slot generation before body)
+  before_other body = started past _ (λ image is. inl (record { from = image; was = is; store = stores image is }))
+
+  -- while a snapshot is written into the other slot
+  pub during_other : {new : Past} {body : List ℕ} → generation + 1 < 2 ^ 64 → length body ≤ body_limit layout
+      → During past new (AfterSnapshot layout past (other slot) (generation + 1) body) → During past new (EitherSnapshot layout past slot generation before body)
+  during_other {new} {body} last fits run = weaker past new _ _
+      (λ image m. ⊎_elim {C = EitherSnapshot layout past slot generation before body image} (λ kept. inl (record { from = m.from; was = m.was; store = kept })) (λ done. inr done) (either_store (stores m.from m.was) m.maybe last fits)) run
+
+  -- and behind it
+  pub goes_on_other : {new : Past} {body : List ℕ} → generation + 1 < 2 ^ 64 → length body ≤ body_limit layout → IsImage past (seen past)
+      → MaybeSnapshot layout (seen past) (other slot) (generation + 1) body (seen new) → IsSnapshot layout (seen new) (other slot) (generation + 1) body → IsSettled new
+      → GoesOn layout new (other slot) (generation + 1) body [] 0 (log_start layout (generation + 1))
+  goes_on_other {new} {body} last fits is maybe snapshot done = record {
+    store = λ image at. subst (λ i. IsStore layout i (other slot) (generation + 1) body []) (sym (done image at)) (new_store (stores (seen past) is) maybe last fits snapshot);
+    end = λ image at. subst (λ i. IsLogEnd layout (generation + 1) i [] 0 (log_start layout (generation + 1))) (sym (done image at)) (new_end (stores (seen past) is) maybe);
+  }

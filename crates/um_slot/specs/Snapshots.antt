@@ -1,0 +1,43 @@
+-- What a slot and the store are while a snapshot is written into it, and behind that.
+-- No manual page has it: it is the project's own format (docs/FORMATS.md, "The store on its disk").
+-- The writing of slots and the keeper stand on this file.
+use Rattle.std.specs.Prelude.{◌≡◌, ◌⊎◌, ◌+◌, ◌*◌, ◌<◌, ◌≤◌, ℕ, List, [], length, take, drop}
+use Rattle.um_model.specs.Disk.{Sector, Image, Past, IsImage}
+use Rattle.um_model.specs.Store.{sector_bytes, filled, slot_start, other, header_sector, sector_count, records_of, IsStore}
+use Rattle.um_model.specs.declared.layout.Layout.{Layout}
+use Rattle.um_model.specs.declared.layout.Slot.{Slot}
+
+-- a body's sectors as they are written, each by its place
+abbrev pub body_sector : List ℕ → ℕ → Sector
+body_sector body i = filled (take sector_bytes (drop (sector_bytes * i) body))
+
+-- a body and its header stand in a slot, as they are written
+pub record IsSnapshot (layout : Layout) (image : Image) (slot : Slot) (generation : ℕ) (body : List ℕ) : Type 0 where
+  pub header : image (slot_start layout slot) ≡ header_sector generation (length body)
+  pub sectors : (i : ℕ) → i < sector_count (length body) → image (slot_start layout slot + 1 + i) ≡ body_sector body i
+
+-- While a snapshot is written into a slot: all else is as before, and its header is too, or all of the snapshot stands there.
+pub record MaybeSnapshot (layout : Layout) (old : Image) (slot : Slot) (generation : ℕ) (body : List ℕ) (image : Image) : Type 0 where
+  pub outside : (j : ℕ) → (j < slot_start layout slot) ⊎ (slot_start layout slot + layout.slot_sectors ≤ j) → image j ≡ old j
+  pub inside : (image (slot_start layout slot) ≡ old (slot_start layout slot)) ⊎ IsSnapshot layout image slot generation body
+
+-- an image of before, with the snapshot partly or wholly written
+pub record AfterSnapshot (layout : Layout) (past : Past) (slot : Slot) (generation : ℕ) (body : List ℕ) (image : Image) : Type 0 where
+  pub from : Image
+  pub was : IsImage past from
+  pub maybe : MaybeSnapshot layout from slot generation body image
+
+-- a store with this newest snapshot, and the records that count in the image
+abbrev pub HasStore : Layout → Slot → ℕ → List ℕ → Image → Type 0
+HasStore layout slot generation body image = IsStore layout image slot generation body (records_of layout generation image)
+
+-- the store of an image of before
+pub record WasStore (layout : Layout) (past : Past) (slot : Slot) (generation : ℕ) (body : List ℕ) (image : Image) : Type 0 where
+  pub from : Image
+  pub was : IsImage past from
+  pub store : IsStore layout image slot generation body (records_of layout generation from)
+
+-- the store of before, or with this body as the next generation and no record
+abbrev pub EitherSnapshot : Layout → Past → Slot → ℕ → List ℕ → List ℕ → Image → Type 0
+EitherSnapshot layout past slot generation before body image =
+    WasStore layout past slot generation before image ⊎ IsStore layout image (other slot) (generation + 1) body []
