@@ -30,54 +30,54 @@ use Rattle.um_falling.proofs.TakenLaws.{needed_by, needs_by}
 
 -- ---- the names of those that are found
 
-module _ (s : State) (row : List Neighbour) where
+module _ (s : State) (around : List Neighbour) where
   abbrev pub named_from : ℕ → List (List ℕ) → List (List ℕ)
   named_from unit [] = []
-  named_from unit (name ∷ names) = cond (is_bound row unit && goes s name) (name ∷ named_from (suc unit) names) (named_from (suc unit) names)
+  named_from unit (name ∷ names) = cond (is_bound around unit && goes s name) (name ∷ named_from (suc unit) names) (named_from (suc unit) names)
 
   -- one of them has a place, is bound, and is active or activating
   record IsFound (unit : ℕ) (names : List (List ℕ)) (name : List ℕ) : Type 0 where
     place : ℕ
     there : slice_get names place ≡ Some name
-    bound : is_bound row (unit + place) ≡ true
+    bound : is_bound around (unit + place) ≡ true
     going : goes s name ≡ true
 
   found_later : (unit : ℕ) (first : List ℕ) (names : List (List ℕ)) (name : List ℕ) → IsFound (suc unit) names name → IsFound unit (first ∷ names) name
   found_later unit first names name f = record {
     place = suc f.place;
     there = f.there;
-    bound = (let e : unit + suc f.place ≡ suc unit + f.place = omega arith in ap (is_bound row) e) ∙ f.bound;
+    bound = (let e : unit + suc f.place ≡ suc unit + f.place = omega arith in ap (is_bound around) e) ∙ f.bound;
     going = f.going;
   }
 
   found : (unit : ℕ) (names : List (List ℕ)) (name : List ℕ) → Among (named_from unit names) name → IsFound unit names name
   found unit [] name = λ none. absurd none
-  found unit (first ∷ names) name = by (is_bound row unit && goes s first) refl (found (suc unit) names name)
+  found unit (first ∷ names) name = by (is_bound around unit && goes s first) refl (found (suc unit) names name)
     where
-      by : (b : Bool) → (is_bound row unit && goes s first) ≡ b → (Among (named_from (suc unit) names) name → IsFound (suc unit) names name) → Among (cond b (first ∷ named_from (suc unit) names) (named_from (suc unit) names)) name
+      by : (b : Bool) → (is_bound around unit && goes s first) ≡ b → (Among (named_from (suc unit) names) name → IsFound (suc unit) names name) → Among (cond b (first ∷ named_from (suc unit) names) (named_from (suc unit) names)) name
           → IsFound unit (first ∷ names) name
       by true t rest (inl is) =
-          let p = and_parts (is_bound row unit) (goes s first) t in
+          let p = and_parts (is_bound around unit) (goes s first) t in
           record {
             place = 0;
             there = ap Some (sym is);
-            bound = (let e : unit + 0 ≡ unit = omega arith in ap (is_bound row) e) ∙ p.0;
+            bound = (let e : unit + 0 ≡ unit = omega arith in ap (is_bound around) e) ∙ p.0;
             going = ap (goes s) is ∙ p.1;
           }
       by true t rest (inr later) = found_later unit first names name (rest later)
       by false t rest later = found_later unit first names name (rest later)
 
-  find : (unit : ℕ) (names : List (List ℕ)) (name : List ℕ) (place : ℕ) → slice_get names place ≡ Some name → is_bound row (unit + place) ≡ true → goes s name ≡ true
+  find : (unit : ℕ) (names : List (List ℕ)) (name : List ℕ) (place : ℕ) → slice_get names place ≡ Some name → is_bound around (unit + place) ≡ true → goes s name ≡ true
       → Among (named_from unit names) name
   find unit [] name place there bound going = cc
   find unit (first ∷ names) name zero there bound going =
       let same : first ≡ name = same_Some first name there in
       let e : unit ≡ unit + 0 = omega arith in
-      let t = and_both (is_bound row unit) (goes s first) (ap (is_bound row) e ∙ bound) (ap (goes s) same ∙ going) in
+      let t = and_both (is_bound around unit) (goes s first) (ap (is_bound around) e ∙ bound) (ap (goes s) same ∙ going) in
       subst (λ b. Among (cond b (first ∷ named_from (suc unit) names) (named_from (suc unit) names)) name) (sym t) (inl (sym same))
   find unit (first ∷ names) name (suc place) there bound going =
       let e : suc unit + place ≡ unit + suc place = omega arith in
-      by (is_bound row unit && goes s first) (find (suc unit) names name place there (ap (is_bound row) e ∙ bound) going)
+      by (is_bound around unit && goes s first) (find (suc unit) names name place there (ap (is_bound around) e ∙ bound) going)
     where
       by : (b : Bool) → Among (named_from (suc unit) names) name → Among (cond b (first ∷ named_from (suc unit) names) (named_from (suc unit) names)) name
       by true later = inr later
@@ -85,7 +85,7 @@ module _ (s : State) (row : List Neighbour) where
 
   of_all : (unit : ℕ) (names : List (List ℕ)) (name : List ℕ) → Among (named_from unit names) name → Among names name
   of_all unit [] name = λ none. none
-  of_all unit (first ∷ names) name = by (is_bound row unit && goes s first) (of_all (suc unit) names name)
+  of_all unit (first ∷ names) name = by (is_bound around unit && goes s first) (of_all (suc unit) names name)
     where
       by : (b : Bool) → (Among (named_from (suc unit) names) name → Among names name) → Among (cond b (first ∷ named_from (suc unit) names) (named_from (suc unit) names)) name → Among (first ∷ names) name
       by true rest (inl is) = inl is
@@ -94,7 +94,7 @@ module _ (s : State) (row : List Neighbour) where
 
   sorted_from : (unit : ℕ) (names : List (List ℕ)) → AllPairs IsNamedBefore names → AllPairs IsNamedBefore (named_from unit names)
   sorted_from unit [] sorted = sorted
-  sorted_from unit (first ∷ names) sorted = by (is_bound row unit && goes s first) (sorted_from (suc unit) names (others_sorted first names sorted))
+  sorted_from unit (first ∷ names) sorted = by (is_bound around unit && goes s first) (sorted_from (suc unit) names (others_sorted first names sorted))
     where
       before : All (IsNamedBefore first) (named_from (suc unit) names)
       before k d few = first_before first names sorted _ (of_all (suc unit) names _ (among_at (named_from (suc unit) names) k d few))
@@ -106,40 +106,40 @@ module _ (s : State) (row : List Neighbour) where
 
   -- they are the names of those that are found by number
   named_so : (g : GraphView) (unit : ℕ) (names : List (List ℕ)) → ((i : ℕ) (x : List ℕ) → slice_get names i ≡ Some x → IsNumberOf g (unit + i) x)
-      → AreNamed g (falling_from s row unit names) (named_from unit names)
+      → AreNamed g (falling_from s around unit names) (named_from unit names)
   named_so g unit [] at = refl
   named_so g unit (first ∷ names) at =
-      by (is_bound row unit && goes s first)
+      by (is_bound around unit && goes s first)
       (named_so g (suc unit) names (λ i x is. let e : unit + suc i ≡ suc unit + i = omega arith in subst (λ k. IsNumberOf g k x) e (at (suc i) x is)))
     where
       here : slice_get g.names unit ≡ Some first
       here = let e : unit + 0 ≡ unit = omega arith in subst (λ k. IsNumberOf g k first) e (at 0 first refl)
 
-      by : (b : Bool) → AreNamed g (falling_from s row (suc unit) names) (named_from (suc unit) names) → AreNamed g (cond b (unit ∷ falling_from s row (suc unit) names) (falling_from s row (suc unit) names))
+      by : (b : Bool) → AreNamed g (falling_from s around (suc unit) names) (named_from (suc unit) names) → AreNamed g (cond b (unit ∷ falling_from s around (suc unit) names) (falling_from s around (suc unit) names))
           (cond b (first ∷ named_from (suc unit) names) (named_from (suc unit) names))
-      by true rest = ap (λ o. o ∷ map (slice_get g.names) (falling_from s row (suc unit) names)) here ∙ ap (λ l. Some first ∷ l) rest
+      by true rest = ap (λ o. o ∷ map (slice_get g.names) (falling_from s around (suc unit) names)) here ∙ ap (λ l. Some first ∷ l) rest
       by false rest = rest
 
 -- ---- those that fall with a unit of the graph
 
 module _ (g : GraphView) (s u : State) (serves : Serves g s) (holds : Serves g u) (name : List ℕ) (unit : ℕ) (number : IsNumberOf g unit name) where
-  abbrev row : List Neighbour
-  row = row_of g.rows unit
+  abbrev around : List Neighbour
+  around = row_of g.rows unit
 
-  bound_so : (other : ℕ) (x : List ℕ) → IsNumberOf g other x → is_bound row other ≡ true → Depends s.loaded (λ y. Unit {0}) BindsTo x name
+  bound_so : (other : ℕ) (x : List ℕ) → IsNumberOf g other x → is_bound around other ≡ true → Depends s.loaded (λ y. Unit {0}) BindsTo x name
   bound_so other x is t =
-      let (n, c, h) = in_any (is_bound_as other) row t in
+      let (n, c, h) = in_any (is_bound_as other) around t in
       let p = and_parts (n.unit == other) (has (inverse_bit_of BindsTo) n.kinds) h in
       needed_by g s serves BindsTo unit other name x number is (record { neighbour = n; listed = c; is = (Decides-eqb n.unit other).0 p.0; kind = p.1 })
 
-  so_bound : (other : ℕ) (x : List ℕ) → IsNumberOf g other x → Depends s.loaded (λ y. Unit {0}) BindsTo x name → is_bound row other ≡ true
+  so_bound : (other : ℕ) (x : List ℕ) → IsNumberOf g other x → Depends s.loaded (λ y. Unit {0}) BindsTo x name → is_bound around other ≡ true
   so_bound other x is d =
       let stands = needs_by g s serves BindsTo unit other name x number is d in
-      any_in (is_bound_as other) row stands.neighbour stands.listed
+      any_in (is_bound_as other) around stands.neighbour stands.listed
       (and_both (stands.neighbour.unit == other) (has (inverse_bit_of BindsTo) stands.neighbour.kinds) ((Decides-eqb stands.neighbour.unit other).1 stands.is) stands.kind)
 
   abbrev those : Bool → List (List ℕ)
-  those b = cond b (named_from u row 0 g.names) []
+  those b = cond b (named_from u around 0 g.names) []
 
   going_known : (other : List ℕ) → goes u other ≡ true → Contains g.names other
   going_known other going = holds.held other (goes_held u other going)
@@ -151,14 +151,14 @@ module _ (g : GraphView) (s u : State) (serves : Serves g s) (holds : Serves g u
   falls_so true rests = record {
     each = λ other. (
       λ c.
-          let f = found u row 0 g.names other (among_contained (those true) other c) in
+          let f = found u around 0 g.names other (among_contained (those true) other c) in
           let rest = rest_told (sub_of s name) (sub_of u name) rests in
           record { rests = rest.0; anew = rest.1; goes = f.going; bound = bound_so (0 + f.place) other (by_place f.place other f.there) f.bound },
       λ h.
           let (i, is) = number_by g other (going_known other h.goes) in
-          contains_among (those true) other (find u row 0 g.names other i is (so_bound (0 + i) other (by_place i other is) h.bound) h.goes),
+          contains_among (those true) other (find u around 0 g.names other i is (so_bound (0 + i) other (by_place i other is) h.bound) h.goes),
     );
-    sorted = sorted_from u row 0 g.names holds.graph.sorted;
+    sorted = sorted_from u around 0 g.names holds.graph.sorted;
   }
     where
       by_place : (i : ℕ) (x : List ℕ) → IsNumberOf g i x → IsNumberOf g (0 + i) x
@@ -168,8 +168,8 @@ module _ (g : GraphView) (s u : State) (serves : Serves g s) (holds : Serves g u
     sorted = λ i j d less few. absurd (omega arith);
   }
 
-  those_named : (b : Bool) → AreNamed g (cond b (falling_from u row 0 g.names) []) (those b)
-  those_named true = named_so u row g 0 g.names (λ i x is. let e : i ≡ 0 + i = omega arith in subst (λ k. IsNumberOf g k x) e is)
+  those_named : (b : Bool) → AreNamed g (cond b (falling_from u around 0 g.names) []) (those b)
+  those_named true = named_so u around g 0 g.names (λ i x is. let e : i ≡ 0 + i = omega arith in subst (λ k. IsNumberOf g k x) e is)
   those_named false = refl
 
   -- they are named, and fall

@@ -173,33 +173,33 @@ is_stop_done s u e = is_clean s u Control e || is_told e && has_dash s OfStop u.
 
 -- the rows: what follows in this sub state, by its active state, from this event; by the last one the unit stays as it is
 abbrev pub row : ServiceSettings → Around → UnitState → ActiveState → SubState → UnitEvent → Change
-row s c u active sub Reset = just (forgiven u)
+row s c u _ sub Reset = just (forgiven u)
 row s c u IsActive sub StartBegins = start_ends (just u)
-row s c u active Dead StartBegins = starts s c u
-row s c u active Failed StartBegins = starts s c u
-row s c u active AutoRestart StartBegins = starts s c u
-row s c u active Start Executed = if has_one_command s.kind then start_ends (just (record u { sub = Running; deadline = None })) else just u
-row s c u active Start (MainEnds e) =
+row s c u _ Dead StartBegins = starts s c u
+row s c u _ Failed StartBegins = starts s c u
+row s c u _ AutoRestart StartBegins = starts s c u
+row s c u _ Start Executed = if has_one_command s.kind then start_ends (just (record u { sub = Running; deadline = None })) else just u
+row s c u _ Start (MainEnds e) =
     if is_clean s u Main e then start_goes_on s.kind s c (without_main s u e) else start_fails (rests s c (without_main s u e))
-row s c u active Start DeadlinePasses = start_fails (terminates s c (record u { result = result.Timeout }))
-row s c u active Running (MainEnds e) = if is_clean s u Main e then exits s c (without_main s u e) else winds_down s c (without_main s u e) 0
-row s c u active Active StopBegins = dies u
-row s c u active AutoRestart StopBegins = dies u
+row s c u _ Start DeadlinePasses = start_fails (terminates s c (record u { result = result.Timeout }))
+row s c u _ Running (MainEnds e) = if is_clean s u Main e then exits s c (without_main s u e) else winds_down s c (without_main s u e) 0
+row s c u _ Active StopBegins = dies u
+row s c u _ AutoRestart StopBegins = dies u
 row s c u IsActive sub StopBegins = winds_down s c (told_to_stop u) 0
-row s c u active Start StopBegins = start_fails (terminates s c (told_to_stop u))
+row s c u _ Start StopBegins = start_fails (terminates s c (told_to_stop u))
 row s c u Deactivating sub StopBegins = just (told_to_stop u)
-row s c u active Dead StopBegins = stop_ends (just u)
-row s c u active Failed StopBegins = stop_ends (just u)
-row s c u active Stop (ControlEnds e) =
+row s c u _ Dead StopBegins = stop_ends (just u)
+row s c u _ Failed StopBegins = stop_ends (just u)
+row s c u _ Stop (ControlEnds e) =
     if is_stop_done s u e then winds_down s c (record u { control = None }) (u.index + 1) else terminates s c (without_control s u e)
-row s c u active Stop (MainEnds e) = just (without_main s u e)
+row s c u _ Stop (MainEnds e) = just (without_main s u e)
 row s c u Deactivating sub (MainEnds e) = rests_unless_live s c (without_main s u e)
 row s c u Deactivating sub (ControlEnds e) = rests_unless_live s c (without_control s u e)
-row s c u active Stop DeadlinePasses = terminates s c (timed_out u)
-row s c u active StopSigterm DeadlinePasses =
+row s c u _ Stop DeadlinePasses = terminates s c (timed_out u)
+row s c u _ StopSigterm DeadlinePasses =
     asking (Signal Kill) (just (record (timed_out u) { sub = StopSigkill; deadline = deadline_after c.moment s.timeout_stop }))
-row s c u active StopSigkill DeadlinePasses = rests_for_good (timed_out u)
-row s c u active sub event = just u
+row s c u _ StopSigkill DeadlinePasses = rests_for_good (timed_out u)
+row s c u _ sub event = just u
 
 -- active or activating
 abbrev pub is_going : ActiveState → Bool

@@ -225,10 +225,13 @@ service_settings_with start kind unit assigned = record {
   restart_delay = last_read span_of (Some default_restart_delay) ((codes "Service", codes "RestartSec") ∷ []) assigned;
   timeout_start =
       last_read timeout_said (default_timeout_start kind) ((codes "Service", codes "TimeoutStartSec") ∷ (codes "Service", codes "TimeoutSec") ∷ []) assigned;
-  timeout_stop = last_read timeout_said (Some default_timeout) ((codes "Service", codes "TimeoutStopSec") ∷ (codes "Service", codes "TimeoutSec") ∷ []) assigned;
+  timeout_stop =
+      last_read timeout_said (Some default_timeout) ((codes "Service", codes "TimeoutStopSec") ∷ (codes "Service", codes "TimeoutSec") ∷ []) assigned;
   limit_interval =
-      last_read span_of (Some default_limit_interval) ((codes "Unit", codes "StartLimitIntervalSec") ∷ (codes "Service", codes "StartLimitInterval") ∷ []) assigned;
-  limit_burst = last_read number_of default_limit_burst ((codes "Unit", codes "StartLimitBurst") ∷ (codes "Service", codes "StartLimitBurst") ∷ []) assigned;
+      last_read span_of (Some default_limit_interval)
+      ((codes "Unit", codes "StartLimitIntervalSec") ∷ (codes "Service", codes "StartLimitInterval") ∷ []) assigned;
+  limit_burst =
+      last_read number_of default_limit_burst ((codes "Unit", codes "StartLimitBurst") ∷ (codes "Service", codes "StartLimitBurst") ∷ []) assigned;
   success = exits_in (codes "SuccessExitStatus") assigned;
   prevents_restart = exits_in (codes "RestartPreventExitStatus") assigned;
   forces_restart = exits_in (codes "RestartForceExitStatus") assigned;

@@ -16,9 +16,9 @@ then_ok (Ok x) f h = f h
 then_ok (Err e) f h = h
 
 -- the unit with this number is the one of this name, and no other
-adds_row : (g : GraphView) (s : State) (before : SubState) (name : List ℕ) (number : ℕ) (row : List Neighbour) (list after : List ℕ) → IsGraph g → IsNumberOf g number name
-    → row ≡ row_of g.rows number → comes_to_rest before (sub_of s name) ≡ true → after ≡ falling_from s row 0 g.names ++ list → AddsFalling g s before name list after
-adds_row g s before name number row list after graph is row_is rests e unit other =
+adds_row : (g : GraphView) (s : State) (before : SubState) (name : List ℕ) (number : ℕ) (around : List Neighbour) (list after : List ℕ) → IsGraph g → IsNumberOf g number name
+    → around ≡ row_of g.rows number → comes_to_rest before (sub_of s name) ≡ true → after ≡ falling_from s around 0 g.names ++ list → AddsFalling g s before name list after
+adds_row g s before name number around list after graph is row_is rests e unit other =
     e ∙ ap (λ l. l ++ list) (
     ap (λ r. falling_from s r 0 g.names) (row_is ∙ ap (row_of g.rows) same)
     ∙ sym (ap (λ b. cond b (falling_from s (row_of g.rows unit) 0 g.names) []) rests))
