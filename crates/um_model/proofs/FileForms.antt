@@ -61,6 +61,10 @@ Meaning A = Result A WarningKind
 abbrev pub names_said : (List ℕ → Bool) → List ℕ → List ℕ → List (List ℕ)
 names_said fits unit value = filter_map result_ok (names_reading fits unit value)
 
+-- everything that these values name
+abbrev pub names_of : (List ℕ → Bool) → List ℕ → List (List ℕ) → List (List ℕ)
+names_of fits unit values = flat_map (names_said fits unit) values
+
 -- the greatest number that a setting takes
 abbrev pub number_limit : ℕ
 number_limit = 4294967295
@@ -88,10 +92,6 @@ past_part text = drop (length (unit_of text)) (past_digits text)
 -- the last one, or the default
 abbrev pub last_or : {A : Type 0} → A → List A → A
 last_or default values = fold (λ earlier value. value) default values
-
--- a time-out of 0 never passes
-abbrev pub timeout_in : Option ℕ → Option ℕ
-timeout_in span = option_and_then (λ n. if n == 0 then None else Some n) span
 
 -- a physical line, by its number
 abbrev pub physical_line : ℕ → List ℕ → Line

@@ -1,10 +1,12 @@
 -- What follows for a unit leaves it with bytes: row by row of the table.
-use Rattle.std.proofs.Common.{ℕ, ◌≡◌, inl, inr, ◌+◌, ◌<◌, ◌≤◌, ◌^◌, ◌&&◌, nat_lt, Bool, true, false, not, cond, List, [], ◌∷◌, Option, Some, None, filter_map, length, refl, subst, arith}
-use Rattle.std.specs.Prelude.{IfSome, option_map}
+use Rattle.std.proofs.Common.{ℕ, ◌≡◌, inl, inr, ◌+◌, ◌<◌, ◌≤◌, ◌^◌, ◌&&◌, nat_lt, Bool, true, false, not, cond, List, [], ◌∷◌, Option, Some, None, filter_map, length, refl, sym, ap, ◌∙◌, subst, arith}
+use Rattle.std.specs.Prelude.{IfSome, codes}
 use Rattle.std.proofs.lemmas.Bool.{and_parts, ltb-true}
 use Rattle.std.proofs.lemmas.Option.{none-some, same_Some}
 use Rattle.um_model.specs.Limit.{is_unlimited, is_over, limited, counted}
-use Rattle.std.specs.Option.{option_map_or}
+use Rattle.std.specs.Option.{ok_or, option_map_or}
+use Rattle.std.specs.List.{flat_map}
+use Rattle.std.specs.Result.{result_ok}
 use Rattle.um_model.specs.Dependencies.{loadable_of}
 use Rattle.um_model.specs.Machine.{settings_in}
 use Rattle.um_model.specs.Moments.{moment_limit, span_limit, deadline_limit}
@@ -16,7 +18,7 @@ use Rattle.um_model.specs.Spellings.{FitEnd}
 use Rattle.um_model.specs.Ends.{is_clean, is_restart_wanted, has_one_command}
 use Rattle.um_model.specs.Transitions.{deadline_after, has_number, is_live, just, asking, start_ends, start_fails, rests_for_good, waits_to_restart, rests, terminates, stop_command, winds_down, first_command, start_of, starts_if, starts, exits, next_command, start_goes_on, rests_unless_live, noted, without_main, without_control, timed_out, told_to_stop, is_stop_done, row, is_going, transition, HasNumber}
 use Rattle.um_model.specs.Tree.{Tree}
-use Rattle.um_model.specs.Units.{Assigned, timeout_said, default_timeout_start, service_settings_with, service_settings_of, LoadedUnit, Loading, Found, Masked, NotFound, BadSetting, loading_at, load}
+use Rattle.um_model.specs.Units.{Assigned, default_timeout, last_said, unless_zero, values_of, default_timeout_start, service_settings_with, service_settings_of, LoadedUnit, Loading, Found, Masked, NotFound, BadSetting, loading_at, load}
 use Rattle.um_model.specs.Values.{number_of, span_of}
 use Rattle.um_model.specs.Commands.{Command}
 use Rattle.um_model.specs.declared.limit.Counted.{Counted}
@@ -37,13 +39,15 @@ use Rattle.um_model.specs.declared.transition.UnitEvent.{UnitEvent}
 use Rattle.um_model.specs.declared.transition.UnitEvent.TheVariants.{StartBegins, StopBegins, BoundStop, Executed, MainEnds, ControlEnds, DeadlinePasses, Reset}
 use Rattle.um_model.specs.declared.transition.UnitKind.{UnitKind}
 use Rattle.um_model.specs.declared.transition.UnitKind.TheVariants.{Simple, Exec, Oneshot, Target}
+use Rattle.um_model.specs.declared.units.ValueKind.TheVariants as kinds
+use Rattle.um_model.specs.declared.warnings.WarningKind.TheVariants.{UnreadableValue}
 use Rattle.um_model.proofs.Forms.{found_unless}
-use Rattle.um_model.proofs.AmongLaws.{from_filter_map}
+use Rattle.um_model.proofs.AmongLaws.{from_flat_map}
 use Rattle.um_model.proofs.InvariantLaws.{FitUnitEvent}
 use Rattle.um_model.proofs.LeastLaws.{Among}
 use Rattle.um_model.proofs.TransitionLaws.{by_cond}
 use Rattle.um_model.proofs.ValuesLaws.{IsNumber-number_of, IsSpan-span_of}
-use Rattle.um_model.proofs.FileForms.{place_limit, last_or, timeout_in, number_limit}
+use Rattle.um_model.proofs.FileForms.{place_limit, last_or, number_limit}
 
 -- ---- settings
 
@@ -63,9 +67,18 @@ module _ {A : Type 0} (P : A → Type 0) where
   last_holds default (x ∷ xs) first others = last_holds x xs (others x (inl refl)) (λ y later. others y (inr later))
 
   -- what is read last, where it holds of the default and of all that can be read
-  read_holds : (read : List ℕ → Option A) (default : A) (values : List (List ℕ)) → P default → ((value : List ℕ) (a : A) → read value ≡ Some a → P a) → P (last_or default (filter_map read values))
-  read_holds read default values first each =
-      last_holds default (filter_map read values) first (λ x among. let found = from_filter_map read values x among in each found.0 x found.2)
+  read_holds : (read : List ℕ → Option A) (default : A) (values : List (List ℕ)) → P default → ((value : List ℕ) (a : A) → read value ≡ Some a → P a)
+      → P (last_or default (flat_map (λ value. filter_map result_ok (ok_or (read value) UnreadableValue ∷ [])) values))
+  read_holds read default values first each = last_holds default _ first one
+    where
+      said : List ℕ → List A
+      said value = filter_map result_ok (ok_or (read value) UnreadableValue ∷ [])
+      by_read : (value : List ℕ) (a : A) (o : Option A) → read value ≡ o → Among (filter_map result_ok (ok_or o UnreadableValue ∷ [])) a → P a
+      by_read value a None e none = absurd none
+      by_read value a (Some b) e (inl same) = each value a (e ∙ ap (λ x. Some x) (sym same))
+      by_read value a (Some b) e (inr none) = absurd none
+      one : (a : A) → Among (flat_map said values) a → P a
+      one a among = let found = from_flat_map said values a among in by_read found.0 a (read found.0) refl found.2
 
 span_low : (value : List ℕ) (n : ℕ) → span_of value ≡ Some (Some n) → n ≤ span_limit
 span_low value n e = (IsSpan-span_of value (Some n) e).2
@@ -74,14 +87,13 @@ by_span : (value : List ℕ) (a : Option ℕ) → span_of value ≡ Some a → I
 by_span value None e = tt
 by_span value (Some n) e = span_low value n e
 
-timeout_low : (n : ℕ) (b : Bool) → n ≤ span_limit → IsLowSpan (cond b None (Some n))
-timeout_low n true low = tt
-timeout_low n false low = low
+zero_low : (n : ℕ) (b : Bool) → n ≤ span_limit → IsLowSpan (cond b None (Some n))
+zero_low n true low = tt
+zero_low n false low = low
 
-by_timeout : (value : List ℕ) (o : Option (Option ℕ)) (a : Option ℕ) → span_of value ≡ o → option_map timeout_in o ≡ Some a → IsLowSpan a
-by_timeout value None a at e = absurd (none-some a e)
-by_timeout value (Some None) a at e = subst IsLowSpan (same_Some None a e) tt
-by_timeout value (Some (Some n)) a at e = subst IsLowSpan (same_Some (timeout_in (Some n)) a e) (timeout_low n _ (span_low value n at))
+timeout_low : (span : Option ℕ) → IsLowSpan span → IsLowSpan (unless_zero span)
+timeout_low None low = tt
+timeout_low (Some n) low = zero_low n _ low
 
 default_low : (kind : UnitKind) → IsLowSpan (default_timeout_start kind)
 default_low Simple = omega arith
@@ -89,11 +101,17 @@ default_low Exec = omega arith
 default_low Oneshot = tt
 default_low Target = omega arith
 
+said_low : (unit : List ℕ) (default : Option ℕ) (key : List ℕ) (assigned : List Assigned) → IsLowSpan default
+    → IsLowSpan (unless_zero (last_said unit kinds.Span default ((codes "Service", key) ∷ (codes "Service", codes "TimeoutSec") ∷ []) assigned))
+said_low unit default key assigned low =
+    let keys = (codes "Service", key) ∷ (codes "Service", codes "TimeoutSec") ∷ [] in
+    timeout_low (last_said unit kinds.Span default keys assigned) (read_holds IsLowSpan span_of default (values_of keys assigned) low by_span)
+
 with_low : (start : List Command) (kind : UnitKind) (unit : List ℕ) (assigned : List Assigned) → AreLow (service_settings_with start kind unit assigned)
 with_low start kind unit assigned = record {
   delay = read_holds IsLowSpan span_of (Some 100000) _ (omega arith) by_span;
-  start = read_holds IsLowSpan timeout_said (default_timeout_start kind) _ (default_low kind) (λ value a e. by_timeout value (span_of value) a refl e);
-  stop = read_holds IsLowSpan timeout_said (Some 90000000) _ (omega arith) (λ value a e. by_timeout value (span_of value) a refl e);
+  start = said_low unit (default_timeout_start kind) (codes "TimeoutStartSec") assigned (default_low kind);
+  stop = said_low unit (Some default_timeout) (codes "TimeoutStopSec") assigned (omega arith);
   burst = read_holds (λ n. n ≤ number_limit) number_of 5 _ (omega arith) (λ value n e. (IsNumber-number_of value n e).limit);
 }
 

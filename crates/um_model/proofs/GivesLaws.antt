@@ -13,7 +13,7 @@ use Rattle.um_model.specs.Readings.{text_reading, names_reading, read_if}
 use Rattle.um_model.specs.Results.{◌and_then◌}
 use Rattle.um_model.specs.Resolution.{Resolution, AtFile, AtNoFile, AtMask, Nowhere, resolution_of, shutdown_target}
 use Rattle.um_model.specs.Tree.{Tree, Entry, File, Link, PathParts, Place, Unit as Itself, DropIn, Wants, Requires, path_parts, is_fit_place, is_plain_name}
-use Rattle.um_model.specs.Units.{Source, Assigned, Dependencies, LoadedUnit, Loading, Found, names_of, dependencies_of, assignments_in, unit_by, loading_at, sources_at, load, unit_named}
+use Rattle.um_model.specs.Units.{Source, Assigned, Dependencies, LoadedUnit, Loading, Found, dependencies_of, assignments_in, unit_by, loading_at, sources_at, load, unit_named}
 use Rattle.um_model.specs.Words.{words_of}
 use Rattle.um_model.specs.contracts.dependencies.DependencyKind as dependency_kind
 use Rattle.um_model.specs.declared.dependencies.DependencyKind.{DependencyKind}
@@ -28,7 +28,7 @@ use Rattle.um_model.proofs.NamedLaws.{named_by_name}
 use Rattle.um_model.proofs.OwnNameLaws.{loadable_found, name_of_loadable}
 use Rattle.um_model.proofs.TimersLaws.{same_name, same_option, among_keys}
 use Rattle.um_model.proofs.TreeLaws.{path_of_parts, fit-name}
-use Rattle.um_model.proofs.FileForms.{Meaning, names_said}
+use Rattle.um_model.proofs.FileForms.{Meaning, names_of, names_said}
 use Rattle.um_model.proofs.FileForms.{unit_reading}
 
 -- ---- kinds

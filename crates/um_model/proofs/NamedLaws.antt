@@ -11,7 +11,7 @@ use Rattle.um_model.specs.Readings.{text_reading, names_reading, read_if}
 use Rattle.um_model.specs.Results.{◌and_then◌}
 use Rattle.um_model.specs.Resolution.{Resolution, AtFile, AtNoFile, AtMask, Nowhere, held, is_mask, is_of_same_type, is_served_type, shutdown_target, next_name, resolution_at, resolved, hop_limit, resolution_of}
 use Rattle.um_model.specs.Tree.{Tree, Entry, File, Link}
-use Rattle.um_model.specs.Units.{Source, Assigned, assignments_in, names_of, unit_by, loading_at, sources_at, load, name_in, unit_named, InstallSettings, nothing_installed, is_alias_for, install_settings_of}
+use Rattle.um_model.specs.Units.{Source, Assigned, assignments_in, unit_by, loading_at, sources_at, load, name_in, unit_named, InstallSettings, nothing_installed, is_alias_for, install_settings_of}
 use Rattle.um_model.specs.Words.{words_of}
 use Rattle.um_model.specs.declared.warnings.WarningKind.{WarningKind}
 use Rattle.um_model.specs.declared.warnings.WarningKind.TheVariants.{UnreadableValue}
@@ -19,7 +19,7 @@ use Rattle.um_model.specs.declared.words.WordRules.TheVariants.{Names}
 use Rattle.um_model.proofs.Forms.{found_unless, of_same_type}
 use Rattle.um_model.proofs.AmongLaws.{from_map, from_flat_map, from_filter_map}
 use Rattle.um_model.proofs.LeastLaws.{Among}
-use Rattle.um_model.proofs.FileForms.{Meaning, names_said}
+use Rattle.um_model.proofs.FileForms.{Meaning, names_of, names_said}
 use Rattle.um_model.proofs.FileForms.{unit_reading}
 
 -- ---- where a name leads

@@ -1,7 +1,7 @@
 -- What a unit's files set and warn of, by one list of assignments, and whether the unit can be loaded.
 -- Follows systemd.unit(5) and systemd.service(5).
 -- The machine stands on this file: what `show` tells, and what a start does.
-use Rattle.std.specs.Prelude.{ℕ, ◌*◌, Bool, true, false, not, ◌&&◌, ◌||◌, ◌==◌, List, [], ◌∷◌, ◌++◌, length, find, fold, filter_map, map as each}
+use Rattle.std.specs.Prelude.{ℕ, ◌*◌, Bool, true, false, not, ◌&&◌, ◌||◌, ◌==◌, List, [], ◌∷◌, ◌++◌, length, filter, find, fold, filter_map, map as each}
 use Rattle.std.specs.Prelude.{Option, Some, None, Result, option_map, if◌then◌else◌, codes}
 use Rattle.std.specs.Option.{ok_or, option_or, option_map_or, option_and_then}
 use Rattle.std.specs.Result.{result_ok, result_err, result_unwrap_or}
@@ -30,7 +30,7 @@ use Rattle.um_model.specs.declared.names.Suffix.TheVariants.{Service}
 use Rattle.um_model.specs.declared.units.LoadState.{LoadState}
 use Rattle.um_model.specs.declared.units.LoadState.TheVariants as load_state
 use Rattle.um_model.specs.declared.units.ValueKind.{ValueKind}
-use Rattle.um_model.specs.declared.units.ValueKind.TheVariants as kind
+use Rattle.um_model.specs.declared.units.ValueKind.TheVariants as kinds
 use Rattle.um_model.specs.declared.warnings.WarningKind.{WarningKind}
 use Rattle.um_model.specs.declared.warnings.WarningKind.TheVariants.{UnknownSection, UnknownKey, UnreadableValue}
 
@@ -51,19 +51,27 @@ pub record Source : Type 0 where
 abbrev pub source_of : UnitFile → Source
 source_of file = record { path = file.path; reading = reading_of file.text }
 
+-- of what stands in a section that isn't known, its head alone is heard
+abbrev pub is_heard : Option Suffix → Option (List ℕ) → Item → Bool
+is_heard type section (Section name line) = true
+is_heard type section other = option_map_or (is_known_section type) section true
+
+abbrev pub heard_in : Option Suffix → Source → List Placed
+heard_in type s = filter (λ p. is_heard type p.section p.item) s.reading
+
 -- an assignment in a known section
 pub record Assigned : Type 0 where
   pub section : List ℕ
   pub key : List ℕ
   pub value : List ℕ
 
-abbrev pub assigned_by : Option Suffix → Option (List ℕ) → Item → List Assigned
-assigned_by type (Some s) (Assignment k v line whole) = if is_known_section type s then record { section = s; key = k; value = v } ∷ [] else []
-assigned_by type section other = []
+abbrev pub assigned_by : Option (List ℕ) → Item → List Assigned
+assigned_by (Some s) (Assignment k v line whole) = record { section = s; key = k; value = v } ∷ []
+assigned_by section other = []
 
 -- the assignments of a unit's files as one list, in the order in which they are read
 abbrev pub assignments_in : Option Suffix → List Source → List Assigned
-assignments_in type sources = flat_map (λ s. flat_map (λ p. assigned_by type p.section p.item) s.reading) sources
+assignments_in type sources = flat_map (λ s. flat_map (λ p. assigned_by p.section p.item) (heard_in type s)) sources
 
 -- a key in its section
 abbrev pub Key : Type 0
@@ -73,56 +81,11 @@ Key = List ℕ × List ℕ
 abbrev pub values_of : List Key → List Assigned → List (List ℕ)
 values_of keys assigned = flat_map (λ a. if list_any (λ key. bytes_eq a.section key.0 && bytes_eq a.key key.1) keys then a.value ∷ [] else []) assigned
 
--- ---- settings, each by its own rule over the one list of assignments
-
--- a single value: of all assignments to these keys the last that can be read, or the default
-abbrev pub last_read : {A : Type 0} → (List ℕ → Option A) → A → List Key → List Assigned → A
-last_read read default keys assigned = fold (λ earlier value. value) default (filter_map read (values_of keys assigned))
-
--- a list that an empty value clears: the values behind the last empty one
+-- the values of a list that an empty value clears: those behind the last empty one
 abbrev pub since_empty : Key → List Assigned → List (List ℕ)
 since_empty key assigned = after_last is_empty (values_of (key ∷ []) assigned)
 
--- everything that these values name
-abbrev pub names_of : (List ℕ → Bool) → List ℕ → List (List ℕ) → List (List ℕ)
-names_of fits unit values = flat_map (λ value. filter_map result_ok (names_reading fits unit value)) values
-
--- what other units the unit names, each list in order: as After=, Before=, Wants=, Requires=, BindsTo=, PartOf= and Conflicts=
-pub record Dependencies : Type 0 where
-  pub after : List (List ℕ)
-  pub before : List (List ℕ)
-  pub wants : List (List ℕ)
-  pub required : List (List ℕ)
-  pub binds_to : List (List ℕ)
-  pub part_of : List (List ℕ)
-  pub conflicts : List (List ℕ)
-  pub default_dependencies : Bool
-
-abbrev pub units_named : List ℕ → List ℕ → List Assigned → List (List ℕ)
-units_named key unit assigned = names_of is_unit_name unit (values_of ((codes "Unit", key) ∷ []) assigned)
-
-unfoldable pub dependencies_of : List ℕ → List Assigned → Dependencies
-dependencies_of unit assigned = record {
-  after = units_named (codes "After") unit assigned;
-  before = units_named (codes "Before") unit assigned;
-  wants = units_named (codes "Wants") unit assigned;
-  required = units_named (codes "Requires") unit assigned;
-  binds_to = units_named (codes "BindsTo") unit assigned;
-  part_of = units_named (codes "PartOf") unit assigned;
-  conflicts = units_named (codes "Conflicts") unit assigned;
-  default_dependencies = last_read boolean_of true ((codes "Unit", codes "DefaultDependencies") ∷ []) assigned;
-}
-
--- what enabling the unit makes
-pub record InstallSettings : Type 0 where
-  pub alias : List (List ℕ)
-  pub wanted_by : List (List ℕ)
-  pub required_by : List (List ℕ)
-  pub also : List (List ℕ)
-  pub default_instance : Option (List ℕ)
-
-abbrev pub nothing_installed : InstallSettings
-nothing_installed = record { alias = []; wanted_by = []; required_by = []; also = []; default_instance = None }
+-- ---- what values say
 
 -- another name of a unit has its suffix
 abbrev pub is_alias_for : List ℕ → List ℕ → Bool
@@ -131,15 +94,6 @@ is_alias_for unit text = is_unit_name text && is_of_same_type unit text
 -- an empty value gives the default back
 abbrev pub default_instance_in : List ℕ → Option (Option (List ℕ))
 default_instance_in value = if is_empty value then Some None else option_map Some (instance_in value)
-
-unfoldable pub install_settings_of : List ℕ → List Assigned → InstallSettings
-install_settings_of unit assigned = record {
-  alias = names_of (is_alias_for unit) unit (since_empty (codes "Install", codes "Alias") assigned);
-  wanted_by = names_of is_unit_name unit (since_empty (codes "Install", codes "WantedBy") assigned);
-  required_by = names_of is_unit_name unit (since_empty (codes "Install", codes "RequiredBy") assigned);
-  also = names_of is_unit_name unit (values_of ((codes "Install", codes "Also") ∷ []) assigned);
-  default_instance = last_read default_instance_in None ((codes "Install", codes "DefaultInstance") ∷ []) assigned;
-}
 
 -- what Type= says: a type that is served, or one that isn't; any other word can't be read
 pub data TypeSaid : Type 0 where
@@ -154,9 +108,99 @@ type_said value =
     (codes "simple", Served Simple) ∷ (codes "exec", Served Exec) ∷ (codes "oneshot", Served Oneshot) ∷ (codes "notify", Unserved)
     ∷ (codes "notify-reload", Unserved) ∷ (codes "dbus", Unserved) ∷ (codes "forking", Unserved) ∷ (codes "idle", Unserved) ∷ [])
 
+-- what a value of this kind may say: of a list of names, one of its words
+abbrev pub Said : ValueKind → Type 0
+Said kinds.Instance = Option (List ℕ)
+Said kinds.Truth = Bool
+Said kinds.Span = Option ℕ
+Said kinds.Number = ℕ
+Said kinds.Commands = List Command
+Said kinds.Environment = List Variable
+Said kinds.Exits = End → Bool
+Said kinds.Policy = RestartPolicy
+Said kinds.ServiceType = TypeSaid
+Said other = List ℕ
+
+-- what a value of this kind says under a unit's name, or the warning that it gives: a list of names word by word; others say one thing, or
+-- nothing at all
+abbrev pub value_readings : List ℕ → (k : ValueKind) → List ℕ → List (Result (Said k) WarningKind)
+value_readings unit kinds.Text value = text_reading unit value ∷ []
+value_readings unit kinds.Units value = names_reading is_unit_name unit value
+value_readings unit kinds.Aliases value = names_reading (is_alias_for unit) unit value
+value_readings unit kinds.Instance value = ok_or (default_instance_in value) UnreadableValue ∷ []
+value_readings unit kinds.Truth value = ok_or (boolean_of value) UnreadableValue ∷ []
+value_readings unit kinds.Span value = ok_or (span_of value) UnreadableValue ∷ []
+value_readings unit kinds.Number value = ok_or (number_of value) UnreadableValue ∷ []
+value_readings unit kinds.Commands value = commands_reading unit value ∷ []
+value_readings unit kinds.Environment value = environment_reading unit value ∷ []
+value_readings unit kinds.Exits value = ok_or (exits_of value) UnreadableValue ∷ []
+value_readings unit kinds.Policy value = ok_or (policy_named value) UnreadableValue ∷ []
+value_readings unit kinds.ServiceType value = ok_or (type_said value) UnreadableValue ∷ []
+value_readings unit other value = []
+
+-- all that these values say, in order
+abbrev pub all_said : List ℕ → (k : ValueKind) → List (List ℕ) → List (Said k)
+all_said unit k values = flat_map (λ value. filter_map result_ok (value_readings unit k value)) values
+
+-- the first warning that a value gives
+unfoldable pub value_warning : List ℕ → ValueKind → List ℕ → Option WarningKind
+value_warning unit k value = result_err (all_read (value_readings unit k value))
+
+-- ---- settings, each by its own rule over the one list of assignments
+
+-- a single value: of all assignments to these keys the last that can be read, or the default
+abbrev pub last_said : List ℕ → (k : ValueKind) → Said k → List Key → List Assigned → Said k
+last_said unit k default keys assigned = fold (λ earlier value. value) default (all_said unit k (values_of keys assigned))
+
+-- what other units the unit names, each list in order: as After=, Before=, Wants=, Requires=, BindsTo=, PartOf= and Conflicts=
+pub record Dependencies : Type 0 where
+  pub after : List (List ℕ)
+  pub before : List (List ℕ)
+  pub wants : List (List ℕ)
+  pub required : List (List ℕ)
+  pub binds_to : List (List ℕ)
+  pub part_of : List (List ℕ)
+  pub conflicts : List (List ℕ)
+  pub default_dependencies : Bool
+
+abbrev pub units_named : List ℕ → List ℕ → List Assigned → List (List ℕ)
+units_named key unit assigned = all_said unit kinds.Units (values_of ((codes "Unit", key) ∷ []) assigned)
+
+unfoldable pub dependencies_of : List ℕ → List Assigned → Dependencies
+dependencies_of unit assigned = record {
+  after = units_named (codes "After") unit assigned;
+  before = units_named (codes "Before") unit assigned;
+  wants = units_named (codes "Wants") unit assigned;
+  required = units_named (codes "Requires") unit assigned;
+  binds_to = units_named (codes "BindsTo") unit assigned;
+  part_of = units_named (codes "PartOf") unit assigned;
+  conflicts = units_named (codes "Conflicts") unit assigned;
+  default_dependencies = last_said unit kinds.Truth true ((codes "Unit", codes "DefaultDependencies") ∷ []) assigned;
+}
+
+-- what enabling the unit makes
+pub record InstallSettings : Type 0 where
+  pub alias : List (List ℕ)
+  pub wanted_by : List (List ℕ)
+  pub required_by : List (List ℕ)
+  pub also : List (List ℕ)
+  pub default_instance : Option (List ℕ)
+
+abbrev pub nothing_installed : InstallSettings
+nothing_installed = record { alias = []; wanted_by = []; required_by = []; also = []; default_instance = None }
+
+unfoldable pub install_settings_of : List ℕ → List Assigned → InstallSettings
+install_settings_of unit assigned = record {
+  alias = all_said unit kinds.Aliases (since_empty (codes "Install", codes "Alias") assigned);
+  wanted_by = all_said unit kinds.Units (since_empty (codes "Install", codes "WantedBy") assigned);
+  required_by = all_said unit kinds.Units (since_empty (codes "Install", codes "RequiredBy") assigned);
+  also = all_said unit kinds.Units (values_of ((codes "Install", codes "Also") ∷ []) assigned);
+  default_instance = last_said unit kinds.Instance None ((codes "Install", codes "DefaultInstance") ∷ []) assigned;
+}
+
 -- Type= of the unit
-abbrev pub type_of : List Assigned → TypeSaid
-type_of assigned = last_read type_said Unsaid ((codes "Service", codes "Type") ∷ []) assigned
+abbrev pub type_of : List ℕ → List Assigned → TypeSaid
+type_of unit assigned = last_said unit kinds.ServiceType Unsaid ((codes "Service", codes "Type") ∷ []) assigned
 
 -- simple where nothing is said and a command is left, oneshot where neither is given
 abbrev pub kind_by : TypeSaid → List Command → UnitKind
@@ -164,17 +208,17 @@ kind_by Unsaid start = if is_empty start then Oneshot else Simple
 kind_by (Served kind) start = kind
 kind_by Unserved start = Simple
 
--- all that the values of a list in [Service] say, but for those that can't be read
-abbrev pub all_said : {A : Type 0} → (List ℕ → Result (List A) WarningKind) → List ℕ → List Assigned → List A
-all_said read key assigned = flat_map (λ value. result_unwrap_or (read value) []) (since_empty (codes "Service", key) assigned)
+-- all that the values of a setting of [Service] say, behind the last empty one
+abbrev pub service_said : List ℕ → (k : ValueKind) → List ℕ → List Assigned → List (Said k)
+service_said unit k key assigned = all_said unit k (since_empty (codes "Service", key) assigned)
 
--- the ends that the setting's values tell
-abbrev pub exits_in : List ℕ → List Assigned → End → Bool
-exits_in key assigned end = list_any (λ set. set end) (filter_map exits_of (since_empty (codes "Service", key) assigned))
+-- the ends that one of these sets holds
+abbrev pub any_of : List (End → Bool) → End → Bool
+any_of sets end = list_any (λ set. set end) sets
 
 -- a time-out of 0 never passes
-abbrev pub timeout_said : List ℕ → Option (Option ℕ)
-timeout_said value = option_map (λ span. option_and_then (λ n. if n == 0 then None else Some n) span) (span_of value)
+abbrev pub unless_zero : Option ℕ → Option ℕ
+unless_zero span = option_and_then (λ n. if n == 0 then None else Some n) span
 
 -- of a service: spans are in microseconds, and one that is None never ends
 pub record ServiceSettings : Type 0 where
@@ -218,29 +262,32 @@ abbrev pub service_settings_with : List Command → UnitKind → List ℕ → Li
 service_settings_with start kind unit assigned = record {
   kind = kind;
   start = start;
-  stop = all_said (commands_reading unit) (codes "ExecStop") assigned;
-  environment = all_said (environment_reading unit) (codes "Environment") assigned;
-  remains = last_read boolean_of false ((codes "Service", codes "RemainAfterExit") ∷ []) assigned;
-  restart = last_read policy_named No ((codes "Service", codes "Restart") ∷ []) assigned;
-  restart_delay = last_read span_of (Some default_restart_delay) ((codes "Service", codes "RestartSec") ∷ []) assigned;
+  stop = flat_map (λ said. said) (service_said unit kinds.Commands (codes "ExecStop") assigned);
+  environment = flat_map (λ said. said) (service_said unit kinds.Environment (codes "Environment") assigned);
+  remains = last_said unit kinds.Truth false ((codes "Service", codes "RemainAfterExit") ∷ []) assigned;
+  restart = last_said unit kinds.Policy No ((codes "Service", codes "Restart") ∷ []) assigned;
+  restart_delay = last_said unit kinds.Span (Some default_restart_delay) ((codes "Service", codes "RestartSec") ∷ []) assigned;
   timeout_start =
-      last_read timeout_said (default_timeout_start kind) ((codes "Service", codes "TimeoutStartSec") ∷ (codes "Service", codes "TimeoutSec") ∷ []) assigned;
+      unless_zero
+      (last_said unit kinds.Span (default_timeout_start kind) ((codes "Service", codes "TimeoutStartSec") ∷ (codes "Service", codes "TimeoutSec") ∷ []) assigned);
   timeout_stop =
-      last_read timeout_said (Some default_timeout) ((codes "Service", codes "TimeoutStopSec") ∷ (codes "Service", codes "TimeoutSec") ∷ []) assigned;
+      unless_zero
+      (last_said unit kinds.Span (Some default_timeout) ((codes "Service", codes "TimeoutStopSec") ∷ (codes "Service", codes "TimeoutSec") ∷ []) assigned);
   limit_interval =
-      last_read span_of (Some default_limit_interval)
+      last_said unit kinds.Span (Some default_limit_interval)
       ((codes "Unit", codes "StartLimitIntervalSec") ∷ (codes "Service", codes "StartLimitInterval") ∷ []) assigned;
   limit_burst =
-      last_read number_of default_limit_burst ((codes "Unit", codes "StartLimitBurst") ∷ (codes "Service", codes "StartLimitBurst") ∷ []) assigned;
-  success = exits_in (codes "SuccessExitStatus") assigned;
-  prevents_restart = exits_in (codes "RestartPreventExitStatus") assigned;
-  forces_restart = exits_in (codes "RestartForceExitStatus") assigned;
+      last_said unit kinds.Number default_limit_burst ((codes "Unit", codes "StartLimitBurst") ∷ (codes "Service", codes "StartLimitBurst") ∷ []) assigned;
+  success = any_of (service_said unit kinds.Exits (codes "SuccessExitStatus") assigned);
+  prevents_restart = any_of (service_said unit kinds.Exits (codes "RestartPreventExitStatus") assigned);
+  forces_restart = any_of (service_said unit kinds.Exits (codes "RestartForceExitStatus") assigned);
 }
 
 -- of a unit that isn't a service, the list has no assignment in [Service]: it is a target in which the limit alone may be set
 unfoldable pub service_settings_of : Option Suffix → List ℕ → List Assigned → ServiceSettings
 service_settings_of (Some Service) unit assigned =
-    let start = all_said (commands_reading unit) (codes "ExecStart") assigned in service_settings_with start (kind_by (type_of assigned) start) unit assigned
+    let start = flat_map (λ said. said) (service_said unit kinds.Commands (codes "ExecStart") assigned) in
+    service_settings_with start (kind_by (type_of unit assigned) start) unit assigned
 service_settings_of other unit assigned = service_settings_with [] Target unit assigned
 
 -- what a unit's files set: its description, what other units it names, what it says of its processes, and what enabling it makes
@@ -252,7 +299,7 @@ pub record Settings : Type 0 where
 
 abbrev pub settings_of : List ℕ → List Assigned → Settings
 settings_of unit assigned = record {
-  description = last_read (λ value. result_ok (text_reading unit value)) [] ((codes "Unit", codes "Description") ∷ []) assigned;
+  description = last_said unit kinds.Text [] ((codes "Unit", codes "Description") ∷ []) assigned;
   dependencies = dependencies_of unit assigned;
   service = service_settings_of (suffix_of unit) unit assigned;
   install = install_settings_of unit assigned;
@@ -281,39 +328,21 @@ refused_service other said s = None
 -- the first reason why a unit can't be loaded
 abbrev pub reason_of : List ℕ → List Assigned → Option (List ℕ)
 reason_of unit assigned =
-    option_or (refused_setting assigned) (refused_service (suffix_of unit) (type_of assigned) (service_settings_of (suffix_of unit) unit assigned))
+    option_or (refused_setting assigned) (refused_service (suffix_of unit) (type_of unit assigned) (service_settings_of (suffix_of unit) unit assigned))
 
 -- ---- warnings
-
--- the warning that a value of this kind gives
-unfoldable pub value_warning : List ℕ → ValueKind → List ℕ → Option WarningKind
-value_warning unit kind.Text value = result_err (text_reading unit value)
-value_warning unit kind.Units value = result_err (all_read (names_reading is_unit_name unit value))
-value_warning unit kind.Aliases value = result_err (all_read (names_reading (is_alias_for unit) unit value))
-value_warning unit kind.Instance value = result_err (ok_or (instance_in value) UnreadableValue)
-value_warning unit kind.Truth value = result_err (ok_or (boolean_of value) UnreadableValue)
-value_warning unit kind.Span value = result_err (ok_or (span_of value) UnreadableValue)
-value_warning unit kind.Number value = result_err (ok_or (number_of value) UnreadableValue)
-value_warning unit kind.Commands value = result_err (commands_reading unit value)
-value_warning unit kind.Environment value = result_err (environment_reading unit value)
-value_warning unit kind.Exits value = result_err (ok_or (exits_of value) UnreadableValue)
-value_warning unit kind.Policy value = result_err (ok_or (policy_named value) UnreadableValue)
-value_warning unit kind.ServiceType value = result_err (ok_or (type_said value) UnreadableValue)
-value_warning unit other value = None
 
 -- an assignment in a known section: an unknown key, unless it is foreign, or a value that can't be read
 abbrev pub assignment_warning : List ℕ → List ℕ → List ℕ → List ℕ → Option WarningKind
 assignment_warning unit section key value =
     if is_foreign key then None else option_map_or (λ kind. value_warning unit kind value) (kind_of_key section key) (Some UnknownKey)
 
--- the warning that an item gives in a file of this unit: the head of a section that isn't known, unless that is foreign; of what stands in
--- such a section nothing gives one
+-- the warning that an item gives in a file of this unit: the head of a section that isn't known, unless that is foreign
 abbrev pub warning_of : List ℕ → Option (List ℕ) → Item → Option WarningKind
 warning_of unit section (Section name line) = if is_known_section (suffix_of unit) name || is_foreign name then None else Some UnknownSection
+warning_of unit (Some s) (Assignment k v line whole) = assignment_warning unit s k v
 warning_of unit None (Assignment k v line whole) = None
-warning_of unit (Some s) (Assignment k v line whole) = if is_known_section (suffix_of unit) s then assignment_warning unit s k v else None
-warning_of unit None (Warned warning line) = Some warning
-warning_of unit (Some s) (Warned warning line) = if is_known_section (suffix_of unit) s then Some warning else None
+warning_of unit section (Warned warning line) = Some warning
 
 -- a warning of a unit: its kind, the path of the file and the line
 pub record Warning : Type 0 where
@@ -324,7 +353,8 @@ pub record Warning : Type 0 where
 -- the warnings of a file, by line
 abbrev pub warnings_in : List ℕ → Source → List Warning
 warnings_in unit s =
-    flat_map (λ p. option_map_or (λ w. record { kind = w; path = s.path; line = line_number p.item } ∷ []) (warning_of unit p.section p.item) []) s.reading
+    flat_map (λ p. option_map_or (λ w. record { kind = w; path = s.path; line = line_number p.item } ∷ []) (warning_of unit p.section p.item) [])
+    (heard_in (suffix_of unit) s)
 
 -- ---- loading
 
