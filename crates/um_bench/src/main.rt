@@ -7,7 +7,7 @@
 mod line;
 mod made;
 
-use line::{Deed, Line, read_line};
+use line::{Task, Line, read_line};
 use made::state_with;
 use std::alloc::{AllocError, Global};
 use std::env;
@@ -40,9 +40,9 @@ fn read_times(alloc: Global, bytes: &[u8], times: u32) -> Result<u64, AllocError
 /// Does what the line asks for, and gives the count of bytes; None where the state can't be made.
 fn measured(alloc: Global, line: &Line) -> Option<u64> {
     let state = state_with(alloc, line.files, line.units).ok()?;
-    match line.deed {
-        Deed::Write => write_times(alloc, &state, line.times).ok(),
-        Deed::Read => {
+    match line.task {
+        Task::Write => write_times(alloc, &state, line.times).ok(),
+        Task::Read => {
             let mut bytes = Vec::new(alloc);
             state.put(&mut bytes).ok()?;
             read_times(alloc, bytes.as_slice(), line.times).ok()

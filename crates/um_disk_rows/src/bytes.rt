@@ -254,7 +254,7 @@ fn a_unit_is_its_fields_in_order(rt: HostRuntime) {
         index: 2,
         deadline: Deadline::new(7),
         window: Some(Counted { began, count: 3 }),
-        asked: true,
+        stop_asked: true,
         last: Some(End::Signal(15)),
     };
     is_spelled(&rt, &unit, UNIT);

@@ -154,7 +154,7 @@ fn stops() -> UnitState {
         sub: SubState::Stop,
         control: ProcessNumber::new(4),
         deadline: Deadline::new(1_200_000),
-        asked: true,
+        stop_asked: true,
         ..UnitState::DEAD
     }
 }
@@ -162,7 +162,7 @@ fn stops() -> UnitState {
 /// A unit that was told to end.
 fn terminated() -> UnitState {
     UnitState {
-        asked: true,
+        stop_asked: true,
         ..lives(SubState::StopSigterm, UnitResult::Timeout, 3)
     }
 }

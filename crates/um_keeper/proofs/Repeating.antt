@@ -134,7 +134,7 @@ repeats_none (goes {s = s} {t = t} reply actions step run) = (waits, repeats_non
     waits : (unit : List ℕ) → Finishes s t unit → (jobs_of_unit t.pending unit).start ≡ None → WaitsForCommand unit run
     waits unit finishes none =
         let o = state_of_unit t.units unit in
-        run_waits unit run (record { none = none; rests = finished_rests o.sub (is_success o.result) o.asked finishes.finished })
+        run_waits unit run (record { none = none; rests = finished_rests o.sub (is_success o.result) o.stop_asked finishes.finished })
 
 -- nor does the one run over all that was kept of any lives
 pub lives_repeat_none : (layout : Layout) (first last : Image) (all : List Life) (s : State) → IsStoreOf layout first s → Lived layout first all last

@@ -83,19 +83,19 @@ module _ (s : ServiceSettings) (c : Around) where
   unasked true waits wanted is = refl
   unasked false waits wanted is = absurd (true≢false (sym is))
 
-  rests_down : (u : UnitState) → u.asked ≡ true → IsDown (rests s c u)
+  rests_down : (u : UnitState) → u.stop_asked ≡ true → IsDown (rests s c u)
   rests_down u is =
-      ap (λ b. goes_at (cond b (waits_to_restart s c u) (rests_for_good u)).unit.sub) (unasked u.asked c.stop_waits (is_restart_wanted s u) is) ∙ resting_down (is_success u.result)
+      ap (λ b. goes_at (cond b (waits_to_restart s c u) (rests_for_good u)).unit.sub) (unasked u.stop_asked c.stop_waits (is_restart_wanted s u) is) ∙ resting_down (is_success u.result)
 
-  terminates_down : (u : UnitState) → u.asked ≡ true → IsDown (terminates s c u)
+  terminates_down : (u : UnitState) → u.stop_asked ≡ true → IsDown (terminates s c u)
   terminates_down u is = either_down (is_live u) _ (rests s c u) refl (rests_down u is)
 
-  stop_command_down : (u : UnitState) (i : ℕ) → u.asked ≡ true → IsDown (stop_command s c u i)
+  stop_command_down : (u : UnitState) (i : ℕ) → u.stop_asked ≡ true → IsDown (stop_command s c u i)
   stop_command_down u i is =
       let without : UnitState = record u { result = Resources; index = i } in
       either_down (has_number c) _ (terminates s c without) refl (terminates_down without is)
 
-  winds_down_down : (u : UnitState) → u.asked ≡ true → IsDown (winds_down s c u 0)
+  winds_down_down : (u : UnitState) → u.stop_asked ≡ true → IsDown (winds_down s c u 0)
   winds_down_down u is = either_down (has_place s.stop 0) (stop_command s c u 0) (terminates s c u) (stop_command_down u 0 is) (terminates_down u is)
 
   stop_down : (u : UnitState) (sub : SubState) → goes_at sub ≡ true → IsDown (row s c u (active_state_of sub) sub StopBegins)

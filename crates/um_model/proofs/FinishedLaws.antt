@@ -43,7 +43,7 @@ use Rattle.um_model.proofs.UnitLaws.{state_here, state_apart, jobs_apart}
 
 -- it is down or done
 abbrev Rests : UnitState → Type 0
-Rests u = is_down_or_done u.sub u.asked ≡ true
+Rests u = is_down_or_done u.sub u.stop_asked ≡ true
 
 resting_rests : (well asked : Bool) → is_down_or_done (cond well Dead Failed) asked ≡ true
 resting_rests true asked = refl
@@ -53,7 +53,7 @@ forgiven_rests : (failed : Bool) (sub : SubState) (asked : Bool) → is_down_or_
 forgiven_rests true sub asked h = refl
 forgiven_rests false sub asked h = h
 
-noted_asked : (w : UnitState) (e : End) (clean : Bool) → (noted w e clean).asked ≡ w.asked
+noted_asked : (w : UnitState) (e : End) (clean : Bool) → (noted w e clean).stop_asked ≡ w.stop_asked
 noted_asked w e true = refl
 noted_asked w e false = refl
 
@@ -66,33 +66,33 @@ module _ (s : ServiceSettings) (c : Around) where
   abbrev Leaves : Change → Type 0
   Leaves v = Rests v.unit
 
-  rests_rests : (w : UnitState) → w.asked ≡ true → Leaves (rests s c w)
+  rests_rests : (w : UnitState) → w.stop_asked ≡ true → Leaves (rests s c w)
   rests_rests w is =
       subst (λ b. Leaves (cond (not b && not c.stop_waits && is_restart_wanted s w) (table.waits_to_restart s c w) (rests_for_good w))) (sym is)
-      (resting_rests (is_success w.result) w.asked)
+      (resting_rests (is_success w.result) w.stop_asked)
 
-  terminates_rests : (w : UnitState) → w.asked ≡ true → Leaves (terminates s c w)
+  terminates_rests : (w : UnitState) → w.stop_asked ≡ true → Leaves (terminates s c w)
   terminates_rests w is =
       by_cond Leaves (is_live w) (asking (Signal Term) (just (record w { sub = StopSigterm; deadline = deadline_after c.moment s.timeout_stop }))) (rests s c w)
       (λ e. is) (λ e. rests_rests w is)
 
-  stop_command_rests : (w : UnitState) (i : ℕ) → w.asked ≡ true → Leaves (stop_command s c w i)
+  stop_command_rests : (w : UnitState) (i : ℕ) → w.stop_asked ≡ true → Leaves (stop_command s c w i)
   stop_command_rests w i is =
       by_cond Leaves (has_number c)
       (asking (Spawn OfStop i) (just (record w { sub = Stop; control = Some c.next; index = i; deadline = deadline_after c.moment s.timeout_stop })))
       (terminates s c (record w { result = result.Resources; index = i }))
       (λ e. is) (λ e. terminates_rests (record w { result = result.Resources; index = i }) is)
 
-  winds_down_rests : (w : UnitState) (i : ℕ) → w.asked ≡ true → Leaves (winds_down s c w i)
+  winds_down_rests : (w : UnitState) (i : ℕ) → w.stop_asked ≡ true → Leaves (winds_down s c w i)
   winds_down_rests w i is = by_cond Leaves (has_place s.stop i) (stop_command s c w i) (terminates s c w) (λ e. stop_command_rests w i is) (λ e. terminates_rests w is)
 
-  unless_live_rests : (w : UnitState) → Rests w → w.asked ≡ true → Leaves (rests_unless_live s c w)
+  unless_live_rests : (w : UnitState) → Rests w → w.stop_asked ≡ true → Leaves (rests_unless_live s c w)
   unless_live_rests w h is = by_cond Leaves (is_live w) (just w) (rests s c w) (λ e. h) (λ e. rests_rests w is)
 
-  main_asked : (u : UnitState) (e : End) → u.asked ≡ true → (without_main s u e).asked ≡ true
+  main_asked : (u : UnitState) (e : End) → u.stop_asked ≡ true → (without_main s u e).stop_asked ≡ true
   main_asked u e is = noted_asked (record u { main = None; last = Some e }) e (is_clean s u Main e) ∙ is
 
-  control_asked : (u : UnitState) (e : End) → u.asked ≡ true → (without_control s u e).asked ≡ true
+  control_asked : (u : UnitState) (e : End) → u.stop_asked ≡ true → (without_control s u e).stop_asked ≡ true
   control_asked u e is = noted_asked (record u { control = None }) e (is_clean s u Control e) ∙ is
 
   main_rests : (u : UnitState) (e : End) → Rests u → Rests (without_main s u e)
@@ -102,13 +102,13 @@ module _ (s : ServiceSettings) (c : Around) where
   control_rests u e h = noted_rests (record u { control = None }) e (is_clean s u Control e) h
 
   -- in this sub state the unit is down or done
-  there : (sub : SubState) (u : UnitState) → u.sub ≡ sub → is_down_or_done sub u.asked ≡ true → Rests u
-  there sub u is h = subst (λ x. is_down_or_done x u.asked ≡ true) (sym is) h
+  there : (sub : SubState) (u : UnitState) → u.sub ≡ sub → is_down_or_done sub u.stop_asked ≡ true → Rests u
+  there sub u is h = subst (λ x. is_down_or_done x u.stop_asked ≡ true) (sym is) h
 
-  row_rests : (sub : SubState) (event : UnitEvent) (u : UnitState) → u.sub ≡ sub → is_down_or_done sub u.asked ≡ true → event ≢ StartBegins
+  row_rests : (sub : SubState) (event : UnitEvent) (u : UnitState) → u.sub ≡ sub → is_down_or_done sub u.stop_asked ≡ true → event ≢ StartBegins
       → Leaves (row s c u (active_state_of sub) sub event)
   row_rests sub StartBegins u is h isnt = absurd (isnt refl)
-  row_rests sub Reset u is h isnt = forgiven_rests (is_failed u.sub) u.sub u.asked (there sub u is h)
+  row_rests sub Reset u is h isnt = forgiven_rests (is_failed u.sub) u.sub u.stop_asked (there sub u is h)
   row_rests Start event u is h isnt = absurd (true≢false (sym h))
   row_rests Running event u is h isnt = absurd (true≢false (sym h))
   row_rests AutoRestart event u is h isnt = absurd (true≢false (sym h))
@@ -127,7 +127,7 @@ module _ (s : ServiceSettings) (c : Around) where
   row_rests StopSigkill (MainEnds e) u is h isnt = unless_live_rests (without_main s u e) (main_rests u e (there StopSigkill u is h)) (main_asked u e h)
   row_rests StopSigkill (ControlEnds e) u is h isnt = unless_live_rests (without_control s u e) (control_rests u e (there StopSigkill u is h)) (control_asked u e h)
   row_rests StopSigterm DeadlinePasses u is h isnt = h
-  row_rests StopSigkill DeadlinePasses u is h isnt = resting_rests (is_success (timed_out u).result) u.asked
+  row_rests StopSigkill DeadlinePasses u is h isnt = resting_rests (is_success (timed_out u).result) u.stop_asked
   row_rests sub event u is h isnt = there sub u is h
 
   stop_apart : StopBegins ≡ StartBegins → ⊥
@@ -239,7 +239,7 @@ module _ (x : List ℕ) where
     where
       apart : x ≢ unit
       apart same =
-          waits_apart (state_of_unit s.units x).sub (state_of_unit s.units x).asked (subst (λ q. (state_of_unit s.units q).sub ≡ AutoRestart) (sym same) awaits)
+          waits_apart (state_of_unit s.units x).sub (state_of_unit s.units x).stop_asked (subst (λ q. (state_of_unit s.units q).sub ≡ AutoRestart) (sym same) awaits)
           rest.rests
 
   deadline_apart : DeadlinePasses ≡ StartBegins → ⊥
@@ -267,7 +267,7 @@ module _ (x : List ℕ) where
   booted_rest : (boot : List ℕ) (s : State) → AtRest (booted boot s)
   booted_rest boot s = record {
     none = ap (λ o. (unwrap_or o no_jobs).start) (map.get-empty (slice_cmp nat_cmp) x);
-    rests = ap (λ o. is_down_or_done (unwrap_or o dead_unit).sub (unwrap_or o dead_unit).asked) (map.get-empty (slice_cmp nat_cmp) x);
+    rests = ap (λ o. is_down_or_done (unwrap_or o dead_unit).sub (unwrap_or o dead_unit).stop_asked) (map.get-empty (slice_cmp nat_cmp) x);
   }
 
   pub follows_rest : (t : ℕ) (s : State) (happening : Happening) (actions : List Action) (v : State) → Follows t s happening actions v → AtRest s → AtRest v
@@ -342,4 +342,4 @@ pub not_repeated : (size : ℕ) (s t u : State) (unit : List ℕ) (input : Input
     → IsAtRest u unit
 not_repeated size s t u unit input inputs reply actions step finishes none run puts =
     let o = state_of_unit t.units unit in
-    run_rests unit size t u inputs run puts (record { none = none; rests = finished_rests o.sub (is_success o.result) o.asked finishes.finished })
+    run_rests unit size t u inputs run puts (record { none = none; rests = finished_rests o.sub (is_success o.result) o.stop_asked finishes.finished })

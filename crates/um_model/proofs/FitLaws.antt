@@ -78,7 +78,7 @@ module _ (s : ServiceSettings) (c : Around) where
       (λ e. first_command_fits w) (λ e. ended (just (record w { sub = Exited; deadline = None })))
 
   starts_if_fits : (through : Bool) (window : Option Counted) (w : UnitState) → StartFits (starts_if through window s c w)
-  starts_if_fits true window w = start_of_fits s.kind (record w { result = result.Success; asked = false; index = 0; last = None; window = window })
+  starts_if_fits true window w = start_of_fits s.kind (record w { result = result.Success; stop_asked = false; index = 0; last = None; window = window })
   starts_if_fits false window w = failed (just (record w { sub = Failed; result = result.StartLimitHit; deadline = None }))
 
   starts_fits : (w : UnitState) → StartFits (starts s c w)
@@ -160,7 +160,7 @@ module _ (s : ServiceSettings) (c : Around) where
   -- ---- stop jobs
 
   rests_fits : (w : UnitState) → StopFits (rests s c w)
-  rests_fits w = by_cond StopFits (not w.asked && not c.stop_waits && is_restart_wanted s w) (waits_to_restart s c w) (rests_for_good w)
+  rests_fits w = by_cond StopFits (not w.stop_asked && not c.stop_waits && is_restart_wanted s w) (waits_to_restart s c w) (rests_for_good w)
       (λ e h. absurd (true≢false h)) (λ e h. absurd (true≢false h))
 
   terminates_fits : (w : UnitState) → StopFits (terminates s c w)

@@ -191,7 +191,7 @@ module _ (s : ServiceSettings) (c : Around) (low : AreLow s) (early : c.moment �
   rests_for_good_good w g = record { index_low = g.index_low; deadline_low = tt; window_low = g.window_low; last_low = g.last_low; apart = none_apart None }
 
   rests_good : (w : UnitState) → Good w → Leaves (rests s c w)
-  rests_good w g = by_cond Leaves (not w.asked && not c.stop_waits && is_restart_wanted s w) (waits_to_restart s c w) (rests_for_good w)
+  rests_good w g = by_cond Leaves (not w.stop_asked && not c.stop_waits && is_restart_wanted s w) (waits_to_restart s c w) (rests_for_good w)
       (λ e. record { index_low = g.index_low; deadline_low = deadline_fits s.restart_delay low.delay; window_low = g.window_low; last_low = g.last_low; apart = none_apart None })
       (λ e. rests_for_good_good w g)
 
@@ -255,7 +255,7 @@ module _ (s : ServiceSettings) (c : Around) (low : AreLow s) (early : c.moment �
 
   starts_if_good : (through : Bool) (window : Option Counted) (w : UnitState) → IsLowWindow window → Good w → Below w → Leaves (starts_if through window s c w)
   starts_if_good true window w fits g below =
-      start_of_good s.kind (record w { result = result.Success; asked = false; index = 0; last = None; window = window })
+      start_of_good s.kind (record w { result = result.Success; stop_asked = false; index = 0; last = None; window = window })
       (record { index_low = omega arith; deadline_low = g.deadline_low; window_low = fits; last_low = tt; apart = g.apart }) below
   starts_if_good false window w fits g below = without_deadline w g
 

@@ -84,16 +84,6 @@ asked_in asked = option_to_list asked
 abbrev pub numbers : Option ℕ → List ℕ
 numbers number = option_to_list number
 
--- nothing is held of a unit's processes, of moments, and of what was
-abbrev pub has_no_process : UnitState → Bool
-has_no_process u = is_none u.main && is_none u.control
-
-abbrev pub has_no_moment : UnitState → Bool
-has_no_moment u = is_none u.deadline && is_none u.window
-
-abbrev pub has_no_past : UnitState → Bool
-has_no_past u = u.index == 0 && not u.asked && is_none u.last
-
 -- with a job of this kind running
 abbrev pub with_running : JobKind → UnitJobs → UnitJobs
 with_running kind j = with_job kind Running j

@@ -118,12 +118,12 @@ one_stream stream f g d e (frame {rest = r} {bytes = x} {frames = fs} b h) (fram
 
 -- ---- a reading of each stream
 
-abbrev Reading : List ℕ → Type 0
-Reading stream = (frames : List (List ℕ)) × (ending : Ending) × IsStream stream frames ending
+abbrev StreamRead : List ℕ → Type 0
+StreamRead stream = (frames : List (List ℕ)) × (ending : Ending) × IsStream stream frames ending
 
 -- behind a length that is within the limit
 body_read : (stream header rest : List ℕ) (size : ℕ) → length header ≡ 4 → big_number 4 header ≡ size → size ≤ frame_limit → stream ≡ header ++ rest
-    → ((more : List ℕ) → length more ≤ length rest → Reading more) → (length rest < size) ⊎ (size ≤ length rest) → Reading stream
+    → ((more : List ℕ) → length more ≤ length rest → StreamRead more) → (length rest < size) ⊎ (size ≤ length rest) → StreamRead stream
 body_read stream header rest size four is low whole read (inl few) =
     ([], Inside, ends (in_body header rest four (subst (λ n. n ≤ frame_limit) (sym is) low) (subst (λ n. length rest < n) (sym is) few) whole))
 body_read stream header rest size four is low whole read (inr many) =
@@ -141,14 +141,14 @@ body_read stream header rest size four is low whole read (inr many) =
     )
 
 behind_length : (stream header rest : List ℕ) (size : ℕ) → length header ≡ 4 → big_number 4 header ≡ size → stream ≡ header ++ rest
-    → ((more : List ℕ) → length more ≤ length rest → Reading more) → (frame_limit < size) ⊎ (size ≤ frame_limit) → Reading stream
+    → ((more : List ℕ) → length more ≤ length rest → StreamRead more) → (frame_limit < size) ⊎ (size ≤ frame_limit) → StreamRead stream
 behind_length stream header rest size four is whole read (inl long) =
     ([], TooLong, ends (record { header = header; rest = rest; four = four; long = subst (λ n. frame_limit < n) (sym is) long; whole = whole }))
 behind_length stream header rest size four is whole read (inr low) = body_read stream header rest size four is low whole read (cases_lt (length rest) size)
 
 -- at least a length and what stands behind it
-past_header : (n : ℕ) (stream : List ℕ) → length stream ≤ suc n → ((more : List ℕ) → length more ≤ n → Reading more)
-    → 0 < length stream → (length stream < 4) ⊎ (4 ≤ length stream) → Reading stream
+past_header : (n : ℕ) (stream : List ℕ) → length stream ≤ suc n → ((more : List ℕ) → length more ≤ n → StreamRead more)
+    → 0 < length stream → (length stream < 4) ⊎ (4 ≤ length stream) → StreamRead stream
 past_header n stream h read some (inl few) = ([], Inside, ends (in_header some few))
 past_header n stream h read some (inr many) =
     let rest = drop 4 stream in
@@ -156,7 +156,7 @@ past_header n stream h read some (inr many) =
     behind_length stream (take 4 stream) rest (big_number 4 (take 4 stream)) (length-take-le 4 stream many) refl (sym (take-append-drop 4 stream))
     (λ more small. read more (omega arith)) (cases_lt frame_limit (big_number 4 (take 4 stream)))
 
-read_within : (n : ℕ) (stream : List ℕ) → length stream ≤ n → Reading stream
+read_within : (n : ℕ) (stream : List ℕ) → length stream ≤ n → StreamRead stream
 read_within n [] h = ([], Between, ends refl)
 read_within zero (b ∷ bs) h = absurd (omega arith)
 read_within (suc n) (b ∷ bs) h = past_header n (b ∷ bs) h (read_within n) (omega arith) (cases_lt (length (b ∷ bs)) 4)

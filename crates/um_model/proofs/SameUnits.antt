@@ -67,7 +67,7 @@ same a b t =
     let index_is = (unsigned_Decides a.index b.index).0 index in
     let deadline_is = option_same _ (λ x y. (unsigned_Decides x y).0) a.deadline b.deadline deadline in
     let window_is = option_same _ counted_same a.window b.window window in
-    let asked_is = (booleans_Decides a.asked b.asked).0 asked in
+    let asked_is = (booleans_Decides a.stop_asked b.stop_asked).0 asked in
     let last_is = option_same _ end_same a.last b.last last in
     λ i. record {
       sub = sub_is i;
@@ -77,7 +77,7 @@ same a b t =
       index = index_is i;
       deadline = deadline_is i;
       window = window_is i;
-      asked = asked_is i;
+      stop_asked = asked_is i;
       last = last_is i;
     }
 
@@ -109,7 +109,7 @@ itself a =
     (and_true _ _ (number_refl a.index)
     (and_true _ _ (option_refl (λ x y. x == y) number_refl a.deadline)
     (and_true _ _ (option_refl (λ x y. (counted_eq.ghosts).eq x y) counted_refl a.window)
-    (and_true _ _ ((booleans_Decides a.asked a.asked).1 refl) (option_refl (λ x y. (end_eq.ghosts).eq x y) end_refl a.last))))))))
+    (and_true _ _ ((booleans_Decides a.stop_asked a.stop_asked).1 refl) (option_refl (λ x y. (end_eq.ghosts).eq x y) end_refl a.last))))))))
 
 pub unit_decides : (a b : UnitState) → Decides ((derived.ghosts).eq a b) (a ≡ b)
 unit_decides a b = (same a b, λ e. subst (λ x. (derived.ghosts).eq a x ≡ true) e (itself a))

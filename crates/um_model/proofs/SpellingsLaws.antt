@@ -114,7 +114,7 @@ pub canonical_counted : IsCanonical FitCounted counted_spelling counted_at
 canonical_counted = canonical_as counted_of (λ c. (c.began, c.count)) (λ f. refl) (λ c. refl) (canonical_pair canonical_moment canonical32)
 
 abbrev fields : UnitState → UnitFields
-fields u = (u.sub, (u.result, (u.main, (u.control, (u.index, (u.deadline, (u.window, (u.asked, u.last))))))))
+fields u = (u.sub, (u.result, (u.main, (u.control, (u.index, (u.deadline, (u.window, (u.stop_asked, u.last))))))))
 
 pub canonical_unit : IsCanonical FitUnit unit_spelling unit_at
 canonical_unit =

@@ -86,13 +86,13 @@ two_long a b m n h k = omega (arith, length-append a b)
 unit_long : (u : UnitState) → length (unit_spelling u) ≤ 50
 unit_long u =
     let number : Option ℕ → List ℕ = option_spelling (big_bytes 8) in
-    let last = tagged truth_tag u.asked ++ option_spelling end_spelling u.last in
+    let last = tagged truth_tag u.stop_asked ++ option_spelling end_spelling u.last in
     let window = option_spelling counted_spelling u.window ++ last in
     let deadline = number u.deadline ++ window in
     let index = big_bytes 4 u.index ++ deadline in
     let control = number u.control ++ index in
     let main = number u.main ++ control in
-    let last_long = two_long (tagged truth_tag u.asked) (option_spelling end_spelling u.last) 1 3 (omega arith) (option_long end_spelling 2 end_long u.last) in
+    let last_long = two_long (tagged truth_tag u.stop_asked) (option_spelling end_spelling u.last) 1 3 (omega arith) (option_long end_spelling 2 end_long u.last) in
     let window_long = two_long (option_spelling counted_spelling u.window) last 13 4 (option_long counted_spelling 12 counted_long u.window) last_long in
     let deadline_long = two_long (number u.deadline) window 9 17 (number8_long u.deadline) window_long in
     let index_long = two_long (big_bytes 4 u.index) deadline 4 26 (omega (arith, number_long 4 u.index)) deadline_long in

@@ -101,7 +101,7 @@ module _ (s : ServiceSettings) (c : Around) (Known : ℕ → Type 0) (Held : Typ
   rests_for_good_good w = record { held = λ q. held_at_rest (is_success w.result) (record w { sub = cond (is_success w.result) Dead Failed; main = None; control = None; deadline = None }); fresh = λ n k. inl (none_known n k); below = inl refl }
 
   rests_good : (w : UnitState) → Good (rests s c w)
-  rests_good w = by_cond Good (not w.asked && not c.stop_waits && is_restart_wanted s w) (waits_to_restart s c w) (rests_for_good w)
+  rests_good w = by_cond Good (not w.stop_asked && not c.stop_waits && is_restart_wanted s w) (waits_to_restart s c w) (rests_for_good w)
       (λ e. record { held = λ q. refl; fresh = λ n k. inl (none_known n k); below = inl refl })
       (λ e. rests_for_good_good w)
 
@@ -159,7 +159,7 @@ module _ (s : ServiceSettings) (c : Around) (Known : ℕ → Type 0) (Held : Typ
       (λ e. record { held = λ q. refl; fresh = λ n k. inl (old n k); below = inl refl })
 
   starts_if_good : (through : Bool) (window : Option Counted) (w : UnitState) → Old w → Good (starts_if through window s c w)
-  starts_if_good true window w old = start_of_good s.kind (record w { result = result.Success; asked = false; index = 0; last = None; window = window }) old
+  starts_if_good true window w old = start_of_good s.kind (record w { result = result.Success; stop_asked = false; index = 0; last = None; window = window }) old
   starts_if_good false window w old = record { held = λ q. refl; fresh = λ n k. inl (old n k); below = inl refl }
 
   starts_good : (w : UnitState) → Old w → Good (starts s c w)

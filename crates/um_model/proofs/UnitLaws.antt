@@ -8,7 +8,7 @@ use Rattle.std.specs.FinMap as map
 use Rattle.std.specs.Cmp.Lexicographic.{slice_cmp, nat_list_cmp_total}
 use Rattle.std.specs.Cmp.{eq_by_cmp_equiv}
 use Rattle.std.specs.Ordering.{nat_cmp, eq_by_cmp}
-use Rattle.um_model.specs.Service.{ByUnit, is_dead, is_success, holds_nothing, dead_unit, state_of_unit, with_unit}
+use Rattle.um_model.specs.Service.{ByUnit, holds_nothing, dead_unit, state_of_unit, with_unit}
 use Rattle.um_model.specs.Jobs.{no_jobs, jobs_of_unit, has_job, with_jobs}
 use Rattle.um_model.specs.declared.jobs.UnitJobs.{UnitJobs}
 use Rattle.um_model.specs.declared.service.SubState.{SubState}
@@ -16,54 +16,19 @@ use Rattle.um_model.specs.declared.service.SubState.TheVariants.{Dead}
 use Rattle.um_model.specs.declared.service.UnitResult.{UnitResult}
 use Rattle.um_model.specs.declared.service.UnitResult.TheVariants.{Success}
 use Rattle.um_model.specs.declared.service.UnitState.{UnitState}
-use Rattle.um_model.proofs.Forms.{has_no_process, has_no_moment, has_no_past}
-
-both : (a b : Bool) → (a && b) ≡ true → (a ≡ true) × (b ≡ true)
-both true b h = (refl, h)
-both false b h = absurd (true≢false (sym h))
+use Rattle.um_model.proofs.SameUnits.{unit_decides}
 
 neither : (a b : Bool) → (a || b) ≡ false → (a ≡ false) × (b ≡ false)
 neither true b h = absurd (true≢false h)
 neither false b h = (refl, h)
 
-dead_is : (x : SubState) → is_dead x ≡ true → x ≡ Dead
-dead_is Dead h = refl
-dead_is _ h = absurd (true≢false (sym h))
-
-success_is : (x : UnitResult) → is_success x ≡ true → x ≡ Success
-success_is Success h = refl
-success_is _ h = absurd (true≢false (sym h))
-
 none_is : {A : Type 0} (x : Option A) → is_some x ≡ false → x ≡ None
 none_is None h = refl
 none_is (Some a) h = absurd (true≢false h)
 
-false_is : (b : Bool) → not b ≡ true → b ≡ false
-false_is true h = sym h
-false_is false h = refl
-
 -- a unit of which nothing is held is the dead one
 pub nothing_held : (u : UnitState) → holds_nothing u ≡ true → u ≡ dead_unit
-nothing_held u h =
-    let a = both (is_dead u.sub && is_success u.result && has_no_process u) (has_no_moment u && has_no_past u) h in
-    let b = both (is_dead u.sub && is_success u.result) (has_no_process u) a.0 in
-    let c = both (is_dead u.sub) (is_success u.result) b.0 in
-    let d = both (has_no_moment u) (has_no_past u) a.1 in
-    let e = both (not (is_some u.main)) (not (is_some u.control)) b.1 in
-    let f = both (not (is_some u.deadline)) (not (is_some u.window)) d.0 in
-    let g = both (u.index == 0 && not u.asked) (not (is_some u.last)) d.1 in
-    let k = both (u.index == 0) (not u.asked) g.0 in
-    λ i. record {
-      sub = dead_is u.sub c.0 i;
-      result = success_is u.result c.1 i;
-      main = none_is u.main (false_is (is_some u.main) e.0) i;
-      control = none_is u.control (false_is (is_some u.control) e.1) i;
-      index = (Decides-eqb u.index 0).0 k.0 i;
-      deadline = none_is u.deadline (false_is (is_some u.deadline) f.0) i;
-      window = none_is u.window (false_is (is_some u.window) f.1) i;
-      asked = false_is u.asked k.1 i;
-      last = none_is u.last (false_is (is_some u.last) g.1) i;
-    }
+nothing_held u h = (unit_decides u dead_unit).0 h
 
 -- a unit with no job has none
 pub no_job_held : (j : UnitJobs) → has_job j ≡ false → j ≡ no_jobs

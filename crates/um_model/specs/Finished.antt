@@ -29,19 +29,19 @@ pub record Finishes (s t : State) (unit : List ℕ) : Type 0 where
   pub finished : has_finished (state_of_unit t.units unit) ≡ true
 
 -- dead, failed or exited, or told to stop and not yet there
-abbrev pub is_down_or_done : SubState → (asked : Bool) → Bool
-is_down_or_done Dead asked = true
-is_down_or_done Failed asked = true
-is_down_or_done Exited asked = true
-is_down_or_done Stop asked = asked
-is_down_or_done StopSigterm asked = asked
-is_down_or_done StopSigkill asked = asked
-is_down_or_done other asked = false
+abbrev pub is_down_or_done : SubState → (stop_asked : Bool) → Bool
+is_down_or_done Dead stop_asked = true
+is_down_or_done Failed stop_asked = true
+is_down_or_done Exited stop_asked = true
+is_down_or_done Stop stop_asked = stop_asked
+is_down_or_done StopSigterm stop_asked = stop_asked
+is_down_or_done StopSigkill stop_asked = stop_asked
+is_down_or_done other stop_asked = false
 
 -- the unit isn't on the way to another start: no start job of it is pending, and it neither starts, nor runs, nor waits for a restart
 pub record IsAtRest (s : State) (unit : List ℕ) : Type 0 where
   pub none : (jobs_of_unit s.pending unit).start ≡ None
-  pub rests : is_down_or_done (state_of_unit s.units unit).sub (state_of_unit s.units unit).asked ≡ true
+  pub rests : is_down_or_done (state_of_unit s.units unit).sub (state_of_unit s.units unit).stop_asked ≡ true
 
 -- a command in the list, which is taken from this state on, isn't refused and puts a start of the unit
 pub data PutsStart (size : ℕ) (unit : List ℕ) : State → List Input → Type 0 where

@@ -13,6 +13,7 @@ use Rattle.um_model.specs.declared.service.ActiveState.TheVariants as active
 use Rattle.um_model.specs.declared.service.UnitResult.{UnitResult}
 use Rattle.um_model.specs.declared.service.UnitResult.TheVariants as result
 use Rattle.um_model.specs.declared.service.Signal.{Signal}
+use Rattle.um_model.specs.contracts.service.UnitStatePartialEq.TheImpl as unit_state
 use Rattle.um_model.specs.declared.service.UnitState.{UnitState}
 
 -- the word for a sub state
@@ -61,7 +62,7 @@ result_text result.Resources = codes "resources"
 
 -- a unit of which the state holds nothing
 abbrev pub dead_unit : UnitState
-dead_unit = record { sub = Dead; result = result.Success; main = None; control = None; index = 0; deadline = None; window = None; asked = false; last = None }
+dead_unit = record { sub = Dead; result = result.Success; main = None; control = None; index = 0; deadline = None; window = None; stop_asked = false; last = None }
 
 abbrev pub is_dead : SubState → Bool
 is_dead Dead = true
@@ -71,11 +72,9 @@ abbrev pub is_success : UnitResult → Bool
 is_success result.Success = true
 is_success other = false
 
--- nothing is held of the unit: it is a dead one
+-- nothing is held of the unit: it equals the dead one
 abbrev pub holds_nothing : UnitState → Bool
-holds_nothing u =
-    is_dead u.sub && is_success u.result && (is_none u.main && is_none u.control)
-    && ((is_none u.deadline && is_none u.window) && (u.index == 0 && not u.asked && is_none u.last))
+holds_nothing u = (unit_state.ghosts).eq u dead_unit
 
 -- it is that number
 abbrev pub is_number : ℕ → Option ℕ → Bool

@@ -177,7 +177,7 @@ abbrev pub unit_spelling : Spelling UnitState
 unit_spelling u =
     tagged sub_tag u.sub ++ (tagged result_tag u.result ++ (option_spelling (big_bytes 8) u.main ++ (option_spelling (big_bytes 8) u.control
     ++ (big_bytes 4 u.index ++ (option_spelling (big_bytes 8) u.deadline ++ (option_spelling counted_spelling u.window
-    ++ (tagged truth_tag u.asked ++ option_spelling end_spelling u.last)))))))
+    ++ (tagged truth_tag u.stop_asked ++ option_spelling end_spelling u.last)))))))
 
 -- the fields alone
 abbrev pub UnitFields : Type 0
@@ -186,7 +186,7 @@ UnitFields = SubState × (UnitResult × (Option ℕ × (Option ℕ × (ℕ × (O
 -- the unit of its fields
 abbrev pub unit_of : UnitFields → UnitState
 unit_of (sub, (result, (main, (control, (index, (deadline, (window, (asked, last)))))))) =
-    record { sub = sub; result = result; main = main; control = control; index = index; deadline = deadline; window = window; asked = asked; last = last }
+    record { sub = sub; result = result; main = main; control = control; index = index; deadline = deadline; window = window; stop_asked = asked; last = last }
 
 -- each field behind the one before
 abbrev pub unit_at : Reading UnitState

@@ -77,7 +77,7 @@ waits_to_restart s c u =
 
 -- the unit comes to rest; one that nobody asked to stop may wait for a restart instead
 abbrev pub rests : ServiceSettings → Around → UnitState → Change
-rests s c u = if not u.asked && not c.stop_waits && is_restart_wanted s u then waits_to_restart s c u else rests_for_good u
+rests s c u = if not u.stop_asked && not c.stop_waits && is_restart_wanted s u then waits_to_restart s c u else rests_for_good u
 
 -- its live processes are told to end; without one it comes to rest
 abbrev pub terminates : ServiceSettings → Around → UnitState → Change
@@ -114,7 +114,7 @@ start_of Oneshot s c u = if has_place s.start 0 then first_command s c u else st
 -- the limit refuses a start, or lets it through and has this window after it
 abbrev pub starts_if : Bool → Option Counted → ServiceSettings → Around → UnitState → Change
 starts_if false window s c u = start_fails (just (record u { sub = Failed; result = result.StartLimitHit; deadline = None }))
-starts_if true window s c u = start_of s.kind s c (record u { result = result.Success; asked = false; index = 0; last = None; window = window })
+starts_if true window s c u = start_of s.kind s c (record u { result = result.Success; stop_asked = false; index = 0; last = None; window = window })
 
 -- a start of a unit at rest
 abbrev pub starts : ServiceSettings → Around → UnitState → Change
@@ -155,7 +155,7 @@ timed_out u = record u { result = or_later u.result result.Timeout }
 
 -- a stop was asked for
 abbrev pub told_to_stop : UnitState → UnitState
-told_to_stop u = record u { asked = true }
+told_to_stop u = record u { stop_asked = true }
 
 -- it is dead at once
 abbrev pub dies : UnitState → Change

@@ -87,7 +87,7 @@ pub struct UnitState {
     pub deadline: Option<Deadline>,
     pub window: Option<Counted>,
     /// A stop was asked for.
-    pub asked: bool,
+    pub stop_asked: bool,
     /// How the main process last ended.
     pub last: Option<End>,
 }
@@ -102,7 +102,7 @@ impl UnitState {
         index: 0,
         deadline: None,
         window: None,
-        asked: false,
+        stop_asked: false,
         last: None,
     };
 
@@ -113,34 +113,11 @@ impl UnitState {
         is_number(number, self.main) || is_number(number, self.control)
     }
 
-    fn has_no_process(&self) -> bool
-        ensures { result ≡ (is_none self.now.main && is_none self.now.control) }
-    {
-        self.main.is_none() && self.control.is_none()
-    }
-
-    fn has_no_moment(&self) -> bool
-        ensures { result ≡ (is_none self.now.deadline && is_none self.now.window) }
-    {
-        self.deadline.is_none() && self.window.is_none()
-    }
-
-    fn has_no_past(&self) -> bool
-        ensures { result ≡ (self.now.index == 0 && not self.now.asked && is_none self.now.last) }
-    {
-        self.index == 0 && !self.asked && self.last.is_none()
-    }
-
     /// Whether it is a dead unit of which nothing is known, so that the state needn't hold it.
     pub fn holds_nothing(&self) -> bool
         ensures { result ≡ holds_nothing self.now }
     {
-        match (self.sub, self.result) {
-            (SubState::Dead, UnitResult::Success) => self.has_no_process()
-                && self.has_no_moment()
-                && self.has_no_past(),
-            _ => false,
-        }
+        *self == UnitState::DEAD
     }
 }
 

@@ -8,7 +8,7 @@ use Rattle.std.proofs.lemmas.Bool.{cases_Bool, cond-true, cond-false, and_from, 
 use Rattle.std.proofs.lemmas.List.{reverse-append, map_more, take-map, length-map}
 use Rattle.std.proofs.lemmas.List.Folds.{list_all-map}
 use Rattle.std.proofs.lemmas.Slice.Eq.{bytes_eq-Decides}
-use Rattle.um_runner.specs.Deeds.{is_entry_sign, entry_value}
+use Rattle.um_runner.specs.RunnerSteps.{is_entry_sign, entry_value}
 use Rattle.um_runner.specs.Jobs.{SetsTo, can_be_job, is_entry}
 
 mapped_cond : {A B : Type 0} (f : A → B) (b : Bool) (x y : Option A) → option_map f (cond b x y) ≡ cond b (option_map f x) (option_map f y)

@@ -6,7 +6,7 @@ use Rattle.std.specs.List.{list_all, list_any}
 use Rattle.std.specs.Process.{command_program, command_args, command_var, clears_env, SameOtherVars}
 use Rattle.std.specs.declared.process.command.Command.{Command}
 use Rattle.um_model.specs.Text.{first_passes}
-use Rattle.um_runner.specs.Deeds.{is_entry_sign, entry_value}
+use Rattle.um_runner.specs.RunnerSteps.{is_entry_sign, entry_value}
 use Rattle.um_runner.specs.declared.job.Job.{Job}
 
 -- the words of the command

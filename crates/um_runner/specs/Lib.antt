@@ -1,5 +1,5 @@
 pub mod Runner
-pub mod Deeds
+pub mod RunnerSteps
 pub mod Numerals
 pub mod Jobs
 pub mod RunnerLines

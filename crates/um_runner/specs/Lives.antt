@@ -1,7 +1,7 @@
 -- The life of a runner in what its host notes.
 -- The contracts of Host and run cite it.
 use Rattle.std.specs.Prelude.{◌≡◌, ℕ, Bool, true, false, List, ◌++◌, Result, Ok, Err}
-use Rattle.um_runner.specs.Deeds.{Claimed, Deed, Life, Ours, Taken, Refused}
+use Rattle.um_runner.specs.RunnerSteps.{Claimed, RunnerStep, RunnerLife, Ours, Taken, Refused}
 
 -- what came of claiming, by the answer
 abbrev pub claimed_when : Bool → Claimed
@@ -13,5 +13,5 @@ claimed_of (Ok is_new) = claimed_when is_new
 claimed_of (Err e) = Refused
 
 -- behind what was noted before, a whole life is noted
-abbrev pub LivesOn : (words entries : List (List ℕ)) → List Deed → List Deed → Bool → Type 0
-LivesOn words entries before after told = (deeds : List Deed) × (after ≡ before ++ deeds) × Life words entries deeds told
+abbrev pub LivesOn : (words entries : List (List ℕ)) → List RunnerStep → List RunnerStep → Bool → Type 0
+LivesOn words entries before after told = (steps : List RunnerStep) × (after ≡ before ++ steps) × RunnerLife words entries steps told

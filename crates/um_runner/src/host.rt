@@ -1,7 +1,7 @@
 ghost use Rattle.std.specs.Prelude.{◌≡◌, ◌∷◌, ◌++◌, [], List, Bool, IsTrue, is_ok};
 ghost use Rattle.um_runner.specs.Runner.{pid_text, status_text};
 ghost use Rattle.um_runner.specs.declared.runner_file.RunnerFile.TheVariants as files;
-ghost use Rattle.um_runner.specs.Deeds.{Deed, Claims, Starts, Writes, Waits};
+ghost use Rattle.um_runner.specs.RunnerSteps.{RunnerStep, Claims, Starts, Writes, Waits};
 ghost use Rattle.um_runner.specs.Jobs.{words_of, entries_of};
 ghost use Rattle.um_runner.specs.Lives.{claimed_of};
 
@@ -9,12 +9,12 @@ use crate::fault::FolderFault;
 use crate::job::Job;
 use um_model::End;
 
-/// What a runner does things with: its folder and its process. Each call is a deed with what was answered.
+/// What a runner does things with: its folder and its process. Each call is a step with what was answered.
 ///
 /// What a real folder holds and what a real process does no contract can say, so the clauses stand under `honest`.
 pub trait Host {
-    /// The deeds, in order.
-    ghost past: { Self → List Deed };
+    /// The steps, in order.
+    ghost past: { Self → List RunnerStep };
 
     /// It does what it answers.
     ghost honest: { Self → Bool };

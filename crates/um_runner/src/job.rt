@@ -4,7 +4,7 @@ ghost use Rattle.std.specs.Prelude.{◌≡◌, ◌++◌, ℕ, List, map, option_
 ghost use Rattle.std.specs.List.{list_all, list_any, before_first, after_first};
 ghost use Rattle.std.specs.Process.{command_program, command_args, command_var, clears_env, SameEnv, SameProgramAndArgs};
 ghost use Rattle.um_model.specs.Text.{first_passes};
-ghost use Rattle.um_runner.specs.Deeds.{is_entry_sign, entry_value};
+ghost use Rattle.um_runner.specs.RunnerSteps.{is_entry_sign, entry_value};
 ghost use Rattle.um_runner.specs.Jobs.{IsCommandOf, IsJobOf, SetsTo, can_be_job, is_entry, words_of, entries_of};
 
 use std::alloc::{AllocError, Global};

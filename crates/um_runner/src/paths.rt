@@ -2,7 +2,7 @@
 
 ghost use Rattle.std.specs.Prelude.{◌≡◌, IfOk, string_bytes};
 ghost use Rattle.um_runner.specs.Runner as runner;
-ghost use Rattle.um_runner.specs.Deeds as deeds;
+ghost use Rattle.um_runner.specs.RunnerSteps as steps;
 
 use crate::runner_file::RunnerFile;
 use std::alloc::{AllocError, Global};
@@ -27,7 +27,7 @@ pub fn file_path(
     number: ProcessNumber,
     file: RunnerFile,
 ) -> Result<String, AllocError>
-    ensures { IfOk result (λ path. string_bytes path ≡ deeds.file_path folder.now number file) }
+    ensures { IfOk result (λ path. string_bytes path ≡ steps.file_path folder.now number file) }
 {
     let (number, ending) = (number.get(), file.ending());
     format!(in alloc; "{folder}/{number}{ending}")

@@ -51,7 +51,7 @@ fn waits_to_restart(settings: &ServiceSettings, around: Around, unit: UnitState)
 pub fn rests(settings: &ServiceSettings, around: Around, unit: UnitState) -> Change
     ensures { result ≡ rests (service_settings_of settings.now) around unit }
 {
-    if !unit.asked && !around.stop_waits && is_restart_wanted(settings, &unit) {
+    if !unit.stop_asked && !around.stop_waits && is_restart_wanted(settings, &unit) {
         waits_to_restart(settings, around, unit)
     } else {
         rests_for_good(unit)

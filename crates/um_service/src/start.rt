@@ -105,7 +105,7 @@ pub fn starts(settings: &ServiceSettings, around: Around, unit: UnitState) -> Ch
     }
     let fresh = UnitState {
         result: UnitResult::Success,
-        asked: false,
+        stop_asked: false,
         index: 0,
         last: None,
         window: window.counted(),

@@ -78,7 +78,7 @@ pub fn told_to_stop(unit: UnitState) -> UnitState
     ensures { result ≡ told_to_stop unit }
 {
     UnitState {
-        asked: true,
+        stop_asked: true,
         ..unit
     }
 }

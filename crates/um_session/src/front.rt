@@ -12,7 +12,7 @@ const FRAME_LIMIT: usize = 524_288;
 
 /// What stands at the front of a stream.
 #[derive(Clone, Copy, Debug, PartialEq, Eq)]
-pub enum Front {
+pub enum FrameFront {
     /// Less than a whole frame.
     Partial,
     /// A length past the limit.
@@ -22,18 +22,18 @@ pub enum Front {
 }
 
 /// What stands at the front of these bytes.
-pub fn front_of(bytes: &[u8]) -> Front
+pub fn front_of(bytes: &[u8]) -> FrameFront
     ensures { IsFront bytes.now result }
 {
     if bytes.len() < HEADER {
-        return Front::Partial;
+        return FrameFront::Partial;
     }
     let size = BigEndian::read_u32(bytes) as usize;
     if size > FRAME_LIMIT {
-        return Front::TooLong;
+        return FrameFront::TooLong;
     }
     if bytes.len() - HEADER < size {
-        return Front::Partial;
+        return FrameFront::Partial;
     }
-    Front::Frame(size)
+    FrameFront::Frame(size)
 }

@@ -5,7 +5,7 @@ ghost use Rattle.um_proto.specs.View.{request_of};
 ghost use Rattle.um_session.specs.Readings.{IsReading};
 ghost use Rattle.um_wire.specs.Gives.{Gives};
 
-use crate::front::{Front, HEADER, front_of};
+use crate::front::{FrameFront, HEADER, front_of};
 use byteorder::{BigEndian, ByteOrder};
 use std::alloc::{AllocError, Global};
 use std::marker::Model;
@@ -96,14 +96,14 @@ impl Session {
             return None;
         }
         match front_of(self.rest()) {
-            Front::Partial => None,
-            Front::TooLong => {
+            FrameFront::Partial => None,
+            FrameFront::TooLong => {
                 self.fail();
                 Some(Err(Refusal::TooLarge {
                     limit: Limit::Frame,
                 }))
             }
-            Front::Frame(size) => {
+            FrameFront::Frame(size) => {
                 let request = self.request(size);
                 self.pass(size + HEADER);
                 Some(request)

@@ -16,7 +16,7 @@ ghost use Rattle.um_words.specs.Commands.{commands_seen};
 ghost use Rattle.um_words.specs.Environment.{variables_of};
 
 use crate::assignments::{Assigned, Key, since_empty, values_of};
-use crate::readings::{NameUse, Reading, commands_reading, environment_reading, names_reading};
+use crate::readings::{Meaning, NameUse, commands_reading, environment_reading, names_reading};
 use std::alloc::{AllocError, Global};
 use um_name::UnitName;
 use um_value::{ExitSet, exit_set};
@@ -29,7 +29,7 @@ fn add_all<T: Drop>(all: &mut Vec<T>, more: Vec<T>) -> Result<(), AllocError>
 }
 
 /// Adds the names that could be read.
-fn add_names(names: &mut Vec<String>, readings: Vec<Reading<String>>) -> Result<(), AllocError>
+fn add_names(names: &mut Vec<String>, readings: Vec<Meaning<String>>) -> Result<(), AllocError>
     ensures { OnOk result (map string_bytes names.new.items ≡ map string_bytes names.old.items ++ filter_map result_ok (map (read_as string_bytes) readings.items)) }
 {
     for reading in readings {

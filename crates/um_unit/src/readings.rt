@@ -18,10 +18,10 @@ use um_spec::expand;
 use um_words::{Command, Variable, commands, is_executable_word, is_variable_name, names, words};
 
 /// What a value means, or the warning that it gives.
-pub type Reading<T> = Result<T, WarningKind>;
+pub type Meaning<T> = Result<T, WarningKind>;
 
 /// What was read, or the warning of a value that can't be read.
-pub fn value_reading<T: Drop>(read: Option<T>) -> Reading<T>
+pub fn value_reading<T: Drop>(read: Option<T>) -> Meaning<T>
     ensures { result ≡ value_reading read }
 {
     read.ok_or(WarningKind::UnreadableValue)
@@ -30,8 +30,8 @@ pub fn value_reading<T: Drop>(read: Option<T>) -> Reading<T>
 /// Of several readings all, or the first warning.
 pub fn all_read<T: Drop>(
     alloc: Global,
-    readings: Vec<Reading<T>>,
-) -> Result<Reading<Vec<T>>, AllocError>
+    readings: Vec<Meaning<T>>,
+) -> Result<Meaning<Vec<T>>, AllocError>
     ensures { IfOk result (λ r. read_as (λ all. all.items) r ≡ said.all_read readings.items) }
 {
     let mut all = Vec::new(alloc);
@@ -49,7 +49,7 @@ pub fn text_reading(
     alloc: Global,
     unit: &UnitName,
     text: &str,
-) -> Result<Reading<String>, AllocError>
+) -> Result<Meaning<String>, AllocError>
     ensures { IfOk result (λ r. read_as string_bytes r ≡ said.text_reading unit.now text.now) }
 {
     let expanded = expand(alloc, text, unit)?;
@@ -61,7 +61,7 @@ fn executable_reading(
     alloc: Global,
     unit: &UnitName,
     word: &str,
-) -> Result<Reading<String>, AllocError>
+) -> Result<Meaning<String>, AllocError>
     ensures { IfOk result (λ r. read_as string_bytes r ≡ (said.text_reading unit.now word.now and_then said.read_if is_executable_word)) }
 {
     match text_reading(alloc, unit, word)? {
@@ -76,7 +76,7 @@ fn command_words(
     unit: &UnitName,
     first: &str,
     others: &[String],
-) -> Result<Reading<Vec<String>>, AllocError>
+) -> Result<Meaning<Vec<String>>, AllocError>
     ensures { IfOk result (λ r. read_as (λ texts. map string_bytes texts.items) r ≡ said.words_reading unit.now (first.now ∷ map string_bytes others.now)) }
 {
     let mut readings = Vec::new(alloc);
@@ -92,7 +92,7 @@ fn words_reading(
     alloc: Global,
     unit: &UnitName,
     words: &[String],
-) -> Result<Reading<Vec<String>>, AllocError>
+) -> Result<Meaning<Vec<String>>, AllocError>
     ensures { IfOk result (λ r. read_as (λ texts. map string_bytes texts.items) r ≡ said.words_reading unit.now (map string_bytes words.now)) }
 {
     match words {
@@ -105,7 +105,7 @@ fn command_reading(
     alloc: Global,
     unit: &UnitName,
     command: &Command,
-) -> Result<Reading<Command>, AllocError>
+) -> Result<Meaning<Command>, AllocError>
     ensures { IfOk result (λ r. read_as command_seen r ≡ command_reading unit.now (command_seen command.now)) }
 {
     match words_reading(alloc, unit, command.words.as_slice())? {
@@ -124,7 +124,7 @@ pub fn commands_reading(
     alloc: Global,
     unit: &UnitName,
     value: &str,
-) -> Result<Reading<Vec<Command>>, AllocError>
+) -> Result<Meaning<Vec<Command>>, AllocError>
     ensures { IfOk result (λ r. read_as (λ all. commands_seen all.items) r ≡ said.commands_reading unit.now value.now) }
 {
     let Some(commands) = commands(alloc, value)? else {
@@ -155,7 +155,7 @@ fn variable_reading(
     alloc: Global,
     unit: &UnitName,
     word: &str,
-) -> Result<Reading<Variable>, AllocError>
+) -> Result<Meaning<Variable>, AllocError>
     ensures { IfOk result (λ r. read_as variable_of r ≡ variable_reading unit.now word.now) }
 {
     match text_reading(alloc, unit, word)? {
@@ -170,7 +170,7 @@ pub fn environment_reading(
     alloc: Global,
     unit: &UnitName,
     value: &str,
-) -> Result<Reading<Vec<Variable>>, AllocError>
+) -> Result<Meaning<Vec<Variable>>, AllocError>
     ensures { IfOk result (λ r. read_as (λ all. variables_of all.items) r ≡ said.environment_reading unit.now value.now) }
 {
     let Some(words) = words(alloc, value)? else {
@@ -223,7 +223,7 @@ fn name_reading(
     uses: NameUse,
     unit: &UnitName,
     word: &str,
-) -> Result<Reading<String>, AllocError>
+) -> Result<Meaning<String>, AllocError>
     ensures { IfOk result (λ r. read_as string_bytes r ≡ unit_reading (fits_use uses unit.now) unit.now word.now) }
 {
     match text_reading(alloc, unit, word)? {
@@ -240,7 +240,7 @@ pub fn names_reading(
     uses: NameUse,
     unit: &UnitName,
     value: &str,
-) -> Result<Vec<Reading<String>>, AllocError>
+) -> Result<Vec<Meaning<String>>, AllocError>
     ensures { IfOk result (λ r. map (read_as string_bytes) r.items ≡ said.names_reading (fits_use uses unit.now) unit.now value.now) }
 {
     let mut readings = Vec::new(alloc);
@@ -255,7 +255,7 @@ pub fn names_reading(
 }
 
 /// The first warning of several readings.
-pub fn first_warning(readings: &[Reading<String>]) -> Option<WarningKind>
+pub fn first_warning(readings: &[Meaning<String>]) -> Option<WarningKind>
     ensures { result ≡ first_warning (map (read_as string_bytes) readings.now) }
 {
     for reading in readings {

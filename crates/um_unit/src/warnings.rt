@@ -15,7 +15,7 @@ ghost use Rattle.um_unit.specs.View.{warning_of};
 use crate::assignments::{Source, section_after};
 use crate::keys::{is_foreign, is_known_section, kind_of_key};
 use crate::readings::{
-    NameUse, Reading, commands_reading, environment_reading, first_warning, instance_in,
+    Meaning, NameUse, commands_reading, environment_reading, first_warning, instance_in,
     names_reading, text_reading, value_reading,
 };
 use crate::singles::type_said;
@@ -35,7 +35,7 @@ pub struct Warning {
     pub line: usize,
 }
 
-fn warning_in<T: Drop>(reading: Reading<T>) -> Option<WarningKind>
+fn warning_in<T: Drop>(reading: Meaning<T>) -> Option<WarningKind>
     ensures { result ≡ result_err reading }
 {
     reading.err()

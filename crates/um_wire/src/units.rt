@@ -268,7 +268,7 @@ impl Canon for UnitState {
         self.index.put(out)?;
         self.deadline.put(out)?;
         self.window.put(out)?;
-        self.asked.put(out)?;
+        self.stop_asked.put(out)?;
         self.last.put(out)?;
         Ok(())
     }
@@ -278,7 +278,7 @@ impl Canon for UnitState {
             Some((fields, n)) => {
                 let (
                     sub,
-                    (result, (main, (control, (index, (deadline, (window, (asked, last))))))),
+                    (result, (main, (control, (index, (deadline, (window, (stop_asked, last))))))),
                 ) = fields;
                 let unit = UnitState {
                     sub,
@@ -288,7 +288,7 @@ impl Canon for UnitState {
                     index,
                     deadline,
                     window,
-                    asked,
+                    stop_asked,
                     last,
                 };
                 Ok(Some((unit, n)))

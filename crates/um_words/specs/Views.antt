@@ -2,12 +2,12 @@
 use Rattle.std.specs.Prelude.{string_bytes}
 use Rattle.um_model.specs.Words.{Word}
 use Rattle.um_model.proofs.WordSteps.{Spelling, Stop, Bad, Turn, Means, Kept}
-use Rattle.um_words.specs.declared.spelling.Front as code
-use Rattle.um_words.specs.declared.spelling.Front.TheVariants as codes
+use Rattle.um_words.specs.declared.spelling.WordFront as code
+use Rattle.um_words.specs.declared.spelling.WordFront.TheVariants as codes
 use Rattle.um_words.specs.declared.word.Spelled.{Spelled}
 
 -- how the front of a text is spelled
-abbrev pub spelling_of : code.Front → Spelling
+abbrev pub spelling_of : code.WordFront → Spelling
 spelling_of codes.Stop = Stop
 spelling_of codes.Bad = Bad
 spelling_of (codes.Turn quote) = Turn quote

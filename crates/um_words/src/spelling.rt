@@ -14,7 +14,7 @@ use um_text::Class;
 
 /// What stands at the front of a text.
 #[derive(Clone, Copy, Debug, PartialEq, Eq)]
-pub enum Front {
+pub enum WordFront {
     /// Whitespace, before which the word ends.
     Stop,
     /// An escape that can't be read.
@@ -95,52 +95,52 @@ fn meaning_of(b: u8) -> Option<u8>
 }
 
 /// A backslash, by what follows it.
-fn escape(behind: &[u8]) -> Front
+fn escape(behind: &[u8]) -> WordFront
     ensures value { spelling_of result ≡ escape behind.now }
     ensures there { IsThere (spelling_of result) 92 behind.now }
 {
     let Some((first, more)) = behind.split_first() else {
-        return Front::Kept(1);
+        return WordFront::Kept(1);
     };
     if let Some(meaning) = meaning_of(*first) {
-        return Front::Means(meaning, 2);
+        return WordFront::Means(meaning, 2);
     }
     if *first == b'x' && begins_with_digits(16, 2, more) {
         let value = 16 * u16::from(digit_of(more[0])) + u16::from(digit_of(more[1]));
         return match u8::try_from(value) {
-            Ok(value @ 1..=127) => Front::Means(value, 4),
-            _ => Front::Bad,
+            Ok(value @ 1..=127) => WordFront::Means(value, 4),
+            _ => WordFront::Bad,
         };
     }
     if begins_with_digits(8, 3, behind)
         || *first == b'u' && begins_with_digits(16, 4, more)
         || *first == b'U' && begins_with_digits(16, 8, more)
     {
-        Front::Bad
+        WordFront::Bad
     } else if is_space(*first) {
-        Front::Kept(2)
+        WordFront::Kept(2)
     } else {
-        Front::Kept(1)
+        WordFront::Kept(1)
     }
 }
 
 /// A byte that begins no escape.
-fn bare(quote: Option<u8>, first: u8) -> Front
+fn bare(quote: Option<u8>, first: u8) -> WordFront
     requires { IfSome quote (λ q. q < 128) }
     ensures value { spelling_of result ≡ bare quote first }
     ensures there { (more : List ℕ) → IsThere (spelling_of result) first more }
 {
     match quote {
-        Some(quote) if first == quote => Front::Turn(None),
-        Some(_) => Front::Kept(1),
-        None if is_space(first) => Front::Stop,
-        None if is_quote(first) => Front::Turn(Some(first)),
-        None => Front::Kept(1),
+        Some(quote) if first == quote => WordFront::Turn(None),
+        Some(_) => WordFront::Kept(1),
+        None if is_space(first) => WordFront::Stop,
+        None if is_quote(first) => WordFront::Turn(Some(first)),
+        None => WordFront::Kept(1),
     }
 }
 
 /// The front of a text, inside a quote or not.
-pub fn front_at(rules: WordRules, quote: Option<u8>, first: u8, more: &[u8]) -> Front
+pub fn front_at(rules: WordRules, quote: Option<u8>, first: u8, more: &[u8]) -> WordFront
     requires { IfSome quote (λ q. q < 128) }
     ensures value { spelling_of result ≡ spelled_at rules quote first more.now }
     ensures there { IsThere (spelling_of result) first more.now }

@@ -7,7 +7,7 @@ ghost use Rattle.um_model.specs.Ascii.{is_space};
 ghost use Rattle.um_model.proofs.WordSteps.{may_end};
 ghost use Rattle.um_model.proofs.WordsLaws.{read, is_plain};
 
-use crate::spelling::{Front, begins_escape, front_at, is_quote, is_space};
+use crate::spelling::{WordFront, begins_escape, front_at, is_quote, is_space};
 use std::alloc::{AllocError, Global};
 use um_model::WordRules;
 
@@ -65,17 +65,17 @@ pub fn word<'a>(
     let mut rest = text;
     while let Some((first, more)) = rest.as_bytes().split_first() {
         match front_at(rules, quote, *first, more) {
-            Front::Stop => return Ok(Some((word, rest))),
-            Front::Bad => return Ok(None),
-            Front::Turn(other) => {
+            WordFront::Stop => return Ok(Some((word, rest))),
+            WordFront::Bad => return Ok(None),
+            WordFront::Turn(other) => {
                 quote = other;
                 rest = &rest[1..];
             }
-            Front::Means(meaning, n) => {
+            WordFront::Means(meaning, n) => {
                 word.push(char::from(meaning))?;
                 rest = &rest[n..];
             }
-            Front::Kept(n) => {
+            WordFront::Kept(n) => {
                 let run = plain_len(rules, quote, &more[n - 1..]);
                 let (kept, after) = rest.split_at(n + run);
                 word.push_str(kept)?;

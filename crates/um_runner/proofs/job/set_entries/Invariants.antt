@@ -1,6 +1,6 @@
 use Rattle.std.proofs.Common.{◌≡◌, ℕ, List, map, take, option_map, Some, string_bytes}
 use Rattle.std.specs.Process.{command_var, clears_env, SameProgramAndArgs}
-use Rattle.um_runner.specs.Deeds.{entry_value}
+use Rattle.um_runner.specs.RunnerSteps.{entry_value}
 use Rattle.um_runner.proofs.job.set_entries.Given as goal
 
 -- the entries so far are set

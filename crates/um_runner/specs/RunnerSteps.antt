@@ -29,30 +29,30 @@ pub data Claimed : Type 0 where
   Refused : Claimed
 
 -- what a runner does, with what the system answers
-pub data Deed : Type 0 where
+pub data RunnerStep : Type 0 where
   -- the number is claimed
-  Claims : (claimed : Claimed) → Deed
+  Claims : (claimed : Claimed) → RunnerStep
   -- the words are started as a command, with these entries set over the runner's own environment; there is a pid where that went well
-  Starts : (words entries : List (List ℕ)) (pid : Option ℕ) → Deed
+  Starts : (words entries : List (List ℕ)) (pid : Option ℕ) → RunnerStep
   -- a file is given this text, whole; or the folder refuses it
-  Writes : (file : RunnerFile) (text : List ℕ) (is_done : Bool) → Deed
+  Writes : (file : RunnerFile) (text : List ℕ) (is_done : Bool) → RunnerStep
   -- the process is waited for
-  Waits : (end : End) → Deed
+  Waits : (end : End) → RunnerStep
 
 -- a command that can't be executed ends so
 abbrev pub not_executed : End
 not_executed = Code 203
 
 -- the whole life of a runner for these words and entries, and whether the folder took all that was to be told
-pub data Life (words entries : List (List ℕ)) : List Deed → Bool → Type 0 where
+pub data RunnerLife (words entries : List (List ℕ)) : List RunnerStep → Bool → Type 0 where
   -- somebody has the number: nothing is started
-  yields : Life words entries (Claims Taken ∷ []) true
+  yields : RunnerLife words entries (Claims Taken ∷ []) true
   -- nobody may start what can't be claimed
-  fails : Life words entries (Claims Refused ∷ []) false
+  fails : RunnerLife words entries (Claims Refused ∷ []) false
   -- the command can't be executed: there is no pid
-  refuses : (told : Bool) → Life words entries (Claims Ours ∷ Starts words entries None ∷ Writes Status (status_text not_executed) told ∷ []) told
+  refuses : (told : Bool) → RunnerLife words entries (Claims Ours ∷ Starts words entries None ∷ Writes Status (status_text not_executed) told ∷ []) told
   -- the command runs, and its end is told behind its pid, also where the pid couldn't be
   runs : (pid : ℕ) (end : End) (told_pid told : Bool)
-      → Life words entries
+      → RunnerLife words entries
       (Claims Ours ∷ Starts words entries (Some pid) ∷ Writes Pid (pid_text pid) told_pid ∷ Waits end ∷ Writes Status (status_text end) told ∷ [])
       (told_pid && told)
