@@ -198,9 +198,9 @@ install_settings_of unit assigned = record {
   default_instance = last_said unit kinds.Instance None ((codes "Install", codes "DefaultInstance") ∷ []) assigned;
 }
 
--- Type= of the unit
-abbrev pub type_of : List ℕ → List Assigned → TypeSaid
-type_of unit assigned = last_said unit kinds.ServiceType Unsaid ((codes "Service", codes "Type") ∷ []) assigned
+-- Type= of the unit, whatever its name
+abbrev pub type_of : List Assigned → TypeSaid
+type_of assigned = last_said [] kinds.ServiceType Unsaid ((codes "Service", codes "Type") ∷ []) assigned
 
 -- simple where nothing is said and a command is left, oneshot where neither is given
 abbrev pub kind_by : TypeSaid → List Command → UnitKind
@@ -287,7 +287,7 @@ service_settings_with start kind unit assigned = record {
 unfoldable pub service_settings_of : Option Suffix → List ℕ → List Assigned → ServiceSettings
 service_settings_of (Some Service) unit assigned =
     let start = flat_map (λ said. said) (service_said unit kinds.Commands (codes "ExecStart") assigned) in
-    service_settings_with start (kind_by (type_of unit assigned) start) unit assigned
+    service_settings_with start (kind_by (type_of assigned) start) unit assigned
 service_settings_of other unit assigned = service_settings_with [] Target unit assigned
 
 -- what a unit's files set: its description, what other units it names, what it says of its processes, and what enabling it makes
@@ -328,7 +328,7 @@ refused_service other said s = None
 -- the first reason why a unit can't be loaded
 abbrev pub reason_of : List ℕ → List Assigned → Option (List ℕ)
 reason_of unit assigned =
-    option_or (refused_setting assigned) (refused_service (suffix_of unit) (type_of unit assigned) (service_settings_of (suffix_of unit) unit assigned))
+    option_or (refused_setting assigned) (refused_service (suffix_of unit) (type_of assigned) (service_settings_of (suffix_of unit) unit assigned))
 
 -- ---- warnings
 

@@ -1,3 +1,4 @@
+pub mod HeardLemmas
 pub mod ListLemmas
 pub mod ReadingLemmas
 pub mod SettingLemmas

@@ -1,8 +1,9 @@
 -- Sources and assignments of the code as those of the definitions.
-use Rattle.std.specs.Prelude.{List, Option, None, map}
+use Rattle.std.specs.Prelude.{ℕ, List, [], ◌∷◌, Option, None, Some, map, if◌then◌else◌}
 use Rattle.std.specs.List.{flat_map}
 use Rattle.um_model.proofs.FileForms.{in_sections}
-use Rattle.um_model.specs.Syntax.{Placed}
+use Rattle.um_model.specs.Keys.{is_known_section}
+use Rattle.um_model.specs.Syntax.{Item, Assignment, Placed}
 use Rattle.um_model.specs.Units as model
 use Rattle.um_model.specs.declared.names.Suffix.{Suffix}
 use Rattle.um_syntax.specs.Items.{item_of}
@@ -15,6 +16,11 @@ source_of s = record { path = s.path.now; reading = in_sections None (map item_o
 abbrev pub assigned_of : Assigned → model.Assigned
 assigned_of a = record { section = a.section.now; key = a.key.now; value = a.value.now }
 
+-- the assignment that an item is, in a known section
+abbrev pub assigned_by : Option Suffix → Option (List ℕ) → Item → List model.Assigned
+assigned_by type (Some s) (Assignment k v line whole) = if is_known_section type s then record { section = s; key = k; value = v } ∷ [] else []
+assigned_by type section other = []
+
 -- the assignments of one file
 abbrev pub assigned_in : Option Suffix → List Placed → List model.Assigned
-assigned_in type reading = flat_map (λ p. model.assigned_by type p.section p.item) reading
+assigned_in type reading = flat_map (λ p. assigned_by type p.section p.item) reading

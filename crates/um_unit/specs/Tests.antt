@@ -1,10 +1,11 @@
 -- What the tests of single settings and ends tell, and which warnings the parts of a file give.
 use Rattle.std.specs.Prelude.{Bool, true, false, not, ◌&&◌, ◌==◌, length, codes, List, [], ◌∷◌, ℕ, ◌||◌, Option, Some, None, if◌then◌else◌, bytes_eq}
-use Rattle.std.specs.List.{list_any}
+use Rattle.std.specs.List.{flat_map, list_any}
 use Rattle.std.specs.Option.{option_map_or}
 use Rattle.um_model.specs.Keys.{is_refused_key, is_known_section, is_foreign}
+use Rattle.um_model.specs.Syntax.{Item, Section, Assignment, Warned, line_number}
 use Rattle.um_model.specs.Text.{is_empty}
-use Rattle.um_model.specs.Units.{Key, Assigned, ServiceSettings, TypeSaid, Unserved, Warning, assignment_warning}
+use Rattle.um_model.specs.Units.{Key, Assigned, Source, ServiceSettings, TypeSaid, Unserved, Warning, assignment_warning}
 use Rattle.um_model.specs.declared.service.End.{End}
 use Rattle.um_model.specs.Names.{suffix_of}
 use Rattle.um_model.specs.declared.names.Suffix.{Suffix}
@@ -43,9 +44,19 @@ abbrev pub warning_of_syntax : Option Suffix → Option (List ℕ) → WarningKi
 warning_of_syntax type None warning = Some warning
 warning_of_syntax type (Some section) warning = if is_known_section type section then Some warning else None
 
+-- the warning that an item gives; of what stands in a section that isn't known nothing gives one but its head
+abbrev pub warning_of : List ℕ → Option (List ℕ) → Item → Option WarningKind
+warning_of unit section (Section name line) = head_warning (suffix_of unit) name
+warning_of unit section (Assignment key value line whole) = warning_of_assignment unit section key value
+warning_of unit section (Warned warning line) = warning_of_syntax (suffix_of unit) section warning
+
 -- the warning of a line, where it gives one
 abbrev pub warnings_at : List ℕ → ℕ → Option WarningKind → List Warning
 warnings_at path line warning = option_map_or (λ kind. record { kind = kind; path = path; line = line } ∷ []) warning []
+
+-- the warnings of a file, by line
+abbrev pub warned_in : List ℕ → Source → List Warning
+warned_in unit s = flat_map (λ p. warnings_at s.path (line_number p.item) (warning_of unit p.section p.item)) s.reading
 
 -- it assigns to one of the keys
 abbrev pub assigns : List Key → Assigned → Bool

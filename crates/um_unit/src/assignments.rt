@@ -7,7 +7,7 @@ ghost use Rattle.um_model.specs.Text.{is_empty};
 ghost use Rattle.um_model.proofs.FileForms.{in_sections, section_past};
 ghost use Rattle.um_model.specs.Units as model;
 ghost use Rattle.um_syntax.specs.Items.{item_of};
-ghost use Rattle.um_unit.specs.Sources.{assigned_in, assigned_of, source_of};
+ghost use Rattle.um_unit.specs.Sources.{assigned_by, assigned_in, assigned_of, source_of};
 ghost use Rattle.um_unit.specs.Tests.{assigns};
 
 use crate::keys::is_known_section;
@@ -50,7 +50,7 @@ fn assigned_by<'i>(
     section: Option<&'i str>,
     item: &'i Item<'_>,
 ) -> Option<Assigned<'i>>
-    ensures { option_to_list (option_map assigned_of result) ≡ model.assigned_by (Some suffix) (option_map (λ s. s.now) section.entry) (item_of item.now) }
+    ensures { option_to_list (option_map assigned_of result) ≡ assigned_by (Some suffix) (option_map (λ s. s.now) section.entry) (item_of item.now) }
 {
     let section = section?;
     let Item::Assignment { key, value, .. } = item else {

@@ -6,6 +6,8 @@ ghost use Rattle.std.specs.Result.{result_ok, result_unwrap_or};
 ghost use Rattle.um_model.specs.Names.{is_unit_name};
 ghost use Rattle.um_model.specs.Readings as said;
 ghost use Rattle.um_model.specs.Units as model;
+ghost use Rattle.um_model.proofs.FileForms.{names_of};
+ghost use Rattle.um_model.specs.declared.units.ValueKind as kinds;
 ghost use Rattle.um_model.specs.Values.{exits_of};
 ghost use Rattle.um_model.specs.declared.service.End as ends;
 ghost use Rattle.um_unit.specs.Readings.{fits_use, read_as};
@@ -47,7 +49,7 @@ fn names_of(
     unit: &UnitName,
     values: &[&str],
 ) -> Result<Vec<String>, AllocError>
-    ensures { IfOk result (λ names. map string_bytes names.items ≡ model.names_of (fits_use uses unit.now) unit.now (map (λ v. v.now) values.now)) }
+    ensures { IfOk result (λ names. map string_bytes names.items ≡ names_of (fits_use uses unit.now) unit.now (map (λ v. v.now) values.now)) }
 {
     let mut names = Vec::new(alloc);
     for value in values {
@@ -64,7 +66,7 @@ pub fn units_named(
     key: Key<'_>,
 ) -> Result<Vec<String>, AllocError>
     ensures { IfOk result (λ names. map string_bytes names.items
-        ≡ model.names_of is_unit_name unit.now (model.values_of ((key.entry.0.now, key.entry.1.now) ∷ []) (map assigned_of assigned.now))) }
+        ≡ model.all_said unit.now kinds.TheVariants.Units (model.values_of ((key.entry.0.now, key.entry.1.now) ∷ []) (map assigned_of assigned.now))) }
 {
     let values = values_of(alloc, assigned, &[key])?;
     names_of(alloc, NameUse::Units, unit, values.as_slice())
@@ -79,7 +81,7 @@ pub fn install_names(
     key: &str,
 ) -> Result<Vec<String>, AllocError>
     ensures { IfOk result (λ names. map string_bytes names.items
-        ≡ model.names_of (fits_use uses unit.now) unit.now (model.since_empty (codes "Install", key.now) (map assigned_of assigned.now))) }
+        ≡ names_of (fits_use uses unit.now) unit.now (model.since_empty (codes "Install", key.now) (map assigned_of assigned.now))) }
 {
     let values = values_of(alloc, assigned, &[("Install", key)])?;
     names_of(alloc, uses, unit, since_empty(values.as_slice()))
@@ -102,7 +104,8 @@ pub fn commands_of(
     assigned: &[Assigned<'_>],
     key: &str,
 ) -> Result<Vec<Command>, AllocError>
-    ensures { IfOk result (λ commands. commands_seen commands.items ≡ model.all_said (said.commands_reading unit.now) key.now (map assigned_of assigned.now)) }
+    ensures { IfOk result (λ commands. commands_seen commands.items
+        ≡ flat_map (λ said. said) (model.service_said unit.now kinds.TheVariants.Commands key.now (map assigned_of assigned.now))) }
 {
     let values = values_of(alloc, assigned, &[("Service", key)])?;
     let mut commands = Vec::new(alloc);
@@ -128,7 +131,8 @@ pub fn environment_of(
     unit: &UnitName,
     assigned: &[Assigned<'_>],
 ) -> Result<Vec<Variable>, AllocError>
-    ensures { IfOk result (λ variables. variables_of variables.items ≡ model.all_said (said.environment_reading unit.now) (codes "Environment") (map assigned_of assigned.now)) }
+    ensures { IfOk result (λ variables. variables_of variables.items
+        ≡ flat_map (λ said. said) (model.service_said unit.now kinds.TheVariants.Environment (codes "Environment") (map assigned_of assigned.now))) }
 {
     let values = values_of(alloc, assigned, &[("Service", "Environment")])?;
     let mut variables = Vec::new(alloc);
@@ -147,7 +151,7 @@ fn exits_said(value: &str) -> ExitSet
 
 /// The ends that a setting of `[Service]` tells, behind the last empty value.
 pub fn exits_in(alloc: Global, assigned: &[Assigned<'_>], key: &str) -> Result<ExitSet, AllocError>
-    ensures { IfOk result (λ set. holds set ≡ model.exits_in key.now (map assigned_of assigned.now)) }
+    ensures { IfOk result (λ set. holds set ≡ model.any_of (model.service_said [] kinds.TheVariants.Exits key.now (map assigned_of assigned.now))) }
 {
     let values = values_of(alloc, assigned, &[("Service", key)])?;
     let mut exits = ExitSet::empty();

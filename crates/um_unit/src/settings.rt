@@ -12,9 +12,7 @@ use crate::assignments::Assigned;
 use crate::lists::{commands_of, environment_of, exits_in, install_names, units_named};
 use crate::readings::NameUse;
 use crate::service_settings::ServiceSettings;
-use crate::singles::{
-    Count, Delay, Instance, Policy, Text, Timeout, Truth, TypeSaid, last_read, type_of,
-};
+use crate::singles::{Count, Delay, Instance, Policy, Text, Truth, TypeSaid, last_read, type_of};
 use std::alloc::{AllocError, Global};
 use um_model::{RestartPolicy, Span, Suffix, UnitKind};
 use um_name::UnitName;
@@ -155,6 +153,16 @@ pub(crate) fn default_timeout_start(kind: UnitKind) -> Option<Span>
     }
 }
 
+/// A time-out of 0 never passes.
+fn unless_zero(span: Option<Span>) -> Option<Span>
+    ensures { result ≡ model.unless_zero span }
+{
+    match span {
+        Some(span) if span.micros() == 0 => None,
+        other => other,
+    }
+}
+
 /// The settings of a service of this kind with these commands.
 fn service_settings_with(
     alloc: Global,
@@ -191,20 +199,20 @@ fn service_settings_with(
             &[("Service", "RestartSec")],
             Some(Span::from_micros(100_000)),
         )?,
-        timeout_start: last_read(
+        timeout_start: unless_zero(last_read(
             alloc,
-            &Timeout,
+            &Delay,
             assigned,
             &[("Service", "TimeoutStartSec"), ("Service", "TimeoutSec")],
             default_timeout_start(kind),
-        )?,
-        timeout_stop: last_read(
+        )?),
+        timeout_stop: unless_zero(last_read(
             alloc,
-            &Timeout,
+            &Delay,
             assigned,
             &[("Service", "TimeoutStopSec"), ("Service", "TimeoutSec")],
             Some(Span::from_micros(90_000_000)),
-        )?,
+        )?),
         limit_interval: last_read(
             alloc,
             &Delay,

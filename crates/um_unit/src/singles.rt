@@ -1,12 +1,9 @@
 //! Settings of one value: the last that can be read counts, or else the default.
 
-ghost use Rattle.std.specs.Prelude.{◌≡◌, IfOk, List, Option, ℕ, map, option_copied, option_map, string_bytes};
+ghost use Rattle.std.specs.Prelude.{◌≡◌, IfOk, List, [], ℕ, filter_map, map, option_copied, option_map, option_to_list, string_bytes};
 ghost use Rattle.std.specs.Result.{result_ok};
-ghost use Rattle.um_model.specs.Readings as said;
-ghost use Rattle.um_model.proofs.FileForms.{timeout_in};
 ghost use Rattle.um_model.specs.Units as model;
-ghost use Rattle.um_model.specs.Values as values;
-ghost use Rattle.um_model.specs.declared.settings.RestartPolicy as policies;
+ghost use Rattle.um_model.specs.declared.units.ValueKind as kinds;
 ghost use Rattle.um_unit.specs.Sources.{assigned_of};
 ghost use Rattle.um_value.specs.Spans.{micros_in};
 ghost use Rattle.um_unit.specs.View.{said_of};
@@ -23,17 +20,18 @@ pub trait Reader {
     /// What a value says.
     type Said: Drop;
 
-    /// The same without where it lies in memory.
-    ghost Seen: { Type 0 };
+    /// The kind of its values.
+    ghost kind: { kinds.ValueKind };
 
-    ghost seen: { Self.Said → Seen };
+    /// The unit under whose name a value is read.
+    ghost unit: { Self → List ℕ };
 
-    /// What a value says, where it can be read.
-    ghost meaning: { Self → List ℕ → Option Seen };
+    /// What a value says, without where it lies in memory.
+    ghost seen: { Self.Said → model.Said kind };
 
     /// Reads a value; None where it can't be read.
     fn read(&self, value: &str) -> Result<Option<Self::Said>, AllocError>
-        ensures { IfOk result (λ said. option_map seen said ≡ meaning self.now value.now) };
+        ensures { IfOk result (λ said. option_to_list (option_map seen said) ≡ filter_map result_ok (model.value_readings (unit self.now) kind value.now)) };
 }
 
 /// What the last value of the keys says that can be read, or else the default.
@@ -45,7 +43,7 @@ pub fn last_read<R: Reader>(
     default: R::Said,
 ) -> Result<R::Said, AllocError>
     ensures { IfOk result (λ last. R.seen last
-        ≡ model.last_read (R.meaning reader.now) (R.seen default) (map (λ k. (k.0.now, k.1.now)) keys.now) (map assigned_of assigned.now)) }
+        ≡ model.last_said (R.unit reader.now) R.kind (R.seen default) (map (λ k. (k.0.now, k.1.now)) keys.now) (map assigned_of assigned.now)) }
 {
     let mut last = default;
     for value in &values_of(alloc, assigned, keys)? {
@@ -66,11 +64,11 @@ pub struct Text<'u> {
 impl Reader for Text<'_> {
     type Said = String;
 
-    ghost Seen = { List ℕ };
+    ghost kind = { kinds.TheVariants.Text };
+
+    ghost unit = { λ r. r.unit.now };
 
     ghost seen = { string_bytes };
-
-    ghost meaning = { λ r value. result_ok (said.text_reading r.unit.now value) };
 
     fn read(&self, value: &str) -> Result<Option<String>, AllocError> {
         Ok(text_reading(self.alloc, self.unit, value)?.ok())
@@ -82,15 +80,13 @@ impl Reader for Text<'_> {
 pub struct Truth;
 
 impl Reader for Truth {
-    ghost use Rattle.std.specs.Prelude.{Bool};
-
     type Said = bool;
 
-    ghost Seen = { Bool };
+    ghost kind = { kinds.TheVariants.Truth };
+
+    ghost unit = { λ _. [] };
 
     ghost seen = { λ truth. truth };
-
-    ghost meaning = { λ _. values.boolean_of };
 
     fn read(&self, value: &str) -> Result<Option<bool>, AllocError> {
         Ok(boolean(value))
@@ -104,11 +100,11 @@ pub struct Count;
 impl Reader for Count {
     type Said = u32;
 
-    ghost Seen = { ℕ };
+    ghost kind = { kinds.TheVariants.Number };
+
+    ghost unit = { λ _. [] };
 
     ghost seen = { λ count. count };
-
-    ghost meaning = { λ _. values.number_of };
 
     fn read(&self, value: &str) -> Result<Option<u32>, AllocError> {
         Ok(number(value))
@@ -122,11 +118,11 @@ pub struct Policy;
 impl Reader for Policy {
     type Said = RestartPolicy;
 
-    ghost Seen = { policies.RestartPolicy };
+    ghost kind = { kinds.TheVariants.Policy };
+
+    ghost unit = { λ _. [] };
 
     ghost seen = { λ policy. policy };
-
-    ghost meaning = { λ _. values.policy_named };
 
     fn read(&self, value: &str) -> Result<Option<RestartPolicy>, AllocError> {
         Ok(restart(value))
@@ -143,16 +139,6 @@ fn micros_in(span: TimeSpan) -> Option<Span>
     }
 }
 
-/// The same of a time-out: one of 0 never passes.
-fn timeout_in(span: TimeSpan) -> Option<Span>
-    ensures { result ≡ timeout_in (micros_in span) }
-{
-    match span {
-        TimeSpan::Infinite => None,
-        TimeSpan::Micros(span) => { if span.micros() == 0 { None } else { Some(span) } }
-    }
-}
-
 /// A time span, or none where it never ends.
 #[derive(Clone, Copy)]
 pub struct Delay;
@@ -160,32 +146,14 @@ pub struct Delay;
 impl Reader for Delay {
     type Said = Option<Span>;
 
-    ghost Seen = { Option ℕ };
+    ghost kind = { kinds.TheVariants.Span };
+
+    ghost unit = { λ _. [] };
 
     ghost seen = { λ span. span };
-
-    ghost meaning = { λ _. values.span_of };
 
     fn read(&self, value: &str) -> Result<Option<Option<Span>>, AllocError> {
         Ok(span(value).map(micros_in))
-    }
-}
-
-/// A time-out, or none where it never passes.
-#[derive(Clone, Copy)]
-pub struct Timeout;
-
-impl Reader for Timeout {
-    type Said = Option<Span>;
-
-    ghost Seen = { Option ℕ };
-
-    ghost seen = { λ span. span };
-
-    ghost meaning = { λ _. model.timeout_said };
-
-    fn read(&self, value: &str) -> Result<Option<Option<Span>>, AllocError> {
-        Ok(span(value).map(timeout_in))
     }
 }
 
@@ -209,11 +177,11 @@ pub struct Instance {
 impl Reader for Instance {
     type Said = Option<String>;
 
-    ghost Seen = { Option (List ℕ) };
+    ghost kind = { kinds.TheVariants.Instance };
+
+    ghost unit = { λ _. [] };
 
     ghost seen = { λ instance. option_map string_bytes instance };
-
-    ghost meaning = { λ _. model.default_instance_in };
 
     fn read(&self, value: &str) -> Result<Option<Option<String>>, AllocError> {
         match default_instance_in(value) {
@@ -258,11 +226,11 @@ pub struct Type;
 impl Reader for Type {
     type Said = TypeSaid;
 
-    ghost Seen = { model.TypeSaid };
+    ghost kind = { kinds.TheVariants.ServiceType };
+
+    ghost unit = { λ _. [] };
 
     ghost seen = { said_of };
-
-    ghost meaning = { λ _. model.type_said };
 
     fn read(&self, value: &str) -> Result<Option<TypeSaid>, AllocError> {
         Ok(type_said(value))

@@ -154,7 +154,7 @@ fn item_warning(
     section: Option<&str>,
     item: &Item<'_>,
 ) -> Result<Option<WarningKind>, AllocError>
-    ensures { IfOk result (λ w. w ≡ model.warning_of unit.now (option_map (λ s. s.now) section.entry) (item_of item.now)) }
+    ensures { IfOk result (λ w. w ≡ tests.warning_of unit.now (option_map (λ s. s.now) section.entry) (item_of item.now)) }
 {
     match item {
         Item::Section { name, .. } => Ok(head_warning(unit.suffix(), name.as_str())),
@@ -186,7 +186,7 @@ fn add_warnings(
     source: &Source<'_>,
     warnings: &mut Vec<Warning>,
 ) -> Result<(), AllocError>
-    ensures { OnOk result (map warning_of warnings.new.items ≡ map warning_of warnings.old.items ++ model.warnings_in unit.now (source_of source.now)) }
+    ensures { OnOk result (map warning_of warnings.new.items ≡ map warning_of warnings.old.items ++ tests.warned_in unit.now (source_of source.now)) }
 {
     let mut section = None;
     for item in &source.items {

@@ -1,0 +1,74 @@
+-- What stands in a section that isn't known says nothing: item by item, or sorted out of the file.
+use Rattle.std.proofs.Common.{◌≡◌, ℕ, Bool, true, false, cond, List, [], ◌∷◌, ◌++◌, filter, Option, Some, None, refl, ap, ◌∙◌}
+use Rattle.std.specs.List.{flat_map}
+use Rattle.um_model.proofs.FileForms.{warnings_of}
+use Rattle.um_model.specs.Keys.{is_known_section}
+use Rattle.um_model.specs.Names.{suffix_of}
+use Rattle.um_model.specs.Syntax.{Item, Section, Assignment, Warned, Placed, line_number}
+use Rattle.um_model.specs.Units as model
+use Rattle.um_model.specs.declared.names.Suffix.{Suffix}
+use Rattle.um_model.specs.declared.warnings.WarningKind.{WarningKind}
+use Rattle.um_unit.specs.Sources.{assigned_by, assigned_in}
+use Rattle.um_unit.specs.Tests.{warned_in, warning_of, warnings_at}
+
+module _ {A B : Type 0} (passes : A → Bool) (all some : A → List B) (same : (x : A) → all x ≡ cond (passes x) (some x) []) where
+  one : (x : A) (xs : List A) (b : Bool) → cond b (some x) [] ++ flat_map some (filter passes xs) ≡ flat_map some (cond b (x ∷ filter passes xs) (filter passes xs))
+  one x xs true = refl
+  one x xs false = refl
+
+  -- what is told of each, or of those that pass alone
+  sorted_out : (xs : List A) → flat_map all xs ≡ flat_map some (filter passes xs)
+  sorted_out [] = refl
+  sorted_out (x ∷ xs) = ap (λ ys. ys ++ flat_map all xs) (same x) ∙ ap (λ ys. cond (passes x) (some x) [] ++ ys) (sorted_out xs) ∙ one x xs (passes x)
+
+nothing : {A : Type 0} (b : Bool) → ◌≡◌ {A = List A} [] (cond b [] [])
+nothing true = refl
+nothing false = refl
+
+assigned_heard : (type : Option Suffix) (section : Option (List ℕ)) (item : Item)
+    → assigned_by type section item ≡ cond (model.is_heard type section item) (model.assigned_by section item) []
+assigned_heard type (Some s) (Assignment key value line whole) = refl
+assigned_heard type None (Assignment key value line whole) = refl
+assigned_heard type None (Section name line) = refl
+assigned_heard type (Some s) (Section name line) = refl
+assigned_heard type None (Warned warning line) = refl
+assigned_heard type (Some s) (Warned warning line) = nothing (is_known_section type s)
+
+-- the assignments of a file
+file_assigns : (type : Option Suffix) (source : model.Source)
+    → assigned_in type source.reading ≡ flat_map (λ (p : Placed). model.assigned_by p.section p.item) (model.heard_in type source)
+file_assigns type source =
+    sorted_out (λ (p : Placed). model.is_heard type p.section p.item) (λ p. assigned_by type p.section p.item) (λ p. model.assigned_by p.section p.item)
+    (λ p. assigned_heard type p.section p.item) source.reading
+
+at_warnings : (path : List ℕ) (line : ℕ) (warning : Option WarningKind) (b : Bool) → warnings_at path line (cond b warning None) ≡ cond b (warnings_at path line warning) []
+at_warnings path line warning true = refl
+at_warnings path line warning false = refl
+
+warned_heard : (unit path : List ℕ) (section : Option (List ℕ)) (item : Item)
+    → warnings_at path (line_number item) (warning_of unit section item)
+    ≡ cond (model.is_heard (suffix_of unit) section item) (warnings_at path (line_number item) (model.warning_of unit section item)) []
+warned_heard unit path section (Section name line) = refl
+warned_heard unit path (Some s) (Assignment key value line whole) = at_warnings path line (model.assignment_warning unit s key value) (is_known_section (suffix_of unit) s)
+warned_heard unit path None (Assignment key value line whole) = refl
+warned_heard unit path (Some s) (Warned warning line) = at_warnings path line (Some warning) (is_known_section (suffix_of unit) s)
+warned_heard unit path None (Warned warning line) = refl
+
+-- the warnings of a file
+file_warns : (unit : List ℕ) (source : model.Source)
+    → warned_in unit source ≡ model.warnings_in unit source
+file_warns unit source =
+    sorted_out (λ (p : Placed). model.is_heard (suffix_of unit) p.section p.item) (λ p. warnings_at source.path (line_number p.item) (warning_of unit p.section p.item))
+    (λ p. warnings_at source.path (line_number p.item) (model.warning_of unit p.section p.item)) (λ p. warned_heard unit source.path p.section p.item) source.reading
+
+same_files : {A B : Type 0} (f g : A → List B) → ((x : A) → f x ≡ g x) → (xs : List A) → flat_map f xs ≡ flat_map g xs
+same_files f g same [] = refl
+same_files f g same (x ∷ xs) = ap (λ ys. ys ++ flat_map f xs) (same x) ∙ ap (λ ys. g x ++ ys) (same_files f g same xs)
+
+-- of all files
+pub all_assign : (type : Option Suffix) (sources : List model.Source)
+    → flat_map (λ (s : model.Source). assigned_in type s.reading) sources ≡ model.assignments_in type sources
+all_assign type sources = same_files _ _ (file_assigns type) sources
+
+pub all_warn : (unit : List ℕ) (sources : List model.Source) → flat_map (warned_in unit) sources ≡ warnings_of unit sources
+all_warn unit sources = same_files _ _ (file_warns unit) sources
