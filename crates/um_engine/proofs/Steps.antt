@@ -1,10 +1,10 @@
 -- One step more of settling and of firing, with the actions before and after.
 use Rattle.um_falling.specs.Carrying.{Adds}
-use Rattle.um_model.specs.Machine.{Fires, Happens, Settles}
-use Rattle.std.proofs.Common.{◌≡◌, ℕ, true, false, true≢false, refl, List, [], ◌++◌, Some, sym, ap, ◌∙◌, append_assoc, append-nil}
+use Rattle.um_model.specs.Machine.{Fires, FiresOne, Happens, Settles}
+use Rattle.std.proofs.Common.{◌≡◌, ◌≢◌, ℕ, true, false, true≢false, refl, List, [], ◌++◌, Some, sym, ap, ◌∙◌, append_assoc, append-nil}
 use Rattle.std.specs.FinMap as map
 use Rattle.um_model.specs.Jobs.{Job, BeginsNext}
-use Rattle.um_model.specs.Machine.{State, begun, begins, IsBefore, IsStill, Restarts, ComesDue, restarts, rests, begins_next, none_due, fires, passes}
+use Rattle.um_model.specs.Machine.{State, AreDeadlines, Follows, Tick, ticks, begun, begins, IsBefore, IsStill, Restarts, ComesDue, restarts, rests, begins_next, none_due}
 use Rattle.um_model.specs.Service.{Action, state_of_unit}
 use Rattle.um_model.specs.declared.service.SubState.{SubState}
 use Rattle.um_model.specs.declared.service.SubState.TheVariants.{AutoRestart}
@@ -13,7 +13,7 @@ use Rattle.std.specs.Cmp.Lexicographic.{slice_cmp}
 use Rattle.std.specs.Ordering.{nat_cmp}
 use Rattle.std.proofs.lemmas.Option.{none-some}
 use Rattle.um_model.specs.Timers.{Timers}
-use Rattle.um_engine.specs.Engine.{waits_to_restart, FiresOneTo, passed, fired, IsDue, NoneIsDue}
+use Rattle.um_engine.specs.Engine.{waits_to_restart, IsDue, NoneIsDue}
 
 -- where no job is ready, all has settled
 pub settled : (t : ℕ) (s : State) (before : List Action) → IsStill s → Adds (Settles t s) before s before
@@ -41,9 +41,9 @@ due_passes t s u unit before after none (new, happened, is) = (new, ComesDue.pas
 
 -- a deadline that stands fires, and jobs begin
 pub fires_one : (t deadline : ℕ) (unit : List ℕ) (s u v : State) (before between after : List Action) → (state_of_unit s.units unit).deadline ≡ Some deadline
-    → Adds (ComesDue t s unit) before u between → Adds (Settles t u) between v after → FiresOneTo t deadline unit s before v after
+    → Adds (ComesDue t s unit) before u between → Adds (Settles t u) between v after → Adds (FiresOne t deadline unit s) before v after
 fires_one t deadline unit s u v before between after stands (first, due, is) (next, settles, all) =
-    fired first next stands due settles (all ∙ (ap (λ l. l ++ next) is ∙ append_assoc before first next))
+    (first ++ next, FiresOne.fires stands due settles, all ∙ (ap (λ l. l ++ next) is ∙ append_assoc before first next))
 
 -- where no deadline is due, none fires
 pub none_fires : (t : ℕ) (timers : Timers) (s : State) (before : List Action) → NoneIsDue t timers → Adds (Fires t timers s) before s before
@@ -51,13 +51,19 @@ none_fires t timers s before none = ([], none_due none, sym (append-nil before))
 
 -- a deadline fires, or has passed, and then the others
 pub fires_more : (t : ℕ) (timers : Timers) (deadline : ℕ) (unit : List ℕ) (s u v : State) (before between after : List Action) → IsDue t timers deadline unit
-    → FiresOneTo t deadline unit s before u between → Adds (Fires t (map.remove timers unit) u) between v after → Adds (Fires t timers s) before v after
-fires_more t timers deadline unit s u v before between after due (passed gone) (more, later, all) = (more, passes deadline unit due.0 due.1 gone later, all)
-fires_more t timers deadline unit s u v before between after due (fired first next stands happens settles is) (more, later, all) = (
-  first ++ (next ++ more),
-  fires deadline unit due.0 due.1 stands happens settles later,
-  all ∙ (ap (λ l. l ++ more) is ∙ (append_assoc before (first ++ next) more ∙ ap (λ l. before ++ l) (append_assoc first next more))),
-)
+    → Adds (FiresOne t deadline unit s) before u between → Adds (Fires t (map.remove timers unit) u) between v after → Adds (Fires t timers s) before v after
+fires_more t timers deadline unit s u v before between after due (first, one, is) (more, later, all) =
+    (first ++ more, Fires.fires_next deadline unit due.0 due.1 one later, all ∙ (ap (λ l. l ++ more) is ∙ append_assoc before first more))
+
+-- a deadline that is gone or changed fires nothing
+pub gone_one : (t deadline : ℕ) (unit : List ℕ) (s : State) (before : List Action) → (state_of_unit s.units unit).deadline ≢ Some deadline
+    → Adds (FiresOne t deadline unit s) before s before
+gone_one t deadline unit s before gone = ([], FiresOne.is_gone gone, sym (append-nil before))
+
+-- a tick, by the deadlines that are held
+pub tick_fires : (t : ℕ) (timers : Timers) (s v : State) (before after : List Action) → AreDeadlines s.units timers → Adds (Fires t timers s) before v after
+    → Adds (Follows t s Tick) before v after
+tick_fires t timers s v before after are (new, fired, is) = (new, ticks timers are fired, is)
 
 -- where no deadline stands, none is due
 pub none_stands : (t : ℕ) (timers : Timers) → timers ≡ map.empty → NoneIsDue t timers

@@ -16,7 +16,7 @@ use Rattle.um_model.specs.declared.service.End.{End}
 use Rattle.um_model.specs.declared.transition.UnitEvent.{UnitEvent}
 use Rattle.um_model.specs.declared.transition.UnitEvent.TheVariants.{Executed}
 use Rattle.um_graph.specs.Graph.{GraphView}
-use Rattle.um_engine.specs.Engine.{FollowsUpon, MetBy, FiresTo, IsSame}
+use Rattle.um_engine.specs.Engine.{FollowsUpon, MetBy, IsSame}
 use Rattle.um_falling.specs.Over.{Serves}
 use Rattle.um_engine.specs.Served.{ServedView}
 
@@ -89,13 +89,13 @@ report_decided s number unit starts asked is e f g = (told, tells)
         ∙ (g ∙ number_is number (state_of_unit s.units unit).main h.main))
 
 -- a tick, by the deadlines that fired
-pub tick_follows : (t : ℕ) (s copy v : State) (none all : List Action) → copy ≡ s → none ≡ [] → FiresTo t copy none v all → Follows t s Tick all v
+pub tick_follows : (t : ℕ) (s copy v : State) (none all : List Action) → copy ≡ s → none ≡ [] → Adds (Follows t copy Tick) none v all → Follows t s Tick all v
 tick_follows t s copy v none all same e fires =
-    let (timers, are, (new, fired, is)) = subst (λ x. FiresTo t x none v all) same fires in
-    subst (λ l. Follows t s Tick l v) (sym (is ∙ ap (λ l. l ++ new) e)) (ticks timers are fired)
+    let (new, follows, is) = subst (λ x. Adds (Follows t x Tick) none v all) same fires in
+    subst (λ l. Follows t s Tick l v) (sym (is ∙ ap (λ l. l ++ new) e)) follows
 
 -- a tick that asked for nothing and left units, jobs and the next number has no effect
-pub tick_idle : (t : ℕ) (s copy v : State) (none all : List Action) → copy ≡ s → none ≡ [] → FiresTo t copy none v all → all ≡ [] → IsSame s v → HasNoEffect t s Tick
+pub tick_idle : (t : ℕ) (s copy v : State) (none all : List Action) → copy ≡ s → none ≡ [] → Adds (Follows t copy Tick) none v all → all ≡ [] → IsSame s v → HasNoEffect t s Tick
 tick_idle t s copy v none all same e fires nothing stays = tick_is_idle t s v all (tick_follows t s copy v none all same e fires) nothing stays
 
 -- a graph that serves for a state serves for its copy

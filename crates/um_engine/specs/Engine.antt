@@ -63,17 +63,6 @@ abbrev pub waits_to_restart : SubState → Bool
 waits_to_restart AutoRestart = true
 waits_to_restart other = false
 
--- a deadline fires where it still stands
-pub data FiresOneTo (t deadline : ℕ) (unit : List ℕ) (s : model.State) (before : List Action) : model.State → List Action → Type 0 where
-  passed : (state_of_unit s.units unit).deadline ≢ Some deadline → FiresOneTo t deadline unit s before s before
-  fired : {u v : model.State} {after : List Action} (first next : List Action) → (state_of_unit s.units unit).deadline ≡ Some deadline
-      → model.ComesDue t s unit first u → model.Settles t u next v → after ≡ before ++ (first ++ next)
-      → FiresOneTo t deadline unit s before v after
-
--- the deadlines that stand fire
-abbrev pub FiresTo : ℕ → model.State → List Action → model.State → List Action → Type 0
-FiresTo t s before s' after = (timers : Timers) × model.AreDeadlines s.units timers × Adds (model.Fires t timers s) before s' after
-
 -- the deadline that is due first, and not past the moment
 abbrev pub IsDue : ℕ → Timers → ℕ → List ℕ → Type 0
 IsDue t timers deadline unit = IsDueFirst timers deadline unit × (deadline ≤ t)

@@ -1,6 +1,6 @@
 ghost use Rattle.um_falling.specs.Carrying.{Adds};
 ghost use Rattle.std.specs.Prelude.{◌≡◌, false, map, Contains, Some, IfOk, IfSome, OnOk, MatchOption};
-ghost use Rattle.um_engine.specs.Engine.{waits_to_restart, FiresOneTo, FiresTo, IsDue, NoneIsDue};
+ghost use Rattle.um_engine.specs.Engine.{waits_to_restart, IsDue, NoneIsDue};
 ghost use Rattle.um_engine.specs.Filled.{Tells, is_deactivating, told_of};
 ghost use Rattle.um_falling.specs.Carrying.{KeepsOthers};
 ghost use Rattle.um_falling.specs.Over.{Serves};
@@ -187,7 +187,7 @@ fn fire_one(
     due: &Due,
 ) -> Result<(), AllocError>
     ensures { OnOk result (Serves graph.now (state_of state.old)
-        → FiresOneTo moment due.now.deadline due.now.unit (state_of state.old) (map action_of actions.old.items) (state_of state.new) (map action_of actions.new.items)
+        → Adds (model.FiresOne moment due.now.deadline due.now.unit (state_of state.old)) (map action_of actions.old.items) (state_of state.new) (map action_of actions.new.items)
         × Serves graph.now (state_of state.new)) }
 {
     if state.units().get(&due.unit).deadline != Some(due.deadline) {
@@ -208,7 +208,7 @@ pub fn fire(
     moment: Moment,
 ) -> Result<(), AllocError>
     ensures { OnOk result (Serves graph.now (state_of state.old)
-        → FiresTo moment (state_of state.old) (map action_of actions.old.items) (state_of state.new) (map action_of actions.new.items)
+        → Adds (model.Follows moment (state_of state.old) model.Tick) (map action_of actions.old.items) (state_of state.new) (map action_of actions.new.items)
         × Serves graph.now (state_of state.new)) }
 {
     let mut timers = state.units().deadlines()?;

@@ -6,7 +6,7 @@ use Rattle.um_model.specs.Disk.{Image}
 use Rattle.um_model.specs.Finished.{Finishes, IsAtRest}
 use Rattle.um_model.specs.Jobs.{Job, start_job, jobs_of_unit, state_of_job}
 use Rattle.um_model.specs.Lives.{Life, Lived, AreKept}
-use Rattle.um_model.specs.Machine.{State, Command, Happening, Event, Commanded, Input, Reply, Settles, unit_asked, jobs_asked, ForUnit, Done, Changes, Does, units_reset, end_of, Fires, Follows, TakesEffect, reply_after, moment_of, Step, Run, goes}
+use Rattle.um_model.specs.Machine.{State, Command, Happening, Event, Commanded, Input, Reply, Settles, unit_asked, jobs_asked, ForUnit, Done, Changes, Does, units_reset, end_of, Fires, FiresOne, Follows, TakesEffect, reply_after, moment_of, Step, Run, goes}
 use Rattle.um_model.specs.Service.{Action, is_number, is_success, state_of_unit}
 use Rattle.um_model.specs.Stands.{IsStoreOf}
 use Rattle.um_model.specs.Store.{body_limit}
@@ -44,11 +44,11 @@ module _ (x : List ℕ) where
   fires_none : (t : ℕ) (timers : Timers) (s : State) (actions : List Action) (v : State) (h : Fires t timers s actions v) → IsAtRest s x
       → HasNone (begun_firing h)
   fires_none t timers s actions v (Fires.none_due none) rest = λ none. none
-  fires_none t timers s actions v (Fires.fires {u = u} {v = p} {first = first} {next = next} {more = more} d n least due is h k l) rest =
+  fires_none t timers s actions v (Fires.fires_next {more = more} d n least due (FiresOne.fires {u = u} {v = p} {first = first} {next = next} is h k) l) rest =
       let due_rests : IsAtRest u x = due_rest x t s n first u h rest in
       none_of_both (begun_settling k) (begun_firing l) (settles_none t u next p k due_rests)
       (fires_none t (map.remove timers n) p more v l (settles_rest x t u next p k due_rests))
-  fires_none t timers s actions v (Fires.passes {more = more} d n least due isnt l) rest = fires_none t (map.remove timers n) s more v l rest
+  fires_none t timers s actions v (Fires.fires_next {more = more} d n least due (FiresOne.is_gone isnt) l) rest = fires_none t (map.remove timers n) s more v l rest
 
   follows_none : (t : ℕ) (s : State) (happening : Happening) (actions : List Action) (v : State) (h : Follows t s happening actions v) → IsAtRest s x
       → HasNone (begun_following h)

@@ -4,7 +4,7 @@
 use Rattle.std.specs.Prelude.{◌≡◌, ◌≢◌, ◌⊎◌, ⊤, ℕ, List, [], ◌∷◌, ◌++◌, None, Contains}
 use Rattle.um_model.specs.Finished.{Finishes}
 use Rattle.um_model.specs.Jobs.{Job, start_job, jobs_of_unit}
-use Rattle.um_model.specs.Machine.{State, Command, Happening, Event, Commanded, Input, Reply, Done, Changes, Settles, begins_next, Fires, Follows, TakesEffect, Step, Run, goes}
+use Rattle.um_model.specs.Machine.{State, Command, Happening, Event, Commanded, Input, Reply, Done, Changes, Settles, begins_next, Fires, FiresOne, Follows, TakesEffect, Step, Run, goes}
 use Rattle.um_model.specs.Service.{Action}
 use Rattle.um_model.specs.Timers.{Timers}
 
@@ -16,8 +16,8 @@ begun_settling (begins_next job least effect more) = job ∷ begun_settling more
 -- those that begin behind the deadlines that fire
 abbrev pub begun_firing : {t : ℕ} {timers : Timers} {s v : State} {actions : List Action} → Fires t timers s actions v → List Job
 begun_firing (Fires.none_due none) = []
-begun_firing (Fires.fires deadline unit first due stands comes settles more) = begun_settling settles ++ begun_firing more
-begun_firing (Fires.passes deadline unit first due gone more) = begun_firing more
+begun_firing (Fires.fires_next deadline unit first due (FiresOne.fires stands comes settles) more) = begun_settling settles ++ begun_firing more
+begun_firing (Fires.fires_next deadline unit first due (FiresOne.is_gone gone) more) = begun_firing more
 
 -- those that begin by what follows from what happens
 abbrev pub begun_following : {t : ℕ} {s v : State} {happening : Happening} {actions : List Action} → Follows t s happening actions v → List Job

@@ -8,7 +8,7 @@ use Rattle.std.specs.Ordering.{nat_cmp, eq_by_cmp}
 use Rattle.um_model.specs.Dependencies as model
 use Rattle.um_model.specs.Dependencies.{Links, IsNamed, IsKnown, KnowsTooMany, extra}
 use Rattle.um_model.specs.Jobs.{Job, job_of, jobs, no_jobs, jobs_of_unit, has_job, with_jobs, cancelled, IsPending, jobs_left, state_of_job}
-use Rattle.um_model.specs.Machine.{State, empty_state, Command, Happening, Event, Input, Reply, IsHeld, IsCrowded, settings_in, around, changed, IsTakenAlong, TakesAlong, Becomes, Carries, change_of, FallDown, all_told, told_next, Happens, begins, begun, Settles, Refuses, Changes, AreReset, all_reset, reset_next, units_reset, Does, with_plan, unit_asked, with_start_alone, Restarts, isnt_put, ComesDue, Fires, IsProcessOf, booted, Follows, TakesEffect, end_of, moment_of, Step, Run}
+use Rattle.um_model.specs.Machine.{State, empty_state, Command, Happening, Event, Input, Reply, IsHeld, IsCrowded, settings_in, around, changed, IsTakenAlong, TakesAlong, Becomes, Carries, change_of, FallDown, all_told, told_next, Happens, begins, begun, Settles, Refuses, Changes, AreReset, all_reset, reset_next, units_reset, Does, with_plan, unit_asked, with_start_alone, Restarts, isnt_put, ComesDue, Fires, FiresOne, IsProcessOf, booted, Follows, TakesEffect, end_of, moment_of, Step, Run}
 use Rattle.um_model.specs.Reached.{first, next}
 use Rattle.um_model.specs.Refusals.{Refused, at_first, at_second}
 use Rattle.um_model.specs.Resolution.{unit_path}
@@ -285,10 +285,10 @@ due_no_more t s unit actions v is (ComesDue.passes isnt h) = happens_no_more t u
 
 pub fires_no_more : (t : ℕ) (timers : Timers) (s : State) (actions : List Action) (v : State) → Fires t timers s actions v → HoldsNoMore s v
 fires_no_more t timers s actions v (Fires.none_due none) = same_no_more s
-fires_no_more t timers s actions v (Fires.fires {u = u} {v = p} {first = x} {next = y} {more = z} d n least due is h k l) =
+fires_no_more t timers s actions v (Fires.fires_next {more = z} d n least due (FiresOne.fires {u = u} {v = p} {first = x} {next = y} is h k) l) =
     no_more_trans s u v (due_no_more t s n x u (deadline_held s n d is) h)
     (no_more_trans u p v (settles_no_more t u y p k) (fires_no_more t (map.remove timers n) p z v l))
-fires_no_more t timers s actions v (Fires.passes {more = z} d n least due isnt l) = fires_no_more t (map.remove timers n) s z v l
+fires_no_more t timers s actions v (Fires.fires_next {more = z} d n least due (FiresOne.is_gone isnt) l) = fires_no_more t (map.remove timers n) s z v l
 
 -- the unit of a live process is held
 pub number_held : (s : State) (number : ℕ) (unit : List ℕ) → IsProcessOf s.units number unit → IsHeld s unit

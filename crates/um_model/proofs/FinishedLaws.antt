@@ -7,7 +7,7 @@ use Rattle.std.specs.Ordering.{nat_cmp}
 use Rattle.um_model.specs.Ends.{is_clean, is_failed, is_restart_wanted}
 use Rattle.um_model.specs.Finished.{is_exited, Finishes, is_down_or_done, IsAtRest, PutsStart, now, later}
 use Rattle.um_model.specs.Jobs.{BeginsNext, Job, job_of, jobs, no_jobs, jobs_of_unit}
-use Rattle.um_model.specs.Machine.{IsBefore, State, Command, Happening, Event, Commanded, Input, Reply, TakesAlong, Becomes, Carries, change_of, changed, settings_in, around, begins, begun, FallDown, all_told, told_next, Happens, AreReset, all_reset, reset_next, Settles, unit_asked, jobs_asked, Refuses, Changes, Does, units_reset, end_of, Restarts, isnt_put, ComesDue, Fires, booted, Follows, TakesEffect, moment_of, Step, Run}
+use Rattle.um_model.specs.Machine.{IsBefore, State, Command, Happening, Event, Commanded, Input, Reply, TakesAlong, Becomes, Carries, change_of, changed, settings_in, around, begins, begun, FallDown, all_told, told_next, Happens, AreReset, all_reset, reset_next, Settles, unit_asked, jobs_asked, Refuses, Changes, Does, units_reset, end_of, Restarts, isnt_put, ComesDue, Fires, FiresOne, booted, Follows, TakesEffect, moment_of, Step, Run}
 use Rattle.um_model.specs.Refusals.{Refused}
 use Rattle.um_model.specs.Service.{Action, active_state_of, dead_unit, is_dead, is_number, is_success, state_of_unit}
 use Rattle.um_model.specs.Settings.{ServiceSettings, has_place}
@@ -251,9 +251,9 @@ module _ (x : List ℕ) where
 
   fires_rest : (t : ℕ) (timers : Timers) (s : State) (actions : List Action) (v : State) → Fires t timers s actions v → AtRest s → AtRest v
   fires_rest t timers s actions v (Fires.none_due none) rest = rest
-  fires_rest t timers s actions v (Fires.fires {u = u} {v = p} {first = first} {next = next} {more = more} d n least due is h k l) rest =
+  fires_rest t timers s actions v (Fires.fires_next {more = more} d n least due (FiresOne.fires {u = u} {v = p} {first = first} {next = next} is h k) l) rest =
       fires_rest t (map.remove timers n) p more v l (settles_rest t u next p k (due_rest t s n first u h rest))
-  fires_rest t timers s actions v (Fires.passes {more = more} d n least due isnt l) rest = fires_rest t (map.remove timers n) s more v l rest
+  fires_rest t timers s actions v (Fires.fires_next {more = more} d n least due (FiresOne.is_gone isnt) l) rest = fires_rest t (map.remove timers n) s more v l rest
 
   -- ---- a step
 

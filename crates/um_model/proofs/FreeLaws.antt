@@ -4,7 +4,7 @@ use Rattle.std.proofs.lemmas.Option.{none-some}
 use Rattle.std.specs.FinMap as map
 use Rattle.um_model.specs.Dependencies.{IsKnown, Precedes, Mentions, extra}
 use Rattle.um_model.specs.Jobs.{Job, jobs, no_jobs, jobs_of_unit, with_jobs, job_of, unless_waiting, cancelled, without_start, GoesBefore, starts, stops, stops_then_starts, stops_then_starts_before, of_one_unit, ComesBefore, IsPending, unless_running, start_left, jobs_left, state_of_job}
-use Rattle.um_model.specs.Machine.{State, empty_state, Command, Happening, Event, Input, Reply, IsHeldOr, IsBefore, changed, TakesAlong, Becomes, Carries, change_of, begins, begun, Happens, AreReset, Settles, unit_asked, jobs_asked, scene_at, CausesOfLoad, Refuses, Changes, Does, units_reset, Restarts, ComesDue, Fires, booted, Follows, end_of, moment_of, Step, Run, isnt_put, TakesEffect}
+use Rattle.um_model.specs.Machine.{State, empty_state, Command, Happening, Event, Input, Reply, IsHeldOr, IsBefore, changed, TakesAlong, Becomes, Carries, change_of, begins, begun, Happens, AreReset, Settles, unit_asked, jobs_asked, scene_at, CausesOfLoad, Refuses, Changes, Does, units_reset, Restarts, ComesDue, Fires, FiresOne, booted, Follows, end_of, moment_of, Step, Run, isnt_put, TakesEffect}
 use Rattle.um_model.specs.Order.{IsCycle}
 use Rattle.um_model.specs.Plan.{AreFree, Counts, restarted, started, stopped, left, Demands, IsPlan, units_of}
 use Rattle.um_model.specs.Reached.{first, next}
@@ -180,9 +180,9 @@ due_free t s unit actions v (ComesDue.passes isnt h) free = less_free s v (happe
 
 fires_free : (t : ℕ) (timers : Timers) (s : State) (actions : List Action) (v : State) → Fires t timers s actions v → IsFree s → IsFree v
 fires_free t timers s actions v (Fires.none_due none) free = free
-fires_free t timers s actions v (Fires.fires {u = u} {v = p} {first = x} {next = y} {more = z} d n least due is h k l) free =
+fires_free t timers s actions v (Fires.fires_next {more = z} d n least due (FiresOne.fires {u = u} {v = p} {first = x} {next = y} is h k) l) free =
     fires_free t (map.remove timers n) p z v l (less_free u p (settles_less t u y p k) (due_free t s n x u h free))
-fires_free t timers s actions v (Fires.passes {more = z} d n least due isnt l) free = fires_free t (map.remove timers n) s z v l free
+fires_free t timers s actions v (Fires.fires_next {more = z} d n least due (FiresOne.is_gone isnt) l) free = fires_free t (map.remove timers n) s z v l free
 
 -- ---- a plan
 

@@ -4,7 +4,7 @@ use Rattle.std.specs.Prelude.{⊤}
 use Rattle.std.specs.FinMap as map
 use Rattle.um_model.specs.InputSpellings.{FitEvent}
 use Rattle.um_model.specs.Jobs.{Job}
-use Rattle.um_model.specs.Machine.{State, Command, Event, Carries, FallDown, all_told, told_next, Happens, begins, begun, Settles, rests, begins_next, Changes, AreReset, all_reset, reset_next, units_reset, Does, end_of, with_start_alone, Restarts, isnt_put, ComesDue, Fires, none_due, booted, ends, reports, ticks, boots, TakesEffect, obeys, meets}
+use Rattle.um_model.specs.Machine.{State, Command, Event, Carries, FallDown, all_told, told_next, Happens, begins, begun, Settles, rests, begins_next, Changes, AreReset, all_reset, reset_next, units_reset, Does, end_of, with_start_alone, Restarts, isnt_put, ComesDue, Fires, FiresOne, none_due, booted, ends, reports, ticks, boots, TakesEffect, obeys, meets}
 use Rattle.um_model.specs.Service.{Action, is_number, state_of_unit}
 use Rattle.um_model.specs.Spellings.{FitEnd}
 use Rattle.um_model.specs.Timers.{Timers}
@@ -62,9 +62,9 @@ module _ (t : ℕ) (Inv : State → Type 0)
 
     kept_firing : (timers : Timers) (s : State) (actions : List Action) (v : State) → Fires t timers s actions v → Inv s → Inv v
     kept_firing timers s actions v (none_due none) inv = inv
-    kept_firing timers s actions v (Fires.fires {u = u} {v = p} {first = x} {next = y} {more = z} d n least due is h k l) inv =
+    kept_firing timers s actions v (Fires.fires_next {more = z} d n least due (FiresOne.fires {u = u} {v = p} {first = x} {next = y} is h k) l) inv =
         kept_firing (map.remove timers n) p z v l (kept_settling u y p k (kept_due s n x u h inv))
-    kept_firing timers s actions v (Fires.passes {more = z} d n least due isnt l) inv = kept_firing (map.remove timers n) s z v l inv
+    kept_firing timers s actions v (Fires.fires_next {more = z} d n least due (FiresOne.is_gone isnt) l) inv = kept_firing (map.remove timers n) s z v l inv
 
     kept_doing : (s : State) (command : Command) (actions : List Action) (u : State) → Does t s command actions u → Inv s → Inv u
     kept_doing s command actions u (Does.changes h) inv = changes_so s command u h inv

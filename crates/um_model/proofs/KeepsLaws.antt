@@ -1,6 +1,6 @@
 -- What unit events and ticks leave as it was: trees, boot and clock.
 use Rattle.std.proofs.Common.{ℕ, ◌≡◌, ◌∙◌, List, refl, ap}
-use Rattle.um_model.specs.Machine.{State, Carries, change_of, Becomes, alone, along, begins, begun, Settles, rests, begins_next, Happens, AreReset, Restarts, isnt_put, ComesDue, Fires}
+use Rattle.um_model.specs.Machine.{State, Carries, change_of, Becomes, alone, along, begins, begun, Settles, rests, begins_next, Happens, AreReset, Restarts, isnt_put, ComesDue, Fires, FiresOne}
 use Rattle.um_model.specs.Service.{Action}
 use Rattle.um_model.specs.Timers.{Timers}
 use Rattle.um_model.specs.declared.transition.Change.{Change}
@@ -59,9 +59,9 @@ comes_due_keeps t s unit actions v (ComesDue.passes isnt passed) = happens_keeps
 -- and all deadlines that pass
 pub fires_keeps : (t : ℕ) (timers : Timers) (s : State) (actions : List Action) (v : State) → Fires t timers s actions v → Keeps s v
 fires_keeps t timers s actions v (Fires.none_due none) = itself s
-fires_keeps t timers s actions w (Fires.fires {u = u} {v = v} {first = first} {next = next} {more = more} deadline unit due low stands comes settles later) =
+fires_keeps t timers s actions w (Fires.fires_next {more = more} deadline unit due low (FiresOne.fires {u = u} {v = v} {first = first} {next = next} stands comes settles) later) =
     then_keeps s u w (comes_due_keeps t s unit first u comes) (then_keeps u v w (settles_keeps t u next v settles) (fires_keeps t _ v more w later))
-fires_keeps t timers s actions w (Fires.passes deadline unit due low gone later) = fires_keeps t _ s actions w later
+fires_keeps t timers s actions w (Fires.fires_next deadline unit due low (FiresOne.is_gone gone) later) = fires_keeps t _ s actions w later
 
 -- a state that keeps these, and has the same units, jobs and next number, is the same
 pub same_state : (s v : State) → Keeps s v → v.units ≡ s.units → v.pending ≡ s.pending → v.next ≡ s.next → v ≡ s

@@ -7,7 +7,7 @@ use Rattle.um_model.specs.Ends.{is_starting, is_stopping}
 use Rattle.um_model.specs.Transitions.{transition, HasNumber}
 use Rattle.um_model.specs.Jobs.{Job, stop_job, start_job, job_of, jobs, no_jobs, jobs_of_unit, is_active, is_up, started, stopped, jobs_for, unless_waiting, cancelled, without_start, state_of_job, IsPending, of_one_unit, ComesBefore, IsReady, unless_running, start_left, jobs_left}
 use Rattle.um_model.specs.Timers.{Timers}
-use Rattle.um_model.specs.Machine.{State, empty_state, Command, Happening, Event, Input, Reply, IsBefore, TakesAlong, Becomes, Carries, change_of, changed, around, begins, begun, IsStill, FallDown, Happens, AreReset, Settles, begins_next, unit_asked, with_plan, jobs_asked, scene_at, Changes, puts, links, removes, reloads, plans, demands_nothing, cancels, installs, Does, units_reset, end_of, Restarts, ComesDue, Fires, booted, Follows, ends, reports, ticks, boots, obeys, meets, moment_of, Step, refused, crowded_out, idle, taken, Run, goes, settings_in, isnt_put, TakesEffect}
+use Rattle.um_model.specs.Machine.{State, empty_state, Command, Happening, Event, Input, Reply, IsBefore, TakesAlong, Becomes, Carries, change_of, changed, around, begins, begun, IsStill, FallDown, Happens, AreReset, Settles, begins_next, unit_asked, with_plan, jobs_asked, scene_at, Changes, puts, links, removes, reloads, plans, demands_nothing, cancels, installs, Does, units_reset, end_of, Restarts, ComesDue, Fires, FiresOne, booted, Follows, ends, reports, ticks, boots, obeys, meets, moment_of, Step, refused, crowded_out, idle, taken, Run, goes, settings_in, isnt_put, TakesEffect}
 use Rattle.um_model.specs.Plan.{IsPlan}
 use Rattle.um_model.specs.Servable.{IsFree}
 use Rattle.um_model.specs.declared.dependencies.Demand.{Demand}
@@ -333,9 +333,9 @@ module _ (keeps : (s : ServiceSettings) (c : Around) (u : UnitState) (e : UnitEv
 
   fired_fits : (t : ℕ) (timers : Timers) (s : State) (actions : List Action) (v : State) → Fires t timers s actions v → AllFit s × IsStill s → AllFit v × IsStill v
   fired_fits t timers s actions v (Fires.none_due none) calm = calm
-  fired_fits t timers s actions v (Fires.fires {u = u} {v = p} {first = x} {next = y} {more = z} d n first due is h k l) calm =
+  fired_fits t timers s actions v (Fires.fires_next {more = z} d n first due (FiresOne.fires {u = u} {v = p} {first = x} {next = y} is h k) l) calm =
       fired_fits t (map.remove timers n) p z v l (settled_fits t u y p k (due_fits t s n x u h calm.0))
-  fired_fits t timers s actions v (Fires.passes {more = z} d n first due isnt l) calm = fired_fits t (map.remove timers n) s z v l calm
+  fired_fits t timers s actions v (Fires.fires_next {more = z} d n first due (FiresOne.is_gone isnt) l) calm = fired_fits t (map.remove timers n) s z v l calm
 
   followed_fits : (t : ℕ) (s : State) (happening : Happening) (actions : List Action) (v : State) → Follows t s happening actions v → AllFit s × IsStill s → AllFit v × IsStill v
   followed_fits t s happening actions v (ends {number = number} {end = end} {first = first} {more = more} {u = u} unit is h k) calm =

@@ -12,7 +12,7 @@ use Rattle.um_model.specs.Jobs.{Job, IsReady, IsToldBefore, by_name, stop_first,
 use Rattle.um_model.specs.Plan.{IsPlan, CausesOfPlan, NamesCycle, units_of}
 use Rattle.um_model.specs.Timers.{Timers}
 use Rattle.um_model.specs.Transitions.{HasNumber}
-use Rattle.um_model.specs.Machine.{State, Command, PutFile, PutLink, Remove, DaemonReload, ForUnit, Cancel, ResetFailed, Install, Happening, ProcessEnded, ProcessExecuted, Tick, Booted, Event, Input, Reply, EnabledAs, Listed, Refusal, Query, IsReplyTo, shows, tells_activity, tells_failure, tells_files, tells_enabling, unit_listed, lists_units, lists_jobs, Becomes, alone, along, Carries, change_of, settings_in, around, FallsWith, AreByName, FallDown, all_told, told_next, Happens, happens, begins, begun, IsBefore, Settles, begins_next, IsProcessOf, AreDeadlines, end_of, Restarts, isnt_put, ComesDue, restarts, Fires, none_due, fires, AwaitsReport, IsHeld, IsHeldOr, scene_at, IsCrowded, IsNotThere, IsMissing, HasNoPlan, HasNoneWaiting, CausesOfLoad, LoadsNone, active_asked, demand_of, unit_asked, Refuses, Changes, puts, links, removes, reloads, plans, demands_nothing, cancels, installs, units_reset, AreReset, all_reset, reset_next, Does, changes, resets, Follows, ends, reports, ticks, boots, HasNoEffect, is_over, isnt_awaited, is_idle, is_known, TakesEffect, obeys, meets, HasNoRoom, moment_of, Step, refused, crowded_out, idle, taken, reply_after, Run, goes}
+use Rattle.um_model.specs.Machine.{State, Command, PutFile, PutLink, Remove, DaemonReload, ForUnit, Cancel, ResetFailed, Install, Happening, ProcessEnded, ProcessExecuted, Tick, Booted, Event, Input, Reply, EnabledAs, Listed, Refusal, Query, IsReplyTo, shows, tells_activity, tells_failure, tells_files, tells_enabling, unit_listed, lists_units, lists_jobs, Becomes, alone, along, Carries, change_of, settings_in, around, FallsWith, AreByName, FallDown, all_told, told_next, Happens, happens, begins, begun, IsBefore, Settles, begins_next, IsProcessOf, AreDeadlines, end_of, Restarts, isnt_put, ComesDue, restarts, Fires, FiresOne, none_due, AwaitsReport, IsHeld, IsHeldOr, scene_at, IsCrowded, IsNotThere, IsMissing, HasNoPlan, HasNoneWaiting, CausesOfLoad, LoadsNone, active_asked, demand_of, unit_asked, Refuses, Changes, puts, links, removes, reloads, plans, demands_nothing, cancels, installs, units_reset, AreReset, all_reset, reset_next, Does, changes, resets, Follows, ends, reports, ticks, boots, HasNoEffect, is_over, isnt_awaited, is_idle, is_known, TakesEffect, obeys, meets, HasNoRoom, moment_of, Step, refused, crowded_out, idle, taken, reply_after, Run, goes}
 use Rattle.um_model.specs.declared.commands.JobMode.{JobMode}
 use Rattle.um_model.specs.declared.commands.UnitVerb.{UnitVerb}
 use Rattle.um_model.specs.declared.dependencies.Demand.{Demand}
@@ -175,28 +175,25 @@ one_come_due t s unit a b v w (restarts is h) (ComesDue.passes isnt k) = absurd 
 one_come_due t s unit a b v w (ComesDue.passes isnt h) (restarts is k) = absurd (isnt is)
 one_come_due t s unit a b v w (ComesDue.passes isnt h) (ComesDue.passes too k) = one_happened t unit DeadlinePasses s a b v w h k
 
+one_firing : (t deadline : ℕ) (unit : List ℕ) (s : State) (a b : List Action) (v w : State) → FiresOne t deadline unit s a v → FiresOne t deadline unit s b w → (a ≡ b) × (v ≡ w)
+one_firing t deadline unit s a b v w (FiresOne.fires {u = u} {first = x} {next = y} is h k) (FiresOne.fires {u = u'} {first = x'} {next = y'} was g m) =
+    let happened = one_come_due t s unit x x' u u' h g in
+    let settled = one_settled t u y y' v w k (subst (λ i. Settles t i y' w) (sym happened.1) m) in
+    (ap (λ i. i ++ y) happened.0 ∙ ap (λ i. x' ++ i) settled.0, settled.1)
+one_firing t deadline unit s a b v w (FiresOne.fires is h k) (FiresOne.is_gone isnt) = absurd (isnt is)
+one_firing t deadline unit s a b v w (FiresOne.is_gone isnt) (FiresOne.fires is h k) = absurd (isnt is)
+one_firing t deadline unit s a b v w (FiresOne.is_gone isnt) (FiresOne.is_gone too) = (refl, refl)
+
 -- a tick has one end, with one list of actions
 pub one_fired : (t : ℕ) (timers : Timers) (s : State) (a b : List Action) (v w : State) → Fires t timers s a v → Fires t timers s b w → (a ≡ b) × (v ≡ w)
 one_fired t timers s a b v w (none_due none) (none_due too) = (refl, refl)
-one_fired t timers s a b v w (none_due none) (fires d n first due is h k l) = absurd (let late = none d n first.has in omega arith)
-one_fired t timers s a b v w (none_due none) (Fires.passes d n first due isnt l) = absurd (let late = none d n first.has in omega arith)
-one_fired t timers s a b v w (fires d n first due is h k l) (none_due none) = absurd (let late = none d n first.has in omega arith)
-one_fired t timers s a b v w (Fires.passes d n first due isnt l) (none_due none) = absurd (let late = none d n first.has in omega arith)
-one_fired t timers s a b v w (fires {u = u} {v = p} {first = x} {next = y} {more = z} d n first due is h k l) (fires {u = u'} {v = p'} {first = x'} {next = y'} {more = z'} e o too late was g m q) =
+one_fired t timers s a b v w (none_due none) (Fires.fires_next d n first due f l) = absurd (let late = none d n first.has in omega arith)
+one_fired t timers s a b v w (Fires.fires_next d n first due f l) (none_due none) = absurd (let late = none d n first.has in omega arith)
+one_fired t timers s a b v w (Fires.fires_next {u = p} {first = x} {more = z} d n first due f l) (Fires.fires_next {u = p'} {first = x'} {more = z'} e o too late g q) =
     let same = one_due_first timers e d o n too first in
-    let happened = one_come_due t s n x x' u u' h (subst (λ i. ComesDue t s i x' u') same.1 g) in
-    let settled = one_settled t u y y' p p' k (subst (λ i. Settles t i y' p') (sym happened.1) m) in
-    let fired = one_fired t (map.remove timers n) p z z' v w l (subst (λ i. Fires t (map.remove timers n) i z' w) (sym settled.1) (subst (λ i. Fires t (map.remove timers i) p' z' w) same.1 q)) in
-    (ap (λ i. i ++ (y ++ z)) happened.0 ∙ (ap (λ i. x' ++ (i ++ z)) settled.0 ∙ ap (λ i. x' ++ (y' ++ i)) fired.0), fired.1)
-one_fired t timers s a b v w (fires d n first due is h k l) (Fires.passes e o too late wasnt q) =
-    let same = one_due_first timers e d o n too first in
-    absurd (wasnt (ap (λ i. (state_of_unit s.units i).deadline) same.1 ∙ (is ∙ ap Some (sym same.0))))
-one_fired t timers s a b v w (Fires.passes d n first due isnt l) (fires e o too late was g m q) =
-    let same = one_due_first timers d e n o first too in
-    absurd (isnt (ap (λ i. (state_of_unit s.units i).deadline) same.1 ∙ (was ∙ ap Some (sym same.0))))
-one_fired t timers s a b v w (Fires.passes d n first due isnt l) (Fires.passes e o too late wasnt q) =
-    let same = one_due_first timers e d o n too first in
-    one_fired t (map.remove timers n) s a b v w l (subst (λ i. Fires t (map.remove timers i) s b w) same.1 q)
+    let firing = one_firing t d n s x x' p p' f (subst (λ i. FiresOne t i n s x' p') same.0 (subst (λ i. FiresOne t e i s x' p') same.1 g)) in
+    let fired = one_fired t (map.remove timers n) p z z' v w l (subst (λ i. Fires t (map.remove timers n) i z' w) (sym firing.1) (subst (λ i. Fires t (map.remove timers i) p' z' w) same.1 q)) in
+    (ap (λ i. i ++ z) firing.0 ∙ ap (λ i. x' ++ i) fired.0, fired.1)
 
 -- ---- a command has one refusal, and changes the state in one way
 

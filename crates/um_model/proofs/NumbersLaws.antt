@@ -6,7 +6,7 @@ use Rattle.um_model.specs.Service.{Action, SpawnProcess, SendSignal, state_of_un
 use Rattle.um_model.specs.Settings.{ServiceSettings}
 use Rattle.um_model.specs.Timers.{Timers}
 use Rattle.um_model.specs.Transitions.{AreActions, nothing, spawn, signals, spawned, live_numbers}
-use Rattle.um_model.specs.Machine.{State, Command, Happening, Event, Input, Reply, Carries, Becomes, alone, along, change_of, settings_in, around, begins, begun, Happens, AreReset, Settles, begins_next, Changes, puts, links, removes, reloads, plans, demands_nothing, cancels, installs, Does, units_reset, end_of, Restarts, isnt_put, ComesDue, Fires, Follows, ends, reports, ticks, boots, TakesEffect, obeys, meets, moment_of, Step, refused, crowded_out, idle, taken, Run, goes}
+use Rattle.um_model.specs.Machine.{State, Command, Happening, Event, Input, Reply, Carries, Becomes, alone, along, change_of, settings_in, around, begins, begun, Happens, AreReset, Settles, begins_next, Changes, puts, links, removes, reloads, plans, demands_nothing, cancels, installs, Does, units_reset, end_of, Restarts, isnt_put, ComesDue, Fires, FiresOne, Follows, ends, reports, ticks, boots, TakesEffect, obeys, meets, moment_of, Step, refused, crowded_out, idle, taken, Run, goes}
 use Rattle.um_model.specs.Numbers.{started_numbers, actions_in, AreNew}
 use Rattle.um_model.specs.declared.service.Signal as sent
 use Rattle.um_model.specs.declared.service.UnitState.{UnitState}
@@ -110,10 +110,9 @@ due_counts t s unit actions v (ComesDue.passes isnt h) = happens_counts t unit D
 
 fired_counts : (t : ℕ) (timers : Timers) (s : State) (actions : List Action) (v : State) → Fires t timers s actions v → Counts s actions v
 fired_counts t timers s actions v (Fires.none_due none) = no_more
-fired_counts t timers s actions v (Fires.fires {u = u} {v = p} {first = x} {next = y} {more = z} d n first due is h k l) =
-    both_count s u v x (y ++ z) (due_counts t s n x u h)
-    (both_count u p v y z (settled_counts t u y p k) (fired_counts t (maps.remove timers n) p z v l))
-fired_counts t timers s actions v (Fires.passes {more = z} d n first due isnt l) = fired_counts t (maps.remove timers n) s z v l
+fired_counts t timers s actions v (Fires.fires_next {more = z} d n first due (FiresOne.fires {u = u} {v = p} {first = x} {next = y} is h k) l) =
+    both_count s p v (x ++ y) z (both_count s u p x y (due_counts t s n x u h) (settled_counts t u y p k)) (fired_counts t (maps.remove timers n) p z v l)
+fired_counts t timers s actions v (Fires.fires_next {more = z} d n first due (FiresOne.is_gone isnt) l) = fired_counts t (maps.remove timers n) s z v l
 
 -- what a command changes starts nothing by itself
 same_next : (s : State) (command : Command) (u : State) → Changes s command u → u.next ≡ s.next

@@ -13,7 +13,7 @@ use Rattle.um_model.specs.Jobs.{Job, no_jobs, stop_job, start_job, jobs_of_unit,
 use Rattle.um_model.specs.Order.{IsCycle}
 use Rattle.um_model.specs.Plan.{AreFree}
 use Rattle.um_model.specs.Timers.{Timers, IsDueFirst}
-use Rattle.um_model.specs.Machine.{State, begins, begun, IsBefore, IsStill, Settles, begins_next, AreReset, all_reset, reset_next, AreDeadlines, with_start_alone, Restarts, puts, isnt_put, ComesDue, restarts, Fires, none_due, fires}
+use Rattle.um_model.specs.Machine.{State, begins, begun, IsBefore, IsStill, Settles, begins_next, AreReset, all_reset, reset_next, AreDeadlines, with_start_alone, Restarts, puts, isnt_put, ComesDue, restarts, Fires, FiresOne, none_due}
 use Rattle.um_model.specs.declared.jobs.JobKind.{JobKind}
 use Rattle.um_model.specs.declared.jobs.JobKind.TheVariants.{Stop, Start}
 use Rattle.um_model.specs.declared.jobs.JobState.TheVariants.{Waiting}
@@ -169,10 +169,10 @@ fires_by t timers s later deadline unit due low = elim (same_option same_number 
       let now = a_due t s unit in
       let next = a_settling t now.1 in
       let more = later (map.remove timers unit) next.1 fewer in
-      (now.0 ++ (next.0 ++ more.0), more.1, fires deadline unit due low stands now.2 next.2 more.2)
+      ((now.0 ++ next.0) ++ more.0, more.1, Fires.fires_next deadline unit due low (FiresOne.fires stands now.2 next.2) more.2)
   | inr gone ↦
       let more = later (map.remove timers unit) s fewer in
-      (more.0, more.1, Fires.passes deadline unit due low gone more.2)
+      (more.0, more.1, Fires.fires_next deadline unit due low (FiresOne.is_gone gone) more.2)
 ]
   where
     fewer : map.len (map.remove timers unit) < map.len timers

@@ -468,14 +468,17 @@ pub data ComesDue (t : ℕ) (s : State) (unit : List ℕ) : List Action → Stat
   passes : {actions : List Action} {u : State} → (state_of_unit s.units unit).sub ≢ AutoRestart
       → Happens t unit DeadlinePasses s actions u → ComesDue t s unit actions u
 
--- of these deadlines those up to the moment t fire, earliest first; one that is gone or changed by then doesn't
+-- a deadline of the unit fires at the moment t, and jobs begin, where it still stands; one that is gone or changed by then doesn't
+pub data FiresOne (t deadline : ℕ) (unit : List ℕ) (s : State) : List Action → State → Type 0 where
+  fires : {u v : State} {first next : List Action} → (state_of_unit s.units unit).deadline ≡ Some deadline → ComesDue t s unit first u
+      → Settles t u next v → FiresOne t deadline unit s (first ++ next) v
+  is_gone : (state_of_unit s.units unit).deadline ≢ Some deadline → FiresOne t deadline unit s [] s
+
+-- of these deadlines those up to the moment t fire, earliest first
 pub data Fires (t : ℕ) : Timers → State → List Action → State → Type 0 where
   none_due : {timers : Timers} {s : State} → ((deadline : ℕ) (unit : List ℕ) → map.get timers unit ≡ Some deadline → t < deadline) → Fires t timers s [] s
-  fires : {timers : Timers} {s u v w : State} {first next more : List Action} (deadline : ℕ) (unit : List ℕ) → IsDueFirst timers deadline unit → deadline ≤ t
-      → (state_of_unit s.units unit).deadline ≡ Some deadline → ComesDue t s unit first u → Settles t u next v
-      → Fires t (map.remove timers unit) v more w → Fires t timers s (first ++ (next ++ more)) w
-  passes : {timers : Timers} {s w : State} {more : List Action} (deadline : ℕ) (unit : List ℕ) → IsDueFirst timers deadline unit → deadline ≤ t
-      → (state_of_unit s.units unit).deadline ≢ Some deadline → Fires t (map.remove timers unit) s more w → Fires t timers s more w
+  fires_next : {timers : Timers} {s u v : State} {first more : List Action} (deadline : ℕ) (unit : List ℕ) → IsDueFirst timers deadline unit → deadline ≤ t
+      → FiresOne t deadline unit s first u → Fires t (map.remove timers unit) u more v → Fires t timers s (first ++ more) v
 
 -- the unit waits for the report that the program of its main process runs, and that process has this number
 pub record AwaitsReport (s : State) (number : ℕ) (unit : List ℕ) : Type 0 where

@@ -1,5 +1,5 @@
 use Rattle.std.proofs.Common.{map}
-use Rattle.um_engine.proofs.Steps.{none_fires, fires_more}
+use Rattle.um_engine.proofs.Steps.{none_fires, fires_more, tick_fires}
 use Rattle.um_model.proofs.TimersLaws.{fewer_timers}
 use Rattle.um_state.specs.View.{state_of, action_of}
 use Rattle.um_engine.proofs.settling.fire.Goals as goal
@@ -24,10 +24,8 @@ timers-preserved c = λ serves.
 pub returns : goal.returns
 returns c = λ serves.
     let (whole, serves_now) = c.timers.invariant serves in (
-      (
-        c.in_ok-timers.timers,
-        (rw c.units.ensures at c.in_ok-timers.ensures),
-        whole _ _ (none_fires c.args.moment c.timers.timers (state_of c.timers.state) (map action_of c.timers.actions.items) (rw c.in_default.is at c.in_ok-due.ensures)),
-      ),
+      tick_fires c.args.moment c.in_ok-timers.timers (state_of c.args.state.now) (state_of c.timers.state) (map action_of c.args.actions.now.items)
+          (map action_of c.timers.actions.items) (rw c.units.ensures at c.in_ok-timers.ensures)
+          (whole _ _ (none_fires c.args.moment c.timers.timers (state_of c.timers.state) (map action_of c.timers.actions.items) (rw c.in_default.is at c.in_ok-due.ensures))),
       serves_now,
     )

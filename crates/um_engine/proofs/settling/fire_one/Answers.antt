@@ -1,15 +1,14 @@
 use Rattle.std.proofs.Common.{◌≡◌, ◌≢◌, map, Some, rules}
 use Rattle.um_model.specs.Service.{state_of_unit}
 use Rattle.um_state.specs.View.{state_of, action_of}
-use Rattle.um_engine.specs.Engine.{passed}
 use Rattle.um_falling.proofs.Carried.{deadline_known}
-use Rattle.um_engine.proofs.Steps.{fires_one}
+use Rattle.um_engine.proofs.Steps.{fires_one, gone_one}
 use Rattle.um_engine.proofs.settling.fire_one.Goals as goal
 
 pub returns-then-ne : goal.returns-then-ne
 returns-then-ne c = λ serves.
     let gone : (state_of_unit (state_of c.args.state.now).units c.args.due.now.unit).deadline ≢ Some c.args.due.now.deadline = search rules in
-    (passed gone, serves)
+    (gone_one c.args.moment c.args.due.now.deadline c.args.due.now.unit (state_of c.args.state.now) (map action_of c.args.actions.now.items) gone, serves)
 
 pub returns : goal.returns
 returns c = λ serves.
