@@ -7,7 +7,7 @@
 mod line;
 mod made;
 
-use line::{Task, Line, read_line};
+use line::{Line, Task, read_line};
 use made::state_with;
 use std::alloc::{AllocError, Global};
 use std::env;

@@ -14,7 +14,7 @@ use Rattle.std.proofs.lemmas.List.Concat.{flat_map-cons}
 use Rattle.std.proofs.lemmas.Nat.{be_bytes_4, be_bytes_8}
 use Rattle.byteorder.specs.Endian.{big_number, big_bytes}
 use Rattle.byteorder.specs.Numbers.{big_number-reads_back, big_from-lt, length-bytes_high_first}
-use Rattle.um_model.specs.Bytes.{Reading, Spelling, IsBytes, IsCanonical, nothing_left, ◌>>=◌, byte_at, number_at, is_between, FitBetween, between_at, pair_spelling, pair_at, as_at, only_at, tag_at, truth_tag, FitText, text_spelling, front_text, text_at, option_spelling, option_at, many_at, list_spelling, list_at, FitList, marked_at, choice_at, arm_in, just_at, none_at, ByText, ascends, are_keys, FitMap, map_spelling, map_at, table_at, tagged, truths}
+use Rattle.um_model.specs.Bytes.{Decoder, Spelling, IsBytes, IsCanonical, nothing_left, ◌>>=◌, byte_at, number_at, is_between, FitBetween, between_at, pair_spelling, pair_at, as_at, only_at, tag_at, truth_tag, FitText, text_spelling, front_text, text_at, option_spelling, option_at, many_at, list_spelling, list_at, FitList, marked_at, choice_at, arm_in, just_at, none_at, ByText, ascends, are_keys, FitMap, map_spelling, map_at, table_at, tagged, truths}
 
 -- ---- bytes
 
@@ -130,11 +130,11 @@ canonical64 = canonical_number 8 read_back8
 -- ---- one behind the other
 
 -- what is behind what was read is bytes
-behind : {V : Type 0} {fits : V → Type 0} {spelling : Spelling V} {reading : Reading V} → IsCanonical fits spelling reading → (bytes : List ℕ) (v : V) (rest : List ℕ)
+behind : {V : Type 0} {fits : V → Type 0} {spelling : Spelling V} {reading : Decoder V} → IsCanonical fits spelling reading → (bytes : List ℕ) (v : V) (rest : List ℕ)
     → IsBytes bytes → reading bytes ≡ Some (v, rest) → IsBytes rest
 behind {spelling = spelling} law bytes v rest h e = IsBytes-behind (spelling v) rest (subst IsBytes (law.takes bytes v rest h e).0 h)
 
-module _ {A B : Type 0} {fits_a : A → Type 0} {spelling_a : Spelling A} {reading_a : Reading A} {fits_b : B → Type 0} {spelling_b : Spelling B} {reading_b : Reading B} where
+module _ {A B : Type 0} {fits_a : A → Type 0} {spelling_a : Spelling A} {reading_a : Decoder A} {fits_b : B → Type 0} {spelling_b : Spelling B} {reading_b : Decoder B} where
   pub canonical_pair : IsCanonical fits_a spelling_a reading_a → IsCanonical fits_b spelling_b reading_b
       → IsCanonical (λ (p : A × B). fits_a p.0 × fits_b p.1) (pair_spelling spelling_a spelling_b) (pair_at reading_a reading_b)
   canonical_pair first second = record { takes = pair_takes; again = pair_again } where
@@ -155,7 +155,7 @@ module _ {A B : Type 0} {fits_a : A → Type 0} {spelling_a : Spelling A} {readi
 
 -- ---- another form, a test, a mark, a choice, an option, a list
 
-module _ {A B : Type 0} {fits_a : A → Type 0} {fits_b : B → Type 0} {spelling : Spelling A} {reading : Reading A} where
+module _ {A B : Type 0} {fits_a : A → Type 0} {fits_b : B → Type 0} {spelling : Spelling A} {reading : Decoder A} where
   -- another form, in which a value is told back only where it fits, on either side
   pub canonical_form : (to : A → B) (from : B → A) → ((a : A) → fits_a a → fits_b (to a) × (from (to a) ≡ a)) → ((b : B) → fits_b b → fits_a (from b) × (to (from b) ≡ b))
       → IsCanonical fits_a spelling reading → IsCanonical fits_b (λ b. spelling (from b)) (as_at to reading)
@@ -171,7 +171,7 @@ module _ {A B : Type 0} {fits_a : A → Type 0} {fits_b : B → Type 0} {spellin
     form_again : (v : B) (rest : List ℕ) → fits_b v → as_at to reading (spelling (from v) ++ rest) ≡ Some (v, rest)
     form_again v rest h = rw (law.again (from v) rest (forth v h).0) (ap (λ (b : B). some (b, rest)) (forth v h).1)
 
-module _ {A : Type 0} {fits_a fits_b : A → Type 0} {spelling : Spelling A} {reading : Reading A} where
+module _ {A : Type 0} {fits_a fits_b : A → Type 0} {spelling : Spelling A} {reading : Decoder A} where
   -- the same values fit, said in other words
   pub canonical_fits : ((a : A) → fits_a a → fits_b a) → ((a : A) → fits_b a → fits_a a) → IsCanonical fits_a spelling reading → IsCanonical fits_b spelling reading
   canonical_fits to from law = record {
@@ -179,7 +179,7 @@ module _ {A : Type 0} {fits_a fits_b : A → Type 0} {spelling : Spelling A} {re
     again = λ v rest h. law.again v rest (from v h);
   }
 
-module _ {A B : Type 0} {fits : A → Type 0} {spelling : Spelling A} {reading : Reading A} where
+module _ {A B : Type 0} {fits : A → Type 0} {spelling : Spelling A} {reading : Decoder A} where
   -- those that fit in another form, which tells the same
   pub canonical_where : (to : A → B) (from : B → A) → ((a : A) → fits a → from (to a) ≡ a) → ((b : B) → to (from b) ≡ b) → IsCanonical fits spelling reading
       → IsCanonical (λ b. fits (from b)) (λ b. spelling (from b)) (as_at to reading)
@@ -200,7 +200,7 @@ module _ {A B : Type 0} {fits : A → Type 0} {spelling : Spelling A} {reading :
       → IsCanonical (λ b. fits (from b)) (λ b. spelling (from b)) (as_at to reading)
   canonical_as to from back forth law = canonical_where to from (λ a h. back a) forth law
 
-module _ {A : Type 0} {fits : A → Type 0} {spelling : Spelling A} {reading : Reading A} where
+module _ {A : Type 0} {fits : A → Type 0} {spelling : Spelling A} {reading : Decoder A} where
   -- those that pass a test
   pub canonical_only : (test : A → Bool) → IsCanonical fits spelling reading → IsCanonical (λ a. fits a × (test a ≡ true)) spelling (only_at test reading)
   canonical_only test law = record { takes = only_takes; again = only_again } where
@@ -299,7 +299,7 @@ canonical_tag {A} tag of again back = record { takes = takes; again = λ v rest 
       subst (λ (x : A × List ℕ). ((b ∷ bytes) ≡ (tag x.0 ∷ []) ++ x.1) × ⊤) (some_is (a.0, bytes) (v, rest) a.2) (ap (λ (n : ℕ). n ∷ bytes) (sym (back b a.0 a.1)), tt)
 
 -- a choice with fields: what each arm reads is a value of that tag, spelled so behind it
-pub canonical_choice : {A : Type 0} {fits : A → Type 0} (tag : A → ℕ) (fields : Spelling A) (arm : ℕ → Reading A)
+pub canonical_choice : {A : Type 0} {fits : A → Type 0} (tag : A → ℕ) (fields : Spelling A) (arm : ℕ → Decoder A)
     → ((n : ℕ) (bytes : List ℕ) (v : A) (rest : List ℕ) → IsBytes bytes → arm n bytes ≡ Some (v, rest) → (n ≡ tag v) × (bytes ≡ fields v ++ rest) × fits v)
     → ((v : A) (rest : List ℕ) → fits v → arm (tag v) (fields v ++ rest) ≡ Some (v, rest))
     → IsCanonical fits (λ v. tag v ∷ fields v) (choice_at arm)
@@ -311,7 +311,7 @@ canonical_choice {A} {fits} tag fields arm arm_takes arm_again = record { takes 
       (ap (λ (n : ℕ). n ∷ bytes) t.0 ∙ ap (λ (w : List ℕ). tag v ∷ w) t.1, t.2)
 
 -- one arm of a choice: whatever holds of each value of that arm holds of the value that was read
-pub arm_is : {A B : Type 0} {fits : A → Type 0} {spelling : Spelling A} {reading : Reading A} (law : IsCanonical fits spelling reading) (to : A → B) (P : B → List ℕ → Type 0) (bytes : List ℕ) (v : B) (rest : List ℕ)
+pub arm_is : {A B : Type 0} {fits : A → Type 0} {spelling : Spelling A} {reading : Decoder A} (law : IsCanonical fits spelling reading) (to : A → B) (P : B → List ℕ → Type 0) (bytes : List ℕ) (v : B) (rest : List ℕ)
     → IsBytes bytes → as_at to reading bytes ≡ Some (v, rest) → ((a : A) (r : List ℕ) → bytes ≡ spelling a ++ r → fits a → P (to a) r) → P v rest
 arm_is {A} {B} {reading = reading} law to P bytes v rest h e holds =
     let a = bind_some (reading bytes) (λ a. Some (to a.0, a.1)) (v, rest) e in
@@ -323,16 +323,16 @@ pub just_is : {B : Type 0} (b : B) (P : B → List ℕ → Type 0) (bytes : List
 just_is {B} b P bytes v rest e holds = subst (λ (x : B × List ℕ). P x.0 x.1) (some_is (b, bytes) (v, rest) e) holds
 
 -- what an arm reads is a value of the tag, spelled so behind it
-pub record Tells {A : Type 0} (tag : A → ℕ) (fields : Spelling A) (fits : A → Type 0) (n : ℕ) (arm : Reading A) : Type 0 where
+pub record Tells {A : Type 0} (tag : A → ℕ) (fields : Spelling A) (fits : A → Type 0) (n : ℕ) (arm : Decoder A) : Type 0 where
   pub is : (bytes : List ℕ) (v : A) (rest : List ℕ) → IsBytes bytes → arm bytes ≡ Some (v, rest) → (n ≡ tag v) × (bytes ≡ fields v ++ rest) × fits v
 
 -- each arm of a table does so for its place, counted from the first
-abbrev pub AllTell : {A : Type 0} → (A → ℕ) → Spelling A → (A → Type 0) → ℕ → List (Reading A) → Type 0
+abbrev pub AllTell : {A : Type 0} → (A → ℕ) → Spelling A → (A → Type 0) → ℕ → List (Decoder A) → Type 0
 AllTell tag fields fits first [] = ⊤
 AllTell tag fields fits first (arm ∷ table) = Tells tag fields fits first arm × AllTell tag fields fits (suc first) table
 
 module _ {A : Type 0} {tag : A → ℕ} {fields : Spelling A} {fits : A → Type 0} where
-  pub tells : {F : Type 0} {fits_f : F → Type 0} {spelling : Spelling F} {reading : Reading F} (n : ℕ) (to : F → A) → IsCanonical fits_f spelling reading
+  pub tells : {F : Type 0} {fits_f : F → Type 0} {spelling : Spelling F} {reading : Decoder F} (n : ℕ) (to : F → A) → IsCanonical fits_f spelling reading
       → ((f : F) → fits_f f → (n ≡ tag (to f)) × (fields (to f) ≡ spelling f) × fits (to f)) → Tells tag fields fits n (as_at to reading)
   tells {spelling = spelling} n to law arm = record {
     is = λ bytes v rest h e.
@@ -348,13 +348,13 @@ module _ {A : Type 0} {tag : A → ℕ} {fields : Spelling A} {fits : A → Type
   pub tells_none : (n : ℕ) → Tells tag fields fits n none_at
   tells_none n = record { is = λ bytes v rest h e. absurd (none_some (v, rest) e) }
 
-  all_tell : (first : ℕ) (table : List (Reading A)) → AllTell tag fields fits first table → (n : ℕ) → Tells tag fields fits (n + first) (arm_in table n)
+  all_tell : (first : ℕ) (table : List (Decoder A)) → AllTell tag fields fits first table → (n : ℕ) → Tells tag fields fits (n + first) (arm_in table n)
   all_tell first [] all n = tells_none (n + first)
   all_tell first (arm ∷ table) all zero = subst (λ (m : ℕ). Tells tag fields fits m arm) (omega arith) all.0
   all_tell first (arm ∷ table) all (suc n) = subst (λ (m : ℕ). Tells tag fields fits m (arm_in table n)) (omega arith) (all_tell (suc first) table all.1 n)
 
   -- a choice with fields, by a table of its arms
-  pub canonical_arms : (table : List (Reading A)) → AllTell tag fields fits 0 table → ((v : A) (rest : List ℕ) → fits v → arm_in table (tag v) (fields v ++ rest) ≡ Some (v, rest))
+  pub canonical_arms : (table : List (Decoder A)) → AllTell tag fields fits 0 table → ((v : A) (rest : List ℕ) → fits v → arm_in table (tag v) (fields v ++ rest) ≡ Some (v, rest))
       → IsCanonical fits (λ v. tag v ∷ fields v) (choice_at (arm_in table))
   canonical_arms table all again = canonical_choice tag fields (arm_in table) takes again where
     takes : (n : ℕ) (bytes : List ℕ) (v : A) (rest : List ℕ) → IsBytes bytes → arm_in table n bytes ≡ Some (v, rest) → (n ≡ tag v) × (bytes ≡ fields v ++ rest) × fits v
@@ -463,7 +463,7 @@ sorted_if es e = sorted es (subst T (sym e) tt)
 pub from_sorted-entries : {A : Type 0} (m : ByText A) → map.from_sorted (map.entries m) ≡ m
 from_sorted-entries m = map.same_entries_map _ _ (map.entries-from_sorted (slice_cmp nat_cmp) (map.entries m) (map.entries_sorted m))
 
-module _ {A : Type 0} {fits : A → Type 0} {spelling : Spelling A} {reading : Reading A} where
+module _ {A : Type 0} {fits : A → Type 0} {spelling : Spelling A} {reading : Decoder A} where
   pub canonical_map : (is_key : List ℕ → Bool) → IsCanonical fits spelling reading → IsCanonical (FitMap is_key fits) (map_spelling spelling) (map_at is_key reading)
   canonical_map is_key one = record {
     takes = λ bytes v rest h e. ((law.takes bytes v rest h e).0, ((law.takes bytes v rest h e).1.0.0, (law.takes bytes v rest h e).1.1));
@@ -481,7 +481,7 @@ nothing_behind None v e = absurd (none_some v e)
 nothing_behind {V} (Some (w, [])) v e = ap (λ (x : V). some (x, [])) (some_is w v e)
 nothing_behind (Some (w, b ∷ rest)) v e = absurd (none_some v e)
 
-module _ {V : Type 0} {fits : V → Type 0} {spelling : Spelling V} {reading : Reading V} where
+module _ {V : Type 0} {fits : V → Type 0} {spelling : Spelling V} {reading : Decoder V} where
   -- no spelling begins another, and a value has one
   pub one_reading : IsCanonical fits spelling reading → (v w : V) (r s : List ℕ) → fits v → fits w → spelling v ++ r ≡ spelling w ++ s → (v ≡ w) × (r ≡ s)
   one_reading law v w r s fv fw e =

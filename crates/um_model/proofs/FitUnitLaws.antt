@@ -73,10 +73,12 @@ module _ {A : Type 0} (P : A → Type 0) where
     where
       said : List ℕ → List A
       said value = filter_map result_ok (ok_or (read value) UnreadableValue ∷ [])
+
       by_read : (value : List ℕ) (a : A) (o : Option A) → read value ≡ o → Among (filter_map result_ok (ok_or o UnreadableValue ∷ [])) a → P a
       by_read value a None e none = absurd none
       by_read value a (Some b) e (inl same) = each value a (e ∙ ap (λ x. Some x) (sym same))
       by_read value a (Some b) e (inr none) = absurd none
+
       one : (a : A) → Among (flat_map said values) a → P a
       one a among = let found = from_flat_map said values a among in by_read found.0 a (read found.0) refl found.2
 

@@ -3,7 +3,7 @@ use Rattle.std.proofs.Common.{◌≡◌, ℕ, List, [], ◌++◌, Some, refl, ap
 use Rattle.std.specs.Prelude.{⊤}
 use Rattle.std.specs.List.{slice_get}
 use Rattle.byteorder.specs.Endian.{big_bytes}
-use Rattle.um_model.specs.Bytes.{Reading, Spelling, IsCanonical, arm_in, table_at, tagged}
+use Rattle.um_model.specs.Bytes.{Decoder, Spelling, IsCanonical, arm_in, table_at, tagged}
 use Rattle.um_model.specs.Machine.{PutFile, PutLink, Remove, DaemonReload, ForUnit, Cancel, ResetFailed, Install, ProcessEnded, ProcessExecuted, Tick, Booted, Event, Commanded, Happened, Input}
 use Rattle.um_model.specs.InputSpellings.{mode_tag, modes, event_tag, event_fields, input_spelling, comes_at, for_unit_at, install_at, nothing_at, input_arms, input_at, FitEvent, FitInput}
 use Rattle.um_model.proofs.BytesLaws.{just_is, Tells, AllTell, tells, tells_none, canonical_arms, canonical_marked, canonical_tag, table_back, canonical_pair, canonical_text, canonical64, canonical_option}
@@ -41,7 +41,7 @@ abbrev input_fields : Spelling Input
 input_fields i = big_bytes 8 i.moment ++ event_fields i.event
 
 -- an arm of an input: a moment, and its fields
-arm : {A : Type 0} {fits : A → Type 0} {spelling : Spelling A} {reading : Reading A} (n : ℕ) (to : A → Event) → IsCanonical fits spelling reading
+arm : {A : Type 0} {fits : A → Type 0} {spelling : Spelling A} {reading : Decoder A} (n : ℕ) (to : A → Event) → IsCanonical fits spelling reading
     → ((f : A) → fits f → (n ≡ event_tag (to f)) × (event_fields (to f) ≡ spelling f) × FitEvent (to f)) → Tells input_tag input_fields FitInput n (comes_at to reading)
 arm n to law is =
     tells n (λ f. record { moment = f.0; event = to f.1 }) (canonical_pair canonical_moment law)
@@ -104,7 +104,7 @@ all_arms = (
 -- ---- the law
 
 -- what is spelled behind a moment is read again in its arm
-reads : {A : Type 0} {fits : A → Type 0} {spelling : Spelling A} {reading : Reading A} (to : A → Event) (law : IsCanonical fits spelling reading) (t : ℕ) (f : A) (rest : List ℕ) → FitInput (record { moment = t; event = to f }) → fits f
+reads : {A : Type 0} {fits : A → Type 0} {spelling : Spelling A} {reading : Decoder A} (to : A → Event) (law : IsCanonical fits spelling reading) (t : ℕ) (f : A) (rest : List ℕ) → FitInput (record { moment = t; event = to f }) → fits f
     → comes_at to reading ((big_bytes 8 t ++ spelling f) ++ rest) ≡ Some (record { moment = t; event = to f }, rest)
 reads {spelling = spelling} to law t f rest h fit = rw ((canonical_pair canonical_moment law).again (t, f) rest (h.moment, fit)) refl
 

@@ -15,25 +15,25 @@ use Rattle.byteorder.specs.Endian.{big_number, big_bytes}
 abbrev pub Spelling : Type 0 → Type 0
 Spelling V = V → List ℕ
 
--- how a value is read at the front of bytes: the value and the bytes behind it, where the front has a reading
-abbrev pub Reading : Type 0 → Type 0
-Reading V = List ℕ → Option (V × List ℕ)
+-- how a value is read at the front of bytes: the value and the bytes behind it, where the front spells one
+abbrev pub Decoder : Type 0 → Type 0
+Decoder V = List ℕ → Option (V × List ℕ)
 
 -- each number is a byte
 abbrev pub IsBytes : List ℕ → Type 0
 IsBytes bytes = (i : ℕ) → slice_index bytes i < 256
 
 -- what is read is spelled so, and what is spelled is read again whatever follows
-pub record IsCanonical {V : Type 0} (fits : V → Type 0) (spelling : Spelling V) (reading : Reading V) : Type 0 where
-  pub takes : (bytes : List ℕ) (v : V) (rest : List ℕ) → IsBytes bytes → reading bytes ≡ Some (v, rest) → (bytes ≡ spelling v ++ rest) × fits v
-  pub again : (v : V) (rest : List ℕ) → fits v → reading (spelling v ++ rest) ≡ Some (v, rest)
+pub record IsCanonical {V : Type 0} (fits : V → Type 0) (spelling : Spelling V) (decoder : Decoder V) : Type 0 where
+  pub takes : (bytes : List ℕ) (v : V) (rest : List ℕ) → IsBytes bytes → decoder bytes ≡ Some (v, rest) → (bytes ≡ spelling v ++ rest) × fits v
+  pub again : (v : V) (rest : List ℕ) → fits v → decoder (spelling v ++ rest) ≡ Some (v, rest)
 
 -- the second list begins with the first
 pub record IsInFront (front bytes : List ℕ) : Type 0 where
   pub behind : List ℕ
   pub parts : bytes ≡ front ++ behind
 
--- the value of a reading behind which nothing is left
+-- the value behind which nothing is left
 abbrev pub nothing_left : {V : Type 0} → Option (V × List ℕ) → Option V
 nothing_left (Some (v, [])) = Some v
 nothing_left other = None
@@ -47,12 +47,12 @@ None >>= f = None
 -- ---- whole numbers, the highest byte first
 
 -- a number of one byte
-abbrev pub byte_at : Reading ℕ
+abbrev pub byte_at : Decoder ℕ
 byte_at [] = None
 byte_at (b ∷ rest) = Some (b, rest)
 
 -- a number of so many bytes
-abbrev pub number_at : ℕ → Reading ℕ
+abbrev pub number_at : ℕ → Decoder ℕ
 number_at width bytes = if nat_lt (length bytes) width then None else Some (big_number width bytes, drop width bytes)
 
 -- from the first number to the last
@@ -70,58 +70,58 @@ abbrev pub pair_spelling : {A B : Type 0} → Spelling A → Spelling B → Spel
 pair_spelling first second p = first p.0 ++ second p.1
 
 -- the first value, and the second behind it, where both are there
-abbrev pub pair_at : {A B : Type 0} → Reading A → Reading B → Reading (A × B)
+abbrev pub pair_at : {A B : Type 0} → Decoder A → Decoder B → Decoder (A × B)
 pair_at first second bytes = first bytes >>= λ a. second a.1 >>= λ b. Some ((a.0, b.0), b.1)
 
 -- a byte that always stands there, and the value behind it
-abbrev pub marked_at : {A : Type 0} → ℕ → Reading A → Reading A
+abbrev pub marked_at : {A : Type 0} → ℕ → Decoder A → Decoder A
 marked_at mark one [] = None
 marked_at mark one (b ∷ rest) = if nat_lt b mark then None else if nat_lt mark b then None else one rest
 
 -- ---- the same values in another form, and those that pass a test
 
 -- a value that is read in one form and told in another
-abbrev pub as_at : {A B : Type 0} → (A → B) → Reading A → Reading B
+abbrev pub as_at : {A B : Type 0} → (A → B) → Decoder A → Decoder B
 as_at to one bytes = one bytes >>= λ a. Some (to a.0, a.1)
 
 -- a value that is read, where it passes the test
-abbrev pub only_at : {A : Type 0} → (A → Bool) → Reading A → Reading A
+abbrev pub only_at : {A : Type 0} → (A → Bool) → Decoder A → Decoder A
 only_at test one bytes = one bytes >>= λ a. if test a.0 then Some a else None
 
 -- a number of eight bytes from the first to the last
-abbrev pub between_at : ℕ → ℕ → Reading ℕ
+abbrev pub between_at : ℕ → ℕ → Decoder ℕ
 between_at first last = only_at (is_between first last) (number_at 8)
 
 -- ---- a choice, told by its tag
 
 -- a choice without fields
-abbrev pub tag_at : {A : Type 0} → (ℕ → Option A) → Reading A
+abbrev pub tag_at : {A : Type 0} → (ℕ → Option A) → Decoder A
 tag_at of [] = None
 tag_at of (tag ∷ rest) = of tag >>= λ a. Some (a, rest)
 
 -- a choice without fields, by its place in a table, from 0
-abbrev pub table_at : {A : Type 0} → List A → Reading A
+abbrev pub table_at : {A : Type 0} → List A → Decoder A
 table_at table = tag_at (slice_get table)
 
 -- its tag alone
 abbrev pub tagged : {A : Type 0} → (A → ℕ) → Spelling A
 tagged tag a = tag a ∷ []
 
--- a choice with fields: each tag has its reading
-abbrev pub choice_at : {A : Type 0} → (ℕ → Reading A) → Reading A
+-- a choice with fields: each tag has its decoder
+abbrev pub choice_at : {A : Type 0} → (ℕ → Decoder A) → Decoder A
 choice_at arm [] = None
 choice_at arm (tag ∷ rest) = arm tag rest
 
 -- the arm of a choice that has no fields
-abbrev pub just_at : {A : Type 0} → A → Reading A
+abbrev pub just_at : {A : Type 0} → A → Decoder A
 just_at a bytes = Some (a, bytes)
 
 -- the arm of a tag that no choice has
-abbrev pub none_at : {A : Type 0} → Reading A
+abbrev pub none_at : {A : Type 0} → Decoder A
 none_at bytes = None
 
 -- the arm at this place of a table, from 0; behind its end there is none
-abbrev pub arm_in : {A : Type 0} → List (Reading A) → ℕ → Reading A
+abbrev pub arm_in : {A : Type 0} → List (Decoder A) → ℕ → Decoder A
 arm_in [] tag = none_at
 arm_in (arm ∷ table) zero = arm
 arm_in (arm ∷ table) (suc tag) = arm_in table tag
@@ -144,7 +144,7 @@ abbrev pub option_spelling : {A : Type 0} → Spelling A → Spelling (Option A)
 option_spelling one o = option_map_or (λ x. 1 ∷ one x) o (0 ∷ [])
 
 -- no value behind a 0, one behind a 1
-abbrev pub option_at : {A : Type 0} → Reading A → Reading (Option A)
+abbrev pub option_at : {A : Type 0} → Decoder A → Decoder (Option A)
 option_at one = choice_at (arm_in (just_at None ∷ as_at Some one ∷ []))
 
 -- ---- a text: how many bytes it has, and those, in UTF-8
@@ -162,7 +162,7 @@ abbrev pub front_text : ℕ → List ℕ → Option (List ℕ)
 front_text n bytes = if nat_lt (length bytes) n then None else if is_utf8 (take n bytes) then Some (take n bytes) else None
 
 -- a length, and a text of so many bytes
-abbrev pub text_at : Reading (List ℕ)
+abbrev pub text_at : Decoder (List ℕ)
 text_at bytes = number_at 4 bytes >>= λ n. front_text n.0 n.1 >>= λ text. Some (text, drop n.0 n.1)
 
 -- ---- a list: how many items it has, and those
@@ -176,12 +176,12 @@ abbrev pub list_spelling : {A : Type 0} → Spelling A → Spelling (List A)
 list_spelling one xs = big_bytes 4 (length xs) ++ flat_map one xs
 
 -- so many items
-abbrev pub many_at : {A : Type 0} → Reading A → ℕ → Reading (List A)
+abbrev pub many_at : {A : Type 0} → Decoder A → ℕ → Decoder (List A)
 many_at one zero bytes = Some ([], bytes)
 many_at one (suc n) bytes = one bytes >>= λ a. many_at one n a.1 >>= λ more. Some (a.0 ∷ more.0, more.1)
 
 -- a count, and so many items
-abbrev pub list_at : {A : Type 0} → Reading A → Reading (List A)
+abbrev pub list_at : {A : Type 0} → Decoder A → Decoder (List A)
 list_at one bytes = number_at 4 bytes >>= λ n. many_at one n.0 n.1
 
 -- ---- a map by texts: the list of its entries, whose keys strictly ascend by bytes
@@ -212,5 +212,5 @@ abbrev pub map_spelling : {A : Type 0} → Spelling A → Spelling (ByText A)
 map_spelling one m = list_spelling (pair_spelling text_spelling one) (map.entries m)
 
 -- the list of entries whose keys ascend and pass the test
-abbrev pub map_at : {A : Type 0} → (List ℕ → Bool) → Reading A → Reading (ByText A)
+abbrev pub map_at : {A : Type 0} → (List ℕ → Bool) → Decoder A → Decoder (ByText A)
 map_at is_key one = as_at map.from_sorted (only_at (are_keys is_key) (only_at ascends (list_at (pair_at text_at one))))

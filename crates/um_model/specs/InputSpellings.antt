@@ -3,7 +3,7 @@
 -- The code that reads and writes inputs, and the log of the store stand on this file.
 use Rattle.std.specs.Prelude.{ℕ, ◌<◌, ◌^◌, ⊤, List, [], ◌∷◌, ◌++◌, IfSome}
 use Rattle.byteorder.specs.Endian.{big_bytes}
-use Rattle.um_model.specs.Bytes.{Spelling, Reading, number_at, pair_at, as_at, marked_at, choice_at, arm_in, just_at, none_at, table_at, tagged}
+use Rattle.um_model.specs.Bytes.{Spelling, Decoder, number_at, pair_at, as_at, marked_at, choice_at, arm_in, just_at, none_at, table_at, tagged}
 use Rattle.um_model.specs.Bytes.{FitText, text_spelling, text_at, option_spelling, option_at}
 use Rattle.um_model.specs.Machine.{Command, PutFile, PutLink, Remove, DaemonReload, ForUnit, Cancel, ResetFailed, Install, Happening, ProcessEnded, ProcessExecuted, Tick, Booted, Event}
 use Rattle.um_model.specs.Machine.{Commanded, Happened, Input}
@@ -98,27 +98,27 @@ abbrev pub input_spelling : Spelling Input
 input_spelling i = 1 ∷ event_tag i.event ∷ (big_bytes 8 i.moment ++ event_fields i.event)
 
 -- a moment, and behind it the fields of what comes in
-abbrev pub comes_at : {A : Type 0} → (A → Event) → Reading A → Reading Input
+abbrev pub comes_at : {A : Type 0} → (A → Event) → Decoder A → Decoder Input
 comes_at to fields = as_at (λ f. record { moment = f.0; event = to f.1 }) (pair_at moment_at fields)
 
 -- two texts, the second of which is any
-abbrev pub texts_at : Reading (List ℕ × List ℕ)
+abbrev pub texts_at : Decoder (List ℕ × List ℕ)
 texts_at = pair_at text_at text_at
 
 -- a command for a unit: its name, and the mode
-abbrev pub for_unit_at : UnitVerb → Reading Input
+abbrev pub for_unit_at : UnitVerb → Decoder Input
 for_unit_at verb = comes_at (λ f. Commanded (ForUnit verb f.0 f.1)) (pair_at unit_name_at (table_at modes))
 
 -- enabling or its kin: the name of the unit
-abbrev pub install_at : InstallVerb → Reading Input
+abbrev pub install_at : InstallVerb → Decoder Input
 install_at verb = comes_at (λ unit. Commanded (Install verb unit)) unit_name_at
 
 -- no fields
-abbrev pub nothing_at : Reading ⊤
+abbrev pub nothing_at : Decoder ⊤
 nothing_at = just_at tt
 
 -- what comes in, by its tag; none has 0
-abbrev pub input_arms : List (Reading Input)
+abbrev pub input_arms : List (Decoder Input)
 input_arms =
     none_at
     ∷ comes_at (λ f. Commanded (PutFile f.0 f.1)) texts_at
@@ -142,7 +142,7 @@ input_arms =
     ∷ []
 
 -- a 1, and what comes in behind its tag
-abbrev pub input_at : Reading Input
+abbrev pub input_at : Decoder Input
 input_at = marked_at 1 (choice_at (arm_in input_arms))
 
 -- a command that has bytes: its texts are any, and its unit has a name

@@ -3,7 +3,7 @@
 -- The bytes of states and inputs, and the code that reads and writes them stand on this file.
 use Rattle.std.specs.Prelude.{◌≡◌, ℕ, ◌-◌, ◌<◌, ◌^◌, ⊤, Bool, true, List, [], ◌∷◌, ◌++◌, Option, IfSome}
 use Rattle.byteorder.specs.Endian.{big_bytes}
-use Rattle.um_model.specs.Bytes.{Spelling, Reading, byte_at, number_at, between_at, FitBetween, pair_at, as_at, only_at, choice_at, table_at, tagged, truth_tag, truths}
+use Rattle.um_model.specs.Bytes.{Spelling, Decoder, byte_at, number_at, between_at, FitBetween, pair_at, as_at, only_at, choice_at, table_at, tagged, truth_tag, truths}
 use Rattle.um_model.specs.Bytes.{arm_in, just_at}
 use Rattle.um_model.specs.Bytes.{option_spelling, option_at, FitText, text_at}
 use Rattle.um_model.specs.Names.{is_unit_name}
@@ -95,11 +95,11 @@ abbrev pub end_spelling : Spelling End
 end_spelling e = end_tag e ∷ end_fields e
 
 -- the ends by their tags: a code, a signal, or neither
-abbrev pub end_arms : List (Reading End)
+abbrev pub end_arms : List (Decoder End)
 end_arms = as_at end.Code byte_at ∷ as_at end.Signal byte_at ∷ just_at end.Lost ∷ []
 
 -- a tag, and what stands behind it
-abbrev pub end_at : Reading End
+abbrev pub end_at : Decoder End
 end_at = choice_at (arm_in end_arms)
 
 -- the code or signal is a byte
@@ -111,7 +111,7 @@ FitEnd end.Lost = ⊤
 -- ---- moments and process numbers: eight bytes, within their bounds
 
 -- a moment is at most its limit
-abbrev pub moment_at : Reading ℕ
+abbrev pub moment_at : Decoder ℕ
 moment_at = between_at 0 moment_limit
 
 -- the same as a statement
@@ -119,7 +119,7 @@ abbrev pub FitMoment : ℕ → Type 0
 FitMoment = FitBetween 0 moment_limit
 
 -- a deadline is at most its limit
-abbrev pub deadline_at : Reading ℕ
+abbrev pub deadline_at : Decoder ℕ
 deadline_at = between_at 0 deadline_limit
 
 -- the same as a statement
@@ -127,7 +127,7 @@ abbrev pub FitDeadline : ℕ → Type 0
 FitDeadline = FitBetween 0 deadline_limit
 
 -- a process has one of the numbers from 1 to below the limit
-abbrev pub process_at : Reading ℕ
+abbrev pub process_at : Decoder ℕ
 process_at = between_at 1 (process_limit - 1)
 
 -- the same as a statement
@@ -135,7 +135,7 @@ abbrev pub FitProcess : ℕ → Type 0
 FitProcess = FitBetween 1 (process_limit - 1)
 
 -- the next number may be the limit, where no process is left to start
-abbrev pub next_at : Reading ℕ
+abbrev pub next_at : Decoder ℕ
 next_at = between_at 1 process_limit
 
 -- the same as a statement
@@ -145,7 +145,7 @@ FitNext = FitBetween 1 process_limit
 -- ---- the name of a unit
 
 -- a text that is a unit name
-abbrev pub unit_name_at : Reading (List ℕ)
+abbrev pub unit_name_at : Decoder (List ℕ)
 unit_name_at = only_at is_unit_name text_at
 
 -- the same as a statement
@@ -163,7 +163,7 @@ abbrev pub counted_of : ℕ × ℕ → Counted
 counted_of (began, count) = record { began = began; count = count }
 
 -- a moment, and a count
-abbrev pub counted_at : Reading Counted
+abbrev pub counted_at : Decoder Counted
 counted_at = as_at counted_of (pair_at moment_at (number_at 4))
 
 -- a window that has bytes: its moment has some, and so has its count
@@ -189,7 +189,7 @@ unit_of (sub, (result, (main, (control, (index, (deadline, (window, (asked, last
     record { sub = sub; result = result; main = main; control = control; index = index; deadline = deadline; window = window; stop_asked = asked; last = last }
 
 -- each field behind the one before
-abbrev pub unit_at : Reading UnitState
+abbrev pub unit_at : Decoder UnitState
 unit_at =
     as_at unit_of (pair_at (table_at sub_states) (pair_at (table_at results) (pair_at (option_at process_at) (pair_at (option_at process_at)
     (pair_at (number_at 4) (pair_at (option_at deadline_at) (pair_at (option_at counted_at) (pair_at (table_at truths) (option_at end_at)))))))))

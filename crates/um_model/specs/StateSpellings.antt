@@ -8,7 +8,7 @@ use Rattle.std.specs.Cmp.Lexicographic.{slice_cmp}
 use Rattle.std.specs.FinMap as map
 use Rattle.std.specs.Option.{option_map_or}
 use Rattle.byteorder.specs.Endian.{big_bytes}
-use Rattle.um_model.specs.Bytes.{Spelling, Reading, pair_at, as_at, only_at, marked_at, choice_at, arm_in, FitText, text_spelling, text_at, table_at, tagged, all_ascend}
+use Rattle.um_model.specs.Bytes.{Spelling, Decoder, pair_at, as_at, only_at, marked_at, choice_at, arm_in, FitText, text_spelling, text_at, table_at, tagged, all_ascend}
 use Rattle.um_model.specs.Bytes.{FitList, list_spelling, list_at, FitMap, map_spelling, map_at}
 use Rattle.um_model.specs.Names.{is_unit_name}
 use Rattle.um_model.specs.Tree.{Tree, Entry, File, Link, IsTree, is_fit_entry, entry_limit}
@@ -36,11 +36,11 @@ abbrev pub entry_spelling : Spelling Entry
 entry_spelling e = entry_tag e ∷ text_spelling (text_of_entry e)
 
 -- the entries by their tags
-abbrev pub entry_arms : List (Reading Entry)
+abbrev pub entry_arms : List (Decoder Entry)
 entry_arms = as_at File text_at ∷ as_at Link text_at ∷ []
 
 -- a tag, and what stands behind it
-abbrev pub entry_at : Reading Entry
+abbrev pub entry_at : Decoder Entry
 entry_at = choice_at (arm_in entry_arms)
 
 -- an entry that has bytes: its text or target has some
@@ -60,7 +60,7 @@ abbrev pub is_tree : Tree → Bool
 is_tree tree = list_all (λ e. is_fit_entry e.0 e.1) (map.entries tree) && nat_le (map.len tree) entry_limit
 
 -- a map of entries that is a tree
-abbrev pub tree_at : Reading Tree
+abbrev pub tree_at : Decoder Tree
 tree_at = only_at is_tree (map_at any_text entry_at)
 
 -- a tree that has bytes: each path, text and target has some
@@ -79,7 +79,7 @@ abbrev pub are_known : ByUnit UnitState → Bool
 are_known units = list_all (λ e. not (holds_nothing e.1)) (map.entries units)
 
 -- a map of units of which something is known
-abbrev pub units_at : Reading (ByUnit UnitState)
+abbrev pub units_at : Decoder (ByUnit UnitState)
 units_at = only_at are_known (map_at is_unit_name unit_at)
 
 -- units that have bytes: each has a name and bytes, and none is dead with nothing known of it
@@ -98,7 +98,7 @@ abbrev pub job_of_fields : List ℕ × (JobKind × JobState) → JobShown
 job_of_fields (unit, (kind, state)) = record { unit = unit; kind = kind; state = state }
 
 -- the name of a unit, what the job does, and how far it is
-abbrev pub job_at : Reading JobShown
+abbrev pub job_at : Decoder JobShown
 job_at = as_at job_of_fields (pair_at unit_name_at (pair_at (table_at kinds) (table_at job_states)))
 
 -- one job stands before another: by the names of their units, and of one unit the stop job first
@@ -119,7 +119,7 @@ abbrev pub pending_spelling : Spelling (ByUnit UnitJobs)
 pending_spelling pending = list_spelling job_spelling (jobs_shown pending)
 
 -- the jobs of a list in which each stands before the next
-abbrev pub pending_at : Reading (ByUnit UnitJobs)
+abbrev pub pending_at : Decoder (ByUnit UnitJobs)
 pending_at = as_at pending_of (only_at jobs_ascend (list_at job_at))
 
 -- pending jobs that have bytes: each has some, and a unit without a job stands for none
@@ -149,7 +149,7 @@ abbrev pub is_boot : List ℕ → Bool
 is_boot id = nat_le (length id) boot_limit
 
 -- the id of a boot
-abbrev pub boot_at : Reading (List ℕ)
+abbrev pub boot_at : Decoder (List ℕ)
 boot_at = only_at is_boot text_at
 
 -- a boot's id that has bytes: it is a text, and no longer than that
@@ -174,7 +174,7 @@ abbrev pub is_sound : State → Bool
 is_sound s = have_begun s.clock s.units && list_all (λ n. nat_lt n s.next) (numbers_in s.units) && are_distinct (numbers_in s.units)
 
 -- a 1, and each field behind the one before, where they fit together
-abbrev pub state_at : Reading State
+abbrev pub state_at : Decoder State
 state_at =
     marked_at 1 (only_at is_sound (as_at state_of (pair_at tree_at (pair_at tree_at (pair_at boot_at (pair_at moment_at (pair_at next_at
     (pair_at units_at pending_at))))))))

@@ -3,7 +3,7 @@ use Rattle.std.proofs.Common.{◌≡◌, ℕ, zero, suc, ◌-◌, nat_lt, Bool, 
 use Rattle.std.proofs.Common.{◌<◌, ◌≤◌, ◌+◌, drop, slice_index, arith}
 use Rattle.std.specs.Prelude.{⊤}
 use Rattle.std.proofs.lemmas.Bool.{ltb-true, ltb-false}
-use Rattle.um_model.specs.Bytes.{Reading, ◌>>=◌, arm_in, as_at, pair_at, none_at, number_at, option_at, text_at, table_at}
+use Rattle.um_model.specs.Bytes.{Decoder, ◌>>=◌, arm_in, as_at, pair_at, none_at, number_at, option_at, text_at, table_at}
 use Rattle.um_model.specs.InputSpellings.{comes_at, for_unit_at, input_arms, input_at, install_at, nothing_at, texts_at, modes}
 use Rattle.um_model.specs.Machine.{PutFile, PutLink, Remove, DaemonReload, ForUnit, Cancel, ResetFailed, Install, ProcessEnded, ProcessExecuted, Tick, Booted, Event, Commanded, Happened, Input}
 use Rattle.um_model.specs.Spellings.{end_at, moment_at, unit_name_at}
@@ -16,11 +16,11 @@ use Rattle.um_state.proofs.Fronts.{two_first}
 use Rattle.um_state.specs.Arms.{command_arms, event_at, for_unit, happening_arms, input_of_fields, installs, timed_at}
 
 -- two readings are one
-abbrev Same : {A : Type 0} → Reading A → Reading A → Type 0
+abbrev Same : {A : Type 0} → Decoder A → Decoder A → Type 0
 Same one other = (bytes : List ℕ) → one bytes ≡ other bytes
 
 -- behind a moment
-abbrev timed : Reading Event → Reading Input
+abbrev timed : Decoder Event → Decoder Input
 timed one = as_at input_of_fields (pair_at moment_at one)
 
 -- what is read, told in another form, beside what was read before it
@@ -30,11 +30,11 @@ told to o = o >>= λ a. Some (to a.0, a.1)
 abbrev beside : {A B : Type 0} → A → Option (B × List ℕ) → Option ((A × B) × List ℕ)
 beside a o = o >>= λ b. Some ((a, b.0), b.1)
 
-abbrev behind : {A B : Type 0} → Reading B → Option (A × List ℕ) → Option ((A × B) × List ℕ)
+abbrev behind : {A B : Type 0} → Decoder B → Option (A × List ℕ) → Option ((A × B) × List ℕ)
 behind one o = o >>= λ a. beside a.0 (one a.1)
 
 -- the fields read in one form and told in another, and then in a third
-module _ {A B : Type 0} (to : A → B) (last : B → Event) (reading : Reading A) where
+module _ {A B : Type 0} (to : A → B) (last : B → Event) (reading : Decoder A) where
   abbrev input_by : ℕ × A → Input
   input_by f = record { moment = f.0; event = last (to f.1) }
 
@@ -56,13 +56,13 @@ none_timed bytes = by (moment_at bytes) where
   by (Some x) = refl
 
 -- each arm is the same as the timed one at its place
-abbrev AreSame : List (Reading Input) → List (Reading Event) → Type 0
+abbrev AreSame : List (Decoder Input) → List (Decoder Event) → Type 0
 AreSame [] [] = ⊤
 AreSame [] (e ∷ es) = ⊥
 AreSame (i ∷ is) [] = ⊥
 AreSame (i ∷ is) (e ∷ es) = Same i (timed e) × AreSame is es
 
-same_arm : (is : List (Reading Input)) (es : List (Reading Event)) → AreSame is es → (tag : ℕ) → Same (arm_in is tag) (timed (arm_in es tag))
+same_arm : (is : List (Decoder Input)) (es : List (Decoder Event)) → AreSame is es → (tag : ℕ) → Same (arm_in is tag) (timed (arm_in es tag))
 same_arm [] [] h tag = none_timed
 same_arm [] (e ∷ es) h tag = absurd h
 same_arm (i ∷ is) [] h tag = absurd h
@@ -70,7 +70,7 @@ same_arm (i ∷ is) (e ∷ es) h zero = h.0
 same_arm (i ∷ is) (e ∷ es) h (suc tag) = same_arm is es h.1 tag
 
 -- the fields of all that comes in, by the tags
-abbrev event_arms : List (Reading Event)
+abbrev event_arms : List (Decoder Event)
 event_arms = each (as_at Commanded) command_arms ++ each (as_at Happened) happening_arms
 
 all_same : AreSame input_arms event_arms
@@ -123,21 +123,21 @@ all_same = (
 -- ---- an arm of two tables that stand one behind the other
 
 module _ {A : Type 0} (to : A → Event) where
-  arm_told : (arms : List (Reading A)) (tag : ℕ) → Same (arm_in (each (as_at to) arms) tag) (as_at to (arm_in arms tag))
+  arm_told : (arms : List (Decoder A)) (tag : ℕ) → Same (arm_in (each (as_at to) arms) tag) (as_at to (arm_in arms tag))
   arm_told [] tag bytes = refl
   arm_told (arm ∷ arms) zero bytes = refl
   arm_told (arm ∷ arms) (suc tag) bytes = arm_told arms tag bytes
 
-module _ {A B : Type 0} (to : A → Event) (other : B → Event) (others : List (Reading B)) where
-  abbrev both : List (Reading A) → List (Reading Event)
+module _ {A B : Type 0} (to : A → Event) (other : B → Event) (others : List (Decoder B)) where
+  abbrev both : List (Decoder A) → List (Decoder Event)
   both arms = each (as_at to) arms ++ each (as_at other) others
 
-  in_first : (arms : List (Reading A)) (tag : ℕ) → tag < length arms → Same (arm_in (both arms) tag) (as_at to (arm_in arms tag))
+  in_first : (arms : List (Decoder A)) (tag : ℕ) → tag < length arms → Same (arm_in (both arms) tag) (as_at to (arm_in arms tag))
   in_first [] tag low bytes = absurd (omega (arith, low))
   in_first (arm ∷ arms) zero low bytes = refl
   in_first (arm ∷ arms) (suc tag) low bytes = in_first arms tag (omega (arith, low)) bytes
 
-  in_second : (arms : List (Reading A)) (tag : ℕ) → Same (arm_in (both arms) (length arms + tag)) (as_at other (arm_in others tag))
+  in_second : (arms : List (Decoder A)) (tag : ℕ) → Same (arm_in (both arms) (length arms + tag)) (as_at other (arm_in others tag))
   in_second [] tag bytes =
       let same : 0 + tag ≡ tag = omega arith in
       ap (λ n. arm_in (both []) n bytes) same ∙ arm_told other others tag bytes
@@ -155,7 +155,7 @@ event_here tag bytes = by (nat_lt tag 15) refl where
       let is : 15 + (tag - 15) ≡ tag = omega (arith, high) in
       rw e (ap (λ n. arm_in event_arms n bytes) (sym is) ∙ in_second Commanded Happened happening_arms command_arms (tag - 15) bytes)
 
-timed_same : (one other : Reading Event) → Same one other → Same (timed one) (timed other)
+timed_same : (one other : Decoder Event) → Same one other → Same (timed one) (timed other)
 timed_same one other h bytes = by (moment_at bytes) where
   by : (o : Option (ℕ × List ℕ)) → told input_of_fields (behind one o) ≡ told input_of_fields (behind other o)
   by None = refl

@@ -1,7 +1,7 @@
 -- The fields of a state, put and read one behind the other.
 use Rattle.std.proofs.Common.{◌≡◌, ℕ, ◌≤◌, ◌+◌, ◌-◌, true, List, [], ◌∷◌, ◌++◌, length, take, drop, slice_index, arith, append_assoc, Some, refl, ap, ◌∙◌}
 use Rattle.std.proofs.lemmas.List.{drop-drop}
-use Rattle.um_model.specs.Bytes.{Reading, as_at, only_at, pair_at}
+use Rattle.um_model.specs.Bytes.{Decoder, as_at, only_at, pair_at}
 use Rattle.um_model.specs.Spellings.{moment_at, next_at}
 use Rattle.um_model.specs.StateSpellings.{StateFields, boot_at, is_sound, pending_at, state_at, state_of, tree_at, units_at}
 use Rattle.um_model.specs.InputSpellings.{happening_fields}
@@ -25,7 +25,7 @@ abbrev pub eight_bytes : ℕ → List ℕ
 eight_bytes n = happening_fields (ProcessExecuted n)
 
 -- the fields in order
-abbrev pub fields_at : Reading StateFields
+abbrev pub fields_at : Decoder StateFields
 fields_at = pair_at tree_at (pair_at tree_at (pair_at boot_at (pair_at moment_at (pair_at next_at (pair_at units_at pending_at)))))
 
 sound_here : (bytes rest : List ℕ) (f : StateFields) → fields_at bytes ≡ Some (f, rest) → is_sound (state_of f) ≡ true → only_at is_sound (as_at state_of fields_at) bytes ≡ Some (state_of f, rest)

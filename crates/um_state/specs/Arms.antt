@@ -2,7 +2,7 @@
 -- No manual page has it: it is the order in which the code reads an input.
 -- The code that reads inputs stands on this file.
 use Rattle.std.specs.Prelude.{ℕ, ◌-◌, nat_lt, List, [], ◌∷◌, if◌then◌else◌}
-use Rattle.um_model.specs.Bytes.{Reading, arm_in, as_at, none_at, number_at, option_at, pair_at, text_at, table_at}
+use Rattle.um_model.specs.Bytes.{Decoder, arm_in, as_at, none_at, number_at, option_at, pair_at, text_at, table_at}
 use Rattle.um_model.specs.InputSpellings.{nothing_at, texts_at, modes}
 use Rattle.um_model.specs.Machine.{Command, PutFile, PutLink, Remove, DaemonReload, ForUnit, Cancel, ResetFailed, Install, Happening, ProcessEnded, ProcessExecuted, Tick, Booted, Event}
 use Rattle.um_model.specs.Machine.{Commanded, Happened, Input}
@@ -14,15 +14,15 @@ use Rattle.um_model.specs.declared.install.InstallVerb.{InstallVerb}
 use Rattle.um_model.specs.declared.install.InstallVerb.TheVariants as install
 
 -- a command for a unit: its name, and the mode
-abbrev pub for_unit : UnitVerb → Reading Command
+abbrev pub for_unit : UnitVerb → Decoder Command
 for_unit verb = as_at (λ f. ForUnit verb f.0 f.1) (pair_at unit_name_at (table_at modes))
 
 -- enabling or its kin: the name of the unit
-abbrev pub installs : InstallVerb → Reading Command
+abbrev pub installs : InstallVerb → Decoder Command
 installs verb = as_at (λ unit. Install verb unit) unit_name_at
 
 -- the fields of the commands, by their tags from 1; none has 0
-abbrev pub command_arms : List (Reading Command)
+abbrev pub command_arms : List (Decoder Command)
 command_arms =
     none_at
     ∷ as_at (λ f. PutFile f.0 f.1) texts_at
@@ -42,7 +42,7 @@ command_arms =
     ∷ []
 
 -- the fields of what happens, by their tags from 15
-abbrev pub happening_arms : List (Reading Happening)
+abbrev pub happening_arms : List (Decoder Happening)
 happening_arms =
     as_at (λ f. ProcessEnded f.0 f.1) (pair_at (number_at 8) end_at)
     ∷ as_at ProcessExecuted (number_at 8)
@@ -51,7 +51,7 @@ happening_arms =
     ∷ []
 
 -- the fields of what comes in, by its tag
-abbrev pub event_at : ℕ → Reading Event
+abbrev pub event_at : ℕ → Decoder Event
 event_at tag = if nat_lt tag 15 then as_at Commanded (arm_in command_arms tag) else as_at Happened (arm_in happening_arms (tag - 15))
 
 -- the input of its two fields
@@ -59,5 +59,5 @@ abbrev pub input_of_fields : ℕ × Event → Input
 input_of_fields (moment, event) = record { moment = moment; event = event }
 
 -- a moment, and behind it the fields of what comes in
-abbrev pub timed_at : ℕ → Reading Input
+abbrev pub timed_at : ℕ → Decoder Input
 timed_at tag = as_at input_of_fields (pair_at moment_at (event_at tag))

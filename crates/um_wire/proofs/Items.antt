@@ -1,7 +1,7 @@
 -- Items read and put one behind the other, as loops do it.
 use Rattle.std.proofs.Common.{◌≡◌, ℕ, suc, ◌-◌, ◌+◌, ◌≤◌, ◌<◌, List, [], ◌∷◌, ◌++◌, length, drop, Option, Some, None, refl, sym, ap, ◌∙◌, append_assoc, arith}
 use Rattle.std.proofs.lemmas.List.{append-nil, length-drop}
-use Rattle.um_model.specs.Bytes.{Reading, nothing_left, ◌>>=◌, many_at, list_at, number_at}
+use Rattle.um_model.specs.Bytes.{Decoder, nothing_left, ◌>>=◌, many_at, list_at, number_at}
 
 abbrev some : {A : Type 0} → A → Option A
 some x = Some x
@@ -17,7 +17,7 @@ regroup : {A : Type 0} (front : List A) (n : A) (read : Option (List A × List �
 regroup {A} front n (Some x) = ap (λ (ns : List A). some (ns, x.1)) (sym (append_assoc front (n ∷ []) x.0))
 regroup front n None = refl
 
-module _ {A : Type 0} (one : Reading A) where
+module _ {A : Type 0} (one : Decoder A) where
   pub goes_on : (front : List A) (count i : ℕ) (bytes : List ℕ) (n : A) (after : List ℕ) (total : Option (List A × List ℕ)) → i < count → one bytes ≡ Some (n, after)
       → with_front front (many_at one (count - i) bytes) ≡ total → with_front (front ++ n ∷ []) (many_at one (count - (i + 1)) after) ≡ total
   goes_on front count i bytes n after total lt h so_far =

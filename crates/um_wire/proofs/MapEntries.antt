@@ -12,7 +12,7 @@ use Rattle.std.specs.List.Sorted.{IsStrictlySortedBy}
 use Rattle.std.specs.Map.{keys_of}
 use Rattle.std.specs.Ordering.{is_lt, nat_cmp, ordering_reverse, match_ordering}
 use Rattle.byteorder.specs.Endian.{big_bytes}
-use Rattle.um_model.specs.Bytes.{Reading, Spelling, ByText, FitList, FitMap, FitText, IsInFront, ascends, are_keys, list_at, map_at, map_spelling, pair_at, pair_spelling, text_at, text_spelling}
+use Rattle.um_model.specs.Bytes.{Decoder, Spelling, ByText, FitList, FitMap, FitText, IsInFront, ascends, are_keys, list_at, map_at, map_spelling, pair_at, pair_spelling, text_at, text_spelling}
 use Rattle.um_model.proofs.BytesLaws.{both_hold, guard_some, left_holds, lower, right_holds, some_is, sorted}
 use Rattle.um_wire.specs.Entries.{seen}
 
@@ -118,7 +118,7 @@ key_is text is_key t found k h is =
     let both = guard_some (is_key t) (some t) (text k) (sym told) in
     (both.0, sym (some_is t (text k) both.1))
 
-module _ {Y : Type 0} (one : Reading Y) (is_key : List ℕ → Bool) (bytes : List ℕ) (es : List (List ℕ × Y)) (rest : List ℕ) where
+module _ {Y : Type 0} (one : Decoder Y) (is_key : List ℕ → Bool) (bytes : List ℕ) (es : List (List ℕ × Y)) (rest : List ℕ) where
   abbrev AreThere : Type 0
   AreThere = list_at (pair_at text_at one) bytes ≡ Some (es, rest)
 
