@@ -1,5 +1,5 @@
 -- Several readings, one after the other.
-use Rattle.std.proofs.Common.{◌≡◌, ℕ, List, [], ◌∷◌, ◌++◌, map, filter_map, append_assoc, Option, Some, None, Ok, Err, option_map, refl, sym, ap, ◌∙◌}
+use Rattle.std.proofs.Common.{◌≡◌, ℕ, List, [], ◌∷◌, ◌++◌, map, filter_map, append_assoc, Option, Some, None, Ok, Err, option_map, refl, sym, ap, subst, ◌∙◌}
 use Rattle.std.specs.List.{cons_option}
 use Rattle.std.proofs.lemmas.List.{append-nil, map-append}
 use Rattle.std.proofs.lemmas.List.Elements.{filter_map-append}
@@ -13,7 +13,9 @@ use Rattle.um_model.specs.Words.{words_of}
 use Rattle.um_model.specs.declared.warnings.WarningKind.{WarningKind}
 use Rattle.um_model.specs.declared.warnings.WarningKind.TheVariants.{UnreadableValue}
 use Rattle.um_model.specs.declared.words.WordRules.TheVariants.{Escaped}
-use Rattle.um_unit.specs.Readings.{read_as}
+use Rattle.um_model.specs.Units.{value_readings, value_warning}
+use Rattle.um_model.specs.declared.units.ValueKind.{ValueKind}
+use Rattle.um_unit.specs.Readings.{first_warning, read_as}
 use Rattle.um_model.proofs.FileForms.{Meaning}
 use Rattle.um_unit.specs.Readings.{variable_reading, value_reading}
 use Rattle.um_unit.specs.Readings.{command_reading}
@@ -115,3 +117,17 @@ commands_by unit value commands e = ap (λ o. ok_or o UnreadableValue and_then �
 pub environment_by : (unit value : List ℕ) (words : List (List ℕ)) → words_of Escaped value ≡ Some words → environment_reading unit value ≡ all_read (map (variable_reading unit) words)
 unfolding environment_reading
 environment_by unit value words e = ap (λ o. ok_or o UnreadableValue and_then λ read. all_read (map (variable_reading unit) read)) e
+
+-- one reading's warning, what it read seen in another way
+pub seen_warning : {A B : Type 0} (f : A → B) (r : Meaning A) → first_warning (r ∷ []) ≡ first_warning (read_as f r ∷ [])
+seen_warning f (Ok a) = refl
+seen_warning f (Err warning) = refl
+
+pub seen_unread : {A B : Type 0} (f : A → B) (o : Option A) → first_warning (value_reading o ∷ []) ≡ first_warning (value_reading (option_map f o) ∷ [])
+seen_unread f None = refl
+seen_unread f (Some a) = refl
+
+-- the warning of a value, where its kind is known
+pub warned_as : (unit value : List ℕ) (k kind : ValueKind) (w : Option WarningKind) → k ≡ kind → w ≡ first_warning (value_readings unit kind value) → w ≡ value_warning unit k value
+unfolding value_warning
+warned_as unit value k kind w is e = subst (λ x. w ≡ first_warning (value_readings unit x value)) (sym is) e

@@ -7,7 +7,7 @@ ghost use Rattle.um_model.specs.Names.{is_unit_name};
 ghost use Rattle.um_model.specs.Readings as said;
 ghost use Rattle.um_model.specs.Units as model;
 ghost use Rattle.um_model.proofs.FileForms.{names_of};
-ghost use Rattle.um_model.specs.declared.units.ValueKind as kinds;
+ghost use Rattle.um_model.specs.declared.units.ValueKind.TheVariants as kinds;
 ghost use Rattle.um_model.specs.Values.{exits_of};
 ghost use Rattle.um_model.specs.declared.service.End as ends;
 ghost use Rattle.um_unit.specs.Readings.{fits_use, read_as};
@@ -66,7 +66,7 @@ pub fn units_named(
     key: Key<'_>,
 ) -> Result<Vec<String>, AllocError>
     ensures { IfOk result (λ names. map string_bytes names.items
-        ≡ model.all_said unit.now kinds.TheVariants.Units (model.values_of ((key.entry.0.now, key.entry.1.now) ∷ []) (map assigned_of assigned.now))) }
+        ≡ model.all_said unit.now kinds.Units (model.values_of ((key.entry.0.now, key.entry.1.now) ∷ []) (map assigned_of assigned.now))) }
 {
     let values = values_of(alloc, assigned, &[key])?;
     names_of(alloc, NameUse::Units, unit, values.as_slice())
@@ -105,7 +105,7 @@ pub fn commands_of(
     key: &str,
 ) -> Result<Vec<Command>, AllocError>
     ensures { IfOk result (λ commands. commands_seen commands.items
-        ≡ flat_map (λ said. said) (model.service_said unit.now kinds.TheVariants.Commands key.now (map assigned_of assigned.now))) }
+        ≡ flat_map (λ said. said) (model.service_said unit.now kinds.Commands key.now (map assigned_of assigned.now))) }
 {
     let values = values_of(alloc, assigned, &[("Service", key)])?;
     let mut commands = Vec::new(alloc);
@@ -132,7 +132,7 @@ pub fn environment_of(
     assigned: &[Assigned<'_>],
 ) -> Result<Vec<Variable>, AllocError>
     ensures { IfOk result (λ variables. variables_of variables.items
-        ≡ flat_map (λ said. said) (model.service_said unit.now kinds.TheVariants.Environment (codes "Environment") (map assigned_of assigned.now))) }
+        ≡ flat_map (λ said. said) (model.service_said unit.now kinds.Environment (codes "Environment") (map assigned_of assigned.now))) }
 {
     let values = values_of(alloc, assigned, &[("Service", "Environment")])?;
     let mut variables = Vec::new(alloc);
@@ -151,7 +151,7 @@ fn exits_said(value: &str) -> ExitSet
 
 /// The ends that a setting of `[Service]` tells, behind the last empty value.
 pub fn exits_in(alloc: Global, assigned: &[Assigned<'_>], key: &str) -> Result<ExitSet, AllocError>
-    ensures { IfOk result (λ set. holds set ≡ model.any_of (model.service_said [] kinds.TheVariants.Exits key.now (map assigned_of assigned.now))) }
+    ensures { IfOk result (λ set. holds set ≡ model.any_of (model.service_said [] kinds.Exits key.now (map assigned_of assigned.now))) }
 {
     let values = values_of(alloc, assigned, &[("Service", key)])?;
     let mut exits = ExitSet::empty();

@@ -3,7 +3,8 @@
 ghost use Rattle.std.specs.Prelude.{◌≡◌, IfOk, List, [], ℕ, filter_map, map, option_copied, option_map, option_to_list, string_bytes};
 ghost use Rattle.std.specs.Result.{result_ok};
 ghost use Rattle.um_model.specs.Units as model;
-ghost use Rattle.um_model.specs.declared.units.ValueKind as kinds;
+ghost use Rattle.um_model.specs.declared.units.ValueKind as value_kinds;
+ghost use Rattle.um_model.specs.declared.units.ValueKind.TheVariants as kinds;
 ghost use Rattle.um_unit.specs.Sources.{assigned_of};
 ghost use Rattle.um_value.specs.Spans.{micros_in};
 ghost use Rattle.um_unit.specs.View.{said_of};
@@ -21,7 +22,7 @@ pub trait Reader {
     type Said: Drop;
 
     /// The kind of its values.
-    ghost kind: { kinds.ValueKind };
+    ghost kind: { value_kinds.ValueKind };
 
     /// The unit under whose name a value is read.
     ghost unit: { Self → List ℕ };
@@ -64,7 +65,7 @@ pub struct Text<'u> {
 impl Reader for Text<'_> {
     type Said = String;
 
-    ghost kind = { kinds.TheVariants.Text };
+    ghost kind = { kinds.Text };
 
     ghost unit = { λ r. r.unit.now };
 
@@ -82,7 +83,7 @@ pub struct Truth;
 impl Reader for Truth {
     type Said = bool;
 
-    ghost kind = { kinds.TheVariants.Truth };
+    ghost kind = { kinds.Truth };
 
     ghost unit = { λ _. [] };
 
@@ -100,7 +101,7 @@ pub struct Count;
 impl Reader for Count {
     type Said = u32;
 
-    ghost kind = { kinds.TheVariants.Number };
+    ghost kind = { kinds.Number };
 
     ghost unit = { λ _. [] };
 
@@ -118,7 +119,7 @@ pub struct Policy;
 impl Reader for Policy {
     type Said = RestartPolicy;
 
-    ghost kind = { kinds.TheVariants.Policy };
+    ghost kind = { kinds.Policy };
 
     ghost unit = { λ _. [] };
 
@@ -146,7 +147,7 @@ pub struct Delay;
 impl Reader for Delay {
     type Said = Option<Span>;
 
-    ghost kind = { kinds.TheVariants.Span };
+    ghost kind = { kinds.Span };
 
     ghost unit = { λ _. [] };
 
@@ -158,7 +159,7 @@ impl Reader for Delay {
 }
 
 /// What a value of `DefaultInstance=` says: an empty one gives the default back.
-fn default_instance_in(value: &str) -> Option<Option<&str>>
+pub(crate) fn default_instance_in(value: &str) -> Option<Option<&str>>
     ensures { option_map option_copied result ≡ model.default_instance_in value.now }
 {
     if value.is_empty() {
@@ -177,7 +178,7 @@ pub struct Instance {
 impl Reader for Instance {
     type Said = Option<String>;
 
-    ghost kind = { kinds.TheVariants.Instance };
+    ghost kind = { kinds.Instance };
 
     ghost unit = { λ _. [] };
 
@@ -226,7 +227,7 @@ pub struct Type;
 impl Reader for Type {
     type Said = TypeSaid;
 
-    ghost kind = { kinds.TheVariants.ServiceType };
+    ghost kind = { kinds.ServiceType };
 
     ghost unit = { λ _. [] };
 

@@ -1,7 +1,6 @@
 //! What the lines of a unit's files warn of.
 
-ghost use Rattle.std.specs.Prelude.{◌≡◌, ◌++◌, Some, OnOk, IfOk, map, option_map};
-ghost use Rattle.std.specs.Result.{result_err};
+ghost use Rattle.std.specs.Prelude.{◌≡◌, [], ◌∷◌, ◌++◌, Some, OnOk, IfOk, map, option_map};
 ghost use Rattle.um_model.specs.Readings as said;
 ghost use Rattle.um_model.specs.Syntax.{line_number};
 ghost use Rattle.um_model.proofs.FileForms.{warnings_of};
@@ -15,10 +14,10 @@ ghost use Rattle.um_unit.specs.View.{warning_of};
 use crate::assignments::{Source, section_after};
 use crate::keys::{is_foreign, is_known_section, kind_of_key};
 use crate::readings::{
-    Meaning, NameUse, commands_reading, environment_reading, first_warning, instance_in,
+    Meaning, NameUse, commands_reading, environment_reading, first_warning,
     names_reading, text_reading, value_reading,
 };
-use crate::singles::type_said;
+use crate::singles::{default_instance_in, type_said};
 use std::alloc::{AllocError, Global};
 use um_model::{Suffix, ValueKind, WarningKind};
 use um_name::UnitName;
@@ -36,14 +35,14 @@ pub struct Warning {
 }
 
 fn warning_in<T: Drop>(reading: Meaning<T>) -> Option<WarningKind>
-    ensures { result ≡ result_err reading }
+    ensures { result ≡ first_warning (reading ∷ []) }
 {
     reading.err()
 }
 
 /// The warning of a value that has no reading.
 fn unread<T: Drop>(read: Option<T>) -> Option<WarningKind>
-    ensures { result ≡ result_err (value_reading read) }
+    ensures { result ≡ first_warning (value_reading read ∷ []) }
 {
     warning_in(value_reading(read))
 }
@@ -61,7 +60,6 @@ fn names_warning(
 }
 
 /// The warning that a value of this kind gives.
-#[tactic(auto, unfolding(um_model::specs::Units::value_warning))]
 fn value_warning(
     alloc: Global,
     unit: &UnitName,
@@ -76,7 +74,7 @@ fn value_warning(
         ValueKind::Aliases => names_warning(alloc, NameUse::Aliases, unit, value),
         ValueKind::Commands => Ok(warning_in(commands_reading(alloc, unit, value)?)),
         ValueKind::Environment => Ok(warning_in(environment_reading(alloc, unit, value)?)),
-        ValueKind::Instance => Ok(unread(instance_in(value))),
+        ValueKind::Instance => Ok(unread(default_instance_in(value))),
         ValueKind::Truth => Ok(unread(boolean(value))),
         ValueKind::Span => Ok(unread(span(value))),
         ValueKind::Number => Ok(unread(number(value))),
