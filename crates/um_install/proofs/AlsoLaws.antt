@@ -9,7 +9,7 @@ use Rattle.um_model.specs.Readings.{text_reading, names_reading, read_if}
 use Rattle.um_model.specs.Results.{◌and_then◌}
 use Rattle.um_model.specs.Resolution.{Resolution, AtFile, AtNoFile, AtMask, Nowhere, resolution_of}
 use Rattle.um_model.specs.Tree.{Tree}
-use Rattle.um_model.specs.Units.{Assigned, LoadedUnit, load, loading_at, name_in, unit_named, install_settings_of, names_of, unit_by, sources_at, assignments_in}
+use Rattle.um_model.specs.Units.{Assigned, LoadedUnit, load, loading_at, name_in, unit_named, install_settings_of, unit_by, sources_at, assignments_in}
 use Rattle.um_model.specs.Names.{suffix_of}
 use Rattle.um_model.specs.Words.{words_of}
 use Rattle.um_model.specs.declared.words.WordRules.TheVariants.{Names}
@@ -18,7 +18,7 @@ use Rattle.um_model.proofs.Forms.{found_unless}
 use Rattle.std.proofs.lemmas.Option.{same_Some, none-some}
 use Rattle.std.specs.Option.{option_map_or}
 use Rattle.um_install.proofs.Members.{each_contains, filter_map_contains, flat_contains}
-use Rattle.um_model.proofs.FileForms.{Meaning, names_said}
+use Rattle.um_model.proofs.FileForms.{Meaning, names_of, names_said}
 use Rattle.um_model.proofs.FileForms.{unit_reading}
 
 by_file : (asked unit : List ℕ) (reason : Option (List ℕ)) (u : LoadedUnit) → u.name ≡ unit → name_in asked (found_unless reason u) ≡ unit
