@@ -1,7 +1,8 @@
 //! Answers as values that can be compared and shown.
 use std::fmt::Debug;
 use std::process::Abort;
-use um_model::Moment;
+use um_model::{JobState, Moment, UnitJobs};
+use um_name::UnitName;
 use um_state::Action;
 use um_wire::Refusal;
 
@@ -54,14 +55,16 @@ pub fn text(rt: &(impl AllocGlobal + Abort), text: &str) -> String {
     String::from_str(rt.alloc(), text).expect(rt, "no memory")
 }
 
-/// These texts as a list of their own.
-pub fn list(rt: &(impl AllocGlobal + Abort), texts: &[&str]) -> Vec<String> {
-    let mut list = Vec::new(rt.alloc());
-    for item in texts {
-        list.push(text(rt, item)).expect(rt, "no memory");
-    }
-    list
+/// The unit of this name.
+pub fn unit(rt: &(impl AllocGlobal + Abort), text: &str) -> UnitName {
+    UnitName::parse(rt.alloc(), text).expect(rt, "no unit")
 }
+
+/// A start that waits.
+pub const WAITS_TO_START: UnitJobs = UnitJobs {
+    stop: None,
+    start: Some(JobState::Waiting),
+};
 
 /// What the actions ask for, in their order: to start a process under a number, with its words and its environment, or to send a
 /// signal to the process of a number.

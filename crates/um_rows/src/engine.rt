@@ -1,9 +1,8 @@
 //! Steps of the machine, taken, taken back and refused.
-use crate::answers::{at, same, same_at, text, told};
+use crate::answers::{at, same, same_at, text, told, unit};
 use std::process::Abort;
 use um_engine::Engine;
 use um_model::{End, JobMode, SubState, UnitState, UnitVerb};
-use um_name::UnitName;
 use um_state::{BootId, Command, Event, Happening, Input, Query, Reply, State};
 
 /// The size of a store, in bytes.
@@ -24,8 +23,8 @@ enum Comes {
     Booted(&'static str),
 }
 
-/// What comes in turn into a state of so many entries; each with its answer, and how far `a.service` has come then (None: the unit stands as
-/// before). At the end a process of this number is its main one.
+/// What comes in turn into a state of so many files, each with its answer and how far `a.service` has come then; None: it stands as
+/// before. At the end its main process has this number.
 struct Script {
     shows: &'static str,
     entries: usize,
@@ -212,11 +211,6 @@ const SCRIPTS: &[Script] = &[
     },
 ];
 
-/// The name of `a.service`.
-fn name(rt: &(impl AllocGlobal + Abort)) -> UnitName {
-    UnitName::parse(rt.alloc(), "a.service").expect(rt, "no unit")
-}
-
 /// The input.
 fn input_of(rt: &(impl AllocGlobal + Abort), comes: &Comes) -> Input {
     let (micros, event) = match comes {
@@ -227,7 +221,7 @@ fn input_of(rt: &(impl AllocGlobal + Abort), comes: &Comes) -> Input {
         }
         Comes::Reload => (5, Event::Commanded(Command::DaemonReload)),
         Comes::Asked(verb, mode) => {
-            let (verb, unit, mode) = (*verb, name(rt), *mode);
+            let (verb, unit, mode) = (*verb, unit(rt, "a.service"), *mode);
             (5, Event::Commanded(Command::ForUnit { verb, unit, mode }))
         }
         Comes::Ended(micros, number, end) => {
@@ -271,7 +265,7 @@ fn answer_to(rt: &(impl AllocGlobal + Abort), engine: &mut Engine, input: &Input
 
 /// How `a.service` stands, and the clock in microseconds.
 fn standing(rt: &(impl AllocGlobal + Abort), engine: &Engine) -> (UnitState, u64) {
-    let unit = name(rt);
+    let unit = unit(rt, "a.service");
     let reply = engine.query(&Query::Show { unit });
     match &reply.expect(rt, "no memory") {
         Reply::Shown(shown) => (shown.state, engine.clock().micros()),

@@ -1,23 +1,16 @@
 //! The pending jobs of the units of a graph.
-use crate::answers::same;
+use crate::answers::{WAITS_TO_START, same, unit};
 use um_graph::Graph;
 use um_jobs::Jobs;
-use um_model::{JobKind, JobState, UnitJobs};
-use um_name::UnitName;
+use um_model::{JobKind, UnitJobs};
 use um_tree::Tree;
-
-const WAITS_TO_START: UnitJobs = UnitJobs {
-    stop: None,
-    start: Some(JobState::Waiting),
-};
 
 #[test]
 fn the_ready_job_of_the_least_name_begins(rt: HostRuntime) {
     let alloc = rt.alloc();
     let mut extra = Vec::new(alloc);
     for name in ["b.service", "a.service"] {
-        let unit = UnitName::parse(alloc, name).expect(&rt, "no unit");
-        extra.push(unit).expect(&rt, "no memory");
+        extra.push(unit(&rt, name)).expect(&rt, "no memory");
     }
     let graph = Graph::of(alloc, &Tree::new(alloc), &extra).expect(&rt, "no graph");
     let mut jobs = Jobs::new(alloc, graph.len()).expect(&rt, "no memory");

@@ -1,11 +1,9 @@
 //! The limits of a store's room and of known units.
-use crate::answers::{at, is_refused, same, same_at, text};
+use crate::answers::{WAITS_TO_START, at, is_refused, same, same_at, text, unit};
 use crate::script::play;
 use crate::texts::{DONE, RELOAD, START_B, TOO_MANY_UNITS};
 use std::process::Abort;
 use um_engine::Engine;
-use um_model::{JobState, UnitJobs};
-use um_name::UnitName;
 use um_state::{Command, Event, Input, State};
 
 /// The size of a store, in bytes.
@@ -13,12 +11,6 @@ const SIZE: u64 = 32_256;
 
 /// The size of one that has room for as many units as may be known.
 const LARGE_SIZE: u64 = 8_388_096;
-
-/// A start that waits.
-const WAITS_TO_START: UnitJobs = UnitJobs {
-    stop: None,
-    start: Some(JobState::Waiting),
-};
 
 /// A state, by what the tree in hand holds.
 #[derive(Debug, Drop)]
@@ -79,14 +71,13 @@ fn with_hidden(rt: &(impl AllocGlobal + Abort), count: usize) -> State {
 const AFTER_A: &str = "[Service]\nExecStart=/bin/sleep 9\n[Unit]\nAfter=a.service\n";
 
 /// A state in which `a.service`, of this text, and `b.service` wait to start.
-fn with_starts(rt: &(impl AllocGlobal + Abort), unit: &str) -> State {
-    let mut state = with_file(rt, unit);
+fn with_starts(rt: &(impl AllocGlobal + Abort), text: &str) -> State {
+    let mut state = with_file(rt, text);
     let put: Result<_, _> = state.put_file("lib/b.service", AFTER_A);
     put.expect(rt, "a file is refused");
     state.reload().expect(rt, "no memory");
     for name in ["a.service", "b.service"] {
-        let unit = UnitName::parse(rt.alloc(), name).expect(rt, "no unit");
-        let set: Result<_, _> = state.set_jobs(&unit, WAITS_TO_START);
+        let set: Result<_, _> = state.set_jobs(&unit(rt, name), WAITS_TO_START);
         set.expect(rt, "no memory");
     }
     state
@@ -99,7 +90,7 @@ fn state_of(rt: &(impl AllocGlobal + Abort), held: &Held) -> State {
         Held::Text(length) => with_file(rt, long(rt, *length).as_str()),
         Held::Wanting(count) => with_wanted(rt, *count),
         Held::Hidden(count) => with_hidden(rt, *count),
-        Held::Waiting(unit) => with_starts(rt, unit),
+        Held::Waiting(text) => with_starts(rt, text),
     }
 }
 

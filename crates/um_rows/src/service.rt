@@ -1,5 +1,5 @@
 //! What follows for a unit from what happens to it.
-use crate::answers::{at, list, same, same_at, told};
+use crate::answers::{at, same, same_at, text, told};
 use std::process::Abort;
 use um_model::{End, SubState, UnitResult, UnitState};
 use um_service::{Around, NextNumber, Service, ServiceSettings, StartJob, UnitEvent, UnitKind};
@@ -94,8 +94,9 @@ const LIVES: &[&[Step]] = &[
 /// The settings of `ExecStart=/bin/sleep 9`.
 fn sleeps(rt: &(impl AllocGlobal + Abort)) -> ServiceSettings {
     let mut settings = ServiceSettings::new(rt.alloc(), UnitKind::Simple);
+    let words = vec![in rt.alloc(); text(rt, "/bin/sleep"), text(rt, "9")];
     let command = Command {
-        words: list(rt, &["/bin/sleep", "9"]),
+        words: words.expect(rt, "no memory"),
         ignores_failure: false,
         substitutes: true,
     };

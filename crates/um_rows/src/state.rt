@@ -1,19 +1,8 @@
 //! The state: its units and pending jobs.
-use crate::answers::same;
+use crate::answers::{WAITS_TO_START, same, unit};
 use std::process::Abort;
-use um_model::{Deadline, JobState, ProcessNumber, SubState, UnitJobs, UnitState};
-use um_name::UnitName;
+use um_model::{Deadline, ProcessNumber, SubState, UnitJobs, UnitState};
 use um_state::{Pending, State, Units};
-
-const WAITS_TO_START: UnitJobs = UnitJobs {
-    stop: None,
-    start: Some(JobState::Waiting),
-};
-
-/// The unit of this name.
-fn unit(rt: &(impl AllocGlobal + Abort), text: &str) -> UnitName {
-    UnitName::parse(rt.alloc(), text).expect(rt, "no unit")
-}
 
 /// A unit whose main process has this number, with a deadline at this moment.
 fn starting(number: u64, deadline: u64) -> UnitState {
