@@ -1,7 +1,8 @@
 //! Answers as values that can be compared and shown.
 use std::fmt::Debug;
 use std::process::Abort;
-use um_model::{Moment, Signal};
+use um_model::{JobState, Moment, UnitJobs};
+use um_name::UnitName;
 use um_state::Action;
 use um_wire::Refusal;
 
@@ -54,77 +55,38 @@ pub fn text(rt: &(impl AllocGlobal + Abort), text: &str) -> String {
     String::from_str(rt.alloc(), text).expect(rt, "no memory")
 }
 
-/// These texts as a list of their own.
-pub fn list(rt: &(impl AllocGlobal + Abort), texts: &[&str]) -> Vec<String> {
-    let mut list = Vec::new(rt.alloc());
-    for item in texts {
-        list.push(text(rt, item)).expect(rt, "no memory");
-    }
-    list
+/// The unit of this name.
+pub fn unit(rt: &(impl AllocGlobal + Abort), text: &str) -> UnitName {
+    UnitName::parse(rt.alloc(), text).expect(rt, "no unit")
 }
 
-/// What is asked of the children, as the actions tell it.
-#[derive(Debug, Drop, PartialEq)]
-pub enum ToDo {
-    /// To start a process under this number, with these words in this environment.
-    Spawn(u64, Vec<String>, Vec<String>),
-    /// To signal the process of this number.
-    Kill(u64, Signal),
-}
+/// A start that waits.
+pub const WAITS_TO_START: UnitJobs = UnitJobs {
+    stop: None,
+    start: Some(JobState::Waiting),
+};
 
-/// The same texts again.
-fn again(rt: &(impl AllocGlobal + Abort), texts: &[String]) -> Vec<String> {
-    let mut copies = Vec::new(rt.alloc());
-    for item in texts {
-        copies.push(text(rt, item.as_str())).expect(rt, "no memory");
-    }
-    copies
-}
-
-/// What the action asks for.
-fn asked_by(rt: &(impl AllocGlobal + Abort), action: &Action) -> ToDo {
-    match action {
-        Action::Spawn {
-            number,
-            words,
-            environment,
-        } => ToDo::Spawn(
-            number.get(),
-            again(rt, words.as_slice()),
-            again(rt, environment.as_slice()),
-        ),
-        Action::Signal { number, signal } => ToDo::Kill(number.get(), *signal),
-    }
-}
-
-/// What the actions ask for, in their order.
-pub fn to_do(rt: &(impl AllocGlobal + Abort), actions: &[Action]) -> Vec<ToDo> {
-    let mut all = Vec::new(rt.alloc());
+/// What the actions ask for, in their order: to start a process under a number, with its words and its environment, or to send a
+/// signal to the process of a number.
+pub fn told(rt: &(impl AllocGlobal + Abort), actions: &[Action]) -> String {
+    let mut told = String::new(rt.alloc());
     for action in actions {
-        all.push(asked_by(rt, action)).expect(rt, "no memory");
+        let asked = match action {
+            Action::Spawn {
+                number,
+                words,
+                environment,
+            } => {
+                let number = number.get();
+                format!(in rt.alloc(); "spawn {number} {words:?} {environment:?};")
+            }
+            Action::Signal { number, signal } => {
+                let number = number.get();
+                format!(in rt.alloc(); "signal {number} {signal:?};")
+            }
+        };
+        let asked = asked.expect(rt, "no memory");
+        told.push_str(asked.as_str()).expect(rt, "no memory");
     }
-    all
-}
-
-/// Nothing to do.
-pub fn nothing(rt: &impl AllocGlobal) -> Vec<ToDo> {
-    Vec::new(rt.alloc())
-}
-
-/// This alone.
-fn only(rt: &(impl AllocGlobal + Abort), to_do: ToDo) -> Vec<ToDo> {
-    vec![in rt.alloc(); to_do].expect(rt, "no memory")
-}
-
-/// To start this command under the number, with no environment.
-pub fn spawn(rt: &(impl AllocGlobal + Abort), number: u64, words: &[&str]) -> Vec<ToDo> {
-    only(
-        rt,
-        ToDo::Spawn(number, list(rt, words), Vec::new(rt.alloc())),
-    )
-}
-
-/// To signal the process of this number.
-pub fn kill(rt: &(impl AllocGlobal + Abort), number: u64, signal: Signal) -> Vec<ToDo> {
-    only(rt, ToDo::Kill(number, signal))
+    told
 }

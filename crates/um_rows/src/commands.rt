@@ -1,89 +1,62 @@
 //! Commands for a unit with jobs pending, and the jobs as they are told.
-use crate::script::{BAD_REQUEST, DONE, RELOAD, play};
-use std::test::Fail;
-
-/// A service that sleeps.
-const PUT: &str =
-    r#"{"verb":"put-file","path":"lib/a.service","text":"[Service]\nExecStart=/bin/sleep 9\n"}"#;
-
-const START: &str = r#"{"verb":"start","unit":"a"}"#;
-
-const RESTART: &str = r#"{"verb":"restart","unit":"a"}"#;
-
-const CANCEL: &str = r#"{"verb":"cancel","unit":"a"}"#;
-
-const ACTIONS: &str = r#"{"verb":"actions"}"#;
-
-const JOBS: &str = r#"{"verb":"list-jobs"}"#;
-
-const NONE: &str = r#"{"ok":true,"value":[]}"#;
-
-const SPAWNED: &str = r#"{"ok":true,"value":[["spawn",1,["/bin/sleep","9"]]]}"#;
-
-const TOLD_TO_END: &str = r#"{"ok":true,"value":[["signal",1,"TERM"]]}"#;
-
-const ENDED: &str = r#"{"verb":"end","number":1,"signal":15}"#;
+use crate::script::{Script, play_all};
+use crate::texts::{
+    ACTIONS, BAD_REQUEST, CANCEL_A, DONE, FIRST_ENDS, FIRST_TOLD_TO_END, JOBS, NOTHING, PUT_A,
+    RELOAD, RESTART_A, SPAWNED_FIRST, SPAWNED_SECOND, START_A,
+};
 
 /// What is told of the jobs of a restart whose stop runs.
 const RESTARTS: &str =
     r#"{"ok":true,"value":[["a.service","stop","running"],["a.service","start","waiting"]]}"#;
 
-#[test]
-fn a_restart_is_a_stop_and_then_a_start(rt: HostRuntime) -> Result<(), Fail> {
-    play(
-        &rt,
-        &[
-            (PUT, DONE),
+/// What is asked in turn, and replied.
+const SCRIPTS: &[Script] = &[
+    Script {
+        shows: "a restart is a stop and then a start",
+        steps: &[
+            (PUT_A, DONE),
             (RELOAD, DONE),
-            (START, DONE),
-            (ACTIONS, SPAWNED),
-            (JOBS, NONE),
-            (RESTART, DONE),
-            (ACTIONS, TOLD_TO_END),
+            (START_A, DONE),
+            (ACTIONS, SPAWNED_FIRST),
+            (JOBS, NOTHING),
+            (RESTART_A, DONE),
+            (ACTIONS, FIRST_TOLD_TO_END),
             (JOBS, RESTARTS),
-            (ENDED, DONE),
-            (JOBS, NONE),
-            (
-                ACTIONS,
-                r#"{"ok":true,"value":[["spawn",2,["/bin/sleep","9"]]]}"#,
-            ),
+            (FIRST_ENDS, DONE),
+            (JOBS, NOTHING),
+            (ACTIONS, SPAWNED_SECOND),
         ],
-    )
-}
-
-#[test]
-fn a_cancel_drops_what_waits_and_leaves_what_runs(rt: HostRuntime) -> Result<(), Fail> {
-    play(
-        &rt,
-        &[
-            (PUT, DONE),
+    },
+    Script {
+        shows: "a cancel drops what waits and leaves what runs",
+        steps: &[
+            (PUT_A, DONE),
             (RELOAD, DONE),
-            (START, DONE),
-            (ACTIONS, SPAWNED),
-            (CANCEL, r#"{"detail":["a.service"],"error":21,"ok":false}"#),
-            (RESTART, DONE),
-            (ACTIONS, TOLD_TO_END),
-            (CANCEL, DONE),
+            (START_A, DONE),
+            (ACTIONS, SPAWNED_FIRST),
+            (
+                CANCEL_A,
+                r#"{"detail":["a.service"],"error":21,"ok":false}"#,
+            ),
+            (RESTART_A, DONE),
+            (ACTIONS, FIRST_TOLD_TO_END),
+            (CANCEL_A, DONE),
             (
                 JOBS,
                 r#"{"ok":true,"value":[["a.service","stop","running"]]}"#,
             ),
-            (ENDED, DONE),
-            (JOBS, NONE),
-            (ACTIONS, NONE),
+            (FIRST_ENDS, DONE),
+            (JOBS, NOTHING),
+            (ACTIONS, NOTHING),
         ],
-    )
-}
-
-#[test]
-fn mode_fail_drops_no_job(rt: HostRuntime) -> Result<(), Fail> {
-    play(
-        &rt,
-        &[
-            (PUT, DONE),
+    },
+    Script {
+        shows: "mode fail drops no job",
+        steps: &[
+            (PUT_A, DONE),
             (RELOAD, DONE),
-            (START, DONE),
-            (RESTART, DONE),
+            (START_A, DONE),
+            (RESTART_A, DONE),
             (
                 r#"{"verb":"stop","unit":"a","mode":"fail"}"#,
                 r#"{"detail":["a.service"],"error":10,"ok":false}"#,
@@ -100,14 +73,10 @@ fn mode_fail_drops_no_job(rt: HostRuntime) -> Result<(), Fail> {
             ),
             (r#"{"verb":"cancel","unit":"a","mode":"fail"}"#, BAD_REQUEST),
         ],
-    )
-}
-
-#[test]
-fn what_is_not_there_is_not_restarted_nor_cancelled(rt: HostRuntime) -> Result<(), Fail> {
-    play(
-        &rt,
-        &[
+    },
+    Script {
+        shows: "what is not there is not restarted nor cancelled",
+        steps: &[
             (
                 r#"{"verb":"try-restart","unit":"gone"}"#,
                 r#"{"detail":["gone.service"],"error":7,"ok":false}"#,
@@ -120,12 +89,17 @@ fn what_is_not_there_is_not_restarted_nor_cancelled(rt: HostRuntime) -> Result<(
                 r#"{"verb":"restart","unit":"gone"}"#,
                 r#"{"detail":["gone.service"],"error":4,"ok":false}"#,
             ),
-            (PUT, DONE),
+            (PUT_A, DONE),
             (RELOAD, DONE),
             (r#"{"verb":"try-restart","unit":"a"}"#, DONE),
-            (ACTIONS, NONE),
-            (RESTART, DONE),
-            (ACTIONS, SPAWNED),
+            (ACTIONS, NOTHING),
+            (RESTART_A, DONE),
+            (ACTIONS, SPAWNED_FIRST),
         ],
-    )
+    },
+];
+
+#[test]
+fn scripts_have_their_replies(rt: HostRuntime) {
+    play_all(&rt, SCRIPTS);
 }

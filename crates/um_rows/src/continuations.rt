@@ -1,12 +1,12 @@
 //! Lines that a backslash joins.
-use crate::script::{DONE, RELOAD, play};
-use std::test::Fail;
+use crate::script::{Script, play_all};
+use crate::texts::{DONE, RELOAD};
 
-#[test]
-fn a_line_is_joined_to_the_next_over_a_comment(rt: HostRuntime) -> Result<(), Fail> {
-    play(
-        &rt,
-        &[
+/// What is asked in turn, and replied.
+const SCRIPTS: &[Script] = &[
+    Script {
+        shows: "a line is joined to the next over a comment",
+        steps: &[
             (
                 r#"{"verb":"put-file","path":"lib/a.service","text":"[Service]\nExecStart=/bin/c\n[Unit]\nDescription=a\\\n# c\n   b\n"}"#,
                 DONE,
@@ -17,14 +17,10 @@ fn a_line_is_joined_to_the_next_over_a_comment(rt: HostRuntime) -> Result<(), Fa
                 r#"{"ok":true,"value":{"ActiveState":"inactive","Description":"a    b","Id":"a.service","LoadState":"loaded","MainNumber":0,"Result":"success","SubState":"dead","Warnings":[]}}"#,
             ),
         ],
-    )
-}
-
-#[test]
-fn a_backslash_at_the_end_of_a_text_joins_nothing(rt: HostRuntime) -> Result<(), Fail> {
-    play(
-        &rt,
-        &[
+    },
+    Script {
+        shows: "a backslash at the end of a text joins nothing",
+        steps: &[
             (
                 r#"{"verb":"put-file","path":"lib/a.service","text":"[Service]\nExecStart=/bin/c\n[Unit]\nDescription=x\\"}"#,
                 DONE,
@@ -35,5 +31,10 @@ fn a_backslash_at_the_end_of_a_text_joins_nothing(rt: HostRuntime) -> Result<(),
                 r#"{"ok":true,"value":{"ActiveState":"inactive","Description":"x","Id":"a.service","LoadState":"loaded","MainNumber":0,"Result":"success","SubState":"dead","Warnings":[]}}"#,
             ),
         ],
-    )
+    },
+];
+
+#[test]
+fn scripts_have_their_replies(rt: HostRuntime) {
+    play_all(&rt, SCRIPTS);
 }

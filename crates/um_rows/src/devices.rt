@@ -1,6 +1,7 @@
 //! A reader that gives little at a time, and a writer that fails.
 use crate::answers::{same, same_at};
-use crate::script::{DONE, RELOAD, frames, front};
+use crate::script::{frames, front};
+use crate::texts::{DONE, RELOAD};
 use std::io;
 use std::io::{ErrorKind, Read, Write};
 use std::process::Abort;
@@ -76,17 +77,12 @@ fn takes(rt: &(impl AllocGlobal + Abort), input: &[u8], replies: &[u8], left: us
     same_at(rt, output.taken.as_slice(), front(replies, left), left);
 }
 
-/// Asserts that for each count of bytes that a writer takes.
-fn takes_each_count(rt: &(impl AllocGlobal + Abort), input: &[u8], replies: &[u8]) {
-    for left in 0..31usize {
-        takes(rt, input, replies, left);
-    }
-}
-
 #[test]
 fn a_writer_that_fails_has_taken_a_beginning_of_the_replies(rt: HostRuntime) {
     let input = frames(rt.alloc(), &[RELOAD, RELOAD]).expect(&rt, "no memory");
     let replies = frames(rt.alloc(), &[DONE, DONE]).expect(&rt, "no memory");
     same(&rt, replies.len(), 30);
-    takes_each_count(&rt, input.as_slice(), replies.as_slice());
+    for left in 0..31usize {
+        takes(&rt, input.as_slice(), replies.as_slice(), left);
+    }
 }

@@ -1,17 +1,15 @@
 //! Enabling and its kin, as replies show them.
-use crate::script::{DONE, RELOAD, play};
-use std::test::Fail;
+use crate::script::{Script, play_all};
+use crate::texts::{DONE, RELOAD, START_S};
 
 /// A reply to a verb that changes no link.
 const NO_LINKS: &str = r#"{"ok":true,"value":{"made":[],"removed":[]}}"#;
 
-#[test]
-fn enabling_makes_links_and_disabling_removes_those_made_by_hand_too(
-    rt: HostRuntime,
-) -> Result<(), Fail> {
-    play(
-        &rt,
-        &[
+/// What is asked in turn, and replied.
+const SCRIPTS: &[Script] = &[
+    Script {
+        shows: "enabling makes links and disabling removes those made by hand too",
+        steps: &[
             (
                 r#"{"verb":"put-file","path":"lib/s.service","text":"[Service]\nExecStart=/bin/sleep 9\n[Install]\nWantedBy=m.target\nAlias=z.service\n"}"#,
                 DONE,
@@ -54,14 +52,10 @@ fn enabling_makes_links_and_disabling_removes_those_made_by_hand_too(
                 r#"{"detail":["etc/s.service"],"error":11,"ok":false}"#,
             ),
         ],
-    )
-}
-
-#[test]
-fn a_template_is_enabled_as_its_default_instance(rt: HostRuntime) -> Result<(), Fail> {
-    play(
-        &rt,
-        &[
+    },
+    Script {
+        shows: "a template is enabled as its default instance",
+        steps: &[
             (
                 r#"{"verb":"put-file","path":"lib/t@.service","text":"[Service]\nExecStart=/bin/sleep 9\n[Install]\nWantedBy=m.target\nDefaultInstance=1\n"}"#,
                 DONE,
@@ -91,14 +85,10 @@ fn a_template_is_enabled_as_its_default_instance(rt: HostRuntime) -> Result<(), 
                 r#"{"detail":["t@.service","default-instance"],"error":6,"ok":false}"#,
             ),
         ],
-    )
-}
-
-#[test]
-fn units_of_also_are_enabled_along(rt: HostRuntime) -> Result<(), Fail> {
-    play(
-        &rt,
-        &[
+    },
+    Script {
+        shows: "units of also are enabled along",
+        steps: &[
             (
                 r#"{"verb":"put-file","path":"lib/a.service","text":"[Service]\nExecStart=/bin/sleep 9\n[Install]\nAlso=b.service\n"}"#,
                 DONE,
@@ -128,14 +118,10 @@ fn units_of_also_are_enabled_along(rt: HostRuntime) -> Result<(), Fail> {
                 r#"{"ok":true,"value":{"made":[],"removed":["etc/m.target.wants/b.service"]}}"#,
             ),
         ],
-    )
-}
-
-#[test]
-fn a_second_enabling_makes_nothing(rt: HostRuntime) -> Result<(), Fail> {
-    play(
-        &rt,
-        &[
+    },
+    Script {
+        shows: "a second enabling makes nothing",
+        steps: &[
             (
                 r#"{"verb":"put-file","path":"lib/s.service","text":"[Service]\nExecStart=/bin/sleep 9\n[Install]\nWantedBy=m.target\nRequiredBy=o.target\n"}"#,
                 DONE,
@@ -158,14 +144,10 @@ fn a_second_enabling_makes_nothing(rt: HostRuntime) -> Result<(), Fail> {
                 r#"{"detail":["etc/m.target.wants/s.service"],"error":11,"ok":false}"#,
             ),
         ],
-    )
-}
-
-#[test]
-fn a_refused_enabling_makes_nothing(rt: HostRuntime) -> Result<(), Fail> {
-    play(
-        &rt,
-        &[
+    },
+    Script {
+        shows: "a refused enabling makes nothing",
+        steps: &[
             (
                 r#"{"verb":"put-file","path":"lib/s.service","text":"[Service]\nExecStart=/bin/sleep 9\n[Install]\nWantedBy=m.target\nAlias=s.service\n"}"#,
                 DONE,
@@ -191,14 +173,10 @@ fn a_refused_enabling_makes_nothing(rt: HostRuntime) -> Result<(), Fail> {
                 r#"{"detail":["gone.service"],"error":4,"ok":false}"#,
             ),
         ],
-    )
-}
-
-#[test]
-fn a_masked_unit_is_unmasked_again(rt: HostRuntime) -> Result<(), Fail> {
-    play(
-        &rt,
-        &[
+    },
+    Script {
+        shows: "a masked unit is unmasked again",
+        steps: &[
             (
                 r#"{"verb":"put-file","path":"lib/s.service","text":"[Service]\nExecStart=/bin/sleep 9\n[Install]\nWantedBy=m.target\n"}"#,
                 DONE,
@@ -217,29 +195,22 @@ fn a_masked_unit_is_unmasked_again(rt: HostRuntime) -> Result<(), Fail> {
                 r#"{"verb":"enable","unit":"s"}"#,
                 r#"{"detail":["s.service"],"error":5,"ok":false}"#,
             ),
-            (
-                r#"{"verb":"start","unit":"s"}"#,
-                r#"{"detail":["s.service"],"error":5,"ok":false}"#,
-            ),
+            (START_S, r#"{"detail":["s.service"],"error":5,"ok":false}"#),
             (
                 r#"{"verb":"unmask","unit":"s"}"#,
                 r#"{"ok":true,"value":{"made":[],"removed":["etc/s.service"]}}"#,
             ),
             (r#"{"verb":"unmask","unit":"s"}"#, NO_LINKS),
-            (r#"{"verb":"start","unit":"s"}"#, DONE),
+            (START_S, DONE),
             (
                 r#"{"verb":"is-enabled","unit":"gone"}"#,
                 r#"{"ok":true,"value":"not-found"}"#,
             ),
         ],
-    )
-}
-
-#[test]
-fn of_several_units_that_cannot_be_enabled_the_least_is_named(rt: HostRuntime) -> Result<(), Fail> {
-    play(
-        &rt,
-        &[
+    },
+    Script {
+        shows: "of several units that cannot be enabled the least is named",
+        steps: &[
             (
                 r#"{"verb":"put-file","path":"lib/s.service","text":"[Service]\nExecStart=/bin/sleep 9\n[Install]\nWantedBy=m.target\nAlso=z.service y.service\n"}"#,
                 DONE,
@@ -257,5 +228,10 @@ fn of_several_units_that_cannot_be_enabled_the_least_is_named(rt: HostRuntime) -
                 r#"{"ok":true,"value":"disabled"}"#,
             ),
         ],
-    )
+    },
+];
+
+#[test]
+fn scripts_have_their_replies(rt: HostRuntime) {
+    play_all(&rt, SCRIPTS);
 }

@@ -1,10 +1,9 @@
 //! Where the frames of a stream begin and end.
 use crate::answers::{same, same_at};
 use crate::devices::Slow;
-use crate::script::{BAD_REQUEST, DONE, RELOAD, frames, front, has_replies, play, rest, served};
-use std::alloc::{AllocError, Global};
+use crate::script::{frames, front, has_replies, rest, served};
+use crate::texts::{BAD_REQUEST, DONE, RELOAD};
 use std::process::Abort;
-use std::test::Fail;
 use um_bin::{Ending, memory};
 
 /// The longest frame, in bytes.
@@ -15,67 +14,52 @@ const SHOW: &str = r#"{"verb":"show","unit":"nix.service"}"#;
 const NOT_FOUND: &str =
     r#"{"ok":true,"value":{"ActiveState":"inactive","Description":"","Id":"nix.service","LoadState":"not-found","MainNumber":0,"Result":"success","SubState":"dead","Warnings":[]}}"#;
 
-const TOO_LONG: &str = r#"{"detail":["frame"],"error":13,"ok":false}"#;
-
 /// A request with spaces behind it, of so many bytes.
-fn padded(alloc: Global, text: &str, size: usize) -> Result<String, AllocError> {
-    let mut padded = String::from_str(alloc, text)?;
-    for _ in text.len()..size {
-        padded.push(' ')?;
-    }
-    Ok(padded)
+fn padded(rt: &(impl AllocGlobal + Abort), size: usize) -> String {
+    let spaces = " ".repeat(rt.alloc(), size.saturating_sub(SHOW.len()));
+    let spaces = spaces.expect(rt, "no memory");
+    format!(in rt.alloc(); "{SHOW}{spaces}").expect(rt, "no memory")
 }
 
-/// An empty frame, one of so many bytes, one longer than the longest by a byte, and one that isn't read.
-fn at_the_limits(alloc: Global, size: usize) -> Result<Vec<u8>, AllocError> {
-    let long = padded(alloc, SHOW, size)?;
-    let longer = padded(alloc, SHOW, FRAME_LIMIT + 1)?;
-    frames(alloc, &["", RELOAD, long.as_str(), longer.as_str(), RELOAD])
+/// An empty frame, a short one, one of so many bytes, one longer than the longest by a byte, and one that isn't read.
+fn at_the_limits(rt: &(impl AllocGlobal + Abort), size: usize) -> Vec<u8> {
+    let long = padded(rt, size);
+    let longer = padded(rt, FRAME_LIMIT + 1);
+    let texts = ["", RELOAD, long.as_str(), longer.as_str(), RELOAD];
+    frames(rt.alloc(), &texts).expect(rt, "no memory")
 }
 
-#[test]
-fn an_empty_frame_is_no_request_and_the_next_is_read(rt: HostRuntime) -> Result<(), Fail> {
-    play(&rt, &[("", BAD_REQUEST), (RELOAD, DONE)])
-}
-
-/// Asserts that the replies are those to the frames at the limits.
-fn are_to_the_limits(rt: &(impl AllocGlobal + Abort), output: &[u8]) {
-    has_replies(rt, output, &[BAD_REQUEST, DONE, NOT_FOUND, TOO_LONG]);
-}
+/// The replies to those frames.
+const REPLIES: &[(&str, &str)] = &[
+    ("an empty frame", BAD_REQUEST),
+    ("a short one", DONE),
+    ("a long one", NOT_FOUND),
+    (
+        "one longer than the longest",
+        r#"{"detail":["frame"],"error":13,"ok":false}"#,
+    ),
+];
 
 #[test]
 fn the_longest_frame_is_served_and_a_longer_one_ends_the_session(rt: HostRuntime) {
-    let input = at_the_limits(rt.alloc(), FRAME_LIMIT).expect(&rt, "no memory");
+    let input = at_the_limits(&rt, FRAME_LIMIT);
     let longest = front(rest(input.as_slice(), 32), 5);
     same(&rt, longest, b"\x00\x08\x00\x00{".as_slice());
     let (output, ending) = served(rt.alloc(), input.as_slice()).expect(&rt, "not served");
     same(&rt, ending, Ending::TooLong);
-    are_to_the_limits(&rt, output.as_slice());
+    has_replies(&rt, output.as_slice(), "at once", REPLIES);
 }
 
 #[test]
 fn bytes_that_come_one_at_a_time_have_the_same_replies(rt: HostRuntime) {
     let mut input = Slow {
-        bytes: at_the_limits(rt.alloc(), 9000).expect(&rt, "no memory"),
+        bytes: at_the_limits(&rt, 9000),
         given: 0,
     };
     let mut output = Vec::new(rt.alloc());
     let ending = memory(rt.alloc(), &mut input, &mut output).expect(&rt, "not served");
     same(&rt, ending, Ending::TooLong);
-    are_to_the_limits(&rt, output.as_slice());
-}
-
-/// Asserts that the bytes, cut there, have these replies and end so.
-fn has_when_cut(
-    rt: &(impl AllocGlobal + Abort),
-    input: &[u8],
-    cut: usize,
-    replies: &[u8],
-    wanted: Ending,
-) {
-    let (output, ending) = served(rt.alloc(), front(input, cut)).expect(rt, "not served");
-    same_at(rt, ending, wanted, cut);
-    same_at(rt, output.as_slice(), replies, cut);
+    has_replies(&rt, output.as_slice(), "one at a time", REPLIES);
 }
 
 /// Where two frames are cut, how many bytes of replies they have then, and how they end.
@@ -94,7 +78,10 @@ fn a_frame_that_is_cut_has_no_reply(rt: HostRuntime) {
     let input = frames(rt.alloc(), &[RELOAD, RELOAD]).expect(&rt, "no memory");
     let one = frames(rt.alloc(), &[DONE]).expect(&rt, "no memory");
     for (cut, count, wanted) in CUTS {
+        let served = served(rt.alloc(), front(input.as_slice(), *cut));
+        let (output, ending) = served.expect(&rt, "not served");
+        same_at(&rt, ending, *wanted, cut);
         let replies = front(one.as_slice(), *count);
-        has_when_cut(&rt, input.as_slice(), *cut, replies, *wanted);
+        same_at(&rt, output.as_slice(), replies, cut);
     }
 }

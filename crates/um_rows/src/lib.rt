@@ -6,8 +6,6 @@ mod answers;
 #[cfg(test)]
 mod bindings;
 #[cfg(test)]
-mod boots;
-#[cfg(test)]
 mod commands;
 #[cfg(test)]
 mod continuations;
@@ -49,5 +47,7 @@ mod services;
 mod session;
 #[cfg(test)]
 mod state;
+#[cfg(test)]
+mod texts;
 #[cfg(test)]
 mod unit_files;

@@ -12,78 +12,61 @@ fn words_of(rt: &(impl AllocGlobal + Abort), line: &str) -> Vec<String> {
     words
 }
 
-/// What the words ask for.
-fn line_of<'a>(rt: &(impl AllocGlobal + Abort), words: &'a [String]) -> Line<'a> {
-    read_line(rt.alloc(), words).expect(rt, "no memory")
-}
-
-#[test]
-fn memory_is_asked_for_by_its_flag_alone(rt: HostRuntime) {
-    let words = words_of(&rt, "umd --memory");
-    let line = line_of(&rt, words.as_slice());
-    same_at(&rt, matches!(line, Line::Memory), true, &line);
-}
-
-/// Whether something is told that has the part in it.
-fn has(line: &Line<'_>, part: &str) -> bool {
+/// What is asked for, and what is told where nothing more is asked for.
+fn asked<'a>(line: &'a Line<'_>) -> (&'static str, &'a str) {
     match line {
-        Line::Told(told) => told.contains(part),
-        _ => false,
+        Line::Memory => ("memory", ""),
+        Line::Run(_) => ("run", ""),
+        Line::Told(told) => ("to be told", told.as_str()),
+        Line::Wrong(_) => ("wrong", ""),
+        _ => ("another", ""),
     }
 }
 
-/// Words, and a part of what they are told.
-const TOLD: &[(&str, &str)] = &[
-    ("umd --help", "--memory"),
-    ("umd -h", "--version"),
-    ("umd --version", "umd 0.1.0"),
-    ("umd run --help", "--number 7"),
+/// Words, what they ask for, and a part of what they are told.
+const LINES: &[(&str, &str, &str)] = &[
+    ("umd --memory", "memory", ""),
+    ("umd --help", "to be told", "--memory"),
+    ("umd -h", "to be told", "--version"),
+    ("umd --version", "to be told", "umd 0.1.0"),
+    ("umd run --help", "to be told", "--number 7"),
+    ("umd", "wrong", ""),
+    ("umd memory", "wrong", ""),
+    ("umd --memories", "wrong", ""),
+    ("umd --memory x", "wrong", ""),
+    ("umd --memory --memory", "wrong", ""),
+    ("umd --memory=1", "wrong", ""),
+    ("umd run", "wrong", ""),
+    ("umd run --number 7 --dir d --env 0 -- x", "wrong", ""),
+    ("umd run --dir d --number 0 --env 0 -- x", "wrong", ""),
+    ("umd run --dir d --number 07 --env 0 -- x", "wrong", ""),
+    ("umd run --dir d --number +7 --env 0 -- x", "wrong", ""),
+    (
+        "umd run --dir d --number 9223372036854775808 --env 0 -- x",
+        "wrong",
+        "",
+    ),
+    ("umd run --dir d --number 7 --env 1 -- x", "wrong", ""),
+    ("umd run --dir d --number 7 --env 1 -- x y", "wrong", ""),
+    ("umd run --dir d --number 7 --env 1 -- =x y", "wrong", ""),
+    ("umd run --dir d --number 7 --env 2 -- a=x y", "wrong", ""),
+    ("umd run --dir d --number 7 --env 0 --", "wrong", ""),
+    ("umd run --dir d --number 7 --env 0 x", "wrong", ""),
+    ("umd run --memory", "wrong", ""),
+    (
+        "umd run --dir d --number 7 --env 1 -- A=b x --help",
+        "run",
+        "",
+    ),
 ];
 
 #[test]
-fn help_and_version_are_told(rt: HostRuntime) {
-    for (words, part) in TOLD {
-        let split = words_of(&rt, words);
-        let line = line_of(&rt, split.as_slice());
-        same_at(&rt, has(&line, part), true, (words, part, &line));
+fn words_ask_for_one_thing(rt: HostRuntime) {
+    for (text, wanted, part) in LINES {
+        let words = words_of(&rt, text);
+        let line = read_line(rt.alloc(), words.as_slice()).expect(&rt, "no memory");
+        let (kind, told) = asked(&line);
+        let got = (kind, told.contains(*part));
+        same_at(&rt, got, (*wanted, true), (text, part, &line));
     }
-}
-
-/// Words that the program doesn't take.
-const WRONG: &[&str] = &[
-    "umd",
-    "umd memory",
-    "umd --memories",
-    "umd --memory x",
-    "umd --memory --memory",
-    "umd --memory=1",
-    "umd run",
-    "umd run --number 7 --dir d --env 0 -- x",
-    "umd run --dir d --number 0 --env 0 -- x",
-    "umd run --dir d --number 07 --env 0 -- x",
-    "umd run --dir d --number +7 --env 0 -- x",
-    "umd run --dir d --number 9223372036854775808 --env 0 -- x",
-    "umd run --dir d --number 7 --env 1 -- x",
-    "umd run --dir d --number 7 --env 1 -- x y",
-    "umd run --dir d --number 7 --env 1 -- =x y",
-    "umd run --dir d --number 7 --env 2 -- a=x y",
-    "umd run --dir d --number 7 --env 0 --",
-    "umd run --dir d --number 7 --env 0 x",
-    "umd run --memory",
-];
-
-#[test]
-fn other_words_are_wrong(rt: HostRuntime) {
-    for words in WRONG {
-        let split = words_of(&rt, words);
-        let line = line_of(&rt, split.as_slice());
-        same_at(&rt, matches!(line, Line::Wrong(_)), true, (words, &line));
-    }
-}
-
-#[test]
-fn a_runner_is_asked_for(rt: HostRuntime) {
-    let words = words_of(&rt, "umd run --dir d --number 7 --env 1 -- A=b x --help");
-    let line = line_of(&rt, words.as_slice());
-    same_at(&rt, matches!(line, Line::Run(_)), true, &line);
 }

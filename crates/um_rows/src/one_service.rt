@@ -1,102 +1,65 @@
 //! One simple service: started, stopped, killed on its time-out and seen to end.
-use crate::script::{DONE, RELOAD, play};
-use std::test::Fail;
+use crate::script::{Script, play_all};
+use crate::texts::{
+    A_FAILED_BY_CODE, A_RUNS_AS_FIRST, A_RUNS_AS_SECOND, A_TIMED_OUT, ACTIONS, DONE, FIRST_ENDS,
+    FIRST_EXITS, FIRST_FAILS, FIRST_KILLED, FIRST_TOLD_TO_END, INACTIVE, NOTHING, PUT_A, RELOAD,
+    SECOND_EXITS, SHOW_A, SPAWNED_FIRST, SPAWNED_SECOND, START_A, START_B, STOP_A,
+};
 
-/// A service that sleeps.
-const PUT: &str =
-    r#"{"verb":"put-file","path":"lib/a.service","text":"[Service]\nExecStart=/bin/sleep 9\n"}"#;
-
-const START: &str = r#"{"verb":"start","unit":"a"}"#;
-
-const SHOW: &str = r#"{"verb":"show","unit":"a"}"#;
-
-const ACTIONS: &str = r#"{"verb":"actions"}"#;
-
-const SPAWNED: &str = r#"{"ok":true,"value":[["spawn",1,["/bin/sleep","9"]]]}"#;
-
-const TOLD_TO_END: &str = r#"{"ok":true,"value":[["signal",1,"TERM"]]}"#;
-
-const TIMED_OUT: &str =
-    r#"{"ok":true,"value":{"ActiveState":"failed","Description":"","Id":"a.service","LoadState":"loaded","MainNumber":0,"Result":"timeout","SubState":"failed","Warnings":[]}}"#;
-
-const RUNS_AS_ONE: &str =
-    r#"{"ok":true,"value":{"ActiveState":"active","Description":"","Id":"a.service","LoadState":"loaded","MainNumber":1,"Result":"success","SubState":"running","Warnings":[]}}"#;
-
-const RUNS_AS_TWO: &str =
-    r#"{"ok":true,"value":{"ActiveState":"active","Description":"","Id":"a.service","LoadState":"loaded","MainNumber":2,"Result":"success","SubState":"running","Warnings":[]}}"#;
-
-#[test]
-fn a_started_service_runs(rt: HostRuntime) -> Result<(), Fail> {
-    play(
-        &rt,
-        &[
-            (PUT, DONE),
+/// What is asked in turn, and replied.
+const SCRIPTS: &[Script] = &[
+    Script {
+        shows: "a started service runs",
+        steps: &[
+            (PUT_A, DONE),
             (RELOAD, DONE),
-            (START, DONE),
-            (SHOW, RUNS_AS_ONE),
-            (ACTIONS, SPAWNED),
+            (START_A, DONE),
+            (SHOW_A, A_RUNS_AS_FIRST),
+            (ACTIONS, SPAWNED_FIRST),
         ],
-    )
-}
-
-#[test]
-fn a_start_during_a_stop_waits_for_the_end(rt: HostRuntime) -> Result<(), Fail> {
-    play(
-        &rt,
-        &[
-            (PUT, DONE),
+    },
+    Script {
+        shows: "a start during a stop waits for the end",
+        steps: &[
+            (PUT_A, DONE),
             (RELOAD, DONE),
-            (START, DONE),
-            (ACTIONS, SPAWNED),
-            (r#"{"verb":"stop","unit":"a"}"#, DONE),
-            (ACTIONS, TOLD_TO_END),
-            (START, DONE),
-            (r#"{"verb":"end","number":1,"signal":15}"#, DONE),
-            (
-                ACTIONS,
-                r#"{"ok":true,"value":[["spawn",2,["/bin/sleep","9"]]]}"#,
-            ),
-            (r#"{"verb":"end","number":1,"signal":15}"#, DONE),
-            (SHOW, RUNS_AS_TWO),
+            (START_A, DONE),
+            (ACTIONS, SPAWNED_FIRST),
+            (STOP_A, DONE),
+            (ACTIONS, FIRST_TOLD_TO_END),
+            (START_A, DONE),
+            (FIRST_ENDS, DONE),
+            (ACTIONS, SPAWNED_SECOND),
+            (FIRST_ENDS, DONE),
+            (SHOW_A, A_RUNS_AS_SECOND),
         ],
-    )
-}
-
-#[test]
-fn a_service_that_does_not_end_is_killed_and_then_failed(rt: HostRuntime) -> Result<(), Fail> {
-    play(
-        &rt,
-        &[
-            (PUT, DONE),
+    },
+    Script {
+        shows: "a service that does not end is killed and then failed",
+        steps: &[
+            (PUT_A, DONE),
             (RELOAD, DONE),
-            (START, DONE),
-            (ACTIONS, SPAWNED),
+            (START_A, DONE),
+            (ACTIONS, SPAWNED_FIRST),
             (r#"{"verb":"stop","unit":"a","at":0}"#, DONE),
-            (ACTIONS, TOLD_TO_END),
+            (ACTIONS, FIRST_TOLD_TO_END),
             (r#"{"verb":"tick","at":90000000}"#, DONE),
-            (ACTIONS, r#"{"ok":true,"value":[["signal",1,"KILL"]]}"#),
+            (ACTIONS, FIRST_KILLED),
             (r#"{"verb":"tick","at":180000000}"#, DONE),
-            (SHOW, TIMED_OUT),
-            (r#"{"verb":"end","number":1,"code":0}"#, DONE),
-            (SHOW, TIMED_OUT),
+            (SHOW_A, A_TIMED_OUT),
+            (FIRST_EXITS, DONE),
+            (SHOW_A, A_TIMED_OUT),
         ],
-    )
-}
-
-#[test]
-fn what_can_not_be_started_or_stopped_is_refused(rt: HostRuntime) -> Result<(), Fail> {
-    play(
-        &rt,
-        &[
+    },
+    Script {
+        shows: "what can not be started or stopped is refused",
+        steps: &[
             (
                 r#"{"verb":"put-file","path":"etc/m.service","text":""}"#,
                 DONE,
             ),
             (RELOAD, DONE),
-            (
-                r#"{"verb":"start","unit":"b"}"#,
-                r#"{"detail":["b.service"],"error":4,"ok":false}"#,
-            ),
+            (START_B, r#"{"detail":["b.service"],"error":4,"ok":false}"#),
             (
                 r#"{"verb":"start","unit":"m"}"#,
                 r#"{"detail":["m.service"],"error":5,"ok":false}"#,
@@ -105,43 +68,32 @@ fn what_can_not_be_started_or_stopped_is_refused(rt: HostRuntime) -> Result<(), 
                 r#"{"verb":"stop","unit":"b"}"#,
                 r#"{"detail":["b.service"],"error":7,"ok":false}"#,
             ),
-            (
-                r#"{"verb":"is-active","unit":"b"}"#,
-                r#"{"ok":true,"value":"inactive"}"#,
-            ),
+            (r#"{"verb":"is-active","unit":"b"}"#, INACTIVE),
         ],
-    )
-}
-
-#[test]
-fn a_moment_before_the_clock_counts_as_the_clock(rt: HostRuntime) -> Result<(), Fail> {
-    play(
-        &rt,
-        &[
-            (PUT, DONE),
+    },
+    Script {
+        shows: "a moment before the clock counts as the clock",
+        steps: &[
+            (PUT_A, DONE),
             (r#"{"verb":"daemon-reload","at":100000000}"#, DONE),
-            (START, DONE),
-            (ACTIONS, SPAWNED),
+            (START_A, DONE),
+            (ACTIONS, SPAWNED_FIRST),
             // it is stopped at 100 seconds, and has 90 from there on
             (r#"{"verb":"stop","unit":"a","at":5}"#, DONE),
-            (ACTIONS, TOLD_TO_END),
+            (ACTIONS, FIRST_TOLD_TO_END),
             (r#"{"verb":"tick","at":189999999}"#, DONE),
-            (ACTIONS, r#"{"ok":true,"value":[]}"#),
+            (ACTIONS, NOTHING),
             (r#"{"verb":"tick","at":190000000}"#, DONE),
-            (ACTIONS, r#"{"ok":true,"value":[["signal",1,"KILL"]]}"#),
+            (ACTIONS, FIRST_KILLED),
         ],
-    )
-}
-
-#[test]
-fn an_end_of_a_number_that_no_process_has_changes_nothing(rt: HostRuntime) -> Result<(), Fail> {
-    play(
-        &rt,
-        &[
-            (PUT, DONE),
+    },
+    Script {
+        shows: "an end of a number that no process has changes nothing",
+        steps: &[
+            (PUT_A, DONE),
             (RELOAD, DONE),
-            (START, DONE),
-            (r#"{"verb":"end","number":2,"code":0}"#, DONE),
+            (START_A, DONE),
+            (SECOND_EXITS, DONE),
             (
                 r#"{"verb":"end","number":9223372036854775808,"code":0}"#,
                 DONE,
@@ -154,27 +106,17 @@ fn an_end_of_a_number_that_no_process_has_changes_nothing(rt: HostRuntime) -> Re
                 r#"{"verb":"end","number":18446744073709551615,"lost":true}"#,
                 DONE,
             ),
-            (SHOW, RUNS_AS_ONE),
-            (ACTIONS, SPAWNED),
+            (SHOW_A, A_RUNS_AS_FIRST),
+            (ACTIONS, SPAWNED_FIRST),
         ],
-    )
-}
-
-/// A unit that failed by the code of its process's end.
-const FAILED_BY_CODE: &str =
-    r#"{"ok":true,"value":{"ActiveState":"failed","Description":"","Id":"a.service","LoadState":"loaded","MainNumber":0,"Result":"exit-code","SubState":"failed","Warnings":[]}}"#;
-
-#[test]
-fn a_running_service_behind_a_link_to_a_template_has_no_settings(
-    rt: HostRuntime,
-) -> Result<(), Fail> {
-    play(
-        &rt,
-        &[
-            (PUT, DONE),
+    },
+    Script {
+        shows: "a running service behind a link to a template has no settings",
+        steps: &[
+            (PUT_A, DONE),
             (RELOAD, DONE),
-            (START, DONE),
-            (ACTIONS, SPAWNED),
+            (START_A, DONE),
+            (ACTIONS, SPAWNED_FIRST),
             // by its own settings the template would take each end for a success
             (
                 r#"{"verb":"put-file","path":"lib/t@.service","text":"[Service]\nExecStart=-/bin/x\n"}"#,
@@ -185,11 +127,16 @@ fn a_running_service_behind_a_link_to_a_template_has_no_settings(
                 DONE,
             ),
             (RELOAD, DONE),
-            (r#"{"verb":"end","number":1,"code":1}"#, DONE),
+            (FIRST_FAILS, DONE),
             (r#"{"verb":"remove","path":"etc/a.service"}"#, DONE),
             (RELOAD, DONE),
-            (SHOW, FAILED_BY_CODE),
-            (ACTIONS, r#"{"ok":true,"value":[]}"#),
+            (SHOW_A, A_FAILED_BY_CODE),
+            (ACTIONS, NOTHING),
         ],
-    )
+    },
+];
+
+#[test]
+fn scripts_have_their_replies(rt: HostRuntime) {
+    play_all(&rt, SCRIPTS);
 }

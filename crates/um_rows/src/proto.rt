@@ -12,7 +12,7 @@ fn is_told(rt: &(impl AllocGlobal + Abort), reply: &Reply, wanted: &str) {
     same(rt, (text.as_str(), told.is_whole), (wanted, true));
 }
 
-/// Requests, and what each is refused by.
+/// Requests to the store in memory, and what each is refused by.
 const REQUESTS: &[(&str, Option<&str>)] = &[
     ("{\"verb\":\"daemon-reload\"}", None),
     ("{\"verb\":\"show\",\"unit\":\"a\",\"at\":7}", None),
@@ -68,10 +68,7 @@ fn requests_are_read_or_refused_for_the_first_cause(rt: HostRuntime) {
         let request = read_request(rt.alloc(), text.as_bytes(), Mode::Memory);
         is_refused(&rt, request, *wanted, text);
     }
-}
-
-#[test]
-fn a_moment_is_no_field_over_a_socket(rt: HostRuntime) {
+    // over a socket a moment is no field
     let text = "{\"verb\":\"daemon-reload\",\"at\":7}";
     let request = read_request(rt.alloc(), text.as_bytes(), Mode::Service);
     is_refused(&rt, request, Some("E1 BadRequest"), text);
@@ -104,21 +101,15 @@ fn file(rt: &(impl AllocGlobal + Abort), path: &str, content: &str) -> UnitFile 
     }
 }
 
-/// The files of a unit, its own and a drop-in that is empty.
-fn files(rt: &(impl AllocGlobal + Abort)) -> Vec<UnitFile> {
-    let own = file(rt, "lib/a.service", "[Unit]\nDescription=\"a\"\n");
-    let drop_in = file(rt, "etc/a.service.d/b.conf", "");
-    vec![in rt.alloc(); own, drop_in].expect(rt, "no memory")
-}
+/// The files of a unit, its own and a drop-in that is empty, as they are told.
+const FILES: &str =
+    "{\"ok\":true,\"value\":[[\"lib/a.service\",\"[Unit]\\nDescription=\\\"a\\\"\\n\"],[\"etc/a.service.d/b.conf\",\"\"]]}";
 
 #[test]
-fn files_are_told_as_paths_and_texts(rt: HostRuntime) {
-    let wanted =
-        "{\"ok\":true,\"value\":[[\"lib/a.service\",\"[Unit]\\nDescription=\\\"a\\\"\\n\"],[\"etc/a.service.d/b.conf\",\"\"]]}";
-    is_told(&rt, &Reply::Files(files(&rt)), wanted);
-}
-
-#[test]
-fn a_taken_command_is_answered_shortly(rt: HostRuntime) {
+fn a_taken_command_is_told_shortly_and_files_as_paths_and_texts(rt: HostRuntime) {
     is_told(&rt, &Reply::Done, "{\"ok\":true}");
+    let own = file(&rt, "lib/a.service", "[Unit]\nDescription=\"a\"\n");
+    let drop_in = file(&rt, "etc/a.service.d/b.conf", "");
+    let files = vec![in rt.alloc(); own, drop_in].expect(&rt, "no memory");
+    is_told(&rt, &Reply::Files(files), FILES);
 }

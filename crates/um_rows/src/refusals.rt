@@ -1,59 +1,32 @@
 //! Requests that are refused, each with its reply.
-use crate::script::{BAD_REQUEST, DONE, play};
-use std::alloc::{AllocError, Global};
-use std::test::Fail;
+use crate::script::{Script, play, play_all};
+use crate::texts::{BAD_REQUEST, DONE, RELOAD};
+use std::process::Abort;
 
-/// The longest text of a file, in bytes.
-const TEXT_LIMIT: usize = 65_536;
-
-/// A request to put a file with a text of so many bytes.
-fn put_of(alloc: Global, path: &str, size: usize) -> Result<String, AllocError> {
-    let mut request = String::from_str(alloc, r#"{"verb":"put-file","path":""#)?;
-    request.push_str(path)?;
-    request.push_str(r#"","text":""#)?;
-    for _ in 0..size {
-        request.push('#')?;
-    }
-    request.push_str(r#""}"#)?;
-    Ok(request)
-}
-
-/// Brackets nested so deep.
-fn nested(alloc: Global, depth: usize) -> Result<String, AllocError> {
-    let mut text = String::new(alloc);
-    for _ in 0..depth {
-        text.push('[')?;
-    }
-    for _ in 0..depth {
-        text.push(']')?;
-    }
-    Ok(text)
-}
-
-#[test]
-fn what_is_no_request_is_refused(rt: HostRuntime) -> Result<(), Fail> {
-    let alloc = rt.alloc();
-    let deep = nested(alloc, 200)?;
-    for request in [
-        "{}",
-        "[]",
-        r#"{"verb":"show"}"#,
-        r#"{"verb":"show","unit":7}"#,
-        r#"{"verb":"show","unit":"a","mode":"fail"}"#,
-        r#"{"verb":"put-file","path":"lib/a.service","text":"a\u0000b"}"#,
-        r#"{"verb":"daemon-reload""#,
-        deep.as_str(),
-    ] {
-        play(&rt, &[(request, BAD_REQUEST)])?;
-    }
-    Ok(())
-}
-
-#[test]
-fn what_is_asked_wrongly_is_told(rt: HostRuntime) -> Result<(), Fail> {
-    play(
-        &rt,
-        &[
+/// What is asked in turn, and replied.
+const SCRIPTS: &[Script] = &[
+    Script {
+        shows: "what is no request is refused",
+        steps: &[
+            ("{}", BAD_REQUEST),
+            ("[]", BAD_REQUEST),
+            (r#"{"verb":"show"}"#, BAD_REQUEST),
+            (r#"{"verb":"show","unit":7}"#, BAD_REQUEST),
+            (r#"{"verb":"show","unit":"a","mode":"fail"}"#, BAD_REQUEST),
+            (
+                r#"{"verb":"put-file","path":"lib/a.service","text":"a\u0000b"}"#,
+                BAD_REQUEST,
+            ),
+            (r#"{"verb":"daemon-reload""#, BAD_REQUEST),
+        ],
+    },
+    Script {
+        shows: "an empty frame is no request and the next is read",
+        steps: &[("", BAD_REQUEST), (RELOAD, DONE)],
+    },
+    Script {
+        shows: "what is asked wrongly is told",
+        steps: &[
             (
                 r#"{"verb":"frob"}"#,
                 r#"{"detail":["frob"],"error":2,"ok":false}"#,
@@ -67,44 +40,55 @@ fn what_is_asked_wrongly_is_told(rt: HostRuntime) -> Result<(), Fail> {
                 r#"{"detail":["lib/../x"],"error":12,"ok":false}"#,
             ),
         ],
-    )
+    },
+];
+
+#[test]
+fn scripts_have_their_replies(rt: HostRuntime) {
+    play_all(&rt, SCRIPTS);
 }
 
-/// A request to remove what stands at a path, and its refusal as one at which nothing stands.
-fn removal_at(alloc: Global, path: &str) -> Result<(String, String), AllocError> {
-    let request = format!(in alloc; r#"{{"verb":"remove","path":"{path}"}}"#)?;
-    let refusal = format!(in alloc; r#"{{"detail":["{path}"],"error":12,"ok":false}}"#)?;
-    Ok((request, refusal))
+/// The longest text of a file, in bytes.
+const TEXT_LIMIT: usize = 65_536;
+
+/// A request to put a file with a text of so many bytes.
+fn put_of(rt: &(impl AllocGlobal + Abort), size: usize) -> String {
+    let text = "#".repeat(rt.alloc(), size).expect(rt, "no memory");
+    let request: Result<_, _> = format!(in rt.alloc();
+        r#"{{"verb":"put-file","path":"lib/a.service","text":"{text}"}}"#
+    );
+    request.expect(rt, "no memory")
 }
 
 #[test]
-fn a_removal_at_a_path_longer_than_a_name_is_refused_with_the_path(
-    rt: HostRuntime,
-) -> Result<(), Fail> {
+fn what_is_too_deep_or_too_long_is_refused(rt: HostRuntime) {
+    let open = "[".repeat(rt.alloc(), 200).expect(&rt, "no memory");
+    let close = "]".repeat(rt.alloc(), 200).expect(&rt, "no memory");
+    let deep = format!(in rt.alloc(); "{open}{close}").expect(&rt, "no memory");
+    let longest = put_of(&rt, TEXT_LIMIT);
+    let longer = put_of(&rt, TEXT_LIMIT + 1);
+    let steps = [
+        (deep.as_str(), BAD_REQUEST),
+        (longest.as_str(), DONE),
+        (
+            longer.as_str(),
+            r#"{"detail":["text"],"error":13,"ok":false}"#,
+        ),
+    ];
+    play(&rt, "limits", &steps);
+}
+
+#[test]
+fn a_removal_at_a_path_longer_than_a_name_is_refused_with_the_path(rt: HostRuntime) {
     let alloc = rt.alloc();
     // names of 252 bytes, which a unit may have, of 256 and of far more
     for size in [244, 248, 60_000] {
-        let name = "x".repeat(alloc, size)?;
-        let path = format!(in alloc; "lib/{name}.service")?;
-        let (request, refusal) = removal_at(alloc, path.as_str())?;
-        play(&rt, &[(request.as_str(), refusal.as_str())])?;
+        let name = "x".repeat(alloc, size).expect(&rt, "no memory");
+        let path = format!(in alloc; "lib/{name}.service").expect(&rt, "no memory");
+        let request = format!(in alloc; r#"{{"verb":"remove","path":"{path}"}}"#);
+        let request = request.expect(&rt, "no memory");
+        let refusal = format!(in alloc; r#"{{"detail":["{path}"],"error":12,"ok":false}}"#);
+        let refusal = refusal.expect(&rt, "no memory");
+        play(&rt, "a removal", &[(request.as_str(), refusal.as_str())]);
     }
-    Ok(())
-}
-
-#[test]
-fn a_text_longer_than_the_limit_is_refused(rt: HostRuntime) -> Result<(), Fail> {
-    let alloc = rt.alloc();
-    let longest = put_of(alloc, "lib/a.service", TEXT_LIMIT)?;
-    let longer = put_of(alloc, "lib/a.service", TEXT_LIMIT + 1)?;
-    play(
-        &rt,
-        &[
-            (longest.as_str(), DONE),
-            (
-                longer.as_str(),
-                r#"{"detail":["text"],"error":13,"ok":false}"#,
-            ),
-        ],
-    )
 }

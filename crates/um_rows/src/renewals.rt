@@ -1,19 +1,13 @@
 //! More inputs than lie between two renewals of the store in memory: state, numbers and replies go on.
 use crate::answers::same;
-use crate::script::{DONE, RELOAD, push_frame, served};
+use crate::script::{push_frame, served};
+use crate::texts::{ACTIONS, DONE, RELOAD, SHOW_A, START_A};
 use std::alloc::{AllocError, Global};
-use std::test::Fail;
 use um_bin::Ending;
 
 /// A service that may be started any number of times.
 const PUT: &str =
     r#"{"verb":"put-file","path":"lib/a.service","text":"[Unit]\nStartLimitIntervalSec=0\n[Service]\nExecStart=/bin/sleep 9\n"}"#;
-
-const START: &str = r#"{"verb":"start","unit":"a"}"#;
-
-const ACTIONS: &str = r#"{"verb":"actions"}"#;
-
-const SHOW: &str = r#"{"verb":"show","unit":"a"}"#;
 
 /// How the unit is shown that runs as that process.
 const RUNS: &str =
@@ -35,7 +29,7 @@ impl Script {
 
     /// Adds a start, the actions since, and the end of the process with this number.
     fn push_life(&mut self, alloc: Global, number: usize) -> Result<(), AllocError> {
-        self.push(START, DONE)?;
+        self.push(START_A, DONE)?;
         let spawned = format!(in alloc;
             r#"{{"ok":true,"value":[["spawn",{number},["/bin/sleep","9"]]]}}"#
         )?;
@@ -56,17 +50,16 @@ fn lives(alloc: Global, count: usize) -> Result<Script, AllocError> {
     for number in 1..=count {
         script.push_life(alloc, number)?;
     }
-    script.push(START, DONE)?;
-    script.push(SHOW, RUNS)?;
+    script.push(START_A, DONE)?;
+    script.push(SHOW_A, RUNS)?;
     Ok(script)
 }
 
 #[test]
-fn replies_go_on_behind_a_renewal_of_the_store(rt: HostRuntime) -> Result<(), Fail> {
+fn replies_go_on_behind_a_renewal_of_the_store(rt: HostRuntime) {
     // two inputs each, and a renewal behind each 512th
-    let Script { input, wanted } = lives(rt.alloc(), 600)?;
-    let (output, ending) = served(rt.alloc(), input.as_slice())?;
+    let Script { input, wanted } = lives(rt.alloc(), 600).expect(&rt, "no memory");
+    let (output, ending) = served(rt.alloc(), input.as_slice()).expect(&rt, "not served");
     same(&rt, output.as_slice(), wanted.as_slice());
     same(&rt, ending, Ending::Between);
-    Ok(())
 }

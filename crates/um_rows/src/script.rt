@@ -1,18 +1,14 @@
 //! Scripts of requests with the replies that are wanted for them.
-use crate::answers::{list, same};
+use crate::answers::same_at;
 use std::alloc::{AllocError, Global};
 use std::process::Abort;
-use std::test::Fail;
 use um_bin::{Ending, Fault, memory};
 
-/// A request to load the tree.
-pub const RELOAD: &str = r#"{"verb":"daemon-reload"}"#;
-
-/// The reply to an event that was taken.
-pub const DONE: &str = r#"{"ok":true}"#;
-
-/// The reply to a frame that is no request.
-pub const BAD_REQUEST: &str = r#"{"detail":[],"error":1,"ok":false}"#;
+/// A script: what it shows, and its requests, each with the reply that is wanted for it.
+pub struct Script {
+    pub shows: &'static str,
+    pub steps: &'static [(&'static str, &'static str)],
+}
 
 /// Adds the frame of a text: its length in four bytes, the highest first, and the text.
 pub fn push_frame(bytes: &mut Vec<u8>, text: &str) -> Result<(), AllocError> {
@@ -51,71 +47,39 @@ fn cut_frame(bytes: &[u8]) -> (&[u8], &[u8]) {
     (&behind[..size], &behind[size..])
 }
 
-/// The replies that were written, each by its text; what is no whole frame stands as one text at the end.
-pub fn replies_in(alloc: Global, output: &[u8]) -> Result<Vec<String>, AllocError> {
-    let mut replies = Vec::new(alloc);
+/// Asserts that the frames are the replies that are wanted at these steps, and no more.
+pub fn has_replies(
+    rt: &(impl AllocGlobal + Abort),
+    output: &[u8],
+    shows: &str,
+    steps: &[(&str, &str)],
+) {
     let mut rest = output;
-    for _ in 0..output.len() {
-        if rest.is_empty() {
-            break;
-        }
+    for (at, (request, wanted)) in steps.iter().enumerate() {
         let (reply, behind) = cut_frame(rest);
-        replies.push(String::from_utf8_lossy(alloc, reply)?)?;
+        let got = String::from_utf8_lossy(rt.alloc(), reply).expect(rt, "no memory");
+        same_at(rt, got.as_str(), *wanted, (shows, at + 1, request));
         rest = behind;
     }
-    Ok(replies)
+    same_at(rt, rest.len(), 0, (shows, "bytes behind the last reply"));
 }
 
-/// Asserts that the replies that were written are these.
-pub fn has_replies(rt: &(impl AllocGlobal + Abort), output: &[u8], wanted: &[&str]) {
-    let replies = replies_in(rt.alloc(), output).expect(rt, "no memory");
-    same(rt, replies, list(rt, wanted));
-}
-
-/// The first step whose reply isn't the wanted one: its number, what was asked, wanted and got. None where each is.
-fn difference_in(
-    alloc: Global,
-    steps: &[(&str, &str)],
-    replies: &[String],
-) -> Result<Option<String>, AllocError> {
-    for (at, (request, wanted)) in steps.iter().enumerate() {
-        let got = match replies.get(at) {
-            Some(reply) => reply.as_str(),
-            None => "nothing",
-        };
-        if got != *wanted {
-            let step = at + 1;
-            return Ok(Some(format!(in alloc;
-                "step {step}\nrequest: {request}\nwanted:  {wanted}\ngot:     {got}"
-            )?));
-        }
-    }
-    match replies.get(steps.len()) {
-        Some(reply) => Ok(Some(format!(in alloc; "a reply to no request: {reply}")?)),
-        None => Ok(None),
-    }
-}
-
-/// Where a script, of requests each with the reply that is wanted for it, is answered otherwise: its first difference.
-pub fn first_difference(alloc: Global, steps: &[(&str, &str)]) -> Result<Option<String>, Fault> {
-    let mut input = Vec::new(alloc);
+/// Plays the steps, each a request with the reply that is wanted for it, and stops at the first other reply.
+pub fn play(rt: &(impl AllocGlobal + Abort), shows: &str, steps: &[(&str, &str)]) {
+    let mut input = Vec::new(rt.alloc());
     for (request, _) in steps {
-        push_frame(&mut input, request)?;
+        push_frame(&mut input, request).expect(rt, "no memory");
     }
-    let (output, ending) = served(alloc, input.as_slice())?;
-    let replies = replies_in(alloc, output.as_slice())?;
-    match difference_in(alloc, steps, replies.as_slice())? {
-        None if ending != Ending::Between => Ok(Some(format!(in alloc; "it ended {ending:?}")?)),
-        difference => Ok(difference),
-    }
+    let (output, ending) = served(rt.alloc(), input.as_slice()).expect(rt, "not served");
+    has_replies(rt, output.as_slice(), shows, steps);
+    same_at(rt, ending, Ending::Between, shows);
 }
 
-/// Plays a script of requests, each with the reply that is wanted for it, and stops at the first other reply.
-pub fn play(rt: &(impl AllocGlobal + Abort), steps: &[(&str, &str)]) -> Result<(), Fail> {
-    if let Some(difference) = first_difference(rt.alloc(), steps)? {
-        panic!(rt; "{difference}");
+/// Plays the scripts, each on a store of its own.
+pub fn play_all(rt: &(impl AllocGlobal + Abort), scripts: &[Script]) {
+    for script in scripts {
+        play(rt, script.shows, script.steps);
     }
-    Ok(())
 }
 
 /// The first bytes, so many of them or all.

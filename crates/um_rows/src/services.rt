@@ -1,200 +1,152 @@
 //! Services of all types by all their settings, as replies show them.
-use crate::script::{DONE, RELOAD, play};
-use std::test::Fail;
-
-const ACTIONS: &str = r#"{"verb":"actions"}"#;
-
-const NONE: &str = r#"{"ok":true,"value":[]}"#;
-
-const START: &str = r#"{"verb":"start","unit":"a"}"#;
-
-const STOP: &str = r#"{"verb":"stop","unit":"a"}"#;
-
-const SHOW: &str = r#"{"verb":"show","unit":"a"}"#;
-
-const JOBS: &str = r#"{"verb":"list-jobs"}"#;
+use crate::script::{Script, play_all};
+use crate::texts::{
+    A_RUNS_AS_FIRST, A_TIMED_OUT, ACTIONS, DEAD_A, DONE, FIRST_ENDS, FIRST_EXITS, FIRST_KILLED,
+    FIRST_TOLD_TO_END, JOBS, NOTHING, RELOAD, SECOND_EXITS, SHOW_A, SPAWNED_FIRST, START_A, STOP_A,
+    UNITS,
+};
 
 const STARTS: &str = r#"{"ok":true,"value":[["a.service","start","running"]]}"#;
 
 const STOPS: &str = r#"{"ok":true,"value":[["a.service","stop","running"]]}"#;
 
-const SPAWNED_FIRST: &str = r#"{"ok":true,"value":[["spawn",1,["/bin/sleep","9"]]]}"#;
+/// A service that sleeps.
+const PUT: &str =
+    r#"{"verb":"put-file","path":"lib/a.service","text":"[Service]\nExecStart=/bin/sleep 9\nExecStop=/bin/x\n"}"#;
 
-const FIRST_TOLD_TO_END: &str = r#"{"ok":true,"value":[["signal",1,"TERM"]]}"#;
-
-const DEAD: &str =
-    r#"{"ok":true,"value":{"ActiveState":"inactive","Description":"","Id":"a.service","LoadState":"loaded","MainNumber":0,"Result":"success","SubState":"dead","Warnings":[]}}"#;
-
-#[test]
-fn a_start_that_no_report_ends_in_time_fails(rt: HostRuntime) -> Result<(), Fail> {
-    play(
-        &rt,
-        &[
+/// What is asked in turn, and replied.
+const SCRIPTS: &[Script] = &[
+    Script {
+        shows: "a start that no report ends in time fails",
+        steps: &[
             (
                 r#"{"verb":"put-file","path":"lib/a.service","text":"[Service]\nExecStart=/bin/sleep 9\nType=exec\nTimeoutStartSec=1\n"}"#,
                 DONE,
             ),
             (RELOAD, DONE),
-            (START, DONE),
+            (START_A, DONE),
             (ACTIONS, SPAWNED_FIRST),
             (r#"{"verb":"tick","at":999999}"#, DONE),
             (JOBS, STARTS),
-            (ACTIONS, NONE),
+            (ACTIONS, NOTHING),
             (r#"{"verb":"tick","at":1000000}"#, DONE),
-            (JOBS, NONE),
+            (JOBS, NOTHING),
             (
-                SHOW,
+                SHOW_A,
                 r#"{"ok":true,"value":{"ActiveState":"deactivating","Description":"","Id":"a.service","LoadState":"loaded","MainNumber":1,"Result":"timeout","SubState":"stop-sigterm","Warnings":[]}}"#,
             ),
             (ACTIONS, FIRST_TOLD_TO_END),
-            (r#"{"verb":"end","number":1,"signal":15}"#, DONE),
-            (
-                SHOW,
-                r#"{"ok":true,"value":{"ActiveState":"failed","Description":"","Id":"a.service","LoadState":"loaded","MainNumber":0,"Result":"timeout","SubState":"failed","Warnings":[]}}"#,
-            ),
+            (FIRST_ENDS, DONE),
+            (SHOW_A, A_TIMED_OUT),
         ],
-    )
-}
-
-#[test]
-fn the_report_that_the_program_runs_ends_a_start(rt: HostRuntime) -> Result<(), Fail> {
-    play(
-        &rt,
-        &[
+    },
+    Script {
+        shows: "the report that the program runs ends a start",
+        steps: &[
             (
                 r#"{"verb":"put-file","path":"lib/a.service","text":"[Service]\nExecStart=/bin/sleep 9\nType=exec\n"}"#,
                 DONE,
             ),
             (RELOAD, DONE),
-            (START, DONE),
+            (START_A, DONE),
             (r#"{"verb":"executed","number":2}"#, DONE),
             (JOBS, STARTS),
             (r#"{"verb":"executed","number":1}"#, DONE),
-            (JOBS, NONE),
-            (
-                SHOW,
-                r#"{"ok":true,"value":{"ActiveState":"active","Description":"","Id":"a.service","LoadState":"loaded","MainNumber":1,"Result":"success","SubState":"running","Warnings":[]}}"#,
-            ),
+            (JOBS, NOTHING),
+            (SHOW_A, A_RUNS_AS_FIRST),
         ],
-    )
-}
-
-#[test]
-fn a_oneshot_has_exited_after_its_last_command(rt: HostRuntime) -> Result<(), Fail> {
-    play(
-        &rt,
-        &[
+    },
+    Script {
+        shows: "a oneshot has exited after its last command",
+        steps: &[
             (
                 r#"{"verb":"put-file","path":"lib/a.service","text":"[Service]\nType=oneshot\nExecStart=/bin/a\nExecStart=-/bin/b\nRemainAfterExit=yes\n"}"#,
                 DONE,
             ),
             (RELOAD, DONE),
-            (START, DONE),
+            (START_A, DONE),
             (ACTIONS, r#"{"ok":true,"value":[["spawn",1,["/bin/a"]]]}"#),
-            (r#"{"verb":"end","number":1,"code":0}"#, DONE),
+            (FIRST_EXITS, DONE),
             (ACTIONS, r#"{"ok":true,"value":[["spawn",2,["/bin/b"]]]}"#),
             (JOBS, STARTS),
             (r#"{"verb":"end","number":2,"code":3}"#, DONE),
-            (JOBS, NONE),
+            (JOBS, NOTHING),
             (
-                SHOW,
+                SHOW_A,
                 r#"{"ok":true,"value":{"ActiveState":"active","Description":"","Id":"a.service","LoadState":"loaded","MainNumber":0,"Result":"success","SubState":"exited","Warnings":[]}}"#,
             ),
         ],
-    )
-}
-
-#[test]
-fn a_service_is_stopped_by_its_own_command(rt: HostRuntime) -> Result<(), Fail> {
-    play(
-        &rt,
-        &[
+    },
+    Script {
+        shows: "a service is stopped by its own command",
+        steps: &[
             (
                 r#"{"verb":"put-file","path":"lib/a.service","text":"[Service]\nExecStart=/bin/sleep 9\nExecStop=/bin/x\n"}"#,
                 DONE,
             ),
             (RELOAD, DONE),
-            (START, DONE),
+            (START_A, DONE),
             (ACTIONS, SPAWNED_FIRST),
-            (STOP, DONE),
+            (STOP_A, DONE),
             (ACTIONS, r#"{"ok":true,"value":[["spawn",2,["/bin/x"]]]}"#),
-            (r#"{"verb":"end","number":1,"code":0}"#, DONE),
+            (FIRST_EXITS, DONE),
             (JOBS, STOPS),
             (
-                SHOW,
+                SHOW_A,
                 r#"{"ok":true,"value":{"ActiveState":"deactivating","Description":"","Id":"a.service","LoadState":"loaded","MainNumber":0,"Result":"success","SubState":"stop","Warnings":[]}}"#,
             ),
-            (r#"{"verb":"end","number":2,"code":0}"#, DONE),
-            (JOBS, NONE),
-            (SHOW, DEAD),
-            (ACTIONS, NONE),
+            (SECOND_EXITS, DONE),
+            (JOBS, NOTHING),
+            (SHOW_A, DEAD_A),
+            (ACTIONS, NOTHING),
         ],
-    )
-}
-
-#[test]
-fn a_service_that_does_not_end_is_killed_after_it_was_told_to(rt: HostRuntime) -> Result<(), Fail> {
-    play(
-        &rt,
-        &[
+    },
+    Script {
+        shows: "a service that does not end is killed after it was told to",
+        steps: &[
             (
                 r#"{"verb":"put-file","path":"lib/a.service","text":"[Service]\nExecStart=/bin/sleep 9\nTimeoutStopSec=2\n"}"#,
                 DONE,
             ),
             (RELOAD, DONE),
-            (START, DONE),
+            (START_A, DONE),
             (ACTIONS, SPAWNED_FIRST),
-            (STOP, DONE),
+            (STOP_A, DONE),
             (ACTIONS, FIRST_TOLD_TO_END),
             (r#"{"verb":"tick","at":1999999}"#, DONE),
-            (ACTIONS, NONE),
+            (ACTIONS, NOTHING),
             (r#"{"verb":"tick","at":2000000}"#, DONE),
-            (ACTIONS, r#"{"ok":true,"value":[["signal",1,"KILL"]]}"#),
+            (ACTIONS, FIRST_KILLED),
             (r#"{"verb":"end","number":1,"signal":9}"#, DONE),
-            (
-                SHOW,
-                r#"{"ok":true,"value":{"ActiveState":"failed","Description":"","Id":"a.service","LoadState":"loaded","MainNumber":0,"Result":"timeout","SubState":"failed","Warnings":[]}}"#,
-            ),
-            (JOBS, NONE),
+            (SHOW_A, A_TIMED_OUT),
+            (JOBS, NOTHING),
         ],
-    )
-}
-
-/// A service that sleeps.
-const PUT: &str =
-    r#"{"verb":"put-file","path":"lib/a.service","text":"[Service]\nExecStart=/bin/sleep 9\nExecStop=/bin/x\n"}"#;
-
-#[test]
-fn a_process_ends_by_the_settings_that_are_loaded_then(rt: HostRuntime) -> Result<(), Fail> {
-    play(
-        &rt,
-        &[
+    },
+    Script {
+        shows: "a process ends by the settings that are loaded then",
+        steps: &[
             (PUT, DONE),
             (RELOAD, DONE),
-            (START, DONE),
+            (START_A, DONE),
             (ACTIONS, SPAWNED_FIRST),
             (
                 r#"{"verb":"put-file","path":"lib/a.service","text":"[Service]\nType=oneshot\nExecStart=/bin/a\n"}"#,
                 DONE,
             ),
             (RELOAD, DONE),
-            (r#"{"verb":"end","number":1,"signal":15}"#, DONE),
+            (FIRST_ENDS, DONE),
             (
-                SHOW,
+                SHOW_A,
                 r#"{"ok":true,"value":{"ActiveState":"failed","Description":"","Id":"a.service","LoadState":"loaded","MainNumber":0,"Result":"signal","SubState":"failed","Warnings":[]}}"#,
             ),
         ],
-    )
-}
-
-#[test]
-fn a_unit_that_became_a_template_acts_as_a_simple_service(rt: HostRuntime) -> Result<(), Fail> {
-    play(
-        &rt,
-        &[
+    },
+    Script {
+        shows: "a unit that became a template acts as a simple service",
+        steps: &[
             (PUT, DONE),
             (RELOAD, DONE),
-            (START, DONE),
+            (START_A, DONE),
             (ACTIONS, SPAWNED_FIRST),
             (
                 r#"{"verb":"put-file","path":"lib/g@.service","text":"[Service]\nType=oneshot\nExecStart=/bin/a\nExecStop=/bin/x\nRemainAfterExit=yes\n"}"#,
@@ -205,12 +157,17 @@ fn a_unit_that_became_a_template_acts_as_a_simple_service(rt: HostRuntime) -> Re
                 DONE,
             ),
             (RELOAD, DONE),
-            (r#"{"verb":"end","number":1,"signal":15}"#, DONE),
-            (ACTIONS, NONE),
+            (FIRST_ENDS, DONE),
+            (ACTIONS, NOTHING),
             (
-                r#"{"verb":"list-units"}"#,
+                UNITS,
                 r#"{"ok":true,"value":[["a.service","inactive","dead"]]}"#,
             ),
         ],
-    )
+    },
+];
+
+#[test]
+fn scripts_have_their_replies(rt: HostRuntime) {
+    play_all(&rt, SCRIPTS);
 }

@@ -1,7 +1,6 @@
 //! A client's session by its public calls.
 use crate::answers::{same, same_at, text};
 use crate::script::{front, rest};
-use std::fmt::Debug;
 use std::process::Abort;
 use um_proto::{Asked, Request};
 use um_session::Session;
@@ -9,12 +8,6 @@ use um_state::{Command, Event};
 
 /// `{"verb":"daemon-reload"}` in its frame: 28 bytes.
 const RELOAD: &[u8] = b"\0\0\0\x18{\"verb\":\"daemon-reload\"}";
-
-/// Feeds the bytes.
-fn feed(rt: &impl Abort, session: &mut Session, bytes: &[u8]) {
-    session.room(bytes.len()).expect(rt, "no memory");
-    session.feed(bytes).expect(rt, "no memory");
-}
 
 /// What the request is called.
 fn word(request: &Request) -> &'static str {
@@ -36,25 +29,31 @@ fn next(rt: &(impl AllocGlobal + Abort), session: &mut Session) -> String {
     }
 }
 
-/// Asserts that this is read next, in this row.
-fn reads<R: Debug + Drop>(
+/// Feeds the bytes, and asserts that this is read then, in this row.
+fn reads(
     rt: &(impl AllocGlobal + Abort),
     session: &mut Session,
-    wanted: &str,
-    row: R,
+    bytes: &[u8],
+    wanted: &[&str],
+    row: (usize, usize),
 ) {
-    let read = next(rt, session);
-    same_at(rt, read.as_str(), wanted, row);
+    session.room(bytes.len()).expect(rt, "no memory");
+    session.feed(bytes).expect(rt, "no memory");
+    for text in wanted {
+        let read = next(rt, session);
+        same_at(rt, read.as_str(), *text, row);
+    }
 }
 
 /// Asserts that the frame of a request, cut in these two places, is read as that request alone.
 fn is_one_request(rt: &(impl AllocGlobal + Abort), first: usize, second: usize) {
+    let row = (first, second);
     let mut session = Session::new(rt.alloc());
-    feed(rt, &mut session, front(RELOAD, first));
-    feed(rt, &mut session, rest(front(RELOAD, second), first));
-    feed(rt, &mut session, rest(RELOAD, second));
-    reads(rt, &mut session, "reload", (first, second));
-    reads(rt, &mut session, "", (first, second));
+    reads(rt, &mut session, front(RELOAD, first), &[], row);
+    let middle = rest(front(RELOAD, second), first);
+    reads(rt, &mut session, middle, &[], row);
+    let last = rest(RELOAD, second);
+    reads(rt, &mut session, last, &["reload", ""], row);
 }
 
 #[test]
@@ -66,38 +65,52 @@ fn a_frame_cut_anywhere_in_two_and_in_three_is_the_same_request(rt: HostRuntime)
     }
 }
 
-#[test]
-fn an_empty_frame_is_refused_and_the_stream_goes_on(rt: HostRuntime) {
-    let mut session = Session::new(rt.alloc());
-    feed(&rt, &mut session, &[0, 0, 0, 0]);
-    feed(&rt, &mut session, RELOAD);
-    reads(&rt, &mut session, "E1 BadRequest", "first");
-    reads(&rt, &mut session, "reload", "second");
-    reads(&rt, &mut session, "", "third");
-    same(&rt, session.failed(), false);
+/// A frame that is refused, what is read then, whether the session has failed, and what is read behind a reload.
+struct Refused {
+    frame: &'static [u8],
+    reads: &'static [&'static str],
+    failed: bool,
+    behind: &'static [&'static str],
 }
 
+const REFUSED: &[Refused] = &[
+    // an empty frame, behind which the stream goes on
+    Refused {
+        frame: &[0, 0, 0, 0],
+        reads: &[],
+        failed: false,
+        behind: &["E1 BadRequest", "reload", ""],
+    },
+    // a length past the limit is refused at once, and nothing more is read
+    Refused {
+        frame: &[0, 8, 0, 1],
+        reads: &["E13 TooLarge frame"],
+        failed: true,
+        behind: &[""],
+    },
+];
+
 #[test]
-fn a_length_past_the_limit_is_refused_at_once_and_nothing_more_is_read(rt: HostRuntime) {
-    let mut session = Session::new(rt.alloc());
-    feed(&rt, &mut session, &[0, 8, 0, 1]);
-    reads(&rt, &mut session, "E13 TooLarge frame", "first");
-    same(&rt, session.failed(), true);
-    feed(&rt, &mut session, RELOAD);
-    reads(&rt, &mut session, "", "second");
+fn a_frame_is_refused_and_the_stream_goes_on_or_ends(rt: HostRuntime) {
+    for (row, refused) in REFUSED.iter().enumerate() {
+        let mut session = Session::new(rt.alloc());
+        reads(&rt, &mut session, refused.frame, refused.reads, (row, 0));
+        same_at(&rt, session.failed(), refused.failed, row);
+        reads(&rt, &mut session, RELOAD, refused.behind, (row, 1));
+        same_at(&rt, session.failed(), refused.failed, row);
+    }
 }
 
-/// Asserts that these bytes are put out.
-fn puts_out(rt: &impl Abort, session: &mut Session, wanted: &[u8]) {
-    let output = session.take_output();
-    same(rt, output.as_slice(), wanted);
-}
+/// What is put out after two replies, and then.
+const OUTPUTS: &[&[u8]] = &[b"\0\0\0\x02{}\0\0\0\x03[1]", b""];
 
 #[test]
 fn replies_are_put_out_as_frames_in_their_order(rt: HostRuntime) {
     let mut session = Session::new(rt.alloc());
     session.push_reply(b"{}").expect(&rt, "no memory");
     session.push_reply(b"[1]").expect(&rt, "no memory");
-    puts_out(&rt, &mut session, b"\0\0\0\x02{}\0\0\0\x03[1]");
-    puts_out(&rt, &mut session, b"");
+    for wanted in OUTPUTS {
+        let output = session.take_output();
+        same(&rt, output.as_slice(), *wanted);
+    }
 }

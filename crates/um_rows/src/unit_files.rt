@@ -1,12 +1,12 @@
 //! Unit files in full: specifiers, words, links, drop-ins and warnings, as replies show them.
-use crate::script::{DONE, RELOAD, play};
-use std::test::Fail;
+use crate::script::{Script, play_all};
+use crate::texts::{ACTIONS, DONE, NO_A, RELOAD, SHOW_A, SHOW_B, START_A, START_B};
 
-#[test]
-fn specifiers_tell_the_name_of_an_instance(rt: HostRuntime) -> Result<(), Fail> {
-    play(
-        &rt,
-        &[
+/// What is asked in turn, and replied.
+const SCRIPTS: &[Script] = &[
+    Script {
+        shows: "specifiers tell the name of an instance",
+        steps: &[
             (
                 r#"{"verb":"put-file","path":"lib/app@.service","text":"[Unit]\nDescription=%p %i %I %j %%\n[Service]\nExecStart=/bin/true\n"}"#,
                 DONE,
@@ -17,14 +17,10 @@ fn specifiers_tell_the_name_of_an_instance(rt: HostRuntime) -> Result<(), Fail> 
                 r#"{"ok":true,"value":{"ActiveState":"inactive","Description":"app x-y x/y app %","Id":"app@x-y.service","LoadState":"loaded","MainNumber":0,"Result":"success","SubState":"dead","Warnings":[]}}"#,
             ),
         ],
-    )
-}
-
-#[test]
-fn words_and_variables_of_a_command(rt: HostRuntime) -> Result<(), Fail> {
-    play(
-        &rt,
-        &[
+    },
+    Script {
+        shows: "words and variables of a command",
+        steps: &[
             (
                 r#"{"verb":"put-file","path":"lib/a.service","text":"[Service]\nEnvironment=\"X=p  q\"\nExecStart=/bin/echo \"a b\" $X ${X}c $$ \\x41\n"}"#,
                 DONE,
@@ -34,21 +30,17 @@ fn words_and_variables_of_a_command(rt: HostRuntime) -> Result<(), Fail> {
                 DONE,
             ),
             (RELOAD, DONE),
-            (r#"{"verb":"start","unit":"a"}"#, DONE),
-            (r#"{"verb":"start","unit":"b"}"#, DONE),
+            (START_A, DONE),
+            (START_B, DONE),
             (
-                r#"{"verb":"actions"}"#,
+                ACTIONS,
                 r#"{"ok":true,"value":[["spawn",1,["/bin/echo","a b","p","q","p  qc","$","A"]],["spawn",2,["/bin/echo","two two","too"]]]}"#,
             ),
         ],
-    )
-}
-
-#[test]
-fn each_kind_of_warning_by_its_line(rt: HostRuntime) -> Result<(), Fail> {
-    play(
-        &rt,
-        &[
+    },
+    Script {
+        shows: "each kind of warning by its line",
+        steps: &[
             (
                 r#"{"verb":"put-file","path":"lib/w.target","text":"Description=x\n[Unit]\nfoo\nFrob=1\nDefaultDependencies=maybe\nDescription=%z\n[Zed]\na=b\n"}"#,
                 DONE,
@@ -67,64 +59,10 @@ fn each_kind_of_warning_by_its_line(rt: HostRuntime) -> Result<(), Fail> {
                 r#"{"ok":true,"value":{"ActiveState":"inactive","Description":"","Id":"r.service","LoadState":"loaded","MainNumber":0,"Result":"success","SubState":"dead","Warnings":[[5,"lib/r.service",3]]}}"#,
             ),
         ],
-    )
-}
-
-#[test]
-fn eight_links_lead_to_a_unit(rt: HostRuntime) -> Result<(), Fail> {
-    play(
-        &rt,
-        &[
-            (
-                r#"{"verb":"put-link","path":"etc/a0.service","target":"a1.service"}"#,
-                DONE,
-            ),
-            (
-                r#"{"verb":"put-link","path":"etc/a1.service","target":"a2.service"}"#,
-                DONE,
-            ),
-            (
-                r#"{"verb":"put-link","path":"etc/a2.service","target":"a3.service"}"#,
-                DONE,
-            ),
-            (
-                r#"{"verb":"put-link","path":"etc/a3.service","target":"a4.service"}"#,
-                DONE,
-            ),
-            (
-                r#"{"verb":"put-link","path":"etc/a4.service","target":"a5.service"}"#,
-                DONE,
-            ),
-            (
-                r#"{"verb":"put-link","path":"etc/a5.service","target":"a6.service"}"#,
-                DONE,
-            ),
-            (
-                r#"{"verb":"put-link","path":"etc/a6.service","target":"a7.service"}"#,
-                DONE,
-            ),
-            (
-                r#"{"verb":"put-link","path":"etc/a7.service","target":"a8.service"}"#,
-                DONE,
-            ),
-            (
-                r#"{"verb":"put-file","path":"lib/a8.service","text":"[Service]\nExecStart=/bin/true\n"}"#,
-                DONE,
-            ),
-            (RELOAD, DONE),
-            (
-                r#"{"verb":"show","unit":"a0"}"#,
-                r#"{"ok":true,"value":{"ActiveState":"inactive","Description":"","Id":"a8.service","LoadState":"loaded","MainNumber":0,"Result":"success","SubState":"dead","Warnings":[]}}"#,
-            ),
-        ],
-    )
-}
-
-#[test]
-fn nine_links_lead_nowhere(rt: HostRuntime) -> Result<(), Fail> {
-    play(
-        &rt,
-        &[
+    },
+    Script {
+        shows: "eight links lead to a unit and nine lead nowhere",
+        steps: &[
             (
                 r#"{"verb":"put-link","path":"etc/b.service","target":"a0.service"}"#,
                 DONE,
@@ -167,18 +105,18 @@ fn nine_links_lead_nowhere(rt: HostRuntime) -> Result<(), Fail> {
             ),
             (RELOAD, DONE),
             (
-                r#"{"verb":"show","unit":"b"}"#,
+                r#"{"verb":"show","unit":"a0"}"#,
+                r#"{"ok":true,"value":{"ActiveState":"inactive","Description":"","Id":"a8.service","LoadState":"loaded","MainNumber":0,"Result":"success","SubState":"dead","Warnings":[]}}"#,
+            ),
+            (
+                SHOW_B,
                 r#"{"ok":true,"value":{"ActiveState":"inactive","Description":"","Id":"b.service","LoadState":"not-found","MainNumber":0,"Result":"success","SubState":"dead","Warnings":[]}}"#,
             ),
         ],
-    )
-}
-
-#[test]
-fn files_and_links_stand_in_each_others_way(rt: HostRuntime) -> Result<(), Fail> {
-    play(
-        &rt,
-        &[
+    },
+    Script {
+        shows: "files and links stand in each others way",
+        steps: &[
             (
                 r#"{"verb":"put-link","path":"etc/a.service","target":"b.service"}"#,
                 DONE,
@@ -196,24 +134,17 @@ fn files_and_links_stand_in_each_others_way(rt: HostRuntime) -> Result<(), Fail>
                 r#"{"detail":["lib/a.service"],"error":12,"ok":false}"#,
             ),
             (RELOAD, DONE),
-            (
-                r#"{"verb":"show","unit":"a"}"#,
-                r#"{"ok":true,"value":{"ActiveState":"inactive","Description":"","Id":"a.service","LoadState":"not-found","MainNumber":0,"Result":"success","SubState":"dead","Warnings":[]}}"#,
-            ),
+            (SHOW_A, NO_A),
             (r#"{"verb":"remove","path":"etc/a.service"}"#, DONE),
             (
                 r#"{"verb":"cat","unit":"a"}"#,
                 r#"{"detail":["a.service"],"error":4,"ok":false}"#,
             ),
         ],
-    )
-}
-
-#[test]
-fn drop_ins_are_told_by_the_names_of_their_files(rt: HostRuntime) -> Result<(), Fail> {
-    play(
-        &rt,
-        &[
+    },
+    Script {
+        shows: "drop ins are told by the names of their files",
+        steps: &[
             (
                 r#"{"verb":"put-file","path":"lib/a@.service","text":"t"}"#,
                 DONE,
@@ -247,5 +178,10 @@ fn drop_ins_are_told_by_the_names_of_their_files(rt: HostRuntime) -> Result<(), 
                 r#"{"detail":["m@1.service"],"error":5,"ok":false}"#,
             ),
         ],
-    )
+    },
+];
+
+#[test]
+fn scripts_have_their_replies(rt: HostRuntime) {
+    play_all(&rt, SCRIPTS);
 }
