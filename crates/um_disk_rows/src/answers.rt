@@ -1,6 +1,7 @@
-//! Answers and sectors as values that can be compared and shown.
+//! Answers and sectors as values that can be compared and shown, and what rows are made of.
 use std::fmt::Debug;
 use std::process::Abort;
+use um_name::UnitName;
 use um_sector::{Disk, Fault, Sector};
 use um_wire::Refusal;
 
@@ -19,31 +20,38 @@ pub fn same_at<T: PartialEq + Debug + Drop, R: Debug + Drop>(
     assert_eq!(rt; got, wanted, "at {row:?}");
 }
 
-/// Asserts that the answer is the wanted one: a refusal that prints as this text, or no refusal.
+/// Asserts that the answer is a refusal that prints as this text: its number, name and details.
 pub fn is_refused<T: Drop>(
     rt: &(impl AllocGlobal + Abort),
     answer: Result<T, Refusal>,
-    wanted: Option<&str>,
+    wanted: &str,
 ) {
     match answer {
-        Ok(_) => same(rt, None, wanted),
-        Err(refusal) => prints(rt, &refusal, wanted),
+        Ok(_) => same(rt, None, Some(wanted)),
+        Err(refusal) => {
+            let printed = refusal.to_string(rt.alloc()).expect(rt, "no memory");
+            same(rt, Some(printed.as_str()), Some(wanted));
+        }
     }
-}
-
-/// Asserts that the refusal is wanted, and prints as this text: its number, name and details.
-fn prints(rt: &(impl AllocGlobal + Abort), refusal: &Refusal, wanted: Option<&str>) {
-    let printed = refusal.to_string(rt.alloc()).expect(rt, "no memory");
-    same(rt, Some(printed.as_str()), wanted);
 }
 
 /// Asserts that the disk failed the call, which a request is refused for by the number of a device.
 pub fn fails<T: Drop>(rt: &(impl AllocGlobal + Abort), answer: Result<T, Fault>) {
-    let wanted = Some("E16 Device");
-    match answer {
-        Ok(_) => same(rt, None, wanted),
-        Err(fault) => prints(rt, &Refusal::from(fault), wanted),
-    }
+    let answer = match answer {
+        Ok(_) => Ok(()),
+        Err(fault) => Err(Refusal::from(fault)),
+    };
+    is_refused(rt, answer, "E16 Device");
+}
+
+/// A text of its own.
+pub fn text(rt: &(impl AllocGlobal + Abort), text: &str) -> String {
+    String::from_str(rt.alloc(), text).expect(rt, "no memory")
+}
+
+/// The unit of this name.
+pub fn unit(rt: &(impl AllocGlobal + Abort), name: &str) -> UnitName {
+    UnitName::parse(rt.alloc(), name).expect(rt, "no unit")
 }
 
 /// What a sector holds.
@@ -62,15 +70,10 @@ pub fn filled(bytes: &[u8]) -> Sector {
     sector
 }
 
-/// The sector with one byte changed.
-pub fn changed(rt: &impl Abort, mut sector: Sector, at: usize, byte: u8) -> Sector {
-    assert!(rt; at < 512, "a sector has no such byte");
-    sector[at] = byte;
-    sector
-}
-
 /// Changes a byte of a sector.
 pub fn change<D: Disk>(rt: &impl Abort, disk: &mut D, k: usize, at: usize, byte: u8) {
-    let sector = changed(rt, sector_at(rt, disk, k), at, byte);
+    let mut sector = sector_at(rt, disk, k);
+    assert!(rt; at < 512, "a sector has no such byte");
+    sector[at] = byte;
     disk.write(k, &sector).expect(rt, "not written");
 }

@@ -1,5 +1,5 @@
 //! Canonical bytes: how values are spelled, and what is no spelling.
-use crate::answers::same;
+use crate::answers::{same, text};
 use crate::spelled::{are_not_read, are_read, are_spelled, is_spelled};
 use std::collections::BTreeMap;
 use std::process::Abort;
@@ -8,10 +8,6 @@ use um_model::{
     SubState, UnitResult, UnitState,
 };
 use um_wire::{Canon, get_tag, put_tag, read_whole};
-
-fn text(rt: &(impl AllocGlobal + Abort), text: &str) -> String {
-    String::from_str(rt.alloc(), text).expect(rt, "no memory")
-}
 
 const BYTES: &[(u8, &[u8])] = &[(7, &[7])];
 
@@ -29,29 +25,24 @@ fn numbers_stand_with_the_highest_byte_first(rt: HostRuntime) {
     are_spelled(&rt, LONG_NUMBERS, &[&[0, 0, 0, 0, 0, 0, 1]]);
     let read = u32::get(rt.alloc(), &[0, 0, 1, 0, 9, 9]).expect(&rt, "no memory");
     same(&rt, read, Some((256, 4)));
+    let whole = read_whole::<u8>(rt.alloc(), &[7]).expect(&rt, "no memory");
+    let part = read_whole::<u8>(rt.alloc(), &[7, 7]).expect(&rt, "no memory");
+    same(&rt, [whole, part], [Some(7), None]);
 }
 
 const TRUTHS: &[(bool, &[u8])] = &[(false, &[0]), (true, &[1])];
-
-#[test]
-fn truth_is_0_or_1(rt: HostRuntime) {
-    are_spelled(&rt, TRUTHS, &[&[2], &[]]);
-    same(&rt, get_tag::<bool>(&[1, 5]), Some((true, 1)));
-}
-
-#[test]
-fn a_tag_is_put_behind_what_stands(rt: HostRuntime) {
-    let mut out = Vec::new(rt.alloc());
-    put_tag(&true, &mut out).expect(&rt, "no memory");
-    same(&rt, out.as_slice(), [1].as_slice());
-}
 
 const OPTIONS: &[(Option<u8>, &[u8])] = &[(None, &[0]), (Some(5), &[1, 5])];
 
 const PAIRS: &[((Option<u8>, bool), &[u8])] = &[((Some(5), true), &[1, 5, 1])];
 
 #[test]
-fn options_begin_with_0_or_1(rt: HostRuntime) {
+fn truths_and_options_begin_with_0_or_1(rt: HostRuntime) {
+    are_spelled(&rt, TRUTHS, &[&[2], &[]]);
+    same(&rt, get_tag::<bool>(&[1, 5]), Some((true, 1)));
+    let mut out = Vec::new(rt.alloc());
+    put_tag(&true, &mut out).expect(&rt, "no memory");
+    same(&rt, out.as_slice(), [1].as_slice());
     are_spelled(&rt, OPTIONS, &[&[2, 5], &[1], &[]]);
     are_spelled(&rt, PAIRS, &[]);
     are_not_read::<(u8, bool)>(&rt, &[&[7, 2]]);
@@ -67,15 +58,11 @@ const NO_TEXTS: &[&[u8]] = &[
 ];
 
 #[test]
-fn texts_begin_with_their_length(rt: HostRuntime) {
+fn texts_and_lists_begin_with_their_length(rt: HostRuntime) {
     is_spelled(&rt, &text(&rt, ""), &[0, 0, 0, 0]);
     let accented = text(&rt, "h\u{e9}");
     is_spelled(&rt, &accented, &[0, 0, 0, 3, 104, 195, 169]);
     are_not_read::<String>(&rt, NO_TEXTS);
-}
-
-#[test]
-fn lists_begin_with_their_count(rt: HostRuntime) {
     let mut items = Vec::new(rt.alloc());
     is_spelled(&rt, &items, &[0, 0, 0, 0]);
     items.push((3u8, true)).expect(&rt, "no memory");
@@ -83,23 +70,6 @@ fn lists_begin_with_their_count(rt: HostRuntime) {
     is_spelled(&rt, &items, &[0, 0, 0, 2, 3, 1, 2, 0]);
     are_not_read::<Vec<u8>>(&rt, &[&[0, 0, 0, 3, 1, 2]]);
     are_not_read::<Vec<bool>>(&rt, &[&[0, 0, 0, 2, 1, 2]]);
-}
-
-#[test]
-fn a_whole_reading_leaves_nothing_behind(rt: HostRuntime) {
-    let whole = read_whole::<u8>(rt.alloc(), &[7]).expect(&rt, "no memory");
-    let part = read_whole::<u8>(rt.alloc(), &[7, 7]).expect(&rt, "no memory");
-    same(&rt, [whole, part], [Some(7), None]);
-}
-
-/// A map of these texts and numbers.
-fn map_of(rt: &(impl AllocGlobal + Abort), pairs: &[(&str, u8)]) -> BTreeMap<String, u8> {
-    let mut map = BTreeMap::new(rt.alloc());
-    for (key, number) in pairs {
-        let inserted: Result<_, _> = map.insert(text(rt, key), *number);
-        inserted.expect(rt, "no memory");
-    }
-    map
 }
 
 /// The bytes of the keys "", "Z" and "b" with the values 9, 1 and 2.
@@ -120,8 +90,12 @@ const NO_MAPS: &[&[u8]] = &[
 
 #[test]
 fn the_keys_of_a_map_strictly_ascend(rt: HostRuntime) {
-    is_spelled(&rt, &map_of(&rt, &[]), &[0, 0, 0, 0]);
-    let map = map_of(&rt, &[("b", 2), ("Z", 1), ("", 9)]);
+    let mut map = BTreeMap::new(rt.alloc());
+    is_spelled(&rt, &map, &[0, 0, 0, 0]);
+    for (key, number) in [("b", 2u8), ("Z", 1), ("", 9)] {
+        let inserted: Result<_, _> = map.insert(text(&rt, key), number);
+        inserted.expect(&rt, "no memory");
+    }
     is_spelled(&rt, &map, ASCENDING);
     are_not_read::<BTreeMap<String, u8>>(&rt, NO_MAPS);
 }
@@ -157,15 +131,6 @@ const JOB_STATES: &[(JobState, &[u8])] = &[(JobState::Waiting, &[0]), (JobState:
 
 const JOB_MODES: &[(JobMode, &[u8])] = &[(JobMode::Replace, &[0]), (JobMode::Fail, &[1])];
 
-#[test]
-fn what_has_no_parts_is_its_tag(rt: HostRuntime) {
-    are_spelled(&rt, SUB_STATES, &[&[10], &[]]);
-    are_spelled(&rt, RESULTS, &[&[9]]);
-    are_spelled(&rt, JOB_KINDS, &[&[2]]);
-    are_spelled(&rt, JOB_STATES, &[&[2]]);
-    are_spelled(&rt, JOB_MODES, &[&[2]]);
-}
-
 const ENDS: &[(End, &[u8])] = &[
     (End::Code(203), &[0, 203]),
     (End::Signal(9), &[1, 9]),
@@ -173,20 +138,23 @@ const ENDS: &[(End, &[u8])] = &[
 ];
 
 #[test]
-fn an_end_is_a_tag_and_its_byte(rt: HostRuntime) {
+fn what_has_no_parts_is_its_tag_and_an_end_has_its_byte_behind_it(rt: HostRuntime) {
+    are_spelled(&rt, SUB_STATES, &[&[10], &[]]);
+    are_spelled(&rt, RESULTS, &[&[9]]);
+    are_spelled(&rt, JOB_KINDS, &[&[2]]);
+    are_spelled(&rt, JOB_STATES, &[&[2]]);
+    are_spelled(&rt, JOB_MODES, &[&[2]]);
     are_spelled(&rt, ENDS, &[&[3, 0], &[0], &[1], &[]]);
 }
 
-#[test]
-fn moments_stay_within_their_bounds(rt: HostRuntime) {
-    are_read::<Moment>(
-        &rt,
-        &[&[0, 0, 0, 0, 0, 16, 200, 224], &[64, 0, 0, 0, 0, 0, 0, 0]],
-    );
-    are_not_read::<Moment>(&rt, &[&[64, 0, 0, 0, 0, 0, 0, 1]]);
-    are_read::<Deadline>(&rt, &[&[128, 0, 0, 0, 0, 0, 0, 0]]);
-    are_not_read::<Deadline>(&rt, &[&[128, 0, 0, 0, 0, 0, 0, 1]]);
-}
+/// Moments at 1,100,000 and at the bound.
+const MOMENTS: &[&[u8]] = &[&[0, 0, 0, 0, 0, 16, 200, 224], &[64, 0, 0, 0, 0, 0, 0, 0]];
+
+/// The first process number, and the last.
+const PROCESSES: &[&[u8]] = &[
+    &[0, 0, 0, 0, 0, 0, 0, 1],
+    &[127, 255, 255, 255, 255, 255, 255, 255],
+];
 
 /// What is no process number.
 const NO_PROCESS: &[&[u8]] = &[&[0, 0, 0, 0, 0, 0, 0, 0], &[128, 0, 0, 0, 0, 0, 0, 0]];
@@ -199,18 +167,13 @@ const NO_NEXT: &[&[u8]] = &[
 ];
 
 #[test]
-fn numbers_stay_within_their_bounds(rt: HostRuntime) {
-    are_read::<ProcessNumber>(
-        &rt,
-        &[
-            &[0, 0, 0, 0, 0, 0, 0, 1],
-            &[127, 255, 255, 255, 255, 255, 255, 255],
-        ],
-    );
-    are_not_read::<ProcessNumber>(&rt, NO_PROCESS);
+fn moments_and_numbers_stay_within_their_bounds(rt: HostRuntime) {
+    are_read::<Moment>(&rt, MOMENTS, &[&[64, 0, 0, 0, 0, 0, 0, 1]]);
+    let last: &[u8] = &[128, 0, 0, 0, 0, 0, 0, 0];
+    are_read::<Deadline>(&rt, &[last], &[&[128, 0, 0, 0, 0, 0, 0, 1]]);
+    are_read::<ProcessNumber>(&rt, PROCESSES, NO_PROCESS);
     is_spelled(&rt, &NextNumber::FIRST, &[0, 0, 0, 0, 0, 0, 0, 1]);
-    are_read::<NextNumber>(&rt, &[&[128, 0, 0, 0, 0, 0, 0, 0]]);
-    are_not_read::<NextNumber>(&rt, NO_NEXT);
+    are_read::<NextNumber>(&rt, &[last], NO_NEXT);
 }
 
 /// What is no window: one that began past the bound, and one that ends early.
@@ -218,14 +181,6 @@ const NO_WINDOWS: &[&[u8]] = &[
     &[64, 0, 0, 0, 0, 0, 0, 1, 0, 0, 1, 2],
     &[0, 0, 0, 0, 0, 16, 200, 224, 0, 0, 1],
 ];
-
-#[test]
-fn a_window_is_a_moment_and_a_count(rt: HostRuntime) {
-    let began = Moment::new(1_100_000).expect(&rt, "no moment");
-    let window = Counted { began, count: 258 };
-    is_spelled(&rt, &window, &[0, 0, 0, 0, 0, 16, 200, 224, 0, 0, 1, 2]);
-    are_not_read::<Counted>(&rt, NO_WINDOWS);
-}
 
 /// The bytes of a unit of which everything is known: auto-restart, timeout, processes 5 and 6, command 2, a deadline at 7, a
 /// window of 3 starts since 1, a stop asked for, ended by signal 15.
@@ -243,7 +198,11 @@ const NO_UNITS: &[&[u8]] = &[
 ];
 
 #[test]
-fn a_unit_is_its_fields_in_order(rt: HostRuntime) {
+fn a_window_and_a_unit_are_their_fields_in_order(rt: HostRuntime) {
+    let began = Moment::new(1_100_000).expect(&rt, "no moment");
+    let window = Counted { began, count: 258 };
+    is_spelled(&rt, &window, &[0, 0, 0, 0, 0, 16, 200, 224, 0, 0, 1, 2]);
+    are_not_read::<Counted>(&rt, NO_WINDOWS);
     is_spelled(&rt, &UnitState::DEAD, &[0, 0, 0, 0, 0, 0, 0, 0, 0, 0, 0, 0]);
     let began = Moment::new(1).expect(&rt, "no moment");
     let unit = UnitState {

@@ -1,78 +1,102 @@
 //! The start limit of a unit.
-use crate::answers::same;
-use std::test::Fail;
+use crate::answers::same_at;
+use std::process::Abort;
 use um_limit::{Counted, Window};
 use um_model::{Moment, Span};
 
-/// The moment of so many microseconds.
-fn at(micros: u64) -> Result<Moment, Fail> {
-    Ok(Moment::new(micros).ok_or("no moment")?)
-}
-
-/// Starts at these moments, one after another: which of them the window lets through.
-fn passed(
-    window: &mut Window,
-    moments: [u64; 4],
-    interval: Option<Span>,
+/// What a window has counted before and after these starts: since which moment, and how many. Of each start its moment, and whether
+/// the window lets it through.
+struct Row {
+    before: Option<(u64, u32)>,
+    starts: &'static [(u64, bool)],
+    interval: Option<u32>,
     burst: u32,
-) -> Result<[bool; 4], Fail> {
-    let mut passed = [false; 4];
-    for (place, moment) in passed.iter_mut().zip(moments) {
-        *place = window.count(at(moment)?, interval, burst);
+    after: Option<(u64, u32)>,
+}
+
+const ROWS: &[Row] = &[
+    // three starts in ten seconds pass, and the fourth is refused
+    Row {
+        before: None,
+        starts: &[
+            (5_000_000, true),
+            (5_000_000, true),
+            (15_000_000, true),
+            (15_000_000, false),
+        ],
+        interval: Some(10_000_000),
+        burst: 3,
+        after: Some((5_000_000, 3)),
+    },
+    Row {
+        before: Some((5_000_000, 3)),
+        starts: &[(15_000_001, true)],
+        interval: Some(10_000_000),
+        burst: 3,
+        after: Some((15_000_001, 1)),
+    },
+    // without a limit nothing is counted
+    Row {
+        before: None,
+        starts: &[(7, true), (7, true), (7, true), (7, true)],
+        interval: Some(0),
+        burst: 1,
+        after: None,
+    },
+    Row {
+        before: None,
+        starts: &[(7, true), (7, true), (7, true), (7, true)],
+        interval: None,
+        burst: 0,
+        after: None,
+    },
+    // a window without end lets its burst through once
+    Row {
+        before: None,
+        starts: &[
+            (1, true),
+            (4_000_000_000_000_000_000, false),
+            (4_000_000_000_000_000_000, false),
+            (4_000_000_000_000_000_000, false),
+        ],
+        interval: None,
+        burst: 1,
+        after: Some((1, 1)),
+    },
+];
+
+/// The window that has counted this.
+fn window(rt: &impl Abort, counted: Option<(u64, u32)>) -> Window {
+    match counted {
+        Some((began, count)) => {
+            let began = Moment::new(began).expect(rt, "no moment");
+            Window::from_counted(Some(Counted { began, count }))
+        }
+        None => Window::new(),
     }
-    Ok(passed)
 }
 
-#[test]
-fn three_starts_in_ten_seconds_pass_and_the_fourth_is_refused(rt: HostRuntime) -> Result<(), Fail> {
-    let mut window = Window::new();
-    let interval = Some(Span::from_micros(10_000_000));
-    let moments = [5_000_000, 5_000_000, 15_000_000, 15_000_000];
-    same(
-        &rt,
-        passed(&mut window, moments, interval, 3)?,
-        [true, true, true, false],
-    );
-    let full = Counted {
-        began: at(5_000_000)?,
-        count: 3,
+/// Asserts that the window of the row lets its starts through as they tell, and what it has counted then.
+fn counts(rt: &impl Abort, row: &Row) {
+    let label = (row.burst, row.starts);
+    let mut counting = window(rt, row.before);
+    let interval = match row.interval {
+        Some(micros) => Some(Span::from_micros(micros)),
+        None => None,
     };
-    same(&rt, window.copy(), Window::from_counted(Some(full)));
-    same(&rt, window.count(at(15_000_001)?, interval, 3), true);
-    let next = Counted {
-        began: at(15_000_001)?,
-        count: 1,
-    };
-    same(&rt, window.counted(), Some(next));
-    Ok(())
-}
-
-#[test]
-fn without_a_limit_nothing_is_counted(rt: HostRuntime) -> Result<(), Fail> {
-    let mut window = Window::new();
-    for (interval, burst) in [(Some(Span::from_micros(0)), 1), (None, 0)] {
-        assert_eq!(rt;
-            passed(&mut window, [7, 7, 7, 7], interval, burst)?,
-            [true; 4]
-        );
-        same(&rt, window.counted(), None);
+    for (micros, passes) in row.starts {
+        let moment = Moment::new(*micros).expect(rt, "no moment");
+        let passed = counting.count(moment, interval, row.burst);
+        same_at(rt, passed, *passes, label);
     }
-    Ok(())
+    let wanted = window(rt, row.after);
+    same_at(rt, counting.copy(), wanted, label);
+    same_at(rt, counting.counted(), wanted.counted(), label);
 }
 
 #[test]
-fn a_window_without_end_lets_its_burst_through_once(rt: HostRuntime) -> Result<(), Fail> {
-    let mut window = Window::new();
-    let late = 4_000_000_000_000_000_000;
-    same(
-        &rt,
-        passed(&mut window, [1, late, late, late], None, 1)?,
-        [true, false, false, false],
-    );
-    let first = Counted {
-        began: at(1)?,
-        count: 1,
-    };
-    same(&rt, window.counted(), Some(first));
-    Ok(())
+fn a_window_counts_starts_and_refuses_those_behind_its_burst(rt: HostRuntime) {
+    for row in ROWS {
+        counts(&rt, row);
+    }
 }

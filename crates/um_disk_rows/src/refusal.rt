@@ -1,176 +1,60 @@
 //! The numbers and names of refusals, and how they print.
-use crate::answers::{same, same_at};
+use crate::answers::{same, same_at, text};
 use std::alloc::AllocError;
 use std::process::Abort;
 use um_wire::{Limit, Refusal, Texts};
 
-fn text(rt: &(impl AllocGlobal + Abort), text: &str) -> String {
-    String::from_str(rt.alloc(), text).expect(rt, "no memory")
-}
-
-/// Asserts that the refusal tells this number and name, and prints as that text.
-fn prints(
-    rt: &(impl AllocGlobal + Abort),
-    refusal: &Refusal,
-    number: u64,
-    name: &str,
-    printed: &str,
-) {
-    let shown = refusal.to_string(rt.alloc()).expect(rt, "no memory");
-    let told = (refusal.number(), refusal.name(), shown.as_str());
-    same(rt, told, (number, name, printed));
-}
-
 /// A refusal, by its number and its texts: the name and the printed text.
-struct Row {
-    number: u64,
-    texts: [&'static str; 2],
-    name: &'static str,
-    printed: &'static str,
-}
-
-const ROWS: &[Row] = &[
-    Row {
-        number: 2,
-        texts: ["frob", ""],
-        name: "UnknownVerb",
-        printed: "E2 UnknownVerb frob",
-    },
-    Row {
-        number: 3,
-        texts: ["a b", ""],
-        name: "BadName",
-        printed: "E3 BadName a b",
-    },
-    Row {
-        number: 4,
-        texts: ["b.service", ""],
-        name: "NotFound",
-        printed: "E4 NotFound b.service",
-    },
-    Row {
-        number: 5,
-        texts: ["b.service", ""],
-        name: "Masked",
-        printed: "E5 Masked b.service",
-    },
-    Row {
-        number: 6,
-        texts: ["b.service", "exec-count"],
-        name: "BadSetting",
-        printed: "E6 BadSetting b.service exec-count",
-    },
-    Row {
-        number: 7,
-        texts: ["b.service", ""],
-        name: "NotLoaded",
-        printed: "E7 NotLoaded b.service",
-    },
-    Row {
-        number: 8,
-        texts: ["b.service", ""],
-        name: "Clash",
-        printed: "E8 Clash b.service",
-    },
-    Row {
-        number: 9,
-        texts: ["a.service", "b.service"],
-        name: "OrderingCycle",
-        printed: "E9 OrderingCycle a.service b.service",
-    },
-    Row {
-        number: 10,
-        texts: ["b.service", ""],
-        name: "JobConflict",
-        printed: "E10 JobConflict b.service",
-    },
-    Row {
-        number: 11,
-        texts: ["etc/a.service", ""],
-        name: "Exists",
-        printed: "E11 Exists etc/a.service",
-    },
-    Row {
-        number: 12,
-        texts: ["lib/../x", ""],
-        name: "BadPath",
-        printed: "E12 BadPath lib/../x",
-    },
-    Row {
-        number: 21,
-        texts: ["b.service", ""],
-        name: "NoSuchJob",
-        printed: "E21 NoSuchJob b.service",
-    },
+const ROWS: &[(u64, [&str; 2], &str, &str)] = &[
+    (2, ["frob", ""], "UnknownVerb", "E2 UnknownVerb frob"),
+    (3, ["a b", ""], "BadName", "E3 BadName a b"),
+    (4, ["b.service", ""], "NotFound", "E4 NotFound b.service"),
+    (5, ["b.service", ""], "Masked", "E5 Masked b.service"),
+    (
+        6,
+        ["b.service", "exec-count"],
+        "BadSetting",
+        "E6 BadSetting b.service exec-count",
+    ),
+    (7, ["b.service", ""], "NotLoaded", "E7 NotLoaded b.service"),
+    (8, ["b.service", ""], "Clash", "E8 Clash b.service"),
+    (
+        9,
+        ["a.service", "b.service"],
+        "OrderingCycle",
+        "E9 OrderingCycle a.service b.service",
+    ),
+    (
+        10,
+        ["b.service", ""],
+        "JobConflict",
+        "E10 JobConflict b.service",
+    ),
+    (
+        11,
+        ["etc/a.service", ""],
+        "Exists",
+        "E11 Exists etc/a.service",
+    ),
+    (12, ["lib/../x", ""], "BadPath", "E12 BadPath lib/../x"),
+    (
+        21,
+        ["b.service", ""],
+        "NoSuchJob",
+        "E21 NoSuchJob b.service",
+    ),
     // without texts
-    Row {
-        number: 1,
-        texts: ["", ""],
-        name: "BadRequest",
-        printed: "E1 BadRequest",
-    },
-    Row {
-        number: 13,
-        texts: ["", ""],
-        name: "TooLarge",
-        printed: "E13 TooLarge frame",
-    },
-    Row {
-        number: 14,
-        texts: ["", ""],
-        name: "NoRoom",
-        printed: "E14 NoRoom",
-    },
-    Row {
-        number: 15,
-        texts: ["", ""],
-        name: "NoMemory",
-        printed: "E15 NoMemory",
-    },
-    Row {
-        number: 16,
-        texts: ["", ""],
-        name: "Device",
-        printed: "E16 Device",
-    },
-    Row {
-        number: 17,
-        texts: ["", ""],
-        name: "Reopen",
-        printed: "E17 Reopen",
-    },
-    Row {
-        number: 18,
-        texts: ["", ""],
-        name: "Damaged",
-        printed: "E18 Damaged 129",
-    },
-    Row {
-        number: 19,
-        texts: ["", ""],
-        name: "NotFormatted",
-        printed: "E19 NotFormatted",
-    },
-    Row {
-        number: 20,
-        texts: ["", ""],
-        name: "GenerationsSpent",
-        printed: "E20 GenerationsSpent",
-    },
-    Row {
-        number: 22,
-        texts: ["", ""],
-        name: "OtherLayout",
-        printed: "E22 OtherLayout",
-    },
+    (1, ["", ""], "BadRequest", "E1 BadRequest"),
+    (13, ["", ""], "TooLarge", "E13 TooLarge frame"),
+    (14, ["", ""], "NoRoom", "E14 NoRoom"),
+    (15, ["", ""], "NoMemory", "E15 NoMemory"),
+    (16, ["", ""], "Device", "E16 Device"),
+    (17, ["", ""], "Reopen", "E17 Reopen"),
+    (18, ["", ""], "Damaged", "E18 Damaged 129"),
+    (19, ["", ""], "NotFormatted", "E19 NotFormatted"),
+    (20, ["", ""], "GenerationsSpent", "E20 GenerationsSpent"),
+    (22, ["", ""], "OtherLayout", "E22 OtherLayout"),
 ];
-
-/// Both texts as a list.
-fn both(rt: &(impl AllocGlobal + Abort), first: String, second: String) -> Texts {
-    Texts {
-        items: vec![in rt.alloc(); first, second].expect(rt, "no memory"),
-    }
-}
 
 /// The refusal of this number with these texts.
 fn refusal(rt: &(impl AllocGlobal + Abort), number: u64, texts: [&str; 2]) -> Refusal {
@@ -189,7 +73,9 @@ fn refusal(rt: &(impl AllocGlobal + Abort), number: u64, texts: [&str; 2]) -> Re
         7 => Refusal::NotLoaded { unit: first },
         8 => Refusal::Clash { unit: first },
         9 => Refusal::OrderingCycle {
-            units: both(rt, first, second),
+            units: Texts {
+                items: vec![in rt.alloc(); first, second].expect(rt, "no memory"),
+            },
         },
         10 => Refusal::JobConflict { unit: first },
         11 => Refusal::Exists { path: first },
@@ -211,10 +97,13 @@ fn refusal(rt: &(impl AllocGlobal + Abort), number: u64, texts: [&str; 2]) -> Re
 
 #[test]
 fn refusals_print_their_number_name_and_details(rt: HostRuntime) {
-    for row in ROWS {
-        let refusal = refusal(&rt, row.number, row.texts);
-        prints(&rt, &refusal, row.number, row.name, row.printed);
+    for (number, texts, name, printed) in ROWS {
+        let refusal = refusal(&rt, *number, *texts);
+        let shown = refusal.to_string(rt.alloc()).expect(&rt, "no memory");
+        let told = (refusal.number(), refusal.name(), shown.as_str());
+        same(&rt, told, (*number, *name, *printed));
     }
+    same(&rt, Refusal::from(AllocError).number(), 15);
 }
 
 const LIMITS: &[(Limit, &str)] = &[
@@ -230,9 +119,4 @@ fn each_limit_has_its_word(rt: HostRuntime) {
     for (limit, wanted) in LIMITS {
         same_at(&rt, limit.word(), *wanted, wanted);
     }
-}
-
-#[test]
-fn want_of_memory_is_no_memory(rt: HostRuntime) {
-    same(&rt, Refusal::from(AllocError).number(), 15);
 }

@@ -18,23 +18,13 @@ fn put<D: Disk>(rt: &impl Abort, disk: &mut D, writes: &[(usize, u8)]) {
     }
 }
 
-/// Syncs the disk.
-fn sync<D: Disk>(rt: &impl Abort, disk: &mut D) {
-    disk.sync().expect(rt, "not synced");
-}
-
 /// Asserts that the last bytes of the three sectors are these, in this row.
-fn ends_at<D: Disk, R: Debug + Drop>(rt: &impl Abort, disk: &mut D, wanted: [u8; 3], row: R) {
+fn ends<D: Disk, R: Debug + Drop>(rt: &impl Abort, disk: &mut D, wanted: [u8; 3], row: R) {
     let mut ends = [0; 3];
     for (k, end) in ends.iter_mut().enumerate() {
         *end = sector_at(rt, disk, k)[511];
     }
     same_at(rt, ends, wanted, row);
-}
-
-/// Asserts that the last bytes of the three sectors are these.
-fn ends<D: Disk>(rt: &impl Abort, disk: &mut D, wanted: [u8; 3]) {
-    ends_at(rt, disk, wanted, "the end");
 }
 
 /// Asserts that these writes are not synced.
@@ -46,47 +36,30 @@ fn is_unsynced(rt: &(impl AllocGlobal + Abort), disk: &MemDisk, wanted: &[(usize
 #[test]
 fn a_disk_in_memory_gives_what_was_written_last(rt: HostRuntime) {
     let mut disk = empty(&rt);
-    ends(&rt, &mut disk, [0, 0, 0]);
+    ends(&rt, &mut disk, [0, 0, 0], "the begin");
     put(&rt, &mut disk, &[(1, 7), (1, 8)]);
-    ends(&rt, &mut disk, [0, 8, 0]);
+    ends(&rt, &mut disk, [0, 8, 0], "two writes");
     same(&rt, (disk.sectors(), disk.syncs()), (3, 0));
-    sync(&rt, &mut disk);
+    disk.sync().expect(&rt, "not synced");
     same(&rt, disk.syncs(), 1);
     is_unsynced(&rt, &disk, &[]);
-}
-
-#[test]
-fn a_sector_past_the_end_is_a_fault(rt: HostRuntime) {
-    let mut disk = empty(&rt);
+    // a sector past the end is a fault
     let mut sector: Sector = [0; 512];
     fails(&rt, disk.write(3, &[9; 512]));
     fails(&rt, disk.read(3, &mut sector));
-}
-
-#[test]
-fn a_fault_prints_as_a_sentence(rt: HostRuntime) {
     let printed = Fault.to_string(rt.alloc()).expect(&rt, "no memory");
     same(&rt, printed.as_str(), "the disk failed");
-}
-
-/// Three sectors: 1 in the first at the last sync, then 2 in the first, 3 in the last, and 4 in the first.
-fn written(rt: &(impl AllocGlobal + Abort)) -> MemDisk {
-    let mut disk = empty(rt);
-    put(rt, &mut disk, &[(0, 1)]);
-    sync(rt, &mut disk);
-    put(rt, &mut disk, &[(0, 2), (2, 3), (0, 4)]);
-    disk
 }
 
 /// Asserts that a crash that leaves these writes leaves a synced disk of these last bytes.
 fn leaves(rt: &(impl AllocGlobal + Abort), disk: &MemDisk, picks: &[usize], wanted: [u8; 3]) {
     let mut left = disk.crash(rt.alloc(), picks).expect(rt, "no memory");
-    ends_at(rt, &mut left, wanted, picks);
+    ends(rt, &mut left, wanted, picks);
     is_unsynced(rt, &left, &[]);
     same(rt, left.syncs(), 0);
 }
 
-/// The writes that a crash leaves of that disk, and the last bytes of its sectors then.
+/// The writes that a crash leaves of the disk below, and the last bytes of its sectors then.
 const LEFT: &[(&[usize], [u8; 3])] = &[
     // any candidate of each sector
     (&[0, 0], [1, 0, 0]),
@@ -103,52 +76,51 @@ const LEFT: &[(&[usize], [u8; 3])] = &[
 
 #[test]
 fn a_crash_leaves_any_candidate_of_each_sector(rt: HostRuntime) {
-    let disk = written(&rt);
+    let mut disk = empty(&rt);
+    put(&rt, &mut disk, &[(0, 1)]);
+    disk.sync().expect(&rt, "not synced");
+    put(&rt, &mut disk, &[(0, 2), (2, 3), (0, 4)]);
     is_unsynced(&rt, &disk, &[(0, 3), (2, 2)]);
     for (picks, wanted) in LEFT {
         leaves(&rt, &disk, picks, *wanted);
     }
-}
-
-#[test]
-fn a_settled_disk_is_the_disk_as_it_stands(rt: HostRuntime) {
-    let mut disk = written(&rt).settled();
-    ends(&rt, &mut disk, [4, 0, 3]);
+    // a settled disk is the disk as it stands
+    let mut disk = disk.settled();
+    ends(&rt, &mut disk, [4, 0, 3], "settled");
     is_unsynced(&rt, &disk, &[]);
     same(&rt, disk.syncs(), 0);
     leaves(&rt, &disk, &[0, 0], [4, 0, 3]);
 }
 
-/// A disk whose third call failed: 1 stands in its first sector.
-fn failed(rt: &(impl AllocGlobal + Abort)) -> Fuse<MemDisk> {
-    let mut disk = Fuse::new(empty(rt), 3);
-    put(rt, &mut disk, &[(0, 1)]);
-    same(rt, sector_at(rt, &mut disk, 0)[511], 1);
-    fails(rt, disk.write(0, &[2; 512]));
-    disk
-}
-
 #[test]
 fn a_fuse_fails_one_call_and_goes_on(rt: HostRuntime) {
-    let mut disk = failed(&rt);
+    // the third call fails
+    let mut disk = Fuse::new(empty(&rt), 3);
+    put(&rt, &mut disk, &[(0, 1)]);
+    same(&rt, sector_at(&rt, &mut disk, 0)[511], 1);
+    fails(&rt, disk.write(0, &[2; 512]));
     same(&rt, disk.calls(), 3);
-    ends(&rt, &mut disk, [1, 0, 0]);
+    ends(&rt, &mut disk, [1, 0, 0], "behind the failure");
     put(&rt, &mut disk, &[(1, 5)]);
-    sync(&rt, &mut disk);
+    disk.sync().expect(&rt, "not synced");
     same(&rt, disk.calls(), 8);
     let mut inner = disk.into_inner();
     same(&rt, inner.syncs(), 1);
-    ends(&rt, &mut inner, [1, 5, 0]);
+    ends(&rt, &mut inner, [1, 5, 0], "the end");
 }
 
 #[test]
-fn a_synced_run_stands_in_its_place(rt: HostRuntime) {
+fn runs_stand_in_their_places(rt: HostRuntime) {
     let mut disk = empty(&rt);
     let run: [Sector; 2] = [[6; 512], [7; 512]];
     write_run_synced(&mut disk, 1, &run).expect(&rt, "not written");
-    ends(&rt, &mut disk, [0, 6, 7]);
+    ends(&rt, &mut disk, [0, 6, 7], "a synced run");
     is_unsynced(&rt, &disk, &[]);
     fails(&rt, write_run_synced(&mut disk, 2, &run));
+    let mut disk = empty(&rt);
+    put(&rt, &mut disk, &[(0, 7), (1, 8), (2, 9)]);
+    write_blank(&mut disk, 1, 2).expect(&rt, "not written");
+    ends(&rt, &mut disk, [7, 0, 0], "a blank run");
 }
 
 #[test]
@@ -160,12 +132,4 @@ fn fields_lie_one_behind_the_other_and_zeros_behind_them(rt: HostRuntime) {
     let sector = fields.sector();
     let got = (sector[4], u64_at(&sector, 6), u32_at(&sector, 14));
     same(&rt, got, (1, 3, 0));
-}
-
-#[test]
-fn a_blank_run_is_written_in_its_place(rt: HostRuntime) {
-    let mut disk = empty(&rt);
-    put(&rt, &mut disk, &[(0, 7), (1, 8), (2, 9)]);
-    write_blank(&mut disk, 1, 2).expect(&rt, "not written");
-    ends(&rt, &mut disk, [7, 0, 0]);
 }

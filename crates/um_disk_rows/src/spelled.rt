@@ -1,10 +1,11 @@
 //! Values and the bytes that spell them.
 use crate::answers::{same, same_at};
+use std::fmt::Debug;
 use std::process::Abort;
 use um_wire::{Canon, spell};
 
 /// Asserts that the value is spelled by these bytes.
-pub fn has_spelling<T: Canon>(rt: &(impl AllocGlobal + Abort), value: &T, bytes: &[u8]) {
+fn has_spelling<T: Canon>(rt: &(impl AllocGlobal + Abort), value: &T, bytes: &[u8]) {
     let spelled = spell(rt.alloc(), value).expect(rt, "no memory");
     same(rt, spelled.as_slice(), bytes);
 }
@@ -27,10 +28,27 @@ pub fn is_read<T: Canon + Drop>(rt: &(impl AllocGlobal + Abort), bytes: &[u8]) {
     has_spelling(rt, &read, bytes);
 }
 
+/// Asserts that no front of the bytes spells a value, in this row.
+pub fn is_not_read<T: Canon + Drop, R: Debug + Drop>(
+    rt: &(impl AllocGlobal + Abort),
+    bytes: &[u8],
+    row: R,
+) {
+    let read = T::get(rt.alloc(), bytes).expect(rt, "no memory");
+    same_at(rt, read.is_none(), true, row);
+}
+
 /// Asserts that the value is spelled by these bytes, and is read from them with others behind them.
 pub fn is_spelled<T: Canon + Drop>(rt: &(impl AllocGlobal + Abort), value: &T, bytes: &[u8]) {
     has_spelling(rt, value, bytes);
     is_read::<T>(rt, bytes);
+}
+
+/// Asserts that no front of any of these spells a value.
+pub fn are_not_read<T: Canon + Drop>(rt: &(impl AllocGlobal + Abort), all: &[&[u8]]) {
+    for bytes in all {
+        is_not_read::<T, _>(rt, bytes, bytes);
+    }
 }
 
 /// Asserts that each value is spelled by the bytes beside it, and that none of the others has a front that spells a value.
@@ -45,19 +63,13 @@ pub fn are_spelled<T: Canon + Drop>(
     are_not_read::<T>(rt, others);
 }
 
-/// Asserts that these are read as values, each with others behind it, and are spelled so.
-pub fn are_read<T: Canon + Drop>(rt: &(impl AllocGlobal + Abort), all: &[&[u8]]) {
+/// Asserts that these are read as values, each with others behind it, and are spelled so, and that none of the others has a front
+/// that spells a value.
+pub fn are_read<T: Canon + Drop>(rt: &(impl AllocGlobal + Abort), all: &[&[u8]], others: &[&[u8]]) {
     for bytes in all {
         is_read::<T>(rt, bytes);
     }
-}
-
-/// Asserts that no front of any of these spells a value.
-pub fn are_not_read<T: Canon + Drop>(rt: &(impl AllocGlobal + Abort), all: &[&[u8]]) {
-    for bytes in all {
-        let read = T::get(rt.alloc(), bytes).expect(rt, "no memory");
-        assert!(rt; read.is_none(), "{bytes:?} are read");
-    }
+    are_not_read::<T>(rt, others);
 }
 
 /// The number of a hexadecimal digit; None for any other byte.
@@ -69,10 +81,11 @@ fn digit(byte: u8) -> Option<u8> {
     }
 }
 
-/// Puts the bytes of which the line has the hexadecimal digits, two a byte.
-fn put_line(rt: &impl Abort, bytes: &mut Vec<u8>, line: &str) {
+/// The bytes of which the text has the hexadecimal digits, two a byte.
+pub fn hex(rt: &(impl AllocGlobal + Abort), text: &str) -> Vec<u8> {
+    let mut bytes = Vec::new(rt.alloc());
     let mut high = None;
-    for byte in line.as_bytes() {
+    for byte in text.as_bytes() {
         match (digit(*byte), high) {
             (Some(low), Some(first)) => {
                 bytes.push((first << 4) | low).expect(rt, "no memory");
@@ -82,27 +95,5 @@ fn put_line(rt: &impl Abort, bytes: &mut Vec<u8>, line: &str) {
             (None, _) => {}
         }
     }
-}
-
-/// The bytes of which the lines have the hexadecimal digits, two a byte.
-pub fn hex(rt: &(impl AllocGlobal + Abort), lines: &[&str]) -> Vec<u8> {
-    let mut bytes = Vec::new(rt.alloc());
-    for line in lines {
-        put_line(rt, &mut bytes, line);
-    }
     bytes
-}
-
-/// The bytes with another one at this place.
-pub fn with_byte(rt: &(impl AllocGlobal + Abort), lines: &[&str], at: usize, byte: u8) -> Vec<u8> {
-    let mut bytes = hex(rt, lines);
-    assert!(rt; at < bytes.len(), "there is no such byte");
-    bytes[at] = byte;
-    bytes
-}
-
-/// Asserts that no front of the bytes spells a value, in this row.
-pub fn is_not_read_at<T: Canon + Drop>(rt: &(impl AllocGlobal + Abort), bytes: &[u8], row: &str) {
-    let read = T::get(rt.alloc(), bytes).expect(rt, "no memory");
-    same_at(rt, read.is_none(), true, row);
 }

@@ -1,6 +1,6 @@
 //! The canonical bytes of the state: typed from the format, and each condition broken by one byte.
-use crate::answers::{same, same_at};
-use crate::spelled::{are_not_read, followed, hex, is_read, is_spelled, with_byte};
+use crate::answers::{same, same_at, text, unit};
+use crate::spelled::{are_not_read, are_read, followed, hex, is_spelled};
 use std::process::Abort;
 use um_model::{
     Counted, Deadline, End, JobState, Moment, NextNumber, ProcessNumber, SubState, UnitJobs,
@@ -12,52 +12,61 @@ use um_tree::Tree;
 use um_wire::Canon;
 
 /// The bytes of the empty state: the version, two empty trees, no boot, the clock, the next number, no unit, no job.
-const EMPTY: &[&str] = &[
-    "01",
-    "00000000 00000000",
-    "00000000",
-    "0000000000000000",
-    "0000000000000001",
-    "00000000",
-    "00000000",
-];
+const EMPTY: &str = "
+    01
+    00000000 00000000
+    00000000
+    0000000000000000
+    0000000000000001
+    00000000
+    00000000";
 
 /// The version, the tree with a file and a link, the loaded tree without either, the boot, the clock and the next number; then ten
 /// units, each its name and its fields; then the jobs.
-const STATE: &[&str] = &[
-    "01",
-    "00000002",
-    "0000000d6574632f612e73657276696365 00 000000075b556e69745d0a",
-    "0000000d6574632f622e73657276696365 01 00000009632e73657276696365",
-    "00000000",
-    "000000026231",
-    "000000000010c8e0",
-    "0000000000000008",
-    "0000000a",
-    "00000009302e73657276696365",
-    "00 01 00 00 00000000 00 00 00 010003",
-    "00000009312e73657276696365",
-    "01 00 010000000000000005 010000000000000006 00000002 010000000000124f80 0100000000000f424000000003 00 00",
-    "00000009322e73657276696365",
-    "02 00 010000000000000007 00 00000000 00 00 00 00",
-    "00000009332e73657276696365",
-    "03 00 00 00 00000000 00 00 00 010000",
-    "00000009342e73657276696365",
-    "04 00 00 010000000000000004 00000000 010000000000124f80 00 01 00",
-    "00000009352e73657276696365",
-    "05 03 010000000000000003 00 00000000 00 00 01 00",
-    "00000009362e73657276696365",
-    "06 03 010000000000000002 00 00000000 00 00 00 00",
-    "00000009372e73657276696365",
-    "07 04 00 00 00000000 00 00 00 0102",
-    "00000009382e73657276696365",
-    "08 02 00 00 00000000 01000000000010c944 00 00 010109",
-    "00000008392e746172676574",
-    "09 00 00 00 00000000 00 00 00 00",
-    "00000002",
-    "00000009312e73657276696365 00 00",
-    "00000009312e73657276696365 01 00",
-];
+const STATE: &str = "
+    01
+    00000002
+    0000000d6574632f612e73657276696365 00 000000075b556e69745d0a
+    0000000d6574632f622e73657276696365 01 00000009632e73657276696365
+    00000000
+    000000026231
+    000000000010c8e0
+    0000000000000008
+    0000000a
+    00000009302e73657276696365
+    00 01 00 00 00000000 00 00 00 010003
+    00000009312e73657276696365
+    01 00 010000000000000005 010000000000000006 00000002 010000000000124f80 0100000000000f424000000003 00 00
+    00000009322e73657276696365
+    02 00 010000000000000007 00 00000000 00 00 00 00
+    00000009332e73657276696365
+    03 00 00 00 00000000 00 00 00 010000
+    00000009342e73657276696365
+    04 00 00 010000000000000004 00000000 010000000000124f80 00 01 00
+    00000009352e73657276696365
+    05 03 010000000000000003 00 00000000 00 00 01 00
+    00000009362e73657276696365
+    06 03 010000000000000002 00 00000000 00 00 00 00
+    00000009372e73657276696365
+    07 04 00 00 00000000 00 00 00 0102
+    00000009382e73657276696365
+    08 02 00 00 00000000 01000000000010c944 00 00 010109
+    00000008392e746172676574
+    09 00 00 00 00000000 00 00 00 00
+    00000002
+    00000009312e73657276696365 00 00
+    00000009312e73657276696365 01 00";
+
+/// A state with one unit, whose dead unit had the result in its 48th byte.
+const DEAD: &str = "
+    01
+    00000000 00000000
+    00000000
+    0000000000000000
+    0000000000000001
+    00000001
+    00000009612e73657276696365 00 01 00 00 00000000 00 00 00 00
+    00000000";
 
 /// What no state has: a byte of the state above, and what stands in its place.
 const BROKEN: &[(&str, usize, u8)] = &[
@@ -94,137 +103,175 @@ const BROKEN: &[(&str, usize, u8)] = &[
     ("one job more than there are", 438, 3),
 ];
 
-/// A state with one unit, whose dead unit had the result in its 48th byte.
-const DEAD: &[&str] = &[
-    "01",
-    "00000000 00000000",
-    "00000000",
-    "0000000000000000",
-    "0000000000000001",
-    "00000001",
-    "00000009612e73657276696365 00 01 00 00 00000000 00 00 00 00",
-    "00000000",
+/// How a unit stands: its processes by number, where 0 is none, and its moments in microseconds.
+struct Standing {
+    sub: SubState,
+    outcome: UnitResult,
+    main: u64,
+    control: u64,
+    index: u32,
+    deadline: Option<u64>,
+    window: Option<(u64, u32)>,
+    stop_asked: bool,
+    last: Option<End>,
+}
+
+/// A unit of which nothing is known.
+const DEAD_UNIT: Standing = Standing {
+    sub: SubState::Dead,
+    outcome: UnitResult::Success,
+    main: 0,
+    control: 0,
+    index: 0,
+    deadline: None,
+    window: None,
+    stop_asked: false,
+    last: None,
+};
+
+/// The units of the state above.
+const UNITS: &[(&str, Standing)] = &[
+    (
+        "0.service",
+        Standing {
+            outcome: UnitResult::ExitCode,
+            last: Some(End::Code(3)),
+            ..DEAD_UNIT
+        },
+    ),
+    // it starts, with both processes, a deadline and a window
+    (
+        "1.service",
+        Standing {
+            sub: SubState::Start,
+            main: 5,
+            control: 6,
+            index: 2,
+            deadline: Some(1_200_000),
+            window: Some((1_000_000, 3)),
+            ..DEAD_UNIT
+        },
+    ),
+    (
+        "2.service",
+        Standing {
+            sub: SubState::Running,
+            main: 7,
+            ..DEAD_UNIT
+        },
+    ),
+    (
+        "3.service",
+        Standing {
+            sub: SubState::Exited,
+            last: Some(End::Code(0)),
+            ..DEAD_UNIT
+        },
+    ),
+    // it is stopped by its own command
+    (
+        "4.service",
+        Standing {
+            sub: SubState::Stop,
+            control: 4,
+            deadline: Some(1_200_000),
+            stop_asked: true,
+            ..DEAD_UNIT
+        },
+    ),
+    // it was told to end
+    (
+        "5.service",
+        Standing {
+            sub: SubState::StopSigterm,
+            outcome: UnitResult::Timeout,
+            main: 3,
+            stop_asked: true,
+            ..DEAD_UNIT
+        },
+    ),
+    (
+        "6.service",
+        Standing {
+            sub: SubState::StopSigkill,
+            outcome: UnitResult::Timeout,
+            main: 2,
+            ..DEAD_UNIT
+        },
+    ),
+    (
+        "7.service",
+        Standing {
+            sub: SubState::Failed,
+            outcome: UnitResult::Lost,
+            last: Some(End::Lost),
+            ..DEAD_UNIT
+        },
+    ),
+    // it waits to restart
+    (
+        "8.service",
+        Standing {
+            sub: SubState::AutoRestart,
+            outcome: UnitResult::Signal,
+            deadline: Some(1_100_100),
+            last: Some(End::Signal(9)),
+            ..DEAD_UNIT
+        },
+    ),
+    (
+        "9.target",
+        Standing {
+            sub: SubState::Active,
+            ..DEAD_UNIT
+        },
+    ),
 ];
 
-/// The unit of this name.
-fn unit(rt: &(impl AllocGlobal + Abort), text: &str) -> UnitName {
-    UnitName::parse(rt.alloc(), text).expect(rt, "no unit")
+/// The unit that stands so.
+fn unit_state(rt: &impl Abort, of: &Standing) -> UnitState {
+    let deadline = match of.deadline {
+        Some(micros) => Deadline::new(micros),
+        None => None,
+    };
+    let window = match of.window {
+        Some((micros, count)) => {
+            let began = Moment::new(micros).expect(rt, "no moment");
+            Some(Counted { began, count })
+        }
+        None => None,
+    };
+    UnitState {
+        sub: of.sub,
+        result: of.outcome,
+        main: ProcessNumber::new(of.main),
+        control: ProcessNumber::new(of.control),
+        index: of.index,
+        deadline,
+        window,
+        stop_asked: of.stop_asked,
+        last: of.last,
+    }
 }
 
 /// Has the unit stand so.
-fn set(rt: &(impl AllocGlobal + Abort), state: &mut State, text: &str, of: UnitState) {
-    state.set_unit(&unit(rt, text), of).expect(rt, "no memory");
-}
-
-/// A unit in this sub state with this result.
-fn rests(sub: SubState, outcome: UnitResult, last: Option<End>) -> UnitState {
-    UnitState {
-        sub,
-        result: outcome,
-        last,
-        ..UnitState::DEAD
-    }
-}
-
-/// A unit in this sub state with this result, whose main process has the number.
-fn lives(sub: SubState, outcome: UnitResult, number: u64) -> UnitState {
-    UnitState {
-        sub,
-        result: outcome,
-        main: ProcessNumber::new(number),
-        ..UnitState::DEAD
-    }
-}
-
-/// A unit that starts, with both processes, a deadline and a window.
-fn starts(rt: &impl Abort) -> UnitState {
-    let began = Moment::new(1_000_000).expect(rt, "no moment");
-    UnitState {
-        control: ProcessNumber::new(6),
-        index: 2,
-        deadline: Deadline::new(1_200_000),
-        window: Some(Counted { began, count: 3 }),
-        ..lives(SubState::Start, UnitResult::Success, 5)
-    }
-}
-
-/// A unit that is stopped by its own command.
-fn stops() -> UnitState {
-    UnitState {
-        sub: SubState::Stop,
-        control: ProcessNumber::new(4),
-        deadline: Deadline::new(1_200_000),
-        stop_asked: true,
-        ..UnitState::DEAD
-    }
-}
-
-/// A unit that was told to end.
-fn terminated() -> UnitState {
-    UnitState {
-        stop_asked: true,
-        ..lives(SubState::StopSigterm, UnitResult::Timeout, 3)
-    }
-}
-
-/// A unit that waits to restart.
-fn restarts() -> UnitState {
-    let killed = Some(End::Signal(9));
-    UnitState {
-        deadline: Deadline::new(1_100_100),
-        ..rests(SubState::AutoRestart, UnitResult::Signal, killed)
-    }
-}
-
-/// How the unit of this number stands.
-fn standing(rt: &impl Abort, number: u8) -> UnitState {
-    match number {
-        0 => rests(SubState::Dead, UnitResult::ExitCode, Some(End::Code(3))),
-        1 => starts(rt),
-        2 => lives(SubState::Running, UnitResult::Success, 7),
-        3 => rests(SubState::Exited, UnitResult::Success, Some(End::Code(0))),
-        4 => stops(),
-        5 => terminated(),
-        6 => lives(SubState::StopSigkill, UnitResult::Timeout, 2),
-        7 => rests(SubState::Failed, UnitResult::Lost, Some(End::Lost)),
-        8 => restarts(),
-        _ => rests(SubState::Active, UnitResult::Success, None),
-    }
-}
-
-/// The units, by their numbers.
-const UNITS: &[(&str, u8)] = &[
-    ("0.service", 0),
-    ("1.service", 1),
-    ("2.service", 2),
-    ("3.service", 3),
-    ("4.service", 4),
-    ("5.service", 5),
-    ("6.service", 6),
-    ("7.service", 7),
-    ("8.service", 8),
-    ("9.target", 9),
-];
-
-/// A state without trees and units: the boot, the clock and the next number.
-fn begun(rt: &(impl AllocGlobal + Abort)) -> State {
-    let mut state = State::empty(rt.alloc());
-    let id = String::from_str(rt.alloc(), "b1").expect(rt, "no memory");
-    state.begin_boot(rt.alloc(), BootId::new(id).expect(rt, "no boot"));
-    state.set_clock(Moment::new(1_100_000).expect(rt, "no moment"));
-    state.set_next(NextNumber::new(8).expect(rt, "no number"));
-    state
+fn set(rt: &(impl AllocGlobal + Abort), state: &mut State, name: &str, of: UnitState) {
+    state.set_unit(&unit(rt, name), of).expect(rt, "no memory");
 }
 
 /// The state of which the bytes are above.
 fn full(rt: &(impl AllocGlobal + Abort)) -> State {
-    let mut state = begun(rt);
+    let mut state = State::empty(rt.alloc());
+    let boot = BootId::new(text(rt, "b1")).expect(rt, "no boot");
+    state.begin_boot(rt.alloc(), boot);
+    state.set_clock(Moment::new(1_100_000).expect(rt, "no moment"));
+    state.set_next(NextNumber::new(8).expect(rt, "no number"));
     let file: Result<_, _> = state.put_file("etc/a.service", "[Unit]\n");
     file.expect(rt, "no file");
     let link: Result<_, _> = state.put_link("etc/b.service", "c.service");
     link.expect(rt, "no link");
-    for (name, number) in UNITS {
-        set(rt, &mut state, name, standing(rt, *number));
+    for (name, of) in UNITS {
+        set(rt, &mut state, name, unit_state(rt, of));
     }
     let both = UnitJobs {
         stop: Some(JobState::Waiting),
@@ -258,35 +305,33 @@ fn state_is_not_read(rt: &(impl AllocGlobal + Abort), bytes: &[u8], row: &str) {
 }
 
 #[test]
-fn the_empty_state_has_37_bytes(rt: HostRuntime) {
+fn a_state_is_its_fields_in_order(rt: HostRuntime) {
     let bytes = hex(&rt, EMPTY);
     assert!(&rt; bytes.len() == 37, "the empty state has other bytes");
     let empty = State::empty(rt.alloc());
     same(&rt, spelled(&rt, &empty).as_slice(), bytes.as_slice());
     state_is_read(&rt, bytes.as_slice());
     state_is_not_read(&rt, &bytes.as_slice()[1..], "no version");
-}
-
-#[test]
-fn a_state_is_its_fields_in_order(rt: HostRuntime) {
     let bytes = hex(&rt, STATE);
     same(&rt, spelled(&rt, &full(&rt)).as_slice(), bytes.as_slice());
     state_is_read(&rt, bytes.as_slice());
+    state_is_read(&rt, hex(&rt, DEAD).as_slice());
+}
+
+/// Asserts that no front of these bytes spells a state, with another one at this place, in this row.
+fn is_broken(rt: &(impl AllocGlobal + Abort), text: &str, at: usize, byte: u8, row: &str) {
+    let mut bytes = hex(rt, text);
+    assert!(rt; at < bytes.len(), "there is no such byte");
+    bytes[at] = byte;
+    state_is_not_read(rt, bytes.as_slice(), row);
 }
 
 #[test]
 fn no_byte_may_break_a_condition(rt: HostRuntime) {
     for (row, at, byte) in BROKEN {
-        let bytes = with_byte(&rt, STATE, *at, *byte);
-        state_is_not_read(&rt, bytes.as_slice(), row);
+        is_broken(&rt, STATE, *at, *byte, row);
     }
-}
-
-#[test]
-fn a_dead_unit_of_which_nothing_is_known_stands_in_no_state(rt: HostRuntime) {
-    state_is_read(&rt, hex(&rt, DEAD).as_slice());
-    let broken = with_byte(&rt, DEAD, 47, 0);
-    state_is_not_read(&rt, broken.as_slice(), "a dead unit");
+    is_broken(&rt, DEAD, 47, 0, "a dead unit of which nothing is known");
 }
 
 /// What `9.target` would be, and why no run reaches the state then.
@@ -296,7 +341,11 @@ const UNREACHED: &[(u64, &str)] = &[(7, "a number twice"), (8, "the next number"
 fn a_state_that_no_run_reaches_is_not_read_again(rt: HostRuntime) {
     for (number, why) in UNREACHED {
         let mut state = full(&rt);
-        let again = lives(SubState::Running, UnitResult::Success, *number);
+        let again = UnitState {
+            sub: SubState::Running,
+            main: ProcessNumber::new(*number),
+            ..UnitState::DEAD
+        };
         set(&rt, &mut state, "9.target", again);
         state_is_not_read(&rt, spelled(&rt, &state).as_slice(), why);
     }
@@ -306,23 +355,19 @@ fn a_state_that_no_run_reaches_is_not_read_again(rt: HostRuntime) {
     state_is_not_read(&rt, bytes.as_slice(), "a window after the clock");
 }
 
-/// The bytes of a tree with one file of so many bytes.
-fn tree_with_text(rt: &(impl AllocGlobal + Abort), length: &str, count: usize) -> Vec<u8> {
-    let mut bytes = hex(
-        rt,
-        &["00000001 0000000d6574632f612e73657276696365 00", length],
-    );
+/// The bytes with so many others behind them, each of which is this one.
+fn padded(rt: &(impl AllocGlobal + Abort), front: &str, count: usize, byte: u8) -> Vec<u8> {
+    let mut bytes = hex(rt, front);
     for _ in 0..count {
-        bytes.push(35).expect(rt, "no memory");
+        bytes.push(byte).expect(rt, "no memory");
     }
     bytes
 }
 
-#[test]
-fn a_text_of_65536_bytes_is_the_longest_of_a_tree(rt: HostRuntime) {
-    is_read::<Tree>(&rt, tree_with_text(&rt, "00010000", 65_536).as_slice());
-    are_not_read::<Tree>(&rt, &[tree_with_text(&rt, "00010001", 65_537).as_slice()]);
-}
+/// A tree with one file of 65,536 bytes, and with one of 65,537, in front of the file's bytes.
+const LONG_TEXT: &str = "00000001 0000000d6574632f612e73657276696365 00 00010000";
+
+const TOO_LONG_TEXT: &str = "00000001 0000000d6574632f612e73657276696365 00 00010001";
 
 /// The bytes of a tree with so many files, none of which holds anything.
 fn tree_of_files(rt: &(impl AllocGlobal + Abort), count: u32) -> Vec<u8> {
@@ -339,35 +384,23 @@ fn tree_of_files(rt: &(impl AllocGlobal + Abort), count: u32) -> Vec<u8> {
 }
 
 #[test]
-fn a_tree_has_4096_entries_at_most(rt: HostRuntime) {
-    is_read::<Tree>(&rt, tree_of_files(&rt, 4096).as_slice());
-    are_not_read::<Tree>(&rt, &[tree_of_files(&rt, 4097).as_slice()]);
-}
-
-/// The bytes of a boot's id of so many bytes.
-fn boot_of(rt: &(impl AllocGlobal + Abort), count: u8) -> Vec<u8> {
-    let mut bytes = hex(rt, &["000000"]);
-    bytes.push(count).expect(rt, "no memory");
-    for _ in 0..count {
-        bytes.push(97).expect(rt, "no memory");
-    }
-    bytes
+fn a_tree_has_texts_of_65536_bytes_and_4096_entries_at_most(rt: HostRuntime) {
+    let text = padded(&rt, LONG_TEXT, 65_536, 35);
+    let long = padded(&rt, TOO_LONG_TEXT, 65_537, 35);
+    are_read::<Tree>(&rt, &[text.as_slice()], &[long.as_slice()]);
+    let files = tree_of_files(&rt, 4096);
+    let many = tree_of_files(&rt, 4097);
+    are_read::<Tree>(&rt, &[files.as_slice()], &[many.as_slice()]);
 }
 
 #[test]
-fn the_id_of_a_boot_has_64_bytes_at_most(rt: HostRuntime) {
-    is_read::<BootId>(&rt, boot_of(&rt, 64).as_slice());
-    are_not_read::<BootId>(&rt, &[boot_of(&rt, 65).as_slice()]);
-}
-
-#[test]
-fn a_unit_name_is_a_text_that_names_a_unit(rt: HostRuntime) {
-    is_spelled(
-        &rt,
-        &unit(&rt, "a.path"),
-        hex(&rt, &["00000006612e70617468"]).as_slice(),
-    );
-    let dash = hex(&rt, &["00000006612d70617468"]);
-    let short = hex(&rt, &["00000007612e70617468"]);
+fn the_id_of_a_boot_has_64_bytes_at_most_and_a_name_names_a_unit(rt: HostRuntime) {
+    let id = padded(&rt, "00000040", 64, 97);
+    let long = padded(&rt, "00000041", 65, 97);
+    are_read::<BootId>(&rt, &[id.as_slice()], &[long.as_slice()]);
+    let name = hex(&rt, "00000006612e70617468");
+    is_spelled(&rt, &unit(&rt, "a.path"), name.as_slice());
+    let dash = hex(&rt, "00000006612d70617468");
+    let short = hex(&rt, "00000007612e70617468");
     are_not_read::<UnitName>(&rt, &[dash.as_slice(), short.as_slice(), &[]]);
 }

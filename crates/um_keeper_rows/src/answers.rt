@@ -2,39 +2,28 @@
 use std::fmt::Debug;
 use std::process::Abort;
 use um_keeper::{Keeper, create};
-use um_model::{Layout, Moment};
+use um_model::Layout;
 use um_sector::{Disk, Fuse, MemDisk, Sector};
-use um_state::State;
-use um_wire::{Canon, Refusal};
+use um_wire::Refusal;
 
 /// Asserts that the value is the wanted one.
 pub fn same<T: PartialEq + Debug + Drop>(rt: &impl Abort, got: T, wanted: T) {
     assert_eq!(rt; got, wanted);
 }
 
-/// Asserts that the answer is the wanted one: a refusal that prints as this text, or no refusal.
+/// Asserts that the answer is a refusal that prints as this text.
 pub fn is_refused<T: Drop>(
     rt: &(impl AllocGlobal + Abort),
     answer: Result<T, Refusal>,
-    wanted: Option<&str>,
+    wanted: &str,
 ) {
     match answer {
-        Ok(_) => same(rt, None, wanted),
+        Ok(_) => same(rt, None, Some(wanted)),
         Err(refusal) => {
             let printed = refusal.to_string(rt.alloc()).expect(rt, "no memory");
-            same(rt, Some(printed.as_str()), wanted);
+            same(rt, Some(printed.as_str()), Some(wanted));
         }
     }
-}
-
-/// The moment of so many microseconds.
-pub fn at(rt: &impl Abort, micros: u64) -> Moment {
-    Moment::new(micros).expect(rt, "no moment")
-}
-
-/// A text of its own.
-pub fn text(rt: &(impl AllocGlobal + Abort), text: &str) -> String {
-    String::from_str(rt.alloc(), text).expect(rt, "no memory")
 }
 
 /// What a sector holds.
@@ -45,19 +34,20 @@ pub fn sector_at<D: Disk>(rt: &impl Abort, disk: &mut D, k: usize) -> Sector {
 }
 
 /// Asserts that a sector has these bytes in front and zeros behind them.
-pub fn has_layout(rt: &impl Abort, sector: &Sector, bytes: &[u8]) {
+pub fn has_layout<D: Disk>(rt: &impl Abort, disk: &mut D, k: usize, bytes: &[u8]) {
     let mut wanted: Sector = [0; 512];
     for (place, byte) in wanted.iter_mut().zip(bytes) {
         *place = *byte;
     }
-    same(rt, *sector, wanted);
+    same(rt, sector_at(rt, disk, k), wanted);
 }
 
-/// The bytes of a state.
-pub fn bytes_of(rt: &(impl AllocGlobal + Abort), state: &State) -> Vec<u8> {
-    let mut bytes = Vec::new(rt.alloc());
-    state.put(&mut bytes).expect(rt, "no memory");
-    bytes
+/// A disk of 641 sectors with a new store: slots of 64 sectors, a log of 512.
+pub fn made(rt: &(impl AllocGlobal + Abort)) -> MemDisk {
+    let mut disk = MemDisk::new(rt.alloc(), 641).expect(rt, "no memory");
+    let layout = Layout::new(64, 512).expect(rt, "no layout");
+    create(rt.alloc(), &mut disk, layout).expect(rt, "not created");
+    disk
 }
 
 /// The keeper that is opened over a disk.
@@ -68,11 +58,22 @@ pub fn over<D: Disk>(rt: &(impl AllocGlobal + Abort), disk: D) -> Keeper<D> {
     }
 }
 
-/// The keeper of a new store, over a disk whose call of that number fails, counted from its first one.
-pub fn opened(rt: &(impl AllocGlobal + Abort), fails: u64) -> Keeper<Fuse<MemDisk>> {
-    let disk = MemDisk::new(rt.alloc(), 641).expect(rt, "no memory");
-    let mut disk = Fuse::new(disk, fails);
-    let layout = Layout::new(64, 512).expect(rt, "no layout");
-    create(rt.alloc(), &mut disk, layout).expect(rt, "not created");
-    over(rt, disk)
+/// The number of disk calls of an open of the store that the disk holds.
+pub fn calls_of_open(rt: &(impl AllocGlobal + Abort), disk: MemDisk) -> u64 {
+    over(rt, Fuse::new(disk, 0)).into_disk().calls()
+}
+
+/// The keeper of a new store, over a disk whose call of that number behind the open fails; with 0 none.
+pub fn opened(rt: &(impl AllocGlobal + Abort), call: u64) -> Keeper<Fuse<MemDisk>> {
+    let fails = match call {
+        0 => Some(0),
+        _ => calls_of_open(rt, made(rt)).checked_add(call),
+    };
+    over(rt, Fuse::new(made(rt), fails.expect(rt, "too many")))
+}
+
+/// The number of calls of a new store's disk since it was opened.
+pub fn calls_since(rt: &(impl AllocGlobal + Abort), disk: &Fuse<MemDisk>) -> u64 {
+    let before = calls_of_open(rt, made(rt));
+    disk.calls().checked_sub(before).expect(rt, "fewer calls")
 }

@@ -1,116 +1,85 @@
 //! Lists of inputs that a keeper takes one behind the other.
-use crate::answers::{at, is_refused, opened, over, same, text};
-use crate::inputs::{put, put_at, start, starts, take, tick};
+use crate::answers::{calls_since, is_refused, opened, over, same};
+use crate::inputs::{A, B, input, put, starts};
 use std::process::Abort;
-use um_keeper::{Keeper, Receipt};
-use um_sector::{Disk, Fuse, MemDisk};
-use um_state::Input;
+use um_keeper::Receipt;
+use um_state::{Event, Happening, Input};
 use um_wire::Refusal;
 
-/// A list of two inputs.
-fn two(rt: &(impl AllocGlobal + Abort), first: Input, second: Input) -> Vec<Input> {
+/// What comes in: an empty file at the path, or a tick at the moment.
+enum Coming {
+    Put(&'static str),
+    Tick(u64),
+}
+
+/// These inputs.
+fn inputs(rt: &(impl AllocGlobal + Abort), list: &[Coming]) -> Vec<Input> {
     let mut inputs = Vec::new(rt.alloc());
-    inputs.push(first).expect(rt, "no memory");
-    inputs.push(second).expect(rt, "no memory");
+    for coming in list {
+        let made = match coming {
+            Coming::Put(path) => put(rt, path, ""),
+            Coming::Tick(micros) => input(rt, *micros, Event::Happened(Happening::Tick)),
+        };
+        inputs.push(made).expect(rt, "no memory");
+    }
     inputs
 }
 
-/// Spends the answers of a list that wasn't refused, and tells which of the inputs were accepted.
+/// Spends the answers of a list, and tells which of the inputs were accepted.
 fn accepted(
     rt: &(impl AllocGlobal + Abort),
     answers: Result<Vec<Result<Receipt, Refusal>>, Refusal>,
-) -> Vec<bool> {
-    let mut rest = answers.expect(rt, "refused").into_iter();
+) -> Result<Vec<bool>, Refusal> {
+    let mut rest = answers?.into_iter();
     let mut accepted = Vec::new(rt.alloc());
     while let Some(answer) = rest.next() {
         let taken = answer.map(starts).is_ok();
         accepted.push(taken).expect(rt, "no memory");
     }
     rest.destroy_empty();
-    accepted
+    Ok(accepted)
 }
 
-/// The number of disk calls since a keeper of a new store was made.
-fn calls_since<D: Disk + Drop>(rt: &(impl AllocGlobal + Abort), keeper: Keeper<Fuse<D>>) -> u64 {
-    let before = opened(rt, 0).into_disk().calls();
-    let calls = keeper.into_disk().calls();
-    calls.checked_sub(before).expect(rt, "fewer calls")
-}
+/// Lists, which of their inputs are accepted, how many files there are then, and how many disk calls it took: a record of one sector
+/// and a sync for each accepted input with an effect.
+const LISTS: &[(&[Coming], &[bool], usize, u64)] = &[
+    (&[Coming::Put(A), Coming::Put(B)], &[true, true], 2, 4),
+    // a refused input touches no other
+    (
+        &[Coming::Put(A), Coming::Put("a.service"), Coming::Put(B)],
+        &[true, false, true],
+        2,
+        4,
+    ),
+    // a list without effect makes no disk call
+    (&[], &[], 0, 0),
+    (&[Coming::Tick(1), Coming::Tick(2)], &[true, true], 0, 0),
+];
 
 #[test]
 fn a_list_is_answered_in_its_order(rt: HostRuntime) {
-    let mut keeper = opened(&rt, 0);
-    let inputs = two(&rt, put(&rt, ""), put_at(&rt, "lib/b.service", ""));
-    same(
-        &rt,
-        accepted(&rt, keeper.submit_all(inputs)).as_slice(),
-        &[true, true],
-    );
-    same(&rt, keeper.state().tree().len(), 2);
-    // a record of one sector and a sync, twice
-    same(&rt, calls_since(&rt, keeper), 4);
-}
-
-#[test]
-fn a_refused_input_touches_no_other(rt: HostRuntime) {
-    let mut keeper = opened(&rt, 0);
-    let mut inputs = two(&rt, put(&rt, ""), put_at(&rt, "a.service", ""));
-    inputs
-        .push(put_at(&rt, "lib/b.service", ""))
-        .expect(&rt, "no memory");
-    let answers = accepted(&rt, keeper.submit_all(inputs));
-    same(&rt, answers.as_slice(), &[true, false, true]);
-    same(&rt, over(&rt, keeper.into_disk()).state().tree().len(), 2);
-}
-
-#[test]
-fn a_list_without_effect_makes_no_disk_call(rt: HostRuntime) {
-    let mut keeper = opened(&rt, 0);
-    let none = Vec::new(rt.alloc());
-    same(&rt, accepted(&rt, keeper.submit_all(none)).len(), 0);
-    let ticks = two(&rt, tick(&rt, 1), tick(&rt, 2));
-    same(
-        &rt,
-        accepted(&rt, keeper.submit_all(ticks)).as_slice(),
-        &[true, true],
-    );
-    same(&rt, calls_since(&rt, keeper), 0);
-}
-
-/// How many answers a list has that isn't refused.
-fn count(answers: Vec<Result<Receipt, Refusal>>) -> usize {
-    let mut rest = answers.into_iter();
-    let mut count: usize = 0;
-    while let Some(answer) = rest.next() {
-        answer.map(starts).is_ok();
-        count = count.saturating_add(1);
+    for (list, wanted, files, calls) in LISTS {
+        let mut keeper = opened(&rt, 0);
+        let answers = accepted(&rt, keeper.submit_all(inputs(&rt, list)));
+        same(&rt, answers.expect(&rt, "refused").as_slice(), *wanted);
+        same(&rt, keeper.state().tree().len(), *files);
+        let disk = keeper.into_disk();
+        same(&rt, calls_since(&rt, &disk), *calls);
+        same(&rt, over(&rt, disk).state().tree().len(), *files);
     }
-    rest.destroy_empty();
-    count
 }
 
 #[test]
 fn a_fault_in_a_list_refuses_all_of_it(rt: HostRuntime) {
     // the sync of the second record
-    let fails = opened(&rt, 0)
-        .into_disk()
-        .calls()
-        .checked_add(4)
-        .expect(&rt, "too many");
-    let mut keeper = opened(&rt, fails);
-    let inputs = two(&rt, put(&rt, ""), put_at(&rt, "lib/b.service", ""));
-    is_refused(
-        &rt,
-        keeper.submit_all(inputs).map(count),
-        Some("E16 Device"),
-    );
+    let mut keeper = opened(&rt, 4);
+    let both = inputs(&rt, &[Coming::Put(A), Coming::Put(B)]);
+    let refused = accepted(&rt, keeper.submit_all(both));
+    is_refused(&rt, refused, "E16 Device");
     same(&rt, keeper.state().tree().len(), 0);
-    let inputs = two(&rt, put(&rt, ""), tick(&rt, 1));
-    is_refused(
-        &rt,
-        keeper.submit_all(inputs).map(count),
-        Some("E17 Reopen"),
-    );
+    let later = inputs(&rt, &[Coming::Put(A), Coming::Tick(1)]);
+    let refused = accepted(&rt, keeper.submit_all(later));
+    is_refused(&rt, refused, "E17 Reopen");
     // a crash that loses what wasn't synced leaves the first alone
     let disk = keeper.into_disk().into_inner();
     let left = disk.crash(rt.alloc(), &[]).expect(&rt, "no memory");

@@ -32,11 +32,6 @@ pub fn same<T: PartialEq + Debug + Drop>(rt: &impl Abort, got: T, wanted: T) {
     assert_eq!(rt; got, wanted);
 }
 
-/// The moment of so many microseconds.
-pub fn at(rt: &impl Abort, micros: u64) -> Moment {
-    Moment::new(micros).expect(rt, "no moment")
-}
-
 /// The boot that all rows are in.
 pub fn boot(rt: &(impl AllocGlobal + Abort)) -> BootId {
     let name = String::from_str(rt.alloc(), "one").expect(rt, "no memory");
@@ -54,15 +49,10 @@ pub fn new_store(rt: &(impl AllocGlobal + Abort)) -> MemDisk {
 /// The manager that is opened over a disk, with children of which none was started.
 pub fn over(rt: &(impl AllocGlobal + Abort), disk: MemDisk) -> InMemory {
     let children = FakeChildren::new(rt.alloc());
-    match Manager::open(rt.alloc(), disk, children, boot(rt), at(rt, 0)) {
+    match Manager::open(rt.alloc(), disk, children, boot(rt), Moment::FIRST) {
         Ok(manager) => manager,
         Err(_) => rt.abort(),
     }
-}
-
-/// The connection of this number.
-pub fn connection(rt: &impl Abort, number: usize) -> Connection {
-    Connection::new(number).expect(rt, "no connection")
 }
 
 /// The frames of these texts, each behind its length in four bytes, the highest first.
@@ -80,42 +70,27 @@ pub fn frames(rt: &(impl AllocGlobal + Abort), texts: &[&str]) -> Vec<u8> {
     bytes
 }
 
-/// The bytes as what came of a connection.
-pub fn piece(rt: &(impl AllocGlobal + Abort), bytes: &[u8]) -> Piece {
-    let mut copy = Vec::new(rt.alloc());
-    copy.extend_from_slice(bytes).expect(rt, "no memory");
-    Piece::Bytes(copy)
-}
-
-/// A turn in which these bytes come of connection 0.
-pub fn step(rt: &(impl AllocGlobal + Abort), bytes: &[u8]) -> Step {
+/// What comes of connections, by their numbers.
+pub fn pieces(rt: &(impl AllocGlobal + Abort), sent: &[(usize, &[u8])]) -> Pieces {
     let mut pieces = Pieces::none(rt.alloc()).expect(rt, "no memory");
-    pieces.set(connection(rt, 0), piece(rt, bytes));
-    Step {
-        moment: at(rt, 0),
-        pieces,
+    for (number, bytes) in sent {
+        let connection = Connection::new(*number).expect(rt, "no connection");
+        let copy = Vec::from_slice(rt.alloc(), bytes).expect(rt, "no memory");
+        pieces.set(connection, Piece::Bytes(copy));
     }
+    pieces
 }
 
-/// So many turns in which nothing comes, behind these.
-pub fn with_silent(
-    rt: &(impl AllocGlobal + Abort),
-    mut steps: Vec<Step>,
-    count: usize,
-) -> Vec<Step> {
-    for _ in 0..count {
-        let silent = step(rt, &[]);
-        steps.push(silent).expect(rt, "no memory");
-    }
-    steps
-}
-
-/// Plays these requests of connection 0, and a turn for each.
-pub fn play(rt: &(impl AllocGlobal + Abort), manager: &mut InMemory, requests: &[&str]) {
-    let bytes = frames(rt, requests);
+/// Plays a turn for each of these, in which it comes of connection 0.
+pub fn play(rt: &(impl AllocGlobal + Abort), manager: &mut InMemory, turns: &[&[u8]]) {
     let mut steps = Vec::new(rt.alloc());
-    steps.push(step(rt, &bytes)).expect(rt, "no memory");
-    let steps = with_silent(rt, steps, requests.len());
+    for bytes in turns {
+        let step = Step {
+            moment: Moment::FIRST,
+            pieces: pieces(rt, &[(0, bytes)]),
+        };
+        steps.push(step).expect(rt, "no memory");
+    }
     manager.run_script(&steps).expect(rt, "refused");
 }
 
@@ -126,7 +101,8 @@ pub fn has_output(
     number: usize,
     wanted: &[&str],
 ) {
-    let output = manager.output(connection(rt, number));
+    let connection = Connection::new(number).expect(rt, "no connection");
+    let output = manager.output(connection);
     same(rt, output.bytes.as_slice(), frames(rt, wanted).as_slice());
     same(rt, output.failed, false);
 }
