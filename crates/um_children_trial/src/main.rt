@@ -4,15 +4,24 @@
 
 mod orders;
 mod rows;
-mod runner;
 
+use anyhow::bail;
 use std::env;
 use std::process::ExitCode;
+use um_runner::{Folder, RunnerLine};
 
+/// The rows, or, behind the word `run`, a runner.
 fn trial(rt: &HostRuntime) -> anyhow::Result<()> {
     let words: Vec<String> = env::args(rt)?.collect(rt.alloc())?;
     match words.as_slice() {
-        [_, role, words @ ..] if role.as_str() == "run" => runner::run(rt, rt.alloc(), words),
+        [_, role, words @ ..] if role.as_str() == "run" => {
+            let Some(line) = RunnerLine::of(words) else {
+                bail!("no words of a runner");
+            };
+            let mut folder = Folder::of(rt, rt.alloc(), line.folder, line.number);
+            um_runner::run(&mut folder, &line.job)?;
+            Ok(())
+        }
         _ => rows::rows(rt, rt.alloc()),
     }
 }

@@ -17,8 +17,10 @@ pub struct Orders {
     count: u64,
 }
 
-/// Spends a receipt, and gives its last order.
-fn order_in(mut receipt: Receipt) -> Option<SpawnOrder> {
+/// What came of a command: its order, if any.
+fn order_of(keeper: &mut Keeper<MemDisk>, command: Command) -> anyhow::Result<Option<SpawnOrder>> {
+    let input = Input::new(Moment::FIRST, Event::Commanded(command));
+    let mut receipt = keeper.submit(&input)?;
     let mut order = None;
     while let Some(handed) = receipt.next_action() {
         if let Handed::Spawn(spawn) = handed {
@@ -26,7 +28,7 @@ fn order_in(mut receipt: Receipt) -> Option<SpawnOrder> {
         }
     }
     receipt.finish();
-    order
+    Ok(order)
 }
 
 impl Orders {
@@ -47,13 +49,6 @@ impl Orders {
         }
     }
 
-    /// What came of a command: its order, if any.
-    fn take(&mut self, command: Command) -> anyhow::Result<Option<SpawnOrder>> {
-        let input = Input::new(Moment::FIRST, Event::Commanded(command));
-        let receipt = self.keeper.submit(&input)?;
-        Ok(order_in(receipt))
-    }
-
     /// The order that starts a new service with these lines.
     pub fn order(&mut self, lines: &str) -> anyhow::Result<SpawnOrder> {
         let alloc = self.alloc;
@@ -62,11 +57,10 @@ impl Orders {
         let path = format!(in alloc; "lib/{name}")?;
         let text = format!(in alloc; "[Service]\n{lines}\n")?;
         let unit = UnitName::parse(alloc, name.as_str())?;
-        self.take(Command::PutFile { path, text })?;
-        self.take(Command::DaemonReload)?;
+        order_of(&mut self.keeper, Command::PutFile { path, text })?;
+        order_of(&mut self.keeper, Command::DaemonReload)?;
         let verb = UnitVerb::Start;
         let mode = JobMode::Replace;
-        self.take(Command::ForUnit { verb, unit, mode })?
-            .context("no order")
+        order_of(&mut self.keeper, Command::ForUnit { verb, unit, mode })?.context("no order")
     }
 }

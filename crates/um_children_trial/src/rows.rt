@@ -31,66 +31,60 @@ fn number(n: u64) -> anyhow::Result<ProcessNumber> {
     ProcessNumber::new(n).context("no process number")
 }
 
-fn pause(rt: &HostRuntime) {
-    thread::sleep(rt, Duration::from_millis(10));
-}
-
 /// Children over the folder, with this program as the runner.
 fn open<'a>(rt: &'a HostRuntime, folder: &str) -> anyhow::Result<Dir<'a>> {
     let program = env::current_exe(rt)?;
     Ok(RunnerDir::open(rt, rt.alloc(), program.as_str(), folder)?)
 }
 
-/// The fate of the number, once it has ended; else the last one.
-fn end(rt: &HostRuntime, children: &mut Dir<'_>, number: ProcessNumber) -> anyhow::Result<Fate> {
+/// The fate of the number, once it has ended, or, where that is enough, once it runs; else the last one.
+fn fate_of(
+    rt: &HostRuntime,
+    children: &mut Dir<'_>,
+    number: ProcessNumber,
+    to_its_end: bool,
+) -> anyhow::Result<Fate> {
     let mut fate = children.fate(number, false)?;
     for _ in 0..POLLS {
-        if let Fate::Ended(_) = fate {
-            return Ok(fate);
+        match fate {
+            Fate::Ended(_) => return Ok(fate),
+            Fate::Starting => {}
+            _ if !to_its_end => return Ok(fate),
+            _ => {}
         }
-        pause(rt);
+        thread::sleep(rt, Duration::from_millis(10));
         fate = children.fate(number, false)?;
     }
     Ok(fate)
 }
 
-/// Waits until the number is executed.
-fn wait_for_pid(
-    rt: &HostRuntime,
-    children: &mut Dir<'_>,
-    number: ProcessNumber,
-) -> anyhow::Result<()> {
-    for _ in 0..POLLS {
-        if children.fate(number, false)? != Fate::Starting {
-            return Ok(());
-        }
-        pause(rt);
-    }
-    Ok(())
+/// When a process is signalled.
+#[derive(Drop)]
+enum Signalled {
+    Never,
+    BeforeItStarts,
+    WhileItRuns,
 }
 
-/// Starts a service with these lines by the order of its receipt, and gives its number.
-fn start(
-    orders: &mut Orders,
-    children: &mut Dir<'_>,
-    lines: &str,
-) -> anyhow::Result<ProcessNumber> {
-    let order = orders.order(lines)?;
-    let number = order.number();
-    children.spawn(order)?;
-    Ok(number)
-}
-
-/// Runs a service with these lines to its end, and tells it.
+/// Runs a service with these lines to its end, and tells it under the name.
 fn row(
     rt: &HostRuntime,
     orders: &mut Orders,
     children: &mut Dir<'_>,
-    name: &str,
-    lines: &str,
+    service: &(&str, &str, Signalled),
 ) -> anyhow::Result<()> {
-    let number = start(orders, children, lines)?;
-    let fate = end(rt, children, number)?;
+    let (name, lines, signalled) = service;
+    let order = orders.order(lines)?;
+    let number = order.number();
+    if let Signalled::BeforeItStarts = signalled {
+        children.signal(number, Signal::Term)?;
+    }
+    children.spawn(order)?;
+    if let Signalled::WhileItRuns = signalled {
+        fate_of(rt, children, number, false)?;
+        children.signal(number, Signal::Term)?;
+    }
+    let fate = fate_of(rt, children, number, true)?;
     println!(rt; "{name}: {fate:?}")?;
     Ok(())
 }
@@ -105,92 +99,78 @@ fn comes(rt: &HostRuntime, path: &str) -> bool {
         if is_there(rt, path) {
             return true;
         }
-        pause(rt);
+        thread::sleep(rt, Duration::from_millis(10));
     }
     is_there(rt, path)
 }
 
-/// Processes 1 to 3 end and tell.
+const EXIT: &str = "ExecStart=/bin/sh -c 'exit 3'";
+
+const NOT_THERE: &str = "ExecStart=/nonexistent";
+
+const ENVIRONMENT: &str =
+    "Environment=\"MARK=a b\"\nExecStart=/bin/sh -c 'test \"$MARK\" = \"a b\"'";
+
+const SLEEP: &str = "ExecStart=/bin/sleep 9";
+
+/// Processes 1 to 5 end and tell: the fourth is signalled while it runs, the fifth before it is started.
 fn ends(rt: &HostRuntime, orders: &mut Orders, children: &mut Dir<'_>) -> anyhow::Result<()> {
-    let exit = "ExecStart=/bin/sh -c 'exit 3'";
-    row(rt, orders, children, "exit 3", exit)?;
-    row(rt, orders, children, "not there", "ExecStart=/nonexistent")?;
+    let exit = ("exit 3", EXIT, Signalled::Never);
+    row(rt, orders, children, &exit)?;
+    let not_there = ("not there", NOT_THERE, Signalled::Never);
+    row(rt, orders, children, &not_there)?;
     let pid = is_there(rt, "processes/2.pid");
     println!(rt; "its pid file: {pid}")?;
-    let lines = "Environment=\"MARK=a b\"\nExecStart=/bin/sh -c 'test \"$MARK\" = \"a b\"'";
-    row(rt, orders, children, "environment", lines)
+    let environment = ("environment", ENVIRONMENT, Signalled::Never);
+    row(rt, orders, children, &environment)?;
+    let late = ("signalled", SLEEP, Signalled::WhileItRuns);
+    row(rt, orders, children, &late)?;
+    let name = "signalled before it started";
+    let early = (name, SLEEP, Signalled::BeforeItStarts);
+    row(rt, orders, children, &early)
 }
 
-/// Waits until a round of fates leaves no news, and tells whether there is any.
-fn wait_for_quiet(
+/// Waits until there is news, or, where the fate of a number is asked each time, until there is none, and tells whether there is any.
+fn wait_for_news(
     rt: &HostRuntime,
     children: &mut Dir<'_>,
-    number: ProcessNumber,
+    asked: Option<ProcessNumber>,
 ) -> anyhow::Result<bool> {
     for _ in 0..POLLS {
-        children.fate(number, false)?;
-        if !children.has_news() {
-            return Ok(false);
+        if let Some(number) = asked {
+            children.fate(number, false)?;
         }
-        pause(rt);
-    }
-    Ok(true)
-}
-
-/// Waits until there is news, without asking a fate, and tells whether there is any.
-fn wait_for_news(rt: &HostRuntime, children: &Dir<'_>) -> bool {
-    for _ in 0..POLLS {
-        if children.has_news() {
-            return true;
+        if children.has_news() == asked.is_none() {
+            return Ok(asked.is_none());
         }
-        pause(rt);
+        thread::sleep(rt, Duration::from_millis(10));
     }
-    false
+    Ok(asked.is_some())
 }
 
 /// A process is news from its start until it runs, and once it has ended.
 fn news(rt: &HostRuntime, alloc: Global) -> anyhow::Result<()> {
     let mut children = open(rt, SEEN)?;
-    let number = start(
-        &mut Orders::new(alloc)?,
-        &mut children,
-        "ExecStart=/bin/sleep 1",
-    )?;
+    let order = Orders::new(alloc)?.order("ExecStart=/bin/sleep 1")?;
+    let number = order.number();
+    children.spawn(order)?;
     let starting = children.has_news();
-    wait_for_pid(rt, &mut children, number)?;
-    let running = wait_for_quiet(rt, &mut children, number)?;
-    let ended = wait_for_news(rt, &children);
-    let fate = end(rt, &mut children, number)?;
+    fate_of(rt, &mut children, number, false)?;
+    let running = wait_for_news(rt, &mut children, Some(number))?;
+    let ended = wait_for_news(rt, &mut children, None)?;
+    let fate = fate_of(rt, &mut children, number, true)?;
     println!(rt;
         "news at the start: {starting}, while it runs: {running}, at its end: {ended}; {fate:?}"
     )?;
     Ok(())
 }
 
-/// A signal to process 4, which runs, and one to process 5, before it is started.
-fn signals(rt: &HostRuntime, orders: &mut Orders, children: &mut Dir<'_>) -> anyhow::Result<()> {
-    let running = start(orders, children, "ExecStart=/bin/sleep 9")?;
-    wait_for_pid(rt, children, running)?;
-    children.signal(running, Signal::Term)?;
-    let fate = end(rt, children, running)?;
-    println!(rt; "signalled: {fate:?}")?;
-    let order = orders.order("ExecStart=/bin/sleep 9")?;
-    let number = order.number();
-    children.signal(number, Signal::Term)?;
-    children.spawn(order)?;
-    let fate = end(rt, children, number)?;
-    println!(rt; "signalled before it started: {fate:?}")?;
-    Ok(())
-}
-
-/// A runner that comes to a claim of the manager starts nothing, also one that comes after the number was forgotten: two stores give
-/// the number.
-fn late_runners(
-    rt: &HostRuntime,
-    orders: &mut Orders,
-    others: &mut Orders,
-    children: &mut Dir<'_>,
-) -> anyhow::Result<()> {
+/// Who claims a number first has it, where two stores give the number: a runner that comes to a claim of the manager starts nothing,
+/// also one that comes after the number was forgotten; two runners start one child.
+fn claims(rt: &HostRuntime, alloc: Global) -> anyhow::Result<()> {
+    let mut children = open(rt, TWICE)?;
+    let mut orders = Orders::new(alloc)?;
+    let mut others = Orders::new(alloc)?;
     let lines = "ExecStart=/bin/sh -c 'echo x >>late'";
     let first = orders.order(lines)?;
     let second = others.order(lines)?;
@@ -204,36 +184,16 @@ fn late_runners(
     children.spawn(second)?;
     let started = started || comes(rt, "late");
     println!(rt; "claimed: {fate:?}, then {later:?}; the same number: {same}; started: {started}")?;
-    Ok(())
-}
-
-/// Two runners of a number start one child: two stores give the number.
-fn two_runners(
-    rt: &HostRuntime,
-    orders: &mut Orders,
-    others: &mut Orders,
-    children: &mut Dir<'_>,
-) -> anyhow::Result<()> {
     let lines = "ExecStart=/bin/sh -c 'echo x >>two; sleep 1'";
     let first = orders.order(lines)?;
-    let number = first.number();
     let second = others.order(lines)?;
+    let number = first.number();
     let same = number == second.number();
     children.spawn(first)?;
     children.spawn(second)?;
-    let fate = end(rt, children, number)?;
+    let fate = fate_of(rt, &mut children, number, true)?;
     let size = fs::metadata(rt, "two")?.len();
     println!(rt; "two runners: {fate:?}; the same number: {same}; bytes written: {size}")?;
-    Ok(())
-}
-
-/// Who claims a number first has it.
-fn claims(rt: &HostRuntime, alloc: Global) -> anyhow::Result<()> {
-    let mut children = open(rt, TWICE)?;
-    let mut orders = Orders::new(alloc)?;
-    let mut others = Orders::new(alloc)?;
-    late_runners(rt, &mut orders, &mut others, &mut children)?;
-    two_runners(rt, &mut orders, &mut others, &mut children)?;
     let failures = children.failures();
     println!(rt; "failures: {failures}")?;
     Ok(())
@@ -263,34 +223,27 @@ fn forgets(rt: &HostRuntime, children: &mut Dir<'_>) -> anyhow::Result<()> {
     Ok(())
 }
 
-/// The fate of the number with a file of this text.
-fn odd(
-    rt: &HostRuntime,
-    alloc: Global,
-    children: &mut Dir<'_>,
-    name: &str,
-    text: &str,
-) -> anyhow::Result<()> {
-    let path = format!(in alloc; "{FOLDER}/{name}")?;
-    fs::write(rt, path.as_str(), text)?;
-    let digits = name.split('.').next().unwrap_or("");
-    let number = number(digits.parse::<u64>()?)?;
-    let fate = children.fate(number, true)?;
-    let signal = children.signal(number, Signal::Kill);
-    println!(rt; "{name} {text:?}: {fate:?}, signal {signal:?}")?;
-    Ok(())
-}
+/// Numbers, each with a file of another form.
+const ODD: &[(u64, &str, &str)] = &[
+    (20, "20.status", ""),
+    (21, "21.status", "code 256\n"),
+    (22, "22.status", "signal 9"),
+    (23, "23.status", "signal 9\n"),
+    (24, "24.claim", "x"),
+    (25, "25.claim", "manager\n"),
+    (26, "26.pid", "12a\n"),
+];
 
 /// Files of another form.
 fn odd_files(rt: &HostRuntime, children: &mut Dir<'_>) -> anyhow::Result<()> {
     let alloc = rt.alloc();
-    odd(rt, alloc, children, "20.status", "")?;
-    odd(rt, alloc, children, "21.status", "code 256\n")?;
-    odd(rt, alloc, children, "22.status", "signal 9")?;
-    odd(rt, alloc, children, "23.status", "signal 9\n")?;
-    odd(rt, alloc, children, "24.claim", "x")?;
-    odd(rt, alloc, children, "25.claim", "manager\n")?;
-    odd(rt, alloc, children, "26.pid", "12a\n")?;
+    for (n, name, text) in ODD {
+        let path = format!(in alloc; "{FOLDER}/{name}")?;
+        fs::write(rt, path.as_str(), *text)?;
+        let fate = children.fate(number(*n)?, true)?;
+        let signal = children.signal(number(*n)?, Signal::Kill);
+        println!(rt; "{name} {text:?}: {fate:?}, signal {signal:?}")?;
+    }
     fs::create_dir(rt, "processes/27.status")?;
     let fate = children.fate(number(27)?, true)?;
     std::os::unix::fs::symlink(rt, "/proc/self/stat", "processes/28.status")?;
@@ -320,11 +273,11 @@ fn in_memory(rt: &HostRuntime, alloc: Global) -> anyhow::Result<()> {
     Ok(())
 }
 
+/// All rows.
 pub fn rows(rt: &HostRuntime, alloc: Global) -> anyhow::Result<()> {
     let mut children = open(rt, FOLDER)?;
     let mut orders = Orders::new(alloc)?;
     ends(rt, &mut orders, &mut children)?;
-    signals(rt, &mut orders, &mut children)?;
     claims(rt, alloc)?;
     no_runner(rt, alloc)?;
     news(rt, alloc)?;

@@ -19,11 +19,11 @@ fn made_on(rt: &(impl AllocGlobal + Abort), sectors: usize) -> MemDisk {
 }
 
 /// Other bytes in a sector from a place on.
-type Change = (usize, usize, &'static [u8]);
+type Damage = (usize, usize, &'static [u8]);
 
 /// Writes other bytes into a sector from a place on.
-fn change(rt: &impl Abort, disk: &mut MemDisk, change: &Change) {
-    let (k, at, bytes) = *change;
+fn change(rt: &impl Abort, disk: &mut MemDisk, damage: &Damage) {
+    let (k, at, bytes) = *damage;
     let mut sector = sector_at(rt, disk, k);
     for (i, place) in sector.iter_mut().enumerate() {
         if i >= at && i - at < bytes.len() {
@@ -34,7 +34,7 @@ fn change(rt: &impl Abort, disk: &mut MemDisk, change: &Change) {
 }
 
 /// A store that was opened once, generation 2 in slot B, with these changes.
-fn changed(rt: &(impl AllocGlobal + Abort), changes: &[Change]) -> MemDisk {
+fn changed(rt: &(impl AllocGlobal + Abort), changes: &[Damage]) -> MemDisk {
     let mut disk = over(rt, made(rt)).into_disk();
     for each in changes {
         change(rt, &mut disk, each);
@@ -84,7 +84,7 @@ const NO_INPUT: &[u8] = &[
 const LATER: &[u8] = &[0x55, 0x4d, 0x4c, 0x47, 0, 0, 0, 0, 0, 0, 0, 3];
 
 /// What is changed, and how the open is refused.
-const DAMAGED: &[(&[Change], &str)] = &[
+const DAMAGED: &[(&[Damage], &str)] = &[
     // sector 0 tells whether a store is there
     (&[(0, 0, &[0; 16])], "E19 NotFormatted"),
     (&[(0, 11, &[63])], "E18 Damaged 0"),

@@ -10,9 +10,7 @@ pub fn same<T: PartialEq + Debug + Drop>(rt: &impl Abort, got: T, wanted: T) {
 
 /// These bytes.
 pub fn bytes(rt: &(impl AllocGlobal + Abort), text: &[u8]) -> Vec<u8> {
-    let mut copy = Vec::new(rt.alloc());
-    copy.extend_from_slice(text).expect(rt, "no memory");
-    copy
+    Vec::from_slice(rt.alloc(), text).expect(rt, "no memory")
 }
 
 /// A client that sends these bytes in one part, stays, and takes at most so many bytes of a write.
@@ -23,8 +21,7 @@ pub fn add_client(
     sent: &[u8],
     limit: usize,
 ) {
-    let mut parts = Vec::new(rt.alloc());
-    parts.push(bytes(rt, sent)).expect(rt, "no memory");
+    let parts = vec![in rt.alloc(); bytes(rt, sent)].expect(rt, "no memory");
     gate.client(number, parts, false, limit)
         .expect(rt, "no memory");
 }
@@ -37,33 +34,37 @@ pub fn with_client(rt: &(impl AllocGlobal + Abort), number: usize, limit: usize)
     gate
 }
 
-/// What the gate took for a connection, one write behind the other.
-pub fn written(rt: &(impl AllocGlobal + Abort), gate: &FakeGate, number: usize) -> Vec<u8> {
-    let mut all = Vec::new(rt.alloc());
+/// What the gate took for a connection, one write behind the other, how many writes it was offered, and whether the connection was
+/// given up.
+#[derive(Drop)]
+pub struct Taken {
+    pub bytes: Vec<u8>,
+    pub writes: usize,
+    pub is_dropped: bool,
+}
+
+/// What the gate took for the connection of this number.
+pub fn what_was_taken(rt: &(impl AllocGlobal + Abort), gate: &FakeGate, number: usize) -> Taken {
+    let mut bytes = Vec::new(rt.alloc());
+    let mut writes: usize = 0;
+    let mut is_dropped = false;
     for note in gate.notes() {
-        if let Note::Wrote(to, taken) = note {
-            if *to == number {
-                all.extend_from_slice(taken.as_slice())
+        match note {
+            Note::Wrote(to, part) if *to == number => {
+                bytes
+                    .extend_from_slice(part.as_slice())
                     .expect(rt, "no memory");
+                writes = writes.saturating_add(1);
             }
+            Note::Dropped(to) if *to == number => is_dropped = true,
+            _ => {}
         }
     }
-    all
-}
-
-/// How many writes the gate was offered for a connection.
-pub fn writes(gate: &FakeGate, number: usize) -> usize {
-    gate.notes()
-        .iter()
-        .filter(|note| matches!(note, Note::Wrote(to, _) if *to == number))
-        .count()
-}
-
-/// Whether a connection was given up.
-pub fn is_dropped(gate: &FakeGate, number: usize) -> bool {
-    gate.notes()
-        .iter()
-        .any(|note| matches!(note, Note::Dropped(to) if *to == number))
+    Taken {
+        bytes,
+        writes,
+        is_dropped,
+    }
 }
 
 #[test]

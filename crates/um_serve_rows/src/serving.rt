@@ -1,5 +1,5 @@
 //! Rounds of a manager in memory over a gate in memory.
-use crate::gates::{add_client, is_dropped, same, written};
+use crate::gates::{add_client, same, what_was_taken};
 use std::process::Abort;
 use um_children::FakeChildren;
 use um_gate::{FakeGate, FakeMoments};
@@ -24,57 +24,39 @@ fn new_manager(rt: &(impl AllocGlobal + Abort)) -> Manager<MemDisk, FakeChildren
     }
 }
 
-/// Serves the clients of a gate for so many rounds, and tells whether the last one was busy.
-fn serve_rounds(rt: &(impl AllocGlobal + Abort), gate: &mut FakeGate, count: usize) -> bool {
-    let mut manager = new_manager(rt);
-    let mut clock = FakeMoments::new(rt.alloc(), Moment::FIRST, 1);
-    let mut rounds = Rounds::new(rt.alloc()).expect(rt, "no memory");
-    serve(&mut manager, gate, &mut clock, &mut rounds, count).expect(rt, "refused");
-    rounds.was_busy()
-}
+/// Requests of two clients: to load the tree, and to list the jobs.
+const LOADS: &[u8] = b"\x00\x00\x00\x18{\"verb\":\"daemon-reload\"}";
+
+const LISTS: &[u8] = b"\x00\x00\x00\x14{\"verb\":\"list-jobs\"}";
+
+/// Their replies.
+const DONE: &[u8] = b"\x00\x00\x00\x0b{\"ok\":true}";
+
+const NONE: &[u8] = b"\x00\x00\x00\x16{\"ok\":true,\"value\":[]}";
+
+/// So many rounds, whether the last one was busy, and what the first client has then, and what the second.
+const ROUNDS: &[(usize, bool, &[u8], Option<&[u8]>)] = &[
+    (1, true, b"\x00\x00\x00", None),
+    (9, false, DONE, Some(NONE)),
+];
 
 #[test]
 fn clients_that_take_few_bytes_get_their_own_replies(rt: HostRuntime) {
-    let mut gate = FakeGate::new(rt.alloc());
-    add_client(
-        &rt,
-        &mut gate,
-        0,
-        b"\x00\x00\x00\x18{\"verb\":\"daemon-reload\"}",
-        3,
-    );
-    add_client(
-        &rt,
-        &mut gate,
-        1,
-        b"\x00\x00\x00\x14{\"verb\":\"list-jobs\"}",
-        7,
-    );
-    same(&rt, serve_rounds(&rt, &mut gate, 1), true);
-    same(
-        &rt,
-        written(&rt, &gate, 0).as_slice(),
-        b"\x00\x00\x00".as_slice(),
-    );
-    let mut gate = FakeGate::new(rt.alloc());
-    add_client(
-        &rt,
-        &mut gate,
-        0,
-        b"\x00\x00\x00\x18{\"verb\":\"daemon-reload\"}",
-        3,
-    );
-    add_client(
-        &rt,
-        &mut gate,
-        1,
-        b"\x00\x00\x00\x14{\"verb\":\"list-jobs\"}",
-        7,
-    );
-    same(&rt, serve_rounds(&rt, &mut gate, 9), false);
-    let done = b"\x00\x00\x00\x0b{\"ok\":true}";
-    let none = b"\x00\x00\x00\x16{\"ok\":true,\"value\":[]}";
-    same(&rt, written(&rt, &gate, 0).as_slice(), done.as_slice());
-    same(&rt, written(&rt, &gate, 1).as_slice(), none.as_slice());
-    same(&rt, is_dropped(&gate, 0), false);
+    for (count, is_busy, first, second) in ROUNDS {
+        let mut gate = FakeGate::new(rt.alloc());
+        add_client(&rt, &mut gate, 0, LOADS, 3);
+        add_client(&rt, &mut gate, 1, LISTS, 7);
+        let mut manager = new_manager(&rt);
+        let mut clock = FakeMoments::new(rt.alloc(), Moment::FIRST, 1);
+        let mut rounds = Rounds::new(rt.alloc()).expect(&rt, "no memory");
+        serve(&mut manager, &mut gate, &mut clock, &mut rounds, *count).expect(&rt, "refused");
+        same(&rt, rounds.was_busy(), *is_busy);
+        let got = what_was_taken(&rt, &gate, 0);
+        same(&rt, got.bytes.as_slice(), *first);
+        same(&rt, got.is_dropped, false);
+        if let Some(second) = second {
+            let got = what_was_taken(&rt, &gate, 1);
+            same(&rt, got.bytes.as_slice(), *second);
+        }
+    }
 }
