@@ -263,12 +263,12 @@ fn answer_to(rt: &(impl AllocGlobal + Abort), engine: &mut Engine, input: &Input
     }
 }
 
-/// How `a.service` stands, and the clock in microseconds.
-fn standing(rt: &(impl AllocGlobal + Abort), engine: &Engine) -> (UnitState, u64) {
+/// How `a.service` stands.
+fn standing(rt: &(impl AllocGlobal + Abort), engine: &Engine) -> UnitState {
     let unit = unit(rt, "a.service");
     let reply = engine.query(&Query::Show { unit });
     match &reply.expect(rt, "no memory") {
-        Reply::Shown(shown) => (shown.state, engine.clock().micros()),
+        Reply::Shown(shown) => shown.state,
         _ => panic!(rt; "the unit is not shown"),
     }
 }
@@ -276,14 +276,14 @@ fn standing(rt: &(impl AllocGlobal + Abort), engine: &Engine) -> (UnitState, u64
 /// Asserts that each step has its answer, and that `a.service` stands then as it is told.
 fn play(rt: &(impl AllocGlobal + Abort), script: &Script) {
     let mut engine = engine_with(rt, script.entries);
-    let (mut stands, _) = standing(rt, &engine);
+    let mut stands = standing(rt, &engine);
     same_at(rt, stands, UnitState::DEAD, script.shows);
     for (at, (comes, wanted, sub)) in script.steps.iter().enumerate() {
         let input = input_of(rt, comes);
         let row = (script.shows, at + 1);
         let answer = answer_to(rt, &mut engine, &input);
         same_at(rt, answer.as_str(), *wanted, row);
-        let (now, _) = standing(rt, &engine);
+        let now = standing(rt, &engine);
         match sub {
             Some(sub) => same_at(rt, now.sub, *sub, row),
             None => same_at(rt, now, stands, row),
@@ -301,7 +301,8 @@ fn steps_are_taken_or_refused(rt: HostRuntime) {
     }
 }
 
-/// Asserts that the step is taken to the clock of so many microseconds, and that the way back leads to this one.
+/// Asserts that the step is taken to the clock of so many microseconds and that the way back leads to the other; `a.service` stands
+/// as before all along, and nothing is asked of processes.
 fn is_taken_back(
     rt: &(impl AllocGlobal + Abort),
     engine: &mut Engine,
@@ -309,13 +310,15 @@ fn is_taken_back(
     clock: u64,
     clock_before: u64,
 ) {
-    let (stands, _) = standing(rt, engine);
+    let stands = standing(rt, engine);
     let next = engine.plan(&input_of(rt, comes));
     let (_, actions, back) = engine.commit(next.expect(rt, "a step is refused"));
-    same(rt, actions.len(), 0);
-    same(rt, standing(rt, engine), (stands, clock));
+    let taken = (actions.len(), engine.clock().micros());
+    same(rt, taken, (0, clock));
+    same(rt, standing(rt, engine), stands);
     engine.back(back);
-    same(rt, standing(rt, engine), (stands, clock_before));
+    same(rt, engine.clock().micros(), clock_before);
+    same(rt, standing(rt, engine), stands);
 }
 
 /// What leads to a running service.

@@ -180,7 +180,6 @@ fn units_that_would_be_known_after_a_boot_count(rt: HostRuntime) {
     play(&rt, "a boot", &steps);
 }
 
-/// Under `run/` a.service is masked, and c.service, which is there alone, is wanted by b.service.
 const PUT_B: &str =
     r#"{"verb":"put-file","path":"lib/b.service","text":"[Service]\nExecStart=/bin/sleep 9\n"}"#;
 
@@ -194,6 +193,7 @@ const PUT_C: &str =
 
 #[test]
 fn a_plan_makes_as_many_units_known_as_may_be(rt: HostRuntime) {
+    // under `run/` a.service is masked, and c.service, which is there alone, is wanted by b.service;
     // without `run/` these are a.service, b.service, shutdown.target and 1,020 more, and from the start on c.service
     for (count, wanted) in [(1_020, DONE), (1_021, TOO_MANY_UNITS)] {
         let put = put_wanting(&rt, count);

@@ -5,8 +5,9 @@ use um_model::{End, SubState, UnitResult, UnitState};
 use um_service::{Around, NextNumber, Service, ServiceSettings, StartJob, UnitEvent, UnitKind};
 use um_words::Command;
 
-/// What happens to a unit at so many microseconds, and what follows: what is asked of its processes, what becomes of its start job, and
-/// whether its stop job ends. Then the unit has come so far, with this result, this number of its main process and this deadline.
+/// What happens to a unit at so many microseconds, and what follows: what is asked of its processes, what becomes of its start job,
+/// and whether its stop job ends. Then the unit has come so far, with this result, this number of its main process and this deadline
+/// in microseconds.
 struct Step {
     event: UnitEvent,
     micros: u64,

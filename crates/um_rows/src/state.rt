@@ -30,12 +30,12 @@ fn two_units(rt: &(impl AllocGlobal + Abort)) -> Units {
 #[test]
 fn the_units_of_processes_and_their_deadlines_are_told(rt: HostRuntime) {
     let units = two_units(&rt);
-    let found = units.process(7).map(|unit| unit.as_str());
-    same(&rt, found, Some("a.service"));
+    let found = units.process(7).expect(&rt, "no process");
+    same(&rt, found.as_str(), "a.service");
     same(&rt, units.process(9).is_some(), false);
     let timers = units.deadlines().expect(&rt, "no memory");
-    let first = timers.next_due().map(|(deadline, _)| deadline.micros());
-    same(&rt, first, Some(60));
+    let (first, _) = timers.next_due().expect(&rt, "no timer");
+    same(&rt, first.micros(), 60);
     for (name, wanted) in [("a.service", 90), ("b.service", 60)] {
         let deadline = timers.get(&unit(&rt, name));
         same(&rt, deadline, Deadline::new(wanted));
@@ -51,9 +51,10 @@ fn units_hold_what_was_put_into_them_and_a_copy_stays_as_it_was(rt: HostRuntime)
     let set: Result<_, _> = units.set(&a, UnitState::DEAD);
     set.expect(&rt, "no memory");
     same(&rt, (units.holds(&a), units.is_same(&copy)), (false, false));
-    same(&rt, units.get(&a), UnitState::DEAD);
-    same(&rt, units.get(&unit(&rt, "b.service")), starting(8, 60));
-    same(&rt, copy.get(&a), starting(7, 90));
+    let first = (units.get(&a), copy.get(&a));
+    same(&rt, first, (UnitState::DEAD, starting(7, 90)));
+    let second = units.get(&unit(&rt, "b.service"));
+    same(&rt, second, starting(8, 60));
 }
 
 #[test]
