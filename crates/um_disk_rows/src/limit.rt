@@ -80,10 +80,7 @@ fn window(rt: &impl Abort, counted: Option<(u64, u32)>) -> Window {
 fn counts(rt: &impl Abort, row: &Row) {
     let label = (row.burst, row.starts);
     let mut counting = window(rt, row.before);
-    let interval = match row.interval {
-        Some(micros) => Some(Span::from_micros(micros)),
-        None => None,
-    };
+    let interval = row.interval.map(Span::from_micros);
     for (micros, passes) in row.starts {
         let moment = Moment::new(*micros).expect(rt, "no moment");
         let passed = counting.count(moment, interval, row.burst);
