@@ -76,14 +76,18 @@ fn window(rt: &impl Abort, counted: Option<(u64, u32)>) -> Window {
     }
 }
 
+/// The interval in which its starts count; None is infinite.
+fn interval(row: &Row) -> Option<Span> {
+    row.interval.map(Span::from_micros)
+}
+
 /// Asserts that the window of the row lets its starts through as they tell, and what it has counted then.
 fn counts(rt: &impl Abort, row: &Row) {
     let label = (row.burst, row.starts);
     let mut counting = window(rt, row.before);
-    let interval = row.interval.map(Span::from_micros);
     for (micros, passes) in row.starts {
         let moment = Moment::new(*micros).expect(rt, "no moment");
-        let passed = counting.count(moment, interval, row.burst);
+        let passed = counting.count(moment, interval(row), row.burst);
         same_at(rt, passed, *passes, label);
     }
     let wanted = window(rt, row.after);
