@@ -286,7 +286,7 @@ fn play(rt: &(impl AllocGlobal + Abort), script: &Script) {
         let now = standing(rt, &engine);
         match sub {
             Some(sub) => same_at(rt, now.sub, *sub, row),
-            None => same_at(rt, now, stands, row),
+            None => assert_eq!(rt; now, stands, "at {row:?}"),
         }
         stands = now;
     }
@@ -315,10 +315,10 @@ fn is_taken_back(
     let (_, actions, back) = engine.commit(next.expect(rt, "a step is refused"));
     let taken = (actions.len(), engine.clock().micros());
     same(rt, taken, (0, clock));
-    same(rt, standing(rt, engine), stands);
+    assert_eq!(rt; standing(rt, engine), stands);
     engine.back(back);
     same(rt, engine.clock().micros(), clock_before);
-    same(rt, standing(rt, engine), stands);
+    assert_eq!(rt; standing(rt, engine), stands);
 }
 
 /// What leads to a running service.

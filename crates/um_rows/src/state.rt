@@ -3,6 +3,7 @@ use crate::answers::{WAITS_TO_START, same, unit};
 use std::process::Abort;
 use um_model::{Deadline, ProcessNumber, SubState, UnitJobs, UnitState};
 use um_state::{Pending, State, Units};
+use um_timer::Timers;
 
 /// A unit whose main process has this number, with a deadline at this moment.
 fn starting(number: u64, deadline: u64) -> UnitState {
@@ -27,6 +28,14 @@ fn two_units(rt: &(impl AllocGlobal + Abort)) -> Units {
     units
 }
 
+/// The deadline of the timer that is due first, in microseconds.
+fn first_deadline(timers: &Timers) -> Option<u64> {
+    match timers.next_due() {
+        Some((deadline, _)) => Some(deadline.micros()),
+        None => None,
+    }
+}
+
 #[test]
 fn the_units_of_processes_and_their_deadlines_are_told(rt: HostRuntime) {
     let units = two_units(&rt);
@@ -34,8 +43,7 @@ fn the_units_of_processes_and_their_deadlines_are_told(rt: HostRuntime) {
     same(&rt, found.as_str(), "a.service");
     same(&rt, units.process(9).is_some(), false);
     let timers = units.deadlines().expect(&rt, "no memory");
-    let (first, _) = timers.next_due().expect(&rt, "no timer");
-    same(&rt, first.micros(), 60);
+    same(&rt, first_deadline(&timers), Some(60));
     for (name, wanted) in [("a.service", 90), ("b.service", 60)] {
         let deadline = timers.get(&unit(&rt, name));
         same(&rt, deadline, Deadline::new(wanted));
