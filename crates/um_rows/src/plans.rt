@@ -57,8 +57,8 @@ const B_NEEDS_A: &str =
 const C_REQUIRES_A: &str =
     r#"{"verb":"put-file","path":"lib/c.service","text":"[Service]\nExecStart=/bin/sleep 9\n[Unit]\nRequires=a.service\n"}"#;
 
-/// What is asked in turn, and replied.
-const SCRIPTS: &[Script] = &[
+/// Orders in a circle.
+const CIRCLES: &[Script] = &[
     Script {
         shows: "units that are wanted in a circle of orders are refused",
         steps: &[
@@ -104,6 +104,38 @@ const SCRIPTS: &[Script] = &[
             (JOBS, NOTHING),
         ],
     },
+    Script {
+        shows: "a tree by which pending jobs wait in a circle is not loaded",
+        steps: &[
+            (PUT_S, DONE),
+            (A_AFTER_S, DONE),
+            (B_AFTER_A, DONE),
+            (T_WANTS_BOTH, DONE),
+            (RELOAD, DONE),
+            (START_S, DONE),
+            (START_T, DONE),
+            (
+                r#"{"verb":"put-file","path":"lib/a.service","text":"[Service]\nExecStart=/bin/sleep 9\n[Unit]\nConflicts=s.service\nAfter=s.service\nAfter=b.service\n"}"#,
+                DONE,
+            ),
+            (
+                RELOAD,
+                r#"{"detail":["a.service","b.service"],"error":9,"ok":false}"#,
+            ),
+            (
+                r#"{"verb":"cat","unit":"a"}"#,
+                r#"{"ok":true,"value":[["lib/a.service","[Service]\nExecStart=/bin/sleep 9\n[Unit]\nConflicts=s.service\nAfter=s.service\nAfter=b.service\n"]]}"#,
+            ),
+            (
+                JOBS,
+                r#"{"ok":true,"value":[["a.service","start","waiting"],["b.service","start","waiting"],["s.service","stop","running"],["t.target","start","waiting"]]}"#,
+            ),
+        ],
+    },
+];
+
+/// Units in conflict.
+const CONFLICTS: &[Script] = &[
     Script {
         shows: "a start waits for the stop of what is in conflict",
         steps: &[
@@ -152,72 +184,10 @@ const SCRIPTS: &[Script] = &[
             (START_A, r#"{"detail":["a.service"],"error":8,"ok":false}"#),
         ],
     },
-    Script {
-        shows: "what is wanted and cannot start is left",
-        steps: &[
-            (
-                r#"{"verb":"put-file","path":"lib/t.target","text":"[Unit]\nWants=a.service\n"}"#,
-                DONE,
-            ),
-            (
-                r#"{"verb":"put-file","path":"lib/a.service","text":"[Service]\nExecStart=/bin/sleep 9\n[Unit]\nRequires=gone.service\n"}"#,
-                DONE,
-            ),
-            (RELOAD, DONE),
-            (START_T, DONE),
-            (r#"{"verb":"is-active","unit":"t.target"}"#, ACTIVE),
-            (r#"{"verb":"is-active","unit":"a"}"#, INACTIVE),
-            (ACTIONS, NOTHING),
-            (
-                START_A,
-                r#"{"detail":["gone.service"],"error":4,"ok":false}"#,
-            ),
-        ],
-    },
-    Script {
-        shows: "a tree by which pending jobs wait in a circle is not loaded",
-        steps: &[
-            (PUT_S, DONE),
-            (A_AFTER_S, DONE),
-            (B_AFTER_A, DONE),
-            (T_WANTS_BOTH, DONE),
-            (RELOAD, DONE),
-            (START_S, DONE),
-            (START_T, DONE),
-            (
-                r#"{"verb":"put-file","path":"lib/a.service","text":"[Service]\nExecStart=/bin/sleep 9\n[Unit]\nConflicts=s.service\nAfter=s.service\nAfter=b.service\n"}"#,
-                DONE,
-            ),
-            (
-                RELOAD,
-                r#"{"detail":["a.service","b.service"],"error":9,"ok":false}"#,
-            ),
-            (
-                r#"{"verb":"cat","unit":"a"}"#,
-                r#"{"ok":true,"value":[["lib/a.service","[Service]\nExecStart=/bin/sleep 9\n[Unit]\nConflicts=s.service\nAfter=s.service\nAfter=b.service\n"]]}"#,
-            ),
-            (
-                JOBS,
-                r#"{"ok":true,"value":[["a.service","start","waiting"],["b.service","start","waiting"],["s.service","stop","running"],["t.target","start","waiting"]]}"#,
-            ),
-        ],
-    },
-    Script {
-        shows: "known units are listed by name",
-        steps: &[
-            (PUT_A, DONE),
-            (RELOAD, DONE),
-            (START_A, DONE),
-            (
-                UNITS,
-                r#"{"ok":true,"value":[["a.service","active","running"],["shutdown.target","inactive","dead"]]}"#,
-            ),
-            (
-                CANCEL_A,
-                r#"{"detail":["a.service"],"error":21,"ok":false}"#,
-            ),
-        ],
-    },
+];
+
+/// What a job takes along.
+const TAKEN_ALONG: &[Script] = &[
     Script {
         shows: "a failed start takes along what needs it",
         steps: &[
@@ -284,6 +254,48 @@ const SCRIPTS: &[Script] = &[
             (r#"{"verb":"is-active","unit":"d"}"#, ACTIVE),
         ],
     },
+];
+
+/// What is pulled in, left or listed.
+const KNOWN: &[Script] = &[
+    Script {
+        shows: "what is wanted and cannot start is left",
+        steps: &[
+            (
+                r#"{"verb":"put-file","path":"lib/t.target","text":"[Unit]\nWants=a.service\n"}"#,
+                DONE,
+            ),
+            (
+                r#"{"verb":"put-file","path":"lib/a.service","text":"[Service]\nExecStart=/bin/sleep 9\n[Unit]\nRequires=gone.service\n"}"#,
+                DONE,
+            ),
+            (RELOAD, DONE),
+            (START_T, DONE),
+            (r#"{"verb":"is-active","unit":"t.target"}"#, ACTIVE),
+            (r#"{"verb":"is-active","unit":"a"}"#, INACTIVE),
+            (ACTIONS, NOTHING),
+            (
+                START_A,
+                r#"{"detail":["gone.service"],"error":4,"ok":false}"#,
+            ),
+        ],
+    },
+    Script {
+        shows: "known units are listed by name",
+        steps: &[
+            (PUT_A, DONE),
+            (RELOAD, DONE),
+            (START_A, DONE),
+            (
+                UNITS,
+                r#"{"ok":true,"value":[["a.service","active","running"],["shutdown.target","inactive","dead"]]}"#,
+            ),
+            (
+                CANCEL_A,
+                r#"{"detail":["a.service"],"error":21,"ok":false}"#,
+            ),
+        ],
+    },
     Script {
         shows: "an instance that no entry names is pulled in",
         steps: &[
@@ -316,5 +328,7 @@ const SCRIPTS: &[Script] = &[
 
 #[test]
 fn scripts_have_their_replies(rt: HostRuntime) {
-    play_all(&rt, SCRIPTS);
+    for scripts in [CIRCLES, CONFLICTS, TAKEN_ALONG, KNOWN] {
+        play_all(&rt, scripts);
+    }
 }
