@@ -1,5 +1,5 @@
 //! Children in memory.
-use crate::orders::{number, order, told};
+use crate::orders::{keeper, number, order};
 use std::process::Abort;
 use um_children::{Call, ChildFault, Children, End, FakeChildren, Fate, Signal};
 
@@ -8,10 +8,15 @@ const SLEEPS: &str = "ExecStart=/bin/sleep 9";
 /// Children of which number 1 was started.
 fn started(rt: &(impl AllocGlobal + Abort)) -> FakeChildren {
     let mut children = FakeChildren::new(rt.alloc());
-    let order = order(rt, SLEEPS);
+    let order = order(rt, &mut keeper(rt), "a.service", SLEEPS);
     assert_eq!(rt; order.number(), number(rt, 1));
     children.spawn(order).expect(rt, "not started");
     children
+}
+
+/// Asserts what is told of a number.
+fn told(rt: &impl Abort, children: &mut FakeChildren, n: u64, claim: bool, wanted: Fate) {
+    assert_eq!(rt; children.fate(number(rt, n), claim), Ok(wanted), "at {n}");
 }
 
 #[test]
@@ -46,7 +51,7 @@ fn the_second_later_call_fails(rt: HostRuntime) {
 fn a_number_that_was_told_absent_never_starts(rt: HostRuntime) {
     let mut children = FakeChildren::new(rt.alloc());
     told(&rt, &mut children, 1, true, Fate::Absent);
-    let order = order(&rt, SLEEPS);
+    let order = order(&rt, &mut keeper(&rt), "a.service", SLEEPS);
     children.spawn(order).expect(&rt, "not asked");
     told(&rt, &mut children, 1, true, Fate::Absent);
     told(&rt, &mut children, 1, false, Fate::Starting);

@@ -1,5 +1,5 @@
 //! Children through runners, over a folder of files that a test has put there. No process is started.
-use crate::orders::{number, told};
+use crate::orders::number;
 use std::fs::{File, Files};
 use std::path::PathBuf;
 use std::process::{Abort, Processes};
@@ -36,7 +36,6 @@ fn is_there(rt: &HostRuntime, folder: &str, name: &str) -> Result<bool, Fail> {
     Ok(fs::exists(rt, path.as_str())?)
 }
 
-/// Children over the folder, with a runner that isn't there.
 fn children<'a, R: AllocGlobal + Files + Processes + Clock + Abort>(
     rt: &'a R,
     folder: &str,
@@ -44,32 +43,36 @@ fn children<'a, R: AllocGlobal + Files + Processes + Clock + Abort>(
     RunnerDir::open(rt, rt.alloc(), "/nonexistent", folder).expect(rt, "no folder")
 }
 
-/// Files of another form, each of the number, and what is told of it.
-const ODD: &[(&str, &[u8], u64, Fate)] = &[
-    ("1.status", b"", 1, Fate::Ended(End::Lost)),
-    ("2.status", b"code 256\n", 2, Fate::Ended(End::Lost)),
-    ("3.status", b"signal 9", 3, Fate::Ended(End::Lost)),
-    ("4.claim", b"x", 4, Fate::Starting),
-    ("5.pid", b"12a\n", 5, Fate::Executed),
-    ("8.status", b"\xff\xfe code 3\n", 8, Fate::Ended(End::Lost)),
-    ("9.status", b"signal 9\n", 9, Fate::Ended(End::Signal(9))),
-];
+/// Asserts what is told of a number that is asked with a claim.
+fn told<R: Files + Processes + Clock + Abort>(
+    rt: &R,
+    children: &mut RunnerDir<'_, R>,
+    n: u64,
+    wanted: Fate,
+) {
+    assert_eq!(rt; children.fate(number(rt, n), true), Ok(wanted), "at {n}");
+}
 
 #[test]
 fn files_of_another_form_are_never_an_error(rt: HostRuntime) -> Result<(), Fail> {
     let place = folder(&rt, "odd")?;
     let place = place.as_str();
+    put(&rt, place, "1.status", b"")?;
+    put(&rt, place, "2.status", b"code 256\n")?;
+    put(&rt, place, "3.status", b"signal 9")?;
+    put(&rt, place, "4.claim", b"x")?;
+    put(&rt, place, "5.pid", b"12a\n")?;
     fs::create_dir(&rt, format!(in rt.alloc(); "{place}/6.status")?)?;
     put(&rt, place, "7.status", [b'7'; 1_000_000].as_slice())?;
-    for (name, bytes, n, wanted) in ODD {
-        put(&rt, place, name, bytes)?;
-        let mut children = children(&rt, place);
-        told(&rt, &mut children, *n, true, *wanted);
-        assert_eq!(rt; children.failures(), 0);
-    }
+    put(&rt, place, "8.status", b"\xff\xfe code 3\n")?;
+    put(&rt, place, "9.status", b"signal 9\n")?;
     let mut children = children(&rt, place);
-    told(&rt, &mut children, 6, true, Fate::Ended(End::Lost));
-    told(&rt, &mut children, 7, true, Fate::Ended(End::Lost));
+    for n in [1, 2, 3, 6, 7, 8] {
+        told(&rt, &mut children, n, Fate::Ended(End::Lost));
+    }
+    told(&rt, &mut children, 4, Fate::Starting);
+    told(&rt, &mut children, 5, Fate::Executed);
+    told(&rt, &mut children, 9, Fate::Ended(End::Signal(9)));
     children
         .signal(number(&rt, 5), Signal::Kill)
         .expect(&rt, "a failure");
@@ -82,13 +85,11 @@ fn files_of_another_form_are_never_an_error(rt: HostRuntime) -> Result<(), Fail>
 fn what_the_manager_claims_first_is_absent_for_good(rt: HostRuntime) -> Result<(), Fail> {
     let place = folder(&rt, "claims")?;
     let place = place.as_str();
-    let mut children = RunnerDir::open(&rt, rt.alloc(), "/nonexistent", place).expect(
-        &rt,
-        "no folder",
-    );
-    told(&rt, &mut children, 1, false, Fate::Starting);
+    let mut children = children(&rt, place);
+    let silent = children.fate(number(&rt, 1), false);
+    assert_eq!(rt; silent, Ok(Fate::Starting));
     assert!(rt; !is_there(&rt, place, "1.claim")?);
-    told(&rt, &mut children, 1, true, Fate::Absent);
+    told(&rt, &mut children, 1, Fate::Absent);
     assert_eq!(rt;
         fs::read(&rt, format!(in rt.alloc(); "{place}/1.claim")?)?.as_slice(),
         b"manager\n".as_slice()
@@ -96,7 +97,7 @@ fn what_the_manager_claims_first_is_absent_for_good(rt: HostRuntime) -> Result<(
     assert!(rt; !is_there(&rt, place, "1.claim.manager")?);
     children.forget(number(&rt, 1)).expect(&rt, "not forgotten");
     assert!(rt; is_there(&rt, place, "1.claim")?);
-    told(&rt, &mut children, 1, true, Fate::Absent);
+    told(&rt, &mut children, 1, Fate::Absent);
     fs::remove_dir_all(&rt, place)?;
     Ok(())
 }
@@ -129,10 +130,7 @@ fn a_number_that_ended_is_forgotten_with_its_files(rt: HostRuntime) -> Result<()
         )?;
     }
     fs::remove_file(&rt, format!(in rt.alloc(); "{place}/2.status")?)?;
-    let mut children = RunnerDir::open(&rt, rt.alloc(), "/nonexistent", place).expect(
-        &rt,
-        "no folder",
-    );
+    let mut children = children(&rt, place);
     children.forget(number(&rt, 1)).expect(&rt, "not forgotten");
     children.forget(number(&rt, 2)).expect(&rt, "not forgotten");
     for name in names {

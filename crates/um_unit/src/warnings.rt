@@ -14,8 +14,8 @@ ghost use Rattle.um_unit.specs.View.{warning_of};
 use crate::assignments::{Source, section_after};
 use crate::keys::{is_foreign, is_known_section, kind_of_key};
 use crate::readings::{
-    Meaning, NameUse, commands_reading, environment_reading, first_warning,
-    names_reading, text_reading, value_reading,
+    Meaning, NameUse, commands_reading, environment_reading, first_warning, names_reading,
+    text_reading, value_reading,
 };
 use crate::singles::{default_instance_in, type_said};
 use std::alloc::{AllocError, Global};

@@ -13,7 +13,7 @@ returns c =
     IfOk-weaker c.names_of.result (λ names. map string_bytes names.items ≡ names_of is_unit_name c.args.unit.now values)
     (λ names. map string_bytes names.items ≡ all_said c.args.unit.now kinds.Units (values_of ((c.args.key.0.now, c.args.key.1.now) ∷ []) (map assigned_of c.args.assigned.now)))
     (λ names said.
-        said
-        ∙ ap (λ all. names_of is_unit_name c.args.unit.now (map (λ v. v.now) all)) c.as_slice.ensures.value
-        ∙ ap (names_of is_unit_name c.args.unit.now) c.in_ok-values.ensures)
+    said
+    ∙ ap (λ all. names_of is_unit_name c.args.unit.now (map (λ v. v.now) all)) c.as_slice.ensures.value
+    ∙ ap (names_of is_unit_name c.args.unit.now) c.in_ok-values.ensures)
     c.names_of.ensures
