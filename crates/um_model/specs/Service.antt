@@ -62,7 +62,8 @@ result_text result.Resources = codes "resources"
 
 -- a unit of which the state holds nothing
 abbrev pub dead_unit : UnitState
-dead_unit = record { sub = Dead; result = result.Success; main = None; control = None; index = 0; deadline = None; window = None; stop_asked = false; last = None }
+dead_unit =
+    record { sub = Dead; result = result.Success; main = None; control = None; index = 0; deadline = None; window = None; stop_asked = false; last = None }
 
 abbrev pub is_dead : SubState → Bool
 is_dead Dead = true

@@ -269,7 +269,8 @@ service_settings_with start kind unit assigned = record {
   restart_delay = last_said unit kinds.Span (Some default_restart_delay) ((codes "Service", codes "RestartSec") ∷ []) assigned;
   timeout_start =
       unless_zero
-      (last_said unit kinds.Span (default_timeout_start kind) ((codes "Service", codes "TimeoutStartSec") ∷ (codes "Service", codes "TimeoutSec") ∷ []) assigned);
+      (last_said unit kinds.Span (default_timeout_start kind)
+      ((codes "Service", codes "TimeoutStartSec") ∷ (codes "Service", codes "TimeoutSec") ∷ []) assigned);
   timeout_stop =
       unless_zero
       (last_said unit kinds.Span (Some default_timeout) ((codes "Service", codes "TimeoutStopSec") ∷ (codes "Service", codes "TimeoutSec") ∷ []) assigned);
