@@ -1,12 +1,11 @@
 -- How runs of disk calls go on: what was shown of each call says what every image during them has.
-use Rattle.std.specs.Prelude.{◌≡◌, ◌≢◌, ◌⊎◌, ◌+◌, ◌<◌, ◌≤◌, ℕ, zero, suc, List, [], ◌∷◌, ◌++◌, length, Result, Ok, Err, refl, OnOk}
+use Rattle.std.specs.Prelude.{◌≡◌, ◌≢◌, ◌⊎◌, ◌≤◌, ℕ, suc, List, [], ◌∷◌, ◌++◌, length, Result, Ok, Err, refl, OnOk}
 use Rattle.std.specs.List.{Contains}
-use Rattle.std.proofs.Common.{get_or, take, length-take, sym, ◌∙◌, ap, subst, inl, inr, ⊎_elim, arith, append_assoc, length-append, add-one}
+use Rattle.std.proofs.Common.{sym, ◌∙◌, ap, subst, inl, inr, ⊎_elim, arith, append_assoc, length-append}
 use Rattle.std.proofs.lemmas.Bool.{cases_eq}
-use Rattle.std.proofs.lemmas.List.{get_or-take}
 use Rattle.std.proofs.lemmas.Bool.Decides.{nat_tests}
 use Rattle.std.proofs.lemmas.List.Elements.{Contains-append_left, Contains-push, Contains-push_cases}
-use Rattle.um_model.specs.Disk.{Sector, Image, with_sector, Call, wrote, synced, Past, seen_after, seen, candidates_after, candidates, IsImage, moment, ImageSince, after, Wrote, Synced, Images, onto, During, IsSettled, one_more}
+use Rattle.um_model.specs.Disk.{Sector, Image, with_sector, Call, wrote, synced, Past, seen_after, seen, candidates_after, candidates, IsImage, moment, ImageSince, after, Wrote, Synced, Images, onto, During, IsSettled}
 
 -- images that agree are one
 pub same_image : (f g : Image) → ((k : ℕ) → f k ≡ g k) → f ≡ g

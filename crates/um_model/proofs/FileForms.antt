@@ -1,5 +1,5 @@
 -- Parts of the definitions of files and their values, by names that laws and code use.
-use Rattle.std.specs.Prelude.{ℕ, ◌*◌, ◌+◌, ◌-◌, ◌^◌, ◌&&◌, ◌||◌, Bool, true, false, not, List, [], ◌∷◌, ◌++◌, length, drop, reverse, take_while, fold, filter, filter_map, slice_index, map, bytes_eq, nat_lt, Option, None, Some, option_map, option_and_then, unwrap_or, Result, if◌then◌else◌, ◌==◌}
+use Rattle.std.specs.Prelude.{ℕ, ◌*◌, ◌+◌, ◌-◌, ◌^◌, ◌&&◌, ◌||◌, Bool, true, false, not, List, [], ◌∷◌, ◌++◌, length, drop, reverse, take_while, fold, filter, filter_map, slice_index, map, bytes_eq, nat_lt, Option, None, Some, option_map, unwrap_or, Result, if◌then◌else◌, ◌==◌}
 use Rattle.std.specs.Char.{digit_value}
 use Rattle.std.specs.Ffi.{without_last}
 use Rattle.std.specs.List.{flat_map, slice_split, before_first, after_first, position_or_len}

@@ -22,7 +22,6 @@ use Rattle.um_model.specs.declared.service.End.{End}
 use Rattle.um_model.specs.declared.service.Signal.TheVariants.{Term}
 use Rattle.um_model.specs.declared.service.SubState.{SubState}
 use Rattle.um_model.specs.declared.service.SubState.TheVariants.{Dead, Start, Running, Exited, Stop, StopSigterm, StopSigkill, Failed, AutoRestart, Active}
-use Rattle.um_model.specs.declared.service.UnitResult.{UnitResult}
 use Rattle.um_model.specs.declared.service.UnitResult.TheVariants as result
 use Rattle.um_model.specs.declared.service.UnitState.{UnitState}
 use Rattle.um_model.specs.declared.transition.Around.{Around}

@@ -1,5 +1,5 @@
 -- Parts of definitions, by names that the laws of them use.
-use Rattle.std.specs.Prelude.{◌+◌, ◌-◌, Bool, true, nat_le, nat_eq, length, take, List, [], ◌∷◌, ℕ, Option, Some, None, if◌then◌else◌, is_some, is_none, not, ◌&&◌, ◌==◌}
+use Rattle.std.specs.Prelude.{◌+◌, ◌-◌, Bool, true, nat_le, nat_eq, length, take, List, [], ◌∷◌, ℕ, Option, Some, None, if◌then◌else◌, is_some, ◌==◌}
 use Rattle.std.specs.List.{list_any, ends_with, slice_get, list_all}
 use Rattle.std.specs.Str.{is_utf8}
 use Rattle.std.specs.Option.{option_map_or, option_and_then, option_to_list}
@@ -14,7 +14,6 @@ use Rattle.um_model.specs.Values.{exit_of, is_end}
 use Rattle.um_model.specs.declared.names.Suffix.{Suffix}
 use Rattle.um_model.specs.declared.service.End.{End}
 use Rattle.um_model.specs.Sessions.{Asked}
-use Rattle.um_model.specs.declared.service.UnitState.{UnitState}
 use Rattle.um_model.specs.declared.jobs.JobKind.{JobKind}
 use Rattle.um_model.specs.declared.jobs.UnitJobs.{UnitJobs}
 use Rattle.um_model.specs.declared.jobs.JobState.TheVariants.{Running}

@@ -1,15 +1,14 @@
 -- What the log says: its records have one reading, what isn't read doesn't count, and a record that is being written is there whole or not at all.
-use Rattle.std.specs.Prelude.{◌≡◌, ◌⊎◌, ◌+◌, ◌-◌, ◌*◌, ◌^◌, ◌<◌, ◌≤◌, min, ℕ, zero, suc, List, [], ◌∷◌, ◌++◌, length, take, drop, slice_index_or, refl}
+use Rattle.std.specs.Prelude.{◌≡◌, ◌⊎◌, ◌+◌, ◌-◌, ◌*◌, ◌<◌, ◌≤◌, min, ℕ, zero, suc, List, [], ◌∷◌, ◌++◌, length, take, drop, refl}
 use Rattle.std.proofs.Common.{sym, ◌∙◌, ap, subst, inl, inr, ⊎_elim, arith}
-use Rattle.std.proofs.lemmas.Bool.{cases_lt, cases_eq}
-use Rattle.std.proofs.lemmas.List.{take-append-drop, length-drop, length-take, length-append, nil_from_length, drop-drop, append-nil}
+use Rattle.std.proofs.lemmas.Bool.{cases_eq}
+use Rattle.std.proofs.lemmas.List.{take-append-drop, length-drop, length-take, nil_from_length, drop-drop}
 use Rattle.byteorder.specs.Endian.{big_number}
-use Rattle.um_model.specs.Disk.{Sector, Image, Past, seen, IsImage, During, IsSettled}
+use Rattle.um_model.specs.Disk.{Sector, Image}
 use Rattle.um_model.specs.declared.layout.Layout.{Layout}
-use Rattle.um_model.specs.declared.layout.Slot.{Slot}
 use Rattle.um_model.specs.declared.layout.Slot.TheVariants.{A, B}
-use Rattle.um_model.specs.Store.{log_start, log_end, record_limit, part_count, part_of, log_sector, IsRecord, AreRecords, stops, goes_on, HasRecords, sectors_of, placed, IsOf, IsFree, IsLogEnd, IsPart, IsLogRead, begins, part_behind, record_behind, IsStore, GoesOn, IsSlotRead, head, behind}
-use Rattle.um_model.proofs.StoreLaws.{log_generation, log_size, log_payload, is_of, none_of, same_record, unread_newest, body_within}
+use Rattle.um_model.specs.Store.{log_start, part_count, part_of, IsRecord, AreRecords, stops, goes_on, sectors_of, placed, IsPart, IsLogRead, begins, part_behind, record_behind, IsSlotRead, head, behind}
+use Rattle.um_model.proofs.StoreLaws.{log_size, log_payload, same_record, body_within}
 
 -- ---- one reading
 

@@ -1,6 +1,6 @@
 -- A transaction has one plan, and is refused for one cause or none: where finitely many units depend on one another and what a scene says
 -- is decided.
-use Rattle.std.proofs.Common.{◌≡◌, ◌≢◌, ◌⊎◌, ◌∙◌, ℕ, List, ◌∷◌, ◌++◌, Option, Some, None, refl, sym, ap, subst, inl, inr}
+use Rattle.std.proofs.Common.{◌≡◌, ◌≢◌, ◌⊎◌, ◌∙◌, ℕ, List, ◌∷◌, ◌++◌, Option, Some, None, refl, sym, ap, inl, inr}
 use Rattle.std.proofs.lemmas.Option.{none-some}
 use Rattle.std.specs.FinMap as map
 use Rattle.um_model.specs.Jobs.{Job, AreTidyJobs, ComesBefore, DropsOne, drops, job_of, jobs_of_unit, no_jobs, jobs_for}

@@ -11,7 +11,7 @@ use Rattle.um_model.specs.Machine.{Reply, Done, Shown, Activity, Files, Relinked
 use Rattle.um_model.specs.Resolution.{UnitFile}
 use Rattle.um_model.specs.Service.{active_state_of, active_state_text, sub_state_text, Action, SpawnProcess, SendSignal}
 use Rattle.um_model.specs.Refusals.{Refused, too_large}
-use Rattle.um_model.specs.Replies.{warning_data, list_data, texts_data, action_data, refused_data, reply_data, is_told_whole, reply_text}
+use Rattle.um_model.specs.Replies.{warning_data, texts_data, action_data, refused_data, reply_data, reply_text}
 use Rattle.um_model.specs.Units.{Warning}
 use Rattle.um_model.specs.declared.refusals.Limit.TheVariants.{Reply as ReplyLimit}
 

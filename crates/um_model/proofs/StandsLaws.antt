@@ -1,7 +1,7 @@
 -- What an image of a store stands for is one state at most, of one layout; and what the sectors of a store say as its state.
 use Rattle.std.specs.Prelude.{drop, map, is_some, true}
 use Rattle.std.specs.List.{AllByRecursion}
-use Rattle.std.proofs.Common.{◌≡◌, ◌⊎◌, inl, inr, ◌∙◌, ℕ, ◌+◌, ◌≤◌, List, [], ◌∷◌, ◌++◌, Option, Some, None, refl, sym, ap, subst, arith}
+use Rattle.std.proofs.Common.{◌≡◌, ◌∙◌, ℕ, ◌+◌, ◌≤◌, List, [], ◌∷◌, ◌++◌, Option, Some, None, refl, sym, ap, subst, arith}
 use Rattle.std.proofs.Math.Bridge.{le_prop}
 use Rattle.std.proofs.lemmas.Bool.{false≢true}
 use Rattle.std.proofs.lemmas.List.{append-nil}
@@ -9,7 +9,7 @@ use Rattle.std.proofs.lemmas.Option.{same_Some, none-some}
 use Rattle.byteorder.specs.Endian.{big_number}
 use mathlib.Core.HLevel.{×_prop}
 use Rattle.um_model.specs.Bytes.{◌>>=◌, nothing_left}
-use Rattle.um_model.specs.Disk.{Sector, Image, Past, IsImage, Images}
+use Rattle.um_model.specs.Disk.{Sector, Image}
 use Rattle.um_model.specs.InputSpellings.{input_spelling, input_at, FitInput}
 use Rattle.um_model.specs.Machine.{State, Input, Reply, Step, Run, rests, goes, empty_state}
 use Rattle.um_model.specs.Servable.{IsServable}

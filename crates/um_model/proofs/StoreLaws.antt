@@ -1,17 +1,15 @@
 -- What the sectors of a store say: each header, body and record has one reading, and what isn't read doesn't count.
-use Rattle.std.specs.Prelude.{◌≡◌, ◌⊎◌, ◌+◌, ◌-◌, ◌*◌, ◌^◌, ◌<◌, ◌≤◌, ℕ, zero, suc, List, [], ◌∷◌, ◌++◌, length, take, drop, replicate, codes, refl}
-use Rattle.std.proofs.Common.{sym, ◌∙◌, ap, subst, inl, inr, ⊎_elim, arith, append_assoc}
-use Rattle.std.proofs.Math.Seq.{take-append_seam, take-append-add}
-use Rattle.std.proofs.lemmas.Bool.{cases_lt}
-use Rattle.std.proofs.lemmas.List.{take-append-drop, length-drop, length-take, nil_from_length, take_all, drop-drop, append-nil}
+use Rattle.std.specs.Prelude.{◌≡◌, ◌⊎◌, ◌+◌, ◌-◌, ◌^◌, ◌<◌, ◌≤◌, ℕ, zero, suc, List, [], ◌∷◌, ◌++◌, length, take, drop, replicate, codes, refl}
+use Rattle.std.proofs.Common.{sym, ◌∙◌, ap, subst, inl, inr, arith, append_assoc}
+use Rattle.std.proofs.Math.Seq.{take-append_seam}
+use Rattle.std.proofs.lemmas.List.{append-nil}
 use Rattle.byteorder.specs.Endian.{big_number, big_bytes}
 use Rattle.byteorder.specs.Numbers.{big_number-reads_back}
-use Rattle.um_model.specs.Disk.{Sector, Image, Past, seen, IsImage, Images, During, IsSettled}
-use Rattle.um_model.proofs.DiskLaws.{started, weaker}
+use Rattle.um_model.specs.Disk.{Sector, Image}
 use Rattle.um_model.specs.declared.layout.Layout.{Layout}
 use Rattle.um_model.specs.declared.layout.Slot.{Slot}
 use Rattle.um_model.specs.declared.layout.Slot.TheVariants.{A, B}
-use Rattle.um_model.specs.Store.{log_start, log_end, IsRecord, AreRecords, stops, goes_on, IsOf, IsFree, IsLogEnd, IsStore, GoesOn, filled, superblock, slot_start, other, body_limit, header_sector, IsHeader, sector_count, joined, body_at, IsNewest, HasNoHeader, IsSlotRead, head, behind, log_sector, part_count, part_of}
+use Rattle.um_model.specs.Store.{log_start, log_end, IsRecord, AreRecords, stops, goes_on, IsOf, IsFree, IsStore, filled, superblock, slot_start, other, body_limit, header_sector, IsHeader, sector_count, joined, body_at, IsNewest, HasNoHeader, IsSlotRead, head, behind, log_sector, part_count, part_of}
 
 -- ---- headers
 

@@ -4,7 +4,7 @@ use Rattle.std.proofs.lemmas.Bool.{cases_Bool, cond-true, cond-false, ne_eqb}
 use Rattle.std.proofs.lemmas.Option.{none-some, same_Some}
 use Rattle.std.specs.Option.{option_map_or}
 use Rattle.um_model.specs.Ascii.{is_space}
-use Rattle.um_model.specs.Pieces.{Front, Gives, reading, Unreadable}
+use Rattle.um_model.specs.Pieces.{Front, Gives, Unreadable}
 use Rattle.um_model.proofs.WordSteps.{bare, begun-read}
 use Rattle.um_model.specs.Words.{is_quote, Word, word_front, piece_of_words, words_of}
 use Rattle.um_model.specs.Substitution.{Variable, value_of, whole_name, braced_name, dollar_front, piece_front, Becomes, splits, fills, AllBecome, no_more, one_more, AreSubstituted, no_words, first_stays}

@@ -1,6 +1,5 @@
 -- What the state holds of a unit after that unit, or its jobs, were put into it; and what it holds of the others.
-use Rattle.std.proofs.Common.{ℕ, ◌≡◌, ◌≢◌, ◌∙◌, ◌==◌, ◌&&◌, ◌||◌, Bool, true, false, true≢false, not, cond, List, Option, Some, None, is_some, unwrap_or, refl, sym, ap}
-use Rattle.std.proofs.lemmas.Bool.Decides.{Decides-eqb}
+use Rattle.std.proofs.Common.{ℕ, ◌≡◌, ◌≢◌, ◌∙◌, ◌||◌, Bool, true, false, true≢false, cond, List, Option, Some, None, is_some, unwrap_or, refl, sym, ap}
 use Rattle.std.proofs.lemmas.Option.{none-some, same_Some}
 use Rattle.std.proofs.lemmas.Map.Views.{tells_apart}
 use Rattle.std.proofs.lemmas.Map.Lookups.{exact_bytes}
@@ -11,10 +10,6 @@ use Rattle.std.specs.Ordering.{nat_cmp, eq_by_cmp}
 use Rattle.um_model.specs.Service.{ByUnit, holds_nothing, dead_unit, state_of_unit, with_unit}
 use Rattle.um_model.specs.Jobs.{no_jobs, jobs_of_unit, has_job, with_jobs}
 use Rattle.um_model.specs.declared.jobs.UnitJobs.{UnitJobs}
-use Rattle.um_model.specs.declared.service.SubState.{SubState}
-use Rattle.um_model.specs.declared.service.SubState.TheVariants.{Dead}
-use Rattle.um_model.specs.declared.service.UnitResult.{UnitResult}
-use Rattle.um_model.specs.declared.service.UnitResult.TheVariants.{Success}
 use Rattle.um_model.specs.declared.service.UnitState.{UnitState}
 use Rattle.um_model.proofs.SameUnits.{unit_decides}
 

@@ -1,8 +1,8 @@
 -- The disk model: what was asked of a disk since it was made, what a read gives, and which images a crash may leave.
 -- No manual page has it: it is the usual model of sectors whose writes reach the disk in any order until a sync answers.
 -- The trait `Disk` and its devices, the log, the slots and the keeper stand on this file.
-use Rattle.std.specs.Prelude.{◌≡◌, ◌⊎◌, ◌+◌, ◌<◌, ◌≤◌, min, ℕ, zero, suc, ◌==◌, if◌then◌else◌, List, [], ◌∷◌, ◌++◌, length}
-use Rattle.std.specs.Prelude.{slice_index_or, Result, Ok, Err}
+use Rattle.std.specs.Prelude.{◌≡◌, ◌⊎◌, ◌+◌, ◌≤◌, min, ℕ, suc, ◌==◌, if◌then◌else◌, List, [], ◌∷◌, ◌++◌, length}
+use Rattle.std.specs.Prelude.{Result, Ok, Err}
 use Rattle.std.specs.List.{Contains}
 use Rattle.um_model.specs.Moments.{last_of_64_bits}
 

@@ -19,7 +19,6 @@ use Rattle.um_model.specs.declared.install.Enabling.TheVariants as enabling
 use Rattle.um_model.specs.declared.install.InstallVerb.{InstallVerb}
 use Rattle.um_model.specs.declared.install.InstallVerb.TheVariants as verbs
 use Rattle.um_model.specs.declared.refusals.Limit.TheVariants.{Entries}
-use Rattle.um_model.specs.declared.tree.Layer.{Layer}
 use Rattle.um_model.specs.declared.tree.Layer.TheVariants.{Etc}
 
 -- ---- the links that a unit asks for

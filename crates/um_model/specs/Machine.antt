@@ -1,7 +1,7 @@
 -- The machine: its state, what comes in, what is answered, one step, and a run.
 -- The rules of single inputs follow systemctl(1); the machine itself is this project's own.
 -- The engine, the keeper, the manager and the program stand on this file.
-use Rattle.std.specs.Prelude.{◌≡◌, ◌≢◌, ◌⊎◌, ◌↔◌, ⊤, ℕ, ◌+◌, ◌<◌, ◌≤◌, max, Bool, true, false, not, ◌||◌, if◌then◌else◌, List, [], ◌∷◌, ◌++◌, Option, Some, None, is_some, Ok, Err, codes, map as each, AllPairs, Contains}
+use Rattle.std.specs.Prelude.{◌≡◌, ◌≢◌, ◌⊎◌, ◌↔◌, ⊤, ℕ, ◌+◌, ◌<◌, ◌≤◌, max, Bool, true, false, if◌then◌else◌, List, [], ◌∷◌, ◌++◌, Option, Some, None, is_some, Ok, Err, codes, map as each, AllPairs, Contains}
 use Rattle.std.specs.FinMap as map
 use Rattle.std.specs.Option.{option_map_or}
 use Rattle.um_model.specs.Least.{IsLeast, IsNamedBefore}
@@ -9,14 +9,14 @@ use Rattle.um_model.specs.Refusals.{Refused, not_found, masked, bad_setting, not
 use Rattle.um_model.specs.Names.{is_template}
 use Rattle.um_model.specs.Tree.{Tree, put_file, put_link, remove_at, without_run}
 use Rattle.um_model.specs.Settings.{ServiceSettings, default_settings}
-use Rattle.um_model.specs.Resolution.{UnitFile, Resolution, AtFile, AtNoFile, AtMask, Nowhere, files_at, resolution_of}
+use Rattle.um_model.specs.Resolution.{UnitFile, Resolution, AtMask, Nowhere, files_at, resolution_of}
 use Rattle.um_model.specs.Units.{LoadedUnit, Loading, Found, Masked, NotFound, BadSetting, load, name_in, Warning}
 use Rattle.um_model.specs.Dependencies.{IsKnown, KnowsTooMany, CountsFor, Depends, Precedes, loadable_in}
 use Rattle.um_model.specs.Install.{Installs, RefusesInstall, paths_beyond, IsEnabledAs}
 use Rattle.um_model.specs.Service.{ByUnit, AreTidyUnits, state_of_unit, with_unit, active_state_of, is_number, Action}
 use Rattle.um_model.specs.Ends.{is_starting, has_one_command}
 use Rattle.um_model.specs.Transitions.{transition, AreActions, HasNumber, spawned, is_going}
-use Rattle.um_model.specs.Jobs.{Job, job_of, jobs, no_jobs, jobs_of_unit, with_jobs, AreTidyJobs, is_active, cancelled, JobShown, jobs_shown, jobs_left, without_start, ComesBefore, IsReady, BeginsNext, with_job}
+use Rattle.um_model.specs.Jobs.{Job, job_of, jobs, no_jobs, jobs_of_unit, with_jobs, AreTidyJobs, is_active, cancelled, JobShown, jobs_shown, jobs_left, without_start, IsReady, BeginsNext, with_job}
 use Rattle.um_model.specs.Plan.{Scene, IsPlan, CausesOfPlan, NamesCycle, AreFree}
 use Rattle.um_model.specs.Reached.{Reached}
 use Rattle.um_model.specs.Timers.{Timers, IsDueFirst}
@@ -43,7 +43,6 @@ use Rattle.um_model.specs.declared.service.UnitResult.TheVariants.{Dependency}
 use Rattle.um_model.specs.declared.service.UnitState.{UnitState}
 use Rattle.um_model.specs.declared.transition.Around.{Around}
 use Rattle.um_model.specs.declared.transition.Change.{Change}
-use Rattle.um_model.specs.declared.transition.StartJob.{StartJob}
 use Rattle.um_model.specs.declared.transition.StartJob.TheVariants.{Fails}
 use Rattle.um_model.specs.declared.transition.UnitEvent.{UnitEvent}
 use Rattle.um_model.specs.declared.transition.UnitEvent.TheVariants.{StartBegins, StopBegins, BoundStop, Executed, MainEnds, ControlEnds, DeadlinePasses, Reset}

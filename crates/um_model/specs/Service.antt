@@ -1,7 +1,7 @@
 -- What the state holds of a unit: its sub state, result, process numbers and deadline.
 -- Follows systemctl(1) and systemd.service(5) in the names of states and results.
 -- The machine, replies and canonical bytes stand on this file.
-use Rattle.std.specs.Prelude.{◌≢◌, ℕ, Bool, true, false, ◌&&◌, ◌==◌, not, if◌then◌else◌, List, Option, Some, None, unwrap_or, codes, is_none}
+use Rattle.std.specs.Prelude.{◌≢◌, ℕ, Bool, true, false, ◌==◌, if◌then◌else◌, List, Option, Some, None, unwrap_or, codes}
 use Rattle.std.specs.FinMap as map
 use Rattle.std.specs.Cmp.Lexicographic.{slice_cmp}
 use Rattle.std.specs.Ordering.{nat_cmp}

@@ -1,10 +1,10 @@
 -- What the sectors of a store are: its layout, the two slots with a header and a body each, and the log of records.
 -- No manual page has it: it is the project's own format (docs/FORMATS.md, "The store on its disk").
 -- The slots, the log and the keeper stand on this file.
-use Rattle.std.specs.Prelude.{◌≡◌, ◌⊎◌, ◌+◌, ◌-◌, ◌*◌, ◌/◌, ◌^◌, ◌<◌, ◌≤◌, min, ℕ, zero, suc, List, [], ◌∷◌, ◌++◌, length, take, drop, replicate, codes}
+use Rattle.std.specs.Prelude.{◌≡◌, ◌+◌, ◌-◌, ◌*◌, ◌/◌, ◌^◌, ◌<◌, ◌≤◌, min, ℕ, zero, suc, List, [], ◌∷◌, ◌++◌, length, take, drop, replicate, codes}
 use Rattle.std.specs.Prelude.{Bool, true, ◌&&◌, bytes_eq, nat_lt, nat_le, if◌then◌else◌, Option, Some, None}
 use Rattle.byteorder.specs.Endian.{big_number, big_bytes}
-use Rattle.um_model.specs.Disk.{Sector, Image, Past, IsImage, Images}
+use Rattle.um_model.specs.Disk.{Sector, Image, Past, Images}
 use Rattle.um_model.specs.declared.layout.Layout.{Layout}
 use Rattle.um_model.specs.declared.layout.Slot.{Slot}
 use Rattle.um_model.specs.declared.layout.Slot.TheVariants.{A, B}
