@@ -2,7 +2,7 @@
 use Rattle.std.proofs.Common.{◌≡◌, ℕ, List, sym, subst}
 use Rattle.um_model.specs.Install.{IsEnabledAs}
 use Rattle.um_model.specs.Jobs.{jobs_shown}
-use Rattle.um_model.specs.Machine.{State, Reply, Shown, Activity, EnabledAs, Jobs, Query, Show, IsActive, IsFailed, Cat, IsEnabled, ListJobs, shown_of, state_asked, files_told, IsReplyTo, shows, tells_activity, tells_failure, tells_files, tells_enabling, lists_jobs}
+use Rattle.um_model.specs.Machine.{State, Reply, Shown, Activity, EnabledAs, Jobs, Show, IsActive, IsFailed, Cat, IsEnabled, ListJobs, shown_of, state_asked, files_told, IsReplyTo, shows, tells_activity, tells_failure, tells_files, tells_enabling, lists_jobs}
 use Rattle.um_model.specs.Resolution.{resolution_of}
 use Rattle.um_model.specs.Service.{active_state_of}
 use Rattle.um_model.specs.Units.{load}

@@ -4,7 +4,7 @@ use Rattle.std.specs.Prelude.{AllPairs, Contains}
 use Rattle.um_model.proofs.KnownLaws.{known_grows}
 use Rattle.um_model.specs.Dependencies.{IsKnown, extra}
 use Rattle.um_model.specs.Least.{IsNamedBefore}
-use Rattle.um_model.specs.Machine.{State, Reply, Listed, ListUnits, UnitListed, IsHeld, IsReplyTo, lists_units, unit_listed}
+use Rattle.um_model.specs.Machine.{State, Listed, ListUnits, UnitListed, IsHeld, IsReplyTo, lists_units, unit_listed}
 use Rattle.um_model.specs.Reached.{first}
 
 pub lists_units_so : (s : State) (held names : List (List ℕ)) (units : List UnitListed) → ((unit : List ℕ) → Contains held unit ↔ IsHeld s unit)

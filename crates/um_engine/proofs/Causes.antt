@@ -1,5 +1,5 @@
 -- What commands are refused for, and what they change, from what the calls below tell.
-use Rattle.std.proofs.Common.{◌≡◌, ◌≢◌, ◌∙◌, ℕ, List, Some, None, false, Result, Ok, Err, sym, ap, subst, true, true≢false, refl}
+use Rattle.std.proofs.Common.{◌≡◌, ◌≢◌, ◌∙◌, ℕ, List, Some, None, false, Result, Ok, Err, sym, ap, subst, true, true≢false}
 use Rattle.um_model.specs.Jobs.{cancelled, jobs_of_unit}
 use Rattle.um_model.specs.Machine as model
 use Rattle.um_model.specs.Machine.{State, IsCrowded, IsHeld, IsHeldOr, IsNotThere, to_stop, to_try_restart, IsMissing, HasNoneWaiting, HasNoPlan, Refuses, scene_at, active_asked, demand_of, demands_nothing, Changes, puts, links, removes, reloads, plans, cancels, installs}

@@ -1,12 +1,12 @@
 -- Why a tree isn't loaded, by what the calls below tell.
-use Rattle.std.proofs.Common.{◌≡◌, ◌≢◌, ◌⊎◌, ◌↔◌, ◌∙◌, ℕ, List, Contains, Option, Some, None, Result, Ok, Err, unwrap_or, refl, sym, ap, subst, inl, inr}
+use Rattle.std.proofs.Common.{◌≡◌, ◌≢◌, ◌∙◌, ℕ, List, Contains, Option, Some, None, Result, Ok, Err, unwrap_or, refl, sym, ap, subst, inl, inr}
 use Rattle.std.specs.Bool.{⊤}
 use Rattle.std.specs.Prelude.{IsErrAnd}
 use Rattle.std.specs.FinMap as map
 use Rattle.std.proofs.lemmas.Option.{none-some, slice_get-get_or}
-use Rattle.um_model.specs.Dependencies.{IsKnown, Precedes, extra}
+use Rattle.um_model.specs.Dependencies.{extra}
 use Rattle.um_model.specs.Jobs.{Job, ComesBefore, GoesBefore, starts, stops, stops_then_starts, stops_then_starts_before, of_one_unit, IsPending, jobs_of_unit, job_of, no_jobs}
-use Rattle.um_model.specs.Machine.{State, IsHeld, IsBefore, IsCrowded, CausesOfLoad}
+use Rattle.um_model.specs.Machine.{State, IsHeld, IsBefore, CausesOfLoad}
 use Rattle.um_model.specs.Plan.{AreFree, NamesCycle}
 use Rattle.um_model.specs.Reached.{first}
 use Rattle.um_model.specs.Refusals.{Refused, at_first, at_second, too_large}

@@ -1,13 +1,13 @@
 -- Failures that are forgotten, one after another; of a unit of which nothing is held there is nothing to forget.
 use Rattle.um_falling.specs.Carrying.{Adds}
-use Rattle.std.proofs.Common.{◌≡◌, ◌≢◌, ◌∙◌, ◌+◌, ◌<◌, ℕ, Bool, true, false, true≢false, cond, List, [], ◌∷◌, ◌++◌, Contains, Option, Some, None, unwrap_or, refl, sym, ap, subst, inl, inr, arith, append_assoc, append-nil}
+use Rattle.std.proofs.Common.{◌≡◌, ◌∙◌, ◌+◌, ◌<◌, ℕ, Bool, true, false, cond, List, [], ◌∷◌, ◌++◌, Contains, Option, None, unwrap_or, refl, sym, ap, subst, inl, inr, arith, append_assoc, append-nil}
 use Rattle.std.specs.Cmp.Lexicographic.{slice_cmp, nat_list_cmp_total}
 use Rattle.std.specs.FinMap as map
 use Rattle.std.specs.Ordering.{nat_cmp, eq_by_cmp}
 use Rattle.um_model.specs.Servable.{IsFew}
 use Rattle.um_model.specs.Jobs.{no_jobs, jobs_left, with_jobs}
 use Rattle.um_model.specs.Machine.{State, IsHeld, Does, ResetFailed, units_reset, settings_in, around, change_of, changed, Becomes, alone, Carries, AreByName, FallsWith, all_told, Happens, happens, AreReset, all_reset, reset_next, resets}
-use Rattle.um_model.specs.Service.{Action, ByUnit, dead_unit, state_of_unit}
+use Rattle.um_model.specs.Service.{Action, ByUnit, dead_unit}
 use Rattle.um_model.specs.Settings.{ServiceSettings}
 use Rattle.um_model.specs.Transitions.{AreActions, just, nothing, transition}
 use Rattle.um_model.specs.declared.service.UnitState.{UnitState}

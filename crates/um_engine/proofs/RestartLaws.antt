@@ -1,5 +1,5 @@
 -- A restart puts a start of its unit, or leaves the state as it is.
-use Rattle.std.proofs.Common.{◌≡◌, ◌≢◌, ◌∙◌, ℕ, Bool, true, false, true≢false, List, Contains, Some, None, refl, sym, ap, subst, inl, inr}
+use Rattle.std.proofs.Common.{◌≡◌, ◌≢◌, ◌∙◌, ℕ, true, false, List, Contains, Some, None, sym, ap, subst, inl, inr}
 use Rattle.um_model.specs.Jobs.{Job, AreTidyJobs, ComesBefore, has_job, jobs, jobs_of_unit, no_jobs, with_jobs}
 use Rattle.um_model.specs.Machine.{State, IsBefore, IsHeld, Restarts, puts, isnt_put, with_plan, with_start_alone}
 use Rattle.um_model.specs.Order.{IsCycle}

@@ -1,13 +1,12 @@
 -- A graph is that of other units beside the tree where the same units are known with them.
-use Rattle.std.proofs.Common.{◌≡◌, ◌≢◌, ◌⊎◌, ◌↔◌, ◌∙◌, ℕ, List, Contains, Option, Some, None, sym, ap, subst, inl, inr}
+use Rattle.std.proofs.Common.{◌⊎◌, ◌↔◌, ℕ, List, inl, inr}
 use Rattle.um_model.specs.Dependencies.{IsKnown, CountsFor, KnowsSoMany, KnowsTooMany, Depends, IsDeclared, PullsIn, Orders, Precedes, declared, pulled_in, ending, extra}
-use Rattle.um_model.specs.Machine.{State, IsHeld, IsHeldOr, IsCrowded}
 use Rattle.um_model.specs.Reached.{first}
 use Rattle.um_model.specs.Tree.{Tree, without_run}
 use Rattle.um_model.specs.declared.dependencies.DependencyKind.{DependencyKind}
 use Rattle.um_model.specs.declared.dependencies.DependencyKind.TheVariants as kinds
 use Rattle.um_model.proofs.KnownLaws.{known_grows, more_known}
-use Rattle.um_graph.specs.Graph.{GraphView, IsGraph, IsGraphOf}
+use Rattle.um_graph.specs.Graph.{GraphView, IsGraphOf}
 use Rattle.um_engine.specs.Known.{IsFull, IsGraphFor}
 
 -- with the ones the same units are known as with the others

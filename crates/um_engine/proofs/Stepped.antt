@@ -1,7 +1,7 @@
 -- A step, by what is planned of it.
 use Rattle.um_falling.specs.Carrying.{Adds}
 use Rattle.um_falling.specs.Carrying.{Adds}
-use Rattle.std.proofs.Common.{◌≡◌, ◌≢◌, ◌∙◌, ◌↔◌, ℕ, Bool, true, false, true≢false, List, [], ◌++◌, Option, Some, None, is_some, refl, sym, ap, subst, inl}
+use Rattle.std.proofs.Common.{◌≡◌, ◌≢◌, ◌∙◌, ◌↔◌, ℕ, Bool, true, false, true≢false, List, [], Option, Some, None, is_some, refl, sym, ap, subst, inl}
 use Rattle.std.specs.Prelude.{IfSome, option_map}
 use Rattle.std.proofs.lemmas.Option.{none-some, same_Some}
 use Rattle.um_model.specs.Servable.{IsFew}

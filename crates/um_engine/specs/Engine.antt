@@ -1,9 +1,8 @@
 -- What an engine, a planned step and the way back hold; and what the engine's helpers do, with the actions before and after.
-use Rattle.um_falling.specs.Carrying.{Adds}
-use Rattle.std.specs.Prelude.{◌≡◌, ◌≢◌, ℕ, ◌<◌, ◌≤◌, Bool, true, false, List, [], ◌++◌, Option, Some, None, is_some, map}
+use Rattle.std.specs.Prelude.{◌≡◌, ℕ, ◌<◌, ◌≤◌, Bool, true, false, List, [], ◌++◌, Option, Some, None, is_some, map}
 use Rattle.std.specs.FinMap as finite
 use Rattle.um_model.specs.Machine as model
-use Rattle.um_model.specs.Service.{Action, state_of_unit}
+use Rattle.um_model.specs.Service.{Action}
 use Rattle.um_model.specs.Timers.{Timers, IsDueFirst}
 use Rattle.um_model.specs.declared.service.SubState.{SubState}
 use Rattle.um_model.specs.declared.service.SubState.TheVariants.{AutoRestart}

@@ -3,7 +3,7 @@
 -- Plans stand on this file.
 use Rattle.std.specs.Prelude.{◌≡◌, ℕ, List}
 use Rattle.um_model.specs.Jobs.{jobs_of_unit}
-use Rattle.um_model.specs.Machine.{State, IsHeldOr, TakesEffect, Commanded, Command, Refuses, IsTooHeavy, scene_at}
+use Rattle.um_model.specs.Machine.{State, TakesEffect, Commanded, Command, Refuses, IsTooHeavy, scene_at}
 use Rattle.um_model.specs.Refusals.{Refused, no_room}
 use Rattle.um_model.specs.Service.{Action, active_state_of, state_of_unit}
 use Rattle.um_model.specs.declared.commands.JobMode.{JobMode}

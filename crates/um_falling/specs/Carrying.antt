@@ -3,7 +3,7 @@
 -- Carrying out stands on this file.
 use Rattle.std.specs.Prelude.{◌≡◌, ◌≢◌, ℕ, Bool, true, false, List, ◌++◌, Option, Some}
 use Rattle.um_model.specs.Jobs.{AreTidyJobs, jobs_of_unit}
-use Rattle.um_model.specs.Machine.{State, Carries, settings_in, around, change_of, changed}
+use Rattle.um_model.specs.Machine.{State, settings_in, around, change_of, changed}
 use Rattle.um_model.specs.Service.{Action, AreTidyUnits, state_of_unit}
 use Rattle.um_model.specs.Transitions.{AreActions}
 use Rattle.um_model.specs.declared.jobs.JobState.{JobState}

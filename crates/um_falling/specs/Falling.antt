@@ -3,13 +3,12 @@
 -- What happens to a unit stands on this file, with all units that fall with it.
 use Rattle.std.specs.Prelude.{◌≡◌, ◌≢◌, ℕ, suc, ◌==◌, ◌&&◌, ◌++◌, Bool, false, if◌then◌else◌, List, [], ◌∷◌, Option, Some, None, map, slice_get}
 use Rattle.std.specs.List.{list_any}
-use Rattle.um_model.specs.Machine.{State, FallDown, Happens}
+use Rattle.um_model.specs.Machine.{State}
 use Rattle.um_model.proofs.FallTotal.{comes_to_rest}
-use Rattle.um_model.specs.Service.{Action, active_state_of, state_of_unit}
+use Rattle.um_model.specs.Service.{active_state_of, state_of_unit}
 use Rattle.um_model.specs.Transitions.{is_going}
 use Rattle.um_model.specs.declared.dependencies.DependencyKind.TheVariants.{BindsTo}
 use Rattle.um_model.specs.declared.service.SubState.{SubState}
-use Rattle.um_model.specs.declared.transition.UnitEvent.{UnitEvent}
 use Rattle.um_graph.specs.Graph.{GraphView, IsNumberOf, row_of}
 use Rattle.um_graph.specs.Kinds.{has, inverse_bit_of}
 use Rattle.um_graph.specs.declared.row.Neighbour.{Neighbour}

@@ -1,12 +1,10 @@
 -- The pending jobs of a graph's units by number, with the units that count as deactivating, and which job of them is ready.
 -- Follows the definitions of jobs, over the units of a graph.
 -- The calls of `Jobs` stand on this file.
-use Rattle.std.specs.Prelude.{◌≡◌, ℕ, Bool, false, ◌||◌, List, Option, Some, None, slice_index_or, slice_set}
+use Rattle.std.specs.Prelude.{◌≡◌, ℕ, Bool, false, List, Some, None, slice_index_or, slice_set}
 use Rattle.um_model.specs.Jobs.{Job, ComesBefore, jobs, state_of_job}
-use Rattle.um_model.specs.Machine.{is_waiting}
 use Rattle.um_model.specs.declared.jobs.JobKind.{JobKind}
 use Rattle.um_model.specs.declared.jobs.JobKind.TheVariants.{Stop, Start}
-use Rattle.um_model.specs.declared.jobs.JobState.{JobState}
 use Rattle.um_model.specs.declared.jobs.JobState.TheVariants.{Waiting}
 use Rattle.um_model.specs.declared.jobs.UnitJobs.{UnitJobs}
 use Rattle.um_graph.specs.Graph.{GraphView}

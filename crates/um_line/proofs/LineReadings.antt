@@ -1,10 +1,10 @@
 -- What words are read as, by what clap answered.
-use Rattle.std.proofs.Common.{◌≡◌, ◌≢◌, ◌⊎◌, ◌<◌, ◌≤◌, ◌^◌, arith, Option, Some, ℕ, List, [], Result, Ok, Err, IfOk, OnOk, inl, inr, true, refl, sym, subst, ap, ◌∙◌}
+use Rattle.std.proofs.Common.{◌≡◌, ◌≢◌, ◌⊎◌, ◌<◌, ◌^◌, arith, Option, Some, ℕ, List, [], Result, Ok, Err, IfOk, OnOk, inl, inr, true, refl, subst, ap, ◌∙◌}
 use Rattle.clap.proofs.OnLiterals.{clap_on_literals}
 use Rattle.clap.specs.Words.{App, Kinds, HasKind, IsAmong, Row, Rule, with_rule, fault_of, is_simple_and_free, is_simple, kind_of, matches_of}
 use Rattle.clap.specs.declared.error.Error.{Error}
 use Rattle.clap.specs.declared.error.kind.ErrorKind.{ErrorKind}
-use Rattle.clap.specs.declared.error.kind.ErrorKind.TheVariants.{DisplayHelp, DisplayVersion, OutOfMemory}
+use Rattle.clap.specs.declared.error.kind.ErrorKind.TheVariants.{OutOfMemory}
 use Rattle.std.proofs.lemmas.Fmt.{decimal_injective}
 use Rattle.std.specs.Prelude.{decimal}
 use Rattle.um_line.specs.Line.{IsNoNumber, IsReadLine, IsToldAs, TellsMistake, umd_words, create_words, serve_words, ctl_words}

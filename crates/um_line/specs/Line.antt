@@ -1,7 +1,7 @@
 -- What the words of a command line ask for: the words as clap reads them, and what each of its mistakes becomes.
 -- No manual page has this: it is the program's own (docs/FORMATS.md, "The program").
 -- The program stands on this file.
-use Rattle.std.specs.Prelude.{⊤, ◌≡◌, ◌≢◌, ◌⊎◌, ◌<◌, ◌≤◌, ◌^◌, ℕ, List, [], ◌∷◌, true, Option, Some, None, MatchOption, map, option_map, slice_get, bytes_eq, codes, decimal, drop, length, if◌then◌else◌}
+use Rattle.std.specs.Prelude.{⊤, ◌≡◌, ◌≢◌, ◌⊎◌, ◌<◌, ◌≤◌, ◌^◌, ℕ, List, [], ◌∷◌, true, Option, Some, None, map, option_map, slice_get, bytes_eq, codes, decimal, drop, length, if◌then◌else◌}
 use Rattle.clap.specs.Words.{App, Kinds, Row, Rule, IsAmong, all_of, fault_of, first_of, matches_of, new_app, new_rule, with_rule}
 use Rattle.clap.specs.Simple.{on_top}
 use Rattle.clap.specs.declared.builder.action.ArgAction.TheVariants.{SetTrue, Append}

@@ -1,5 +1,5 @@
 -- A snapshot that is being written is there whole or not at all, and the store with it is the next generation.
-use Rattle.std.specs.Prelude.{◌≡◌, ◌⊎◌, ◌+◌, ◌-◌, ◌*◌, ◌^◌, ◌<◌, ◌≤◌, ℕ, zero, suc, List, [], ◌∷◌, ◌++◌, length, take, drop, refl}
+use Rattle.std.specs.Prelude.{◌≡◌, ◌⊎◌, ◌+◌, ◌*◌, ◌^◌, ◌<◌, ◌≤◌, ℕ, zero, suc, List, [], ◌++◌, length, take, drop, refl}
 use Rattle.std.proofs.Common.{sym, ◌∙◌, ap, subst, inl, inr, ⊎_elim, arith}
 use Rattle.std.proofs.Math.Seq.{take-append-add}
 use Rattle.std.proofs.lemmas.Bool.{cases_lt}
@@ -9,7 +9,7 @@ use Rattle.um_model.proofs.DiskLaws.{started, weaker}
 use Rattle.um_model.specs.declared.layout.Layout.{Layout}
 use Rattle.um_model.specs.declared.layout.Slot.{Slot}
 use Rattle.um_model.specs.declared.layout.Slot.TheVariants.{A, B}
-use Rattle.um_model.specs.Store.{log_start, log_end, stops, IsOf, IsFree, IsLogEnd, IsStore, GoesOn, filled, superblock, slot_start, other, body_limit, IsHeader, sector_count, joined, body_at, IsNewest, HasNoHeader}
+use Rattle.um_model.specs.Store.{log_start, stops, IsOf, IsFree, IsLogEnd, IsStore, GoesOn, filled, superblock, slot_start, other, body_limit, IsHeader, sector_count, joined, body_at, IsNewest, HasNoHeader}
 use Rattle.um_model.proofs.StoreLaws.{same_header, filled_whole, take-filled, behind_slot, before_slot, home_same, kept_newest, none_of, same_records}
 use Rattle.um_slot.specs.Snapshots.{body_sector, IsSnapshot, MaybeSnapshot, AfterSnapshot, HasStore, EitherSnapshot}
 

@@ -1,4 +1,3 @@
-use Rattle.std.proofs.Common.{◌≡◌}
 use Rattle.um_state.specs.View.{state_of}
 use Rattle.um_answer.proofs.ListedLaws.{lists_units_so}
 use Rattle.um_answer.proofs.listing.list_units.Goals as goal

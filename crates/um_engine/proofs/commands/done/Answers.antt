@@ -1,4 +1,4 @@
-use Rattle.std.proofs.Common.{◌≡◌, ◌≢◌, ◌∙◌, List, [], Result, Ok, Err, map, ap, refl, rules, subst, sym}
+use Rattle.std.proofs.Common.{◌≡◌, ◌≢◌, ◌∙◌, [], Result, Ok, Err, map, ap, refl, rules, subst, sym}
 use Rattle.std.specs.Prelude.{IfOk}
 use Rattle.um_model.specs.Machine as model
 use Rattle.um_model.specs.Machine.{State, Command}

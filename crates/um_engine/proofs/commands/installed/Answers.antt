@@ -1,4 +1,4 @@
-use Rattle.std.proofs.Common.{◌≡◌, ◌≢◌, rules, refl, sym, subst}
+use Rattle.std.proofs.Common.{◌≢◌, rules, refl, subst}
 use Rattle.um_model.specs.Install.{Installs, RefusesInstall}
 use Rattle.um_model.specs.Machine as model
 use Rattle.um_model.specs.Refusals.{Refused}

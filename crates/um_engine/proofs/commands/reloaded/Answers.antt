@@ -1,4 +1,4 @@
-use Rattle.std.proofs.Common.{◌≡◌, ◌≢◌, ◌∙◌, rules, sym, ap, subst}
+use Rattle.std.proofs.Common.{◌≢◌, ◌∙◌, rules, sym, ap, subst}
 use Rattle.um_model.specs.Machine as model
 use Rattle.um_model.specs.Refusals.{Refused}
 use Rattle.um_state.specs.View.{state_of}

@@ -1,5 +1,5 @@
 use Rattle.std.proofs.Common.{◌≢◌, Contains, sym, subst, rules}
-use Rattle.um_model.specs.Machine.{State, IsCrowded, IsHeld}
+use Rattle.um_model.specs.Machine.{IsCrowded, IsHeld}
 use Rattle.um_model.specs.Refusals.{at_first}
 use Rattle.um_model.specs.Servable.{IsServable}
 use Rattle.um_state.specs.View.{state_of}

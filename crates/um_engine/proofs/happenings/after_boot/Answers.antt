@@ -1,4 +1,4 @@
-use Rattle.std.proofs.Common.{◌≡◌, ◌∙◌, sym, ap, subst}
+use Rattle.std.proofs.Common.{◌∙◌, sym, ap, subst}
 use Rattle.um_model.specs.Machine as model
 use Rattle.um_model.specs.Machine.{State}
 use Rattle.um_model.proofs.FewLaws.{booted_few}

@@ -1,4 +1,4 @@
-use Rattle.std.proofs.Common.{◌∙◌, map, ap, sym}
+use Rattle.std.proofs.Common.{◌∙◌, map, ap}
 use Rattle.um_model.specs.Machine as model
 use Rattle.um_model.specs.Service.{state_of_unit}
 use Rattle.um_model.proofs.MachineLaws.{end_has_effect}

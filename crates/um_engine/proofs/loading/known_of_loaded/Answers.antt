@@ -1,10 +1,6 @@
-use Rattle.std.proofs.Common.{◌≡◌, ◌≢◌, ◌∙◌, ℕ, List, Contains, rules, sym, ap, subst}
-use Rattle.um_graph.specs.Kinds.{before_bit}
-use Rattle.um_graph.specs.Named.{Joins}
-use Rattle.um_jobs.specs.Named.{jobs_by}
+use Rattle.std.proofs.Common.{◌≢◌, ℕ, List, Contains, rules, ap, subst}
 use Rattle.um_model.specs.Dependencies.{extra}
 use Rattle.um_model.specs.Machine.{CausesOfLoad, IsHeld}
-use Rattle.um_model.specs.Plan.{NamesCycle}
 use Rattle.um_model.specs.Reached.{first}
 use Rattle.um_state.specs.View.{state_of}
 use Rattle.um_wire.specs.Refusal.{refused_of}

@@ -1,4 +1,4 @@
-use Rattle.std.proofs.Common.{◌≢◌, Some, ap, rules, option_copied, subst, sym}
+use Rattle.std.proofs.Common.{◌≢◌, subst, sym}
 use Rattle.um_model.specs.Machine as model
 use Rattle.um_wire.specs.Refusal.{refused_of}
 use Rattle.um_wire.specs.declared.refusal.Refusal.TheVariants.{NoMemory}

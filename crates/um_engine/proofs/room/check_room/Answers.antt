@@ -1,4 +1,4 @@
-use Rattle.std.proofs.Common.{◌≡◌, ◌∙◌, ◌+◌, ◌*◌, ◌≤◌, ℕ, rules, sym, ap, subst}
+use Rattle.std.proofs.Common.{◌≡◌, ◌∙◌, ◌+◌, ◌*◌, ap}
 use Rattle.um_model.specs.Machine.{State}
 use Rattle.um_model.specs.Weight.{tree_weight, weight_of}
 use Rattle.um_engine.proofs.KnownLaws.{light_by}

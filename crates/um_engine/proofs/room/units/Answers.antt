@@ -1,7 +1,5 @@
-use Rattle.std.proofs.Common.{◌≡◌, ◌↔◌, ◌∙◌, ℕ, List, Contains, IfOk, ap, rules, sym, subst}
-use Rattle.um_model.specs.Dependencies.{CountsFor}
+use Rattle.std.proofs.Common.{◌≡◌, ◌↔◌, ◌∙◌, ℕ, List, Contains, ap, sym, subst}
 use Rattle.um_model.specs.Machine.{IsHeld, State}
-use Rattle.um_model.specs.Tree.{Tree}
 use Rattle.um_state.specs.View.{state_of}
 use Rattle.um_engine.proofs.KnownLaws.{count_found}
 use Rattle.um_engine.proofs.room.units.Goals as goal

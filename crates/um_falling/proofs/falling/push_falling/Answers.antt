@@ -1,4 +1,4 @@
-use Rattle.std.proofs.Common.{◌≡◌, ◌∙◌, ◌++◌, ℕ, List, [], Bool, true, false, cond, Some, Result, Ok, Err, OnOk, refl, sym, ap}
+use Rattle.std.proofs.Common.{◌≡◌, ◌∙◌, ◌++◌, ℕ, List, [], true, cond, Result, Ok, Err, OnOk, sym, ap}
 use Rattle.um_graph.proofs.NamedLaws.{got_within, name_is, names_once}
 use Rattle.um_graph.specs.Graph.{GraphView, IsGraph, IsNumberOf, row_of}
 use Rattle.um_graph.specs.declared.row.Neighbour.{Neighbour}

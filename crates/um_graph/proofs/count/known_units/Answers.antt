@@ -1,4 +1,4 @@
-use Rattle.std.proofs.Common.{◌≡◌, ◌↔◌, sym, subst}
+use Rattle.std.proofs.Common.{◌↔◌, sym, subst}
 use Rattle.std.specs.Prelude.{AllPairs, Contains}
 use Rattle.um_model.specs.Dependencies.{IsKnown}
 use Rattle.um_model.specs.Least.{IsNamedBefore}

@@ -1,6 +1,6 @@
 use Rattle.std.specs.Prelude.{◌≡◌, ◌+◌, ◌-◌, ◌<◌, ◌≤◌, ℕ, IsTrue}
 use Rattle.um_model.specs.Disk.{seen}
-use Rattle.um_model.specs.Store.{log_start, log_end}
+use Rattle.um_model.specs.Store.{log_start}
 use Rattle.um_log.specs.Later.{IsLater}
 use Rattle.um_log.proofs.later.first_later.Given as goal
 

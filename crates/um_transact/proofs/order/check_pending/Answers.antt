@@ -1,10 +1,6 @@
 use Rattle.std.proofs.Common.{◌≡◌, ◌*◌, length, refl, sym, arith, subst}
-use Rattle.um_graph.specs.Kinds.{before_bit}
-use Rattle.um_graph.specs.Named.{Joins}
-use Rattle.um_jobs.specs.Named.{jobs_by}
 use Rattle.um_order.specs.Pairs.{Precedes, IsLeastFirstCycle}
 use Rattle.um_order.specs.Certificate.{IsCertificate}
-use Rattle.um_transact.specs.Order.{ArePairs}
 use Rattle.um_transact.proofs.PairLaws.{numbered, cycle_named}
 use Rattle.um_transact.proofs.order.check_pending.Goals as goal
 

@@ -1,7 +1,6 @@
 use Rattle.std.proofs.Common.{sym, subst}
 use Rattle.um_model.specs.Servable.{IsFew}
 use Rattle.um_model.specs.Machine.{State}
-use Rattle.um_state.specs.View.{state_of}
 use Rattle.um_engine.specs.Known.{KnowsFor}
 use Rattle.um_engine.proofs.served.Served.at.Goals as goal
 

@@ -1,4 +1,4 @@
-use Rattle.std.proofs.Common.{◌≡◌, ◌≤◌, ◌∙◌, ◌^◌, ap, subst, sym, arith, rules}
+use Rattle.std.proofs.Common.{◌≤◌, ◌∙◌, ◌^◌, ap, subst, sym, arith}
 use Rattle.std.specs.FinMap as map
 use Rattle.std.specs.List.{sum_by, list_all}
 use Rattle.std.proofs.lemmas.Bool.{and_parts}
