@@ -1,13 +1,8 @@
 //! Unit names, their parts and escapes.
-use crate::answers::{is_refused, same, same_at, text};
+use crate::answers::{is_refused, same, same_at, unit};
 use std::collections::BTreeMap;
 use std::process::Abort;
 use um_name::{Suffix, UnitName, escape, is_unit_name, suffix_of, unescape};
-
-/// The name.
-fn unit(rt: &(impl AllocGlobal + Abort), text: &str) -> UnitName {
-    UnitName::parse(rt.alloc(), text).expect(rt, "no unit")
-}
 
 /// Names.
 const TAKEN: &[&str] = &[
@@ -144,16 +139,21 @@ fn is_named(rt: &impl Abort, made: Option<UnitName>, wanted: Option<&str>, row: 
     same_at(rt, made.as_ref().map(|made| made.as_str()), wanted, row);
 }
 
+/// Asserts that the name has the parts of the row.
+fn has_parts(rt: &impl Abort, name: &UnitName, row: &Parts) {
+    let parts = (name.prefix(), name.instance(), Some(name.suffix()));
+    let wanted = (row.prefix, row.instance, suffix_of(row.name));
+    same_at(rt, parts, wanted, row.name);
+    let is_template = row.instance == Some("");
+    let told = (name.suffix(), name.is_template());
+    same_at(rt, told, (row.suffix, is_template), row.name);
+}
+
 #[test]
 fn the_parts_of_a_name_are_told(rt: HostRuntime) {
     for row in PARTS {
         let name = unit(&rt, row.name);
-        let parts = (name.prefix(), name.instance(), Some(name.suffix()));
-        let wanted = (row.prefix, row.instance, suffix_of(row.name));
-        same_at(&rt, parts, wanted, row.name);
-        let is_template = row.instance == Some("");
-        let told = (name.suffix(), name.is_template());
-        same_at(&rt, told, (row.suffix, is_template), row.name);
+        has_parts(&rt, &name, row);
         let made = name.template().expect(&rt, "no memory");
         is_named(&rt, made, row.template, row.name);
     }
@@ -246,21 +246,31 @@ fn units(rt: &(impl AllocGlobal + Abort)) -> BTreeMap<UnitName, &'static str> {
     units
 }
 
-/// The names of the units, in the order of the map, each with a space behind it.
-fn row(rt: &(impl AllocGlobal + Abort), units: &BTreeMap<UnitName, &str>) -> String {
-    let mut row = text(rt, "");
+/// The names of the units, in the order of the map.
+fn names<'u>(
+    rt: &(impl AllocGlobal + Abort),
+    units: &'u BTreeMap<UnitName, &'static str>,
+) -> Vec<&'u str> {
+    let mut names = Vec::new(rt.alloc());
     for unit in units.keys() {
-        row.push_str(unit.as_str()).expect(rt, "no memory");
-        row.push(' ').expect(rt, "no memory");
+        names.push(unit.as_str()).expect(rt, "no memory");
     }
-    row
+    names
 }
+
+/// The names of those units, by bytes.
+const ASCENDING: &[&str] = &[
+    "Z.service",
+    "a.service",
+    "a.target",
+    "b.service",
+    "b@x.service",
+];
 
 #[test]
 fn names_are_ordered_by_bytes(rt: HostRuntime) {
     let units = units(&rt);
-    let ascending = "Z.service a.service a.target b.service b@x.service ";
-    same(&rt, row(&rt, &units).as_str(), ascending);
+    same(&rt, names(&rt, &units).as_slice(), ASCENDING);
     let found = units.get(&unit(&rt, "b@x.service")).copied();
     same(&rt, found, Some("b@x.service"));
 }
