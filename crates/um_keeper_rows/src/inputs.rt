@@ -43,8 +43,8 @@ pub fn starts(mut receipt: Receipt) -> usize {
 }
 
 /// Submits an input, and tells how many processes it asks for.
-pub fn submit<D: Disk>(keeper: &mut Keeper<D>, input: &Input) -> Result<usize, Refusal> {
-    let receipt = keeper.submit(input)?;
+pub fn submit<D: Disk>(keeper: &mut Keeper<D>, input: Input) -> Result<usize, Refusal> {
+    let receipt = keeper.submit(&input)?;
     Ok(starts(receipt))
 }
 
@@ -52,7 +52,7 @@ pub fn submit<D: Disk>(keeper: &mut Keeper<D>, input: &Input) -> Result<usize, R
 pub fn take<D: Disk>(
     rt: &(impl AllocGlobal + Abort),
     keeper: &mut Keeper<D>,
-    input: &Input,
+    input: Input,
 ) -> usize {
     submit(keeper, input).expect(rt, "not taken")
 }

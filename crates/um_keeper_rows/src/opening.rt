@@ -122,7 +122,7 @@ fn behind_the_last_generation_nothing_is_written(rt: HostRuntime) {
 /// A disk whose store has one file, in its log.
 fn filed(rt: &(impl AllocGlobal + Abort)) -> MemDisk {
     let mut keeper = over(rt, made(rt));
-    take(rt, &mut keeper, &put(rt, A, ""));
+    take(rt, &mut keeper, put(rt, A, ""));
     keeper.into_disk()
 }
 

@@ -23,14 +23,14 @@ fn take_at<D: Disk>(
     micros: u64,
     event: Event,
 ) -> usize {
-    take(rt, keeper, &input(rt, micros, event))
+    take(rt, keeper, input(rt, micros, event))
 }
 
-/// The command that starts the service.
-fn starting(rt: &(impl AllocGlobal + Abort)) -> Event {
+/// The event that starts a unit.
+fn start_of(unit: UnitName) -> Event {
     Event::Commanded(Command::ForUnit {
         verb: UnitVerb::Start,
-        unit: UnitName::parse(rt.alloc(), "a.service").expect(rt, "no unit"),
+        unit,
         mode: JobMode::Replace,
     })
 }
@@ -38,10 +38,11 @@ fn starting(rt: &(impl AllocGlobal + Abort)) -> Event {
 /// A keeper whose service ended with code 1 at a second: four records.
 fn ended(rt: &(impl AllocGlobal + Abort)) -> Keeper<Fuse<MemDisk>> {
     let mut keeper = opened(rt, 0);
-    take(rt, &mut keeper, &put(rt, A, AGAIN));
+    take(rt, &mut keeper, put(rt, A, AGAIN));
     let reload = Event::Commanded(Command::DaemonReload);
     take_at(rt, &mut keeper, 0, reload);
-    same(rt, take_at(rt, &mut keeper, 0, starting(rt)), 1);
+    let unit = UnitName::parse(rt.alloc(), "a.service").expect(rt, "no unit");
+    same(rt, take_at(rt, &mut keeper, 0, start_of(unit)), 1);
     let end = Event::Happened(Happening::ProcessEnded {
         number: 1,
         end: End::Code(1),
@@ -89,7 +90,7 @@ fn lowest_bytes(sector: &Sector) -> (u8, u8) {
 fn a_full_log_makes_a_checkpoint_first(rt: HostRuntime) {
     let mut keeper = opened(&rt, 0);
     for _ in 0..513 {
-        take(&rt, &mut keeper, &put(&rt, A, ""));
+        take(&rt, &mut keeper, put(&rt, A, ""));
     }
     let mut disk = keeper.into_disk();
     let sector = sector_at(&rt, &mut disk, START);
@@ -101,19 +102,28 @@ fn a_full_log_makes_a_checkpoint_first(rt: HostRuntime) {
 fn a_record_takes_a_call_a_part_and_a_sync(rt: HostRuntime) {
     for (length, calls) in [(449, 2), (450, 3)] {
         let mut keeper = opened(&rt, 0);
-        take(&rt, &mut keeper, &put_long(&rt, A, length));
+        take(&rt, &mut keeper, put_long(&rt, A, length));
         same(&rt, calls_since(&rt, &keeper.into_disk()), calls);
     }
+}
+
+/// Asserts that a file of so many bytes is refused.
+fn refuses_long<D: Disk>(
+    rt: &(impl AllocGlobal + Abort),
+    keeper: &mut Keeper<D>,
+    length: usize,
+    wanted: &str,
+) {
+    is_refused(rt, submit(keeper, put_long(rt, A, length)), wanted);
 }
 
 #[test]
 fn what_just_fits_is_opened_again_and_a_byte_more_is_refused_without_a_disk_call(rt: HostRuntime) {
     let mut keeper = opened(&rt, 0);
-    take(&rt, &mut keeper, &put_long(&rt, A, 31_955));
+    take(&rt, &mut keeper, put_long(&rt, A, 31_955));
     let _ = opened_again(&rt, keeper);
     let mut keeper = opened(&rt, 0);
-    let refused = submit(&mut keeper, &put_long(&rt, A, 31_956));
-    is_refused(&rt, refused, "E14 NoRoom");
+    refuses_long(&rt, &mut keeper, 31_956, "E14 NoRoom");
     same(&rt, calls_since(&rt, &keeper.into_disk()), 0);
 }
 
@@ -132,7 +142,7 @@ fn a_failed_checkpoint_wants_the_store_opened_again(rt: HostRuntime) {
     let mut keeper = opened(&rt, 4);
     is_refused(&rt, keeper.checkpoint(), "E16 Device");
     is_refused(&rt, keeper.checkpoint(), "E17 Reopen");
-    let refused = submit(&mut keeper, &put(&rt, A, ""));
+    let refused = submit(&mut keeper, put(&rt, A, ""));
     is_refused(&rt, refused, "E17 Reopen");
     let again = over(&rt, keeper.into_disk());
     same(&rt, again.state().clock(), Moment::FIRST);
@@ -148,8 +158,7 @@ fn a_failed_checkpoint_wants_the_store_opened_again(rt: HostRuntime) {
 fn left(rt: &(impl AllocGlobal + Abort), picks: &[usize]) -> Keeper<MemDisk> {
     // the record's sync: two sectors are written before it
     let mut keeper = opened(rt, 3);
-    let refused = submit(&mut keeper, &put_long(rt, A, 450));
-    is_refused(rt, refused, "E16 Device");
+    refuses_long(rt, &mut keeper, 450, "E16 Device");
     over(rt, crash(rt, keeper.into_disk(), picks))
 }
 
@@ -162,7 +171,7 @@ fn a_torn_record_is_absent_and_one_in_its_place_counts_alone(rt: HostRuntime) {
         same(&rt, files_in(&left(&rt, picks)), *files);
     }
     let mut keeper = left(&rt, &[0, 1]);
-    take(&rt, &mut keeper, &put_long(&rt, B, 450));
+    take(&rt, &mut keeper, put_long(&rt, B, 450));
     let again = over(&rt, keeper.into_disk());
     same(&rt, files_in(&again), 1);
     same(&rt, again.state().tree().get(B).is_some(), true);
