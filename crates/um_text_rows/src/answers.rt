@@ -50,6 +50,11 @@ pub fn text(rt: &(impl AllocGlobal + Abort), text: &str) -> String {
     String::from_str(rt.alloc(), text).expect(rt, "no memory")
 }
 
+/// The text so many times.
+pub fn repeated(rt: &(impl AllocGlobal + Abort), text: &str, count: usize) -> String {
+    text.repeat(rt.alloc(), count).expect(rt, "no memory")
+}
+
 /// These texts as a list of their own.
 pub fn list(rt: &(impl AllocGlobal + Abort), texts: &[&str]) -> Vec<String> {
     let mut list = Vec::new(rt.alloc());

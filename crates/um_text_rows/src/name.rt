@@ -1,5 +1,5 @@
 //! Unit names, their parts and escapes.
-use crate::answers::{is_refused, same, same_at, unit};
+use crate::answers::{is_refused, repeated, same, same_at, unit};
 use std::collections::BTreeMap;
 use std::process::Abort;
 use um_name::{Suffix, UnitName, escape, is_unit_name, suffix_of, unescape};
@@ -79,10 +79,10 @@ fn other_texts_are_refused_as_names(rt: HostRuntime) {
 
 #[test]
 fn a_name_has_at_most_255_bytes(rt: HostRuntime) {
-    for size in 1..=300_usize {
-        let prefix = "a".repeat(rt.alloc(), size - 1).expect(&rt, "no memory");
+    for size in 0..300_usize {
+        let prefix = repeated(&rt, "a", size);
         let text = format!(in rt.alloc(); "{prefix}.service").expect(&rt, "no memory");
-        let taken = 9 <= size + 7 && size + 7 <= 255;
+        let taken = 9 <= size + 8 && size + 8 <= 255;
         same_at(&rt, is_unit_name(text.as_str()), taken, size);
     }
 }
@@ -199,11 +199,21 @@ const INSTANCES: &[Instance] = &[
     },
 ];
 
+/// The name with the instance; None where it has none.
+fn with_instance(
+    rt: &(impl AllocGlobal + Abort),
+    name: &UnitName,
+    instance: &str,
+) -> Option<UnitName> {
+    let made: Result<_, _> = name.with_instance(instance);
+    made.expect(rt, "no memory")
+}
+
 #[test]
 fn an_instance_is_put_into_a_name(rt: HostRuntime) {
     for row in INSTANCES {
-        let made: Result<_, _> = unit(&rt, row.name).with_instance(row.instance);
-        is_named(&rt, made.expect(&rt, "no memory"), row.made, row.name);
+        let made = with_instance(&rt, &unit(&rt, row.name), row.instance);
+        is_named(&rt, made, row.made, row.name);
     }
 }
 
@@ -211,9 +221,8 @@ fn an_instance_is_put_into_a_name(rt: HostRuntime) {
 fn an_instance_leaves_a_name_of_255_bytes_at_most(rt: HostRuntime) {
     let name = unit(&rt, "a@.service");
     for size in 0..300_usize {
-        let instance = "x".repeat(rt.alloc(), size).expect(&rt, "no memory");
-        let made: Result<_, _> = name.with_instance(instance.as_str());
-        let made = made.expect(&rt, "no memory");
+        let instance = repeated(&rt, "x", size);
+        let made = with_instance(&rt, &name, instance.as_str());
         same_at(&rt, made.is_some(), size + 10 <= 255, size);
     }
 }
@@ -288,11 +297,15 @@ const ESCAPED: &[(&str, &str)] = &[
     ("\u{e9}\n\u{0}", "\\xc3\\xa9\\x0a\\x00"),
 ];
 
+/// The text that the bytes are escaped as.
+fn escaped_text(rt: &(impl AllocGlobal + Abort), bytes: &[u8]) -> String {
+    escape(rt.alloc(), bytes).expect(rt, "no memory")
+}
+
 #[test]
 fn bytes_are_escaped(rt: HostRuntime) {
     for (bytes, wanted) in ESCAPED {
-        let escaped: Result<_, _> = escape(rt.alloc(), bytes.as_bytes());
-        let text = escaped.expect(&rt, "no memory");
+        let text = escaped_text(&rt, bytes.as_bytes());
         same_at(&rt, text.as_str(), *wanted, bytes);
     }
 }
@@ -319,11 +332,15 @@ const ESCAPES: &[(&str, Option<&str>)] = &[
     ("\\x:0", None),
 ];
 
+/// The bytes that the escaped text stands for, where it can be read.
+fn read_back(rt: &(impl AllocGlobal + Abort), text: &str) -> Option<Vec<u8>> {
+    unescape(rt.alloc(), text).expect(rt, "no memory")
+}
+
 #[test]
 fn escapes_are_read_back(rt: HostRuntime) {
     for (text, wanted) in ESCAPES {
-        let read: Result<_, _> = unescape(rt.alloc(), text);
-        let bytes = read.expect(&rt, "no memory");
+        let bytes = read_back(&rt, text);
         let wanted = wanted.map(|wanted| wanted.as_bytes());
         same_at(&rt, bytes.as_deref(), wanted, text);
     }
@@ -335,7 +352,6 @@ fn each_byte_is_read_back(rt: HostRuntime) {
     for b in 0..=255_u8 {
         bytes.push(b).expect(&rt, "no memory");
     }
-    let text = escape(rt.alloc(), bytes.as_slice()).expect(&rt, "no memory");
-    let read = unescape(rt.alloc(), text.as_str()).expect(&rt, "no memory");
-    same(&rt, read, Some(bytes));
+    let text = escaped_text(&rt, bytes.as_slice());
+    same(&rt, read_back(&rt, text.as_str()), Some(bytes));
 }

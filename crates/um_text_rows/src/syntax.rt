@@ -1,5 +1,5 @@
 //! What the lines of a unit file say.
-use crate::answers::{same, same_at};
+use crate::answers::{repeated, same, same_at};
 use std::process::Abort;
 use um_syntax::{Item, WarningKind, parse};
 
@@ -34,9 +34,14 @@ impl<'t> Said<'t> {
     }
 }
 
+/// The items of the text.
+fn items_of<'t>(rt: &(impl AllocGlobal + Abort), text: &'t str) -> Vec<Item<'t>> {
+    parse(rt.alloc(), text).expect(rt, "no memory")
+}
+
 /// Asserts that the items of the text say this.
 fn says(rt: &(impl AllocGlobal + Abort), text: &str, wanted: &[Said<'_>]) {
-    let items = parse(rt.alloc(), text).expect(rt, "no memory");
+    let items = items_of(rt, text);
     same_at(rt, items.len(), wanted.len(), text);
     for (item, wanted) in items.iter().zip(wanted) {
         same_at(rt, Said::of(item), *wanted, text);
@@ -197,15 +202,15 @@ fn each_warning_has_its_number(rt: HostRuntime) {
 #[test]
 fn a_line_at_the_limit_is_read(rt: HostRuntime) {
     for size in [65_535, 65_536] {
-        let text = "\\".repeat(rt.alloc(), size).expect(&rt, "no memory");
+        let text = repeated(&rt, "\\", size);
         says(&rt, text.as_str(), &[Said::Warned(1, NO_SIGN)]);
     }
 }
 
 #[test]
 fn lines_at_the_limit_are_read(rt: HostRuntime) {
-    let text = "a\n".repeat(rt.alloc(), 32_768).expect(&rt, "no memory");
-    let items = parse(rt.alloc(), text.as_str()).expect(&rt, "no memory");
+    let text = repeated(&rt, "a\n", 32_768);
+    let items = items_of(&rt, text.as_str());
     same(&rt, items.len(), 32_768);
     for (index, item) in items.iter().enumerate() {
         same(&rt, Said::of(item), Said::Warned(index + 1, NO_SIGN));

@@ -1,12 +1,7 @@
 //! Served paths, and the tree of files and links.
-use crate::answers::{is_refused, put, same, same_at, tree_of};
+use crate::answers::{is_refused, put, repeated, same, same_at, tree_of};
 use std::process::Abort;
 use um_tree::{Entry, Layer, Place, ServedPath, Tree};
-
-/// So many bytes.
-fn long(rt: &(impl AllocGlobal + Abort), count: usize) -> String {
-    "x".repeat(rt.alloc(), count).expect(rt, "no memory")
-}
 
 /// Paths, and whether they are served.
 const PATHS: &[(&str, bool)] = &[
@@ -47,7 +42,7 @@ fn paths_have_four_forms(rt: HostRuntime) {
 #[test]
 fn a_drop_in_has_a_name_of_1_to_200_bytes(rt: HostRuntime) {
     for (count, served) in [(0, false), (1, true), (200, true), (201, false)] {
-        let name = long(&rt, count);
+        let name = repeated(&rt, "x", count);
         let path = format!(in rt.alloc(); "etc/a.service.d/{name}.conf").expect(&rt, "no memory");
         let parsed = ServedPath::parse(path.as_str()).is_some();
         same_at(&rt, parsed, served, count);
@@ -219,7 +214,7 @@ const SIZED: &[Sized] = &[
 fn texts_and_targets_have_limits(rt: HostRuntime) {
     let mut tree = tree_of(&rt, &[("etc/z.service", Entry::Link("lib/a.service"))]);
     for row in SIZED {
-        let text = long(&rt, row.size);
+        let text = repeated(&rt, "x", row.size);
         let entry = if row.is_link {
             Entry::Link(text.as_str())
         } else {
@@ -310,7 +305,7 @@ fn remove_is_refused_where_nothing_stands(rt: HostRuntime) {
 #[test]
 fn a_removal_at_a_longer_path_than_a_name_tells_the_path(rt: HostRuntime) {
     for size in [244, 248, 60_000] {
-        let name = long(&rt, size);
+        let name = repeated(&rt, "x", size);
         let path = format!(in rt.alloc(); "lib/{name}.service").expect(&rt, "no memory");
         let wanted = format!(in rt.alloc(); "E12 BadPath {path}").expect(&rt, "no memory");
         let removed = Tree::new(rt.alloc()).remove(path.as_str());

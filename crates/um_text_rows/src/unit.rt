@@ -21,6 +21,11 @@ fn loaded(rt: &(impl AllocGlobal + Abort), name: &str, files: &[(&str, &str)]) -
     load(rt.alloc(), &tree_with(rt, files), &unit(rt, name)).expect(rt, "no memory")
 }
 
+/// What becomes of `a.service` with this text.
+fn service_of(rt: &(impl AllocGlobal + Abort), text: &str) -> Loading {
+    loaded(rt, "a.service", &[("etc/a.service", text)])
+}
+
 /// The unit of these files.
 fn found(rt: &(impl AllocGlobal + Abort), name: &str, files: &[(&str, &str)]) -> LoadedUnit {
     match loaded(rt, name, files) {
@@ -186,13 +191,17 @@ fn runs(rt: &(impl AllocGlobal + Abort), commands: &[Command], wanted: &[Wanted]
     same_at(rt, commands, wanted.as_slice(), name);
 }
 
+/// Asserts that the service has the commands of the row.
+fn has_commands(rt: &(impl AllocGlobal + Abort), service: &ServiceSettings, row: &Commanded) {
+    runs(rt, &service.start, row.start, row.name);
+    runs(rt, &service.stop, row.stop, row.name);
+}
+
 #[test]
 fn the_commands_of_a_service_are_kept(rt: HostRuntime) {
     for row in COMMANDED {
         let unit = found(&rt, row.name, row.files);
-        let service = &unit.settings.service;
-        runs(&rt, &service.start, row.start, row.name);
-        runs(&rt, &service.stop, row.stop, row.name);
+        has_commands(&rt, &unit.settings.service, row);
     }
 }
 
@@ -469,7 +478,7 @@ const REASONS: &[(&str, Option<&str>)] = &[
 #[test]
 fn the_first_reason_counts(rt: HostRuntime) {
     for (text, wanted) in REASONS {
-        let loading = loaded(&rt, "a.service", &[("etc/a.service", text)]);
+        let loading = service_of(&rt, text);
         same_at(&rt, reason(&rt, &loading), *wanted, text);
     }
 }
@@ -508,7 +517,7 @@ fn masked(loading: &Loading) -> Option<&str> {
 
 #[test]
 fn a_unit_is_masked_by_an_empty_file_and_not_found_without_one(rt: HostRuntime) {
-    let empty = loaded(&rt, "a.service", &[("etc/a.service", "")]);
+    let empty = service_of(&rt, "");
     same_at(&rt, masked(&empty), Some("a.service"), "an empty file");
     let lost = loaded(&rt, "a.service", &[]);
     assert!(rt;
