@@ -64,7 +64,7 @@ pub fn files_in<D: Disk>(keeper: &Keeper<D>) -> usize {
 }
 
 /// The number of files of the store that a disk holds, which is opened.
-pub fn files_on<D: Disk + Drop>(rt: &(impl AllocGlobal + Abort), disk: D) -> usize {
+pub fn files_on(rt: &(impl AllocGlobal + Abort), disk: MemDisk) -> usize {
     files_in(&over(rt, disk))
 }
 

@@ -89,7 +89,7 @@ fn a_list_is_answered_in_its_order(rt: HostRuntime) {
         same(&rt, files_in(&keeper), *files);
         let disk = keeper.into_disk();
         same(&rt, calls_since(&rt, &disk), *calls);
-        same(&rt, files_on(&rt, disk), *files);
+        same(&rt, files_on(&rt, disk.into_inner()), *files);
     }
 }
 

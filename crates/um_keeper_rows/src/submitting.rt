@@ -17,9 +17,9 @@ const START: usize = 129;
 const AGAIN: &str = "[Service]\nExecStart=/bin/sleep 9\nRestart=on-failure\n";
 
 /// Takes an event at the moment, and tells how many processes it asks for.
-fn take_at<D: Disk>(
+fn take_at(
     rt: &(impl AllocGlobal + Abort),
-    keeper: &mut Keeper<D>,
+    keeper: &mut Keeper<Fuse<MemDisk>>,
     micros: u64,
     event: Event,
 ) -> usize {
@@ -92,7 +92,7 @@ fn a_full_log_makes_a_checkpoint_first(rt: HostRuntime) {
     for _ in 0..513 {
         take(&rt, &mut keeper, put(&rt, A, ""));
     }
-    let mut disk = keeper.into_disk();
+    let mut disk = keeper.into_disk().into_inner();
     let sector = sector_at(&rt, &mut disk, START);
     same(&rt, lowest_bytes(&sector), (3, 0));
     same(&rt, files_on(&rt, disk), 1);
@@ -108,9 +108,9 @@ fn a_record_takes_a_call_a_part_and_a_sync(rt: HostRuntime) {
 }
 
 /// Asserts that a file of so many bytes is refused.
-fn refuses_long<D: Disk>(
+fn refuses_long(
     rt: &(impl AllocGlobal + Abort),
-    keeper: &mut Keeper<D>,
+    keeper: &mut Keeper<Fuse<MemDisk>>,
     length: usize,
     wanted: &str,
 ) {
