@@ -1,5 +1,5 @@
 //! Children through runners, over a folder of files that a test has put there. No process is started.
-use crate::orders::number;
+use crate::orders::{number, told};
 use std::fs::{File, Files};
 use std::path::PathBuf;
 use std::process::{Abort, Processes};
@@ -20,20 +20,32 @@ fn folder(rt: &HostRuntime, name: &str) -> Result<PathBuf, Fail> {
 
 /// Puts a file into the folder.
 fn put(
-    rt: &(impl AllocGlobal + Files<File = File>),
+    rt: &(impl AllocGlobal + Files<File = File> + Abort),
     folder: &str,
     name: &str,
     bytes: &[u8],
-) -> Result<(), Fail> {
-    let path = format!(in rt.alloc(); "{folder}/{name}")?;
-    fs::write(rt, path.as_str(), bytes)?;
-    Ok(())
+) {
+    let path = format!(in rt.alloc(); "{folder}/{name}").expect(rt, "no memory");
+    fs::write(rt, path.as_str(), bytes).expect(rt, "not written");
 }
 
-/// Whether a file stands in the folder.
-fn is_there(rt: &HostRuntime, folder: &str, name: &str) -> Result<bool, Fail> {
-    let path = format!(in rt.alloc(); "{folder}/{name}")?;
-    Ok(fs::exists(rt, path.as_str())?)
+/// Asserts that a file stands in the folder, or that none does.
+fn stands(rt: &(impl AllocGlobal + Files + Abort), folder: &str, name: &str, wanted: bool) {
+    let path = format!(in rt.alloc(); "{folder}/{name}").expect(rt, "no memory");
+    let found = fs::exists(rt, path.as_str()).expect(rt, "not looked");
+    assert_eq!(rt; found, wanted, "{name}");
+}
+
+/// Asserts that a file of the folder holds these bytes.
+fn holds(
+    rt: &(impl AllocGlobal + Files<File = File> + Abort),
+    folder: &str,
+    name: &str,
+    wanted: &[u8],
+) {
+    let path = format!(in rt.alloc(); "{folder}/{name}").expect(rt, "no memory");
+    let bytes = fs::read(rt, path.as_str()).expect(rt, "not read");
+    assert_eq!(rt; bytes.as_slice(), wanted);
 }
 
 fn children<'a, R: AllocGlobal + Files + Processes + Clock + Abort>(
@@ -43,41 +55,36 @@ fn children<'a, R: AllocGlobal + Files + Processes + Clock + Abort>(
     RunnerDir::open(rt, rt.alloc(), "/nonexistent", folder).expect(rt, "no folder")
 }
 
-/// Asserts what is told of a number that is asked with a claim.
-fn told<R: Files + Processes + Clock + Abort>(
-    rt: &R,
-    children: &mut RunnerDir<'_, R>,
-    n: u64,
-    wanted: Fate,
-) {
-    assert_eq!(rt; children.fate(number(rt, n), true), Ok(wanted), "at {n}");
+/// Removes the folder of a test that is done.
+fn remove(rt: &(impl AllocGlobal + Files + Abort), folder: &str) {
+    fs::remove_dir_all(rt, folder).expect(rt, "not removed");
 }
 
 #[test]
 fn files_of_another_form_are_never_an_error(rt: HostRuntime) -> Result<(), Fail> {
     let place = folder(&rt, "odd")?;
     let place = place.as_str();
-    put(&rt, place, "1.status", b"")?;
-    put(&rt, place, "2.status", b"code 256\n")?;
-    put(&rt, place, "3.status", b"signal 9")?;
-    put(&rt, place, "4.claim", b"x")?;
-    put(&rt, place, "5.pid", b"12a\n")?;
+    put(&rt, place, "1.status", b"");
+    put(&rt, place, "2.status", b"code 256\n");
+    put(&rt, place, "3.status", b"signal 9");
+    put(&rt, place, "4.claim", b"x");
+    put(&rt, place, "5.pid", b"12a\n");
     fs::create_dir(&rt, format!(in rt.alloc(); "{place}/6.status")?)?;
-    put(&rt, place, "7.status", [b'7'; 1_000_000].as_slice())?;
-    put(&rt, place, "8.status", b"\xff\xfe code 3\n")?;
-    put(&rt, place, "9.status", b"signal 9\n")?;
+    put(&rt, place, "7.status", [b'7'; 1_000_000].as_slice());
+    put(&rt, place, "8.status", b"\xff\xfe code 3\n");
+    put(&rt, place, "9.status", b"signal 9\n");
     let mut children = children(&rt, place);
     for n in [1, 2, 3, 6, 7, 8] {
-        told(&rt, &mut children, n, Fate::Ended(End::Lost));
+        told(&rt, &mut children, n, true, Fate::Ended(End::Lost));
     }
-    told(&rt, &mut children, 4, Fate::Starting);
-    told(&rt, &mut children, 5, Fate::Executed);
-    told(&rt, &mut children, 9, Fate::Ended(End::Signal(9)));
+    told(&rt, &mut children, 4, true, Fate::Starting);
+    told(&rt, &mut children, 5, true, Fate::Executed);
+    told(&rt, &mut children, 9, true, Fate::Ended(End::Signal(9)));
     children
         .signal(number(&rt, 5), Signal::Kill)
         .expect(&rt, "a failure");
     assert_eq!(rt; children.failures(), 0);
-    fs::remove_dir_all(&rt, place)?;
+    remove(&rt, place);
     Ok(())
 }
 
@@ -86,62 +93,59 @@ fn what_the_manager_claims_first_is_absent_for_good(rt: HostRuntime) -> Result<(
     let place = folder(&rt, "claims")?;
     let place = place.as_str();
     let mut children = children(&rt, place);
-    let silent = children.fate(number(&rt, 1), false);
-    assert_eq!(rt; silent, Ok(Fate::Starting));
-    assert!(rt; !is_there(&rt, place, "1.claim")?);
-    told(&rt, &mut children, 1, Fate::Absent);
-    assert_eq!(rt;
-        fs::read(&rt, format!(in rt.alloc(); "{place}/1.claim")?)?.as_slice(),
-        b"manager\n".as_slice()
-    );
-    assert!(rt; !is_there(&rt, place, "1.claim.manager")?);
+    told(&rt, &mut children, 1, false, Fate::Starting);
+    stands(&rt, place, "1.claim", false);
+    told(&rt, &mut children, 1, true, Fate::Absent);
+    holds(&rt, place, "1.claim", b"manager\n");
+    stands(&rt, place, "1.claim.manager", false);
     children.forget(number(&rt, 1)).expect(&rt, "not forgotten");
-    assert!(rt; is_there(&rt, place, "1.claim")?);
-    told(&rt, &mut children, 1, Fate::Absent);
-    fs::remove_dir_all(&rt, place)?;
+    stands(&rt, place, "1.claim", true);
+    told(&rt, &mut children, 1, true, Fate::Absent);
+    remove(&rt, place);
     Ok(())
+}
+
+/// The files of a number that has ended.
+const NAMES: &[&str] = &[
+    "claim",
+    "pid",
+    "status",
+    "pid.new",
+    "status.new",
+    "claim.manager",
+    "claim.runner",
+];
+
+/// Puts each file of a number.
+fn put_all(rt: &(impl AllocGlobal + Files<File = File> + Abort), folder: &str, n: u64) {
+    for name in NAMES {
+        let name = format!(in rt.alloc(); "{n}.{name}").expect(rt, "no memory");
+        put(rt, folder, name.as_str(), b"code 0\n");
+    }
+}
+
+/// Asserts that no file of a number stands in the folder.
+fn has_none(rt: &(impl AllocGlobal + Files + Abort), folder: &str, n: u64) {
+    for name in NAMES {
+        let name = format!(in rt.alloc(); "{n}.{name}").expect(rt, "no memory");
+        stands(rt, folder, name.as_str(), false);
+    }
 }
 
 #[test]
 fn a_number_that_ended_is_forgotten_with_its_files(rt: HostRuntime) -> Result<(), Fail> {
     let place = folder(&rt, "forgotten")?;
     let place = place.as_str();
-    let names = [
-        "claim",
-        "pid",
-        "status",
-        "pid.new",
-        "status.new",
-        "claim.manager",
-        "claim.runner",
-    ];
-    for name in names {
-        put(
-            &rt,
-            place,
-            format!(in rt.alloc(); "1.{name}")?.as_str(),
-            b"code 0\n",
-        )?;
-        put(
-            &rt,
-            place,
-            format!(in rt.alloc(); "2.{name}")?.as_str(),
-            b"code 0\n",
-        )?;
-    }
+    put_all(&rt, place, 1);
+    put_all(&rt, place, 2);
     fs::remove_file(&rt, format!(in rt.alloc(); "{place}/2.status")?)?;
     let mut children = children(&rt, place);
     children.forget(number(&rt, 1)).expect(&rt, "not forgotten");
     children.forget(number(&rt, 2)).expect(&rt, "not forgotten");
-    for name in names {
-        assert!(rt;
-            !is_there(&rt, place, format!(in rt.alloc(); "1.{name}")?.as_str())?,
-            "1.{name}"
-        );
-    }
-    assert!(rt; is_there(&rt, place, "2.claim")?);
-    assert!(rt; is_there(&rt, place, "2.pid")?);
+    has_none(&rt, place, 1);
+    stands(&rt, place, "2.claim", true);
+    stands(&rt, place, "2.pid", true);
     assert_eq!(rt; children.failures(), 0);
-    fs::remove_dir_all(&rt, place)?;
+    remove(&rt, place);
     Ok(())
 }

@@ -1,5 +1,6 @@
 //! Orders of a keeper, which alone can make one.
 use std::process::Abort;
+use um_children::{Children, Fate};
 use um_keeper::{Handed, Keeper, Receipt, SpawnOrder, create};
 use um_model::{JobMode, Layout, Moment, ProcessNumber, UnitVerb};
 use um_name::UnitName;
@@ -10,8 +11,13 @@ pub fn number(rt: &impl Abort, n: u64) -> ProcessNumber {
     ProcessNumber::new(n).expect(rt, "no process number")
 }
 
+/// Asserts what is told of a number.
+pub fn told<C: Children>(rt: &impl Abort, children: &mut C, n: u64, claim: bool, wanted: Fate) {
+    assert_eq!(rt; children.fate(number(rt, n), claim), Ok(wanted), "at {n}");
+}
+
 /// The keeper of a new store in memory.
-pub fn keeper(rt: &(impl AllocGlobal + Abort)) -> Keeper<MemDisk> {
+fn keeper(rt: &(impl AllocGlobal + Abort)) -> Keeper<MemDisk> {
     let mut disk = MemDisk::new(rt.alloc(), 641).expect(rt, "no memory");
     let layout = Layout::new(64, 512).expect(rt, "no layout");
     create(rt.alloc(), &mut disk, layout).expect(rt, "not created");
@@ -35,25 +41,22 @@ fn order_in(mut receipt: Receipt) -> Option<SpawnOrder> {
 
 /// What came of a command at moment 0 that is accepted: its order, if any.
 fn take(rt: &impl Abort, keeper: &mut Keeper<MemDisk>, command: Command) -> Option<SpawnOrder> {
-    let moment = Moment::new(0).expect(rt, "no moment");
-    let input = Input::new(moment, Event::Commanded(command));
+    let input = Input::new(Moment::FIRST, Event::Commanded(command));
     order_in(keeper.submit(&input).expect(rt, "not taken"))
 }
 
-/// The order that starts a service with these lines, under the keeper's next number.
-pub fn order(
-    rt: &(impl AllocGlobal + Abort),
-    keeper: &mut Keeper<MemDisk>,
-    name: &str,
-    lines: &str,
-) -> SpawnOrder {
+/// The order that starts a service with these lines, the first one of a new store.
+pub fn order(rt: &(impl AllocGlobal + Abort), lines: &str) -> SpawnOrder {
     let alloc = rt.alloc();
-    let path = format!(in alloc; "lib/{name}").expect(rt, "no memory");
+    let mut keeper = keeper(rt);
+    let path = String::from_str(alloc, "lib/a.service").expect(rt, "no memory");
     let text = format!(in alloc; "[Service]\n{lines}\n").expect(rt, "no memory");
-    take(rt, keeper, Command::PutFile { path, text });
-    take(rt, keeper, Command::DaemonReload);
-    let unit = UnitName::parse(alloc, name).expect(rt, "no unit");
-    let verb = UnitVerb::Start;
-    let mode = JobMode::Replace;
-    take(rt, keeper, Command::ForUnit { verb, unit, mode }).expect(rt, "no order")
+    take(rt, &mut keeper, Command::PutFile { path, text });
+    take(rt, &mut keeper, Command::DaemonReload);
+    let start = Command::ForUnit {
+        verb: UnitVerb::Start,
+        unit: UnitName::parse(alloc, "a.service").expect(rt, "no unit"),
+        mode: JobMode::Replace,
+    };
+    take(rt, &mut keeper, start).expect(rt, "no order")
 }

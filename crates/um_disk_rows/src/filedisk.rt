@@ -115,7 +115,7 @@ fn a_file_is_not_made_where_something_stands(rt: HostRuntime) -> Result<(), Fail
     let text = fs::read_to_string(&rt, &path).expect(&rt, "not read");
     same(&rt, text.as_str(), "stays");
     // nor inside a file, nor inside what isn't there
-    let inside = path.join(rt.alloc(), "inside")?;
+    let inside = path.join(rt.alloc(), "inside").expect(&rt, "no memory");
     let made = FileDisk::create(&rt, inside.as_str(), 2);
     says(&rt, made, Some(NO_FOLDER));
     fs::remove_file(&rt, &path).expect(&rt, "not removed");
@@ -129,10 +129,10 @@ fn a_file_that_is_too_long_is_not_left_behind(rt: HostRuntime) -> Result<(), Fai
     let path = place(&rt, "long")?;
     let large = FileDisk::create(&rt, path.as_str(), 1 << 54);
     says(&rt, large, Some("no file can hold so many sectors"));
-    same(&rt, fs::exists(&rt, &path)?, false);
+    same(&rt, fs::exists(&rt, &path).expect(&rt, "not looked at"), false);
     // few file systems hold a file so long: a new one that doesn't get its length is removed again
     if FileDisk::create(&rt, path.as_str(), (1 << 54) - 1).is_err() {
-        same(&rt, fs::exists(&rt, &path)?, false);
+        same(&rt, fs::exists(&rt, &path).expect(&rt, "not looked at"), false);
     } else {
         fs::remove_file(&rt, &path).expect(&rt, "not removed");
     }

@@ -58,6 +58,22 @@ pub fn over<D: Disk>(rt: &(impl AllocGlobal + Abort), disk: D) -> Keeper<D> {
     }
 }
 
+/// The number of files that a keeper has.
+pub fn files_in<D: Disk>(keeper: &Keeper<D>) -> usize {
+    keeper.state().tree().len()
+}
+
+/// The number of files of the store that a disk holds, which is opened.
+pub fn files_on(rt: &(impl AllocGlobal + Abort), disk: MemDisk) -> usize {
+    files_in(&over(rt, disk))
+}
+
+/// What a crash leaves of a disk, with those of the writes that weren't synced.
+pub fn crash(rt: &(impl AllocGlobal + Abort), disk: Fuse<MemDisk>, picks: &[usize]) -> MemDisk {
+    let left = disk.into_inner().crash(rt.alloc(), picks);
+    left.expect(rt, "no memory")
+}
+
 /// The number of disk calls of an open of the store that the disk holds.
 pub fn calls_of_open(rt: &(impl AllocGlobal + Abort), disk: MemDisk) -> u64 {
     over(rt, Fuse::new(disk, 0)).into_disk().calls()

@@ -4,6 +4,7 @@ use um_keeper::{Handed, Keeper, Receipt};
 use um_model::Moment;
 use um_sector::Disk;
 use um_state::{Command, Event, Input};
+use um_wire::Refusal;
 
 /// The file of `a.service`.
 pub const A: &str = "lib/a.service";
@@ -41,11 +42,17 @@ pub fn starts(mut receipt: Receipt) -> usize {
     starts
 }
 
+/// Submits an input, and tells how many processes it asks for.
+pub fn submit<D: Disk>(keeper: &mut Keeper<D>, input: Input) -> Result<usize, Refusal> {
+    let receipt = keeper.submit(&input)?;
+    Ok(starts(receipt))
+}
+
 /// Submits an input that is taken, and tells how many processes it asks for.
 pub fn take<D: Disk>(
     rt: &(impl AllocGlobal + Abort),
     keeper: &mut Keeper<D>,
-    input: &Input,
+    input: Input,
 ) -> usize {
-    starts(keeper.submit(input).expect(rt, "not taken"))
+    submit(keeper, input).expect(rt, "not taken")
 }

@@ -1,8 +1,9 @@
 //! Lists of inputs that a keeper takes one behind the other.
-use crate::answers::{calls_since, is_refused, opened, over, same};
+use crate::answers::{calls_since, crash, files_in, files_on, is_refused, opened, same};
 use crate::inputs::{A, B, input, put, starts};
 use std::process::Abort;
-use um_keeper::Receipt;
+use um_keeper::{Keeper, Receipt};
+use um_sector::Disk;
 use um_state::{Event, Happening, Input};
 use um_wire::Refusal;
 
@@ -12,17 +13,32 @@ enum Coming {
     Tick(u64),
 }
 
+/// The input that comes in.
+fn input_of(rt: &(impl AllocGlobal + Abort), coming: &Coming) -> Input {
+    match coming {
+        Coming::Put(path) => put(rt, path, ""),
+        Coming::Tick(micros) => input(rt, *micros, Event::Happened(Happening::Tick)),
+    }
+}
+
 /// These inputs.
 fn inputs(rt: &(impl AllocGlobal + Abort), list: &[Coming]) -> Vec<Input> {
     let mut inputs = Vec::new(rt.alloc());
     for coming in list {
-        let made = match coming {
-            Coming::Put(path) => put(rt, path, ""),
-            Coming::Tick(micros) => input(rt, *micros, Event::Happened(Happening::Tick)),
-        };
-        inputs.push(made).expect(rt, "no memory");
+        inputs.push(input_of(rt, coming)).expect(rt, "no memory");
     }
     inputs
+}
+
+/// Spends an answer, and tells whether the input was accepted.
+fn is_accepted(answer: Result<Receipt, Refusal>) -> bool {
+    match answer {
+        Ok(receipt) => {
+            starts(receipt);
+            true
+        }
+        Err(_) => false,
+    }
 }
 
 /// Spends the answers of a list, and tells which of the inputs were accepted.
@@ -33,11 +49,19 @@ fn accepted(
     let mut rest = answers?.into_iter();
     let mut accepted = Vec::new(rt.alloc());
     while let Some(answer) = rest.next() {
-        let taken = answer.map(starts).is_ok();
-        accepted.push(taken).expect(rt, "no memory");
+        accepted.push(is_accepted(answer)).expect(rt, "no memory");
     }
     rest.destroy_empty();
     Ok(accepted)
+}
+
+/// Submits the inputs of a list, and tells which of them were accepted.
+fn answered<D: Disk>(
+    rt: &(impl AllocGlobal + Abort),
+    keeper: &mut Keeper<D>,
+    list: &[Coming],
+) -> Result<Vec<bool>, Refusal> {
+    accepted(rt, keeper.submit_all(inputs(rt, list)))
 }
 
 /// Lists, which of their inputs are accepted, how many files there are then, and how many disk calls it took: a record of one sector
@@ -60,12 +84,12 @@ const LISTS: &[(&[Coming], &[bool], usize, u64)] = &[
 fn a_list_is_answered_in_its_order(rt: HostRuntime) {
     for (list, wanted, files, calls) in LISTS {
         let mut keeper = opened(&rt, 0);
-        let answers = accepted(&rt, keeper.submit_all(inputs(&rt, list)));
-        same(&rt, answers.expect(&rt, "refused").as_slice(), *wanted);
-        same(&rt, keeper.state().tree().len(), *files);
+        let answers = answered(&rt, &mut keeper, list).expect(&rt, "refused");
+        same(&rt, answers.as_slice(), *wanted);
+        same(&rt, files_in(&keeper), *files);
         let disk = keeper.into_disk();
         same(&rt, calls_since(&rt, &disk), *calls);
-        same(&rt, over(&rt, disk).state().tree().len(), *files);
+        same(&rt, files_on(&rt, disk.into_inner()), *files);
     }
 }
 
@@ -73,15 +97,12 @@ fn a_list_is_answered_in_its_order(rt: HostRuntime) {
 fn a_fault_in_a_list_refuses_all_of_it(rt: HostRuntime) {
     // the sync of the second record
     let mut keeper = opened(&rt, 4);
-    let both = inputs(&rt, &[Coming::Put(A), Coming::Put(B)]);
-    let refused = accepted(&rt, keeper.submit_all(both));
+    let refused = answered(&rt, &mut keeper, &[Coming::Put(A), Coming::Put(B)]);
     is_refused(&rt, refused, "E16 Device");
-    same(&rt, keeper.state().tree().len(), 0);
-    let later = inputs(&rt, &[Coming::Put(A), Coming::Tick(1)]);
-    let refused = accepted(&rt, keeper.submit_all(later));
+    same(&rt, files_in(&keeper), 0);
+    let refused = answered(&rt, &mut keeper, &[Coming::Put(A), Coming::Tick(1)]);
     is_refused(&rt, refused, "E17 Reopen");
     // a crash that loses what wasn't synced leaves the first alone
-    let disk = keeper.into_disk().into_inner();
-    let left = disk.crash(rt.alloc(), &[]).expect(&rt, "no memory");
-    same(&rt, over(&rt, left).state().tree().len(), 1);
+    let left = crash(&rt, keeper.into_disk(), &[]);
+    same(&rt, files_on(&rt, left), 1);
 }

@@ -1,19 +1,23 @@
 //! Stores that are made and opened: what stands there, and what is refused with which sector.
-use crate::answers::{calls_of_open, has_layout, is_refused, made, over, same, sector_at};
+use crate::answers::{
+    calls_of_open, crash, files_on, has_layout, is_refused, made, over, same, sector_at,
+};
 use crate::inputs::{A, put, take};
 use std::process::Abort;
 use um_keeper::Keeper;
-use um_sector::{Disk, Fuse, MemDisk};
+use um_sector::{Disk, Fuse, MemDisk, Sector};
+
+/// Writes a sector.
+fn write(rt: &impl Abort, disk: &mut MemDisk, k: usize, sector: &Sector) {
+    disk.write(k, sector).expect(rt, "not written");
+}
 
 /// A new store on a disk of another size, as far as it goes.
 fn made_on(rt: &(impl AllocGlobal + Abort), sectors: usize) -> MemDisk {
     let mut from = made(rt);
     let mut disk = MemDisk::new(rt.alloc(), sectors).expect(rt, "no memory");
-    for k in 0..sectors {
-        if k < 641 {
-            let sector = sector_at(rt, &mut from, k);
-            disk.write(k, &sector).expect(rt, "not written");
-        }
+    for k in 0..sectors.min(641) {
+        write(rt, &mut disk, k, &sector_at(rt, &mut from, k));
     }
     disk
 }
@@ -30,7 +34,7 @@ fn change(rt: &impl Abort, disk: &mut MemDisk, damage: &Damage) {
             *place = bytes[i - at];
         }
     }
-    disk.write(k, &sector).expect(rt, "not written");
+    write(rt, disk, k, &sector);
 }
 
 /// A store that was opened once, generation 2 in slot B, with these changes.
@@ -118,7 +122,7 @@ fn behind_the_last_generation_nothing_is_written(rt: HostRuntime) {
 /// A disk whose store has one file, in its log.
 fn filed(rt: &(impl AllocGlobal + Abort)) -> MemDisk {
     let mut keeper = over(rt, made(rt));
-    take(rt, &mut keeper, &put(rt, A, ""));
+    take(rt, &mut keeper, put(rt, A, ""));
     keeper.into_disk()
 }
 
@@ -135,8 +139,8 @@ fn half_checkpointed(rt: &(impl AllocGlobal + Abort)) -> MemDisk {
 
 /// What a crash leaves of an open whose call of that number fails.
 fn crashed(rt: &(impl AllocGlobal + Abort), disk: MemDisk, fails: u64, pick: usize) -> MemDisk {
-    let disk = refuses(rt, Fuse::new(disk, fails), "E16 Device").into_inner();
-    disk.crash(rt.alloc(), &[pick]).expect(rt, "no memory")
+    let disk = refuses(rt, Fuse::new(disk, fails), "E16 Device");
+    crash(rt, disk, &[pick])
 }
 
 /// Asserts that a crash behind the failed call of that number of an open of the store of one file, or of the half checkpointed one,
@@ -149,8 +153,13 @@ fn adds_no_state(rt: &(impl AllocGlobal + Abort), is_half: bool, fails: u64) {
             filed(rt)
         };
         let left = crashed(rt, disk, fails, pick);
-        same(rt, over(rt, left).state().tree().len(), 1);
+        same(rt, files_on(rt, left), 1);
     }
+}
+
+/// The number of the call of an open that is so many before the last one.
+fn call_before_last(rt: &impl Abort, calls: u64, back: u64) -> u64 {
+    calls.checked_sub(back).expect(rt, "no call")
 }
 
 #[test]
@@ -159,21 +168,15 @@ fn crashes_inside_an_open_add_no_state(rt: HostRuntime) {
     let half_calls = calls_of_open(&rt, half_checkpointed(&rt));
     // the body, its sync, the header, its sync
     for back in 0..4 {
-        let fails = calls.checked_sub(back).expect(&rt, "no call");
-        adds_no_state(&rt, false, fails);
-        let fails = half_calls.checked_sub(back).expect(&rt, "no call");
-        adds_no_state(&rt, true, fails);
+        adds_no_state(&rt, false, call_before_last(&rt, calls, back));
+        adds_no_state(&rt, true, call_before_last(&rt, half_calls, back));
     }
     // its first sync and its first read: the header of the failed checkpoint stands, or the one before
     adds_no_state(&rt, true, 1);
     adds_no_state(&rt, true, 2);
-    same(
-        &rt,
-        over(&rt, half_checkpointed(&rt)).state().tree().len(),
-        1,
-    );
+    same(&rt, files_on(&rt, half_checkpointed(&rt)), 1);
     // and an open that begins on what such a crash left
-    let fails = calls.checked_sub(2).expect(&rt, "no call");
+    let fails = call_before_last(&rt, calls, 2);
     let disk = crashed(&rt, crashed(&rt, filed(&rt), fails, 1), fails, 1);
-    same(&rt, over(&rt, disk).state().tree().len(), 1);
+    same(&rt, files_on(&rt, disk), 1);
 }

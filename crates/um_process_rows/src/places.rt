@@ -16,6 +16,11 @@ pub fn folder(rt: &HostRuntime, name: &str) -> Result<PathBuf, Fail> {
     Ok(path)
 }
 
+/// The path of a file in a folder.
+pub fn path_of(rt: &(impl AllocGlobal + Abort), folder: &str, name: &str) -> String {
+    format!(in rt.alloc(); "{folder}/{name}").expect(rt, "no memory")
+}
+
 /// The process number.
 pub fn number(rt: &impl Abort, n: u64) -> ProcessNumber {
     ProcessNumber::new(n).expect(rt, "no process number")
@@ -23,15 +28,15 @@ pub fn number(rt: &impl Abort, n: u64) -> ProcessNumber {
 
 /// The text of a file; None where it isn't there.
 pub fn text_at(
-    rt: &(impl AllocGlobal + Files<File = File>),
+    rt: &(impl AllocGlobal + Files<File = File> + Abort),
     folder: &str,
     name: &str,
-) -> Result<Option<String>, Fail> {
-    let path = format!(in rt.alloc(); "{folder}/{name}")?;
-    if fs::exists(rt, path.as_str())? {
-        Ok(Some(fs::read_to_string(rt, path.as_str())?))
+) -> Option<String> {
+    let path = path_of(rt, folder, name);
+    if fs::exists(rt, path.as_str()).expect(rt, "not looked at") {
+        Some(fs::read_to_string(rt, path.as_str()).expect(rt, "not read"))
     } else {
-        Ok(None)
+        None
     }
 }
 
@@ -41,20 +46,23 @@ pub fn holds(
     folder: &str,
     name: &str,
     wanted: Option<&str>,
-) -> Result<(), Fail> {
-    let text = text_at(rt, folder, name)?;
-    assert_eq!(rt; text.as_ref().map(|t| t.as_str()), wanted, "at {name}");
-    Ok(())
+) {
+    let text = text_at(rt, folder, name);
+    assert_eq!(rt; text.as_deref(), wanted, "at {name}");
 }
 
 /// Puts a file there.
 pub fn put(
-    rt: &(impl AllocGlobal + Files<File = File>),
+    rt: &(impl AllocGlobal + Files<File = File> + Abort),
     folder: &str,
     name: &str,
     bytes: &[u8],
-) -> Result<(), Fail> {
-    let path = format!(in rt.alloc(); "{folder}/{name}")?;
-    fs::write(rt, path.as_str(), bytes)?;
-    Ok(())
+) {
+    let path = path_of(rt, folder, name);
+    fs::write(rt, path.as_str(), bytes).expect(rt, "not written");
+}
+
+/// Removes the folder of a test.
+pub fn remove(rt: &(impl AllocGlobal + Files<File = File> + Abort), folder: &str) {
+    fs::remove_dir_all(rt, folder).expect(rt, "not removed");
 }

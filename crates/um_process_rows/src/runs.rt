@@ -1,5 +1,5 @@
 //! Runners of real commands. A runner waits for its command, so a row waits for nothing else: no poll is needed.
-use crate::places::{folder, holds, number, put};
+use crate::places::{folder, holds, number, path_of, put, remove};
 use std::fs;
 use std::fs::{File, Files};
 use std::process::{Abort, Processes};
@@ -15,15 +15,16 @@ fn runs(
     n: u64,
     count: usize,
     words: &[&str],
-) -> Result<bool, Fail> {
+) -> bool {
     let alloc = rt.alloc();
     let mut texts = Vec::new(alloc);
     for word in words {
-        texts.push(String::from_str(alloc, word)?)?;
+        let text = String::from_str(alloc, word).expect(rt, "no memory");
+        texts.push(text).expect(rt, "no memory");
     }
     let job = Job::of(count, texts.as_slice()).expect(rt, "no job");
     let mut host = Folder::of(rt, alloc, folder, number(rt, n));
-    Ok(run(&mut host, &job).is_ok())
+    run(&mut host, &job).is_ok()
 }
 
 /// Asserts what the status file tells.
@@ -41,17 +42,17 @@ fn ended(
 fn a_code_and_a_signal_are_told(rt: HostRuntime) -> Result<(), Fail> {
     let place = folder(&rt, "ends")?;
     let place = place.as_str();
-    assert!(rt; runs(&rt, place, 1, 0, &["/bin/sh", "-c", "exit 3"])?);
-    holds(&rt, place, "1.claim", Some("runner\n"))?;
-    holds(&rt, place, "1.status", Some("code 3\n"))?;
-    assert!(rt; runs(&rt, place, 2, 0, &["/bin/sh", "-c", "kill -TERM $$"])?);
-    holds(&rt, place, "2.status", Some("signal 15\n"))?;
+    assert!(rt; runs(&rt, place, 1, 0, &["/bin/sh", "-c", "exit 3"]));
+    holds(&rt, place, "1.claim", Some("runner\n"));
+    holds(&rt, place, "1.status", Some("code 3\n"));
+    assert!(rt; runs(&rt, place, 2, 0, &["/bin/sh", "-c", "kill -TERM $$"]));
+    holds(&rt, place, "2.status", Some("signal 15\n"));
     ended(&rt, place, 2, Some(End::Signal(15)));
     let told = pid_in(&rt, rt.alloc(), place, number(&rt, 2)).expect(&rt, "not read");
     assert!(rt; matches!(told, Told::Pid(_)));
-    holds(&rt, place, "2.pid.new", None)?;
-    holds(&rt, place, "2.status.new", None)?;
-    fs::remove_dir_all(&rt, place)?;
+    holds(&rt, place, "2.pid.new", None);
+    holds(&rt, place, "2.status.new", None);
+    remove(&rt, place);
     Ok(())
 }
 
@@ -59,10 +60,10 @@ fn a_code_and_a_signal_are_told(rt: HostRuntime) -> Result<(), Fail> {
 fn what_cannot_be_executed_has_code_203_and_no_pid(rt: HostRuntime) -> Result<(), Fail> {
     let place = folder(&rt, "absent")?;
     let place = place.as_str();
-    assert!(rt; runs(&rt, place, 1, 0, &["/nonexistent"])?);
-    holds(&rt, place, "1.status", Some("code 203\n"))?;
-    holds(&rt, place, "1.pid", None)?;
-    fs::remove_dir_all(&rt, place)?;
+    assert!(rt; runs(&rt, place, 1, 0, &["/nonexistent"]));
+    holds(&rt, place, "1.status", Some("code 203\n"));
+    holds(&rt, place, "1.pid", None);
+    remove(&rt, place);
     Ok(())
 }
 
@@ -80,9 +81,9 @@ fn entries_are_set_over_the_environment(rt: HostRuntime) -> Result<(), Fail> {
         "-c",
         script,
     ];
-    assert!(rt; runs(&rt, place, 1, 4, &words)?);
-    holds(&rt, place, "1.status", Some("code 0\n"))?;
-    fs::remove_dir_all(&rt, place)?;
+    assert!(rt; runs(&rt, place, 1, 4, &words));
+    holds(&rt, place, "1.status", Some("code 0\n"));
+    remove(&rt, place);
     Ok(())
 }
 
@@ -94,19 +95,19 @@ fn a_claimed_number_starts_nothing(rt: HostRuntime) -> Result<(), Fail> {
         &rt, "no claim",
     );
     assert_eq!(rt; claiming, Claiming::New);
-    assert!(rt; runs(&rt, place, 1, 0, &["/bin/sh", "-c", "exit 3"])?);
-    holds(&rt, place, "1.claim", Some("manager\n"))?;
-    holds(&rt, place, "1.status", None)?;
+    assert!(rt; runs(&rt, place, 1, 0, &["/bin/sh", "-c", "exit 3"]));
+    holds(&rt, place, "1.claim", Some("manager\n"));
+    holds(&rt, place, "1.status", None);
     let again = claim(&rt, rt.alloc(), place, number(&rt, 1), Claimant::Manager).expect(
         &rt, "no claim",
     );
     assert_eq!(rt; again, Claiming::Stands(Claimant::Manager));
-    put(&rt, place, "2.claim", b"x")?;
+    put(&rt, place, "2.claim", b"x");
     let other = claim(&rt, rt.alloc(), place, number(&rt, 2), Claimant::Manager).expect(
         &rt, "no claim",
     );
     assert_eq!(rt; other, Claiming::Stands(Claimant::Runner));
-    fs::remove_dir_all(&rt, place)?;
+    remove(&rt, place);
     Ok(())
 }
 
@@ -115,20 +116,20 @@ fn a_claimed_number_starts_nothing(rt: HostRuntime) -> Result<(), Fail> {
 fn a_claim_that_stands_is_not_written_again(rt: HostRuntime) -> Result<(), Fail> {
     let place = folder(&rt, "drafts")?;
     let place = place.as_str();
-    put(&rt, place, "1.claim", b"x")?;
-    let standing = format!(in rt.alloc(); "{place}/1.claim")?;
+    put(&rt, place, "1.claim", b"x");
+    let standing = path_of(&rt, place, "1.claim");
     for draft in ["1.claim.manager", "1.claim.runner"] {
-        let draft = format!(in rt.alloc(); "{place}/{draft}")?;
-        fs::hard_link(&rt, standing.as_str(), draft.as_str())?;
+        let draft = path_of(&rt, place, draft);
+        fs::hard_link(&rt, standing.as_str(), draft.as_str()).expect(&rt, "no link");
     }
     for claimant in [Claimant::Manager, Claimant::Runner] {
         let claiming = claim(&rt, rt.alloc(), place, number(&rt, 1), claimant).expect(
             &rt, "no claim",
         );
         assert_eq!(rt; claiming, Claiming::Stands(Claimant::Runner));
-        holds(&rt, place, "1.claim", Some("x"))?;
+        holds(&rt, place, "1.claim", Some("x"));
     }
-    fs::remove_dir_all(&rt, place)?;
+    remove(&rt, place);
     Ok(())
 }
 
@@ -136,12 +137,12 @@ fn a_claim_that_stands_is_not_written_again(rt: HostRuntime) -> Result<(), Fail>
 fn two_runners_of_a_number_start_one_child(rt: HostRuntime) -> Result<(), Fail> {
     let place = folder(&rt, "twice")?;
     let place = place.as_str();
-    let script = format!(in rt.alloc(); "echo ran >>{place}/ran")?;
+    let script = format!(in rt.alloc(); "echo ran >>{place}/ran").expect(&rt, "no memory");
     let words = ["/bin/sh", "-c", script.as_str()];
-    assert!(rt; runs(&rt, place, 1, 0, &words)?);
-    assert!(rt; runs(&rt, place, 1, 0, &words)?);
-    holds(&rt, place, "ran", Some("ran\n"))?;
-    fs::remove_dir_all(&rt, place)?;
+    assert!(rt; runs(&rt, place, 1, 0, &words));
+    assert!(rt; runs(&rt, place, 1, 0, &words));
+    holds(&rt, place, "ran", Some("ran\n"));
+    remove(&rt, place);
     Ok(())
 }
 
@@ -150,24 +151,24 @@ fn odd_files_are_read_safely(rt: HostRuntime) -> Result<(), Fail> {
     let place = folder(&rt, "odd")?;
     let place = place.as_str();
     ended(&rt, place, 1, None);
-    put(&rt, place, "1.status", b"")?;
-    put(&rt, place, "2.status", [b'7'; 1_000_000].as_slice())?;
+    put(&rt, place, "1.status", b"");
+    put(&rt, place, "2.status", [b'7'; 1_000_000].as_slice());
     put(
         &rt,
         place,
         "3.status",
         b"code 3\n and more, up to what is read and past it",
-    )?;
-    fs::create_dir(&rt, format!(in rt.alloc(); "{place}/4.status")?)?;
+    );
+    fs::create_dir(&rt, path_of(&rt, place, "4.status")).expect(&rt, "no folder");
     for n in 1..5 {
         ended(&rt, place, n, Some(End::Lost));
     }
-    put(&rt, place, "1.pid", b"12a")?;
+    put(&rt, place, "1.pid", b"12a");
     let told = pid_in(&rt, rt.alloc(), place, number(&rt, 1)).expect(&rt, "not read");
     assert_eq!(rt; told, Told::NoPid);
     let told = pid_in(&rt, rt.alloc(), place, number(&rt, 2)).expect(&rt, "not read");
     assert_eq!(rt; told, Told::Nothing);
-    fs::remove_dir_all(&rt, place)?;
+    remove(&rt, place);
     Ok(())
 }
 
@@ -175,8 +176,8 @@ fn odd_files_are_read_safely(rt: HostRuntime) -> Result<(), Fail> {
 fn nothing_is_started_without_the_folder(rt: HostRuntime) -> Result<(), Fail> {
     let place = folder(&rt, "gone")?;
     let place = place.as_str();
-    let script = format!(in rt.alloc(); "echo ran >{place}/ran")?;
-    let gone = format!(in rt.alloc(); "{place}/gone")?;
+    let script = format!(in rt.alloc(); "echo ran >{place}/ran").expect(&rt, "no memory");
+    let gone = path_of(&rt, place, "gone");
     assert!(rt;
         !runs(
             &rt,
@@ -184,9 +185,9 @@ fn nothing_is_started_without_the_folder(rt: HostRuntime) -> Result<(), Fail> {
             1,
             0,
             &["/bin/sh", "-c", script.as_str()]
-        )?
+        )
     );
-    holds(&rt, place, "ran", None)?;
+    holds(&rt, place, "ran", None);
     let faulty = claim(
         &rt,
         rt.alloc(),
@@ -195,6 +196,6 @@ fn nothing_is_started_without_the_folder(rt: HostRuntime) -> Result<(), Fail> {
         Claimant::Manager,
     );
     assert!(rt; matches!(faulty, Err(FolderFault::System(_))));
-    fs::remove_dir_all(&rt, place)?;
+    remove(&rt, place);
     Ok(())
 }

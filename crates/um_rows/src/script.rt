@@ -13,7 +13,7 @@ pub struct Script {
 /// Adds the frame of a text: its length in four bytes, the highest first, and the text.
 pub fn push_frame(bytes: &mut Vec<u8>, text: &str) -> Result<(), AllocError> {
     let length = u32::try_from(text.len()).unwrap_or(0);
-    bytes.extend_from_slice(&length.to_be_bytes())?;
+    bytes.extend_from_slice(length.to_be_bytes().as_slice())?;
     bytes.extend_from_slice(text.as_bytes())
 }
 
@@ -36,15 +36,11 @@ pub fn served(alloc: Global, bytes: &[u8]) -> Result<(Vec<u8>, Ending), Fault> {
 
 /// What the first frame holds and what stands behind it; where no whole frame stands in front, all the bytes.
 fn cut_frame(bytes: &[u8]) -> (&[u8], &[u8]) {
-    if bytes.len() < 4 {
+    let Some((length, behind)) = bytes.split_first_chunk() else {
         return (bytes, &[]);
-    }
-    let size = u32::from_be_bytes([bytes[0], bytes[1], bytes[2], bytes[3]]) as usize;
-    let behind = &bytes[4..];
-    if behind.len() < size {
-        return (bytes, &[]);
-    }
-    (&behind[..size], &behind[size..])
+    };
+    let length = u32::from_be_bytes(*length) as usize;
+    behind.split_at_checked(length).unwrap_or((bytes, &[]))
 }
 
 /// Asserts that the frames are the replies that are wanted at these steps, and no more.

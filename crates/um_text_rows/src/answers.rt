@@ -1,9 +1,10 @@
 //! Answers as values that can be compared and shown.
 use std::fmt::Debug;
 use std::process::Abort;
+use um_name::UnitName;
 use um_tree::{Entry, Tree};
 use um_wire::Refusal;
-use um_words::Command;
+use um_words::{Command, Variable};
 
 /// Asserts that the value is the wanted one.
 pub fn same<T: PartialEq + Debug + Drop>(rt: &impl Abort, got: T, wanted: T) {
@@ -49,6 +50,11 @@ pub fn text(rt: &(impl AllocGlobal + Abort), text: &str) -> String {
     String::from_str(rt.alloc(), text).expect(rt, "no memory")
 }
 
+/// The text so many times.
+pub fn repeated(rt: &(impl AllocGlobal + Abort), text: &str, count: usize) -> String {
+    text.repeat(rt.alloc(), count).expect(rt, "no memory")
+}
+
 /// These texts as a list of their own.
 pub fn list(rt: &(impl AllocGlobal + Abort), texts: &[&str]) -> Vec<String> {
     let mut list = Vec::new(rt.alloc());
@@ -56,6 +62,24 @@ pub fn list(rt: &(impl AllocGlobal + Abort), texts: &[&str]) -> Vec<String> {
         list.push(text(rt, item)).expect(rt, "no memory");
     }
     list
+}
+
+/// The name of a unit.
+pub fn unit(rt: &(impl AllocGlobal + Abort), text: &str) -> UnitName {
+    UnitName::parse(rt.alloc(), text).expect(rt, "no unit")
+}
+
+/// The variables of these names and values.
+pub fn variables_of(rt: &(impl AllocGlobal + Abort), list: &[(&str, &str)]) -> Vec<Variable> {
+    let mut variables = Vec::new(rt.alloc());
+    for (name, value) in list {
+        let variable = Variable {
+            name: text(rt, name),
+            value: text(rt, value),
+        };
+        variables.push(variable).expect(rt, "no memory");
+    }
+    variables
 }
 
 /// A command as it is wanted, by its words: one without signs, one whose failure is ignored, one whose variables stay, or both.

@@ -1,13 +1,8 @@
 //! Unit names, their parts and escapes.
-use crate::answers::{is_refused, same, same_at, text};
+use crate::answers::{is_refused, repeated, same, same_at, unit};
 use std::collections::BTreeMap;
 use std::process::Abort;
 use um_name::{Suffix, UnitName, escape, is_unit_name, suffix_of, unescape};
-
-/// The name.
-fn unit(rt: &(impl AllocGlobal + Abort), text: &str) -> UnitName {
-    UnitName::parse(rt.alloc(), text).expect(rt, "no unit")
-}
 
 /// Names.
 const TAKEN: &[&str] = &[
@@ -84,10 +79,10 @@ fn other_texts_are_refused_as_names(rt: HostRuntime) {
 
 #[test]
 fn a_name_has_at_most_255_bytes(rt: HostRuntime) {
-    for size in 1..=300_usize {
-        let prefix = "a".repeat(rt.alloc(), size - 1).expect(&rt, "no memory");
+    for size in 0..300_usize {
+        let prefix = repeated(&rt, "a", size);
         let text = format!(in rt.alloc(); "{prefix}.service").expect(&rt, "no memory");
-        let taken = 9 <= size + 7 && size + 7 <= 255;
+        let taken = 9 <= size + 8 && size + 8 <= 255;
         same_at(&rt, is_unit_name(text.as_str()), taken, size);
     }
 }
@@ -144,16 +139,21 @@ fn is_named(rt: &impl Abort, made: Option<UnitName>, wanted: Option<&str>, row: 
     same_at(rt, made.as_ref().map(|made| made.as_str()), wanted, row);
 }
 
+/// Asserts that the name has the parts of the row.
+fn has_parts(rt: &impl Abort, name: &UnitName, row: &Parts) {
+    let parts = (name.prefix(), name.instance(), Some(name.suffix()));
+    let wanted = (row.prefix, row.instance, suffix_of(row.name));
+    same_at(rt, parts, wanted, row.name);
+    let is_template = row.instance == Some("");
+    let told = (name.suffix(), name.is_template());
+    same_at(rt, told, (row.suffix, is_template), row.name);
+}
+
 #[test]
 fn the_parts_of_a_name_are_told(rt: HostRuntime) {
     for row in PARTS {
         let name = unit(&rt, row.name);
-        let parts = (name.prefix(), name.instance(), Some(name.suffix()));
-        let wanted = (row.prefix, row.instance, suffix_of(row.name));
-        same_at(&rt, parts, wanted, row.name);
-        let is_template = row.instance == Some("");
-        let told = (name.suffix(), name.is_template());
-        same_at(&rt, told, (row.suffix, is_template), row.name);
+        has_parts(&rt, &name, row);
         let made = name.template().expect(&rt, "no memory");
         is_named(&rt, made, row.template, row.name);
     }
@@ -199,11 +199,21 @@ const INSTANCES: &[Instance] = &[
     },
 ];
 
+/// The name with the instance; None where it has none.
+fn with_instance(
+    rt: &(impl AllocGlobal + Abort),
+    name: &UnitName,
+    instance: &str,
+) -> Option<UnitName> {
+    let made: Result<_, _> = name.with_instance(instance);
+    made.expect(rt, "no memory")
+}
+
 #[test]
 fn an_instance_is_put_into_a_name(rt: HostRuntime) {
     for row in INSTANCES {
-        let made: Result<_, _> = unit(&rt, row.name).with_instance(row.instance);
-        is_named(&rt, made.expect(&rt, "no memory"), row.made, row.name);
+        let made = with_instance(&rt, &unit(&rt, row.name), row.instance);
+        is_named(&rt, made, row.made, row.name);
     }
 }
 
@@ -211,9 +221,8 @@ fn an_instance_is_put_into_a_name(rt: HostRuntime) {
 fn an_instance_leaves_a_name_of_255_bytes_at_most(rt: HostRuntime) {
     let name = unit(&rt, "a@.service");
     for size in 0..300_usize {
-        let instance = "x".repeat(rt.alloc(), size).expect(&rt, "no memory");
-        let made: Result<_, _> = name.with_instance(instance.as_str());
-        let made = made.expect(&rt, "no memory");
+        let instance = repeated(&rt, "x", size);
+        let made = with_instance(&rt, &name, instance.as_str());
         same_at(&rt, made.is_some(), size + 10 <= 255, size);
     }
 }
@@ -246,21 +255,31 @@ fn units(rt: &(impl AllocGlobal + Abort)) -> BTreeMap<UnitName, &'static str> {
     units
 }
 
-/// The names of the units, in the order of the map, each with a space behind it.
-fn row(rt: &(impl AllocGlobal + Abort), units: &BTreeMap<UnitName, &str>) -> String {
-    let mut row = text(rt, "");
+/// The names of the units, in the order of the map.
+fn names<'u>(
+    rt: &(impl AllocGlobal + Abort),
+    units: &'u BTreeMap<UnitName, &'static str>,
+) -> Vec<&'u str> {
+    let mut names = Vec::new(rt.alloc());
     for unit in units.keys() {
-        row.push_str(unit.as_str()).expect(rt, "no memory");
-        row.push(' ').expect(rt, "no memory");
+        names.push(unit.as_str()).expect(rt, "no memory");
     }
-    row
+    names
 }
+
+/// The names of those units, by bytes.
+const ASCENDING: &[&str] = &[
+    "Z.service",
+    "a.service",
+    "a.target",
+    "b.service",
+    "b@x.service",
+];
 
 #[test]
 fn names_are_ordered_by_bytes(rt: HostRuntime) {
     let units = units(&rt);
-    let ascending = "Z.service a.service a.target b.service b@x.service ";
-    same(&rt, row(&rt, &units).as_str(), ascending);
+    same(&rt, names(&rt, &units).as_slice(), ASCENDING);
     let found = units.get(&unit(&rt, "b@x.service")).copied();
     same(&rt, found, Some("b@x.service"));
 }
@@ -278,11 +297,15 @@ const ESCAPED: &[(&str, &str)] = &[
     ("\u{e9}\n\u{0}", "\\xc3\\xa9\\x0a\\x00"),
 ];
 
+/// The text that the bytes are escaped as.
+fn escaped_text(rt: &(impl AllocGlobal + Abort), bytes: &[u8]) -> String {
+    escape(rt.alloc(), bytes).expect(rt, "no memory")
+}
+
 #[test]
 fn bytes_are_escaped(rt: HostRuntime) {
     for (bytes, wanted) in ESCAPED {
-        let escaped: Result<_, _> = escape(rt.alloc(), bytes.as_bytes());
-        let text = escaped.expect(&rt, "no memory");
+        let text = escaped_text(&rt, bytes.as_bytes());
         same_at(&rt, text.as_str(), *wanted, bytes);
     }
 }
@@ -309,11 +332,15 @@ const ESCAPES: &[(&str, Option<&str>)] = &[
     ("\\x:0", None),
 ];
 
+/// The bytes that the escaped text stands for, where it can be read.
+fn read_back(rt: &(impl AllocGlobal + Abort), text: &str) -> Option<Vec<u8>> {
+    unescape(rt.alloc(), text).expect(rt, "no memory")
+}
+
 #[test]
 fn escapes_are_read_back(rt: HostRuntime) {
     for (text, wanted) in ESCAPES {
-        let read: Result<_, _> = unescape(rt.alloc(), text);
-        let bytes = read.expect(&rt, "no memory");
+        let bytes = read_back(&rt, text);
         let wanted = wanted.map(|wanted| wanted.as_bytes());
         same_at(&rt, bytes.as_deref(), wanted, text);
     }
@@ -325,7 +352,6 @@ fn each_byte_is_read_back(rt: HostRuntime) {
     for b in 0..=255_u8 {
         bytes.push(b).expect(&rt, "no memory");
     }
-    let text = escape(rt.alloc(), bytes.as_slice()).expect(&rt, "no memory");
-    let read = unescape(rt.alloc(), text.as_str()).expect(&rt, "no memory");
-    same(&rt, read, Some(bytes));
+    let text = escaped_text(&rt, bytes.as_slice());
+    same(&rt, read_back(&rt, text.as_str()), Some(bytes));
 }

@@ -1,7 +1,6 @@
 //! Where a unit's name leads, and the files that it is read from.
-use crate::answers::{list, same_at, text, tree_of};
+use crate::answers::{list, same_at, text, tree_of, unit};
 use std::process::Abort;
-use um_name::UnitName;
 use um_resolve::{Files, UnitFile, files_of};
 use um_tree::Entry;
 
@@ -167,10 +166,11 @@ const ROWS: &[Row] = &[
 ];
 
 /// The paths of the files.
-fn paths(rt: &(impl AllocGlobal + Abort), files: Vec<UnitFile>) -> Vec<String> {
+fn paths(rt: &(impl AllocGlobal + Abort), files: &[UnitFile]) -> Vec<String> {
     let mut paths = Vec::new(rt.alloc());
     for file in files {
-        paths.push(file.path).expect(rt, "no memory");
+        let path = text(rt, file.path.as_str());
+        paths.push(path).expect(rt, "no memory");
     }
     paths
 }
@@ -178,8 +178,9 @@ fn paths(rt: &(impl AllocGlobal + Abort), files: Vec<UnitFile>) -> Vec<String> {
 /// The files that the row's name leads to, and the unit that is masked.
 fn follow(rt: &(impl AllocGlobal + Abort), row: &Row) -> (Option<Vec<String>>, Option<String>) {
     let tree = tree_of(rt, row.tree);
-    let unit = UnitName::parse(rt.alloc(), row.name).expect(rt, "no unit");
-    match files_of(rt.alloc(), &tree, &unit).expect(rt, "no memory") {
+    let name = unit(rt, row.name);
+    let files = files_of(rt.alloc(), &tree, &name).expect(rt, "no memory");
+    match &files {
         Files::Found(files) => (Some(paths(rt, files)), None),
         Files::Masked { unit } => (None, Some(text(rt, unit.as_str()))),
         Files::NotFound => (None, None),

@@ -1,65 +1,50 @@
 //! What the lines of a unit file say.
-use crate::answers::{same, same_at};
+use crate::answers::{repeated, same, same_at};
 use std::process::Abort;
 use um_syntax::{Item, WarningKind, parse};
 
-/// What a line is wanted to say, with its number first.
-#[derive(Debug, Drop)]
-enum Said {
+/// What a line says, with its number first.
+#[derive(Clone, Copy, Debug, PartialEq, Eq)]
+enum Said<'t> {
     /// The head of the section of this name.
-    Head(usize, &'static str),
+    Head(usize, &'t str),
     /// A key and a value, which lies from the first byte up to the second.
-    Pair(usize, &'static str, &'static str, usize, usize),
+    Pair(usize, &'t str, &'t str, usize, usize),
     /// A key and a value of a line that was joined.
-    Joined(usize, &'static str, &'static str),
+    Joined(usize, &'t str, &'t str),
     Warned(usize, WarningKind),
 }
 
-/// Whether the item is the wanted one.
-fn is_said(item: &Item<'_>, wanted: &Said) -> bool {
-    match (item, wanted) {
-        (Item::Section { name, line }, Said::Head(number, head)) => {
-            line == number && name.as_str() == *head
-        }
-        (
+impl<'t> Said<'t> {
+    /// What the item says.
+    fn of(item: &'t Item<'_>) -> Said<'t> {
+        match item {
+            Item::Section { name, line } => Said::Head(*line, name.as_str()),
             Item::Assignment {
                 key,
                 value,
                 line,
-                span: Some(span),
+                span,
+            } => match span {
+                Some(span) => Said::Pair(*line, key.as_str(), value.as_str(), span.start, span.end),
+                None => Said::Joined(*line, key.as_str(), value.as_str()),
             },
-            Said::Pair(number, left, right, start, end),
-        ) => {
-            let lies_there = span.start == *start && span.end == *end;
-            line == number && key.as_str() == *left && value.as_str() == *right && lies_there
+            Item::Warning { kind, line } => Said::Warned(*line, *kind),
         }
-        (
-            Item::Assignment {
-                key,
-                value,
-                line,
-                span: None,
-            },
-            Said::Joined(number, left, right),
-        ) => line == number && key.as_str() == *left && value.as_str() == *right,
-        (Item::Warning { kind, line }, Said::Warned(number, of_kind)) => {
-            line == number && kind == of_kind
-        }
-        _ => false,
     }
 }
 
-/// Asserts that an item is the wanted one.
-fn is_wanted(rt: &impl Abort, item: &Item<'_>, wanted: &Said) {
-    assert!(rt; is_said(item, wanted), "wanted {wanted:?}, got {item:?}");
+/// The items of the text.
+fn items_of<'t>(rt: &(impl AllocGlobal + Abort), text: &'t str) -> Vec<Item<'t>> {
+    parse(rt.alloc(), text).expect(rt, "no memory")
 }
 
-/// Asserts that the items of the text are these.
-fn says(rt: &(impl AllocGlobal + Abort), text: &str, wanted: &[Said]) {
-    let items = parse(rt.alloc(), text).expect(rt, "no memory");
+/// Asserts that the items of the text say this.
+fn says(rt: &(impl AllocGlobal + Abort), text: &str, wanted: &[Said<'_>]) {
+    let items = items_of(rt, text);
     same_at(rt, items.len(), wanted.len(), text);
-    for (item, said) in items.iter().zip(wanted) {
-        is_wanted(rt, item, said);
+    for (item, wanted) in items.iter().zip(wanted) {
+        same_at(rt, Said::of(item), *wanted, text);
     }
 }
 
@@ -70,7 +55,7 @@ const NO_SIGN: WarningKind = WarningKind::NoEqualsSign;
 /// A text, and what its lines say.
 struct Row {
     text: &'static str,
-    says: &'static [Said],
+    says: &'static [Said<'static>],
 }
 
 const ROWS: &[Row] = &[
@@ -217,17 +202,17 @@ fn each_warning_has_its_number(rt: HostRuntime) {
 #[test]
 fn a_line_at_the_limit_is_read(rt: HostRuntime) {
     for size in [65_535, 65_536] {
-        let text = "\\".repeat(rt.alloc(), size).expect(&rt, "no memory");
+        let text = repeated(&rt, "\\", size);
         says(&rt, text.as_str(), &[Said::Warned(1, NO_SIGN)]);
     }
 }
 
 #[test]
 fn lines_at_the_limit_are_read(rt: HostRuntime) {
-    let text = "a\n".repeat(rt.alloc(), 32_768).expect(&rt, "no memory");
-    let items = parse(rt.alloc(), text.as_str()).expect(&rt, "no memory");
+    let text = repeated(&rt, "a\n", 32_768);
+    let items = items_of(&rt, text.as_str());
     same(&rt, items.len(), 32_768);
     for (index, item) in items.iter().enumerate() {
-        is_wanted(&rt, item, &Said::Warned(index + 1, NO_SIGN));
+        same(&rt, Said::of(item), Said::Warned(index + 1, NO_SIGN));
     }
 }

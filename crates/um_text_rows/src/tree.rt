@@ -1,12 +1,7 @@
 //! Served paths, and the tree of files and links.
-use crate::answers::{is_refused, list, put, same, same_at, text, tree_of};
+use crate::answers::{is_refused, put, repeated, same, same_at, tree_of};
 use std::process::Abort;
 use um_tree::{Entry, Layer, Place, ServedPath, Tree};
-
-/// So many bytes.
-fn long(rt: &(impl AllocGlobal + Abort), count: usize) -> String {
-    "x".repeat(rt.alloc(), count).expect(rt, "no memory")
-}
 
 /// Paths, and whether they are served.
 const PATHS: &[(&str, bool)] = &[
@@ -47,7 +42,7 @@ fn paths_have_four_forms(rt: HostRuntime) {
 #[test]
 fn a_drop_in_has_a_name_of_1_to_200_bytes(rt: HostRuntime) {
     for (count, served) in [(0, false), (1, true), (200, true), (201, false)] {
-        let name = long(&rt, count);
+        let name = repeated(&rt, "x", count);
         let path = format!(in rt.alloc(); "etc/a.service.d/{name}.conf").expect(&rt, "no memory");
         let parsed = ServedPath::parse(path.as_str()).is_some();
         same_at(&rt, parsed, served, count);
@@ -127,10 +122,10 @@ fn a_file_is_put_and_replaced(rt: HostRuntime) {
 }
 
 /// The paths of the tree.
-fn paths(rt: &(impl AllocGlobal + Abort), tree: &Tree) -> Vec<String> {
+fn paths<'t>(rt: &(impl AllocGlobal + Abort), tree: &'t Tree) -> Vec<&'t str> {
     let mut paths = Vec::new(rt.alloc());
     for (path, _) in tree.entries() {
-        paths.push(text(rt, path)).expect(rt, "no memory");
+        paths.push(path).expect(rt, "no memory");
     }
     paths
 }
@@ -150,7 +145,7 @@ fn a_removal_leaves_a_copy_as_it_was(rt: HostRuntime) {
     let copy = copied.expect(&rt, "no memory");
     tree.remove("etc/a.service").expect(&rt, "not removed");
     same(&rt, (tree.len(), tree.get("etc/a.service")), (3, None));
-    same(&rt, paths(&rt, &copy), list(&rt, ASCENDING));
+    same(&rt, paths(&rt, &copy).as_slice(), ASCENDING);
 }
 
 /// What is put one after another: a file or a link at a path, with a text or a target of so many bytes, and what it is refused by.
@@ -219,12 +214,13 @@ const SIZED: &[Sized] = &[
 fn texts_and_targets_have_limits(rt: HostRuntime) {
     let mut tree = tree_of(&rt, &[("etc/z.service", Entry::Link("lib/a.service"))]);
     for row in SIZED {
-        let text = long(&rt, row.size);
-        let answer = if row.is_link {
-            tree.link(row.path, text.as_str())
+        let text = repeated(&rt, "x", row.size);
+        let entry = if row.is_link {
+            Entry::Link(text.as_str())
         } else {
-            tree.put(row.path, text.as_str())
+            Entry::File(text.as_str())
         };
+        let answer = put(&mut tree, row.path, entry);
         is_refused(&rt, answer, row.wanted, (row.path, row.size));
     }
     same(&rt, tree.len(), 4);
@@ -284,7 +280,8 @@ const LINKS: &[(&str, &str, Option<&str>)] = &[
 fn link_is_refused_in_order(rt: HostRuntime) {
     let mut tree = tree_of(&rt, &[("etc/f.service", Entry::File(""))]);
     for (path, target, wanted) in LINKS {
-        is_refused(&rt, tree.link(path, target), *wanted, (path, target));
+        let answer = put(&mut tree, path, Entry::Link(target));
+        is_refused(&rt, answer, *wanted, (path, target));
     }
     same(&rt, tree.len(), 4);
 }
@@ -308,7 +305,7 @@ fn remove_is_refused_where_nothing_stands(rt: HostRuntime) {
 #[test]
 fn a_removal_at_a_longer_path_than_a_name_tells_the_path(rt: HostRuntime) {
     for size in [244, 248, 60_000] {
-        let name = long(&rt, size);
+        let name = repeated(&rt, "x", size);
         let path = format!(in rt.alloc(); "lib/{name}.service").expect(&rt, "no memory");
         let wanted = format!(in rt.alloc(); "E12 BadPath {path}").expect(&rt, "no memory");
         let removed = Tree::new(rt.alloc()).remove(path.as_str());

@@ -1,20 +1,29 @@
 //! Units by their files: settings, warnings, and why they can't be loaded.
-use crate::answers::{Wanted, commands_of, list, same_at, text};
+use crate::answers::{Wanted, commands_of, list, put, same_at, unit, variables_of};
 use std::process::Abort;
 use um_model::{End, RestartPolicy, Span, UnitKind};
-use um_name::UnitName;
-use um_tree::Tree;
-use um_unit::{LoadedUnit, Loading, ServiceSettings, load};
-use um_words::Variable;
+use um_tree::{Entry, Tree};
+use um_unit::{InstallSettings, LoadedUnit, Loading, ServiceSettings, Warning, load};
+use um_value::ExitSet;
+use um_words::Command;
+
+/// A tree of these files.
+fn tree_with(rt: &(impl AllocGlobal + Abort), files: &[(&str, &str)]) -> Tree {
+    let mut tree = Tree::new(rt.alloc());
+    for (path, text) in files {
+        put(&mut tree, path, Entry::File(text)).expect(rt, "not put");
+    }
+    tree
+}
 
 /// What becomes of a unit in a tree of these files.
 fn loaded(rt: &(impl AllocGlobal + Abort), name: &str, files: &[(&str, &str)]) -> Loading {
-    let mut tree = Tree::new(rt.alloc());
-    for (path, text) in files {
-        tree.put(path, text).expect(rt, "not put");
-    }
-    let unit = UnitName::parse(rt.alloc(), name).expect(rt, "no unit");
-    load(rt.alloc(), &tree, &unit).expect(rt, "no memory")
+    load(rt.alloc(), &tree_with(rt, files), &unit(rt, name)).expect(rt, "no memory")
+}
+
+/// What becomes of `a.service` with this text.
+fn service_of(rt: &(impl AllocGlobal + Abort), text: &str) -> Loading {
+    loaded(rt, "a.service", &[("etc/a.service", text)])
 }
 
 /// The unit of these files.
@@ -93,21 +102,21 @@ const WARNED: &[Warned] = &[
     },
 ];
 
-/// Asserts that these are the unit's warnings, and that each is of the file at the path.
-fn warns(rt: &(impl AllocGlobal + Abort), unit: &LoadedUnit, row: &Warned) {
-    let mut warnings = Vec::new(rt.alloc());
-    for warning in &unit.warnings {
+/// Asserts that these are the warnings of the row, and that each is of the file at the path.
+fn warns(rt: &impl Abort, warnings: &[Warning], row: &Warned) {
+    same_at(rt, warnings.len(), row.warnings.len(), row.name);
+    for (warning, wanted) in warnings.iter().zip(row.warnings) {
         let told = (warning.kind.number(), warning.line);
-        warnings.push(told).expect(rt, "no memory");
+        same_at(rt, told, *wanted, row.name);
         same_at(rt, warning.path.as_str(), row.path, row.name);
     }
-    same_at(rt, warnings.as_slice(), row.warnings, row.name);
 }
 
 #[test]
 fn each_line_is_warned_of_by_its_kind(rt: HostRuntime) {
     for row in WARNED {
-        warns(&rt, &found(&rt, row.name, row.files), row);
+        let unit = found(&rt, row.name, row.files);
+        warns(&rt, &unit.warnings, row);
     }
 }
 
@@ -176,26 +185,30 @@ const COMMANDED: &[Commanded] = &[
     },
 ];
 
+/// Asserts that these are the wanted commands.
+fn runs(rt: &(impl AllocGlobal + Abort), commands: &[Command], wanted: &[Wanted], name: &str) {
+    let wanted = commands_of(rt, wanted);
+    same_at(rt, commands, wanted.as_slice(), name);
+}
+
+/// Asserts that the service has the commands of the row.
+fn has_commands(rt: &(impl AllocGlobal + Abort), service: &ServiceSettings, row: &Commanded) {
+    runs(rt, &service.start, row.start, row.name);
+    runs(rt, &service.stop, row.stop, row.name);
+}
+
 #[test]
 fn the_commands_of_a_service_are_kept(rt: HostRuntime) {
     for row in COMMANDED {
         let unit = found(&rt, row.name, row.files);
-        let start = commands_of(&rt, row.start);
-        let service = &unit.settings.service;
-        same_at(&rt, service.start.as_slice(), start.as_slice(), row.name);
-        let stop = commands_of(&rt, row.stop);
-        same_at(&rt, service.stop.as_slice(), stop.as_slice(), row.name);
+        has_commands(&rt, &unit.settings.service, row);
     }
 }
 
 #[test]
 fn the_environment_of_a_service_is_kept(rt: HostRuntime) {
     let unit = found(&rt, "a.service", &[("etc/a.service", ECHO)]);
-    let variable = Variable {
-        name: text(&rt, "X"),
-        value: text(&rt, "p  q"),
-    };
-    let wanted = vec![in rt.alloc(); variable].expect(&rt, "no memory");
+    let wanted = variables_of(&rt, &[("X", "p  q")]);
     let environment = unit.settings.service.environment.as_slice();
     same_at(&rt, environment, wanted.as_slice(), "a.service");
 }
@@ -291,19 +304,23 @@ fn micros(count: Option<u32>) -> Option<Span> {
     Some(Span::from_micros(count?))
 }
 
+/// Asserts that the service has the plain settings of the row.
+fn keeps(rt: &impl Abort, service: &ServiceSettings, row: &Kept) {
+    let got = (service.kind, service.restart, service.limit_burst);
+    same_at(rt, got, (row.kind, row.restart, row.burst), row.files);
+    let spans = [service.limit_interval, service.restart_delay];
+    let wanted = [micros(row.interval), micros(row.delay)];
+    same_at(rt, spans, wanted, row.files);
+    let spans = [service.timeout_start, service.timeout_stop];
+    let wanted = [micros(row.start), micros(row.stop)];
+    same_at(rt, spans, wanted, row.files);
+}
+
 #[test]
 fn the_plain_settings_of_a_service_are_kept(rt: HostRuntime) {
     for row in KEPT {
         let unit = found(&rt, row.name, row.files);
-        let service = &unit.settings.service;
-        let got = (service.kind, service.restart, service.limit_burst);
-        same_at(&rt, got, (row.kind, row.restart, row.burst), row.files);
-        let spans = [service.limit_interval, service.restart_delay];
-        let wanted = [micros(row.interval), micros(row.delay)];
-        same_at(&rt, spans, wanted, row.files);
-        let spans = [service.timeout_start, service.timeout_stop];
-        let wanted = [micros(row.start), micros(row.stop)];
-        same_at(&rt, spans, wanted, row.files);
+        keeps(&rt, &unit.settings.service, row);
     }
 }
 
@@ -380,19 +397,27 @@ fn names(rt: &(impl AllocGlobal + Abort), texts: &[String], wanted: &[&str], row
     same_at(rt, texts, list.as_slice(), row);
 }
 
+/// Asserts that enabling makes what the row says.
+fn installs(rt: &(impl AllocGlobal + Abort), install: &InstallSettings, row: &Told) {
+    names(rt, &install.alias, row.alias, row.name);
+    names(rt, &install.wanted_by, row.wanted_by, row.name);
+    let instance = install.default_instance.as_deref();
+    same_at(rt, instance, row.default_instance, row.name);
+}
+
+/// Asserts that the unit tells what the row says.
+fn tells(rt: &(impl AllocGlobal + Abort), unit: &LoadedUnit, row: &Told) {
+    let settings = &unit.settings;
+    let got = (unit.path.as_deref(), settings.description.as_str());
+    same_at(rt, got, (row.path, row.description), row.name);
+    names(rt, &settings.dependencies.after, row.after, row.name);
+    installs(rt, &settings.install, row);
+}
+
 #[test]
 fn what_a_unit_tells_beside_its_service_is_kept(rt: HostRuntime) {
     for row in TOLD {
-        let unit = found(&rt, row.name, row.files);
-        let settings = &unit.settings;
-        let install = &settings.install;
-        let got = (unit.path.as_deref(), settings.description.as_str());
-        same_at(&rt, got, (row.path, row.description), row.name);
-        names(&rt, &settings.dependencies.after, row.after, row.name);
-        names(&rt, &install.alias, row.alias, row.name);
-        names(&rt, &install.wanted_by, row.wanted_by, row.name);
-        let instance = install.default_instance.as_deref();
-        same_at(&rt, instance, row.default_instance, row.name);
+        tells(&rt, &found(&rt, row.name, row.files), row);
     }
 }
 
@@ -405,9 +430,9 @@ fn a_target_that_tells_no_truth_value_has_default_dependencies(rt: HostRuntime) 
 }
 
 /// Why the service can't be loaded; None where it can.
-fn reason(rt: &impl Abort, loading: Loading) -> Option<String> {
+fn reason<'l>(rt: &impl Abort, loading: &'l Loading) -> Option<&'l str> {
     match loading {
-        Loading::BadSetting { reason, .. } => Some(reason),
+        Loading::BadSetting { reason, .. } => Some(reason.as_str()),
         Loading::Found(_) => None,
         _ => panic!(rt; "the unit is not found"),
     }
@@ -453,9 +478,8 @@ const REASONS: &[(&str, Option<&str>)] = &[
 #[test]
 fn the_first_reason_counts(rt: HostRuntime) {
     for (text, wanted) in REASONS {
-        let loading = loaded(&rt, "a.service", &[("etc/a.service", text)]);
-        let reason = reason(&rt, loading);
-        same_at(&rt, reason.as_deref(), *wanted, text);
+        let loading = service_of(&rt, text);
+        same_at(&rt, reason(&rt, &loading), *wanted, text);
     }
 }
 
@@ -468,13 +492,10 @@ const ENDS: &[(End, bool)] = &[
     (End::Code(4), true),
 ];
 
-/// Asserts that the service takes exactly these ends as success, and none as a reason to restart.
-fn takes_ends(rt: &impl Abort, service: &ServiceSettings) {
+/// Asserts that exactly these ends are taken as success, and none as a reason to restart.
+fn takes_ends(rt: &impl Abort, success: &ExitSet, forces_restart: &ExitSet) {
     for (end, wanted) in ENDS {
-        let held = (
-            service.success.holds(*end),
-            service.forces_restart.holds(*end),
-        );
+        let held = (success.holds(*end), forces_restart.holds(*end));
         same_at(rt, held, (*wanted, false), end);
     }
 }
@@ -482,22 +503,22 @@ fn takes_ends(rt: &impl Abort, service: &ServiceSettings) {
 #[test]
 fn exits_are_read(rt: HostRuntime) {
     let unit = found(&rt, "a.service", &[("etc/a.service", RESTARTS)]);
-    takes_ends(&rt, &unit.settings.service);
+    let service = &unit.settings.service;
+    takes_ends(&rt, &service.success, &service.forces_restart);
 }
 
 /// The name of the unit that is masked; None where none is.
-fn masked(rt: &(impl AllocGlobal + Abort), loading: &Loading) -> Option<String> {
+fn masked(loading: &Loading) -> Option<&str> {
     match loading {
-        Loading::Masked { unit } => Some(text(rt, unit.as_str())),
+        Loading::Masked { unit } => Some(unit.as_str()),
         _ => None,
     }
 }
 
 #[test]
 fn a_unit_is_masked_by_an_empty_file_and_not_found_without_one(rt: HostRuntime) {
-    let empty = loaded(&rt, "a.service", &[("etc/a.service", "")]);
-    let unit = masked(&rt, &empty);
-    same_at(&rt, unit.as_deref(), Some("a.service"), "an empty file");
+    let empty = service_of(&rt, "");
+    same_at(&rt, masked(&empty), Some("a.service"), "an empty file");
     let lost = loaded(&rt, "a.service", &[]);
     assert!(rt;
         matches!(lost, Loading::NotFound),

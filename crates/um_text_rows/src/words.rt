@@ -1,7 +1,7 @@
 //! Words, commands and the variables in them.
-use crate::answers::{Wanted, commands_of, list, same_at, text};
+use crate::answers::{Wanted, commands_of, list, same_at, variables_of};
 use std::process::Abort;
-use um_words::{Command, Variable, commands, is_executable_word, names, substitute, words};
+use um_words::{Command, commands, is_executable_word, names, substitute, words};
 
 /// A text, and the words or names in it; None where it can't be read.
 struct Parted {
@@ -169,19 +169,6 @@ const VARIABLES: &[(&str, &str)] = &[
     ("_1", "one"),
 ];
 
-/// The environment of the rows.
-fn environment(rt: &(impl AllocGlobal + Abort)) -> Vec<Variable> {
-    let mut environment = Vec::new(rt.alloc());
-    for (name, value) in VARIABLES {
-        let variable = Variable {
-            name: text(rt, name),
-            value: text(rt, value),
-        };
-        environment.push(variable).expect(rt, "no memory");
-    }
-    environment
-}
-
 /// Texts, and what their words become in that environment.
 const SUBSTITUTED: &[Parted] = &[
     Parted {
@@ -220,7 +207,7 @@ const SUBSTITUTED: &[Parted] = &[
 
 #[test]
 fn variables_stand_for_their_values(rt: HostRuntime) {
-    let environment = environment(&rt);
+    let environment = variables_of(&rt, VARIABLES);
     for row in SUBSTITUTED {
         let read: Result<_, _> = words(rt.alloc(), row.text);
         let words = read.expect(&rt, "no memory").expect(&rt, "no words");
