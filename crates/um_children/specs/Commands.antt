@@ -1,7 +1,7 @@
 -- The command lines by which the manager starts a runner and signals a process.
 -- Follows sh(1) and kill(1); the runner's own words are the project's (docs/FORMATS.md, "The runner").
 -- Children through runners stand on this file.
-use Rattle.std.specs.Prelude.{◌≡◌, ◌∷◌, ◌++◌, [], List, ℕ, length, map, codes, decimal}
+use Rattle.std.specs.Prelude.{◌≡◌, ◌∷◌, ◌++◌, List, ℕ, length, map, codes, decimal}
 use Rattle.std.specs.Borrow.{Bor}
 use Rattle.std.specs.Process.{command_program, command_args}
 use Rattle.std.specs.declared.process.command.Command.{Command}

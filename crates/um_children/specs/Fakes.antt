@@ -1,7 +1,7 @@
 -- What children in memory tell of a number, and which call their fuse fails.
 -- No manual page has this: processes under numbers are the project's own.
 -- Children in memory stand on this file.
-use Rattle.std.specs.Prelude.{◌≡◌, ◌-◌, ◌==◌, ◌∷◌, [], List, ℕ, Bool, Option, Some, None, if◌then◌else◌}
+use Rattle.std.specs.Prelude.{◌-◌, ◌==◌, ◌∷◌, [], List, ℕ, Bool, Option, Some, None, if◌then◌else◌}
 use Rattle.um_model.specs.Children.{Call}
 use Rattle.um_model.specs.declared.children.Fate.{Fate}
 use Rattle.um_model.specs.declared.children.Fate.TheVariants.{Starting, Executed, Ended, Absent}

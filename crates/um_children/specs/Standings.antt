@@ -1,7 +1,7 @@
 -- How a number stands by the files of its runner, and what is told of it.
 -- No manual page has this: the runner's files are the project's own (docs/FORMATS.md, "The files of a process").
 -- Children through runners stand on this file.
-use Rattle.std.specs.Prelude.{ℕ, Bool, true, false, Option, Some, None, if◌then◌else◌}
+use Rattle.std.specs.Prelude.{Bool, true, false, Option, Some, None, if◌then◌else◌}
 use Rattle.um_model.specs.declared.children.Fate.{Fate}
 use Rattle.um_model.specs.declared.children.Fate.TheVariants as fate
 use Rattle.um_model.specs.declared.service.Signal.{Signal}

@@ -17,7 +17,6 @@ use Rattle.um_model.specs.Servable.{IsServable}
 use Rattle.um_model.specs.Service.{Action}
 use Rattle.um_model.specs.StateSpellings.{state_at, state_spelling}
 use Rattle.um_model.specs.Stands.{Contents, contents_of, inputs_of, IsStoreOf}
-use Rattle.um_model.specs.Store as store
 use Rattle.um_model.specs.Store.{body_limit, sector_count, log_start, log_end, newest_of, records_of, sectors_of, HasRecords, IsStore, GoesOn}
 use Rattle.um_slot.specs.Snapshots.{HasStore, EitherSnapshot}
 use Rattle.um_log.specs.Appending.{EitherRecord}

@@ -1,5 +1,5 @@
 -- What a crash leaves while the store is written is a store of the state before or of that behind.
-use Rattle.std.specs.Prelude.{◌≡◌, ◌⊎◌, ℕ, List, Option, Some}
+use Rattle.std.specs.Prelude.{◌≡◌, ◌⊎◌, ℕ, List, Some}
 use Rattle.std.proofs.Common.{inl, inr}
 use Rattle.um_model.specs.Bytes.{nothing_left}
 use Rattle.um_model.specs.Disk.{Image, Past, IsImage, Images}
