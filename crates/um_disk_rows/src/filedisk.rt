@@ -129,10 +129,18 @@ fn a_file_that_is_too_long_is_not_left_behind(rt: HostRuntime) -> Result<(), Fai
     let path = place(&rt, "long")?;
     let large = FileDisk::create(&rt, path.as_str(), 1 << 54);
     says(&rt, large, Some("no file can hold so many sectors"));
-    same(&rt, fs::exists(&rt, &path).expect(&rt, "not looked at"), false);
+    same(
+        &rt,
+        fs::exists(&rt, &path).expect(&rt, "not looked at"),
+        false,
+    );
     // few file systems hold a file so long: a new one that doesn't get its length is removed again
     if FileDisk::create(&rt, path.as_str(), (1 << 54) - 1).is_err() {
-        same(&rt, fs::exists(&rt, &path).expect(&rt, "not looked at"), false);
+        same(
+            &rt,
+            fs::exists(&rt, &path).expect(&rt, "not looked at"),
+            false,
+        );
     } else {
         fs::remove_file(&rt, &path).expect(&rt, "not removed");
     }
