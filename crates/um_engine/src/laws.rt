@@ -1,14 +1,14 @@
-ghost use Rattle.std.specs.Prelude.{◌≡◌, ◌≢◌, ◌↔◌, ◌≤◌, ◌++◌, ℕ, List, length, None};
-ghost use Rattle.um_model.proofs.MachineLaws.{IsSameOutcome};
+ghost use Rattle.std.specs.Prelude.{◌≡◌, ◌≢◌, ◌↔◌, ◌<◌, ◌≤◌, ◌++◌, ℕ, List, All, length, None};
+ghost use Rattle.um_model.specs.Begun.{WasNext, begun_in};
 ghost use Rattle.um_model.specs.Finished.{Finishes, IsAtRest, PutsStart};
 ghost use Rattle.um_model.specs.InputSpellings.{FitInput, input_spelling};
 ghost use Rattle.um_model.specs.Jobs.{jobs_of_unit};
-ghost use Rattle.um_model.proofs.LightLaws.{WeighsNoMore};
-ghost use Rattle.um_model.proofs.LiveLaws.{IsNotStuck};
-ghost use Rattle.um_model.specs.Machine.{State, Happening, Happened, Input, Reply, Done, Refusal, Step, Run, empty_state};
+ghost use Rattle.um_model.specs.Live.{IsNotStuck};
+ghost use Rattle.um_model.specs.Machine.{State, Happening, Happened, Input, IsReplyTo, IsTooHeavy, Query, Reply, Done, Refusal, Step, Run, empty_state};
 ghost use Rattle.um_model.specs.Numbers.{AreNew, started_numbers, actions_in};
 ghost use Rattle.um_model.specs.Refusals.{Refused};
-ghost use Rattle.um_model.specs.Servable.{IsServable, IsFew, IsFree};
+ghost use Rattle.um_model.specs.Outcomes.{IsSameOutcome};
+ghost use Rattle.um_model.specs.Servable.{IsServable, IsFew, IsFree, Weighs, WeighsNoMore};
 ghost use Rattle.um_model.specs.Service.{Action};
 ghost use Rattle.um_model.specs.StateSpellings.{FitState, state_spelling};
 
@@ -22,6 +22,17 @@ pub fn each_input_has_a_step()
 pub fn a_step_has_one_outcome()
     ensures { (size : ℕ) (s : State) (input : Input) (r q : Reply) (a b : List Action) (t u : State)
         → Step size s input r a t → Step size s input q b u → IsSameOutcome r q a b t u }
+{}
+
+/// A query has one reply, which the state tells.
+pub fn a_query_has_one_reply()
+    ensures { (s : State) (query : Query) (r q : Reply) → IsReplyTo s query r → IsReplyTo s query q → r ≡ q }
+{}
+
+/// A job that begins was ready in the state from which it began: it was the least of the jobs that were ready there.
+pub fn a_job_that_begins_was_ready()
+    ensures { (size : ℕ) (s : State) (input : Input) (reply : Reply) (actions : List Action) (t : State)
+        (step : Step size s input reply actions t) → All WasNext (begun_in step) }
 {}
 
 /// A run has one end.
@@ -50,6 +61,13 @@ pub fn the_machine_is_never_stuck()
 /// `run/`.
 pub fn no_more_units_are_known_than_may_be()
     ensures { (size : ℕ) (inputs : List Input) (t : State) → Run size empty_state inputs t → IsFew t }
+{}
+
+/// Each state has one weight, in bytes, and it is too heavy for a store of fewer bytes.
+pub fn each_state_has_one_weight()
+    ensures some { (s : State) → (weight : ℕ) × Weighs s weight }
+    ensures one { (s : State) (m n : ℕ) → Weighs s m → Weighs s n → m ≡ n }
+    ensures heavy { (size : ℕ) (s : State) (weight : ℕ) → Weighs s weight → IsTooHeavy size s ↔ size < weight }
 {}
 
 /// What happens is never refused, and never raises the weight of the state.

@@ -5,9 +5,9 @@ ghost use Rattle.um_model.specs.Disk.{Image};
 ghost use Rattle.um_model.specs.Finished.{IsAtRest};
 ghost use Rattle.um_model.specs.Lives.{Life, Lived, AreKept, HasInOrder, all_answered};
 ghost use Rattle.um_model.specs.Machine.{State, Input, Run, empty_state};
-ghost use Rattle.um_model.proofs.UnreadLaws.{IsRead};
 ghost use Rattle.um_model.specs.Stands.{StandsFor, IsStoreOf};
 ghost use Rattle.um_model.specs.Store.{superblock, body_limit};
+ghost use Rattle.um_model.specs.Unread.{IsRead};
 ghost use Rattle.um_model.specs.declared.layout.Layout.{Layout};
 
 /// An image stands for one state at most, of one layout.

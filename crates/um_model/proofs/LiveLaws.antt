@@ -8,6 +8,7 @@ use Rattle.um_model.specs.Transitions.{transition, HasNumber}
 use Rattle.um_model.specs.Jobs.{Job, stop_job, start_job, job_of, jobs, no_jobs, jobs_of_unit, is_active, is_up, started, stopped, jobs_for, unless_waiting, cancelled, without_start, state_of_job, IsPending, of_one_unit, ComesBefore, IsReady, unless_running, start_left, jobs_left}
 use Rattle.um_model.specs.Timers.{Timers}
 use Rattle.um_model.specs.Machine.{State, empty_state, Command, Happening, Event, Input, Reply, IsBefore, TakesAlong, Becomes, Carries, change_of, changed, around, begins, begun, IsStill, FallDown, Happens, AreReset, Settles, begins_next, unit_asked, with_plan, jobs_asked, scene_at, Changes, puts, links, removes, reloads, plans, demands_nothing, cancels, installs, Does, units_reset, end_of, Restarts, ComesDue, Fires, FiresOne, booted, Follows, ends, reports, ticks, boots, obeys, meets, moment_of, Step, refused, crowded_out, idle, taken, Run, goes, settings_in, isnt_put, TakesEffect}
+use Rattle.um_model.specs.Live.{WaitsFor, IsNotStuck}
 use Rattle.um_model.specs.Plan.{IsPlan}
 use Rattle.um_model.specs.Servable.{IsFree}
 use Rattle.um_model.specs.declared.dependencies.Demand.{Demand}
@@ -39,16 +40,6 @@ use Rattle.um_model.proofs.UnitLaws.{state_here, state_apart, jobs_here, jobs_ap
 use Rattle.um_model.proofs.TransitionLaws.{HasItsProcess, has_its_process, keeps_process, same_held}
 use Rattle.um_model.proofs.FitLaws.{StartFits, StopFits, begun_start_fits, start_fits, begun_stop_fits, stop_fits}
 use Rattle.um_model.proofs.Forms.{with_running}
-
--- a pending job whose unit is in start or in a stop state, where this is the number of a live process
-pub record WaitsFor (s : State) (job : Job) (number : ℕ) : Type 0 where
-  pub pending : IsPending s.pending job
-  pub busy : (is_starting (state_of_unit s.units job.unit).sub || is_stopping (state_of_unit s.units job.unit).sub) ≡ true
-  pub live : HasNumber (state_of_unit s.units job.unit) number
-
--- the machine isn't stuck: where a job is pending, some pending job waits for a live process
-abbrev pub IsNotStuck : State → Type 0
-IsNotStuck s = (job : Job) → IsPending s.pending job → (other : Job) × (number : ℕ) × WaitsFor s other number
 
 -- a unit and its jobs fit: it has its process, a start job runs only in start, a stop job only in a stop state, and not both
 pub record Fits (u : UnitState) (j : UnitJobs) : Type 0 where
