@@ -9,7 +9,7 @@ use Rattle.std.proofs.lemmas.Bool.{and_parts}
 use Rattle.std.proofs.lemmas.Bool.Decides.{Decides-eqb}
 use Rattle.um_model.proofs.KeepsLaws.{fires_keeps, same_state}
 use Rattle.um_model.proofs.MachineLaws.{boot_has_effect, one_process, tick_has_effect}
-use Rattle.um_model.specs.Ends.{is_starting, has_one_command}
+use Rattle.um_model.specs.Ends.{waits_for_report, has_one_command}
 use Rattle.um_model.specs.Machine.{State, ProcessEnded, ProcessExecuted, Tick, Booted, IsProcessOf, IsOver, AwaitsReport, settings_in, booted, end_of, Happens, Follows, ends, reports, ticks, boots, HasNoEffect, is_idle, isnt_awaited, is_known}
 use Rattle.um_model.specs.Service.{Action, is_number, state_of_unit}
 use Rattle.um_model.specs.declared.service.End.{End}
@@ -71,7 +71,7 @@ number_is : (number : ℕ) (o : Option ℕ) → o ≡ Some number → is_number 
 number_is number o e = ap (is_number number) e ∙ (Decides-eqb number number).1 refl
 
 -- whether the unit waits for the report, by what it is asked of
-pub report_decided : (s : State) (number : ℕ) (unit : List ℕ) (starts asked is : Bool) → starts ≡ is_starting (state_of_unit s.units unit).sub
+pub report_decided : (s : State) (number : ℕ) (unit : List ℕ) (starts asked is : Bool) → starts ≡ waits_for_report (state_of_unit s.units unit).sub
     → asked ≡ has_one_command (settings_in s.loaded unit).kind → is ≡ is_number number (state_of_unit s.units unit).main
     → Decides (starts && asked && is) (AwaitsReport s number unit)
 report_decided s number unit starts asked is e f g = (told, tells)

@@ -5,7 +5,7 @@ ghost use Rattle.std.specs.Prelude.{◌≡◌, ◌↔◌, ◌&&◌, ℕ, List, [
 ghost use Rattle.um_engine.specs.Engine.{FollowsUpon, Met, MetBy, IsSame};
 ghost use Rattle.um_engine.specs.Known.{KnowsFor};
 ghost use Rattle.um_falling.specs.Over.{Serves};
-ghost use Rattle.um_model.specs.Ends.{is_starting, has_one_command};
+ghost use Rattle.um_model.specs.Ends.{waits_for_report, has_one_command};
 ghost use Rattle.um_model.specs.Servable.{IsFew};
 ghost use Rattle.um_model.specs.Machine as model;
 ghost use Rattle.um_model.specs.Service.{is_number};
@@ -99,8 +99,8 @@ fn after_end(
     Ok((Some(after), actions))
 }
 
-fn is_starting(sub: SubState) -> bool
-    ensures { result ≡ is_starting sub }
+fn waits_for_report(sub: SubState) -> bool
+    ensures { result ≡ waits_for_report sub }
 {
     matches!(sub, SubState::Start)
 }
@@ -118,9 +118,9 @@ fn is_number(number: u64, process: Option<ProcessNumber>) -> bool
 /// Whether a unit of this kind that stands so waits for the report that the program of its main process runs, and that process has
 /// the number.
 fn awaits(stands: UnitState, kind: UnitKind, number: u64) -> bool
-    ensures { result ≡ (is_starting stands.sub && has_one_command kind && is_number number stands.main) }
+    ensures { result ≡ (waits_for_report stands.sub && has_one_command kind && is_number number stands.main) }
 {
-    is_starting(stands.sub) && has_one_command(kind) && is_number(number, stands.main)
+    waits_for_report(stands.sub) && has_one_command(kind) && is_number(number, stands.main)
 }
 
 /// Whether the unit, one of the graph, waits for the report that the program of its main process runs, and that process has the

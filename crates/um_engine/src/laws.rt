@@ -8,7 +8,7 @@ ghost use Rattle.um_model.specs.Machine.{State, Happening, Happened, Input, IsRe
 ghost use Rattle.um_model.specs.Numbers.{AreNew, started_numbers, actions_in};
 ghost use Rattle.um_model.specs.Refusals.{Refused};
 ghost use Rattle.um_model.specs.Outcomes.{IsSameOutcome};
-ghost use Rattle.um_model.specs.Servable.{IsServable, IsFew, IsFree, Weighs, WeighsNoMore};
+ghost use Rattle.um_model.specs.Servable.{IsBlank, IsServable, IsFew, IsFree, Weighs, WeighsNoMore};
 ghost use Rattle.um_model.specs.Service.{Action};
 ghost use Rattle.um_model.specs.StateSpellings.{FitState, state_spelling};
 
@@ -46,21 +46,26 @@ pub fn runs_join()
         → ((t : State) × Run size s p t × Run size t q u) ↔ Run size s (p ++ q) u }
 {}
 
-/// After a run from the empty state the pending jobs don't wait for one another in a circle.
+/// The empty state is one in which nothing is held.
+pub fn nothing_is_held_in_the_empty_state()
+    ensures { IsBlank empty_state }
+{}
+
+/// After a run from a state in which nothing is held the pending jobs don't wait for one another in a circle.
 pub fn the_pending_jobs_have_no_cycle()
-    ensures { (size : ℕ) (inputs : List Input) (t : State) → Run size empty_state inputs t → IsFree t }
+    ensures { (size : ℕ) (s : State) (inputs : List Input) (t : State) → IsBlank s → Run size s inputs t → IsFree t }
 {}
 
-/// The machine is never stuck: where a job is pending after a run from the empty state, some pending job's unit is in start or in a
-/// stop state and has a live process.
+/// The machine is never stuck: where a job is pending after a run from a state in which nothing is held, some pending job's unit is in
+/// start or in a stop state and has a live process.
 pub fn the_machine_is_never_stuck()
-    ensures { (size : ℕ) (inputs : List Input) (t : State) → Run size empty_state inputs t → IsNotStuck t }
+    ensures { (size : ℕ) (s : State) (inputs : List Input) (t : State) → IsBlank s → Run size s inputs t → IsNotStuck t }
 {}
 
-/// After a run from the empty state no more units are known than may be, by the loaded tree and by it without its entries under
-/// `run/`.
+/// After a run from a state in which nothing is held no more units are known than may be, by the loaded tree and by it without its
+/// entries under `run/`.
 pub fn no_more_units_are_known_than_may_be()
-    ensures { (size : ℕ) (inputs : List Input) (t : State) → Run size empty_state inputs t → IsFew t }
+    ensures { (size : ℕ) (s : State) (inputs : List Input) (t : State) → IsBlank s → Run size s inputs t → IsFew t }
 {}
 
 /// Each state has one weight, in bytes, and it is too heavy for a store of fewer bytes.
@@ -76,9 +81,9 @@ pub fn what_happens_never_raises_the_weight()
         → Step size s (record { moment = moment; event = Happened happening }) reply actions t → (reply ≡ Done) × WeighsNoMore t s }
 {}
 
-/// A store of 256 bytes or more may hold the empty state.
+/// A store of 256 bytes or more may hold a state in which nothing is held, as the empty one.
 pub fn a_store_may_hold_the_empty_state()
-    ensures { (size : ℕ) → 256 ≤ size → IsServable size empty_state }
+    ensures { (size : ℕ) (s : State) → 256 ≤ size → IsBlank s → IsServable size s }
 {}
 
 /// A step leaves a state that a store may hold such that it still may.

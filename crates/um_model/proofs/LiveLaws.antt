@@ -4,13 +4,13 @@ use Rattle.std.specs.FinMap as map
 use Rattle.um_model.specs.Service.{Action, ByUnit, active_state_of, dead_unit, state_of_unit}
 use Rattle.um_model.specs.Settings.{ServiceSettings}
 use Rattle.um_model.specs.Ends.{is_starting, is_stopping}
-use Rattle.um_model.specs.Transitions.{transition, HasNumber}
+use Rattle.um_model.specs.Transitions.{transition, HasNumber, has_its_process, HasItsProcess}
 use Rattle.um_model.specs.Jobs.{Job, stop_job, start_job, job_of, jobs, no_jobs, jobs_of_unit, is_active, is_up, started, stopped, jobs_for, unless_waiting, cancelled, without_start, state_of_job, IsPending, of_one_unit, ComesBefore, IsReady, unless_running, start_left, jobs_left}
 use Rattle.um_model.specs.Timers.{Timers}
-use Rattle.um_model.specs.Machine.{State, empty_state, Command, Happening, Event, Input, Reply, IsBefore, TakesAlong, Becomes, Carries, change_of, changed, around, begins, begun, IsStill, FallDown, Happens, AreReset, Settles, begins_next, unit_asked, with_plan, jobs_asked, scene_at, Changes, puts, links, removes, reloads, plans, demands_nothing, cancels, installs, Does, units_reset, end_of, Restarts, ComesDue, Fires, FiresOne, booted, Follows, ends, reports, ticks, boots, obeys, meets, moment_of, Step, refused, crowded_out, idle, taken, Run, goes, settings_in, isnt_put, TakesEffect}
+use Rattle.um_model.specs.Machine.{State, Command, Happening, Event, Input, Reply, IsBefore, TakesAlong, Becomes, Carries, change_of, changed, around, begins, begun, IsStill, FallDown, Happens, AreReset, Settles, begins_next, unit_asked, with_plan, jobs_asked, scene_at, Changes, puts, links, removes, reloads, plans, demands_nothing, cancels, installs, Does, units_reset, end_of, Restarts, ComesDue, Fires, FiresOne, booted, Follows, ends, reports, ticks, boots, obeys, meets, moment_of, Step, refused, crowded_out, idle, taken, Run, goes, settings_in, isnt_put, TakesEffect}
 use Rattle.um_model.specs.Live.{WaitsFor, IsNotStuck}
 use Rattle.um_model.specs.Plan.{IsPlan}
-use Rattle.um_model.specs.Servable.{IsFree}
+use Rattle.um_model.specs.Servable.{IsBlank, IsFree}
 use Rattle.um_model.specs.declared.dependencies.Demand.{Demand}
 use Rattle.um_model.specs.declared.dependencies.Demand.TheVariants as demands
 use Rattle.um_model.specs.declared.jobs.JobKind.{JobKind}
@@ -37,7 +37,7 @@ use Rattle.um_model.proofs.PlannedLaws.{counts_some}
 use Rattle.um_model.proofs.SceneLaws.{finite_scene}
 use Rattle.um_model.proofs.TimersLaws.{same_name}
 use Rattle.um_model.proofs.UnitLaws.{state_here, state_apart, jobs_here, jobs_apart}
-use Rattle.um_model.proofs.TransitionLaws.{HasItsProcess, has_its_process, keeps_process, same_held}
+use Rattle.um_model.proofs.TransitionLaws.{keeps_process, same_held}
 use Rattle.um_model.proofs.FitLaws.{StartFits, StopFits, begun_start_fits, start_fits, begun_stop_fits, stop_fits}
 use Rattle.um_model.proofs.Forms.{with_running}
 
@@ -439,8 +439,17 @@ module _ (s : State) (fits : AllFit s) (still : IsStill s) where
       | inr runs ↦ let w = running_waits j is_there j.kind runs in (j, w.0, w.1)
     ]
 
--- after any inputs the machine isn't stuck
-pub never_stuck : (size : ℕ) (inputs : List Input) (t : State) → Run size empty_state inputs t → IsNotStuck t
-never_stuck size inputs t run =
-    let calm = run_fits keeps_process size empty_state t inputs run (nothing_fits, nothing_ready (IsBefore empty_state.loaded) map.empty) in
-    fitting_not_stuck t calm.0 calm.1 (no_cycle_after size inputs t run)
+-- in a state in which nothing is held all fits, and no job is ready
+blank_fits : (s : State) → IsBlank s → AllFit s
+blank_fits s blank =
+    subst₂ (λ us js. (unit : List ℕ) → Fits (state_of_unit us unit) (jobs_of_unit js unit)) (sym blank.units) (sym blank.pending) nothing_fits
+
+blank_still : (s : State) → IsBlank s → IsStill s
+blank_still s blank =
+    subst (λ js. (j : Job) → ¬ IsReady (IsBefore s.loaded) s.units js j) (sym blank.pending) (nothing_ready (IsBefore s.loaded) s.units)
+
+-- after any inputs from there the machine isn't stuck
+pub never_stuck : (size : ℕ) (s : State) (inputs : List Input) (t : State) → IsBlank s → Run size s inputs t → IsNotStuck t
+never_stuck size s inputs t blank run =
+    let calm = run_fits keeps_process size s t inputs run (blank_fits s blank, blank_still s blank) in
+    fitting_not_stuck t calm.0 calm.1 (no_cycle_after size s inputs t blank run)

@@ -8,7 +8,7 @@ use Rattle.um_model.specs.Limit.{counted}
 use Rattle.um_model.specs.Service.{Action, SpawnProcess, SendSignal, active_state_of, is_success}
 use Rattle.um_model.specs.Settings.{ServiceSettings, environment_texts, commands_in, has_place}
 use Rattle.um_model.specs.Ends.{is_clean, is_failed, is_restart_wanted, has_one_command}
-use Rattle.um_model.specs.Transitions.{deadline_after, has_number, is_live, just, asking, start_ends, start_fails, stop_ends, rests_for_good, waits_to_restart, rests, terminates, stop_command, winds_down, first_command, start_of, starts_if, starts, exits, next_command, start_goes_on, rests_unless_live, noted, without_main, without_control, timed_out, told_to_stop, forgiven, is_stop_done, row, is_going, transition, AreStarted, no_command, substituted, as_written, AreActions, nothing, spawn, signals, spawned, live_numbers, HasNumber}
+use Rattle.um_model.specs.Transitions.{deadline_after, has_number, is_live, just, asking, start_ends, start_fails, stop_ends, rests_for_good, waits_to_restart, rests, terminates, stop_command, winds_down, first_command, start_of, starts_if, starts, exits, next_command, start_goes_on, rests_unless_live, noted, without_main, without_control, timed_out, told_to_stop, forgiven, is_stop_done, row, is_going, transition, AreStarted, no_command, substituted, as_written, AreActions, nothing, spawn, signals, spawned, live_numbers, HasNumber, has_its_process, HasItsProcess}
 use Rattle.um_model.specs.declared.limit.Counted.{Counted}
 use Rattle.um_model.specs.declared.service.End.{End}
 use Rattle.um_model.specs.declared.service.Signal as signal
@@ -29,19 +29,6 @@ use Rattle.um_model.specs.declared.transition.UnitEvent.TheVariants.{StartBegins
 use Rattle.um_model.specs.declared.transition.UnitKind.{UnitKind}
 use Rattle.um_model.specs.declared.transition.UnitKind.TheVariants.{Simple, Exec, Oneshot, Target}
 use Rattle.um_model.proofs.SubstitutionLaws.{same_substituted, have_substituted}
-
--- a unit that starts or runs has a main process, one that its ExecStop= commands stop a control process, and one that is told to
--- end one of them
-abbrev pub has_its_process : SubState → UnitState → Bool
-has_its_process Start u = is_some u.main
-has_its_process Running u = is_some u.main
-has_its_process Stop u = is_some u.control
-has_its_process StopSigterm u = is_live u
-has_its_process StopSigkill u = is_live u
-has_its_process other u = true
-
-abbrev pub HasItsProcess : UnitState → Type 0
-HasItsProcess u = has_its_process u.sub u ≡ true
 
 pub by_cond : (P : Change → Type 0) (b : Bool) (x y : Change) → (b ≡ true → P x) → (b ≡ false → P y) → P (cond b x y)
 by_cond P true x y f g = f refl

@@ -1,12 +1,21 @@
--- What it is that a store of so many bytes may hold a state; what a state weighs, and when one weighs no more than another.
+-- What it is that a store of so many bytes may hold a state, and that nothing is held in a state; what a state weighs, and when one
+-- weighs no more than another.
 -- Follows no manual page: the store and its limits are this project's own.
 -- The law of steps in proofs/ServableLaws depends on this file, the engine and the keeper stand on it.
 use Rattle.std.specs.Prelude.{◌≡◌, ◌≤◌, ℕ}
+use Rattle.std.specs.FinMap as map
 use Rattle.um_model.specs.Dependencies.{CountsFor}
 use Rattle.um_model.specs.Machine.{State, IsHeld, IsCrowded, IsBefore, IsTooHeavy}
 use Rattle.um_model.specs.Plan.{AreFree}
 use Rattle.um_model.specs.Refusals.{Refused}
 use Rattle.um_model.specs.Weight.{weight_of}
+
+-- both trees are empty, and nothing is held of any unit: so it is with the state of a new store
+pub record IsBlank (s : State) : Type 0 where
+  pub tree : s.tree ≡ map.empty
+  pub loaded : s.loaded ≡ map.empty
+  pub units : s.units ≡ map.empty
+  pub pending : s.pending ≡ map.empty
 
 -- no more units are known than may be, by the loaded tree and by it without its entries under `run/`
 abbrev pub IsFew : State → Type 0

@@ -45,6 +45,23 @@ has_number c = nat_lt c.next process_limit
 abbrev pub is_live : UnitState → Bool
 is_live u = is_some u.main || is_some u.control
 
+-- a unit that starts or runs has a main process, one that its ExecStop= commands stop a control process, and one that is told to
+-- end one of them
+abbrev pub has_its_process : SubState → UnitState → Bool
+has_its_process Start u = is_some u.main
+has_its_process Running u = is_some u.main
+has_its_process Stop u = is_some u.control
+has_its_process StopSigterm u = is_live u
+has_its_process StopSigkill u = is_live u
+has_its_process Dead u = true
+has_its_process Exited u = true
+has_its_process Failed u = true
+has_its_process AutoRestart u = true
+has_its_process Active u = true
+
+abbrev pub HasItsProcess : UnitState → Type 0
+HasItsProcess u = has_its_process u.sub u ≡ true
+
 -- the unit is now this, and nothing else follows
 abbrev pub just : UnitState → Change
 just u = record { unit = u; order = Nothing; start = Stays; stop_ends = false }
