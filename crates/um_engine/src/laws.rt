@@ -1,7 +1,7 @@
 ghost use Rattle.std.specs.Prelude.{◌≡◌, ◌≢◌, ◌↔◌, ◌<◌, ◌≤◌, ◌++◌, ℕ, List, All, length, None};
 ghost use Rattle.um_model.specs.Begun.{WasNext, begun_in};
 ghost use Rattle.um_model.specs.Finished.{Finishes, IsAtRest, PutsStart};
-ghost use Rattle.um_model.specs.InputSpellings.{FitInput, input_spelling};
+ghost use Rattle.um_model.specs.InputSpellings.{FitInput, input_limit, input_spelling};
 ghost use Rattle.um_model.specs.Jobs.{jobs_of_unit};
 ghost use Rattle.um_model.specs.Live.{IsNotStuck};
 ghost use Rattle.um_model.specs.Machine.{State, Happening, Happened, Input, IsReplyTo, IsTooHeavy, Query, Reply, Done, Refusal, Step, Run, empty_state};
@@ -103,11 +103,11 @@ pub fn the_bytes_of_a_state_have_room()
     ensures { (size : ℕ) (s : State) → FitState s → IsServable size s → length (state_spelling s) ≤ size }
 {}
 
-/// An input that isn't refused in a state that has bytes takes from 10 to 131,072 bytes itself.
+/// An input that isn't refused in a state that has bytes takes from 10 to 66,078 bytes itself.
 pub fn an_input_that_is_not_refused_is_short()
     ensures { (size : ℕ) (s : State) (input : Input) (reply : Reply) (actions : List Action) (t : State)
         → FitState s → FitInput input → Step size s input reply actions t → ((r : Refused) → reply ≢ Refusal r)
-        → (10 ≤ length (input_spelling input)) × (length (input_spelling input) ≤ 131072) }
+        → (10 ≤ length (input_spelling input)) × (length (input_spelling input) ≤ input_limit) }
 {}
 
 /// A finished job isn't repeated: where a oneshot finished in a step and no start of it is pending after that, it is at rest after

@@ -108,7 +108,7 @@ taken_store t = store_of t.store (taken_comes t).1
 
 -- a new snapshot without records is what a keeper holds
 pub keeps_anew : {past : Past} {count : ℕ} {layout : Layout} {slot : Slot} {generation : ℕ} {s : State} → IsImage past (seen past)
-    → GoesOn layout past slot generation (state_spelling s) [] 0 (log_start layout generation) → FitState s → IsServable (body_limit layout) s → store_sectors layout ≤ count
+    → GoesOn layout past slot generation (state_spelling s) [] generation 0 (log_start layout generation) → FitState s → IsServable (body_limit layout) s → store_sectors layout ≤ count
     → Keeps past count layout slot generation 0 (log_start layout generation) s
 keeps_anew {past} {count} {layout} {slot} {generation} {s} is on fits may room =
     let this = on.store (seen past) is in

@@ -1,12 +1,13 @@
 //! What the definitions of a store say together, as functions that do nothing.
-ghost use Rattle.std.specs.Prelude.{◌≡◌, ◌↔◌, ℕ, List};
+ghost use Rattle.std.specs.Prelude.{◌≡◌, ◌↔◌, ◌≤◌, ℕ, List};
 ghost use Rattle.um_keeper.specs.Finished.{RepeatsNone, WaitsForCommand};
 ghost use Rattle.um_model.specs.Disk.{Image};
 ghost use Rattle.um_model.specs.Finished.{IsAtRest};
 ghost use Rattle.um_model.specs.Lives.{Life, Lived, AreKept, HasInOrder, all_answered};
 ghost use Rattle.um_model.specs.Machine.{State, Input, Run};
 ghost use Rattle.um_model.specs.Stands.{StandsFor, IsStoreOf};
-ghost use Rattle.um_model.specs.Store.{superblock, body_limit};
+ghost use Rattle.um_model.specs.InputSpellings.{input_limit};
+ghost use Rattle.um_model.specs.Store.{superblock, body_limit, record_limit};
 ghost use Rattle.um_model.specs.Unread.{IsRead};
 ghost use Rattle.um_model.specs.declared.layout.Layout.{Layout};
 
@@ -19,6 +20,11 @@ pub fn an_image_stands_for_one_state()
 /// Images that agree in each sector that the reading of a store looks at stand for the same state, or for none.
 pub fn unread_sectors_of_a_store_do_not_count()
     ensures { (layout : Layout) (a b : Image) → ((j : ℕ) → IsRead layout a j → b j ≡ a j) → (s : State) → StandsFor layout a s ↔ StandsFor layout b s }
+{}
+
+/// An input that isn't refused has room in a record of each generation.
+pub fn an_input_has_room_in_a_record()
+    ensures { (layout : Layout) (generation : ℕ) → input_limit ≤ record_limit layout generation }
 {}
 
 /// However many lives a store has, each opened on the image that the crash of the one before it left: from an image of a store on, as a

@@ -7,7 +7,7 @@ use Rattle.std.proofs.lemmas.Bool.{cases_lt}
 use Rattle.std.proofs.lemmas.Option.{none-some}
 use Rattle.um_model.specs.Bytes.{FitText}
 use Rattle.um_model.specs.Dependencies.{unit_limit, IsKnown, CountsFor, extra}
-use Rattle.um_model.specs.InputSpellings.{FitCommand, FitEvent, FitInput, input_spelling}
+use Rattle.um_model.specs.InputSpellings.{input_limit, FitCommand, FitEvent, FitInput, input_spelling}
 use Rattle.um_model.specs.Jobs.{JobShown, job_shown, jobs_shown_of}
 use Rattle.um_model.specs.Machine.{State, empty_state, Command, Event, Input, Reply, Refusal, IsHeld, Refuses, Changes, puts, links, removes, reloads, plans, demands_nothing, cancels, installs, Does, units_reset, ends, reports, ticks, boots, TakesEffect, obeys, meets, end_of, moment_of, Step, refused, crowded_out, idle, taken, Run, goes}
 use Rattle.um_model.specs.Moments.{moment_limit, deadline_limit, process_limit}
@@ -257,7 +257,7 @@ module _ (size : ℕ) (s : State) (inputs : List Input) (t : State) (blank : IsB
   pub spelled_after : (n : ℕ) → CountsFor t.loaded (IsHeld t) n → length (state_spelling t) ≤ weight_of t.tree t.loaded n
   spelled_after n counts = spelled_short t n fits_after counts
 
-  -- and an input that it doesn't refuse has at most 131,072 bytes
+  -- and an input that it doesn't refuse has at most 66,078 bytes
   pub accepted_after : (i : Input) (reply : Reply) (actions : List Action) (u : State) → FitInput i → Step size t i reply actions u
-      → ((r : Refused) → reply ≢ Refusal r) → length (input_spelling i) ≤ 131072
+      → ((r : Refused) → reply ≢ Refusal r) → length (input_spelling i) ≤ input_limit
   accepted_after i reply actions u fits step accepted = accepted_short size t i reply actions u whole_after.texts.tree.is fits step accepted

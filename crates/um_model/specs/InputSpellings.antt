@@ -93,6 +93,10 @@ event_fields (Happened happening) = happening_fields happening
 
 -- ---- an input
 
+-- an input that isn't refused has at most so many bytes: the longest puts a file of 65,536 bytes at a path of 524
+abbrev pub input_limit : ℕ
+input_limit = 66078
+
 -- the first byte of an input
 abbrev pub input_version : ℕ
 input_version = 1

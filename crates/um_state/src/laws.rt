@@ -2,7 +2,7 @@ ghost use Rattle.std.specs.Prelude.{◌≡◌, ◌≢◌, ◌≤◌, ◌++◌, �
 ghost use Rattle.std.specs.List.{AllByRecursion};
 ghost use Rattle.um_model.specs.Bytes.{IsBytes};
 ghost use Rattle.um_model.specs.Dependencies.{CountsFor};
-ghost use Rattle.um_model.specs.InputSpellings.{FitInput, input_spelling};
+ghost use Rattle.um_model.specs.InputSpellings.{FitInput, input_limit, input_spelling};
 ghost use Rattle.um_model.specs.Jobs.{AreTidyJobs, jobs_of_unit};
 ghost use Rattle.um_model.specs.Machine as model;
 ghost use Rattle.um_model.specs.Machine.{IsHeld, Run, Step, empty_state};
@@ -81,10 +81,10 @@ pub fn each_input_has_a_spelling(input: &Input)
     event_fits(&input.event);
 }
 
-/// An input that is accepted after such a run has at most 131,072 bytes.
+/// An input that is accepted after such a run has at most 66,078 bytes.
 pub fn an_accepted_input_is_short()
     ensures { (size : ℕ) (s : model.State) (inputs : List model.Input) (t u : model.State) (input : model.Input) (reply : model.Reply)
         (actions : List Action) → IsBlank s → FitState s → AllByRecursion FitInput inputs → FitInput input → Run size s inputs t
         → Step size t input reply actions u
-        → ((r : Refused) → reply ≢ model.Refusal r) → length (input_spelling input) ≤ 131072 }
+        → ((r : Refused) → reply ≢ model.Refusal r) → length (input_spelling input) ≤ input_limit }
 {}
