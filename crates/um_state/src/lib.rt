@@ -2,6 +2,7 @@
 #![tactic(auto)]
 
 mod boot;
+mod due;
 mod fitting;
 mod input;
 mod input_bytes;
