@@ -2,7 +2,7 @@ use Rattle.std.proofs.Common.{sym, ◌∙◌}
 use Rattle.um_unit.specs.View.{unit_of}
 use Rattle.um_wire.specs.Refusal.{refused_of}
 use Rattle.um_install.proofs.StepLaws.{of_no_instance, free_to_enable}
-use Rattle.um_install.proofs.enable.check_found.Goals as goal
+use Rattle.um_install.proofs.enabling.check_found.Goals as goal
 
 pub returns-then-branch : goal.returns-then-branch
 returns-then-branch c = λ differs.

@@ -5,7 +5,7 @@ use Rattle.um_unit.specs.View.{loading_of}
 use Rattle.um_wire.specs.Refusal.{refused_of}
 use Rattle.um_wire.specs.Gives.{RefusesBy}
 use Rattle.um_install.proofs.StepLaws.{nowhere, behind_a_mask, of_bad_setting}
-use Rattle.um_install.proofs.enable.check_unit.Goals as goal
+use Rattle.um_install.proofs.enabling.check_unit.Goals as goal
 
 pub returns-in-Found : goal.returns-in-Found
 returns-in-Found c = subst (λ l. RefusesBy (CannotEnable c.args.unit.now (loading_of l)) c.check_found.result) (sym c.in-Found.is) c.check_found.ensures

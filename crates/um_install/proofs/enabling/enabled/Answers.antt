@@ -10,7 +10,7 @@ use Rattle.um_wire.specs.Gives.{Gives}
 use Rattle.um_install.specs.Checks.{LacksRoom, Names, is_occupied, is_unfit, least_of, links_in, with_targets}
 use Rattle.um_install.specs.View.{link_of, targets_of, units_of}
 use Rattle.um_install.proofs.EnableEnd.{by_unfit, by_occupied, by_room, by_barred, installs, refuses}
-use Rattle.um_install.proofs.enable.enabled.Goals as goal
+use Rattle.um_install.proofs.enabling.enabled.Goals as goal
 
 abbrev NoUnfit : List LinkAt → Type 0
 NoUnfit ls = (q : Refused) → ¬ Names bad_path (least_of is_unfit None ls) q

@@ -4,7 +4,7 @@ use Rattle.um_wire.specs.Refusal.{refused_of}
 use Rattle.um_wire.specs.declared.refusal.Refusal.TheVariants.{NoMemory}
 use Rattle.um_install.specs.Changes.{and_then, removed}
 use Rattle.um_install.proofs.StepLaws.{drop_front}
-use Rattle.um_install.proofs.disable.without.Goals as goal
+use Rattle.um_install.proofs.disabling.without.Goals as goal
 
 pub returns-in_err-remove : goal.returns-in_err-remove
 returns-in_err-remove c =

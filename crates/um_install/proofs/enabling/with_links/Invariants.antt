@@ -1,7 +1,7 @@
 use Rattle.std.proofs.Common.{◌≡◌, map as each}
 use Rattle.um_install.specs.Changes.{linked}
 use Rattle.um_install.specs.View.{path_and_target}
-use Rattle.um_install.proofs.enable.with_links.Given as goal
+use Rattle.um_install.proofs.enabling.with_links.Given as goal
 
 -- the rest put in what there is are the whole
 abbrev pub invariant-loop-path : goal.invariant-loop-path

@@ -6,7 +6,7 @@ use Rattle.um_tree.specs.View.{refused_by}
 use Rattle.um_wire.specs.Refusal.{refused_of}
 use Rattle.um_wire.specs.declared.refusal.Refusal.TheVariants.{NoMemory}
 use Rattle.um_install.proofs.StepLaws.{masks_to, masks_none_to, link_refused}
-use Rattle.um_install.proofs.mask.masked.Goals as goal
+use Rattle.um_install.proofs.masking.masked.Goals as goal
 
 pub returns-in-Some-clause-refused : goal.returns-in-Some-clause-refused
 returns-in-Some-clause-refused c = λ differs.

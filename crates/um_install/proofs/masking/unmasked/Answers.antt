@@ -3,7 +3,7 @@ use Rattle.std.specs.FinMap as map
 use Rattle.um_model.specs.Install.{is_masking}
 use Rattle.um_model.specs.Tree.{remove_at}
 use Rattle.um_install.proofs.StepLaws.{unmasks_none, unmasks_one}
-use Rattle.um_install.proofs.mask.unmasked.Goals as goal
+use Rattle.um_install.proofs.masking.unmasked.Goals as goal
 
 pub returns-then-not-is_masking-clause-installs : goal.returns-then-not-is_masking-clause-installs
 returns-then-not-is_masking-clause-installs c =

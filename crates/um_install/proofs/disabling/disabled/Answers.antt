@@ -3,7 +3,7 @@ use Rattle.um_install.specs.Changes.{removed}
 use Rattle.um_wire.specs.Gives.{Gives}
 use Rattle.um_install.specs.View.{units_of}
 use Rattle.um_install.proofs.DisableLaws.{installs, refuses}
-use Rattle.um_install.proofs.disable.disabled.Goals as goal
+use Rattle.um_install.proofs.disabling.disabled.Goals as goal
 
 pub returns-clause-installs : goal.returns-clause-installs
 returns-clause-installs c =

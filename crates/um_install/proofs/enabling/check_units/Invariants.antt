@@ -2,7 +2,7 @@ use Rattle.std.proofs.Common.{◌↔◌, map as each}
 use Rattle.um_model.specs.Refusals.{Refused}
 use Rattle.um_install.specs.Checks.{RefusesFirst}
 use Rattle.um_install.specs.View.{name_and_loading}
-use Rattle.um_install.proofs.enable.check_units.Given as goal
+use Rattle.um_install.proofs.enabling.check_units.Given as goal
 
 -- the first of those that are left is the first of all
 abbrev pub invariant-loop-unit : goal.invariant-loop-unit

@@ -1,6 +1,6 @@
 use Rattle.std.proofs.Common.{◌≡◌, drop, map as each, string_bytes}
 use Rattle.um_install.specs.Changes.{removed}
-use Rattle.um_install.proofs.disable.without.Given as goal
+use Rattle.um_install.proofs.disabling.without.Given as goal
 
 -- the rest removed from what is left is the whole
 abbrev pub invariant-loop-path : goal.invariant-loop-path

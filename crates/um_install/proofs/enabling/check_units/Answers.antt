@@ -9,7 +9,7 @@ use Rattle.um_wire.specs.declared.refusal.Refusal.TheVariants.{NoMemory}
 use Rattle.um_install.specs.Checks.{RefusesFirst, here}
 use Rattle.um_install.specs.View.{name_and_loading, units_of}
 use Rattle.um_install.proofs.StepLaws.{passed_over, none_first}
-use Rattle.um_install.proofs.enable.check_units.Goals as goal
+use Rattle.um_install.proofs.enabling.check_units.Goals as goal
 
 pub loop-unit-preserved : goal.loop-unit-preserved
 loop-unit-preserved c = λ r.

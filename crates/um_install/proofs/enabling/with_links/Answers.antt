@@ -6,7 +6,7 @@ use Rattle.um_wire.specs.Refusal.{refused_of}
 use Rattle.um_wire.specs.declared.refusal.Refusal.TheVariants.{NoMemory}
 use Rattle.um_install.specs.Changes.{and_then, linked}
 use Rattle.um_install.specs.View.{path_and_target, targets_of}
-use Rattle.um_install.proofs.enable.with_links.Goals as goal
+use Rattle.um_install.proofs.enabling.with_links.Goals as goal
 
 pub returns-in_err-link : goal.returns-in_err-link
 returns-in_err-link c =
