@@ -53,8 +53,6 @@ pub data IsUnread (count : ℕ) (image : Image) : Refusal → Type 0 where
   other_format : 0 < count → take 6 (image 0) ≡ store_name → ¬ (take 8 (image 0) ≡ store_format) → IsUnread count image OtherLayout
   no_layout : 0 < count → take 8 (image 0) ≡ store_format → ((layout : Layout) → ¬ HasLayout count image layout) → IsUnread count image (Damaged 0)
   no_header : {layout : Layout} → HasLayout count image layout → newest_of layout image ≡ None → IsUnread count image (Damaged 1)
-  spent : {layout : Layout} {n : Newest} → HasLayout count image layout → newest_of layout image ≡ Some n → n.generation ≡ 2 ^ 64 - 1
-      → IsUnread count image GenerationsSpent
   no_state : {layout : Layout} {n : Newest} → HasLayout count image layout → newest_of layout image ≡ Some n → n.generation < 2 ^ 64 - 1
       → ((s : State) → ¬ IsStart layout n.body s) → IsUnread count image (Damaged (slot_start layout n.slot + 1))
   no_input : {layout : Layout} {n : Newest} {s : State} {e : Refusal} → HasLayout count image layout → newest_of layout image ≡ Some n
@@ -63,6 +61,19 @@ pub data IsUnread (count : ℕ) (image : Image) : Refusal → Type 0 where
   later_sector : {layout : Layout} {n : Newest} {s t : State} {j : ℕ} → HasLayout count image layout → newest_of layout image ≡ Some n
       → n.generation < 2 ^ 64 - 1 → IsStart layout n.body s → Replays (body_limit layout) (records_of layout n.generation image) s t
       → IsFirstLater layout n.generation image j → IsUnread count image (Damaged j)
+
+-- The newest snapshot of what a read gives is of the last generation, so that no next one can be written.
+pub record IsSpent (count : ℕ) (image : Image) : Type 0 where
+  pub layout : Layout
+  pub newest : Newest
+  pub has : HasLayout count image layout
+  pub held : newest_of layout image ≡ Some newest
+  pub last : newest.generation ≡ 2 ^ 64 - 1
+
+-- Why a disk isn't taken up: for a cause of its reading, or by E20.
+pub data IsUntaken (count : ℕ) (image : Image) : Refusal → Type 0 where
+  unread : {e : Refusal} → IsUnread count image e → IsUntaken count image e
+  spent : IsSpent count image → IsUntaken count image GenerationsSpent
 
 -- What a read gives is taken up: a store of this layout on the disk, whose newest snapshot and its records come to the state.
 pub record IsTakenUp (count : ℕ) (image : Image) (layout : Layout) (slot : Slot) (generation : ℕ) (s : State) : Type 0 where

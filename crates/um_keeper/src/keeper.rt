@@ -8,7 +8,7 @@ ghost use Rattle.um_engine.specs.OfStore.{is_of_store};
 ghost use Rattle.um_keeper.specs.Keeping.{MayHold, Keeps, IsBegun, record_calls, snapshot_calls};
 ghost use Rattle.um_log.specs.Reading.{Fits};
 ghost use Rattle.um_model.specs.Disk.{During, Images};
-ghost use Rattle.um_model.specs.InputSpellings.{FitInput, input_spelling};
+ghost use Rattle.um_model.specs.InputSpellings.{FitInput, input_limit, input_spelling};
 ghost use Rattle.um_model.specs.Machine as model;
 ghost use Rattle.um_model.specs.Machine.{Step, moment_of};
 ghost use Rattle.um_engine.specs.Engine.{LacksEffect};
@@ -155,7 +155,7 @@ impl<D: Disk> Keeper<D> {
     fn make_room(&mut self, bytes: usize) -> Result<(), Refusal>
         requires working { self.old.failed ≡ false }
         requires some { 0 < bytes }
-        requires short { bytes ≤ 131072 }
+        requires short { bytes ≤ input_limit }
         ensures during { IsTrue (D.honest (disk_in self.old))
             → During (D.past (disk_in self.old)) (D.past (disk_in self.new)) (λ image. IsStoreOf (layout_in self.old) image (state_in self.old)) }
         ensures fits { OnOk result (Fits (layout_in self.new) (generation_in self.new) (next_in self.new) bytes) }
