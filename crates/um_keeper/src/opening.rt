@@ -202,9 +202,9 @@ fn renew<D: Disk>(alloc: Global, disk: &mut D, found: Found) -> Result<Held, Ref
     ensures ok { IfOk result (λ held. IsTrue (D.honest disk.old) → IsSettled (D.past disk.old)
         → IsTakenUp (D.size disk.old) (seen (D.past disk.old)) found.layout found.home.slot found.home.generation (state_in found.engine)
         → Keeps (D.past disk.new) (D.size disk.new) held.log.layout held.home.slot held.home.generation held.log.number held.log.next (state_in held.engine)) }
-    ensures opened { IfOk result (λ held. held.opened ≡ record { generation = found.home.generation; records = found.records }) }
     ensures held { IfOk result (λ held. (state_in held.engine ≡ state_in found.engine) × (size_in held.engine ≡ size_in found.engine)
-        × (held.log.layout ≡ found.layout) × (held.home.slot ≡ other found.home.slot) × (held.home.generation ≡ found.home.generation + 1) × (held.log.generation ≡ held.home.generation) × (held.log.number ≡ 0)) }
+        × (held.log.layout ≡ found.layout) × (held.home.slot ≡ other found.home.slot) × (held.home.generation ≡ found.home.generation + 1) × (held.log.generation ≡ held.home.generation) × (held.log.number ≡ 0)
+        × (held.opened ≡ record { generation = found.home.generation; records = found.records })) }
     ensures failures { CountsDevice result (D.failures disk.old) (D.failures disk.new) }
     ensures err { IfErr result IsLost }
     ensures size { D.size disk.new ≡ D.size disk.old }
