@@ -244,7 +244,11 @@ fn two_paths_name_one_place(rt: HostRuntime) -> Result<(), Fail> {
     let name = format!(in rt.alloc(); "{}/./um_filedisk.{number}.one", folder.as_str())?;
     // nothing stands there: the same name in the same folder
     same(&rt, is_same_place(&rt, path.as_str(), name.as_str()), true);
-    same(&rt, is_same_place(&rt, path.as_str(), other.as_str()), false);
+    same(
+        &rt,
+        is_same_place(&rt, path.as_str(), other.as_str()),
+        false,
+    );
     // two names of one file
     fs::write(&rt, &path, "a").expect(&rt, "not written");
     fs::hard_link(&rt, &path, &other).expect(&rt, "not linked");

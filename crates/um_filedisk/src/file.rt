@@ -142,11 +142,7 @@ impl<'a, R: Files<File = File>> FileDisk<'a, R> {
     /// `Exists` where something stands there, which is left as it was; `TooLarge` from 2^54 sectors on; `Absent` where there is
     /// no such directory; `InUse` where another open took the lock first; `System` where the system refuses it, as where the disk has no room. A
     /// new file that can't be finished is removed.
-    pub fn create(
-        rt: &'a R,
-        path: &'a str,
-        sectors: usize,
-    ) -> Result<FileDisk<'a, R>, FileFault>
+    pub fn create(rt: &'a R, path: &'a str, sectors: usize) -> Result<FileDisk<'a, R>, FileFault>
         ensures size { IfOk result (λ disk. disk.sectors ≡ sectors) }
         ensures counts { IfOk result (λ disk. (disk.calls ≡ 0) × (disk.failures ≡ 0)) }
         ensures too_large { IsErrOf result FileFault.TooLarge ↔ 2 ^ 54 ≤ sectors }

@@ -95,6 +95,18 @@ fn clear<R: Files>(rt: &R, folder: &str, inside: &str) {
     let _ = fs::remove_dir(rt, folder);
 }
 
+/// Makes the folder in which a socket is made.
+fn make_folder<R: Files>(rt: &R, folder: &str) -> io::Result<()> {
+    match DirBuilder::new().mode(FOLDER_MODE).create(rt, folder) {
+        Err(e) if e.kind() == ErrorKind::AlreadyExists => {
+            let message =
+                "it is made in a folder at this path with .new behind, where something else stands";
+            Err(io::Error::new(ErrorKind::AlreadyExists, message))
+        }
+        made => made,
+    }
+}
+
 /// A listener at the path inside a folder of its own, to which nobody else comes before its mode is set; then it is moved to its path, over a
 /// socket at which nobody answers.
 fn listener_by<R: Files + Net>(
@@ -103,7 +115,7 @@ fn listener_by<R: Files + Net>(
     inside: &str,
     path: &str,
 ) -> io::Result<UnixListener> {
-    DirBuilder::new().mode(FOLDER_MODE).create(rt, folder)?;
+    make_folder(rt, folder)?;
     let listener = UnixListener::bind(rt, inside)?;
     fs::set_permissions(rt, inside, Permissions::from_mode(MODE))?;
     look_at_socket(rt, path)?;

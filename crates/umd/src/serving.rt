@@ -13,8 +13,8 @@ use um_gate::{Moments, SocketGate, SystemMoments, system_moment};
 use um_keeper::Opened;
 use um_line::ServeLine;
 use um_manager::Manager;
-use um_serve::{Pace, Rounds, serve};
 use um_sector::Disk;
+use um_serve::{Pace, Rounds, serve};
 use um_state::BootId;
 use um_wire::Refusal;
 
