@@ -12,7 +12,7 @@ use Rattle.um_log.specs.Reading.{Fits}
 use Rattle.um_state.specs.View.{input_of}
 use Rattle.um_state.specs.declared.input.Input.{Input}
 use Rattle.um_keeper.specs.declared.keeper.Keeper.{Keeper}
-use Rattle.um_keeper.specs.declared.keeper.Opened.{Opened}
+use Rattle.um_keeper.specs.declared.keeper.OpenedStore.{OpenedStore}
 
 abbrev pub disk_in : {D : Type 0} {g : _} → Keeper D g → D
 disk_in k = k.disk
@@ -46,7 +46,7 @@ abbrev pub has_failed : {D : Type 0} {g : _} → Keeper D g → Bool
 has_failed k = k.failed
 
 -- what was read of the store when it was opened
-abbrev pub opened_in : {D : Type 0} {g : _} → Keeper D g → Opened
+abbrev pub opened_in : {D : Type 0} {g : _} → Keeper D g → OpenedStore
 opened_in k = k.opened
 
 -- the same layout, the same size of the store, and the same opening

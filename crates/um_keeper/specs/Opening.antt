@@ -17,7 +17,7 @@ use Rattle.um_model.specs.declared.layout.Slot.{Slot}
 use Rattle.um_wire.specs.declared.refusal.Refusal.{Refusal}
 use Rattle.um_wire.specs.declared.refusal.Refusal.TheVariants.{Damaged, NotFormatted, GenerationsSpent, OtherLayout}
 use Rattle.um_log.specs.Later.{IsFirstLater}
-use Rattle.um_keeper.specs.declared.keeper.Opened.{Opened}
+use Rattle.um_keeper.specs.declared.keeper.OpenedStore.{OpenedStore}
 
 -- sector 0 tells a layout for which a disk of so many sectors has room
 pub record HasLayout (count : ℕ) (image : Image) (layout : Layout) : Type 0 where
@@ -83,7 +83,7 @@ pub record IsNextOf (count : ℕ) (image : Image) (layout : Layout) (slot : Slot
   pub taken : IsTakenUp count image layout before earlier s
 
 -- What was read of an image: the generation of its newest header, and the count of the records of that generation, which are replayed.
-pub record IsRead (layout : Layout) (image : Image) (opened : Opened) : Type 0 where
+pub record IsRead (layout : Layout) (image : Image) (opened : OpenedStore) : Type 0 where
   pub newest : Newest
   pub is_newest : newest_of layout image ≡ Some newest
   pub generation_is : opened.generation ≡ newest.generation

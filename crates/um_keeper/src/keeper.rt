@@ -33,7 +33,7 @@ use um_wire::{Canon, Refusal};
 
 /// What was read of a store when it was opened.
 #[derive(Clone, Copy, Debug, PartialEq, Eq)]
-pub struct Opened {
+pub struct OpenedStore {
     /// The generation of its newest header.
     pub generation: u64,
     /// So many records of that generation were replayed.
@@ -51,7 +51,7 @@ pub struct Keeper<D: Disk> {
     pub(crate) log: Log,
     /// A call on the disk failed, so that it isn't known what stands there.
     pub(crate) failed: bool,
-    pub(crate) opened: Opened,
+    pub(crate) opened: OpenedStore,
     ghost same: { log.generation ≡ home.generation },
     ghost holds: { MayHold log.layout (machine.size_in engine) (machine.state_in engine) },
     ghost kept: { failed ≡ false → IsTrue (D.honest disk)
@@ -92,7 +92,7 @@ impl<D: Disk> Keeper<D> {
     ghost use Rattle.um_keeper.specs.Keepers.{disk_in, state_in, size_in, layout_in, slot_in, generation_in, number_in, next_in, has_failed, opened_in, IsSamePlace, HasNoRoom, IsPlanned};
 
     /// What was read of the store when it was opened.
-    pub fn opened(&self) -> Opened
+    pub fn opened(&self) -> OpenedStore
         ensures { result ≡ opened_in self.now }
     {
         self.opened

@@ -19,7 +19,7 @@ ghost use Rattle.um_wire.specs.declared.refusal.Refusal as declared_refusal;
 ghost use Rattle.um_sector.specs.Refused.{CountsDevice, IsLost};
 ghost use Rattle.um_state.specs.View.{state_of, input_of};
 
-use crate::keeper::{Keeper, Opened};
+use crate::keeper::{Keeper, OpenedStore};
 use std::alloc::{AllocError, Global};
 use um_engine::Engine;
 use um_log::{Log, Record, first_later, scan};
@@ -45,7 +45,7 @@ pub(crate) struct Held {
     pub(crate) engine: Engine,
     pub(crate) home: Home,
     pub(crate) log: Log,
-    pub(crate) opened: Opened,
+    pub(crate) opened: OpenedStore,
 }
 
 /// The layout that sector 0 tells, of a store for which the disk has room.
@@ -219,7 +219,7 @@ fn renew<D: Disk>(alloc: Global, disk: &mut D, found: Found) -> Result<Held, Ref
         engine: found.engine,
         home,
         log: Log::new(found.layout, home.generation),
-        opened: Opened {
+        opened: OpenedStore {
             generation: found.home.generation,
             records: found.records,
         },

@@ -21,7 +21,7 @@ use crate::script::{Step, run};
 use std::alloc::Global;
 use um_children::Children;
 use um_fates::Marks;
-use um_keeper::{Keeper, Opened};
+use um_keeper::{Keeper, OpenedStore};
 use um_model::Moment;
 use um_sector::Disk;
 use um_session::Session;
@@ -182,7 +182,7 @@ impl<D: Disk, C: Children> Manager<D, C> {
     }
 
     /// What was read of the store when the manager was opened.
-    pub fn opened(&self) -> Opened
+    pub fn opened(&self) -> OpenedStore
         ensures { result ≡ opened_in self.now.keeper }
     {
         self.keeper.opened()

@@ -10,7 +10,7 @@ use std::process::Processes;
 use std::time::{Clock, Duration};
 use um_children::Children;
 use um_gate::{Moments, SocketGate, SystemMoments, system_moment};
-use um_keeper::Opened;
+use um_keeper::OpenedStore;
 use um_line::ServeLine;
 use um_manager::Manager;
 use um_sector::Disk;
@@ -42,8 +42,8 @@ fn ends<R: Eprint>(rt: &R, refusal: Refusal) -> End {
 }
 
 /// Says how the store stood that was opened.
-fn tell_opened<R: Eprint>(rt: &R, opened: Opened) {
-    let Opened {
+fn tell_opened<R: Eprint>(rt: &R, opened: OpenedStore) {
+    let OpenedStore {
         generation,
         records,
     } = opened;
