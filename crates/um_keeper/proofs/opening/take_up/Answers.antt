@@ -1,4 +1,4 @@
-use Rattle.std.proofs.Common.{◌≡◌, ◌⊎◌, ◌∙◌, ◌<◌, ◌+◌, ◌-◌, ◌^◌, ⊎_elim, inl, inr, ℕ, List, Ok, Some, None, sym, ap, subst, arith}
+use Rattle.std.proofs.Common.{◌≡◌, ◌⊎◌, ◌∙◌, ◌<◌, ◌+◌, ◌-◌, ◌^◌, ⊎_elim, inl, inr, ℕ, List, length, Ok, Some, None, sym, ap, subst, arith}
 use Rattle.std.specs.Prelude.{IfSome}
 use Rattle.std.proofs.lemmas.List.{length-map}
 use Rattle.um_engine.specs.Engine.{state_in, size_in}
@@ -131,4 +131,4 @@ returns-clause-read g c h =
     read_there layout (seen p0) home.slot home.generation c.len.result body (bytes_of items)
     (newest_there p0 (g.D.Disk.past c.read_layout.new.disk) layout home.slot home.generation body (c.read_layout.ensures.past h) (c.in_ok-snapshot.ensures.ok h1))
     (records_there p0 (g.D.Disk.past c.newest.new.disk) layout home.generation (bytes_of items) (c.newest.ensures.past h1 ∙ c.read_layout.ensures.past h) (c.in_ok-records.ensures.records h2))
-    (c.len.ensures ∙ sym (length-map items (λ found. found.bytes.items)))
+    (c.len.ensures ∙ sym c.deref-2.ensures.len ∙ ap length c.deref-2.ensures.value ∙ sym (length-map items (λ found. found.bytes.items)))
