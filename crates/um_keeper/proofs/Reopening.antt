@@ -29,7 +29,7 @@ use Rattle.byteorder.specs.Endian.{big_number}
 use Rattle.um_wire.specs.declared.refusal.Refusal.{Refusal}
 use Rattle.um_wire.specs.declared.refusal.Refusal.TheVariants.{Damaged, Device, NotFormatted, GenerationsSpent, OtherLayout}
 use Rattle.um_keeper.specs.Keeping.{Keeps}
-use Rattle.um_keeper.specs.Opening.{HasLayout, IsStart, Replays, no_more, and_then, IsNoInput, here, later, IsUnread, no_sector, no_store, other_format, no_layout, no_header, no_state, no_input, later_sector, IsSpent, IsUntaken, unread, spent, IsNextOf, IsTakenUp, IsSomeStore, IsAsBefore}
+use Rattle.um_keeper.specs.Opening.{HasLayout, IsStart, Replays, no_more, and_then, IsNoInput, here, later, IsUnread, no_sector, no_store, other_format, no_layout, no_header, no_state, no_input, later_sector, IsSpent, IsUntaken, unread, spent, IsNextOf, IsTakenUp, IsRead, IsSomeStore, IsAsBefore}
 
 -- ---- sector 0
 
@@ -208,6 +208,17 @@ records_there old new layout generation records same are =
 pub record_no_device : {places : List (ℕ × List ℕ)} {e : Refusal} → IsNoInput places e → ¬ (e ≡ Device)
 record_no_device (here is) same = absurd (cc)
 record_no_device (later is more) same = record_no_device more same
+
+-- what was read of such a disk
+pub read_there : (layout : Layout) (image : Image) (slot : Slot) (generation count : ℕ) (body : List ℕ) (records : List (List ℕ))
+    → sectors.newest_of layout image ≡ Some (record { slot = slot; generation = generation; body = body }) → records_of layout generation image ≡ records
+    → count ≡ length records → IsRead layout image (record { generation = generation; records = count })
+read_there layout image slot generation count body records newest are counted = record {
+  newest = record { slot = slot; generation = generation; body = body };
+  is_newest = newest;
+  generation_is = refl;
+  records_are = counted ∙ ap (λ l. length l) (sym are);
+}
 
 -- ---- a value that has all the bytes
 

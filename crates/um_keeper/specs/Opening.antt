@@ -1,7 +1,7 @@
 -- What opening reads of a disk, and why it isn't taken up.
 -- No manual page has it: it is the project's own format (docs/FORMATS.md, "The store on its disk").
 -- `Keeper::open` stands on this file.
-use Rattle.std.specs.Prelude.{◌≡◌, ◌+◌, ◌-◌, ◌^◌, ◌<◌, ◌≤◌, ℕ, List, [], ◌∷◌, take, Some, None}
+use Rattle.std.specs.Prelude.{◌≡◌, ◌+◌, ◌-◌, ◌^◌, ◌<◌, ◌≤◌, ℕ, List, [], ◌∷◌, length, take, Some, None}
 use Rattle.um_model.specs.Bytes.{nothing_left}
 use Rattle.um_model.specs.Disk.{Image, Past, IsImage}
 use Rattle.um_model.specs.InputSpellings.{input_at}
@@ -17,6 +17,7 @@ use Rattle.um_model.specs.declared.layout.Slot.{Slot}
 use Rattle.um_wire.specs.declared.refusal.Refusal.{Refusal}
 use Rattle.um_wire.specs.declared.refusal.Refusal.TheVariants.{Damaged, NotFormatted, GenerationsSpent, OtherLayout}
 use Rattle.um_log.specs.Later.{IsFirstLater}
+use Rattle.um_keeper.specs.declared.keeper.OpenedStore.{OpenedStore}
 
 -- sector 0 tells a layout for which a disk of so many sectors has room
 pub record HasLayout (count : ℕ) (image : Image) (layout : Layout) : Type 0 where
@@ -91,6 +92,13 @@ pub record IsNextOf (count : ℕ) (image : Image) (layout : Layout) (slot : Slot
   pub turned : slot ≡ sectors.other before
   pub next : generation ≡ earlier + 1
   pub taken : IsTakenUp count image layout before earlier s
+
+-- What was read of an image: the generation of its newest header, and the count of the records of that generation, which are replayed.
+pub record IsRead (layout : Layout) (image : Image) (opened : OpenedStore) : Type 0 where
+  pub newest : Newest
+  pub is_newest : newest_of layout image ≡ Some newest
+  pub generation_is : opened.generation ≡ newest.generation
+  pub records_are : opened.records ≡ length (records_of layout newest.generation image)
 
 -- what a store of this layout may hold, and what has bytes
 pub record IsKept (layout : Layout) (size : ℕ) (s : State) : Type 0 where

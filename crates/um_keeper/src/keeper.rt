@@ -31,6 +31,15 @@ use um_slot::{Home, write_other};
 use um_state::{Input, Query, Reply, State};
 use um_wire::{Canon, Refusal};
 
+/// What was read of a store when it was opened.
+#[derive(Clone, Copy, Debug, PartialEq, Eq)]
+pub struct OpenedStore {
+    /// The generation of its newest header.
+    pub generation: u64,
+    /// So many records of that generation were replayed.
+    pub records: usize,
+}
+
 /// The engine over its store on a disk. Whichever image a crash leaves of the disk, it is a store of the engine's state, as long as
 /// the disk does what it answers and no call on it failed.
 #[derive(Drop)]
@@ -42,6 +51,7 @@ pub struct Keeper<D: Disk> {
     pub(crate) log: Log,
     /// A call on the disk failed, so that it isn't known what stands there.
     pub(crate) failed: bool,
+    pub(crate) opened: OpenedStore,
     ghost same: { log.generation ≡ home.generation },
     ghost holds: { MayHold log.layout (machine.size_in engine) (machine.state_in engine) },
     ghost kept: { failed ≡ false → IsTrue (D.honest disk)
@@ -79,7 +89,14 @@ fn noted(failed: &mut bool, refusal: Refusal) -> Refusal
 }
 
 impl<D: Disk> Keeper<D> {
-    ghost use Rattle.um_keeper.specs.Keepers.{disk_in, state_in, size_in, layout_in, slot_in, generation_in, number_in, next_in, has_failed, IsSamePlace, HasNoRoom, IsPlanned};
+    ghost use Rattle.um_keeper.specs.Keepers.{disk_in, state_in, size_in, layout_in, slot_in, generation_in, number_in, next_in, has_failed, opened_in, IsSamePlace, HasNoRoom, IsPlanned};
+
+    /// What was read of the store when it was opened.
+    pub fn opened(&self) -> OpenedStore
+        ensures { result ≡ opened_in self.now }
+    {
+        self.opened
+    }
 
     /// The state.
     pub fn state(&self) -> &State

@@ -3,8 +3,8 @@
 #![tactic(auto)]
 
 mod messages;
+mod places;
 mod serving;
-mod standing;
 mod telling;
 
 use messages::{DEVICE, REFUSED, USAGE, ctl_fault, report, status_of, tell_create};

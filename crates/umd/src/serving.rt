@@ -1,19 +1,19 @@
 //! `umd serve`: one loop over a store, children and a socket.
 
 use crate::messages::{DEVICE, REFUSED};
-use crate::standing::tell_standing;
+use crate::places::{Taken, lacks, take_places};
 use crate::telling::{News, Tally, Telling};
 use std::alloc::Global;
-use std::fmt::Display;
 use std::fs::{File, Files};
 use std::net::Net;
 use std::process::Processes;
 use std::time::{Clock, Duration};
-use um_children::{Children, RunnerDir};
-use um_filedisk::FileDisk;
-use um_gate::{Moments, SocketGate, SystemMoments};
+use um_children::Children;
+use um_gate::{Moments, SocketGate, SystemMoments, system_moment};
+use um_keeper::OpenedStore;
 use um_line::ServeLine;
 use um_manager::Manager;
+use um_sector::Disk;
 use um_serve::{Pace, Rounds, serve};
 use um_state::BootId;
 use um_wire::Refusal;
@@ -41,10 +41,15 @@ fn ends<R: Eprint>(rt: &R, refusal: Refusal) -> End {
     }
 }
 
-/// Says that something that is needed isn't there.
-fn lacks<R: Eprint, E: Display>(rt: &R, path: &str, fault: &E) -> End {
-    let _unheard = eprintln!(rt; "umd: {path}: {fault}");
-    End { status: DEVICE }
+/// Says how the store stood that was opened.
+fn tell_opened<R: Eprint>(rt: &R, opened: OpenedStore) {
+    let OpenedStore {
+        generation,
+        records,
+    } = opened;
+    let _unheard = eprintln!(rt;
+        "umd: the store is of generation {generation}, {records} records are replayed"
+    );
 }
 
 fn boot_id(alloc: Global, boot: &str) -> Result<BootId, Refusal> {
@@ -58,7 +63,7 @@ fn boot_id(alloc: Global, boot: &str) -> Result<BootId, Refusal> {
 }
 
 /// The next deadline of the units, in microseconds; the last one that was known, where there is no memory to look.
-fn next_deadline<C: Children>(manager: &Manager<FileDisk, C>, known: Option<u64>) -> Option<u64> {
+fn next_deadline<D: Disk, C: Children>(manager: &Manager<D, C>, known: Option<u64>) -> Option<u64> {
     match manager.state().units().deadlines() {
         Ok(timers) => match timers.next_due() {
             Some((deadline, _)) => Some(deadline.micros()),
@@ -80,9 +85,9 @@ struct Loop<'a, R> {
 
 impl<'a, R: Clock> Loop<'a, R> {
     /// One round, and a sleep where nothing came in it.
-    fn step<C: Children + News>(
+    fn step<D: Disk, C: Children + News>(
         &mut self,
-        manager: &mut Manager<FileDisk, C>,
+        manager: &mut Manager<D, C>,
         tally: &Tally,
     ) -> Result<(), Refusal> {
         tally.look();
@@ -111,7 +116,7 @@ impl<'a, R: Clock> Loop<'a, R> {
     }
 
     /// Sleeps until there is something to do, unless something came.
-    fn rest<C: Children + News>(&mut self, manager: &Manager<FileDisk, C>, tally: &Tally) {
+    fn rest<D: Disk, C: Children + News>(&mut self, manager: &Manager<D, C>, tally: &Tally) {
         if tally.has_turned() {
             self.pace.begin();
         }
@@ -129,7 +134,7 @@ impl<'a, R: Clock> Loop<'a, R> {
 
     /// Sleeps until the next deadline, a byte, a client, or news of the processes that are live, a second at most. No round is needed before:
     /// it would take nothing, and its fates would tell nothing new.
-    fn sleep<C: Children + News>(&mut self, manager: &Manager<FileDisk, C>, is_live: bool) {
+    fn sleep<D: Disk, C: Children + News>(&mut self, manager: &Manager<D, C>, is_live: bool) {
         for _ in 0..PARTS {
             let wait = self.pace.next(is_live, self.clock.moment(), self.deadline);
             if self.gate.wait(wait) || !is_live || manager.children().has_news() || self.is_due() {
@@ -148,35 +153,38 @@ where
         Ok(boot) => boot,
         Err(refusal) => return Err(ends(rt, refusal)),
     };
-    let mut disk = match FileDisk::open(rt, line.file) {
-        Ok(disk) => disk,
-        Err(fault) => return Err(lacks(rt, line.file, &fault)),
+    let Taken {
+        disk,
+        children,
+        lock: _lock,
+    } = match take_places(rt, alloc, line) {
+        Ok(taken) => taken,
+        Err(status) => return Err(End { status }),
     };
-    let children = match RunnerDir::open(rt, alloc, line.runner, line.dir) {
-        Ok(children) => children,
-        Err(fault) => return Err(lacks(rt, line.dir, &fault)),
-    };
-    let gate = match SocketGate::open(rt, alloc, line.socket) {
-        Ok(gate) => gate,
-        Err(fault) => return Err(lacks(rt, line.socket, &fault)),
-    };
-    tell_standing(rt, alloc, &mut disk);
     let tally = Tally::new();
-    let mut clock = SystemMoments::new(rt);
-    let moment = clock.moment();
     let children = Telling::new(children, rt, &tally);
-    let mut manager = match Manager::open(alloc, disk, children, boot, moment) {
+    let mut manager = match Manager::open(alloc, disk, children, boot, system_moment(rt)) {
         Ok(manager) => manager,
         Err((refusal, _, _)) => return Err(ends(rt, refusal)),
     };
+    tell_opened(rt, manager.opened());
     let (adopted, lost) = (manager.adopted(), tally.absent());
     let _unheard = eprintln!(rt; "umd: {adopted} processes adopted, of which {lost} are lost");
     let Ok(rounds) = Rounds::new(alloc) else {
         return Err(ends(rt, Refusal::NoMemory));
     };
+    // only now: a store that can't be opened takes no socket
+    let gate = match SocketGate::open(rt, alloc, line.socket) {
+        Ok(gate) => gate,
+        Err(fault) => {
+            return Err(End {
+                status: lacks(rt, line.socket, &fault),
+            });
+        }
+    };
     let mut state = Loop {
         gate,
-        clock,
+        clock: SystemMoments::starting(rt, manager.state().clock()),
         rounds,
         pace: Pace::new(),
         deadline: None,

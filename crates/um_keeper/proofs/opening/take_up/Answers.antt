@@ -1,5 +1,6 @@
-use Rattle.std.proofs.Common.{◌≡◌, ◌⊎◌, ◌∙◌, ◌<◌, ◌+◌, ◌-◌, ◌^◌, ⊎_elim, inl, inr, ℕ, List, Ok, Some, None, sym, ap, subst, arith}
+use Rattle.std.proofs.Common.{◌≡◌, ◌⊎◌, ◌∙◌, ◌<◌, ◌+◌, ◌-◌, ◌^◌, ⊎_elim, inl, inr, ℕ, List, length, Ok, Some, None, sym, ap, subst, arith}
 use Rattle.std.specs.Prelude.{IfSome}
+use Rattle.std.proofs.lemmas.List.{length-map}
 use Rattle.um_engine.specs.Engine.{state_in, size_in}
 use Rattle.um_log.specs.Reading.{bytes_of, places_of}
 use Rattle.um_model.specs.Disk.{seen}
@@ -9,7 +10,7 @@ use Rattle.um_model.specs.Disk.{Past}
 use Rattle.um_log.specs.Later.{FindsLater, IsFirstLater}
 use Rattle.um_keeper.specs.Opening.{IsStart, Replays, IsNoInput, IsUnread, IsKept, unread, spent, no_state, no_input, later_sector}
 use Rattle.um_keeper.proofs.Results.{err_same, not_device}
-use Rattle.um_keeper.proofs.Reopening.{newest_there, header_unread, record_no_device, records_there, taken_up}
+use Rattle.um_keeper.proofs.Reopening.{newest_there, header_unread, record_no_device, records_there, read_there, taken_up}
 use Rattle.um_keeper.proofs.opening.take_up.Goals as goal
 
 -- the size of the store of an engine that is kept
@@ -130,3 +131,17 @@ returns-clause-found g c h =
     (subst (λ (b : List ℕ). IsStart layout b (state_in engine)) c.deref.ensures.value starts)
     (subst (λ (n : ℕ). Replays n (sectors.records_of layout home.generation (seen p0)) (state_in engine) (state_in c.replay.new.engine)) size
     (subst (λ (l : List (List ℕ)). Replays (size_in engine) l (state_in engine) (state_in c.replay.new.engine)) (ap bytes_of c.deref-2.ensures.value ∙ sym records) c.in_ok-replay.ensures.ok))
+
+pub returns-clause-read : goal.returns-clause-read
+returns-clause-read g c h =
+    let layout = c.in_ok-layout.layout in
+    let home = c.in_ok-snapshot.snapshot.home in
+    let body = c.in_ok-snapshot.snapshot.body.items in
+    let items = c.in_ok-records.records.items in
+    let p0 = g.D.Disk.past c.args.disk.now in
+    let h1 = c.read_layout.ensures.honest ∙ h in
+    let h2 = c.newest.ensures.honest ∙ h1 in
+    read_there layout (seen p0) home.slot home.generation c.len.result body (bytes_of items)
+    (newest_there p0 (g.D.Disk.past c.read_layout.new.disk) layout home.slot home.generation body (c.read_layout.ensures.past h) (c.in_ok-snapshot.ensures.ok h1))
+    (records_there p0 (g.D.Disk.past c.newest.new.disk) layout home.generation (bytes_of items) (c.newest.ensures.past h1 ∙ c.read_layout.ensures.past h) (c.in_ok-records.ensures.records h2))
+    (c.len.ensures ∙ sym c.deref-2.ensures.len ∙ ap length c.deref-2.ensures.value ∙ sym (length-map items (λ found. found.bytes.items)))

@@ -34,7 +34,7 @@ loop-preserved g c =
       gate = search rules;
       moments = search rules;
       clock = search rules;
-      place = record { layout = c.round.ensures.place.layout ∙ inv.place.layout; size = c.round.ensures.place.size ∙ inv.place.size };
+      place = record { layout = c.round.ensures.place.layout ∙ inv.place.layout; size = c.round.ensures.place.size ∙ inv.place.size; opened = c.round.ensures.place.opened ∙ inv.place.opened };
       disk = c.round.ensures.disk ∙ inv.disk;
       failed = same_failed c.in-Ok.is c.round.ensures.failed ∙ inv.failed;
     }
