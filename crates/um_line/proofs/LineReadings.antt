@@ -9,7 +9,7 @@ use Rattle.std.proofs.lemmas.Fmt.{decimal_injective}
 use Rattle.std.specs.Prelude.{decimal}
 use Rattle.um_line.specs.Line.{IsNoNumber, IsReadLine, IsToldAs, TellsMistake, umd_words, create_words, serve_words, ctl_words}
 use Rattle.um_line.specs.declared.line.Line.{Line}
-use Rattle.um_line.specs.declared.line.Line.TheVariants.{Memory, Run, Create, Serve, LongBoot, Ctl, Told, Wrong}
+use Rattle.um_line.specs.declared.line.Line.TheVariants.{Memory, Run, Create, Serve, LongBoot, Ctl, Help, Told, Wrong}
 
 -- the words of the program are simple ones
 pub umd_simple : is_simple_and_free umd_words ≡ true
@@ -50,6 +50,7 @@ told mistakes kind (Create line) among is = absurd is
 told mistakes kind (Serve line) among is = absurd is
 told mistakes kind LongBoot among is = absurd is
 told mistakes kind (Ctl line) among is = absurd is
+told mistakes kind (Help n) among is = absurd is
 
 -- a mistake is told
 pub mistaken : {E : Type 0} (mistakes : Kinds) (Takes : Line → Type 0) (e : Error) (r : Result Line E) → HasKind mistakes e

@@ -1,6 +1,7 @@
 //! `umd serve`: one loop over a store, children and a socket.
 
-use crate::messages::{DEVICE, REFUSED};
+use crate::lines::Lines;
+use crate::messages::{DEVICE, REFUSED, tell_ending};
 use crate::standing::tell_standing;
 use crate::telling::{News, Tally, Telling};
 use std::alloc::Global;
@@ -32,7 +33,7 @@ struct End {
 
 /// Says why nothing is served, and gives the exit status. Where standard error fails too, the exit status alone tells it.
 fn ends<R: Eprint>(rt: &R, refusal: Refusal) -> End {
-    let _unheard = eprintln!(rt; "umd: ending: {refusal}");
+    tell_ending(rt, &refusal);
     End {
         status: match refusal {
             Refusal::Device | Refusal::Reopen => DEVICE,
@@ -140,29 +141,31 @@ impl<'a, R: Clock> Loop<'a, R> {
 }
 
 /// Opens the manager and serves it, until it fails.
-fn serve_over<R>(rt: &R, alloc: Global, line: &ServeLine<'_>) -> Result<u8, End>
+fn serve_over<R>(system: &R, alloc: Global, line: &ServeLine<'_>) -> Result<u8, End>
 where
     R: Files<File = File> + Net + Processes + Clock + Eprint,
 {
+    let lines = Lines::new(system, alloc);
+    let rt = &lines;
     let boot = match boot_id(alloc, line.boot) {
         Ok(boot) => boot,
         Err(refusal) => return Err(ends(rt, refusal)),
     };
-    let mut disk = match FileDisk::open(rt, line.file) {
+    let mut disk = match FileDisk::open(system, line.file) {
         Ok(disk) => disk,
         Err(fault) => return Err(lacks(rt, line.file, &fault)),
     };
-    let children = match RunnerDir::open(rt, alloc, line.runner, line.dir) {
+    let children = match RunnerDir::open(system, alloc, line.runner, line.dir) {
         Ok(children) => children,
         Err(fault) => return Err(lacks(rt, line.dir, &fault)),
     };
-    let gate = match SocketGate::open(rt, alloc, line.socket) {
+    let gate = match SocketGate::open(system, alloc, line.socket) {
         Ok(gate) => gate,
         Err(fault) => return Err(lacks(rt, line.socket, &fault)),
     };
     tell_standing(rt, alloc, &mut disk);
     let tally = Tally::new();
-    let mut clock = SystemMoments::new(rt);
+    let mut clock = SystemMoments::new(system);
     let moment = clock.moment();
     let children = Telling::new(children, rt, &tally);
     let mut manager = match Manager::open(alloc, disk, children, boot, moment) {
