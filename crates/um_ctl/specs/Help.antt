@@ -11,11 +11,11 @@ use Rattle.um_ctl.specs.Words.{is_argument, takes_mode, takes_text}
 
 -- a field between these, as ` <unit>` or ` [unit]`
 abbrev pub between : List ℕ → List ℕ → List ℕ → List ℕ
-between open close name = open ++ (name ++ close)
+between left right name = left ++ (name ++ right)
 
 -- the fields that arguments tell, each between these
 abbrev pub arguments_shown : List ℕ → List ℕ → List (List ℕ) → List ℕ
-arguments_shown open close names = flat_map (between open close) (filter is_argument names)
+arguments_shown left right names = flat_map (between left right) (filter is_argument names)
 
 -- these words, where this holds
 abbrev pub words_where : Bool → List ℕ → List ℕ

@@ -12,17 +12,17 @@ use um_proto::{Mode, Verb, row_of, verbs_in};
 /// Puts the fields that arguments tell, each between these.
 fn push_arguments(
     text: &mut String,
-    open: &str,
-    close: &str,
+    left: &str,
+    right: &str,
     names: &[&str],
 ) -> Result<(), AllocError>
-    ensures { OnOk result (string_bytes text.new ≡ string_bytes text.old ++ model.arguments_shown open.now close.now (map (λ s. s.now) names.now)) }
+    ensures { OnOk result (string_bytes text.new ≡ string_bytes text.old ++ model.arguments_shown left.now right.now (map (λ s. s.now) names.now)) }
 {
     for name in names {
         if is_argument(name) {
-            text.push_str(open)?;
+            text.push_str(left)?;
             text.push_str(name)?;
-            text.push_str(close)?;
+            text.push_str(right)?;
         }
     }
     Ok(())

@@ -2,23 +2,23 @@
 #![tactic(auto)]
 
 mod connection;
+mod escapes;
 mod fault;
 mod help;
 mod laws;
-mod meaning;
+mod meanings;
 mod reply;
-mod shown;
 mod text;
 mod words;
 mod writing;
 
 pub use connection::{ask, exchange, prepare};
+pub use escapes::shown;
 pub use fault::CtlFault;
 pub use help::verb_lines;
 pub use laws::a_reply_is_one_frame;
-pub use meaning::{meaning, meaning_line};
+pub use meanings::{meaning, meaning_line};
 pub use reply::{Told, told_of};
-pub use shown::shown;
 pub use text::{FileText, read_text};
 pub use words::Words;
 pub use writing::request;

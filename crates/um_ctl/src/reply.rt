@@ -9,7 +9,7 @@ ghost use Rattle.um_ctl.specs.Told as model;
 ghost use Rattle.um_ctl.specs.View.{told_view};
 ghost use Rattle.um_model.specs.Refusals.{refused as refused_of};
 
-use crate::shown::shown;
+use crate::escapes::shown;
 use serde_json::Value;
 use std::alloc::{AllocError, Global};
 use um_proto::Verb;

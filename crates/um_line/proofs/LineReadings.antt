@@ -1,5 +1,5 @@
 -- What words are read as, by what clap answered.
-use Rattle.std.proofs.Common.{◌≡◌, ◌≢◌, ◌⊎◌, ◌<◌, ◌^◌, arith, Option, Some, ℕ, List, [], Result, Ok, Err, IfOk, OnOk, inl, inr, true, refl, subst, ap, ◌∙◌}
+use Rattle.std.proofs.Common.{◌≡◌, ◌≢◌, ◌⊎◌, ◌∷◌, ◌<◌, ◌^◌, arith, drop, sym, Option, Some, ℕ, List, [], Result, Ok, Err, IfOk, OnOk, inl, inr, true, refl, subst, ap, ◌∙◌}
 use Rattle.clap.proofs.OnLiterals.{clap_on_literals}
 use Rattle.clap.specs.Words.{App, Kinds, HasKind, IsAmong, Row, Rule, with_rule, fault_of, is_simple_and_free, is_simple, kind_of, matches_of}
 use Rattle.clap.specs.declared.error.Error.{Error}
@@ -7,7 +7,7 @@ use Rattle.clap.specs.declared.error.kind.ErrorKind.{ErrorKind}
 use Rattle.clap.specs.declared.error.kind.ErrorKind.TheVariants.{OutOfMemory}
 use Rattle.std.proofs.lemmas.Fmt.{decimal_injective}
 use Rattle.std.specs.Prelude.{decimal}
-use Rattle.um_line.specs.Line.{IsNoNumber, IsReadLine, IsToldAs, TellsMistake, umd_words, create_words, serve_words, ctl_words}
+use Rattle.um_line.specs.Line.{IsNoCode, IsNoNumber, IsReadLine, last_refusal, IsToldAs, TellsMistake, umd_words, create_words, serve_words, ctl_words}
 use Rattle.um_line.specs.declared.line.Line.{Line}
 use Rattle.um_line.specs.declared.line.Line.TheVariants.{Memory, Run, Create, Serve, LongBoot, Ctl, Help, Told, Wrong}
 
@@ -94,4 +94,13 @@ outside low high m bytes text some is below small (inl under) n least most same 
     let eq = decimal_injective m n below (omega arith) e in omega arith
 outside low high m bytes text some is below small (inr over) n least most same =
     let e : decimal m ≡ decimal n = cc in
+    let eq = decimal_injective m n below (omega arith) e in omega arith
+
+-- a number outside the refusals' is the word for none of them
+pub no_code : (m : ℕ) (word digits : List ℕ) → word ≡ 69 ∷ digits → digits ≡ decimal m → m < 2 ^ 64 → (m < 1) ⊎ (last_refusal < m) → IsNoCode word
+no_code m word digits is said below (inl under) n least most same =
+    let e : decimal m ≡ decimal n = sym said ∙ ap (drop 1) (sym is ∙ same) in
+    let eq = decimal_injective m n below (omega arith) e in omega arith
+no_code m word digits is said below (inr over) n least most same =
+    let e : decimal m ≡ decimal n = sym said ∙ ap (drop 1) (sym is ∙ same) in
     let eq = decimal_injective m n below (omega arith) e in omega arith

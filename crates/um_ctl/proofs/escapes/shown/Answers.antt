@@ -2,7 +2,7 @@ use Rattle.std.proofs.Common.{flat_map, sym, ap, ◌∙◌, map-id}
 use Rattle.std.proofs.lemmas.Iterator.{YieldsList-from_chars}
 use Rattle.std.proofs.lemmas.Iterator.Consumers.{YieldsList-end}
 use Rattle.um_ctl.specs.Shown.{shown_char}
-use Rattle.um_ctl.proofs.shown.shown.Goals as goal
+use Rattle.um_ctl.proofs.escapes.shown.Goals as goal
 
 pub returns : goal.returns
 returns c =

@@ -1,6 +1,6 @@
 use Rattle.std.proofs.Common.{◌≡◌, flat_map, string_bytes}
 use Rattle.um_ctl.specs.Shown.{shown_char}
-use Rattle.um_ctl.proofs.shown.shown.Given as goal
+use Rattle.um_ctl.proofs.escapes.shown.Given as goal
 
 -- the characters so far are shown
 abbrev pub invariant-loop-c : goal.invariant-loop-c
