@@ -51,7 +51,8 @@ fn push_usage(text: &mut String, verb: Verb) -> Result<(), AllocError>
     push_where(text, takes_mode(verb), " [--mode <MODE>]")?;
     push_arguments(text, " <", ">", row.required)?;
     push_arguments(text, " [", "]", row.optional)?;
-    push_where(text, takes_text(verb), " < FILE")
+    push_where(text, takes_text(verb), " < FILE")?;
+    Ok(())
 }
 
 /// Puts the line of the verb.
@@ -69,7 +70,8 @@ pub fn verb_lines(alloc: Global) -> Result<String, AllocError>
     ensures { IfOk result (λ s. string_bytes s ≡ model.verb_lines) }
 {
     let mut text = String::new(alloc);
-    for verb in verbs_in(Mode::Service) {
+    let verbs = verbs_in(Mode::Service);
+    for verb in verbs {
         push_line(&mut text, *verb)?;
     }
     Ok(text)

@@ -1,5 +1,5 @@
 -- What words are read as, by what clap answered.
-use Rattle.std.proofs.Common.{◌≡◌, ◌≢◌, ◌⊎◌, ◌∷◌, ◌<◌, ◌^◌, arith, drop, sym, Option, Some, ℕ, List, [], Result, Ok, Err, IfOk, OnOk, inl, inr, true, refl, subst, ap, ◌∙◌}
+use Rattle.std.proofs.Common.{◌≡◌, ◌≢◌, ◌⊎◌, ◌∷◌, ◌<◌, ◌≤◌, ◌^◌, arith, drop, sym, Option, Some, ℕ, List, [], Result, Ok, Err, IfOk, OnOk, inl, inr, true, refl, subst, ap, ◌∙◌}
 use Rattle.clap.proofs.OnLiterals.{clap_on_literals}
 use Rattle.clap.specs.Words.{App, Kinds, HasKind, IsAmong, Row, Rule, with_rule, fault_of, is_simple_and_free, is_simple, kind_of, matches_of}
 use Rattle.clap.specs.declared.error.Error.{Error}
@@ -97,10 +97,11 @@ outside low high m bytes text some is below small (inr over) n least most same =
     let eq = decimal_injective m n below (omega arith) e in omega arith
 
 -- a number outside the refusals' is the word for none of them
-pub no_code : (m : ℕ) (word digits : List ℕ) → word ≡ 69 ∷ digits → digits ≡ decimal m → m < 2 ^ 64 → (m < 1) ⊎ (last_refusal < m) → IsNoCode word
+pub no_code : (m : ℕ) (word digits : List ℕ) → word ≡ 69 ∷ digits → digits ≡ decimal m → m < 2 ^ 64 → (m < 1) ⊎ ((1 ≤ m) × (last_refusal < m))
+    → IsNoCode word
 no_code m word digits is said below (inl under) n least most same =
     let e : decimal m ≡ decimal n = sym said ∙ ap (drop 1) (sym is ∙ same) in
     let eq = decimal_injective m n below (omega arith) e in omega arith
-no_code m word digits is said below (inr over) n least most same =
+no_code m word digits is said below (inr (not_under, over)) n least most same =
     let e : decimal m ≡ decimal n = sym said ∙ ap (drop 1) (sym is ∙ same) in
     let eq = decimal_injective m n below (omega arith) e in omega arith

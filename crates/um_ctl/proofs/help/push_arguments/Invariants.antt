@@ -5,4 +5,4 @@ use Rattle.um_ctl.proofs.help.push_arguments.Given as goal
 -- those so far stand after the text
 abbrev pub invariant-loop-name : goal.invariant-loop-name
 invariant-loop-name l =
-    string_bytes l.text ≡ string_bytes l.initial.text ++ arguments_shown l.left.now l.right.now (map (λ s. s.now) (take l.name-index l.names))
+    string_bytes l.text ≡ string_bytes l.initial.text ++ arguments_shown l.left l.right (map (λ s. s.now) (take l.name-index l.names))
