@@ -1,7 +1,8 @@
 //! Text as it is shown on standard error, where a control character of a name, a path or a key could mislead a terminal or a script.
 
 ghost use Rattle.std.specs.Prelude.{◌≡◌, ◌++◌, ◌<◌, IfOk, OnOk, flat_map, string_bytes};
-ghost use Rattle.std.specs.Char.{digit_char, encode_utf8};
+ghost use Rattle.std.specs.Char.{digit_char};
+ghost use Rattle.std.specs.Str.{encode_utf8_all};
 ghost use Rattle.um_ctl.specs.Shown as model;
 ghost use Rattle.um_model.specs.Names.{byte_escape};
 
@@ -36,8 +37,9 @@ fn push_bytes(text: &mut String, bytes: &[u8]) -> Result<(), AllocError>
 }
 
 /// Puts a character as it is shown.
+#[tactic(auto, using(crate::proofs::ShownLaws::escapes_of_control))]
 fn push_shown(text: &mut String, c: char) -> Result<(), AllocError>
-    ensures { OnOk result (string_bytes text.new ≡ string_bytes text.old ++ model.shown_char c) }
+    ensures { OnOk result (string_bytes text.new ≡ string_bytes text.old ++ encode_utf8_all (model.shown_char c)) }
 {
     if c.is_control() {
         let mut buffer = [0; 4];
