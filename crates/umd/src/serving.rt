@@ -1,6 +1,7 @@
 //! `umd serve`: one loop over a store, children and a socket.
 
-use crate::messages::{DEVICE, REFUSED};
+use crate::lines::Lines;
+use crate::messages::{DEVICE, REFUSED, tell_ending};
 use crate::places::{Taken, lacks, take_places};
 use crate::telling::{News, Tally, Telling};
 use std::alloc::Global;
@@ -32,7 +33,7 @@ struct End {
 
 /// Says why nothing is served, and gives the exit status. Where standard error fails too, the exit status alone tells it.
 fn ends<R: Eprint>(rt: &R, refusal: Refusal) -> End {
-    let _unheard = eprintln!(rt; "umd: ending: {refusal}");
+    tell_ending(rt, &refusal);
     End {
         status: match refusal {
             Refusal::Device | Refusal::Reopen => DEVICE,
@@ -145,10 +146,12 @@ impl<'a, R: Clock> Loop<'a, R> {
 }
 
 /// Opens the manager and serves it, until it fails.
-fn serve_over<R>(rt: &R, alloc: Global, line: &ServeLine<'_>) -> Result<u8, End>
+fn serve_over<R>(system: &R, alloc: Global, line: &ServeLine<'_>) -> Result<u8, End>
 where
     R: Files<File = File> + Net + Processes + Clock + Eprint,
 {
+    let lines = Lines::new(system, alloc);
+    let rt = &lines;
     let boot = match boot_id(alloc, line.boot) {
         Ok(boot) => boot,
         Err(refusal) => return Err(ends(rt, refusal)),
@@ -157,13 +160,13 @@ where
         disk,
         children,
         lock: _lock,
-    } = match take_places(rt, alloc, line) {
+    } = match take_places(system, rt, alloc, line) {
         Ok(taken) => taken,
         Err(status) => return Err(End { status }),
     };
     let tally = Tally::new();
     let children = Telling::new(children, rt, &tally);
-    let mut manager = match Manager::open(alloc, disk, children, boot, system_moment(rt)) {
+    let mut manager = match Manager::open(alloc, disk, children, boot, system_moment(system)) {
         Ok(manager) => manager,
         Err((refusal, _, _)) => return Err(ends(rt, refusal)),
     };
@@ -174,7 +177,7 @@ where
         return Err(ends(rt, Refusal::NoMemory));
     };
     // only now: a store that can't be opened takes no socket
-    let gate = match SocketGate::open(rt, alloc, line.socket) {
+    let gate = match SocketGate::open(system, alloc, line.socket) {
         Ok(gate) => gate,
         Err(fault) => {
             return Err(End {
@@ -184,7 +187,7 @@ where
     };
     let mut state = Loop {
         gate,
-        clock: SystemMoments::starting(rt, manager.state().clock()),
+        clock: SystemMoments::starting(system, manager.state().clock()),
         rounds,
         pace: Pace::new(),
         deadline: None,
