@@ -1,4 +1,3 @@
 pub mod ResolutionLemmas
 pub mod ByFileLemmas
-pub mod FolderLemmas
 pub mod LeadsLaws

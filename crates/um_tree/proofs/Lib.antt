@@ -1,4 +1,3 @@
 pub mod Fits
-pub mod Folders
 pub mod TextMaps
 pub mod Trees

@@ -1,4 +1,3 @@
 pub mod Place
 pub mod View
 pub mod Code
-pub mod Folder
