@@ -8,7 +8,7 @@ use std::alloc::Global;
 use std::fs::{File, Files};
 use std::net::Net;
 use std::process::Processes;
-use std::time::{Clock, Duration};
+use std::time::Clock;
 use um_children::Children;
 use um_gate::{Moments, SocketGate, SystemMoments, system_moment};
 use um_keeper::OpenedStore;
@@ -21,9 +21,6 @@ use um_wire::Refusal;
 
 /// Behind a sleep of so many parts, of 40 ms at most while a process is live, comes a round in any case.
 const PARTS: u32 = 25;
-
-/// Where a round found no memory the next one comes so many milliseconds later.
-const PAUSE: u64 = 10;
 
 /// Why nothing is served any more, as a line on standard error, and the exit status.
 #[derive(Clone, Copy)]
@@ -85,27 +82,20 @@ struct Loop<'a, R> {
 }
 
 impl<'a, R: Clock> Loop<'a, R> {
-    /// One round, and a sleep where nothing came in it.
+    /// One round, and a sleep where nothing came in it. A refusal ends the serving, want of memory too.
     fn step<D: Disk, C: Children + News>(
         &mut self,
         manager: &mut Manager<D, C>,
         tally: &Tally,
     ) -> Result<(), Refusal> {
         tally.look();
-        match serve(
+        serve(
             manager,
             &mut self.gate,
             &mut self.clock,
             &mut self.rounds,
             1,
-        ) {
-            Ok(()) => {}
-            Err(Refusal::NoMemory) => {
-                let _is_hint = self.gate.wait(Duration::from_millis(PAUSE));
-                return Ok(());
-            }
-            Err(refusal) => return Err(refusal),
-        }
+        )?;
         self.rest(manager, tally);
         Ok(())
     }
