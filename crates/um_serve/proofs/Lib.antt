@@ -1,4 +1,5 @@
 mod BelowLaws
 mod ClientLaws
+mod HeldLaws
 mod RoundLaws
 mod SaidLaws

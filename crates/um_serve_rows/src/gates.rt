@@ -74,6 +74,6 @@ fn a_client_that_was_given_up_takes_nothing_and_is_told_closed(rt: HostRuntime) 
     gate.drop_connection(2);
     same(&rt, gate.write(2, b"def"), 0);
     let mut read = Vec::with_capacity(rt.alloc(), MOST_BYTES).expect(&rt, "no memory");
-    same(&rt, gate.read(2, &mut read), false);
+    same(&rt, gate.read(2, MOST_BYTES, &mut read), false);
     same(&rt, read.len(), 0);
 }

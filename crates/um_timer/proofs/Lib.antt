@@ -1,1 +1,2 @@
+pub mod NextAfter
 pub mod Soonest

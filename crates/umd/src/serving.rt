@@ -8,21 +8,19 @@ use std::fmt::Display;
 use std::fs::{File, Files};
 use std::net::Net;
 use std::process::Processes;
-use std::time::{Clock, Duration};
+use std::time::Clock;
 use um_children::{Children, RunnerDir};
 use um_filedisk::FileDisk;
 use um_gate::{Moments, SocketGate, SystemMoments};
 use um_line::ServeLine;
 use um_manager::Manager;
+use um_model::Deadline;
 use um_serve::{Pace, Rounds, serve};
 use um_state::BootId;
 use um_wire::Refusal;
 
 /// Behind a sleep of so many parts, of 40 ms at most while a process is live, comes a round in any case.
 const PARTS: u32 = 25;
-
-/// Where a round found no memory the next one comes so many milliseconds later.
-const PAUSE: u64 = 10;
 
 /// Why nothing is served any more, as a line on standard error, and the exit status.
 #[derive(Clone, Copy)]
@@ -57,17 +55,6 @@ fn boot_id(alloc: Global, boot: &str) -> Result<BootId, Refusal> {
     }
 }
 
-/// The next deadline of the units, in microseconds; the last one that was known, where there is no memory to look.
-fn next_deadline<C: Children>(manager: &Manager<FileDisk, C>, known: Option<u64>) -> Option<u64> {
-    match manager.state().units().deadlines() {
-        Ok(timers) => match timers.next_due() {
-            Some((deadline, _)) => Some(deadline.micros()),
-            None => None,
-        },
-        Err(_) => known,
-    }
-}
-
 /// What goes from one round to the next in the program.
 #[derive(Drop)]
 struct Loop<'a, R> {
@@ -75,56 +62,59 @@ struct Loop<'a, R> {
     clock: SystemMoments<'a, R>,
     rounds: Rounds,
     pace: Pace,
-    deadline: Option<u64>,
+    /// The deadline that is slept for, as it was looked up last.
+    deadline: Option<Deadline>,
+    /// There may be another deadline to sleep for since then.
+    is_stale: bool,
 }
 
 impl<'a, R: Clock> Loop<'a, R> {
-    /// One round, and a sleep where nothing came in it.
+    /// One round, and a sleep where nothing more is to be done at once. A refusal ends the serving, want of memory too.
     fn step<C: Children + News>(
         &mut self,
         manager: &mut Manager<FileDisk, C>,
         tally: &Tally,
     ) -> Result<(), Refusal> {
         tally.look();
-        match serve(
+        serve(
             manager,
             &mut self.gate,
             &mut self.clock,
             &mut self.rounds,
             1,
-        ) {
-            Ok(()) => {}
-            Err(Refusal::NoMemory) => {
-                let _is_hint = self.gate.wait(Duration::from_millis(PAUSE));
-                return Ok(());
-            }
-            Err(refusal) => return Err(refusal),
-        }
-        self.rest(manager, tally);
-        Ok(())
+        )?;
+        self.rest(manager, tally)
     }
 
-    /// Whether the next deadline has come.
+    /// Whether the deadline that is slept for has come.
     fn is_due(&mut self) -> bool {
         let now = self.clock.moment();
-        self.deadline.is_some_and(|micros| micros <= now.micros())
+        self.deadline
+            .is_some_and(|deadline| deadline.micros() <= now.micros())
     }
 
-    /// Sleeps until there is something to do, unless something came.
-    fn rest<C: Children + News>(&mut self, manager: &Manager<FileDisk, C>, tally: &Tally) {
+    /// Sleeps until there is something to do, unless another round may have more to do at once. E15 where the deadlines find no memory.
+    fn rest<C: Children + News>(
+        &mut self,
+        manager: &Manager<FileDisk, C>,
+        tally: &Tally,
+    ) -> Result<(), Refusal> {
         if tally.has_turned() {
             self.pace.begin();
         }
-        if tally.has_turned() || self.rounds.was_busy() || self.is_due() {
-            self.deadline = next_deadline(manager, self.deadline);
-        }
+        self.is_stale |= tally.has_turned() || self.rounds.was_busy();
         if self.rounds.was_busy() {
-            return;
+            return Ok(());
+        }
+        if self.is_stale || self.is_due() {
+            self.deadline = self.rounds.deadline(manager)?;
+            self.is_stale = false;
         }
         if tally.is_live() && manager.children().has_news() {
             self.pace.hasten();
         }
         self.sleep(manager, tally.is_live());
+        Ok(())
     }
 
     /// Sleeps until the next deadline, a byte, a client, or news of the processes that are live, a second at most. No round is needed before:
@@ -180,8 +170,8 @@ where
         rounds,
         pace: Pace::new(),
         deadline: None,
+        is_stale: true,
     };
-    state.deadline = next_deadline(&manager, None);
     for _ in 0..u64::MAX {
         if let Err(refusal) = state.step(&mut manager, &tally) {
             return Err(ends(rt, refusal));
