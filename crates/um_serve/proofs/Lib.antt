@@ -3,3 +3,5 @@ mod ClientLaws
 mod HeldLaws
 mod RoundLaws
 mod SaidLaws
+mod ScanLaws
+mod SleepLaws

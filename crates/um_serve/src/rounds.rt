@@ -10,6 +10,7 @@ ghost use Rattle.um_serve.specs.Rounds.{Round, Trusts, Serves, ServesOne, IsCoun
 ghost use Rattle.um_serve.specs.Sleep.{IsSleptFor};
 
 use crate::blanks::{Blank, fill_up};
+use crate::deadlines::next_deadline;
 use crate::listening::{Held, connection, forget_closed, has_come, held_back, listen};
 use std::alloc::{AllocError, Global};
 use um_backlog::Backlog;
@@ -144,8 +145,7 @@ impl Rounds {
     ) -> Result<Option<Deadline>, AllocError>
         ensures { IfOk result (λ deadline. IsSleptFor (state_in manager.now.keeper) self.now.turned deadline) }
     {
-        let deadlines = manager.state().units().deadlines()?;
-        Ok(deadlines.next_after(self.turned))
+        next_deadline(manager.state().units(), self.turned)
     }
 
     /// An accept and a read of each open connection, unless pieces are owed; of those that are held back nothing is read. Where there is no

@@ -67,6 +67,29 @@ pub fn what_was_taken(rt: &(impl AllocGlobal + Abort), gate: &FakeGate, number: 
     }
 }
 
+/// What a read of at most so many bytes gives.
+pub fn read_of(
+    rt: &(impl AllocGlobal + Abort),
+    gate: &mut FakeGate,
+    number: usize,
+    most: usize,
+) -> Vec<u8> {
+    let mut read = Vec::with_capacity(rt.alloc(), most).expect(rt, "no memory");
+    same(rt, gate.read(number, most, &mut read), true);
+    read
+}
+
+#[test]
+fn what_isn_t_read_stays_there(rt: HostRuntime) {
+    let mut gate = FakeGate::new(rt.alloc());
+    add_client(&rt, &mut gate, 3, b"abcde", 9);
+    let _open = gate.accept();
+    for (most, wanted) in [(0, b"".as_slice()), (2, b"ab"), (0, b""), (4096, b"cde"), (4096, b"")] {
+        let read = read_of(&rt, &mut gate, 3, most);
+        same(&rt, read.as_slice(), wanted);
+    }
+}
+
 #[test]
 fn a_client_that_was_given_up_takes_nothing_and_is_told_closed(rt: HostRuntime) {
     let mut gate = with_client(&rt, 2, 9);

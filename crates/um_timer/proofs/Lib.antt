@@ -1,2 +1,1 @@
-pub mod NextAfter
 pub mod Soonest

@@ -3,13 +3,11 @@ ghost use Rattle.std.specs.FinMap as map;
 ghost use Rattle.std.specs.Coded.{coded_list, coded_ℕ};
 ghost use Rattle.um_model.specs.Timers as model;
 ghost use Rattle.um_model.specs.Timers.{IsDueFirst};
-ghost use Rattle.um_timer.specs.After.{NoneAfter, IsNextAfter};
-ghost use Rattle.um_timer.specs.Due.{sooner_after};
 
 use std::alloc::{AllocError, Global};
 use std::collections::BTreeMap;
 use std::marker::Model;
-use um_model::{Deadline, Moment};
+use um_model::Deadline;
 use um_name::{UnitName, copy_by_name};
 
 /// For each unit with a timer its deadline.
@@ -76,17 +74,6 @@ impl Timers {
         next
     }
 
-    /// The least deadline past this moment. None only where no timer is set past it. It takes no memory.
-    pub fn next_after(&self, moment: Moment) -> Option<Deadline>
-        ensures { MatchOption result (NoneAfter self.now moment) (λ deadline. IsNextAfter self.now moment deadline) }
-    {
-        let mut next: Option<Deadline> = None;
-        for (_, deadline) in self.deadlines.iter() {
-            next = sooner_after(moment, next, *deadline);
-        }
-        next
-    }
-
     /// The same timers again.
     pub fn copy(&self) -> Result<Timers, AllocError>
         ensures { IfOk result (λ timers. timers ≡ self.now) }
@@ -95,19 +82,6 @@ impl Timers {
             alloc: self.alloc,
             deadlines: copy_by_name(self.alloc, &self.deadlines)?,
         })
-    }
-}
-
-/// The sooner one of a deadline so far and the next one, where that is past the moment.
-fn sooner_after(moment: Moment, next: Option<Deadline>, deadline: Deadline) -> Option<Deadline>
-    ensures { result ≡ sooner_after moment next deadline }
-{
-    if deadline.micros() <= moment.micros() {
-        return next;
-    }
-    match next {
-        Some(sooner) if sooner.micros() <= deadline.micros() => Some(sooner),
-        _ => Some(deadline),
     }
 }
 
