@@ -73,4 +73,3 @@ silent_more k held old new is_held piece before is_it piece_is silent others n b
     let last : n ≡ k → IsSilent (slice_get new n) = λ e.
     subst IsSilent (sym (ap (λ i. slice_get new i) e ∙ piece_is)) (silent (ap falsehood (sym is_it ∙ ap (λ i. slice_get held i) (sym e) ∙ back))) in
     elim (cases_lt n k) [ inl lt ↦ subst IsSilent (sym (others n (below_lt n k lt))) (before n lt back) | inr ge ↦ last (same ge) ]
-

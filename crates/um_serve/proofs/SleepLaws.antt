@@ -107,6 +107,7 @@ moved {m = m} {s = s} {t = t} at low (and_next {t = v} first more) = by (one at.
     same : v ≡ s → (t ≡ v) ⊎ (t.clock ≡ m) → (t ≡ s) ⊎ (t.clock ≡ m)
     same e (inl f) = inl (f ∙ e)
     same e (inr to) = inr to
+
     by : (v ≡ s) ⊎ (v.clock ≡ max s.clock m) → (t ≡ s) ⊎ (t.clock ≡ m)
     by (inl e) = same e (moved at.1 (subst (λ (x : State). x.clock < m) (sym e) low) more)
     by (inr to) = inr (stays at.1 more (omega (arith, to, low)))

@@ -1,9 +1,9 @@
 //! What a round hears of the gate.
 
-ghost use Rattle.std.specs.Prelude.{◌≡◌, ◌≢◌, ◌+◌, ◌<◌, ◌≤◌, ◌∷◌, [], ℕ, true, false, IsTrue, vec_len, slice_get, Some};
+ghost use Rattle.std.specs.Prelude.{◌≡◌, ◌≢◌, ◌↔◌, ◌+◌, ◌<◌, ◌≤◌, ◌∷◌, [], ℕ, true, false, IsTrue, vec_len, slice_get, Some};
 ghost use Rattle.um_gate.specs.Events.{Logs, read};
 ghost use Rattle.um_manager.specs.declared.pieces.Piece.TheVariants.{Nothing};
-ghost use Rattle.um_serve.specs.Rounds.{came_of, reads_one, reads_below, AreHeldBack, OnlyOpen, IsSilent, NoneOfHeld, has_come, after_piece, Forgets};
+ghost use Rattle.um_serve.specs.Rounds.{came_of, reads_one, reads_below, IsHeldBack, AreHeldBack, OnlyOpen, IsSilent, NoneOfHeld, has_come, after_piece, Forgets};
 
 use crate::blanks::{Blank, take_one};
 use um_backlog::Backlog;
@@ -71,13 +71,27 @@ pub struct Held {
     pub is_held: [bool; CONNECTIONS],
 }
 
-/// Those of which a whole frame waits for its turn, and those for which more than 4 MiB wait.
+/// Whether a whole frame of a client waits for its turn, or more than 4 MiB wait for it.
+fn is_held_back<D: Disk, C: Children>(
+    manager: &Manager<D, C>,
+    backlog: &Backlog,
+    number: usize,
+) -> bool
+    requires { number < 64 }
+    ensures { (result ≡ true) ↔ IsHeldBack (slice_get manager.now.sessions.items number) (slice_get backlog.now number) }
+{
+    let holds_frame = manager.holds_frame(connection(number));
+    let is_behind = backlog.is_behind(number);
+    holds_frame | is_behind
+}
+
+/// The clients that are held back.
 pub fn held_back<D: Disk, C: Children>(manager: &Manager<D, C>, backlog: &Backlog) -> Held
     ensures { AreHeldBack manager.now.sessions.items backlog.now result.is_held }
 {
     let mut is_held = [false; CONNECTIONS];
     for number in 0..CONNECTIONS {
-        is_held[number] = manager.holds_frame(connection(number)) || backlog.is_behind(number);
+        is_held[number] = is_held_back(manager, backlog, number);
     }
     Held { is_held }
 }

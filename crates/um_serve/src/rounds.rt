@@ -66,12 +66,7 @@ fn has_moved<D: Disk, C: Children>(manager: &Manager<D, C>, before: Moment) -> b
 }
 
 /// Hands to the gate what is put out for a client, as far as it takes that, and tells whether there is more to do for it.
-fn hand_out<G: Gate>(
-    gate: &mut G,
-    backlog: &mut Backlog,
-    number: usize,
-    output: Output,
-) -> bool
+fn hand_out<G: Gate>(gate: &mut G, backlog: &mut Backlog, number: usize, output: Output) -> bool
     ensures hands { (events : List Event) × HandsAt number (slice_get backlog.old number) output.bytes.items output.failed events (slice_get backlog.new number)
         × Logs (G.honest gate.old) (G.whole gate.new) (G.past gate.old) (G.past gate.new) events }
     ensures others { (other : ℕ) → other ≢ number → slice_get backlog.new other ≡ slice_get backlog.old other }
@@ -83,7 +78,8 @@ fn hand_out<G: Gate>(
     let has_spoken = has_bytes(bytes.as_slice());
     let was_behind = backlog.is_behind(number);
     backlog.put(gate, number, bytes, failed);
-    has_spoken || was_behind && !backlog.is_behind(number)
+    let is_behind = backlog.is_behind(number);
+    has_spoken | (was_behind & !is_behind)
 }
 
 /// Hands to the gate what the manager has for each connection, as far as it takes that, and tells whether there is more to do for any.
@@ -212,7 +208,7 @@ impl Rounds {
             self.turned = moment;
             let is_stirred = speak(manager, gate, &mut self.backlog);
             let has_changed = has_moved(manager, before);
-            self.was_busy |= is_stirred || has_changed;
+            self.was_busy |= is_stirred | has_changed;
         }
         turned
     }

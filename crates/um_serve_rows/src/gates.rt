@@ -67,26 +67,30 @@ pub fn what_was_taken(rt: &(impl AllocGlobal + Abort), gate: &FakeGate, number: 
     }
 }
 
-/// What a read of at most so many bytes gives.
-pub fn read_of(
+/// What a read of at most so many bytes gives; the client is there still.
+fn read_of(
     rt: &(impl AllocGlobal + Abort),
     gate: &mut FakeGate,
     number: usize,
     most: usize,
 ) -> Vec<u8> {
+    let most = most.min(MOST_BYTES);
     let mut read = Vec::with_capacity(rt.alloc(), most).expect(rt, "no memory");
     same(rt, gate.read(number, most, &mut read), true);
     read
 }
 
+/// Reads of a client that sends `abcde`, one after another: of how many bytes at most, and what they give.
+const READS: &[(usize, &[u8])] = &[(0, b""), (2, b"ab"), (0, b""), (4096, b"cde"), (4096, b"")];
+
 #[test]
-fn what_isn_t_read_stays_there(rt: HostRuntime) {
+fn what_is_not_read_stays_there(rt: HostRuntime) {
     let mut gate = FakeGate::new(rt.alloc());
     add_client(&rt, &mut gate, 3, b"abcde", 9);
     let _open = gate.accept();
-    for (most, wanted) in [(0, b"".as_slice()), (2, b"ab"), (0, b""), (4096, b"cde"), (4096, b"")] {
-        let read = read_of(&rt, &mut gate, 3, most);
-        same(&rt, read.as_slice(), wanted);
+    for (most, wanted) in READS {
+        let read = read_of(&rt, &mut gate, 3, *most);
+        same(&rt, read.as_slice(), *wanted);
     }
 }
 

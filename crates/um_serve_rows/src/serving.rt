@@ -62,13 +62,13 @@ fn clients_that_take_few_bytes_get_their_own_replies(rt: HostRuntime) {
 }
 
 /// Rounds one by one, of a client that sends two requests in one part and then a third: how many bytes are to be read of it at most, how many
-/// replies it has then, and whether the round was busy.
+/// bytes of replies it has then, each of 26, and whether the round was busy.
 const ONE_BY_ONE: &[(usize, usize, bool)] = &[
-    (4096, 1, true),
+    (4096, 26, true),
     // the second request waits for its turn
-    (0, 2, true),
-    (4096, 3, true),
-    (4096, 3, false),
+    (0, 52, true),
+    (4096, 78, true),
+    (4096, 78, false),
 ];
 
 /// How many bytes were to be read at most in the last read.
@@ -93,11 +93,11 @@ fn nothing_is_read_of_a_client_while_a_whole_request_of_it_waits(rt: HostRuntime
     let mut manager = new_manager(&rt);
     let mut clock = FakeMoments::new(rt.alloc(), Moment::FIRST, 1);
     let mut rounds = Rounds::new(rt.alloc()).expect(&rt, "no memory");
-    for (most, replies, is_busy) in ONE_BY_ONE {
+    for (most, count, is_busy) in ONE_BY_ONE {
         serve(&mut manager, &mut gate, &mut clock, &mut rounds, 1).expect(&rt, "refused");
         same(&rt, last_read(&gate), Some(*most));
         let got = what_was_taken(&rt, &gate, 0);
-        same(&rt, got.bytes.len(), replies * NONE.len());
+        same(&rt, got.bytes.len(), *count);
         same(&rt, rounds.was_busy(), *is_busy);
     }
 }
