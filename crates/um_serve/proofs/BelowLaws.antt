@@ -1,5 +1,5 @@
 -- What was read of the connections below a number.
-use Rattle.std.proofs.Common.{◌≡◌, ◌≢◌, ◌<◌, ◌≤◌, ◌++◌, ◌+◌, ℕ, zero, suc, List, Bool, false, Option, Some, None, true, refl, ap, sym, ◌∙◌, append_assoc, append-nil, slice_get, arith, inl, inr}
+use Rattle.std.proofs.Common.{◌≡◌, ◌≢◌, ◌<◌, ◌≤◌, ◌++◌, ◌+◌, ℕ, zero, suc, List, Bool, false, Option, Some, None, true, refl, ap, subst, sym, ◌∙◌, append_assoc, append-nil, slice_get, arith, inl, inr}
 use Rattle.std.proofs.Math.Numerals.{add-one}
 use Rattle.std.proofs.lemmas.Bool.{cases_lt}
 use Rattle.um_gate.specs.Events.{Event}

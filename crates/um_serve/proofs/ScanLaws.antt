@@ -68,23 +68,21 @@ from_none : (moment d : ℕ) (o : Option ℕ) → is_kept moment None o ≡ true
 from_none moment d None kept = refl
 from_none moment d (Some x) kept = ap (λ b. b || nat_le d x) kept
 
+both_true : (a b c d : Bool) → (a ≡ true → c ≡ true) → (b ≡ true → d ≡ true) → (a && b) ≡ true → (c && d) ≡ true
+both_true true true c d here rest e = ap (λ x. x && d) (here refl) ∙ rest refl
+both_true true false c d here rest e = absurd (true≢false (sym e))
+both_true false b c d here rest e = absurd (true≢false (sym e))
+
 each_kept : (f : List ℕ → Option ℕ) (moment : ℕ) (next later : Option ℕ) (names : List (List ℕ)) → ((o : Option ℕ) → is_kept moment next o ≡ true → is_kept moment later o ≡ true)
     → list_all (λ unit. is_kept moment next (f unit)) names ≡ true → list_all (λ unit. is_kept moment later (f unit)) names ≡ true
 each_kept f moment next later [] keeps all = refl
-each_kept f moment next later (name ∷ names) keeps all = by (is_kept moment next (f name)) refl all
-  where
-    by : (b : Bool) → is_kept moment next (f name) ≡ b → (b && list_all (λ unit. is_kept moment next (f unit)) names) ≡ true
-        → (is_kept moment later (f name) && list_all (λ unit. is_kept moment later (f unit)) names) ≡ true
-    by true e more = ap (λ b. b && list_all (λ unit. is_kept moment later (f unit)) names) (keeps (f name) e) ∙ each_kept f moment next later names keeps more
-    by false e more = absurd (true≢false (sym more))
+each_kept f moment next later (name ∷ names) keeps all =
+    both_true (is_kept moment next (f name)) (list_all (λ unit. is_kept moment next (f unit)) names) (is_kept moment later (f name))
+    (list_all (λ unit. is_kept moment later (f unit)) names) (keeps (f name)) (each_kept f moment next later names keeps) all
 
 one_more : (f : List ℕ → Bool) (names : List (List ℕ)) (name : List ℕ) → list_all f names ≡ true → f name ≡ true → list_all f (names ++ name ∷ []) ≡ true
 one_more f [] name all here = ap (λ b. b && true) here
-one_more f (n ∷ names) name all here = by (f n) all
-  where
-    by : (b : Bool) → (b && list_all f names) ≡ true → (b && list_all f (names ++ name ∷ [])) ≡ true
-    by true more = one_more f names name more here
-    by false more = absurd (true≢false (sym more))
+one_more f (n ∷ names) name all here = both_true (f n) (list_all f names) (f n) (list_all f (names ++ name ∷ [])) (λ e. e) (λ more. one_more f names name more here) all
 
 -- one more unit is kept, and so are those before it
 next_one : (moment : ℕ) (next : Option ℕ) (o : Option ℕ)

@@ -52,7 +52,7 @@ each_at m f (x ∷ xs) p = both_at m (f x) (flat_map f xs) (p x) (each_at m f xs
 
 end_at : (m number : ℕ) (end : End) (b : Bool) → is_unexecuted end ≡ b → AllAt m (inputs_of_end m number end)
 end_at m number end true is = subst (λ b. AllAt m (cond b (happens_at m (machine.ProcessEnded number end) ∷ []) (happens_at m (machine.ProcessExecuted number) ∷ happens_at m (machine.ProcessEnded number end) ∷ []))) (sym is) (refl, tt)
-end_at m number end false is = subst (λ b. AllAt m (cond b (happens_at m (machine.ProcessEnded number end) ∷ []) (happens_at m (machine.ProcessExecuted number) ∷ happens_at m (machine.ProcessEnded number end) ∷ []))) (sym is) (refl, refl, tt)
+end_at m number end false is = subst (λ b. AllAt m (cond b (happens_at m (machine.ProcessEnded number end) ∷ []) (happens_at m (machine.ProcessExecuted number) ∷ happens_at m (machine.ProcessEnded number end) ∷ []))) (sym is) (refl, (refl, tt))
 
 told_at : (m number : ℕ) (told : Option Fate) → AllAt m (inputs_told unexecuted m number told)
 told_at m number None = tt
@@ -82,8 +82,8 @@ offered_at m told requests =
 stepped : {size m : ℕ} {s t : State} {input : Input} {reply : machine.Reply} {actions : List Action} → input.moment ≡ m → Step size s input reply actions t
     → (t ≡ s) ⊎ (t.clock ≡ max s.clock m)
 stepped at (machine.refused r) = inl refl
-stepped at (machine.crowded_out takes no) = inl refl
-stepped at (machine.idle no) = inl refl
+stepped at (machine.crowded_out takes heavy) = inl refl
+stepped at (machine.idle none) = inl refl
 stepped {s = s} at (machine.taken takes has) = inr (ap (λ n. max s.clock n) at)
 
 one : {size m : ℕ} {s t : State} {input : Input} {answer : Answer} → input.moment ≡ m → Answered size s input answer t → (t ≡ s) ⊎ (t.clock ≡ max s.clock m)
@@ -102,15 +102,15 @@ stays {m = m} {s = s} at (and_next {t = v} first more) is = stays at.1 more (by 
 
 moved : {size m : ℕ} {s t : State} {inputs : List Input} {answers : List Answer} → AllAt m inputs → s.clock < m → AreAnswered size s inputs answers t → (t ≡ s) ⊎ (t.clock ≡ m)
 moved at low all_answered = inl refl
-moved {m = m} {s = s} {t = t} at low (and_next {t = v} first more) = by (one at.0 first)
+moved {m = m} {s = s} {t = t} at low (and_next {t = v} first more) =
+    by (one at.0 first) (λ e. moved at.1 (subst (λ (x : State). x.clock < m) (sym e) low) more)
   where
     same : v ≡ s → (t ≡ v) ⊎ (t.clock ≡ m) → (t ≡ s) ⊎ (t.clock ≡ m)
     same e (inl f) = inl (f ∙ e)
     same e (inr to) = inr to
-
-    by : (v ≡ s) ⊎ (v.clock ≡ max s.clock m) → (t ≡ s) ⊎ (t.clock ≡ m)
-    by (inl e) = same e (moved at.1 (subst (λ (x : State). x.clock < m) (sym e) low) more)
-    by (inr to) = inr (stays at.1 more (omega (arith, to, low)))
+    by : (v ≡ s) ⊎ (v.clock ≡ max s.clock m) → (v ≡ s → (t ≡ v) ⊎ (t.clock ≡ m)) → (t ≡ s) ⊎ (t.clock ≡ m)
+    by (inl e) rest = same e (rest e)
+    by (inr to) rest = inr (stays at.1 more (omega (arith, to, low)))
 
 unchanged : (m : ℕ) (s t : State) → s.clock < m → has_changed s t ≡ false → (t ≡ s) ⊎ (t.clock ≡ m) → t ≡ s
 unchanged m s t low still (inl same) = same

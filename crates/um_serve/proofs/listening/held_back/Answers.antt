@@ -6,5 +6,5 @@ pub loop-number-preserved : goal.loop-number-preserved
 loop-number-preserved g c =
     let n = c.loop-number.number in
     let held = c.loop-number.is_held in
-    held_more n c.args.manager.now.sessions.items c.args.backlog.now held _ c.is_held_back-is_held.result c.loop-number.invariant c.is_held_back-is_held.ensures
+    held_more n c.args.manager.now.sessions.items c.args.backlog.now held _ c.is_held_back.result c.loop-number.invariant c.is_held_back.ensures
     (set_here held n _ (search (rules, arith))) (λ i other. set_there held n i _ other)
