@@ -57,3 +57,8 @@ set_there (x ∷ xs) zero zero b other = absurd (other refl)
 set_there (x ∷ xs) zero (suc i) b other = refl
 set_there (x ∷ xs) (suc k) zero b other = refl
 set_there (x ∷ xs) (suc k) (suc i) b other = set_there xs k i b (λ e. other (ap suc e))
+
+pub set_long : (xs : List Bool) (k : ℕ) (b : Bool) → length (slice_set xs k b) ≡ length xs
+set_long [] k b = refl
+set_long (x ∷ xs) zero b = refl
+set_long (x ∷ xs) (suc k) b = ap suc (set_long xs k b)
