@@ -1,5 +1,5 @@
 -- What was said to the clients below a number, and what was taken of their sessions.
-use Rattle.std.proofs.Common.{◌≡◌, ◌≢◌, ◌<◌, ◌≤◌, ◌++◌, ◌∷◌, ◌+◌, ◌||◌, ℕ, zero, suc, List, [], Bool, Option, Some, None, refl, ap, sym, subst, ◌∙◌, append_assoc, append-nil, slice_get, IsTrue, false, arith, inl, inr}
+use Rattle.std.proofs.Common.{◌≡◌, ◌≢◌, ◌<◌, ◌≤◌, ◌++◌, ◌+◌, ◌||◌, ℕ, zero, suc, List, [], Bool, Option, Some, None, refl, ap, sym, subst, ◌∙◌, append_assoc, append-nil, slice_get, IsTrue, false, arith, inl, inr}
 use Rattle.std.proofs.Math.Numerals.{add-one}
 use Rattle.std.proofs.lemmas.Bool.{cases_lt}
 use Rattle.um_backlog.specs.Backlog.{Waits, HandsAt}

@@ -1,5 +1,5 @@
 -- Which deadline is slept for, and what a turn that leaves the clock tells.
-use Rattle.std.proofs.Common.{◌≡◌, ◌⊎◌, ◌∙◌, ◌<◌, ◌≤◌, ◌-◌, ◌++◌, ◌∷◌, [], ℕ, List, Bool, true, false, Option, Some, None, Result, Ok, Err, refl, sym, ap, subst, inl, inr, arith, max, min, nat_lt, flat_map, cond, true≢false}
+use Rattle.std.proofs.Common.{◌≡◌, ◌⊎◌, ◌∙◌, ◌<◌, ◌≤◌, ◌-◌, ◌++◌, ◌∷◌, [], ℕ, List, Bool, true, false, Option, Some, None, Result, Ok, Err, refl, sym, ap, subst, inl, inr, arith, max, nat_lt, flat_map, cond, true≢false}
 use Rattle.std.proofs.lemmas.Bool.Decides.{nat_tests}
 use Rattle.std.proofs.lemmas.Option.{same_Some}
 use Rattle.um_fates.specs.Fates.{inputs_of_tale, inputs_of_end, inputs_told, is_unexecuted, happens_at, tick_at, unexecuted}
@@ -108,6 +108,7 @@ moved {m = m} {s = s} {t = t} at low (and_next {t = v} first more) =
     same : v ≡ s → (t ≡ v) ⊎ (t.clock ≡ m) → (t ≡ s) ⊎ (t.clock ≡ m)
     same e (inl f) = inl (f ∙ e)
     same e (inr to) = inr to
+
     by : (v ≡ s) ⊎ (v.clock ≡ max s.clock m) → (v ≡ s → (t ≡ v) ⊎ (t.clock ≡ m)) → (t ≡ s) ⊎ (t.clock ≡ m)
     by (inl e) rest = same e (rest e)
     by (inr to) rest = inr (stays at.1 more (omega (arith, to, low)))

@@ -1,4 +1,4 @@
-use Rattle.std.proofs.Common.{◌∙◌, ◌<◌, length, rules, arith}
+use Rattle.std.proofs.Common.{◌∙◌, ◌<◌, length, arith}
 use Rattle.um_serve.proofs.HeldLaws.{held_more, set_here, set_there, set_long}
 use Rattle.um_serve.proofs.listening.held_back.Goals as goal
 
