@@ -161,6 +161,10 @@ fn free_number(places: &[Place]) -> Option<usize> {
 fn read_stream(stream: &mut UnixStream, buffer: &mut [u8]) -> Option<usize>
     ensures { IfSome result (λ count. count ≤ length buffer.old) }
 {
+    // the system tells a read of nothing as it tells the end
+    if buffer.is_empty() {
+        return Some(0);
+    }
     match stream.read(buffer) {
         Ok(0) => None,
         Ok(count) => Some(count),
@@ -271,14 +275,15 @@ fn read_place(place: &mut Place, buffer: &mut [u8]) -> Option<usize>
 }
 
 /// Puts what is there of a place into the vector, by way of the buffer, and tells whether it is open still.
-fn fill(place: &mut Place, buffer: &mut [u8], bytes: &mut Vec<u8>) -> bool
+fn fill(place: &mut Place, buffer: &mut [u8], most: usize, bytes: &mut Vec<u8>) -> bool
     requires empty { bytes.old.items ≡ [] }
-    requires room { MOST_BYTES ≤ vec_capacity bytes.old }
+    requires few { most ≤ MOST_BYTES }
+    requires room { most ≤ vec_capacity bytes.old }
     requires full { length buffer.old ≡ MOST_BYTES }
-    ensures bound { length bytes.new.items ≤ MOST_BYTES }
+    ensures bound { length bytes.new.items ≤ most }
     ensures full { length buffer.new ≡ MOST_BYTES }
 {
-    let Some(count) = read_place(place, buffer) else {
+    let Some(count) = read_place(place, &mut buffer[..most]) else {
         *place = Place::Free;
         return false;
     };
@@ -322,9 +327,9 @@ impl Gate for SocketGate {
         open_of(self.places.as_slice())
     }
 
-    fn read(&mut self, number: usize, bytes: &mut Vec<u8>) -> bool {
+    fn read(&mut self, number: usize, most: usize, bytes: &mut Vec<u8>) -> bool {
         match self.places.get_mut(number) {
-            Some(place) => fill(place, self.buffer.as_mut_slice(), bytes),
+            Some(place) => fill(place, self.buffer.as_mut_slice(), most, bytes),
             None => false,
         }
     }

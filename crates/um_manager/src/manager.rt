@@ -2,7 +2,7 @@ ghost use Rattle.std.specs.Prelude.{◌≡◌, ◌≢◌, ◌⊎◌, ◌↔◌, 
 ghost use Rattle.std.specs.List.{AllByRecursion};
 ghost use Rattle.um_keeper.specs.Keepers.{disk_in, state_in, size_in, layout_in, has_failed, opened_in, IsSamePlace};
 ghost use Rattle.um_keeper.specs.Opening.{IsRead, IsSomeStore};
-ghost use Rattle.um_manager.specs.Connections.{IsNew};
+ghost use Rattle.um_manager.specs.Connections.{IsNew, HoldsFrameAt};
 ghost use Rattle.um_manager.specs.Opening.{Opened, IsOfRefused};
 ghost use Rattle.um_manager.specs.Places.{place, place_in};
 ghost use Rattle.um_manager.specs.Replies.{IsOutput};
@@ -165,6 +165,14 @@ impl<D: Disk, C: Children> Manager<D, C> {
             bytes: session.take_output(),
             failed: session.failed(),
         }
+    }
+
+    /// Whether a whole frame of a connection is held. The next turn takes its request, whatever comes; so who serves the manager can leave
+    /// further bytes where they are until then, and no client makes it hold more than a frame and one piece.
+    pub fn holds_frame(&self, connection: Connection) -> bool
+        ensures { (result ≡ true) ↔ HoldsFrameAt (slice_get self.now.sessions.items connection) }
+    {
+        self.sessions[connection.get()].holds_frame()
     }
 
     /// The state.

@@ -14,6 +14,7 @@ use um_gate::{Moments, SocketGate, SystemMoments, system_moment};
 use um_keeper::OpenedStore;
 use um_line::ServeLine;
 use um_manager::Manager;
+use um_model::Deadline;
 use um_sector::Disk;
 use um_serve::{Pace, Rounds, serve};
 use um_state::BootId;
@@ -60,17 +61,6 @@ fn boot_id(alloc: Global, boot: &str) -> Result<BootId, Refusal> {
     }
 }
 
-/// The next deadline of the units, in microseconds; the last one that was known, where there is no memory to look.
-fn next_deadline<D: Disk, C: Children>(manager: &Manager<D, C>, known: Option<u64>) -> Option<u64> {
-    match manager.state().units().deadlines() {
-        Ok(timers) => match timers.next_due() {
-            Some((deadline, _)) => Some(deadline.micros()),
-            None => None,
-        },
-        Err(_) => known,
-    }
-}
-
 /// What goes from one round to the next in the program.
 #[derive(Drop)]
 struct Loop<'a, R> {
@@ -78,11 +68,14 @@ struct Loop<'a, R> {
     clock: SystemMoments<'a, R>,
     rounds: Rounds,
     pace: Pace,
-    deadline: Option<u64>,
+    /// The deadline that is slept for, as it was looked up last.
+    deadline: Option<Deadline>,
+    /// There may be another deadline to sleep for since then.
+    is_stale: bool,
 }
 
 impl<'a, R: Clock> Loop<'a, R> {
-    /// One round, and a sleep where nothing came in it. A refusal ends the serving, want of memory too.
+    /// One round, and a sleep where nothing more is to be done at once. A refusal ends the serving, want of memory too.
     fn step<D: Disk, C: Children + News>(
         &mut self,
         manager: &mut Manager<D, C>,
@@ -96,31 +89,38 @@ impl<'a, R: Clock> Loop<'a, R> {
             &mut self.rounds,
             1,
         )?;
-        self.rest(manager, tally);
-        Ok(())
+        self.rest(manager, tally)
     }
 
-    /// Whether the next deadline has come.
+    /// Whether the deadline that is slept for has come.
     fn is_due(&mut self) -> bool {
         let now = self.clock.moment();
-        self.deadline.is_some_and(|micros| micros <= now.micros())
+        self.deadline
+            .is_some_and(|deadline| deadline.micros() <= now.micros())
     }
 
-    /// Sleeps until there is something to do, unless something came.
-    fn rest<D: Disk, C: Children + News>(&mut self, manager: &Manager<D, C>, tally: &Tally) {
+    /// Sleeps until there is something to do, unless another round may have more to do at once. E15 where the deadlines find no memory.
+    fn rest<D: Disk, C: Children + News>(
+        &mut self,
+        manager: &Manager<D, C>,
+        tally: &Tally,
+    ) -> Result<(), Refusal> {
         if tally.has_turned() {
             self.pace.begin();
         }
-        if tally.has_turned() || self.rounds.was_busy() || self.is_due() {
-            self.deadline = next_deadline(manager, self.deadline);
-        }
+        self.is_stale |= tally.has_turned() || self.rounds.was_busy();
         if self.rounds.was_busy() {
-            return;
+            return Ok(());
+        }
+        if self.is_stale || self.is_due() {
+            self.deadline = self.rounds.deadline(manager)?;
+            self.is_stale = false;
         }
         if tally.is_live() && manager.children().has_news() {
             self.pace.hasten();
         }
         self.sleep(manager, tally.is_live());
+        Ok(())
     }
 
     /// Sleeps until the next deadline, a byte, a client, or news of the processes that are live, a second at most. No round is needed before:
@@ -181,8 +181,8 @@ where
         rounds,
         pace: Pace::new(),
         deadline: None,
+        is_stale: true,
     };
-    state.deadline = next_deadline(&manager, None);
     for _ in 0..u64::MAX {
         if let Err(refusal) = state.step(&mut manager, &tally) {
             return Err(ends(rt, refusal));
