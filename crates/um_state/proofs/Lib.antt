@@ -1,4 +1,5 @@
 pub mod Distinct
+pub mod FindingLaws
 pub mod Fronts
 pub mod HeldLaws
 pub mod InputArms

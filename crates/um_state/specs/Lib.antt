@@ -1,4 +1,5 @@
 pub mod Arms
+pub mod Finding
 pub mod Short
 pub mod Shown
 pub mod View

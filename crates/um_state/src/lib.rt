@@ -2,6 +2,7 @@
 #![tactic(auto)]
 
 mod boot;
+mod finder;
 mod fitting;
 mod input;
 mod input_bytes;
