@@ -62,8 +62,10 @@ pub fn take_folder<R: Files>(rt: &R, folder: &str) -> Result<(), OpenFault> {
         Err(error) if error.kind() == ErrorKind::AlreadyExists => {}
         Err(error) => return Err(OpenFault::System(error)),
     }
-    look_at(&fs::symlink_metadata(rt, folder)?)?;
-    Ok(fs::set_permissions(rt, folder, Permissions::from_mode(MODE))?)
+    let about = fs::symlink_metadata(rt, folder)?;
+    look_at(&about)?;
+    fs::set_permissions(rt, folder, Permissions::from_mode(MODE))?;
+    Ok(())
 }
 
 /// The files of a process, of a longer ending first.
@@ -85,9 +87,9 @@ fn number_before(name: &str, file: RunnerFile) -> Option<ProcessNumber> {
 
 /// The process and the file of this name; None for other names.
 pub fn file_named(name: &str) -> Option<(ProcessNumber, RunnerFile)> {
-    for file in &FILES {
-        if let Some(number) = number_before(name, *file) {
-            return Some((number, *file));
+    for file in FILES {
+        if let Some(number) = number_before(name, file) {
+            return Some((number, file));
         }
     }
     None

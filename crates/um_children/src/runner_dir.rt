@@ -166,15 +166,21 @@ impl<'a, R: Files + Processes + Clock> RunnerDir<'a, R> {
         self.program.as_str()
     }
 
-    /// What failed in the last call that failed, and where.
-    pub fn trouble(&self) -> Option<(&str, &Cause)> {
-        let cause = self.cause.as_ref()?;
-        let place = match cause {
+    /// What it is that failed.
+    fn place_of(&self, cause: &Cause) -> &str {
+        match cause {
             Cause::Folder(_) | Cause::Foreign => self.folder.as_str(),
             Cause::Runner => self.program.as_str(),
             Cause::Shell(_) => "sh",
-        };
-        Some((place, cause))
+        }
+    }
+
+    /// What failed in the last call that failed, and where.
+    pub fn trouble(&self) -> Option<(&str, &Cause)> {
+        match &self.cause {
+            Some(cause) => Some((self.place_of(cause), cause)),
+            None => None,
+        }
     }
 
     /// Whether the runner's program is there and can be executed, as far as a shell can tell.
