@@ -436,14 +436,14 @@ impl<'a, R: Files + Processes + Clock> RunnerDir<'a, R> {
     fn note_foreign(&mut self, files: &[(ProcessNumber, RunnerFile)], next: NextNumber)
         ensures failures { self.new.failures ≡ self.old.failures }
     {
-        let mut foreign: Option<ProcessNumber> = None;
+        let mut greatest: u64 = 0;
         for (number, _) in files {
-            let least = foreign.map_or(next.get(), |found| found.get());
-            if number.get() >= least {
-                foreign = Some(*number);
+            if number.get() >= next.get() && number.get() > greatest {
+                greatest = number.get();
             }
         }
-        self.foreign = foreign;
+        // no process has the number 0
+        self.foreign = ProcessNumber::new(greatest);
     }
 
     /// How many processes these files tell of that run and aren't live. What can't be read counts as none.
