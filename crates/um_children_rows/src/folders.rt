@@ -152,7 +152,10 @@ fn a_number_that_ended_is_forgotten_with_its_files(rt: HostRuntime) -> Result<()
 }
 
 /// A number that runs in a folder, whose files were read after its time was old enough to go by.
-fn running<'a>(rt: &'a HostRuntime, place: &str) -> RunnerDir<'a, HostRuntime> {
+fn running<'a, R: AllocGlobal + Files<File = File> + Processes + Clock + Abort>(
+    rt: &'a R,
+    place: &str,
+) -> RunnerDir<'a, R> {
     put(rt, place, "1.pid", b"2147483647\n");
     let mut children = children(rt, place);
     told(rt, &mut children, 1, false, Fate::Executed);

@@ -1,10 +1,9 @@
--- The index of the marks, once a number is added to both.
-use Rattle.std.proofs.Common.{◌≡◌, ◌==◌, ℕ, List, [], ◌∷◌, ◌++◌, Bool, true, false, ◌||◌, cond, Ordering, Equal, is_eq, refl, sym, ap, ◌∙◌}
+-- The index of the marks, once a number is added to it.
+use Rattle.std.proofs.Common.{◌≡◌, ◌==◌, ℕ, List, [], ◌∷◌, Bool, true, false, ◌||◌, cond, Ordering, Equal, is_eq, refl, sym, ap, ◌∙◌}
 use Rattle.std.specs.Cmp.{nat_cmp_is}
 use Rattle.std.specs.FinMap.{nat_cmp-IsAntisymmetric}
 use Rattle.std.specs.Ordering.{nat_cmp}
 use Rattle.std.proofs.lemmas.Bool.{eqb-true, eqb-false}
-use Rattle.std.proofs.lemmas.List.Folds.{list_any-append}
 use Rattle.um_fates.specs.Live.{has}
 
 at_same : (n m : ℕ) → is_eq (nat_cmp n m) ≡ (n == m)
@@ -28,8 +27,5 @@ or_cond true false = refl
 or_cond false true = refl
 or_cond false false = refl
 
-pub one_indexed : (old new : ℕ → Bool) (k : ℕ) (ns : List ℕ) → ((n : ℕ) → new n ≡ cond (is_eq (nat_cmp k n)) true (old n)) → ((n : ℕ) → old n ≡ has n ns)
-    → (n : ℕ) → new n ≡ has n (ns ++ k ∷ [])
-one_indexed old new k ns updates was n =
-    updates n ∙ (ap (λ b. cond b true (old n)) (at_same k n) ∙ (or_cond (k == n) (old n)
-    ∙ (ap (λ x. x || (k == n || false)) (was n) ∙ sym (list_any-append (λ m. m == n) ns (k ∷ [])))))
+pub entered : (old new : ℕ → Bool) (k : ℕ) → ((n : ℕ) → new n ≡ cond (is_eq (nat_cmp k n)) true (old n)) → (n : ℕ) → new n ≡ (old n || has n (k ∷ []))
+entered old new k updates n = updates n ∙ (ap (λ b. cond b true (old n)) (at_same k n) ∙ or_cond (k == n) (old n))

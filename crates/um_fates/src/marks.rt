@@ -89,13 +89,23 @@ fn note(noted: &mut Vec<ProcessNumber>, number: ProcessNumber)
     }
 }
 
+/// Adds the number to an index. False where there is no memory for it.
+fn enter(index: &mut BTreeSet<u64>, number: ProcessNumber) -> bool
+    ensures { result ≡ true → (n : ℕ) → sets.contains nat_cmp index.new n ≡ (sets.contains nat_cmp index.old n || has n (number ∷ [])) }
+{
+    match index.insert(number.get()) {
+        Ok(_) => true,
+        Err(_) => false,
+    }
+}
+
 /// The index of these numbers; None where there is no memory for it.
 fn index_of(alloc: Global, numbers: &[ProcessNumber]) -> Option<BTreeSet<u64>>
     ensures { IfSome result (λ index. (n : ℕ) → sets.contains nat_cmp index n ≡ has n numbers.now) }
 {
     let mut index = BTreeSet::new(alloc);
     for number in numbers {
-        if index.insert(number.get()).is_err() {
+        if !enter(&mut index, *number) {
             return None;
         }
     }
@@ -178,7 +188,7 @@ impl Marks {
                 Ok(()) => {}
                 Err(_) => unreachable!(),
             }
-            if self.index.insert(number.get()).is_err() {
+            if !enter(&mut self.index, number) {
                 self.is_plain = true;
             }
         }
