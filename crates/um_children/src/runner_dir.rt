@@ -1,7 +1,8 @@
-ghost use Rattle.std.specs.Prelude.{◌≡◌, ◌⊎◌, [], true, false, None, Ok, IfOk};
+ghost use Rattle.std.specs.Prelude.{◌≡◌, ◌⊎◌, [], true, false, None, Ok, IfOk, OnOk};
 ghost use Rattle.std.proofs.lemmas.Bool.{false≢true};
 ghost use Rattle.um_children.specs.History.{is_absent};
 ghost use Rattle.um_children.specs.Faults.{CountsFault};
+ghost use Rattle.um_service.specs.Started.{is_too_long};
 
 use crate::children::Children;
 use crate::commands::{signal_command, start_command};
@@ -163,7 +164,13 @@ impl<'a, R: Files + Processes + Clock> RunnerDir<'a, R> {
         answer
     }
 
-    fn start(&self, order: &SpawnOrder) -> Result<(), ChildFault> {
+    /// Starts the runner for an order. One that is too long is refused before its words are put together.
+    fn start(&self, order: &SpawnOrder) -> Result<(), ChildFault>
+        ensures bound { OnOk result (is_too_long order.now.words order.now.environment ≡ false) }
+    {
+        if order.is_too_long() {
+            return Err(ChildFault::TooLong);
+        }
         let (program, folder) = (self.program.as_str(), self.folder.as_str());
         let command = start_command(self.alloc, program, folder, order)?;
         if has_run(self.rt, command)? {

@@ -39,10 +39,10 @@ fn sleeps(rt: &impl Abort, words: &[String]) {
 }
 
 /// Asserts that a start, a signal and a question that failed were noted, and no other call.
-fn are_noted(rt: &impl Abort, calls: &[Call]) {
+fn are_noted(rt: &(impl AllocGlobal + Abort), calls: &[Call]) {
     let [
         Call::Spawned {
-            words,
+            start,
             is_taken: true,
             starts: true,
             ..
@@ -60,6 +60,7 @@ fn are_noted(rt: &impl Abort, calls: &[Call]) {
     else {
         rt.abort()
     };
+    let words = start.words(rt.alloc()).expect(rt, "no memory");
     sleeps(rt, words.as_slice());
 }
 

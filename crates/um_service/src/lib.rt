@@ -10,6 +10,7 @@ mod rest;
 mod service;
 mod settings;
 mod start;
+mod starting;
 mod stop;
 mod table;
 
@@ -20,6 +21,7 @@ pub use laws::{
     the_next_number_stays_small,
 };
 pub use service::{Actions, Service};
+pub use starting::Start;
 pub use um_model::{
     Around, CommandList, NextNumber, Order, ProcessNumber, StartJob, UnitEvent, UnitKind, UnitState,
 };
