@@ -18,7 +18,7 @@ pub use actions::Action;
 pub use ends::has_one_command;
 pub use laws::{
     a_process_is_kept, an_order_has_one_list_of_actions, new_numbers_are_the_next,
-    the_next_number_stays_small,
+    the_next_number_stays_small, what_a_command_is_started_with_is_found,
 };
 pub use service::{Actions, Service};
 pub use starting::Start;

@@ -144,11 +144,8 @@ impl Start {
     pub fn words(&self, alloc: Global) -> Result<Vec<String>, AllocError>
         ensures { IfOk result (λ words. map string_bytes words.items ≡ self.now.words) }
     {
-        words_of(
-            alloc,
-            command_at(&self.settings, self.which, self.index),
-            self.settings.environment.as_slice(),
-        )
+        let command = command_at(&self.settings, self.which, self.index);
+        words_of(alloc, command, self.settings.environment.as_slice())
     }
 
     /// The environment, `NAME=value` each. Refused only for want of memory.

@@ -2,7 +2,7 @@
 use Rattle.std.proofs.Common.{◌≡◌, ◌≢◌, ◌<◌, ℕ, ◌+◌, ◌-◌, Bool, true, false, cond, eqb, List, [], ◌∷◌, ◌++◌, length, get_or, drop, map, Option, Some, None, option_map, refl, sym, ap, ◌∙◌, subst, append-nil, append_assoc, arith}
 use Rattle.std.specs.Prelude.{unwrap_or}
 use Rattle.std.specs.List.{flat_map}
-use Rattle.std.proofs.lemmas.Option.{none-some, same_Some}
+use Rattle.std.proofs.lemmas.Option.{none-some, same_Some, some_pair_parts}
 use Rattle.um_model.specs.Ascii.{is_space}
 use Rattle.um_model.specs.Pieces.{Front, Gives, reading}
 use Rattle.um_model.specs.Substitution.{Variable, value_of, whole_name, braced_name, dollar_front, piece_front, Becomes, splits, fills, AllBecome, no_more, one_more, AreSubstituted, no_words, first_stays}
@@ -40,6 +40,12 @@ words_behind_word text rest later b value e apart found =
     words_read text ∙ ap (λ r. unwrap_or (option_map word_values r) []) (word_read Plain text rest later b value e apart found)
     ∙ one_word_more (first_word text rest value) (reading (piece_of_words Plain) rest) some.0 (reading-StandsForText (piece_of_words Plain) rest some.0 some.1)
     ∙ ap (λ ws. value ∷ ws) (sym (words_read rest))
+
+-- a word that was counted
+pub word_found : (r : Option (List ℕ × List ℕ)) (n : ℕ) (rest : List ℕ) → option_map {U = ℕ × List ℕ} (λ p. (length p.0, p.1)) r ≡ Some (n, rest)
+    → (word : List ℕ) × (r ≡ Some (word, rest)) × (length word ≡ n)
+word_found None n rest e = absurd (none-some (n, rest) e)
+word_found (Some p) n rest e = let q = some_pair_parts (length p.0) n p.1 rest e in (p.0, ap (λ t. Some (p.0, t)) q.1, q.0)
 
 -- ---- a word that is filled in
 

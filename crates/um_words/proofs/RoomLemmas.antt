@@ -79,4 +79,15 @@ left_none room xs ys e = parted room xs ys ∙ stopped room (each_fits room xs) 
 
 -- no texts leave the room as it is
 pub left_nothing : (room : Room) → left room [] ≡ Some room
-left_nothing room = let zero : room.total - 0 ≡ room.total = omega arith in ap (λ k. Some (record room { total = k })) zero
+left_nothing room =
+    let low : nat_le 0 room.total ≡ true = grind (arith, nat_tests) in
+    let zero : room.total - 0 ≡ room.total = omega arith in
+    ap (λ b. cond b (Some (record room { total = room.total - 0 })) None) low ∙ ap (λ k. Some (record room { total = k })) zero
+
+-- the others have the room that the first ones leave
+pub left_more : (free r : Room) (xs ys all : List (List ℕ)) (whole : Option Room) → all ≡ xs ++ ys → left free xs ≡ Some r → left free all ≡ whole → left r ys ≡ whole
+left_more free r xs ys all whole e fit told = sym (left_front free r xs ys fit) ∙ ap (left free) (sym e) ∙ told
+
+-- where the first ones have no room all have none
+pub left_no_more : (free : Room) (xs ys all : List (List ℕ)) (whole : Option Room) → all ≡ xs ++ ys → left free xs ≡ None → left free all ≡ whole → None ≡ whole
+left_no_more free xs ys all whole e past told = sym (left_none free xs ys past) ∙ ap (left free) (sym e) ∙ told

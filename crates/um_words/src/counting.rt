@@ -1,7 +1,8 @@
 //! How much room the words of a command take with its variables, counted without putting them together.
 
-ghost use Rattle.std.specs.Prelude.{◌≡◌, ◌^◌, ◌-◌, ◌≤◌, ℕ, List, None, Some, length, min, map, string_bytes};
+ghost use Rattle.std.specs.Prelude.{◌≡◌, ◌<◌, ◌^◌, ◌-◌, ℕ, List, None, Some, false, length, min, map, slice_index, string_bytes};
 ghost use Rattle.std.specs.Option.{option_map};
+ghost use Rattle.um_model.specs.Ascii.{is_space};
 ghost use Rattle.um_model.proofs.WordSteps.{read};
 ghost use Rattle.um_model.specs.declared.words.WordRules.TheVariants.{Plain};
 ghost use Rattle.um_words.specs.Environment.{variables_of};
@@ -15,7 +16,10 @@ use crate::variables::{Variable, value_of, whole_name};
 
 /// How long the word at the front of a value is, and what follows it.
 fn word_len(value: &[u8]) -> (usize, &[u8])
-    ensures { option_map (λ p. (length p.0, p.1)) (read Plain 0 None value.now) ≡ Some (result.0, result.1.now) }
+    requires nonempty { 0 < length value.now }
+    requires nonspace { is_space (slice_index value.now 0) ≡ false }
+    ensures told { option_map {U = ℕ × List ℕ} (λ p. (length p.0, p.1)) (read Plain 0 None value.now) ≡ Some (result.0, result.1.now) }
+    ensures shorter { length result.1.now < length value.now }
 {
     let mut length = 0;
     let mut quote = None;
@@ -23,10 +27,15 @@ fn word_len(value: &[u8]) -> (usize, &[u8])
     while let Some((first, more)) = rest.split_first() {
         match bare(quote, *first) {
             WordFront::Stop => return (length, rest),
-            WordFront::Turn(other) => quote = other,
-            WordFront::Kept(_) | WordFront::Means(_, _) | WordFront::Bad => length += 1,
+            WordFront::Turn(other) => {
+                quote = other;
+                rest = more;
+            }
+            WordFront::Kept(_) | WordFront::Means(_, _) | WordFront::Bad => {
+                length += 1;
+                rest = more;
+            }
         }
-        rest = more;
     }
     (length, rest)
 }

@@ -15,11 +15,11 @@ pub struct Room {
 }
 
 impl Room {
-    /// The room that a text of this length leaves, where it fits. A length that is the last of all may stand for a longer one.
-    pub fn after(self, length: usize) -> Option<Room>
-        ensures { (text : List ℕ) → length ≡ min (length text) (2 ^ 64 - 1) → result ≡ left self (text ∷ []) }
+    /// The room that a text of so many bytes leaves, where it fits. The last number of bytes may stand for more.
+    pub fn after(self, bytes: usize) -> Option<Room>
+        ensures { (text : List ℕ) → bytes ≡ min (length text) (2 ^ 64 - 1) → result ≡ left self (text ∷ []) }
     {
-        let size = u32::try_from(length).ok()?.checked_add(self.beside)?;
+        let size = u32::try_from(bytes).ok()?.checked_add(self.beside)?;
         if size > self.longest {
             return None;
         }
