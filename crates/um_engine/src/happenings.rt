@@ -155,7 +155,8 @@ fn after_report(
     let Some(unit) = process(state.units(), number)? else {
         return Ok((None, Vec::new(alloc)));
     };
-    if !awaits_report(alloc, graph, state, number, &unit)? {
+    let awaits = awaits_report(alloc, graph, state, number, &unit)?;
+    if !awaits {
         return Ok((None, Vec::new(alloc)));
     }
     let event = UnitEvent::Executed;

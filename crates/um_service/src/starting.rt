@@ -59,27 +59,29 @@ fn words_of(
     command: Option<&Command>,
     environment: &[Variable],
 ) -> Result<Vec<String>, AllocError>
-    ensures { IfOk result (λ words. map string_bytes words.items ≡ started_words (variables_of environment.now) (option_map (λ c. command_seen c.now) command)) }
+    ensures { IfOk result (λ words. map string_bytes words.items ≡ started_words (variables_of environment.now) (option_map (λ c. command_seen c.now) command.entry)) }
 {
-    match command {
-        Some(command) if command.substitutes => {
-            substitute(alloc, command.words.as_slice(), environment)
-        }
-        Some(command) => copied(alloc, command.words.as_slice()),
-        None => Ok(Vec::new(alloc)),
+    let Some(command) = command else {
+        return Ok(Vec::new(alloc));
+    };
+    if command.substitutes {
+        substitute(alloc, command.words.as_slice(), environment)
+    } else {
+        copied(alloc, command.words.as_slice())
     }
 }
 
 /// The room that the words leave with which the command is started.
 fn room_after_words(room: Room, command: Option<&Command>, environment: &[Variable]) -> Option<Room>
-    ensures { result ≡ left room (started_words (variables_of environment.now) (option_map (λ c. command_seen c.now) command)) }
+    ensures { result ≡ left room (started_words (variables_of environment.now) (option_map (λ c. command_seen c.now) command.entry)) }
 {
-    match command {
-        Some(command) if command.substitutes => {
-            room_after(room, command.words.as_slice(), environment)
-        }
-        Some(command) => room.after_texts(command.words.as_slice()),
-        None => Some(room),
+    let Some(command) = command else {
+        return Some(room);
+    };
+    if command.substitutes {
+        room_after(room, command.words.as_slice(), environment)
+    } else {
+        room.after_texts(command.words.as_slice())
     }
 }
 
