@@ -1,8 +1,7 @@
-ghost use Rattle.std.specs.Prelude.{◌≡◌, ◌⊎◌, [], true, false, None, Ok, IfOk, OnOk};
+ghost use Rattle.std.specs.Prelude.{◌≡◌, ◌⊎◌, [], true, false, None, Ok, IfOk};
 ghost use Rattle.std.proofs.lemmas.Bool.{false≢true};
 ghost use Rattle.um_children.specs.History.{is_absent};
 ghost use Rattle.um_children.specs.Faults.{CountsFault};
-ghost use Rattle.um_service.specs.Started.{is_too_long};
 
 use crate::children::Children;
 use crate::commands::{signal_command, start_command};
@@ -164,13 +163,7 @@ impl<'a, R: Files + Processes + Clock> RunnerDir<'a, R> {
         answer
     }
 
-    /// Starts the runner for an order. One that is too long is refused before its words are put together.
-    fn start(&self, order: &SpawnOrder) -> Result<(), ChildFault>
-        ensures bound { OnOk result (is_too_long order.now.words order.now.environment ≡ false) }
-    {
-        if order.is_too_long() {
-            return Err(ChildFault::TooLong);
-        }
+    fn start(&self, order: &SpawnOrder) -> Result<(), ChildFault> {
         let (program, folder) = (self.program.as_str(), self.folder.as_str());
         let command = start_command(self.alloc, program, folder, order)?;
         if has_run(self.rt, command)? {
@@ -353,6 +346,9 @@ impl<'a, R: Files + Processes + Clock> Children for RunnerDir<'a, R> {
 
     fn spawn(&mut self, order: SpawnOrder) -> Result<(), ChildFault> {
         self.is_restless = true;
+        if order.is_too_long() {
+            return Err(ChildFault::TooLong);
+        }
         let answer = self.start(&order);
         self.count(answer)
     }
