@@ -1,5 +1,6 @@
 ghost use Rattle.std.specs.Prelude.{◌≡◌, [], map, string_bytes, false, IfOk, IsTrue, length, unwrap_or, ◌≤◌};
 ghost use Rattle.serde_json.specs.Data.{array};
+ghost use Rattle.std.specs.List.{flat_map};
 ghost use Rattle.serde_json.specs.View.{view, items_of};
 ghost use Rattle.serde_json.specs.Written.{compact_text};
 ghost use Rattle.um_model.specs.Machine.{Told};
@@ -273,19 +274,25 @@ fn room_after(room: Room, action: &Action) -> Option<Room>
     }
 }
 
+/// The room that the words of these actions leave.
+fn room_after_all(room: Room, actions: &[Action]) -> Option<Room>
+    ensures { result ≡ left room (flat_map words_told (map action_of actions.now)) }
+{
+    let mut free = room;
+    for action in actions {
+        free = room_after(free, action)?;
+    }
+    Some(free)
+}
+
 /// Whether the words of the starts alone make a reply too long that tells these actions. They are not put together.
 fn are_too_long(actions: &[Action]) -> bool
     ensures { IsTrue result → model.is_told_whole (Told (map action_of actions.now)) ≡ false }
 {
-    let room = room_of_words();
-    let mut free = room;
-    for action in actions {
-        match room_after(free, action) {
-            Some(left) => free = left,
-            None => return true,
-        }
+    match room_after_all(room_of_words(), actions) {
+        Some(_) => false,
+        None => true,
     }
-    false
 }
 
 /// Whether the reply is too long by what can be seen without writing it.
