@@ -7,6 +7,9 @@ use Rattle.um_model.specs.Service.{state_of_unit}
 use Rattle.um_unit.specs.ServiceView.{service_settings_of}
 use Rattle.um_falling.proofs.carrying.change.Goals as goal
 
+pub in_graph-acting-requires : goal.in_graph-acting-requires
+in_graph-acting-requires c = ap service_settings_of c.in_ok-defaults.ensures.ok ∙ c.new.ensures
+
 pub returns-clause-changes : goal.returns-clause-changes
 returns-clause-changes c = λ serves known.
     let acting = c.in_graph-acting.ensures (state_of c.args.state.now) serves known in
