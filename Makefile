@@ -1,4 +1,5 @@
-# make run: shows the program's main job; where no proved program stands, one is built without its proofs (some two minutes).
+# What run, test and umd need and take: README.md, "Quick start".
+# make run: shows the program's main job; where no proved program stands, one is built without its proofs.
 # make unproved: builds a program without its proofs, out/unproved/umd.
 # make umd: builds the proved program, crates/umd/out/umd, and tells crate by crate how far it is.
 # make test: the whole gate. Plays the rows with real processes, sockets and files against a program built without its proofs; then proves
@@ -6,8 +7,8 @@
 # make edits NAME ..: tries the further edits of these crates, which stand in edits/NAME; with no name those of every crate.
 # make runner-rows: plays the rows of a runner against the proved program, with real processes.
 # make serve-rows: plays the rows of a served store against the proved program, with real processes, sockets and files.
-# make ctl-rows: plays the rows of the command line against the proved program: create and ctl, their faults, statuses and what is printed.
-# make memory-rows: lets each single allocation of a manager in memory fail in turn, and asserts that nothing changes (three minutes; it needs cc).
+# make ctl-rows: plays the rows of the command line against the proved program: create and ctl, their faults, statuses, help and what is printed.
+# make memory-rows: lets each single allocation of a manager in memory fail in turn, and asserts that nothing changes (it needs cc).
 # make bench: measures the proved program, and the writing and reading of states (um_bench); the figures that a document calls
 # measured come from it.
 .PHONY: run umd unproved test edits bench runner-rows serve-rows ctl-rows memory-rows

@@ -77,6 +77,7 @@ fn shown(
 }
 
 /// How the unit stands that counts for the name that was asked for.
+#[tactic(auto, using(um_model::proofs::OwnNameLaws::named_by_loading))]
 fn show(alloc: Global, state: &State, asked: &UnitName) -> Result<Reply, AllocError>
     ensures { IfOk result (λ reply. reply_of reply
         ≡ model.Shown (model.shown_of asked.now (load_in (state_of state.now).loaded asked.now) (model.state_asked (state_of state.now) asked.now))) }
@@ -87,6 +88,7 @@ fn show(alloc: Global, state: &State, asked: &UnitName) -> Result<Reply, AllocEr
 }
 
 /// The active state of that unit.
+#[tactic(auto, using(um_model::proofs::OwnNameLaws::named_by_loading))]
 fn activity(alloc: Global, state: &State, asked: &UnitName) -> Result<Reply, AllocError>
     ensures { IfOk result (λ reply. reply_of reply ≡ model.Activity (active_state_of (model.state_asked (state_of state.now) asked.now).sub)) }
 {

@@ -2,7 +2,7 @@
 
 ghost use Rattle.std.specs.Prelude.{◌≡◌, string_bytes, IfOk, Contains};
 ghost use Rattle.um_answer.specs.Loaded.{Loads, is_found};
-ghost use Rattle.um_model.specs.Units.{load as load_in, name_in};
+ghost use Rattle.um_model.specs.Units.{load as load_in, name_in, unit_named};
 ghost use Rattle.um_unit.specs.View.{loading_of};
 
 use std::alloc::{AllocError, Global};
@@ -66,13 +66,14 @@ impl Asked {
     }
 
     /// What the name leads to in the tree. Of a name that the tree's graph knows no file is read.
+    #[tactic(auto, using(um_model::proofs::OwnNameLaws::named_by_loading))]
     pub fn of(
         alloc: Global,
         graph: &Graph,
         tree: &Tree,
         asked: &UnitName,
     ) -> Result<Asked, AllocError>
-        ensures unit { Loads graph.now tree.now → IfOk result (λ a. a.unit ≡ name_in asked.now (load_in tree.now asked.now)) }
+        ensures unit { Loads graph.now tree.now → IfOk result (λ a. a.unit ≡ unit_named tree.now asked.now) }
         ensures found { Loads graph.now tree.now → IfOk result (λ a. a.is_found ≡ is_found (load_in tree.now asked.now)) }
     {
         if let Some(unit) = graph.number(asked) {

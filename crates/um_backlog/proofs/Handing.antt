@@ -5,7 +5,7 @@ use Rattle.um_backlog.specs.Backlog.{Waits, given_up, is_given_up, most_waiting,
 use Rattle.um_gate.specs.Events.{Event, dropped, wrote, Logs}
 
 -- something is left
-pub some_left : (is_last : Bool) (left : List ℕ) (n : ℕ) → n ≢ 0 → length left ≡ n → nat_lt 4194304 n ≡ is_given_up is_last left
+pub some_left : (is_last : Bool) (left : List ℕ) (n : ℕ) → n ≢ 0 → length left ≡ n → nat_lt 67108864 n ≡ is_given_up is_last left
 some_left is_last [] n some is = absurd (some (sym is))
 some_left is_last (b ∷ bs) n some is = ap (λ k. nat_lt most_waiting k) (sym is)
 

@@ -23,9 +23,22 @@ gone None = None
 abbrev pub given_up : Waits
 given_up = record { bytes = []; is_last = true; is_over = true }
 
--- so many bytes wait for a client at most: 4 MiB
+-- while more bytes than that wait for a client nothing is read of it: 4 MiB
+abbrev pub most_unread : ℕ
+most_unread = 4194304
+
+-- it has fallen behind: nothing is read of it until it has taken more of what waits
+abbrev pub is_behind : Waits → Bool
+is_behind waits = nat_lt most_unread (length waits.bytes)
+
+-- the same in a backlog; there is no client past the last one
+abbrev pub is_behind_at : Option Waits → Bool
+is_behind_at (Some waits) = is_behind waits
+is_behind_at None = false
+
+-- so many bytes wait for a client at most: 64 MiB
 abbrev pub most_waiting : ℕ
-most_waiting = 4194304
+most_waiting = 67108864
 
 -- a client is given up for which more than that waits, or nothing does and nothing comes any more
 abbrev pub is_given_up : Bool → List ℕ → Bool

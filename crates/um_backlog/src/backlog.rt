@@ -1,5 +1,5 @@
 ghost use Rattle.std.specs.Prelude.{◌≡◌, ◌≢◌, ℕ, List, length, replicate, slice_get, IsTrue, IfOk};
-ghost use Rattle.um_backlog.specs.Backlog.{Waits, nothing, gone, HandsAt};
+ghost use Rattle.um_backlog.specs.Backlog.{Waits, nothing, gone, is_behind_at, HandsAt};
 ghost use Rattle.um_gate.specs.Events.{Event, Logs};
 
 use crate::waiting::Waiting;
@@ -40,6 +40,16 @@ impl Backlog {
     {
         if number < CONNECTIONS {
             self.waiting[number].forget();
+        }
+    }
+
+    /// Whether more than 4 MiB wait for a client, so that nothing is to be read of it.
+    pub fn is_behind(&self, number: usize) -> bool
+        ensures { result ≡ is_behind_at (slice_get self.now number) }
+    {
+        match self.waiting.get(number) {
+            Some(waiting) => waiting.is_behind(),
+            None => false,
         }
     }
 

@@ -1,5 +1,5 @@
 ghost use Rattle.std.specs.Prelude.{◌≡◌, ◌≤◌, ◌++◌, ◌∷◌, [], List, ℕ, drop, take, length, true, false, IsTrue, OnErr, OnOk, ◌≢◌};
-ghost use Rattle.um_backlog.specs.Backlog.{Waits, nothing, given_up, is_given_up, writes, Hands};
+ghost use Rattle.um_backlog.specs.Backlog.{Waits, nothing, given_up, is_behind, is_given_up, writes, Hands};
 ghost use Rattle.um_gate.specs.Events.{Event, dropped, Logs};
 
 use std::alloc::{AllocError, Global};
@@ -7,11 +7,18 @@ use std::marker::Model;
 use um_gate::Gate;
 
 /// More than so many bytes wait for nobody: then the connection is given up.
-const MOST_WAITING: usize = 4 << 20;
+const MOST_WAITING: usize = 64 << 20;
+
+/// While more than so many bytes wait for a client, nothing is read of it.
+const MOST_UNREAD: usize = 4 << 20;
+
+/// Room past so many bytes is given back once nothing waits in it.
+const KEPT_ROOM: usize = 64 << 10;
 
 /// What waits for one client.
 #[derive(Drop)]
 pub struct Waiting {
+    alloc: Global,
     bytes: Vec<u8>,
     /// So many of them are taken.
     at: usize,
@@ -35,6 +42,7 @@ impl Waiting {
         ensures { result ≡ nothing }
     {
         Waiting {
+            alloc,
             bytes: Vec::new(alloc),
             at: 0,
             is_last: false,
@@ -46,13 +54,34 @@ impl Waiting {
     pub fn forget(&mut self)
         ensures { self.new ≡ nothing }
     {
-        self.bytes.clear();
-        self.at = 0;
+        self.clear();
         self.is_last = false;
         self.is_over = false;
     }
 
-    /// Bytes come behind those that wait; where they find no memory none of them does. What is taken gives its place back.
+    /// Nothing waits any more. Much room is given back.
+    fn clear(&mut self)
+        ensures { self.new ≡ record self.old { bytes = [] } }
+    {
+        if self.bytes.capacity() > KEPT_ROOM {
+            self.bytes = Vec::new(self.alloc);
+        } else {
+            self.bytes.clear();
+        }
+        self.at = 0;
+    }
+
+    /// What is taken gives its place back, once it is half of what is held: so no more bytes are moved than were taken.
+    fn pack(&mut self)
+        ensures { self.new ≡ self.old }
+    {
+        if self.at >= self.bytes.len() - self.at {
+            self.bytes.drain(..self.at);
+            self.at = 0;
+        }
+    }
+
+    /// Bytes come behind those that wait; where they find no memory none of them does.
     fn push(&mut self, mut bytes: Vec<u8>) -> Result<(), AllocError>
         ensures ok { OnOk result (self.new ≡ record self.old { bytes = self.old.bytes ++ bytes.items }) }
         ensures err { OnErr result ((self.old.bytes ≢ []) × (bytes.items ≢ [])) }
@@ -66,6 +95,7 @@ impl Waiting {
             self.at = 0;
             return Ok(());
         }
+        self.pack();
         self.bytes.append(&mut bytes)
     }
 
@@ -77,8 +107,7 @@ impl Waiting {
         ensures honest { G.honest gate.new ≡ G.honest gate.old }
     {
         gate.drop_connection(number);
-        self.bytes.clear();
-        self.at = 0;
+        self.clear();
         self.is_last = true;
         self.is_over = true;
     }
@@ -97,6 +126,13 @@ impl Waiting {
         }
     }
 
+    /// Whether too much waits for its client to read more of it.
+    pub fn is_behind(&self) -> bool
+        ensures { result ≡ is_behind self.now }
+    {
+        self.bytes.len() - self.at > MOST_UNREAD
+    }
+
     /// Whether its client is to be given up now.
     fn is_done(&self) -> bool
         ensures { result ≡ is_given_up self.now.is_last self.now.bytes }
@@ -106,6 +142,15 @@ impl Waiting {
             self.is_last
         } else {
             left > MOST_WAITING
+        }
+    }
+
+    /// Where nothing waits any more, much room is given back.
+    fn settle(&mut self)
+        ensures { self.new ≡ self.old }
+    {
+        if self.bytes.len() - self.at == 0 {
+            self.clear();
         }
     }
 
@@ -131,6 +176,8 @@ impl Waiting {
         self.write(gate, number);
         if self.is_done() {
             self.give_up(gate, number);
+            return;
         }
+        self.settle();
     }
 }

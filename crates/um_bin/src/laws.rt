@@ -1,7 +1,7 @@
 ghost use Rattle.std.specs.Prelude.{◌≡◌, ℕ, List};
-ghost use Rattle.um_model.proofs.FramesLaws.{AreAlikeBut};
 ghost use Rattle.um_model.specs.Frames.{IsStream, Serves};
 ghost use Rattle.um_model.specs.Machine.{State};
+ghost use Rattle.um_model.specs.Outcomes.{AreAlikeBut};
 ghost use Rattle.um_model.specs.Service.{Action};
 ghost use Rattle.um_model.specs.declared.frames.Ending as ending;
 

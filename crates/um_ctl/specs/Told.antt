@@ -12,6 +12,7 @@ use Rattle.um_model.specs.Requests.{is_among}
 use Rattle.um_model.specs.declared.refusals.Limit.TheVariants.{Text}
 use Rattle.um_model.specs.declared.requests.Verb.{Verb}
 use Rattle.um_model.specs.declared.requests.Verb.TheVariants as verb
+use Rattle.um_ctl.specs.Shown.{shown}
 
 -- what goes to standard output, what to standard error, and the exit status
 pub record Told : Type 0 where
@@ -35,9 +36,9 @@ spaced text = 32 ∷ text
 abbrev pub refusal_text : Refused → List ℕ
 refusal_text r = codes "E" ++ (decimal r.number ++ (spaced r.name ++ flat_map spaced r.detail))
 
--- a refusal on standard error
+-- a refusal on standard error, one line whatever its details
 abbrev pub refused_told : Refused → Told
-refused_told r = record { output = []; error = line (refusal_text r); status = 1 }
+refused_told r = record { output = []; error = line (shown (refusal_text r)); status = 1 }
 
 -- a refusal of each number; their details don't matter
 abbrev pub all_refused : List Refused

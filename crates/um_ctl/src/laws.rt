@@ -1,4 +1,8 @@
-ghost use Rattle.std.specs.Prelude.{◌≡◌, ◌≤◌, ◌++◌, ℕ, List, Some, length};
+ghost use Rattle.std.specs.Prelude.{◌≡◌, ◌≤◌, ◌++◌, ℕ, List, Some, false, length};
+ghost use Rattle.std.specs.Char.{is_control};
+ghost use Rattle.std.specs.List.{list_any};
+ghost use Rattle.std.specs.Str.{IsUtf8, chars};
+ghost use Rattle.um_ctl.specs.Shown.{shown, shown_chars};
 ghost use Rattle.um_ctl.specs.Streams.{TakesReply};
 ghost use Rattle.um_model.specs.Frames.{frame_of};
 ghost use Rattle.um_model.specs.Replies.{reply_limit};
@@ -8,4 +12,10 @@ ghost use Rattle.um_model.specs.Replies.{reply_limit};
 pub fn a_reply_is_one_frame()
     ensures whole { (reply rest : List ℕ) → length reply ≤ reply_limit → TakesReply (Some (frame_of reply ++ rest)) (Some rest) reply }
     ensures one { (input a b r q : List ℕ) → TakesReply (Some input) (Some r) a → TakesReply (Some input) (Some q) b → (a ≡ b) × (r ≡ q) }
+{}
+
+/// What is shown holds no control character, and a text that holds none is shown as it is.
+pub fn what_is_shown_has_no_control_character()
+    ensures plain { (text : List ℕ) → list_any is_control (shown_chars text) ≡ false }
+    ensures same { (text : List ℕ) → IsUtf8 text → list_any is_control (chars text) ≡ false → shown text ≡ text }
 {}

@@ -2,16 +2,22 @@
 #![tactic(auto)]
 
 mod connection;
+mod escapes;
 mod fault;
+mod help;
 mod laws;
+mod meanings;
 mod reply;
 mod text;
 mod words;
 mod writing;
 
 pub use connection::{ask, exchange, prepare};
+pub use escapes::shown;
 pub use fault::CtlFault;
-pub use laws::a_reply_is_one_frame;
+pub use help::verb_lines;
+pub use laws::{a_reply_is_one_frame, what_is_shown_has_no_control_character};
+pub use meanings::{meaning, meaning_line};
 pub use reply::{Told, told_of};
 pub use text::{FileText, read_text};
 pub use words::Words;

@@ -4,10 +4,12 @@ ghost use Rattle.std.specs.Prelude.{◌≡◌, ◌++◌, true, IfOk, OnOk, codes
 ghost use Rattle.std.specs.List.{list_all};
 ghost use Rattle.serde_json.specs.Find.{get};
 ghost use Rattle.serde_json.specs.View.{view};
+ghost use Rattle.um_ctl.specs.Shown.{shown as shown_of};
 ghost use Rattle.um_ctl.specs.Told as model;
 ghost use Rattle.um_ctl.specs.View.{told_view};
 ghost use Rattle.um_model.specs.Refusals.{refused as refused_of};
 
+use crate::escapes::shown;
 use serde_json::Value;
 use std::alloc::{AllocError, Global};
 use um_proto::Verb;
@@ -24,7 +26,7 @@ pub struct Told {
 }
 
 /// The name of the refusal of this number.
-fn name_of(number: u64) -> Option<&'static str>
+pub(crate) fn name_of(number: u64) -> Option<&'static str>
     ensures { option_map (λ s. s.now) result ≡ model.name_of number }
 {
     let name = match number {
@@ -115,16 +117,25 @@ fn refused_in(reply: &Value) -> Option<Refused<'_>>
     })
 }
 
-/// The line of a refusal.
-fn refusal_line(alloc: Global, refused: Refused<'_>) -> Result<String, AllocError>
-    ensures { IfOk result (λ s. string_bytes s ≡ model.line (model.refusal_text (refused_of refused.entry.number refused.entry.name.now (model.texts_in (map view refused.entry.details.now))))) }
+/// How a refusal is written: `E4 NotFound b.service`.
+fn refusal_text(alloc: Global, refused: Refused<'_>) -> Result<String, AllocError>
+    ensures { IfOk result (λ s. string_bytes s ≡ model.refusal_text (refused_of refused.entry.number refused.entry.name.now (model.texts_in (map view refused.entry.details.now)))) }
 {
     let digits = refused.number.to_string(alloc)?;
-    let mut line = String::from_str(alloc, "E")?;
-    line.push_str(digits.as_str())?;
-    line.push_str(" ")?;
-    line.push_str(refused.name)?;
-    add_details(&mut line, refused.details)?;
+    let mut text = String::from_str(alloc, "E")?;
+    text.push_str(digits.as_str())?;
+    text.push_str(" ")?;
+    text.push_str(refused.name)?;
+    add_details(&mut text, refused.details)?;
+    Ok(text)
+}
+
+/// The line of a refusal.
+fn refusal_line(alloc: Global, refused: Refused<'_>) -> Result<String, AllocError>
+    ensures { IfOk result (λ s. string_bytes s ≡ model.line (shown_of (model.refusal_text (refused_of refused.entry.number refused.entry.name.now (model.texts_in (map view refused.entry.details.now)))))) }
+{
+    let text = refusal_text(alloc, refused)?;
+    let mut line = shown(alloc, text.as_str())?;
     line.push_str("\n")?;
     Ok(line)
 }

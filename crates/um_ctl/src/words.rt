@@ -16,7 +16,7 @@ pub struct Words<'a> {
 }
 
 /// Whether an argument tells the field: neither the text nor the mode.
-fn is_argument(name: &str) -> bool
+pub(crate) fn is_argument(name: &str) -> bool
     ensures { result ≡ model.is_argument name.now }
 {
     name != "text" && name != "mode"
@@ -60,7 +60,7 @@ pub(crate) fn argument_names(alloc: Global, verb: Verb) -> Result<Vec<&'static s
     with_argument_names(names, row.optional)
 }
 
-fn is_among(text: &str, texts: &[&str]) -> bool
+pub(crate) fn is_among(text: &str, texts: &[&str]) -> bool
     ensures { result ≡ is_among_texts text.now (map (λ s. s.now) texts.now) }
 {
     texts.iter().any(|other| text == *other)

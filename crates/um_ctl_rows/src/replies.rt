@@ -94,6 +94,13 @@ const TOLD: &[(Verb, &str, &str, &str, u8)] = &[
     ),
     (
         Verb::Start,
+        "{\"detail\":[\"a\\nE4\",\"\\u001b\\u007f\\u0085\\u00e4\\\\\"],\"error\":3,\"ok\":false}",
+        "",
+        "E3 BadName a\\x0aE4 \\x1b\\x7f\\xc2\\x85\u{e4}\\\n",
+        1,
+    ),
+    (
+        Verb::Start,
         "{\"detail\":[],\"error\":15,\"ok\":false}",
         "",
         "E15 NoMemory\n",

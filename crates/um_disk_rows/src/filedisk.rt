@@ -2,11 +2,12 @@
 use crate::answers::{fails, same, same_at};
 use crate::marks::marked_byte;
 use std::fs::{File, Files, OpenOptions};
+use std::os::unix::fs::MetadataExt;
 use std::path::PathBuf;
 use std::process::Abort;
 use std::test::Fail;
 use std::{env, fs, process};
-use um_filedisk::{FileDisk, FileFault};
+use um_filedisk::{DirectoryLock, FileDisk, FileFault, is_same_place};
 use um_sector::{Disk, Sector};
 
 /// A place for a test's file, free of what an earlier process left there.
@@ -19,7 +20,7 @@ fn place(rt: &HostRuntime, name: &str) -> Result<PathBuf, Fail> {
 }
 
 /// The first byte of a sector, where a read answers Ok.
-fn first_byte(disk: &mut FileDisk, k: usize) -> Option<u8> {
+fn first_byte<D: Disk>(disk: &mut D, k: usize) -> Option<u8> {
     let mut sector: Sector = [255; 512];
     match disk.read(k, &mut sector) {
         Ok(()) => Some(sector[0]),
@@ -28,9 +29,9 @@ fn first_byte(disk: &mut FileDisk, k: usize) -> Option<u8> {
 }
 
 /// What the fault says; None where there is none.
-fn said(
+fn said<D: Drop>(
     rt: &(impl AllocGlobal + Files<File = File> + Abort),
-    answer: Result<FileDisk, FileFault>,
+    answer: Result<D, FileFault>,
 ) -> Option<String> {
     match answer {
         Ok(_) => None,
@@ -39,9 +40,9 @@ fn said(
 }
 
 /// Asserts that the fault says this; None: that there is none.
-fn says(
+fn says<D: Drop>(
     rt: &(impl AllocGlobal + Files<File = File> + Abort),
-    answer: Result<FileDisk, FileFault>,
+    answer: Result<D, FileFault>,
     wanted: Option<&str>,
 ) {
     let said = said(rt, answer);
@@ -125,7 +126,7 @@ fn a_file_is_not_made_where_something_stands(rt: HostRuntime) -> Result<(), Fail
 }
 
 #[test]
-fn a_file_that_is_too_long_is_not_left_behind(rt: HostRuntime) -> Result<(), Fail> {
+fn a_file_that_is_too_long_is_not_made(rt: HostRuntime) -> Result<(), Fail> {
     let path = place(&rt, "long")?;
     let large = FileDisk::create(&rt, path.as_str(), 1 << 54);
     says(&rt, large, Some("no file can hold so many sectors"));
@@ -134,16 +135,6 @@ fn a_file_that_is_too_long_is_not_left_behind(rt: HostRuntime) -> Result<(), Fai
         fs::exists(&rt, &path).expect(&rt, "not looked at"),
         false,
     );
-    // few file systems hold a file so long: a new one that doesn't get its length is removed again
-    if FileDisk::create(&rt, path.as_str(), (1 << 54) - 1).is_err() {
-        same(
-            &rt,
-            fs::exists(&rt, &path).expect(&rt, "not looked at"),
-            false,
-        );
-    } else {
-        fs::remove_file(&rt, &path).expect(&rt, "not removed");
-    }
     Ok(())
 }
 
@@ -196,5 +187,87 @@ fn a_part_of_a_sector_is_none(rt: HostRuntime) -> Result<(), Fail> {
     same(&rt, (disk.calls(), disk.failures()), (5, 3));
     drop(disk);
     fs::remove_file(&rt, &path).expect(&rt, "not removed");
+    Ok(())
+}
+
+/// Asserts that neither a write nor a sync is done.
+fn takes_nothing<D: Disk>(rt: &(impl AllocGlobal + Abort), disk: &mut D) {
+    fails(rt, disk.write(0, &marked()));
+    fails(rt, disk.sync());
+}
+
+#[test]
+fn a_file_that_is_gone_takes_nothing(rt: HostRuntime) -> Result<(), Fail> {
+    let path = place(&rt, "gone")?;
+    let moved = place(&rt, "moved")?;
+    let mut disk = FileDisk::create(&rt, path.as_str(), 2).expect(&rt, "no disk");
+    disk.write(0, &marked()).expect(&rt, "not written");
+    // moved away, with another file in its place
+    fs::rename(&rt, &path, &moved).expect(&rt, "not moved");
+    takes_nothing(&rt, &mut disk);
+    fs::write(&rt, &path, [0; 1024]).expect(&rt, "not written");
+    takes_nothing(&rt, &mut disk);
+    // and back
+    fs::rename(&rt, &moved, &path).expect(&rt, "not moved");
+    disk.sync().expect(&rt, "not synced");
+    // a sector shorter
+    let mut options = OpenOptions::new();
+    let file = options.write(true).open(&rt, &path).expect(&rt, "no file");
+    file.set_len(1023).expect(&rt, "not cut");
+    takes_nothing(&rt, &mut disk);
+    same(&rt, (disk.calls(), disk.failures()), (8, 6));
+    drop(disk);
+    fs::remove_file(&rt, &path).expect(&rt, "not removed");
+    Ok(())
+}
+
+#[test]
+fn a_new_file_is_its_owners_alone_and_has_no_hole(rt: HostRuntime) -> Result<(), Fail> {
+    let path = place(&rt, "mode")?;
+    let disk = FileDisk::create(&rt, path.as_str(), 9).expect(&rt, "no disk");
+    let about = fs::metadata(&rt, &path).expect(&rt, "no file");
+    same(&rt, about.mode() & 0o777, 0o600);
+    same(&rt, about.len(), 4608);
+    // blocks of 512 bytes, whatever those of the file system are
+    assert!(rt; about.blocks() >= 9, "{}", about.blocks());
+    drop(disk);
+    fs::remove_file(&rt, &path).expect(&rt, "not removed");
+    Ok(())
+}
+
+#[test]
+fn two_paths_name_one_place(rt: HostRuntime) -> Result<(), Fail> {
+    let path = place(&rt, "one")?;
+    let other = place(&rt, "other")?;
+    let folder = env::temp_dir(&rt).expect(&rt, "no folder");
+    let number = process::id(rt.process());
+    let name = format!(in rt.alloc(); "{}/./um_filedisk.{number}.one", folder.as_str())?;
+    // nothing stands there: the same name in the same folder
+    same(&rt, is_same_place(&rt, path.as_str(), name.as_str()), true);
+    same(
+        &rt,
+        is_same_place(&rt, path.as_str(), other.as_str()),
+        false,
+    );
+    // two names of one file
+    fs::write(&rt, &path, "a").expect(&rt, "not written");
+    fs::hard_link(&rt, &path, &other).expect(&rt, "not linked");
+    same(&rt, is_same_place(&rt, path.as_str(), other.as_str()), true);
+    fs::remove_file(&rt, &path).expect(&rt, "not removed");
+    fs::remove_file(&rt, &other).expect(&rt, "not removed");
+    Ok(())
+}
+
+#[test]
+fn a_directory_is_locked_once(rt: HostRuntime) -> Result<(), Fail> {
+    let path = place(&rt, "folder")?;
+    fs::create_dir(&rt, &path).expect(&rt, "not made");
+    let lock = DirectoryLock::take(&rt, path.as_str()).expect(&rt, "not locked");
+    let wanted = Some("the file is in use");
+    says(&rt, DirectoryLock::take(&rt, path.as_str()), wanted);
+    drop(lock);
+    says(&rt, DirectoryLock::take(&rt, path.as_str()), None);
+    fs::remove_dir(&rt, &path).expect(&rt, "not removed");
+    says(&rt, DirectoryLock::take(&rt, path.as_str()), Some(ABSENT));
     Ok(())
 }

@@ -9,9 +9,12 @@ use Rattle.std.proofs.lemmas.Bool.{and_parts}
 use Rattle.std.proofs.lemmas.Bool.Decides.{Decides-eqb}
 use Rattle.um_model.proofs.KeepsLaws.{fires_keeps, same_state}
 use Rattle.um_model.proofs.MachineLaws.{boot_has_effect, one_process, tick_has_effect}
-use Rattle.um_model.specs.Ends.{is_starting, has_one_command}
-use Rattle.um_model.specs.Machine.{State, ProcessEnded, ProcessExecuted, Tick, Booted, IsProcessOf, IsOver, AwaitsReport, settings_in, booted, end_of, Happens, Follows, ends, reports, ticks, boots, HasNoEffect, is_idle, isnt_awaited, is_known}
+use Rattle.um_model.proofs.SettleLaws.{a_deadline_map}
+use Rattle.um_model.specs.Ends.{waits_for_report, has_one_command}
+use Rattle.um_model.specs.Machine.{State, ProcessEnded, ProcessExecuted, Tick, Booted, IsProcessOf, IsOver, AreDeadlines, none_due, AwaitsReport, settings_in, booted, end_of, Happens, Follows, ends, reports, ticks, boots, HasNoEffect, is_idle, isnt_awaited, is_known}
 use Rattle.um_model.specs.Service.{Action, is_number, state_of_unit}
+use Rattle.um_model.specs.Timers.{Timers}
+use Rattle.um_state.specs.Due.{NoneDue}
 use Rattle.um_model.specs.declared.service.End.{End}
 use Rattle.um_model.specs.declared.transition.UnitEvent.{UnitEvent}
 use Rattle.um_model.specs.declared.transition.UnitEvent.TheVariants.{Executed}
@@ -71,7 +74,7 @@ number_is : (number : ℕ) (o : Option ℕ) → o ≡ Some number → is_number 
 number_is number o e = ap (is_number number) e ∙ (Decides-eqb number number).1 refl
 
 -- whether the unit waits for the report, by what it is asked of
-pub report_decided : (s : State) (number : ℕ) (unit : List ℕ) (starts asked is : Bool) → starts ≡ is_starting (state_of_unit s.units unit).sub
+pub report_decided : (s : State) (number : ℕ) (unit : List ℕ) (starts asked is : Bool) → starts ≡ waits_for_report (state_of_unit s.units unit).sub
     → asked ≡ has_one_command (settings_in s.loaded unit).kind → is ≡ is_number number (state_of_unit s.units unit).main
     → Decides (starts && asked && is) (AwaitsReport s number unit)
 report_decided s number unit starts asked is e f g = (told, tells)
@@ -97,6 +100,13 @@ tick_follows t s copy v none all same e fires =
 -- a tick that asked for nothing and left units, jobs and the next number has no effect
 pub tick_idle : (t : ℕ) (s copy v : State) (none all : List Action) → copy ≡ s → none ≡ [] → Adds (Follows t copy Tick) none v all → all ≡ [] → IsSame s v → HasNoEffect t s Tick
 tick_idle t s copy v none all same e fires nothing stays = tick_is_idle t s v all (tick_follows t s copy v none all same e fires) nothing stays
+
+-- a tick at which no deadline is due has no effect
+pub none_due_idle : (t : ℕ) (s : State) → NoneDue t s.units → HasNoEffect t s Tick
+none_due_idle t s none = by (a_deadline_map s.units)
+  where
+    by : (timers : Timers) × AreDeadlines s.units timers → HasNoEffect t s Tick
+    by (timers, are) = is_idle (ticks timers are (none_due (λ deadline unit is. none unit deadline (sym (are unit) ∙ is))))
 
 -- a graph that serves for a state serves for its copy
 pub serves_copy : (g : GraphView) (s copy : State) → copy ≡ s → Serves g s → Serves g copy

@@ -175,7 +175,7 @@ impl Engine {
         }
     }
 
-    /// TakesEffect a step that this engine planned in the state in which it stands. It takes no memory and always succeeds.
+    /// Takes a step that this engine planned in the state in which it stands. It takes no memory and always succeeds.
     pub fn commit(&mut self, next: Next) -> (Reply, Vec<Action>, Back)
         ensures state { state_in self.new ≡ state_after next (state_in self.old) }
         ensures size { size_in self.new ≡ size_in self.old }
@@ -201,7 +201,7 @@ impl Engine {
         )
     }
 
-    /// TakesEffect the step back that the last commit of this engine took. It takes no memory and always succeeds.
+    /// Takes back the step that the last commit of this engine took. It takes no memory and always succeeds.
     pub fn back(&mut self, back: Back)
         ensures state { state_in self.new ≡ state_before back (state_in self.old) }
         ensures size { size_in self.new ≡ size_in self.old }

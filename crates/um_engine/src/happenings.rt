@@ -1,11 +1,11 @@
 //! What follows from what happens.
 
 ghost use Rattle.std.specs.Bool.{Decides};
-ghost use Rattle.std.specs.Prelude.{◌≡◌, ◌↔◌, ◌&&◌, ℕ, List, [], Contains, map, option_map, IsTrue, IfOk, IfSome, MatchOption};
+ghost use Rattle.std.specs.Prelude.{◌≡◌, ◌↔◌, ◌&&◌, ℕ, List, [], Contains, map, option_map, IsTrue, IfOk, IfSome};
 ghost use Rattle.um_engine.specs.Engine.{FollowsUpon, Met, MetBy, IsSame};
 ghost use Rattle.um_engine.specs.Known.{KnowsFor};
 ghost use Rattle.um_falling.specs.Over.{Serves};
-ghost use Rattle.um_model.specs.Ends.{is_starting, has_one_command};
+ghost use Rattle.um_model.specs.Ends.{waits_for_report, has_one_command};
 ghost use Rattle.um_model.specs.Servable.{IsFew};
 ghost use Rattle.um_model.specs.Machine as model;
 ghost use Rattle.um_model.specs.Service.{is_number};
@@ -20,7 +20,7 @@ use um_graph::Graph;
 use um_model::{End, Moment, ProcessNumber, SubState, UnitEvent, UnitKind, UnitState};
 use um_name::UnitName;
 use um_service::has_one_command;
-use um_state::{Action, BootId, Happening, State, Units};
+use um_state::{Action, BootId, Happening, State};
 use um_unit::ServiceSettings;
 use um_wire::Refusal;
 
@@ -31,16 +31,6 @@ fn end_of(state: UnitState, number: u64, end: End) -> UnitEvent
     match state.main {
         Some(main) if main.get() == number => UnitEvent::MainEnds(end),
         _ => UnitEvent::ControlEnds(end),
-    }
-}
-
-/// The unit of a live process, by a name of its own.
-fn process(units: &Units, number: u64) -> Result<Option<UnitName>, AllocError>
-    ensures { IfOk result (λ found. MatchOption found (model.IsOver units.now number) (λ unit. model.IsProcessOf units.now number unit)) }
-{
-    match units.process(number) {
-        Some(unit) => Ok(Some(unit.copy()?)),
-        None => Ok(None),
     }
 }
 
@@ -91,16 +81,17 @@ fn after_end(
     ensures met { IfOk result (λ met. Serves graph.now (state_of state.now) → Met moment (state_of state.now) (model.ProcessEnded number end) met.0 (map action_of met.1.items)) }
     ensures serves { IfOk result (λ met. Serves graph.now (state_of state.now) → IfSome met.0 (λ after. Serves graph.now (state_of after))) }
 {
-    let Some(unit) = process(state.units(), number)? else {
-        return Ok((None, Vec::new(alloc)));
+    let unit = match state.units().process(number) {
+        Some(unit) => unit,
+        None => return Ok((None, Vec::new(alloc))),
     };
-    let event = end_of(state.units().get(&unit), number, end);
-    let (after, actions) = after_happening(alloc, graph, state, moment, &unit, event)?;
+    let event = end_of(state.units().get(unit), number, end);
+    let (after, actions) = after_happening(alloc, graph, state, moment, unit, event)?;
     Ok((Some(after), actions))
 }
 
-fn is_starting(sub: SubState) -> bool
-    ensures { result ≡ is_starting sub }
+fn waits_for_report(sub: SubState) -> bool
+    ensures { result ≡ waits_for_report sub }
 {
     matches!(sub, SubState::Start)
 }
@@ -118,9 +109,9 @@ fn is_number(number: u64, process: Option<ProcessNumber>) -> bool
 /// Whether a unit of this kind that stands so waits for the report that the program of its main process runs, and that process has
 /// the number.
 fn awaits(stands: UnitState, kind: UnitKind, number: u64) -> bool
-    ensures { result ≡ (is_starting stands.sub && has_one_command kind && is_number number stands.main) }
+    ensures { result ≡ (waits_for_report stands.sub && has_one_command kind && is_number number stands.main) }
 {
-    is_starting(stands.sub) && has_one_command(kind) && is_number(number, stands.main)
+    waits_for_report(stands.sub) && has_one_command(kind) && is_number(number, stands.main)
 }
 
 /// Whether the unit, one of the graph, waits for the report that the program of its main process runs, and that process has the
@@ -145,18 +136,20 @@ fn after_report(
     ensures met { IfOk result (λ met. Serves graph.now (state_of state.now) → Met moment (state_of state.now) (model.ProcessExecuted number) met.0 (map action_of met.1.items)) }
     ensures serves { IfOk result (λ met. Serves graph.now (state_of state.now) → IfSome met.0 (λ after. Serves graph.now (state_of after))) }
 {
-    let Some(unit) = process(state.units(), number)? else {
-        return Ok((None, Vec::new(alloc)));
+    let unit = match state.units().process(number) {
+        Some(unit) => unit,
+        None => return Ok((None, Vec::new(alloc))),
     };
-    if !awaits_report(alloc, graph, state, number, &unit) {
+    if !awaits_report(alloc, graph, state, number, unit) {
         return Ok((None, Vec::new(alloc)));
     }
     let event = UnitEvent::Executed;
-    let (after, actions) = after_happening(alloc, graph, state, moment, &unit, event)?;
+    let (after, actions) = after_happening(alloc, graph, state, moment, unit, event)?;
     Ok((Some(after), actions))
 }
 
-/// The state after a tick; none where it changed nothing and asked for nothing.
+/// The state after a tick; none where it changed nothing and asked for nothing. Where no deadline is due that is so, and nothing is
+/// copied.
 fn after_tick(
     alloc: Global,
     graph: &Graph,
@@ -167,6 +160,9 @@ fn after_tick(
     ensures serves { IfOk result (λ met. Serves graph.now (state_of state.now) → IfSome met.0 (λ after. Serves graph.now (state_of after))) }
 {
     let mut actions = Vec::new(alloc);
+    if state.units().none_due(moment) {
+        return Ok((None, actions));
+    }
     let mut after = state.copy()?;
     fire(alloc, graph, &mut after, &mut actions, moment)?;
     if is_idle(state, &after, actions.as_slice()) {

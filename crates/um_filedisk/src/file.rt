@@ -4,20 +4,26 @@ ghost use Rattle.um_sector.specs.Runs.{CountsFailure};
 ghost use Rattle.um_model.specs.Disk.{one_more};
 
 use crate::fault::FileFault;
-use std::fs::{File, Files, OpenOptions};
-use std::os::unix::fs::FileExt;
-use std::path::Path;
+use crate::place::directory_of;
+use std::fs::{File, Files, Metadata, OpenOptions, Permissions};
+use std::os::unix::fs::{FileExt, MetadataExt, OpenOptionsExt, PermissionsExt};
 use std::{fs, io};
 use um_sector::{Disk, Fault, Sector};
 
 /// A regular file, sector behind sector from its beginning; bytes behind the last whole sector are no part of the disk. Its
 /// exclusive lock, that of flock(2), is held until it is dropped or its process ends.
 ///
+/// It is the file at its path for as long as it is used: once another file or none stands there, or the file was cut, each write and sync fails.
+///
 /// No contract can say what a file gives back. So `honest` isn't claimed of it, and of the clauses of `Disk` those on counts
 /// alone say something here: that a file does what the disk model says is a premise of what is proved above.
 #[derive(Drop)]
-pub struct FileDisk {
+pub struct FileDisk<'a, R> {
+    rt: &'a R,
+    path: &'a str,
     file: File,
+    /// What the file was when it was opened.
+    identity: Identity,
     /// The whole sectors that the file had when it was opened.
     sectors: usize,
     calls: u64,
@@ -25,8 +31,28 @@ pub struct FileDisk {
     ghost addressed: { sectors ≤ 2 ^ 55 },
 }
 
+/// What tells a file from every other one: no other has the same as long as it is open.
+#[derive(Clone, Copy, PartialEq, Eq)]
+struct Identity {
+    device: u64,
+    inode: u64,
+}
+
 /// The bytes of a sector.
 const SECTOR_BYTES: u64 = 512;
+
+/// So many bytes are zeroed at once.
+const RUN_BYTES: u64 = 4096;
+
+/// The owner alone reads and writes a store, which holds the environment of services.
+const MODE: u32 = 0o600;
+
+fn identity_of(about: &Metadata) -> Identity {
+    Identity {
+        device: about.dev(),
+        inode: about.ino(),
+    }
+}
 
 /// The whole sectors in so many bytes.
 fn sectors_in(length: u64) -> usize
@@ -49,35 +75,46 @@ fn length_of(sectors: usize) -> Option<u64>
 
 /// Makes the name of a new file durable: fsync(2) of the file alone doesn't.
 pub(crate) fn sync_directory<R: Files<File = File>>(rt: &R, path: &str) -> io::Result<()> {
-    let directory = match Path::new(path).parent() {
-        Some(parent) if !parent.as_str().is_empty() => parent,
-        _ => Path::new("."),
-    };
-    File::open(rt, directory)?.sync_all()
+    File::open(rt, directory_of(path))?.sync_all()
 }
 
-/// Locks a new file, gives it its length, and makes both the file and its name durable.
+/// Writes so many zeros from the beginning of a file on.
+fn write_zeros(file: &File, length: u64) -> io::Result<()> {
+    let zeros = [0; RUN_BYTES as usize];
+    for run in 0..length / RUN_BYTES {
+        file.write_all_at(&zeros, run * RUN_BYTES)?;
+    }
+    let rest = length % RUN_BYTES;
+    file.write_all_at(&zeros[..rest as usize], length - rest)
+}
+
+/// Locks a new file, which its owner alone may read and write, writes all of its zeros, and makes both the file and its name durable. Gives
+/// what the file is.
 fn fill<R: Files<File = File>>(
     rt: &R,
     path: &str,
     file: &File,
     length: u64,
-) -> Result<(), FileFault>
+) -> Result<Identity, FileFault>
     ensures { IfErr result (λ fault. fault ≢ FileFault.TooLarge) }
 {
     file.try_lock()?;
+    // the mode that it was made with lacks what the umask takes
+    file.set_permissions(Permissions::from_mode(MODE))?;
+    // a length that the system doesn't grant is refused here, before anything is written
     file.set_len(length)?;
+    write_zeros(file, length)?;
     file.sync_all()?;
     sync_directory(rt, path)?;
-    Ok(())
+    Ok(identity_of(&file.metadata()?))
 }
 
-impl FileDisk {
+impl<'a, R: Files<File = File>> FileDisk<'a, R> {
     /// Opens the file at `path` and locks it. Its length divided by 512, rounded down, is its count of sectors.
     ///
     /// `Absent` where nothing stands there, `NotAFile` where it is no regular file, `InUse` where another open of it holds the
     /// lock, `System` where the system refuses it. The file is left as it was.
-    pub fn open<R: Files<File = File>>(rt: &R, path: &str) -> Result<FileDisk, FileFault>
+    pub fn open(rt: &'a R, path: &'a str) -> Result<FileDisk<'a, R>, FileFault>
         ensures counts { IfOk result (λ disk. (disk.calls ≡ 0) × (disk.failures ≡ 0)) }
         ensures never_too_large { IfErr result (λ fault. fault ≢ FileFault.TooLarge) }
     {
@@ -89,23 +126,23 @@ impl FileDisk {
             return Err(FileFault::NotAFile);
         }
         Ok(FileDisk {
+            rt,
+            path,
             file,
+            identity: identity_of(&about),
             sectors: sectors_in(about.len()),
             calls: 0,
             failures: 0,
         })
     }
 
-    /// Makes a new file of so many sectors of zeros at `path` and locks it. At Ok the file and its name are durable.
+    /// Makes a new file of so many sectors of zeros at `path`, which its owner alone may read and write (mode 600), and locks it. All of its
+    /// sectors are written, so that the disk has room for them. At Ok the file and its name are durable.
     ///
     /// `Exists` where something stands there, which is left as it was; `TooLarge` from 2^54 sectors on; `Absent` where there is
-    /// no such directory; `InUse` where another open took the lock first; `System` where the system refuses it. A new file that
-    /// can't be finished is removed.
-    pub fn create<R: Files<File = File>>(
-        rt: &R,
-        path: &str,
-        sectors: usize,
-    ) -> Result<FileDisk, FileFault>
+    /// no such directory; `InUse` where another open took the lock first; `System` where the system refuses it, as where the disk has no room. A
+    /// new file that can't be finished is removed.
+    pub fn create(rt: &'a R, path: &'a str, sectors: usize) -> Result<FileDisk<'a, R>, FileFault>
         ensures size { IfOk result (λ disk. disk.sectors ≡ sectors) }
         ensures counts { IfOk result (λ disk. (disk.calls ≡ 0) × (disk.failures ≡ 0)) }
         ensures too_large { IsErrOf result FileFault.TooLarge ↔ 2 ^ 54 ≤ sectors }
@@ -113,17 +150,37 @@ impl FileDisk {
         let Some(length) = length_of(sectors) else {
             return Err(FileFault::TooLarge);
         };
-        let file = File::create_new(rt, path)?;
-        if let Err(fault) = fill(rt, path, &file, length) {
-            let _ = fs::remove_file(rt, path);
-            return Err(fault);
+        let file = OpenOptions::new()
+            .read(true)
+            .write(true)
+            .create_new(true)
+            .mode(MODE)
+            .open(rt, path)?;
+        match fill(rt, path, &file, length) {
+            Ok(identity) => Ok(FileDisk {
+                rt,
+                path,
+                file,
+                identity,
+                sectors,
+                calls: 0,
+                failures: 0,
+            }),
+            Err(fault) => {
+                let _ = fs::remove_file(rt, path);
+                Err(fault)
+            }
         }
-        Ok(FileDisk {
-            file,
-            sectors,
-            calls: 0,
-            failures: 0,
-        })
+    }
+
+    /// Whether the file stands at its path still, and has all of its sectors.
+    fn is_there(&self) -> bool {
+        match fs::metadata(self.rt, self.path) {
+            Ok(about) => {
+                identity_of(&about) == self.identity && self.sectors <= sectors_in(about.len())
+            }
+            Err(_) => false,
+        }
     }
 
     /// How many disk calls were made since it was opened, the failed ones included. It stays at its last value.
@@ -168,7 +225,7 @@ impl FileDisk {
     }
 }
 
-impl Disk for FileDisk {
+impl<'a, R: Files<File = File>> Disk for FileDisk<'a, R> {
     // No clause reads it, since nothing is claimed of what the file holds.
     ghost past = { λ _. record { start = λ _. []; calls = [] } };
 
@@ -195,18 +252,20 @@ impl Disk for FileDisk {
         self.count(is_done)
     }
 
-    /// A write that the system refuses is a fault too.
+    /// A write that the system refuses is a fault too, and so is one to a file that isn't at its path any more or was cut, which it would
+    /// make longer again.
     fn write(&mut self, k: usize, sector: &Sector) -> Result<(), Fault> {
         let is_done = match self.place_of(k) {
-            Some(place) => self.file.write_all_at(sector, place).is_ok(),
+            Some(place) => self.is_there() && self.file.write_all_at(sector, place).is_ok(),
             None => false,
         };
         self.count(is_done)
     }
 
-    /// A sync that the system refuses is a fault.
+    /// A sync that the system refuses is a fault, and so is one of a file that isn't at its path any more or was cut: what was written to it
+    /// would be lost.
     fn sync(&mut self) -> Result<(), Fault> {
-        let is_done = self.file.sync_data().is_ok();
+        let is_done = self.file.sync_data().is_ok() && self.is_there();
         self.count(is_done)
     }
 }

@@ -3,11 +3,11 @@
 -- Gates, and what is served over them, stand on this file.
 use Rattle.std.specs.Prelude.{◌≡◌, ◌++◌, ℕ, List, Bool, true, false, Option, Some, None, IsTrue}
 
--- An accept, with which connections are open after it; a read of a connection, with the bytes that came, or that it is closed; a write,
--- with the bytes that were taken; a connection given up.
+-- An accept, with which connections are open after it; a read of a connection, of so many bytes at most, with those that came, or that it is
+-- closed; a write, with the bytes that were taken; a connection given up.
 pub data Event : Type 0 where
   accepted : (is_open : List Bool) → Event
-  read : (number : ℕ) (came : Option (List ℕ)) → Event
+  read : (number most : ℕ) (came : Option (List ℕ)) → Event
   wrote : (number : ℕ) (taken : List ℕ) → Event
   dropped : (number : ℕ) → Event
 

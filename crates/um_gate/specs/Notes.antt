@@ -8,8 +8,8 @@ use Rattle.um_gate.specs.declared.note.Note.TheVariants as note
 
 abbrev pub event_of : Note → Event
 event_of (note.Accepted which) = accepted which.is_open
-event_of (note.Came number bytes) = read number (Some bytes.items)
-event_of (note.Closed number) = read number None
+event_of (note.Came number most bytes) = read number most (Some bytes.items)
+event_of (note.Closed number most) = read number most None
 event_of (note.Wrote number bytes) = wrote number bytes.items
 event_of (note.Dropped number) = dropped number
 

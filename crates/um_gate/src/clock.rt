@@ -4,7 +4,7 @@ ghost use Rattle.std.specs.Prelude.{◌≡◌, ◌∷◌, [], List, ℕ, Bool, I
 ghost use Rattle.um_gate.specs.Events.{Ticks};
 
 use std::alloc::{AllocError, Global};
-use std::time::{Clock, SystemTime, UNIX_EPOCH};
+use std::time::{Clock, Instant, SystemTime, UNIX_EPOCH};
 use um_model::Moment;
 
 /// The clock of a manager.
@@ -80,19 +80,9 @@ impl Moments for FakeMoments {
     }
 }
 
-/// The clock of the system.
-///
-/// No contract can say what a clock gives. So `honest` isn't claimed of it.
-#[derive(Clone, Copy)]
-pub struct SystemMoments<'a, R> {
-    rt: &'a R,
-}
-
-impl<'a, R: Clock> SystemMoments<'a, R> {
-    /// The clock of this runtime. Where the system tells no moment, it gives the first one.
-    pub fn new(rt: &'a R) -> SystemMoments<'a, R> {
-        SystemMoments { rt }
-    }
+/// The moment that the system's clock tells; the first one where it tells none, as before 1970 and from 2^62 microseconds after that on.
+pub fn system_moment<R: Clock>(rt: &R) -> Moment {
+    told(rt).unwrap_or(Moment::FIRST)
 }
 
 /// The moment that the system tells; none before 1970, from 2^62 microseconds on, and where it tells none.
@@ -100,6 +90,35 @@ fn told<R: Clock>(rt: &R) -> Option<Moment> {
     let now = SystemTime::now(rt).ok()?;
     let since = now.duration_since(UNIX_EPOCH).ok()?;
     Moment::new(u64::try_from(since.as_micros()).ok()?)
+}
+
+/// The clock of the program: it starts at a moment of the system's clock, and from then on runs by one that only runs forward. So it isn't
+/// moved when the system's clock is set.
+///
+/// No contract can say what a clock gives. So `honest` isn't claimed of it.
+#[derive(Clone, Copy)]
+pub struct SystemMoments<'a, R> {
+    rt: &'a R,
+    start: Moment,
+    /// Where the clock that runs forward stood then; none where the system told nothing.
+    started: Option<Instant>,
+}
+
+impl<'a, R: Clock> SystemMoments<'a, R> {
+    /// A clock that starts at the system's moment, or at this one where it is greater. Where the system has no clock that runs forward, it stands.
+    pub fn starting(rt: &'a R, least: Moment) -> SystemMoments<'a, R> {
+        SystemMoments {
+            rt,
+            start: system_moment(rt).or_later(least),
+            started: Instant::now(rt).ok(),
+        }
+    }
+
+    /// The microseconds since it started; none where the system tells nothing.
+    fn elapsed(&self) -> Option<u64> {
+        let elapsed = self.started?.elapsed(self.rt).ok()?;
+        u64::try_from(elapsed.as_micros()).ok()
+    }
 }
 
 impl<'a, R: Clock> Moments for SystemMoments<'a, R> {
@@ -110,7 +129,9 @@ impl<'a, R: Clock> Moments for SystemMoments<'a, R> {
 
     ghost honest = { λ _. false };
 
+    /// Past 2^62 microseconds, where no moment is, it gives its first one again.
     fn moment(&mut self) -> Moment {
-        told(self.rt).unwrap_or(Moment::FIRST)
+        let elapsed = self.elapsed().unwrap_or(0);
+        Moment::new(self.start.micros().saturating_add(elapsed)).unwrap_or(self.start)
     }
 }

@@ -4,7 +4,7 @@ ghost use Rattle.std.specs.Prelude.{◌≡◌, ◌≤◌, ◌++◌, ◌∷◌, [
 ghost use Rattle.um_gate.specs.Events.{accepted, read, wrote, dropped, came};
 ghost use Rattle.um_gate.specs.Notes.{events_of};
 
-use crate::gate::{CONNECTIONS, Gate, MOST_BYTES, Open};
+use crate::gate::{CONNECTIONS, Gate, Open};
 use crate::note::Note;
 use std::alloc::{AllocError, Global};
 
@@ -50,18 +50,24 @@ fn note_read(
     alloc: Global,
     notes: &mut Vec<Note>,
     number: usize,
+    most: usize,
     is_open: bool,
     bytes: &[u8],
 ) -> bool
-    ensures { result ≡ true → events_of notes.new.items ≡ events_of notes.old.items ++ read number (came is_open bytes.now) ∷ [] }
+    ensures { result ≡ true → events_of notes.new.items ≡ events_of notes.old.items ++ read number most (came is_open bytes.now) ∷ [] }
 {
     if !is_open {
-        return notes.push(Note::Closed(number)).is_ok();
+        return notes.push(Note::Closed { number, most }).is_ok();
     }
-    match copied(alloc, bytes) {
-        Some(copy) => notes.push(Note::Came(number, copy)).is_ok(),
-        None => false,
-    }
+    let Some(bytes) = copied(alloc, bytes) else {
+        return false;
+    };
+    let note = Note::Came {
+        number,
+        most,
+        bytes,
+    };
+    notes.push(note).is_ok()
 }
 
 /// Notes a write, where there is memory.
@@ -90,10 +96,21 @@ fn place_of(clients: &[Client], number: usize) -> Option<usize> {
     clients.iter().position(|client| client.number == number)
 }
 
-/// The next part of the client of a connection, and whether the connection is open still.
-fn next_part(clients: &mut Vec<Client>, number: usize, bytes: &mut Vec<u8>) -> bool
+/// Takes the front of a part, so many bytes at most, where there is room for them.
+fn take_front(part: &mut Vec<u8>, most: usize, bytes: &mut Vec<u8>) -> bool
     requires { bytes.old.items ≡ [] }
-    ensures { length bytes.new.items ≤ MOST_BYTES }
+    ensures { length bytes.new.items ≤ most }
+{
+    let size = part.len().min(most);
+    let is_taken = bytes.extend_from_slice(&part[..size]).is_ok();
+    part.drain(..size);
+    is_taken
+}
+
+/// The next part of the client of a connection, or its first bytes, and whether the connection is open still.
+fn next_part(clients: &mut Vec<Client>, number: usize, most: usize, bytes: &mut Vec<u8>) -> bool
+    requires { bytes.old.items ≡ [] }
+    ensures { length bytes.new.items ≤ most }
 {
     let Some(place) = place_of(clients.as_slice(), number) else {
         return false;
@@ -101,9 +118,12 @@ fn next_part(clients: &mut Vec<Client>, number: usize, bytes: &mut Vec<u8>) -> b
     let Some(client) = clients.get_mut(place) else {
         return false;
     };
-    if let Some(part) = client.parts.pop() {
-        let size = part.len().min(MOST_BYTES);
-        return bytes.extend_from_slice(&part[..size]).is_ok();
+    if let Some(part) = client.parts.last_mut() {
+        let is_taken = take_front(part, most, bytes);
+        if part.is_empty() {
+            client.parts.pop();
+        }
+        return is_taken;
     }
     let leaves = client.leaves;
     if leaves {
@@ -146,8 +166,8 @@ impl FakeGate {
         }
     }
 
-    /// A client comes behind those that wait. Under its number it sends these parts, one a read, the last first; it leaves then, if it
-    /// `leaves`, and takes at most `limit` bytes of a write.
+    /// A client comes behind those that wait. Under its number it sends these parts, the last first: one a read, or as much of it as that
+    /// reads at most. It leaves then, if it `leaves`, and takes at most `limit` bytes of a write.
     pub fn client(
         &mut self,
         number: usize,
@@ -196,12 +216,13 @@ impl Gate for FakeGate {
         open
     }
 
-    fn read(&mut self, number: usize, bytes: &mut Vec<u8>) -> bool {
-        let is_open = next_part(&mut self.clients, number, bytes);
+    fn read(&mut self, number: usize, most: usize, bytes: &mut Vec<u8>) -> bool {
+        let is_open = next_part(&mut self.clients, number, most, bytes);
         if !note_read(
             self.alloc,
             &mut self.notes,
             number,
+            most,
             is_open,
             bytes.as_slice(),
         ) {

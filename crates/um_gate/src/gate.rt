@@ -34,13 +34,14 @@ pub trait Gate {
         ensures whole { IsTrue (whole self.new) → IsTrue (whole self.old) }
         ensures honest { honest self.new ≡ honest self.old };
 
-    /// Reads what is there, at most `MOST_BYTES`, and tells whether the connection is open still. One that was dropped, or failed in
-    /// a write, is told closed here.
-    fn read(&mut self, number: usize, bytes: &mut Vec<u8>) -> bool
+    /// Reads what is there, so many bytes at most, and tells whether the connection is open still. What isn't read stays there: with
+    /// `most` 0 all of it. A connection that was dropped, or failed in a write, is told closed here, whatever `most` is.
+    fn read(&mut self, number: usize, most: usize, bytes: &mut Vec<u8>) -> bool
         requires empty { bytes.old.items ≡ [] }
-        requires room { MOST_BYTES ≤ vec_capacity bytes.old }
-        ensures past { Logs (honest self.old) (whole self.new) (past self.old) (past self.new) (read number (came result bytes.new.items) ∷ []) }
-        ensures bound { length bytes.new.items ≤ MOST_BYTES }
+        requires few { most ≤ MOST_BYTES }
+        requires room { most ≤ vec_capacity bytes.old }
+        ensures past { Logs (honest self.old) (whole self.new) (past self.old) (past self.new) (read number most (came result bytes.new.items) ∷ []) }
+        ensures bound { length bytes.new.items ≤ most }
         ensures whole { IsTrue (whole self.new) → IsTrue (whole self.old) }
         ensures honest { honest self.new ≡ honest self.old };
 

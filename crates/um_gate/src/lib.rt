@@ -7,8 +7,8 @@ mod gate;
 mod note;
 mod socket;
 
-pub use clock::{FakeMoments, Moments, SystemMoments};
+pub use clock::{FakeMoments, Moments, SystemMoments, system_moment};
 pub use fake::FakeGate;
 pub use gate::{CONNECTIONS, Gate, MOST_BYTES, Open};
 pub use note::Note;
-pub use socket::SocketGate;
+pub use socket::{SocketGate, look_at_socket};

@@ -6,9 +6,18 @@ pub enum Note {
     /// An accept, with which connections are open after it.
     Accepted(Open),
     /// A read of a connection, with the bytes that came.
-    Came(usize, Vec<u8>),
+    Came {
+        number: usize,
+        /// So many bytes were to be read at most.
+        most: usize,
+        bytes: Vec<u8>,
+    },
     /// A read of a connection that is closed.
-    Closed(usize),
+    Closed {
+        number: usize,
+        /// So many bytes were to be read at most.
+        most: usize,
+    },
     /// A write to a connection, with the bytes that it took.
     Wrote(usize, Vec<u8>),
     /// A connection given up.

@@ -6,15 +6,18 @@ use crate::gate::{CONNECTIONS, Gate, MOST_BYTES, Open};
 use mio::net::{UnixListener, UnixStream};
 use mio::{Events, Interest, Poll, Token};
 use std::alloc::{AllocError, Global};
-use std::fs::{Files, Permissions};
+use std::fs::{DirBuilder, Files, Permissions};
 use std::io::{ErrorKind, Read, Write};
 use std::net::Net;
-use std::os::unix::fs::PermissionsExt;
+use std::os::unix::fs::{DirBuilderExt, FileTypeExt, PermissionsExt};
 use std::time::Duration;
 use std::{fs, io, mem};
 
 /// The owner alone may connect.
 const MODE: u32 = 0o600;
+
+/// The owner alone may go into the folder in which the socket is made.
+const FOLDER_MODE: u32 = 0o700;
 
 /// As many events are told by one wait at most.
 const EVENTS: usize = 128;
@@ -48,20 +51,87 @@ pub struct SocketGate {
     ghost full: { length buffer.items ≡ 4096 },
 }
 
-/// Removes an entry that an earlier server left at the path.
-fn remove_entry<R: Files>(rt: &R, path: &str) -> io::Result<()> {
-    match fs::remove_file(rt, path) {
-        Err(e) if e.kind() != ErrorKind::NotFound => Err(e),
-        _ => Ok(()),
+/// Whether somebody answers at the socket at the path.
+fn is_answered<R: Net>(rt: &R, path: &str) -> io::Result<bool> {
+    match UnixStream::connect(rt, path) {
+        Ok(_) => Ok(true),
+        Err(e) => match e.kind() {
+            // so many wait to be accepted that the system takes no more
+            ErrorKind::WouldBlock => Ok(true),
+            ErrorKind::ConnectionRefused | ErrorKind::NotFound => Ok(false),
+            _ => Err(e),
+        },
     }
 }
 
-/// A listener at the path, to which the owner alone may connect.
-fn listener_at<R: Files + Net>(rt: &R, path: &str) -> io::Result<UnixListener> {
-    remove_entry(rt, path)?;
-    let listener = UnixListener::bind(rt, path)?;
-    fs::set_permissions(rt, path, Permissions::from_mode(MODE))?;
+/// Sees whether a socket may be made at the path: nothing stands there, or a socket at which nobody answers. It changes nothing.
+///
+/// `AddrInUse` where somebody answers, `AlreadyExists` where what stands there is no socket, or another error where the system refuses the look.
+pub fn look_at_socket<R: Files + Net>(rt: &R, path: &str) -> io::Result<()> {
+    match fs::symlink_metadata(rt, path) {
+        Ok(about) if about.file_type().is_socket() => {}
+        Ok(_) => {
+            let message = "what stands there is no socket";
+            return Err(io::Error::new(ErrorKind::AlreadyExists, message));
+        }
+        Err(e) if e.kind() == ErrorKind::NotFound => return Ok(()),
+        Err(e) => return Err(e),
+    }
+    if is_answered(rt, path)? {
+        let message = "somebody serves this socket";
+        return Err(io::Error::new(ErrorKind::AddrInUse, message));
+    }
+    Ok(())
+}
+
+/// Removes the folder, with a socket in it, that is left of the making of one, as where a server was killed meanwhile.
+fn clear<R: Files>(rt: &R, folder: &str, inside: &str) {
+    // what stays is in the way when the folder is made, and told then
+    if let Ok(about) = fs::symlink_metadata(rt, inside) {
+        if about.file_type().is_socket() {
+            let _ = fs::remove_file(rt, inside);
+        }
+    }
+    let _ = fs::remove_dir(rt, folder);
+}
+
+/// Makes the folder in which a socket is made.
+fn make_folder<R: Files>(rt: &R, folder: &str) -> io::Result<()> {
+    match DirBuilder::new().mode(FOLDER_MODE).create(rt, folder) {
+        Err(e) if e.kind() == ErrorKind::AlreadyExists => {
+            let message =
+                "it is made in a folder at this path with .new behind, where something else stands";
+            Err(io::Error::new(ErrorKind::AlreadyExists, message))
+        }
+        made => made,
+    }
+}
+
+/// A listener at the path inside a folder of its own, to which nobody else comes before its mode is set; then it is moved to its path, over a
+/// socket at which nobody answers.
+fn listener_by<R: Files + Net>(
+    rt: &R,
+    folder: &str,
+    inside: &str,
+    path: &str,
+) -> io::Result<UnixListener> {
+    make_folder(rt, folder)?;
+    let listener = UnixListener::bind(rt, inside)?;
+    fs::set_permissions(rt, inside, Permissions::from_mode(MODE))?;
+    look_at_socket(rt, path)?;
+    fs::rename(rt, inside, path)?;
     Ok(listener)
+}
+
+/// A listener at the path, to which the owner alone may connect.
+fn listener_at<R: Files + Net>(rt: &R, alloc: Global, path: &str) -> io::Result<UnixListener> {
+    let folder = format!(in alloc; "{path}.new")?;
+    let inside = format!(in alloc; "{folder}/s")?;
+    look_at_socket(rt, path)?;
+    clear(rt, folder.as_str(), inside.as_str());
+    let listener = listener_by(rt, folder.as_str(), inside.as_str(), path);
+    clear(rt, folder.as_str(), inside.as_str());
+    listener
 }
 
 /// So many places, all free.
@@ -91,6 +161,10 @@ fn free_number(places: &[Place]) -> Option<usize> {
 fn read_stream(stream: &mut UnixStream, buffer: &mut [u8]) -> Option<usize>
     ensures { IfSome result (λ count. count ≤ length buffer.old) }
 {
+    // the system tells a read of nothing as it tells the end
+    if buffer.is_empty() {
+        return Some(0);
+    }
     match stream.read(buffer) {
         Ok(0) => None,
         Ok(count) => Some(count),
@@ -118,14 +192,17 @@ fn write_stream(stream: &mut UnixStream, bytes: &[u8]) -> Option<usize>
 }
 
 impl SocketGate {
-    /// Serves a socket at `path`, to which its owner alone may connect. An entry that stands there is removed first, so whoever calls this
-    /// has to know that nobody serves it. An error where the system refuses it, as for a path past 107 bytes, or where memory is.
+    /// Serves a socket at `path`, to which its owner alone may connect from its first moment on. It takes the place of a socket at which nobody
+    /// answers. It is made in a folder beside it, `path` with `.new` behind, which is removed again.
+    ///
+    /// `AddrInUse` and `AlreadyExists` as of `look_at_socket`, with what stands there left as it is; another error where the system refuses it, as
+    /// for a path past 101 bytes, or where memory is.
     pub fn open<R: Files + Net>(rt: &R, alloc: Global, path: &str) -> io::Result<SocketGate> {
         let poll = Poll::new(rt)?;
         let events = Events::with_capacity(alloc, EVENTS)?;
         let places = free_places(alloc)?;
         let buffer = full_buffer(alloc)?;
-        let mut listener = listener_at(rt, path)?;
+        let mut listener = listener_at(rt, alloc, path)?;
         poll.registry()
             .register(&mut listener, Token(LISTENER), Interest::READABLE)?;
         Ok(SocketGate {
@@ -198,14 +275,15 @@ fn read_place(place: &mut Place, buffer: &mut [u8]) -> Option<usize>
 }
 
 /// Puts what is there of a place into the vector, by way of the buffer, and tells whether it is open still.
-fn fill(place: &mut Place, buffer: &mut [u8], bytes: &mut Vec<u8>) -> bool
+fn fill(place: &mut Place, buffer: &mut [u8], most: usize, bytes: &mut Vec<u8>) -> bool
     requires empty { bytes.old.items ≡ [] }
-    requires room { MOST_BYTES ≤ vec_capacity bytes.old }
+    requires few { most ≤ MOST_BYTES }
+    requires room { most ≤ vec_capacity bytes.old }
     requires full { length buffer.old ≡ MOST_BYTES }
-    ensures bound { length bytes.new.items ≤ MOST_BYTES }
+    ensures bound { length bytes.new.items ≤ most }
     ensures full { length buffer.new ≡ MOST_BYTES }
 {
-    let Some(count) = read_place(place, buffer) else {
+    let Some(count) = read_place(place, &mut buffer[..most]) else {
         *place = Place::Free;
         return false;
     };
@@ -249,9 +327,9 @@ impl Gate for SocketGate {
         open_of(self.places.as_slice())
     }
 
-    fn read(&mut self, number: usize, bytes: &mut Vec<u8>) -> bool {
+    fn read(&mut self, number: usize, most: usize, bytes: &mut Vec<u8>) -> bool {
         match self.places.get_mut(number) {
-            Some(place) => fill(place, self.buffer.as_mut_slice(), bytes),
+            Some(place) => fill(place, self.buffer.as_mut_slice(), most, bytes),
             None => false,
         }
     }

@@ -6,7 +6,6 @@ pub mod ListLaws
 pub mod MapLaws
 pub mod NamedLaws
 pub mod NumberLaws
-pub mod ResolveLaws
 pub mod RowLaws
 pub mod SettingLaws
 pub mod StandLaws

@@ -5,7 +5,7 @@ use Rattle.std.specs.Prelude.{ℕ, List, [], ◌∷◌, ◌++◌, Option, Some, 
 use Rattle.std.specs.List.{flat_map}
 use Rattle.um_model.specs.Names.{is_template, named}
 use Rattle.um_model.specs.Tree.{Tree, Entry, File, Link as link_to, PathParts, Place, Unit, DropIn, Wants, Requires, path_parts}
-use Rattle.um_model.specs.Resolution.{Resolution, AtFile, AtNoFile, AtMask, Nowhere, shutdown_target}
+use Rattle.um_model.specs.Resolution.{shutdown_target}
 use Rattle.um_model.specs.Units.{LoadedUnit, unit_named}
 use Rattle.um_model.specs.Dependencies.{has_defaults, loadable_in}
 use Rattle.um_model.specs.declared.dependencies.DependencyKind.{DependencyKind}
@@ -13,13 +13,6 @@ use Rattle.um_model.specs.declared.dependencies.DependencyKind.TheVariants as ki
 use Rattle.um_graph.specs.declared.told.Link.{Link}
 use Rattle.um_graph.specs.declared.told.Link.TheVariants.{Depends, Declared, Ending}
 use Rattle.um_graph.specs.declared.told.Told.{Told}
-
--- the name that counts by where the name that was asked for leads
-abbrev pub named_at : List ℕ → Resolution → List ℕ
-named_at asked (AtFile unit path text) = unit
-named_at asked (AtNoFile unit) = unit
-named_at asked (AtMask unit) = unit
-named_at asked Nowhere = asked
 
 -- ---- by a unit's settings
 

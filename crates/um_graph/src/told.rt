@@ -36,7 +36,6 @@ pub(crate) struct Told {
 }
 
 /// The unit to which a name leads, or where it leads nowhere the name itself. No file is read.
-#[tactic(auto, using(crate::proofs::ResolveLaws::unit_resolved))]
 pub(crate) fn unit_of(alloc: Global, tree: &Tree, name: &UnitName) -> Result<UnitName, AllocError>
     ensures { IfOk result (λ unit. unit ≡ unit_named tree.now name.now) }
 {

@@ -1,4 +1,4 @@
--- The name to which a name leads; and what Also= names are unit names.
+-- What Also= names are unit names.
 use Rattle.std.proofs.Common.{◌≡◌, ◌∙◌, ℕ, Bool, true, false, cond, List, [], ◌∷◌, map as each, Contains, Option, Some, None, Ok, Err, refl, sym, ap, arith}
 use Rattle.std.specs.List.{filter_map}
 use Rattle.um_model.specs.Install.{install_of}
@@ -20,15 +20,6 @@ use Rattle.std.specs.Option.{option_map_or}
 use Rattle.um_install.proofs.Members.{each_contains, filter_map_contains, flat_contains}
 use Rattle.um_model.proofs.FileForms.{Meaning, names_of, names_said}
 use Rattle.um_model.proofs.FileForms.{unit_reading}
-
-by_file : (asked unit : List ℕ) (reason : Option (List ℕ)) (u : LoadedUnit) → u.name ≡ unit → name_in asked (found_unless reason u) ≡ unit
-by_file asked unit None u e = e
-by_file asked unit (Some reason) u e = e
-
--- the name of a unit with a file
-pub named_at : (tree : Tree) (asked unit path text : List ℕ) → resolution_of tree asked ≡ AtFile unit path text → unit_named tree asked ≡ unit
-unfolding load
-named_at tree asked unit path text e = ap (λ r. name_in asked (loading_at tree r)) e ∙ by_file asked unit _ _ refl
 
 none_in : (name : List ℕ) → Contains [] name → ⊥
 none_in name (k, h, e) = omega arith

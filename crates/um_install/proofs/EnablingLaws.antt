@@ -16,7 +16,7 @@ use Rattle.um_model.specs.Reached.{first, next}
 use Rattle.um_model.specs.Refusals.{Refused, at_first, at_second, too_large}
 use Rattle.um_model.specs.Resolution.{unit_in_target, unit_path}
 use Rattle.um_model.specs.Tree.{Tree, Link, PathParts, Place, Unit, Wants, Requires, path_text, path_parts, is_fit_place, is_fit_target, layer_text, entry_limit, is_other_than_link, is_slash}
-use Rattle.um_model.specs.Units.{LoadedUnit, Loading, Found, load, name_in, InstallSettings, Masked, NotFound, BadSetting}
+use Rattle.um_model.specs.Units.{LoadedUnit, Loading, Found, load, name_in, unit_named, InstallSettings, Masked, NotFound, BadSetting}
 use Rattle.um_model.specs.declared.install.Enabling.{Enabling}
 use Rattle.um_model.specs.declared.install.Enabling.TheVariants as enabling
 use Rattle.um_model.specs.declared.install.InstallVerb.TheVariants as verbs
@@ -28,6 +28,7 @@ use Rattle.um_model.proofs.InstallLaws.{also_any, any_also, enabled_drop_ins, fr
 use Rattle.um_model.proofs.LeastLaws.{Among}
 use Rattle.um_model.proofs.LoadsLaws.{loads_as}
 use Rattle.um_model.proofs.NamedLaws.{AreNames, names_installed, named_by_name, also_names}
+use Rattle.um_model.proofs.OwnNameLaws.{named_by_loading}
 use Rattle.um_model.proofs.SpecifiersLaws.{after_last-found}
 use Rattle.um_model.proofs.TreeLaws.{parts_at, name-no_slash}
 use Rattle.um_model.proofs.UnitLaws.{alike}
@@ -188,7 +189,7 @@ links_undone tree asked name file l is u v obeys by h undoes =
 linked_by_name : (tree : Tree) (asked file : List ℕ) (l : LoadedUnit) → IsFoundByName tree asked file l → IsLinked tree asked asked file l
 linked_by_name tree asked file l is = record {
   unit = asked;
-  taken = first (sym (ap (name_in asked) is.found ∙ is.named));
+  taken = first (sym (named_by_loading tree asked ∙ (ap (name_in asked) is.found ∙ is.named)));
   found = is.found;
   linked = cond-false (is_template l.name) _ (Some l.name) (ap is_template is.named ∙ is.single) ∙ ap Some is.named;
   at = is.at;
@@ -325,6 +326,10 @@ enabled_is_told_by_name tree asked file l is name no_alias u obeys other among =
 abbrev LoadsAs : Tree → Tree → Type 0
 LoadsAs u tree = (unit : List ℕ) → is_unit_name unit ≡ true → load u unit ≡ load tree unit
 
+-- by such trees a unit name leads to one unit
+named_as : (u tree : Tree) → LoadsAs u tree → (asked : List ℕ) → is_unit_name asked ≡ true → unit_named u asked ≡ unit_named tree asked
+named_as u tree same asked is = named_by_loading u asked ∙ (ap (name_in asked) (same asked is) ∙ sym (named_by_loading tree asked))
+
 -- of a unit name each unit that is taken has one
 taken_name : (tree : Tree) (asked unit : List ℕ) → is_unit_name asked ≡ true → IsTaken tree asked unit → is_unit_name unit ≡ true
 taken_name tree asked unit is (first e) = subst (λ name. is_unit_name name ≡ true) (sym e) (named_by_name tree asked is)
@@ -336,10 +341,10 @@ also_as : (u tree : Tree) → LoadsAs u tree → (unit other : List ℕ) → is_
 also_as u tree same unit other is step =
     let any = also_any u unit other step in
     any_also tree unit other
-    (any.0, subst (λ found. Among (install_of found).also any.0) (same unit is) any.1, any.2 ∙ ap (name_in any.0) (same any.0 (also_names u unit any.0 any.1)))
+    (any.0, subst (λ found. Among (install_of found).also any.0) (same unit is) any.1, any.2 ∙ named_as u tree same any.0 (also_names u unit any.0 any.1))
 
 taken_as : (u tree : Tree) → LoadsAs u tree → (asked unit : List ℕ) → is_unit_name asked ≡ true → IsTaken u asked unit → IsTaken tree asked unit
-taken_as u tree same asked unit is (first e) = first (e ∙ ap (name_in asked) (same asked is))
+taken_as u tree same asked unit is (first e) = first (e ∙ named_as u tree same asked is)
 taken_as u tree same asked unit is (next {a = taker} reached step) =
     next (taken_as u tree same asked taker is reached) (also_as u tree same taker unit (taken_name u asked taker is reached) step)
 

@@ -8,7 +8,7 @@ ghost use Rattle.um_unit.specs.View.{install_of, loading_of};
 ghost use Rattle.um_install.specs.Changes as changes;
 ghost use Rattle.um_install.specs.View.{units_of};
 
-use crate::disable::is_unlinked;
+use crate::disabling::is_unlinked;
 use crate::walk::{Naming, Units, walk};
 use std::alloc::{AllocError, Global};
 use um_model::Enabling;

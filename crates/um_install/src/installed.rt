@@ -4,9 +4,9 @@ ghost use Rattle.std.specs.Prelude.{◌≡◌, IfOk, map as each, string_bytes};
 ghost use Rattle.um_model.specs.Install as model;
 ghost use Rattle.um_wire.specs.Gives.{RefusesBy};
 
-use crate::disable::disabled;
-use crate::enable::enabled;
-use crate::mask::{masked, unmasked};
+use crate::disabling::disabled;
+use crate::enabling::enabled;
+use crate::masking::{masked, unmasked};
 use std::alloc::{AllocError, Global};
 use um_model::InstallVerb;
 use um_name::UnitName;
@@ -49,17 +49,8 @@ fn changed(alloc: Global, tree: &Tree, verb: InstallVerb, unit: &UnitName) -> Re
     }
 }
 
-/// What the verb makes of the tree for the unit (systemctl(1), "enable", "disable", "mask" and "unmask"), with the paths that are
-/// made and removed.
-///
-/// `Enable` makes the links in `etc/` that the [Install] sections of the unit, of those of its Also=, and so on ask for. Refused
-/// are the least path that isn't served or at which its link may not stand (E12), the least at which something else stands or
-/// another link is asked for (E11), more new paths than there is room for (E13 `entries`), and the least unit that isn't found
-/// (E4), is masked (E5), has a refused setting or is a template without a fit default instance (E6), in this order.
-///
-/// `Disable` removes the links in `etc/` by which the name, those written in its Also=, and so on are wanted, required or have
-/// another name. `Mask` makes `etc/NAME` a link to `/dev/null`, and is refused where something else stands there (E11) or there
-/// are 4,096 entries (E13 `entries`). `Unmask` removes that link, if it is there. Want of memory is E15.
+/// What the verb makes of the tree for the unit, with the paths that are made and removed: what `enable`, `disable`, `mask` or `unmask`
+/// makes of it, which say what is refused and when.
 pub fn install(
     alloc: Global,
     tree: &Tree,

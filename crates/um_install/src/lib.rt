@@ -2,16 +2,17 @@
 //! and unmasking a unit, or refuses for the first cause there is; and `is_enabled` tells how a unit is enabled.
 #![tactic(auto)]
 
-mod disable;
-mod enable;
+mod disabling;
 mod enabled;
+mod enabling;
 mod fitness;
 mod installed;
 mod laws;
 mod links;
-mod mask;
+mod masking;
 mod occupied;
 mod refusals;
+mod verbs;
 mod walk;
 
 pub use enabled::is_enabled;
@@ -21,3 +22,4 @@ pub use laws::{
     enabling_twice_makes_nothing,
 };
 pub use um_model::{Enabling, InstallVerb};
+pub use verbs::{disable, enable, mask, unmask};

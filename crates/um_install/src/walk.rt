@@ -29,7 +29,6 @@ pub(crate) enum Naming {
 }
 
 /// The unit to which the name leads, or the name itself where it leads nowhere.
-#[tactic(auto, unfolding(um_model::specs::Units::load))]
 fn unit_named(alloc: Global, tree: &Tree, name: &UnitName) -> Result<UnitName, AllocError>
     ensures { IfOk result (λ unit. unit ≡ model.unit_named tree.now name.now) }
 {

@@ -9,7 +9,7 @@ use Rattle.std.specs.Coded.{Coded, Coded-set, codes}
 use Rattle.std.specs.FinMap as maps
 use Rattle.um_model.specs.Bytes.{nothing_left}
 use Rattle.um_model.specs.Disk.{Past, Image, IsImage, Images, During, seen}
-use Rattle.um_model.specs.InputSpellings.{FitInput, input_spelling}
+use Rattle.um_model.specs.InputSpellings.{input_limit, FitInput, input_spelling}
 use Rattle.um_model.specs.Machine.{State, Input, Run, rests, goes, Step, Reply, Refusal}
 use Rattle.um_model.specs.Numbers.{AreNew, started_numbers}
 use Rattle.um_model.specs.Refusals.{Refused}
@@ -17,7 +17,7 @@ use Rattle.um_model.specs.Servable.{IsServable}
 use Rattle.um_model.specs.Service.{Action}
 use Rattle.um_model.specs.StateSpellings.{state_at, state_spelling}
 use Rattle.um_model.specs.Stands.{Contents, contents_of, inputs_of, IsStoreOf}
-use Rattle.um_model.specs.Store.{body_limit, sector_count, log_start, log_end, newest_of, records_of, sectors_of, HasRecords, IsStore, GoesOn}
+use Rattle.um_model.specs.Store.{body_limit, sector_count, log_start, log_end, store_sectors, newest_of, records_of, sectors_of, HasRecords, IsStore, GoesOn}
 use Rattle.um_slot.specs.Snapshots.{HasStore, EitherSnapshot}
 use Rattle.um_log.specs.Appending.{EitherRecord}
 use Rattle.um_model.specs.declared.layout.Layout.{Layout}
@@ -45,7 +45,7 @@ pub record Unpacked (past : Past) (layout : Layout) (slot : Slot) (generation nu
   pub body : List ℕ
   pub start : State
   pub inputs : List Input
-  pub goes_on : GoesOn layout past slot generation body (records_of layout generation (seen past)) number next
+  pub goes_on : GoesOn layout past slot generation body (records_of layout generation (seen past)) generation number next
   pub comes : ComesTo (body_limit layout) body (records_of layout generation (seen past)) start inputs s
 
 -- the contents that are there
@@ -104,8 +104,8 @@ module _ {past : Past} {sectors : ℕ} {layout : Layout} {slot : Slot} {generati
 -- ---- what they give back
 
 pub packed : {past : Past} {sectors : ℕ} {layout : Layout} {slot : Slot} {generation number next : ℕ} {s : State} {body : List ℕ} {records : List (List ℕ)}
-    {start : State} {inputs : List Input} → IsImage past (seen past) → GoesOn layout past slot generation body records number next
-    → ComesTo (body_limit layout) body records start inputs s → log_end layout generation ≤ sectors → Keeps past sectors layout slot generation number next s
+    {start : State} {inputs : List Input} → IsImage past (seen past) → GoesOn layout past slot generation body records generation number next
+    → ComesTo (body_limit layout) body records start inputs s → store_sectors layout ≤ sectors → Keeps past sectors layout slot generation number next s
 packed {past} {sectors} {layout} {slot} {generation} {number} {next} {s} {body} {records} {start} {inputs} is whole comes on_disk = record {
   first = λ image at. (whole.store image at).first;
   newest = λ image at. newest_told (whole.store image at) ∙ sym (newest_told (whole.store (seen past) is));
@@ -153,30 +153,30 @@ module _ {past : Past} {sectors : ℕ} {layout : Layout} {slot : Slot} {generati
 
   -- behind it the keeper holds the state after the input
   pub recorded : {new : Past} {later further : ℕ} → IsImage new (seen new)
-      → GoesOn layout new slot generation (unpacked k).body (records_of layout generation (seen past) ++ input_spelling input ∷ []) later further
+      → GoesOn layout new slot generation (unpacked k).body (records_of layout generation (seen past) ++ input_spelling input ∷ []) generation later further
       → Keeps new sectors layout slot generation later further t
   recorded is whole = packed is whole (comes_further (unpacked k).comes fit stepped) k.on_disk
 
   -- the same of the calls that write it
   module _ {of : ℕ} {bytes : List ℕ} (same : of ≡ generation) (is : bytes ≡ input_spelling input) where
-    ready : GoesOn layout past slot of (unpacked k).body (records_of layout generation (seen past)) number next
-    ready = subst (λ g. GoesOn layout past slot g (unpacked k).body (records_of layout generation (seen past)) number next) (sym same) (unpacked k).goes_on
+    ready : GoesOn layout past slot of (unpacked k).body (records_of layout generation (seen past)) of number next
+    ready = subst (λ g. GoesOn layout past slot g (unpacked k).body (records_of layout generation (seen past)) g number next) (sym same) (unpacked k).goes_on
 
-    pub during_begun : {new : Past} → ((slot : Slot) (body : List ℕ) (records : List (List ℕ)) → GoesOn layout past slot of body records number next
+    pub during_begun : {new : Past} → ((slot : Slot) (body : List ℕ) (records : List (List ℕ)) → GoesOn layout past slot of body records of number next
         → During past new (EitherRecord layout slot of body records bytes)) → During past new (IsBegun layout s (input ∷ []))
     during_begun {new} written = weaker past new _ _ either_begun
         (subst (λ g. During past new (EitherRecord layout slot g (unpacked k).body (records_of layout generation (seen past)) (input_spelling input))) same
         (subst (λ b. During past new (EitherRecord layout slot of (unpacked k).body (records_of layout generation (seen past)) b)) is
         (written slot (unpacked k).body (records_of layout generation (seen past)) ready)))
 
-    pub kept_recorded : {new : Past} {l : Layout} {later_of later further : ℕ} → ((slot : Slot) (body : List ℕ) (records : List (List ℕ)) → GoesOn layout past slot of body records number next
-        → GoesOn l new slot later_of body (records ++ bytes ∷ []) later further)
+    pub kept_recorded : {new : Past} {l : Layout} {later_of later further : ℕ} → ((slot : Slot) (body : List ℕ) (records : List (List ℕ)) → GoesOn layout past slot of body records of number next
+        → GoesOn l new slot later_of body (records ++ bytes ∷ []) later_of later further)
         → IsImage new (seen new) → l ≡ layout → later_of ≡ of → Keeps new sectors l slot generation later further t
     kept_recorded {new} {l} {later_of} {later} {further} written image on_layout of_generation =
         subst (λ (z : Layout). Keeps new sectors z slot generation later further t) (sym on_layout) (recorded image
-        (subst (λ b. GoesOn layout new slot generation (unpacked k).body (records_of layout generation (seen past) ++ b ∷ []) later further) is
-        (subst (λ g. GoesOn layout new slot g (unpacked k).body (records_of layout generation (seen past) ++ bytes ∷ []) later further) (of_generation ∙ same)
-        (subst (λ (z : Layout). GoesOn z new slot later_of (unpacked k).body (records_of layout generation (seen past) ++ bytes ∷ []) later further) on_layout
+        (subst (λ b. GoesOn layout new slot generation (unpacked k).body (records_of layout generation (seen past) ++ b ∷ []) generation later further) is
+        (subst (λ g. GoesOn layout new slot g (unpacked k).body (records_of layout generation (seen past) ++ bytes ∷ []) g later further) (of_generation ∙ same)
+        (subst (λ (z : Layout). GoesOn z new slot later_of (unpacked k).body (records_of layout generation (seen past) ++ bytes ∷ []) later_of later further) on_layout
         (written slot (unpacked k).body (records_of layout generation (seen past)) ready)))))
 
 -- the same by equal values
@@ -218,7 +218,7 @@ room_and_record {past} {mid} {new} {layout} {l} {s} {t} inputs made written on_l
 
 -- the record of an input that isn't refused is no longer than any record may be
 pub record_short : {layout : Layout} {size : ℕ} {s t : State} {input : Input} {reply : Reply} {actions : List Action} → MayHold layout size s → FitInput input
-    → Step size s input reply actions t → ((r : Refused) → reply ≢ Refusal r) → length (input_spelling input) ≤ 131072
+    → Step size s input reply actions t → ((r : Refused) → reply ≢ Refusal r) → length (input_spelling input) ≤ input_limit
 record_short {size = size} {s = s} {t = t} {input} {reply} {actions} held fit step accepted =
     ∥∥₁_elim held.fits le_prop (λ f. (accepted_room size s input reply actions t f fit step accepted).1)
 
@@ -285,17 +285,17 @@ module _ {past : Past} {sectors : ℕ} {layout : Layout} {slot : Slot} {generati
       (subst (λ b. During past new (EitherSnapshot layout past slot generation (unpacked k).body b)) is (written (unpacked k).body (snapshots k)))
 
   -- behind it the keeper holds the same state, with no record
-  pub snapped : {new : Past} {to : Slot} {after later further : ℕ} → IsImage new (seen new) → log_end layout after ≤ sectors
-      → GoesOn layout new to after (state_spelling s) [] later further → Keeps new sectors layout to after later further s
+  pub snapped : {new : Past} {to : Slot} {after later further : ℕ} → IsImage new (seen new) → store_sectors layout ≤ sectors
+      → GoesOn layout new to after (state_spelling s) [] after later further → Keeps new sectors layout to after later further s
   snapped is on_disk whole = packed is whole (comes_anew (read_again held) may) on_disk
 
   -- behind the calls that write it
   module _ {new : Past} {to : Slot} {after later further : ℕ} {body : List ℕ} (is : body ≡ state_spelling s)
-      (written : (before : List ℕ) → Images past (HasStore layout slot generation before) → GoesOn layout new to after body [] later further) where
-    behind : GoesOn layout new to after (state_spelling s) [] later further
-    behind = subst (λ b. GoesOn layout new to after b [] later further) is (written (unpacked k).body (snapshots k))
+      (written : (before : List ℕ) → Images past (HasStore layout slot generation before) → GoesOn layout new to after body [] after later further) where
+    behind : GoesOn layout new to after (state_spelling s) [] after later further
+    behind = subst (λ b. GoesOn layout new to after b [] after later further) is (written (unpacked k).body (snapshots k))
 
-    pub kept_behind : IsImage new (seen new) → log_end layout after ≤ sectors → Keeps new sectors layout to after later further s
+    pub kept_behind : IsImage new (seen new) → store_sectors layout ≤ sectors → Keeps new sectors layout to after later further s
     kept_behind image on_disk = snapped image on_disk behind
 
     pub told_behind : Images new (λ image. contents_of layout image ≡ Some (contents to after s []))

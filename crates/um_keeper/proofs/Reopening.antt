@@ -29,7 +29,7 @@ use Rattle.byteorder.specs.Endian.{big_number}
 use Rattle.um_wire.specs.declared.refusal.Refusal.{Refusal}
 use Rattle.um_wire.specs.declared.refusal.Refusal.TheVariants.{Damaged, Device, NotFormatted, GenerationsSpent, OtherLayout}
 use Rattle.um_keeper.specs.Keeping.{Keeps}
-use Rattle.um_keeper.specs.Opening.{HasLayout, IsStart, Replays, no_more, and_then, IsNoInput, here, later, IsUnread, no_sector, no_store, other_format, no_layout, no_header, spent, no_state, no_input, later_sector, IsNextOf, IsTakenUp, IsSomeStore, IsAsBefore}
+use Rattle.um_keeper.specs.Opening.{HasLayout, IsStart, Replays, no_more, and_then, IsNoInput, here, later, IsUnread, no_sector, no_store, other_format, no_layout, no_header, no_state, no_input, later_sector, IsSpent, IsUntaken, unread, spent, IsNextOf, IsTakenUp, IsRead, IsSomeStore, IsAsBefore}
 
 -- ---- sector 0
 
@@ -108,7 +108,7 @@ taken_store t = store_of t.store (taken_comes t).1
 
 -- a new snapshot without records is what a keeper holds
 pub keeps_anew : {past : Past} {count : ℕ} {layout : Layout} {slot : Slot} {generation : ℕ} {s : State} → IsImage past (seen past)
-    → GoesOn layout past slot generation (state_spelling s) [] 0 (log_start layout generation) → FitState s → IsServable (body_limit layout) s → store_sectors layout ≤ count
+    → GoesOn layout past slot generation (state_spelling s) [] generation 0 (log_start layout generation) → FitState s → IsServable (body_limit layout) s → store_sectors layout ≤ count
     → Keeps past count layout slot generation 0 (log_start layout generation) s
 keeps_anew {past} {count} {layout} {slot} {generation} {s} is on fits may room =
     let this = on.store (seen past) is in
@@ -209,6 +209,17 @@ pub record_no_device : {places : List (ℕ × List ℕ)} {e : Refusal} → IsNoI
 record_no_device (here is) same = absurd (cc)
 record_no_device (later is more) same = record_no_device more same
 
+-- what was read of such a disk
+pub read_there : (layout : Layout) (image : Image) (slot : Slot) (generation count : ℕ) (body : List ℕ) (records : List (List ℕ))
+    → sectors.newest_of layout image ≡ Some (record { slot = slot; generation = generation; body = body }) → records_of layout generation image ≡ records
+    → count ≡ length records → IsRead layout image (record { generation = generation; records = count })
+read_there layout image slot generation count body records newest are counted = record {
+  newest = record { slot = slot; generation = generation; body = body };
+  is_newest = newest;
+  generation_is = refl;
+  records_are = counted ∙ ap (λ l. length l) (sym are);
+}
+
 -- ---- a value that has all the bytes
 
 nothing_whole : {V : Type 0} (o : Option (V × List ℕ)) (v : V) → nothing_left o ≡ Some v → o ≡ Some (v, [])
@@ -286,15 +297,18 @@ module _ (count : ℕ) (layout : Layout) (image : Image) (room : store_sectors l
       let same = same_Some n _ (sym (subst (λ l. sectors.newest_of l image ≡ Some n) one newest) ∙ there) in
       (one, ap (λ (m : sectors.Newest). m.generation) same, ap (λ (m : sectors.Newest). m.body) same)
 
-  -- a store isn't refused but in the last generation
-  pub store_unread : {e : Refusal} → IsUnread count image e → (e ≡ GenerationsSpent) × (generation ≡ 2 ^ 64 - 1)
+  -- a store of the last generation alone is refused by E20
+  pub store_spent : IsSpent count image → generation ≡ 2 ^ 64 - 1
+  store_spent h = sym (this h.layout h.newest h.has.first h.held).1 ∙ h.last
+
+  -- and none for a cause of its reading
+  pub store_unread : {e : Refusal} → ¬ IsUnread count image e
   store_unread (no_sector none) = absurd (omega (arith, none, room))
   store_unread (no_store some differs) = absurd (differs (ap (λ (x : Sector). take 6 x) store.first ∙ name_six layout))
   store_unread (other_format some name differs) = absurd (differs (ap (λ (x : Sector). take 8 x) store.first ∙ superblock_name layout))
   store_unread (no_layout some name none) = absurd (none layout (record { first = store.first; room = room }))
   store_unread (no_header {layout = other} has none) =
       absurd (none-some _ (sym (subst (λ l. sectors.newest_of l image ≡ None) (one_layout other layout image has.first store.first) none) ∙ there))
-  store_unread (spent {layout = other} {n = n} has newest last) = (refl, sym (this other n has.first newest).1 ∙ last)
   store_unread (no_state {layout = other} {n = n} has newest early none) =
       let same = this other n has.first newest in
       absurd (none start (record {
@@ -315,15 +329,24 @@ module _ (count : ℕ) (layout : Layout) (image : Image) (room : store_sectors l
       (record { name = first.is.name; generation_is = refl }) in
       absurd (omega (arith, below, is, same.1))
 
--- as a law of what is told of a disk
-pub a_store_unread : (count : ℕ) (layout : Layout) (image : Image) (s : State) (e : Refusal) → store_sectors layout ≤ count → IsStoreOf layout image s → IsUnread count image e → e ≡ GenerationsSpent
-a_store_unread count layout image s e room is unread =
-    let h = held is in (store_unread count layout image room h.slot h.generation h.body h.records h.start s h.inputs h.store h.comes unread).0
+-- as laws of what is told of a disk
+pub a_store_unread : (count : ℕ) (layout : Layout) (image : Image) (s : State) (e : Refusal) → store_sectors layout ≤ count → IsStoreOf layout image s → ¬ IsUnread count image e
+a_store_unread count layout image s e room is fails =
+    let h = held is in store_unread count layout image room h.slot h.generation h.body h.records h.start s h.inputs h.store h.comes fails
 
-pub a_taken_read : (count : ℕ) (layout : Layout) (image : Image) (slot : Slot) (generation : ℕ) (s : State) (e : Refusal) → IsTakenUp count image layout slot generation s → generation < 2 ^ 64 - 1 → ¬ IsUnread count image e
-a_taken_read count layout image slot generation s e t early unread =
+pub a_store_untaken : (count : ℕ) (layout : Layout) (image : Image) (s : State) (e : Refusal) → store_sectors layout ≤ count → IsStoreOf layout image s → IsUntaken count image e
+    → e ≡ GenerationsSpent
+a_store_untaken count layout image s e room is (unread fails) = absurd (a_store_unread count layout image s e room is fails)
+a_store_untaken count layout image s e room is (spent last) = refl
+
+pub a_taken_read : (count : ℕ) (layout : Layout) (image : Image) (slot : Slot) (generation : ℕ) (s : State) (e : Refusal) → IsTakenUp count image layout slot generation s → generation < 2 ^ 64 - 1
+    → ¬ IsUntaken count image e
+a_taken_read count layout image slot generation s e t early (unread fails) =
     let (inputs, comes) = taken_comes t in
-    let last = (store_unread count layout image t.room slot generation t.body (records_of layout generation image) t.start s inputs t.store comes unread).1 in
+    store_unread count layout image t.room slot generation t.body (records_of layout generation image) t.start s inputs t.store comes fails
+a_taken_read count layout image slot generation s e t early (spent is) =
+    let (inputs, comes) = taken_comes t in
+    let last = store_spent count layout image t.room slot generation t.body (records_of layout generation image) t.start s inputs t.store comes is in
     omega (arith, last, early)
 
 -- the state that was taken up, one generation on

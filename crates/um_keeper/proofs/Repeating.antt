@@ -1,7 +1,9 @@
 -- A finished oneshot isn't started again: no start of a unit at rest begins, and it stays at rest, until a command puts one.
 use Rattle.std.proofs.Common.{ℕ, ◌≡◌, ◌≢◌, ◌∙◌, ◌⊎◌, List, ◌++◌, Option, Some, None, refl, sym, subst, inl, inr}
 use Rattle.std.proofs.lemmas.Option.{none-some}
+use Rattle.std.proofs.lemmas.List.{map-append}
 use Rattle.std.specs.FinMap as map
+use Rattle.um_model.specs.Begun.{Begun, begun_settling, begun_firing, begun_following, begun_taking, begun_in, jobs_of, jobs_begun_in}
 use Rattle.um_model.specs.Disk.{Image}
 use Rattle.um_model.specs.Finished.{Finishes, IsAtRest}
 use Rattle.um_model.specs.Jobs.{Job, start_job, jobs_of_unit, state_of_job}
@@ -22,16 +24,20 @@ use Rattle.um_model.proofs.FinishedLaws.{happens_rest, resets_rest, next_rests, 
 use Rattle.um_model.proofs.FreeLaws.{cancelled_fewer, fewer_at}
 use Rattle.um_model.proofs.LeastLaws.{Among}
 use Rattle.um_model.proofs.LivesLaws.{lives_from}
-use Rattle.um_keeper.specs.Finished.{begun_settling, begun_firing, begun_following, begun_taking, begun_in, PlansStart, WaitsForCommand, RepeatsNone}
+use Rattle.um_keeper.specs.Finished.{PlansStart, WaitsForCommand, RepeatsNone}
 
 -- x: the unit at rest
 module _ (x : List ℕ) where
   -- of the jobs that begin none is a start of it
-  abbrev HasNone : List Job → Type 0
-  HasNone begun = ¬ Among begun (start_job x)
+  abbrev HasNone : List Begun → Type 0
+  HasNone begun = ¬ Among (jobs_of begun) (start_job x)
 
-  none_of_both : (first more : List Job) → HasNone first → HasNone more → HasNone (first ++ more)
-  none_of_both first more none none_later both = elim (among_either first more (start_job x) both) [ inl here ↦ none here | inr there ↦ none_later there ]
+  none_of_both : (first more : List Begun) → HasNone first → HasNone more → HasNone (first ++ more)
+  none_of_both first more none none_later both =
+      elim (among_either (jobs_of first) (jobs_of more) (start_job x) (subst (λ l. Among l (start_job x)) (map-append (λ (b : Begun). b.job) first more) both)) [
+        | inl here ↦ none here
+        | inr there ↦ none_later there
+      ]
 
   settles_none : (t : ℕ) (s : State) (actions : List Action) (v : State) (h : Settles t s actions v) → IsAtRest s x → HasNone (begun_settling h)
   settles_none t s actions v (Settles.rests still) rest = λ none. none
@@ -122,7 +128,7 @@ module _ (x : List ℕ) where
   run_waits Run.rests rest = tt
   run_waits {size = size} (goes {s = s} {t = t} {input = input} reply actions step run) rest =
       elim (step_leaves size s input reply actions t step rest) [
-        | inl (none, rests) ↦ inr ((λ begun. none (among_contained (begun_in step) (start_job x) begun)), run_waits run rests)
+        | inl (none, rests) ↦ inr ((λ begun. none (among_contained (jobs_begun_in step) (start_job x) begun)), run_waits run rests)
         | inr puts ↦ inl puts
       ]
 

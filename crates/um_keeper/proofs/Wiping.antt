@@ -12,8 +12,7 @@ use Rattle.um_model.specs.declared.layout.Layout.{Layout}
 use Rattle.um_model.specs.declared.layout.Slot.{Slot}
 use Rattle.um_model.specs.declared.layout.Slot.TheVariants.{A, B}
 use Rattle.um_model.proofs.DiskLaws.{with_same, during_write, during_sync, followed, weaker, started, at_end, image_synced}
-use Rattle.um_model.proofs.FewLaws.{empty_few}
-use Rattle.um_model.proofs.FitStateLaws.{fit_of_whole, empty_whole}
+use Rattle.um_model.proofs.FitStateLaws.{empty_fit}
 use Rattle.um_model.proofs.StandsLaws.{contents_are, empty_store, empty_back, empty_may}
 use Rattle.um_model.proofs.StoreLaws.{blank_header, blank_log, made_store}
 use Rattle.um_model.proofs.WholeLaws.{spelled_room}
@@ -110,7 +109,7 @@ wiped_free layout image w theirs j low high is = absurd (blank_log theirs (subst
 
 -- whose bytes have room
 pub empty_room : (layout : Layout) → length (state_spelling empty_state) ≤ body_limit layout
-empty_room layout = spelled_room (body_limit layout) empty_state (fit_of_whole empty_state empty_few empty_whole) (empty_may layout)
+empty_room layout = spelled_room (body_limit layout) empty_state empty_fit (empty_may layout)
 
 module _ (layout : Layout) (mid : Image) (newest : IsNewest layout mid A 1 (state_spelling empty_state)) (free : IsFree layout 1 mid (log_start layout 1)) where
   makes : (image : Image) → image 0 ≡ superblock layout → ((j : ℕ) → 1 ≤ j → image j ≡ mid j) → IsEmptyStore layout image

@@ -12,6 +12,7 @@ use Rattle.um_log.specs.Reading.{Fits}
 use Rattle.um_state.specs.View.{input_of}
 use Rattle.um_state.specs.declared.input.Input.{Input}
 use Rattle.um_keeper.specs.declared.keeper.Keeper.{Keeper}
+use Rattle.um_keeper.specs.declared.keeper.OpenedStore.{OpenedStore}
 
 abbrev pub disk_in : {D : Type 0} {g : _} → Keeper D g → D
 disk_in k = k.disk
@@ -44,10 +45,15 @@ next_in k = k.log.next
 abbrev pub has_failed : {D : Type 0} {g : _} → Keeper D g → Bool
 has_failed k = k.failed
 
--- the same layout, and the same size of the store
+-- what was read of the store when it was opened
+abbrev pub opened_in : {D : Type 0} {g : _} → Keeper D g → OpenedStore
+opened_in k = k.opened
+
+-- the same layout, the same size of the store, and the same opening
 pub record IsSamePlace {D : Type 0} {g : _} (old new : Keeper D g) : Type 0 where
   pub layout : layout_in new ≡ layout_in old
   pub size : size_in new ≡ size_in old
+  pub opened : opened_in new ≡ opened_in old
 
 -- the log has no room for a record of so many bytes, and the generation is the last
 pub record HasNoRoom {D : Type 0} {g : _} (k : Keeper D g) (bytes : ℕ) : Type 0 where

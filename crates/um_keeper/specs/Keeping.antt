@@ -8,7 +8,7 @@ use Rattle.um_model.specs.Machine.{State, Input, Run}
 use Rattle.um_model.specs.Servable.{IsServable}
 use Rattle.um_model.specs.StateSpellings.{FitState, state_spelling}
 use Rattle.um_model.specs.Stands.{Contents, contents_of, IsStoreOf}
-use Rattle.um_model.specs.Store.{superblock, body_limit, log_start, log_end, newest_of, records_of, sectors_of, sector_count, part_count, IsFree}
+use Rattle.um_model.specs.Store.{superblock, body_limit, log_start, log_end, store_sectors, newest_of, records_of, sectors_of, sector_count, part_count, IsFree}
 use Rattle.um_model.specs.declared.layout.Layout.{Layout}
 use Rattle.um_model.specs.declared.layout.Slot.{Slot}
 
@@ -37,7 +37,7 @@ pub record Keeps (past : Past) (sectors : ℕ) (layout : Layout) (slot : Slot) (
   pub count : number ≡ length (records_of layout generation (seen past))
   pub place : next ≡ log_start layout generation + sectors_of (records_of layout generation (seen past))
   pub within : next ≤ log_end layout generation
-  pub on_disk : log_end layout generation ≤ sectors
+  pub on_disk : store_sectors layout ≤ sectors
 
 -- a store of the state after a beginning of these inputs
 pub record IsBegun (layout : Layout) (s : State) (inputs : List Input) (image : Image) : Type 0 where

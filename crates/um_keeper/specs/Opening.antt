@@ -1,7 +1,7 @@
 -- What opening reads of a disk, and why it isn't taken up.
 -- No manual page has it: it is the project's own format (docs/FORMATS.md, "The store on its disk").
 -- `Keeper::open` stands on this file.
-use Rattle.std.specs.Prelude.{◌≡◌, ◌+◌, ◌-◌, ◌^◌, ◌<◌, ◌≤◌, ℕ, List, [], ◌∷◌, take, Some, None}
+use Rattle.std.specs.Prelude.{◌≡◌, ◌+◌, ◌-◌, ◌^◌, ◌<◌, ◌≤◌, ℕ, List, [], ◌∷◌, length, take, Some, None}
 use Rattle.um_model.specs.Bytes.{nothing_left}
 use Rattle.um_model.specs.Disk.{Image, Past, IsImage}
 use Rattle.um_model.specs.InputSpellings.{input_at}
@@ -17,6 +17,7 @@ use Rattle.um_model.specs.declared.layout.Slot.{Slot}
 use Rattle.um_wire.specs.declared.refusal.Refusal.{Refusal}
 use Rattle.um_wire.specs.declared.refusal.Refusal.TheVariants.{Damaged, NotFormatted, GenerationsSpent, OtherLayout}
 use Rattle.um_log.specs.Later.{IsFirstLater}
+use Rattle.um_keeper.specs.declared.keeper.OpenedStore.{OpenedStore}
 
 -- sector 0 tells a layout for which a disk of so many sectors has room
 pub record HasLayout (count : ℕ) (image : Image) (layout : Layout) : Type 0 where
@@ -53,8 +54,6 @@ pub data IsUnread (count : ℕ) (image : Image) : Refusal → Type 0 where
   other_format : 0 < count → take 6 (image 0) ≡ store_name → ¬ (take 8 (image 0) ≡ store_format) → IsUnread count image OtherLayout
   no_layout : 0 < count → take 8 (image 0) ≡ store_format → ((layout : Layout) → ¬ HasLayout count image layout) → IsUnread count image (Damaged 0)
   no_header : {layout : Layout} → HasLayout count image layout → newest_of layout image ≡ None → IsUnread count image (Damaged 1)
-  spent : {layout : Layout} {n : Newest} → HasLayout count image layout → newest_of layout image ≡ Some n → n.generation ≡ 2 ^ 64 - 1
-      → IsUnread count image GenerationsSpent
   no_state : {layout : Layout} {n : Newest} → HasLayout count image layout → newest_of layout image ≡ Some n → n.generation < 2 ^ 64 - 1
       → ((s : State) → ¬ IsStart layout n.body s) → IsUnread count image (Damaged (slot_start layout n.slot + 1))
   no_input : {layout : Layout} {n : Newest} {s : State} {e : Refusal} → HasLayout count image layout → newest_of layout image ≡ Some n
@@ -63,6 +62,19 @@ pub data IsUnread (count : ℕ) (image : Image) : Refusal → Type 0 where
   later_sector : {layout : Layout} {n : Newest} {s t : State} {j : ℕ} → HasLayout count image layout → newest_of layout image ≡ Some n
       → n.generation < 2 ^ 64 - 1 → IsStart layout n.body s → Replays (body_limit layout) (records_of layout n.generation image) s t
       → IsFirstLater layout n.generation image j → IsUnread count image (Damaged j)
+
+-- The newest snapshot of what a read gives is of the last generation, so that no next one can be written.
+pub record IsSpent (count : ℕ) (image : Image) : Type 0 where
+  pub layout : Layout
+  pub newest : Newest
+  pub has : HasLayout count image layout
+  pub held : newest_of layout image ≡ Some newest
+  pub last : newest.generation ≡ 2 ^ 64 - 1
+
+-- Why a disk isn't taken up: for a cause of its reading, or by E20.
+pub data IsUntaken (count : ℕ) (image : Image) : Refusal → Type 0 where
+  unread : {e : Refusal} → IsUnread count image e → IsUntaken count image e
+  spent : IsSpent count image → IsUntaken count image GenerationsSpent
 
 -- What a read gives is taken up: a store of this layout on the disk, whose newest snapshot and its records come to the state.
 pub record IsTakenUp (count : ℕ) (image : Image) (layout : Layout) (slot : Slot) (generation : ℕ) (s : State) : Type 0 where
@@ -80,6 +92,13 @@ pub record IsNextOf (count : ℕ) (image : Image) (layout : Layout) (slot : Slot
   pub turned : slot ≡ sectors.other before
   pub next : generation ≡ earlier + 1
   pub taken : IsTakenUp count image layout before earlier s
+
+-- What was read of an image: the generation of its newest header, and the count of the records of that generation, which are replayed.
+pub record IsRead (layout : Layout) (image : Image) (opened : OpenedStore) : Type 0 where
+  pub newest : Newest
+  pub is_newest : newest_of layout image ≡ Some newest
+  pub generation_is : opened.generation ≡ newest.generation
+  pub records_are : opened.records ≡ length (records_of layout newest.generation image)
 
 -- what a store of this layout may hold, and what has bytes
 pub record IsKept (layout : Layout) (size : ℕ) (s : State) : Type 0 where

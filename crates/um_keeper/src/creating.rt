@@ -71,7 +71,7 @@ fn lay<D: Disk>(disk: &mut D, layout: Layout, body: &Body) -> Result<(), Refusal
 /// E15, with nothing written; E16 where a disk call fails. Until the first sync each image is one of before, or of no store; from
 /// then on it is of no store, or of the empty state's.
 pub fn create<D: Disk>(alloc: Global, disk: &mut D, layout: Layout) -> Result<(), Refusal>
-    requires room { store.log_end layout 1 ≤ D.size disk.old }
+    requires room { store.store_sectors layout ≤ D.size disk.old }
     ensures during { IsTrue (D.honest disk.old) → WhileCreated layout (D.past disk.old) (D.past disk.new) }
     ensures ok { OnOk result (IsTrue (D.honest disk.old) → Images (D.past disk.new) (IsEmptyStore layout)) }
     ensures kept { IfErr result (λ e. (e ≡ Refusal.Device) ⊎ (disk.new ≡ disk.old)) }

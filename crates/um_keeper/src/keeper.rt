@@ -8,7 +8,7 @@ ghost use Rattle.um_engine.specs.OfStore.{is_of_store};
 ghost use Rattle.um_keeper.specs.Keeping.{MayHold, Keeps, IsBegun, record_calls, snapshot_calls};
 ghost use Rattle.um_log.specs.Reading.{Fits};
 ghost use Rattle.um_model.specs.Disk.{During, Images};
-ghost use Rattle.um_model.specs.InputSpellings.{FitInput, input_spelling};
+ghost use Rattle.um_model.specs.InputSpellings.{FitInput, input_limit, input_spelling};
 ghost use Rattle.um_model.specs.Machine as model;
 ghost use Rattle.um_model.specs.Machine.{Step, moment_of};
 ghost use Rattle.um_engine.specs.Engine.{LacksEffect};
@@ -31,6 +31,15 @@ use um_slot::{Home, write_other};
 use um_state::{Input, Query, Reply, State};
 use um_wire::{Canon, Refusal};
 
+/// What was read of a store when it was opened.
+#[derive(Clone, Copy, Debug, PartialEq, Eq)]
+pub struct OpenedStore {
+    /// The generation of its newest header.
+    pub generation: u64,
+    /// So many records of that generation were replayed.
+    pub records: usize,
+}
+
 /// The engine over its store on a disk. Whichever image a crash leaves of the disk, it is a store of the engine's state, as long as
 /// the disk does what it answers and no call on it failed.
 #[derive(Drop)]
@@ -42,6 +51,7 @@ pub struct Keeper<D: Disk> {
     pub(crate) log: Log,
     /// A call on the disk failed, so that it isn't known what stands there.
     pub(crate) failed: bool,
+    pub(crate) opened: OpenedStore,
     ghost same: { log.generation ≡ home.generation },
     ghost holds: { MayHold log.layout (machine.size_in engine) (machine.state_in engine) },
     ghost kept: { failed ≡ false → IsTrue (D.honest disk)
@@ -79,7 +89,14 @@ fn noted(failed: &mut bool, refusal: Refusal) -> Refusal
 }
 
 impl<D: Disk> Keeper<D> {
-    ghost use Rattle.um_keeper.specs.Keepers.{disk_in, state_in, size_in, layout_in, slot_in, generation_in, number_in, next_in, has_failed, IsSamePlace, HasNoRoom, IsPlanned};
+    ghost use Rattle.um_keeper.specs.Keepers.{disk_in, state_in, size_in, layout_in, slot_in, generation_in, number_in, next_in, has_failed, opened_in, IsSamePlace, HasNoRoom, IsPlanned};
+
+    /// What was read of the store when it was opened.
+    pub fn opened(&self) -> OpenedStore
+        ensures { result ≡ opened_in self.now }
+    {
+        self.opened
+    }
 
     /// The state.
     pub fn state(&self) -> &State
@@ -155,7 +172,7 @@ impl<D: Disk> Keeper<D> {
     fn make_room(&mut self, bytes: usize) -> Result<(), Refusal>
         requires working { self.old.failed ≡ false }
         requires some { 0 < bytes }
-        requires short { bytes ≤ 131072 }
+        requires short { bytes ≤ input_limit }
         ensures during { IsTrue (D.honest (disk_in self.old))
             → During (D.past (disk_in self.old)) (D.past (disk_in self.new)) (λ image. IsStoreOf (layout_in self.old) image (state_in self.old)) }
         ensures fits { OnOk result (Fits (layout_in self.new) (generation_in self.new) (next_in self.new) bytes) }

@@ -1,13 +1,14 @@
 //! What the definitions of a store say together, as functions that do nothing.
-ghost use Rattle.std.specs.Prelude.{◌≡◌, ◌↔◌, ℕ, List};
+ghost use Rattle.std.specs.Prelude.{◌≡◌, ◌↔◌, ◌≤◌, ℕ, List};
 ghost use Rattle.um_keeper.specs.Finished.{RepeatsNone, WaitsForCommand};
 ghost use Rattle.um_model.specs.Disk.{Image};
 ghost use Rattle.um_model.specs.Finished.{IsAtRest};
 ghost use Rattle.um_model.specs.Lives.{Life, Lived, AreKept, HasInOrder, all_answered};
-ghost use Rattle.um_model.specs.Machine.{State, Input, Run, empty_state};
-ghost use Rattle.um_model.proofs.UnreadLaws.{IsRead};
+ghost use Rattle.um_model.specs.Machine.{State, Input, Run};
 ghost use Rattle.um_model.specs.Stands.{StandsFor, IsStoreOf};
-ghost use Rattle.um_model.specs.Store.{superblock, body_limit};
+ghost use Rattle.um_model.specs.InputSpellings.{input_limit};
+ghost use Rattle.um_model.specs.Store.{superblock, body_limit, record_limit};
+ghost use Rattle.um_model.specs.Unread.{IsRead};
 ghost use Rattle.um_model.specs.declared.layout.Layout.{Layout};
 
 /// An image stands for one state at most, of one layout.
@@ -21,12 +22,17 @@ pub fn unread_sectors_of_a_store_do_not_count()
     ensures { (layout : Layout) (a b : Image) → ((j : ℕ) → IsRead layout a j → b j ≡ a j) → (s : State) → StandsFor layout a s ↔ StandsFor layout b s }
 {}
 
-/// However many lives a store has, each opened on the image that the crash of the one before it left: from the image of a new store on,
-/// the last image is a store of the state that a run from the empty one over what was kept comes to, and that holds all that was
-/// answered, in its order.
+/// An input that isn't refused has room in a record of each generation.
+pub fn an_input_has_room_in_a_record()
+    ensures { (layout : Layout) (generation : ℕ) → input_limit ≤ record_limit layout generation }
+{}
+
+/// However many lives a store has, each opened on the image that the crash of the one before it left: from an image of a store on, as a
+/// new one, the last image is a store of the state that a run from the first one's over what was kept comes to, and that holds all that
+/// was answered, in its order.
 pub fn what_was_answered_outlives_crashes()
-    ensures state { (layout : Layout) (first last : Image) (lives : List Life) → IsStoreOf layout first empty_state → Lived layout first lives last
-        → (kept : List Input) × AreKept lives kept × (s : State) × Run (body_limit layout) empty_state kept s × IsStoreOf layout last s }
+    ensures state { (layout : Layout) (first last : Image) (lives : List Life) (s : State) → IsStoreOf layout first s → Lived layout first lives last
+        → (kept : List Input) × AreKept lives kept × (t : State) × Run (body_limit layout) s kept t × IsStoreOf layout last t }
     ensures answered { (lives : List Life) (kept : List Input) → AreKept lives kept → HasInOrder (all_answered lives) kept }
 {}
 

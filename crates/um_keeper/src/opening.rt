@@ -2,7 +2,7 @@ ghost use Rattle.std.specs.Prelude.{◌≡◌, ◌⊎◌, ◌↔◌, ℕ, ◌+�
 ghost use Rattle.std.specs.Option.{option_map};
 ghost use Rattle.um_engine.specs.Engine.{state_in, size_in};
 ghost use Rattle.um_keeper.specs.Keeping.{Keeps};
-ghost use Rattle.um_keeper.specs.Opening.{HasLayout, IsStart, Leads, Replays, IsNoInput, IsUnread, IsTakenUp, IsNextOf, IsKept, IsSomeStore, IsAsBefore};
+ghost use Rattle.um_keeper.specs.Opening.{HasLayout, IsStart, Leads, Replays, IsNoInput, IsUnread, IsUntaken, IsTakenUp, IsNextOf, IsRead, IsKept, IsSomeStore, IsAsBefore};
 ghost use Rattle.um_log.specs.Reading.{bytes_of, places_of};
 ghost use Rattle.um_model.specs.Bytes.{nothing_left};
 ghost use Rattle.um_model.specs.Disk.{Image, seen, Images, IsSettled, During};
@@ -19,7 +19,7 @@ ghost use Rattle.um_wire.specs.declared.refusal.Refusal as declared_refusal;
 ghost use Rattle.um_sector.specs.Refused.{CountsDevice, IsLost};
 ghost use Rattle.um_state.specs.View.{state_of, input_of};
 
-use crate::keeper::Keeper;
+use crate::keeper::{Keeper, OpenedStore};
 use std::alloc::{AllocError, Global};
 use um_engine::Engine;
 use um_log::{Log, Record, first_later, scan};
@@ -29,13 +29,14 @@ use um_slot::{Home, newest, read_superblock, write_other};
 use um_state::{Input, State};
 use um_wire::{Refusal, read_whole};
 
-/// What was taken up of a disk: the layout of its store, where the newest snapshot stands, and the engine in the state that the
-/// store stands for.
+/// What was taken up of a disk: the layout of its store, where the newest snapshot stands, the engine in the state that the store stands for,
+/// and how many records were replayed to it.
 #[derive(Drop)]
 struct Found {
     layout: Layout,
     home: Home,
     engine: Engine,
+    records: usize,
 }
 
 /// What a keeper needs beside its disk.
@@ -44,6 +45,7 @@ pub(crate) struct Held {
     pub(crate) engine: Engine,
     pub(crate) home: Home,
     pub(crate) log: Log,
+    pub(crate) opened: OpenedStore,
 }
 
 /// The layout that sector 0 tells, of a store for which the disk has room.
@@ -153,10 +155,12 @@ fn replay(alloc: Global, engine: &mut Engine, records: &[Record]) -> Result<(), 
 fn take_up<D: Disk>(alloc: Global, disk: &mut D) -> Result<Found, Refusal>
     ensures found { IfOk result (λ f. IsTrue (D.honest disk.old)
         → IsTakenUp (D.size disk.old) (seen (D.past disk.old)) f.layout f.home.slot f.home.generation (state_in f.engine)) }
+    ensures read { IfOk result (λ f. IsTrue (D.honest disk.old)
+        → IsRead f.layout (seen (D.past disk.old)) (record { generation = f.home.generation; records = f.records })) }
     ensures kept { IfOk result (λ f. IsKept f.layout (size_in f.engine) (state_in f.engine)) }
     ensures last { IfOk result (λ f. f.home.generation < 2 ^ 64 - 1) }
     ensures room { IfOk result (λ f. store_sectors f.layout ≤ D.size disk.old) }
-    ensures err { IfErr result (λ e. IsLost e ⊎ (IsTrue (D.honest disk.old) → IsUnread (D.size disk.old) (seen (D.past disk.old)) e)) }
+    ensures err { IfErr result (λ e. IsLost e ⊎ (IsTrue (D.honest disk.old) → IsUntaken (D.size disk.old) (seen (D.past disk.old)) e)) }
     ensures past { IsTrue (D.honest disk.old) → D.past disk.new ≡ D.past disk.old }
     ensures failures { CountsDevice result (D.failures disk.old) (D.failures disk.new) }
     ensures size { D.size disk.new ≡ D.size disk.old }
@@ -183,6 +187,7 @@ fn take_up<D: Disk>(alloc: Global, disk: &mut D) -> Result<Found, Refusal>
         layout,
         home,
         engine,
+        records: records.len(),
     })
 }
 
@@ -198,7 +203,8 @@ fn renew<D: Disk>(alloc: Global, disk: &mut D, found: Found) -> Result<Held, Ref
         → IsTakenUp (D.size disk.old) (seen (D.past disk.old)) found.layout found.home.slot found.home.generation (state_in found.engine)
         → Keeps (D.past disk.new) (D.size disk.new) held.log.layout held.home.slot held.home.generation held.log.number held.log.next (state_in held.engine)) }
     ensures held { IfOk result (λ held. (state_in held.engine ≡ state_in found.engine) × (size_in held.engine ≡ size_in found.engine)
-        × (held.log.layout ≡ found.layout) × (held.home.slot ≡ other found.home.slot) × (held.home.generation ≡ found.home.generation + 1) × (held.log.generation ≡ held.home.generation) × (held.log.number ≡ 0)) }
+        × (held.log.layout ≡ found.layout) × (held.home.slot ≡ other found.home.slot) × (held.home.generation ≡ found.home.generation + 1) × (held.log.generation ≡ held.home.generation) × (held.log.number ≡ 0)
+        × (held.opened ≡ record { generation = found.home.generation; records = found.records })) }
     ensures failures { CountsDevice result (D.failures disk.old) (D.failures disk.new) }
     ensures err { IfErr result IsLost }
     ensures size { D.size disk.new ≡ D.size disk.old }
@@ -213,6 +219,10 @@ fn renew<D: Disk>(alloc: Global, disk: &mut D, found: Found) -> Result<Held, Ref
         engine: found.engine,
         home,
         log: Log::new(found.layout, home.generation),
+        opened: OpenedStore {
+            generation: found.home.generation,
+            records: found.records,
+        },
     })
 }
 
@@ -224,9 +234,10 @@ pub(crate) fn recover<D: Disk>(alloc: Global, disk: &mut D) -> Result<Held, Refu
         → Keeps (D.past disk.new) (D.size disk.new) held.log.layout held.home.slot held.home.generation held.log.number held.log.next (state_in held.engine)) }
     ensures taken { IfOk result (λ held. IsTrue (D.honest disk.old)
         → IsNextOf (D.size disk.old) (seen (D.past disk.old)) held.log.layout held.home.slot held.home.generation (state_in held.engine)) }
+    ensures opened { IfOk result (λ held. IsTrue (D.honest disk.old) → IsRead held.log.layout (seen (D.past disk.old)) held.opened) }
     ensures kept { IfOk result (λ held. IsKept held.log.layout (size_in held.engine) (state_in held.engine)) }
     ensures anew { IfOk result (λ held. (held.log.generation ≡ held.home.generation) × (held.log.number ≡ 0)) }
-    ensures err { IfErr result (λ e. IsLost e ⊎ (IsTrue (D.honest disk.old) → IsUnread (D.size disk.old) (seen (D.past disk.old)) e)) }
+    ensures err { IfErr result (λ e. IsLost e ⊎ (IsTrue (D.honest disk.old) → IsUntaken (D.size disk.old) (seen (D.past disk.old)) e)) }
     ensures failures { CountsDevice result (D.failures disk.old) (D.failures disk.new) }
     ensures size { D.size disk.new ≡ D.size disk.old }
     ensures honest { D.honest disk.new ≡ D.honest disk.old }
@@ -253,7 +264,8 @@ impl<D: Disk> Keeper<D> {
         ensures ok { IfOk result (λ k. (k.failed ≡ false) × (k.log.number ≡ 0) × (D.honest k.disk ≡ D.honest disk) × (D.size k.disk ≡ D.size disk)) }
         ensures taken { IfOk result (λ k. IsTrue (D.honest disk)
             → IsNextOf (D.size disk) (seen (D.past disk)) k.log.layout k.home.slot k.home.generation (state_in k.engine)) }
-        ensures err { IfErr result (λ e. IsLost e.0 ⊎ (IsTrue (D.honest disk) → IsUnread (D.size disk) (seen (D.past disk)) e.0)) }
+        ensures opened { IfOk result (λ k. IsTrue (D.honest disk) → IsRead k.log.layout (seen (D.past disk)) k.opened) }
+        ensures err { IfErr result (λ e. IsLost e.0 ⊎ (IsTrue (D.honest disk) → IsUntaken (D.size disk) (seen (D.past disk)) e.0)) }
         ensures device { IfErr result (λ e. ((e.0 ≡ Refusal.Device) × (D.failures e.1 ≡ one_more (D.failures disk))) ⊎ ((¬ (e.0 ≡ Refusal.Device)) × (D.failures e.1 ≡ D.failures disk))) }
         ensures quiet { IfOk result (λ k. D.failures k.disk ≡ D.failures disk) }
         ensures back { IfErr result (λ e. (D.size e.1 ≡ D.size disk) × (D.honest e.1 ≡ D.honest disk)) }
@@ -266,20 +278,23 @@ impl<D: Disk> Keeper<D> {
                 home: held.home,
                 log: held.log,
                 failed: false,
+                opened: held.opened,
             }),
             Err(refusal) => Err((refusal, disk)),
         }
     }
 }
 
-/// A store for which the disk has room isn't refused but in its last generation.
+/// A store for which the disk has room isn't refused for any cause of its reading, so that E20 alone may refuse it, in its last generation.
 pub fn a_store_is_taken_up()
-    ensures { (count : ℕ) (layout : declared.Layout) (image : Image) (s : model.State) (e : declared_refusal.Refusal) → store_sectors layout ≤ count → IsStoreOf layout image s
-        → IsUnread count image e → e ≡ Refusal.GenerationsSpent }
+    ensures read { (count : ℕ) (layout : declared.Layout) (image : Image) (s : model.State) (e : declared_refusal.Refusal) → store_sectors layout ≤ count → IsStoreOf layout image s
+        → ¬ IsUnread count image e }
+    ensures spent { (count : ℕ) (layout : declared.Layout) (image : Image) (s : model.State) (e : declared_refusal.Refusal) → store_sectors layout ≤ count → IsStoreOf layout image s
+        → IsUntaken count image e → e ≡ Refusal.GenerationsSpent }
 {}
 
 /// What is taken up isn't refused.
 pub fn what_is_taken_up_is_not_refused()
     ensures { (count : ℕ) (layout : declared.Layout) (image : Image) (slot : declared_slot.Slot) (generation : ℕ) (s : model.State) (e : declared_refusal.Refusal)
-        → IsTakenUp count image layout slot generation s → generation < 2 ^ 64 - 1 → ¬ IsUnread count image e }
+        → IsTakenUp count image layout slot generation s → generation < 2 ^ 64 - 1 → ¬ IsUntaken count image e }
 {}

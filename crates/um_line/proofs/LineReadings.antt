@@ -1,5 +1,5 @@
 -- What words are read as, by what clap answered.
-use Rattle.std.proofs.Common.{◌≡◌, ◌≢◌, ◌⊎◌, ◌<◌, ◌^◌, arith, Option, Some, ℕ, List, [], Result, Ok, Err, IfOk, OnOk, inl, inr, true, refl, subst, ap, ◌∙◌}
+use Rattle.std.proofs.Common.{◌≡◌, ◌≢◌, ◌⊎◌, ◌∷◌, ◌<◌, ◌≤◌, ◌^◌, arith, drop, sym, Option, Some, ℕ, List, [], Result, Ok, Err, IfOk, OnOk, inl, inr, true, refl, subst, ap, ◌∙◌}
 use Rattle.clap.proofs.OnLiterals.{clap_on_literals}
 use Rattle.clap.specs.Words.{App, Kinds, HasKind, IsAmong, Row, Rule, with_rule, fault_of, is_simple_and_free, is_simple, kind_of, matches_of}
 use Rattle.clap.specs.declared.error.Error.{Error}
@@ -7,9 +7,9 @@ use Rattle.clap.specs.declared.error.kind.ErrorKind.{ErrorKind}
 use Rattle.clap.specs.declared.error.kind.ErrorKind.TheVariants.{OutOfMemory}
 use Rattle.std.proofs.lemmas.Fmt.{decimal_injective}
 use Rattle.std.specs.Prelude.{decimal}
-use Rattle.um_line.specs.Line.{IsNoNumber, IsReadLine, IsToldAs, TellsMistake, umd_words, create_words, serve_words, ctl_words}
+use Rattle.um_line.specs.Line.{IsNoCode, IsNoNumber, IsReadLine, last_refusal, IsToldAs, TellsMistake, umd_words, create_words, serve_words, ctl_words}
 use Rattle.um_line.specs.declared.line.Line.{Line}
-use Rattle.um_line.specs.declared.line.Line.TheVariants.{Memory, Run, Create, Serve, LongBoot, Ctl, Told, Wrong}
+use Rattle.um_line.specs.declared.line.Line.TheVariants.{Memory, Run, Create, Serve, LongBoot, Ctl, Help, Told, Wrong}
 
 -- the words of the program are simple ones
 pub umd_simple : is_simple_and_free umd_words ≡ true
@@ -50,6 +50,7 @@ told mistakes kind (Create line) among is = absurd is
 told mistakes kind (Serve line) among is = absurd is
 told mistakes kind LongBoot among is = absurd is
 told mistakes kind (Ctl line) among is = absurd is
+told mistakes kind (Help n) among is = absurd is
 
 -- a mistake is told
 pub mistaken : {E : Type 0} (mistakes : Kinds) (Takes : Line → Type 0) (e : Error) (r : Result Line E) → HasKind mistakes e
@@ -93,4 +94,14 @@ outside low high m bytes text some is below small (inl under) n least most same 
     let eq = decimal_injective m n below (omega arith) e in omega arith
 outside low high m bytes text some is below small (inr over) n least most same =
     let e : decimal m ≡ decimal n = cc in
+    let eq = decimal_injective m n below (omega arith) e in omega arith
+
+-- a number outside the refusals' is the word for none of them
+pub no_code : (m : ℕ) (word digits : List ℕ) → word ≡ 69 ∷ digits → digits ≡ decimal m → m < 2 ^ 64 → (m < 1) ⊎ ((1 ≤ m) × (last_refusal < m))
+    → IsNoCode word
+no_code m word digits is said below (inl under) n least most same =
+    let e : decimal m ≡ decimal n = sym said ∙ ap (drop 1) (sym is ∙ same) in
+    let eq = decimal_injective m n below (omega arith) e in omega arith
+no_code m word digits is said below (inr (not_under, over)) n least most same =
+    let e : decimal m ≡ decimal n = sym said ∙ ap (drop 1) (sym is ∙ same) in
     let eq = decimal_injective m n below (omega arith) e in omega arith

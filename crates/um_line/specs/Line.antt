@@ -11,7 +11,7 @@ use Rattle.um_line.specs.declared.create.CreateLine.{CreateLine}
 use Rattle.um_line.specs.declared.ctl.CtlLine.{CtlLine}
 use Rattle.um_line.specs.declared.serve.ServeLine.{ServeLine}
 use Rattle.um_line.specs.declared.line.Line.{Line}
-use Rattle.um_line.specs.declared.line.Line.TheVariants.{Memory, Run, Create, Serve, LongBoot, Ctl, Told, Wrong}
+use Rattle.um_line.specs.declared.line.Line.TheVariants.{Memory, Run, Create, Serve, LongBoot, Ctl, Help, Told, Wrong}
 use Rattle.um_line.specs.declared.line.Subcommand.{Subcommand}
 use Rattle.um_line.specs.declared.line.Subcommand.TheVariants as sub
 use Rattle.um_runner.specs.Runner.{runner_words}
@@ -113,6 +113,10 @@ most_sectors = 2 ^ 20
 abbrev pub boot_limit : ℕ
 boot_limit = 64
 
+-- the number of the last refusal
+abbrev pub last_refusal : ℕ
+last_refusal = 22
+
 -- ---- lines
 
 abbrev pub IsMemory : Line → Type 0
@@ -197,6 +201,21 @@ TakesCtl rows other = ⊥
 abbrev pub IsCtlLine : List (List ℕ) → Line → Type 0
 IsCtlLine words = IsReadLine (fault_of ctl_words words) (TakesCtl (matches_of ctl_words words))
 
+-- the word for a refusal: an `E` and its number in decimal digits
+abbrev pub IsCode : ℕ → List ℕ → Type 0
+IsCode n word = (word ≡ 69 ∷ decimal n) × (1 ≤ n) × (n ≤ last_refusal)
+
+-- it is no such word
+abbrev pub IsNoCode : List ℕ → Type 0
+IsNoCode word = (n : ℕ) → 1 ≤ n → n ≤ last_refusal → word ≢ 69 ∷ decimal n
+
+-- what the words behind `help` ask for: what one refusal means, or how `umd help` is used
+abbrev pub IsHelpLine : List (List ℕ) → Line → Type 0
+IsHelpLine words (Help n) = (word : List ℕ) × (words ≡ word ∷ []) × IsCode n word
+IsHelpLine words (Told text) = (words ≡ []) ⊎ (words ≡ codes "--help" ∷ [])
+IsHelpLine words (Wrong text) = (words ≢ []) × (words ≢ codes "--help" ∷ []) × ((word : List ℕ) → words ≡ word ∷ [] → IsNoCode word)
+IsHelpLine words other = ⊥
+
 -- ---- all of them
 
 abbrev pub named : Option (List ℕ) → Subcommand
@@ -205,7 +224,8 @@ named (Some word) =
     if bytes_eq word (codes "run") then sub.Run
     else (if bytes_eq word (codes "create") then sub.Create
     else (if bytes_eq word (codes "serve") then sub.Serve
-    else (if bytes_eq word (codes "ctl") then sub.Ctl else sub.Nothing)))
+    else (if bytes_eq word (codes "ctl") then sub.Ctl
+    else (if bytes_eq word (codes "help") then sub.Help else sub.Nothing))))
 
 -- the subcommand behind the program's name
 abbrev pub subcommand_of : List (List ℕ) → Subcommand
@@ -216,6 +236,7 @@ IsLineBy sub.Run words = IsRunLine (drop 1 (drop 1 words))
 IsLineBy sub.Create words = IsCreateLine (drop 1 words)
 IsLineBy sub.Serve words = IsServeLine (drop 1 words)
 IsLineBy sub.Ctl words = IsCtlLine (drop 1 words)
+IsLineBy sub.Help words = IsHelpLine (drop 1 (drop 1 words))
 IsLineBy sub.Nothing words = IsTopLine words
 
 -- what the words of a command line ask for

@@ -1,14 +1,16 @@
 //! The words of `umd ctl`.
 
-ghost use Rattle.std.specs.Prelude.{◌≡◌, IfOk, map, string_bytes};
-ghost use Rattle.clap.specs.Words.{app_of, found_of, rows_of};
-ghost use Rattle.um_line.specs.Line.{ctl_words, IsCtlLine, TakesCtl};
+ghost use Rattle.std.specs.Prelude.{◌≡◌, ◌≢◌, IfOk, OnOk, map, string_bytes};
+ghost use Rattle.clap.specs.Words.{app_of, found_of, kind_of, rows_of};
+ghost use Rattle.um_line.specs.Line.{ctl_words, IsCtlLine, IsToldAs, TakesCtl};
 
 use crate::line::Line;
 use crate::mistake::line_of_mistake;
 use crate::values::{option, optional, value, values, words};
-use clap::{ArgMatches, Command};
+use clap::error::ErrorKind;
+use clap::{ArgMatches, Command, Error};
 use std::alloc::{AllocError, Global};
+use um_ctl::verb_lines;
 
 /// What the manager at a socket is asked.
 #[derive(Debug, Drop)]
@@ -31,6 +33,18 @@ For more information, try '--help'.
 
 const MODE_HELP: &str =
     "For start, stop, restart and try-restart: fail, where a pending job would be dropped, or replace";
+
+const AFTER_HELP: &str =
+    "Words after -- may begin with a -. A refusal prints one line, as E4 NotFound a.service; umd help E4 says what it means and what to do.
+
+Exit statuses: 0 done; 1 refused; 2 wrong words; 3 not active, not failed, not enabled; 4 no connection; 5 a fault.
+
+For example:
+  umd ctl --socket /run/umd/socket put-file lib/a.service < a.service
+  umd ctl --socket /run/umd/socket daemon-reload
+  umd ctl --socket /run/umd/socket start --mode fail a
+
+Verbs, with their arguments in their order:";
 
 /// The words that it takes.
 fn command<'a>(alloc: Global) -> Result<Command<'a>, AllocError>
@@ -55,9 +69,7 @@ fn command<'a>(alloc: Global) -> Result<Command<'a>, AllocError>
         .arg(word)?
         .override_usage("umd ctl --socket <PATH> [--mode <MODE>] <VERB> [ARG]..")
         .about("Asks the manager at a socket, and prints the value of its reply as JSON")
-        .after_help(
-            "put-file PATH takes the text of the file from standard input. Words behind -- may begin with a -.\n\nExit statuses: 0 done; 1 refused; 2 wrong words; 3 not active, not failed, not enabled; 4 no connection; 5 a fault.\n\nFor example:\n  umd ctl --socket /run/umd/socket put-file lib/a.service < a.service\n  umd ctl --socket /run/umd/socket daemon-reload\n  umd ctl --socket /run/umd/socket start --mode fail a",
-        );
+        .after_help(AFTER_HELP);
     Ok(command)
 }
 
@@ -96,12 +108,30 @@ fn ctl_line<'a>(alloc: Global, matches: &ArgMatches<'a>) -> Result<Line<'a>, All
     }))
 }
 
+/// The help, with a line for each verb.
+fn with_verbs(alloc: Global, help: String) -> Result<String, AllocError> {
+    let mut text = help;
+    text.push_str(verb_lines(alloc)?.as_str())?;
+    Ok(text)
+}
+
+/// What is told of a mistake; the help has the verbs at its end.
+fn line_of_ctl_mistake<'a>(alloc: Global, mistake: &Error) -> Result<Line<'a>, AllocError>
+    ensures line { IfOk result (IsToldAs (kind_of mistake.now)) }
+    ensures memory { OnOk result (kind_of mistake.now ≢ ErrorKind.OutOfMemory) }
+{
+    match line_of_mistake(alloc, mistake)? {
+        Line::Told(help) => Ok(Line::Told(with_verbs(alloc, help)?)),
+        line => Ok(line),
+    }
+}
+
 /// Reads the words from `ctl` on.
 pub fn read_ctl<'a>(alloc: Global, words: &'a [String]) -> Result<Line<'a>, AllocError>
     ensures { IfOk result (IsCtlLine (map string_bytes words.now)) }
 {
     match command(alloc)?.try_get_matches_from(words) {
         Ok(matches) => ctl_line(alloc, &matches),
-        Err(mistake) => line_of_mistake(alloc, &mistake),
+        Err(mistake) => line_of_ctl_mistake(alloc, &mistake),
     }
 }

@@ -3,6 +3,7 @@
 
 mod create;
 mod ctl;
+mod help;
 mod line;
 mod mistake;
 mod numbers;

@@ -3,6 +3,7 @@ ghost use Rattle.um_line.specs.Line as model;
 
 use crate::create::{CreateLine, read_create};
 use crate::ctl::{CtlLine, read_ctl};
+use crate::help::read_help;
 use crate::run::read_run;
 use crate::serve::{ServeLine, read_serve};
 use crate::top::read_top;
@@ -24,6 +25,8 @@ pub enum Line<'a> {
     LongBoot,
     /// To ask the manager at a socket.
     Ctl(CtlLine<'a>),
+    /// To be told what the refusal of this number means, 1 to 22.
+    Help(u32),
     /// To be told something: the help or the version, for standard output.
     Told(String),
     /// The words are not those of the program: what is wrong and how it is used, for standard error.
@@ -37,6 +40,7 @@ pub enum Subcommand {
     Create,
     Serve,
     Ctl,
+    Help,
     /// Another word, or none.
     Nothing,
 }
@@ -53,6 +57,8 @@ fn named(word: &str) -> Subcommand
         Subcommand::Serve
     } else if word == "ctl" {
         Subcommand::Ctl
+    } else if word == "help" {
+        Subcommand::Help
     } else {
         Subcommand::Nothing
     }
@@ -89,6 +95,7 @@ pub fn read_line<'a>(alloc: Global, words: &'a [String]) -> Result<Line<'a>, All
         Subcommand::Create => read_create(alloc, behind(words)),
         Subcommand::Serve => read_serve(alloc, behind(words)),
         Subcommand::Ctl => read_ctl(alloc, behind(words)),
+        Subcommand::Help => read_help(alloc, behind(behind(words))),
         Subcommand::Nothing => read_top(alloc, words),
     }
 }

@@ -37,7 +37,20 @@ For more information, try '--help'.
 ";
 
 const BOOT_HELP: &str =
-    "The id of this boot of the machine, as /proc/sys/kernel/random/boot_id tells it; with another one all units start anew";
+    "The id of the running boot, $(cat /proc/sys/kernel/random/boot_id): with another one than the store's last all units start anew, with that of an earlier boot the manager adopts and signals pids that belong to others by now";
+
+const DIR_HELP: &str =
+    "The folder of the files of processes, made where it isn't there; nothing may clean it while the machine is up";
+
+const AFTER_HELP: &str =
+    "It serves until TERM, or another signal, ends it. The processes of its services run on; served again with the same id of the boot, the store has them again.
+
+Services run as the user of umd serve. Their standard input and output and their standard error are /dev/null.
+
+What fails is told on standard error. Exit statuses: 1 refused, with a line of what the refusal means; 2 wrong words; 5 a file, the folder, the socket or the disk failed.
+
+For example:
+  umd serve --boot \"$(cat /proc/sys/kernel/random/boot_id)\" --socket /run/umd/socket --dir /run/umd --runner /usr/bin/umd /var/lib/umd/store";
 
 /// The words that it takes.
 fn command<'a>(alloc: Global) -> Result<Command<'a>, AllocError>
@@ -48,9 +61,9 @@ fn command<'a>(alloc: Global) -> Result<Command<'a>, AllocError>
         alloc,
         "socket",
         "PATH",
-        "The socket to serve; an entry that stands there is removed",
+        "The socket to serve; one that an earlier server left there is replaced",
     );
-    let dir = option(alloc, "dir", "DIR", "The folder of the files of processes");
+    let dir = option(alloc, "dir", "DIR", DIR_HELP);
     let runner = option(
         alloc,
         "runner",
@@ -66,9 +79,7 @@ fn command<'a>(alloc: Global) -> Result<Command<'a>, AllocError>
         .arg(file)?
         .override_usage("umd serve --boot <ID> --socket <PATH> --dir <DIR> --runner <PATH> <FILE>")
         .about("Serves a store over a socket")
-        .after_help(
-            "For example:\n  umd serve --boot \"$(cat /proc/sys/kernel/random/boot_id)\" --socket /run/umd/socket --dir /run/umd --runner /usr/bin/umd /var/lib/umd/store",
-        );
+        .after_help(AFTER_HELP);
     Ok(command)
 }
 

@@ -1,14 +1,31 @@
 //! The words of the program itself.
 
-ghost use Rattle.std.specs.Prelude.{◌≡◌, ◌∷◌, ℕ, List, [], IfOk, codes, map, string_bytes};
-ghost use Rattle.clap.specs.Words.{app_of};
-ghost use Rattle.um_line.specs.Line.{IsTopLine, mistakes_of, umd_words};
+ghost use Rattle.std.specs.Prelude.{◌≡◌, ◌≢◌, ◌∷◌, ℕ, List, [], IfOk, OnOk, codes, map, string_bytes};
+ghost use Rattle.clap.specs.Words.{app_of, kind_of};
+ghost use Rattle.um_line.specs.Line.{IsToldAs, IsTopLine, mistakes_of, umd_words};
 
 use crate::line::Line;
 use crate::mistake::line_of_mistake;
 use clap::error::ErrorKind;
-use clap::{Arg, ArgAction, Command};
+use clap::{Arg, ArgAction, Command, Error};
 use std::alloc::{AllocError, Global};
+
+/// How the program is used: its subcommands, a line each.
+const USAGE: &str = "umd <SUBCOMMAND> [WORDS]..
+
+Subcommands, each with its own --help:
+  umd create    makes a new store in a new file
+  umd serve     serves a store over a socket, and runs the processes of its services
+  umd ctl       asks the manager at a socket
+  umd run       runs one command as a process of the manager, which calls it
+  umd help      says what a refusal means, and what to do: umd help E9
+  umd --memory  serves one client over standard input and output, with a store in memory";
+
+/// What is told where no word is there.
+const NOTHING: &str = "error: a subcommand is missing\n\nUsage: ";
+
+/// What is told behind the usage.
+const MORE: &str = "\n\nFor more information, try '--help'.\n";
 
 /// The words that the program takes.
 fn command<'a>(alloc: Global) -> Result<Command<'a>, AllocError>
@@ -16,17 +33,32 @@ fn command<'a>(alloc: Global) -> Result<Command<'a>, AllocError>
 {
     let memory = Arg::new(alloc, "memory")
         .long("memory")
-        .help("Serves standard input and output, with a store in memory")
+        .help("Serves one client over standard input and output, with a store in memory")
         .required(true)
         .action(ArgAction::SetTrue);
     let command = Command::new(alloc, "umd")
         .arg(memory)?
         .version("0.1.0")
+        .override_usage(USAGE)
         .about("A service manager whose state outlives its crash")
         .after_help(
-            "Subcommands, each with its own --help:\n  umd create   makes a new store\n  umd serve    serves a store over a socket\n  umd ctl      asks the manager at a socket\n  umd run      runs a command as a process of the manager\n\nFor example:\n  umd --memory < requests > replies",
+            "For example:\n  umd create --slot 1024 --log 4096 /var/lib/umd/store\n  umd ctl --socket /run/umd/socket start web.service\n  umd --memory < requests > replies",
         );
     Ok(command)
+}
+
+/// What is told of a mistake: where a word is missing, it is the subcommand.
+fn line_of_top_mistake<'a>(alloc: Global, mistake: &Error) -> Result<Line<'a>, AllocError>
+    ensures line { IfOk result (IsToldAs (kind_of mistake.now)) }
+    ensures memory { OnOk result (kind_of mistake.now ≢ ErrorKind.OutOfMemory) }
+{
+    if mistake.kind() != ErrorKind::MissingRequiredArgument {
+        return line_of_mistake(alloc, mistake);
+    }
+    let mut text = String::from_str(alloc, NOTHING)?;
+    text.push_str(USAGE)?;
+    text.push_str(MORE)?;
+    Ok(Line::Wrong(text))
 }
 
 /// Reads words of which the second is no subcommand.
@@ -35,7 +67,7 @@ pub fn read_top<'a>(alloc: Global, words: &'a [String]) -> Result<Line<'a>, Allo
 {
     match command(alloc)?.try_get_matches_from(words) {
         Ok(_) => Ok(Line::Memory),
-        Err(mistake) => line_of_mistake(alloc, &mistake),
+        Err(mistake) => line_of_top_mistake(alloc, &mistake),
     }
 }
 

@@ -117,13 +117,13 @@ module _ (layout : Layout) (generation number next : ℕ) (bytes : List ℕ) (ru
 
   -- ---- the same of whole runs of calls
 
-  module _ (past new : Past) (slot : Slot) (body : List ℕ) (records : List (List ℕ)) (ready : GoesOn layout past slot generation body records number next) where
+  module _ (past new : Past) (slot : Slot) (body : List ℕ) (records : List (List ℕ)) (ready : GoesOn layout past slot generation body records generation number next) where
     -- while the record is written
     pub during_record : During past new (AfterRun past next run) → During past new (EitherRecord layout slot generation body records bytes)
     during_record written = weaker past new _ _ (λ image m. either_record m.from slot body records (ready.store m.from m.was) (ready.end m.from m.was) image m.laid) written
 
     -- and behind it
-    pub goes_on_record : IsImage past (seen past) → IsLaid (seen past) next run (seen new) → IsSettled new → GoesOn layout new slot generation body (records ++ bytes ∷ []) (number + 1) (next + size)
+    pub goes_on_record : IsImage past (seen past) → IsLaid (seen past) next run (seen new) → IsSettled new → GoesOn layout new slot generation body (records ++ bytes ∷ []) generation (number + 1) (next + size)
     goes_on_record is laid settled = record {
       store = λ image at. subst (λ i. IsStore layout i slot generation body (records ++ bytes ∷ [])) (sym (settled image at)) (record_store (seen past) slot body records (ready.store (seen past) is) (ready.end (seen past) is) (seen new) laid);
       end = λ image at. subst (λ i. IsLogEnd layout generation i (records ++ bytes ∷ []) (number + 1) (next + size)) (sym (settled image at))
@@ -132,7 +132,7 @@ module _ (layout : Layout) (generation number next : ℕ) (bytes : List ℕ) (ru
 
 -- before the first call
 pub before_record : {layout : Layout} (past : Past) {slot : Slot} {generation : ℕ} {body : List ℕ} {records : List (List ℕ)} {number next : ℕ} (bytes : List ℕ)
-    → GoesOn layout past slot generation body records number next → During past past (EitherRecord layout slot generation body records bytes)
+    → GoesOn layout past slot generation body records generation number next → During past past (EitherRecord layout slot generation body records bytes)
 before_record {layout} past {slot} {generation} {body} {records} bytes ready = started past _ (λ image is. inl (ready.store image is))
 
 -- outside the run all is as in an image of before

@@ -65,11 +65,11 @@ impl Log {
         bytes: &[u8],
     ) -> Result<bool, Refusal>
         ensures during { IsTrue (D.honest disk.old) → (slot : Slot) (body : List ℕ) (records : List (List ℕ))
-            → GoesOn self.old.layout (D.past disk.old) slot self.old.generation body records self.old.number self.old.next
+            → GoesOn self.old.layout (D.past disk.old) slot self.old.generation body records self.old.generation self.old.number self.old.next
             → During (D.past disk.old) (D.past disk.new) (EitherRecord self.old.layout slot self.old.generation body records bytes.now) }
         ensures ok { result ≡ Ok true → IsTrue (D.honest disk.old) → (slot : Slot) (body : List ℕ) (records : List (List ℕ))
-            → GoesOn self.old.layout (D.past disk.old) slot self.old.generation body records self.old.number self.old.next
-            → GoesOn self.new.layout (D.past disk.new) slot self.new.generation body (records ++ bytes.now ∷ []) self.new.number self.new.next }
+            → GoesOn self.old.layout (D.past disk.old) slot self.old.generation body records self.old.generation self.old.number self.old.next
+            → GoesOn self.new.layout (D.past disk.new) slot self.new.generation body (records ++ bytes.now ∷ []) self.new.generation self.new.number self.new.next }
         ensures settled { result ≡ Ok true → IsTrue (D.honest disk.old) → IsSettled (D.past disk.new) }
         ensures elsewhere { IsTrue (D.honest disk.old) → During (D.past disk.old) (D.past disk.new)
             (IsElsewhere (D.past disk.old) self.old.next (part_count (length bytes.now))) }

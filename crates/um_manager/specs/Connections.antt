@@ -7,7 +7,7 @@ use Rattle.um_model.specs.Sessions.{Session, Does, Room, Feed}
 use Rattle.um_proto.specs.declared.request.Asked.{Asked}
 use Rattle.um_proto.specs.declared.request.Asked.TheVariants as asked
 use Rattle.um_proto.specs.declared.request.Request.{Request}
-use Rattle.um_session.specs.Readings.{IsReading}
+use Rattle.um_session.specs.Readings.{HoldsFrame, IsReading}
 use Rattle.um_state.specs.View.{event_of}
 use Rattle.um_state.specs.declared.reply.Reply.TheVariants as reply
 use Rattle.um_wire.specs.declared.refusal.Refusal.{Refusal}
@@ -41,6 +41,11 @@ AllFit ps ts = ⊤
 -- nothing came yet
 abbrev pub IsNew : Session → Type 0
 IsNew t = (t.rest ≡ []) × (t.output ≡ []) × (t.failed ≡ false)
+
+-- a whole frame waits in the session of a connection
+abbrev pub HoldsFrameAt : Option Session → Type 0
+HoldsFrameAt (Some t) = HoldsFrame t
+HoldsFrameAt None = ⊥
 
 -- a session takes its piece: bytes come behind those that are there, and Closed ends it with what it holds
 abbrev pub TakesPiece : Session → Piece → Session → Type 0

@@ -1,14 +1,14 @@
 ghost use Rattle.std.specs.Prelude.{◌≡◌, ◌≢◌, ◌⊎◌, ◌↔◌, ℕ, [], length, true, false, Err, IsTrue, IfOk, IfErr, slice_get};
 ghost use Rattle.std.specs.List.{AllByRecursion};
-ghost use Rattle.um_keeper.specs.Keepers.{disk_in, state_in, size_in, layout_in, has_failed, IsSamePlace};
-ghost use Rattle.um_keeper.specs.Opening.{IsSomeStore};
-ghost use Rattle.um_manager.specs.Connections.{IsNew};
+ghost use Rattle.um_keeper.specs.Keepers.{disk_in, state_in, size_in, layout_in, has_failed, opened_in, IsSamePlace};
+ghost use Rattle.um_keeper.specs.Opening.{IsRead, IsSomeStore};
+ghost use Rattle.um_manager.specs.Connections.{IsNew, HoldsFrameAt};
 ghost use Rattle.um_manager.specs.Opening.{Opened, IsOfRefused};
 ghost use Rattle.um_manager.specs.Places.{place, place_in};
 ghost use Rattle.um_manager.specs.Replies.{IsOutput};
 ghost use Rattle.um_manager.specs.Scripts.{Runs};
 ghost use Rattle.um_manager.specs.Turns.{Turns, now};
-ghost use Rattle.um_model.specs.Disk.{Images, During};
+ghost use Rattle.um_model.specs.Disk.{seen, Images, During};
 ghost use Rattle.um_model.specs.Store.{body_limit};
 ghost use Rattle.um_model.specs.declared.layout.Layout.{Layout};
 ghost use Rattle.um_state.specs.View.{state_of};
@@ -21,7 +21,7 @@ use crate::script::{Step, run};
 use std::alloc::Global;
 use um_children::Children;
 use um_fates::Marks;
-use um_keeper::Keeper;
+use um_keeper::{Keeper, OpenedStore};
 use um_model::Moment;
 use um_sector::Disk;
 use um_session::Session;
@@ -64,6 +64,7 @@ impl<D: Disk, C: Children> Manager<D, C> {
         ensures opened { IfOk result (λ m. IsTrue (C.honest children) → IsTrue (C.whole m.children)
             → Opened (place (size_in m.keeper) (layout_in m.keeper) (D.honest disk)) moment boot m.adopted (D.size disk) (D.past disk) (C.past children)
             (now (state_in m.keeper) (C.past m.children) m.marks [] (D.past (disk_in m.keeper)))) }
+        ensures read { IfOk result (λ m. IsTrue (D.honest disk) → IsRead (layout_in m.keeper) (seen (D.past disk)) (opened_in m.keeper)) }
         ensures anew { IfOk result (λ m. AllByRecursion IsNew m.sessions.items) }
         ensures working { IfOk result (λ m. has_failed m.keeper ≡ false) }
         ensures sized { IfOk result (λ m. size_in m.keeper ≡ body_limit (layout_in m.keeper)) }
@@ -166,6 +167,14 @@ impl<D: Disk, C: Children> Manager<D, C> {
         }
     }
 
+    /// Whether a whole frame of a connection is held. The next turn takes its request, whatever comes; so who serves the manager can leave
+    /// further bytes where they are until then, and no client makes it hold more than a frame and one piece.
+    pub fn holds_frame(&self, connection: Connection) -> bool
+        ensures { (result ≡ true) ↔ HoldsFrameAt (slice_get self.now.sessions.items connection) }
+    {
+        self.sessions[connection.get()].holds_frame()
+    }
+
     /// The state.
     pub fn state(&self) -> &State
         ensures { state_of result.now ≡ state_in self.now.keeper }
@@ -178,6 +187,13 @@ impl<D: Disk, C: Children> Manager<D, C> {
         ensures { result.now ≡ self.now.children }
     {
         &self.children
+    }
+
+    /// What was read of the store when the manager was opened.
+    pub fn opened(&self) -> OpenedStore
+        ensures { result ≡ opened_in self.now.keeper }
+    {
+        self.keeper.opened()
     }
 
     /// So many processes were live when the manager was opened.

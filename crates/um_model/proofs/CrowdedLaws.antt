@@ -1,10 +1,11 @@
 -- A tree counts for some number of units; and it is decided whether too many units are known, and whether a state is too heavy.
-use Rattle.std.proofs.Common.{ℕ, ◌<◌, ◌≢◌, ◌⊎◌, List, length, AllPairs, refl, subst, inl, inr, arith}
+use Rattle.std.proofs.Common.{ℕ, ◌≡◌, ◌<◌, ◌≢◌, ◌⊎◌, ◌↔◌, ◌∙◌, List, length, AllPairs, refl, sym, ap, subst, inl, inr, arith}
 use Rattle.std.specs.Prelude.{max}
 use Rattle.std.proofs.lemmas.Bool.{cases_lt}
 use Rattle.um_model.specs.Dependencies.{IsKnown, KnowsTooMany, KnowsSoMany, CountsFor}
 use Rattle.um_model.specs.Machine.{State, IsHeld, IsCrowded, IsTooHeavy}
 use Rattle.um_model.specs.Refusals.{too_large}
+use Rattle.um_model.specs.Servable.{Weighs}
 use Rattle.um_model.specs.Tree.{Tree, without_run}
 use Rattle.um_model.specs.Weight.{weight_of}
 use Rattle.um_model.specs.declared.refusals.Limit.TheVariants.{Units}
@@ -57,3 +58,21 @@ heavy_or_not size s = by_count (a_count (IsHeld s) (held_list s).0 (held_list s)
       | inl more ↦ inl (record { units = count; count = counts; heavy = more })
       | inr most ↦ inr (λ h. let more = subst (λ n. size < weight_of s.tree s.loaded n) (one_count s.loaded (IsHeld s) h.units count h.count counts) h.heavy in omega (arith, most, more))
     ]
+
+-- each state has a weight
+pub a_weight : (s : State) → (weight : ℕ) × Weighs s weight
+a_weight s =
+    let c = a_count (IsHeld s) (held_list s).0 (held_list s).1 s.loaded in
+    (weight_of s.tree s.loaded c.0, record { units = c.0; count = c.1; is = refl })
+
+-- and one
+pub one_weight : (s : State) (m n : ℕ) → Weighs s m → Weighs s n → m ≡ n
+one_weight s m n h k =
+    h.is ∙ ap (weight_of s.tree s.loaded) (one_count s.loaded (IsHeld s) h.units k.units h.count k.count) ∙ sym k.is
+
+-- by which it is told whether it is too heavy
+pub heavy_by_weight : (size : ℕ) (s : State) (weight : ℕ) → Weighs s weight → IsTooHeavy size s ↔ size < weight
+heavy_by_weight size s weight h = (
+  λ k. subst (λ n. size < n) (one_weight s (weight_of s.tree s.loaded k.units) weight (record { units = k.units; count = k.count; is = refl }) h) k.heavy,
+  λ less. record { units = h.units; count = h.count; heavy = subst (λ n. size < n) h.is less },
+)

@@ -6,7 +6,7 @@ use Rattle.um_model.specs.Jobs.{jobs_of_unit}
 use Rattle.um_model.specs.Machine.{State, Becomes, alone, along, TakesAlong, Carries, change_of, changed, settings_in, around, FallsWith, AreByName, FallDown, all_told, told_next, Happens}
 use Rattle.um_model.specs.Service.{Action, ByUnit, active_state_of, dead_unit, is_dead, is_success, state_of_unit}
 use Rattle.um_model.specs.Settings.{ServiceSettings, has_place}
-use Rattle.um_model.specs.Transitions.{transition, row, rests, rests_for_good, waits_to_restart, terminates, stop_command, winds_down, has_number, is_live, is_going, just}
+use Rattle.um_model.specs.Transitions.{transition, row, rests, rests_for_good, waits_to_restart, terminates, stop_command, winds_down, has_number, is_live, is_going, just, fails_start}
 use Rattle.um_model.specs.Transitions as table
 use Rattle.um_model.specs.declared.dependencies.DependencyKind.TheVariants.{BindsTo}
 use Rattle.um_model.specs.declared.jobs.JobState.{JobState}
@@ -113,13 +113,13 @@ module _ (s : ServiceSettings) (c : Around) where
   pub bound_stop_down : (u : UnitState) → IsDown (transition s c u BoundStop)
   bound_stop_down u = by_test (goes_at u.sub) refl
     where
-      by_test : (b : Bool) → goes_at u.sub ≡ b → IsDown (cond b (row s c u (active_state_of u.sub) u.sub StopBegins) (just u))
+      by_test : (b : Bool) → goes_at u.sub ≡ b → IsDown (cond b (fails_start u.sub (row s c u (active_state_of u.sub) u.sub StopBegins)) (just u))
       by_test true goes = stop_down u u.sub goes
       by_test false goes = goes
 
   -- and one that wasn't before stays as it is
   pub bound_stop_leaves : (u : UnitState) → goes_at u.sub ≡ false → transition s c u BoundStop ≡ just u
-  bound_stop_leaves u goes = ap (λ b. cond b (row s c u (active_state_of u.sub) u.sub StopBegins) (just u)) goes
+  bound_stop_leaves u goes = ap (λ b. cond b (fails_start u.sub (row s c u (active_state_of u.sub) u.sub StopBegins)) (just u)) goes
 
 -- ---- sub states after a change of a unit
 

@@ -12,7 +12,7 @@ use Rattle.um_model.specs.Machine.{State, empty_state, Command, Happening, Event
 use Rattle.um_model.specs.Reached.{first, next}
 use Rattle.um_model.specs.Refusals.{Refused, at_first, at_second}
 use Rattle.um_model.specs.Resolution.{unit_path}
-use Rattle.um_model.specs.Servable.{IsFew}
+use Rattle.um_model.specs.Servable.{IsBlank, IsFew}
 use Rattle.um_model.specs.Service.{Action, ByUnit, dead_unit, holds_nothing, state_of_unit, with_unit}
 use Rattle.um_model.specs.Settings.{ServiceSettings}
 use Rattle.um_model.specs.Timers.{Timers}
@@ -399,7 +399,7 @@ run_few : (size : ℕ) (s t : State) (inputs : List Input) → Run size s inputs
 run_few size s t inputs Run.rests few = few
 run_few size s t (i ∷ inputs) (Run.goes {t = v} reply actions step run) few = run_few size v t inputs run (step_few size s i reply actions v step few)
 
--- ---- the empty state
+-- ---- a state in which nothing is held
 
 -- in the empty tree nothing is known where nothing is held
 module _ (Extra : List ℕ → Type 0) (none : (x : List ℕ) → ¬ Extra x) where
@@ -415,9 +415,9 @@ module _ (Extra : List ℕ → Type 0) (none : (x : List ℕ) → ¬ Extra x) wh
   none_many : ¬ KnowsTooMany map.empty Extra
   none_many k = reached_in (λ _. ⊥) none_named (λ a b known mentions. known) _ (k.known 0 [] (omega (arith, k.many)))
 
-pub empty_none : (x : List ℕ) → ¬ IsHeld empty_state x
-empty_none x (inl h) = h (map.get-empty (slice_cmp nat_cmp) x)
-empty_none x (inr h) = h (map.get-empty (slice_cmp nat_cmp) x)
+pub blank_none : (s : State) → IsBlank s → (x : List ℕ) → ¬ IsHeld s x
+blank_none s blank x (inl h) = h (ap (λ us. map.get us x) blank.units ∙ map.get-empty (slice_cmp nat_cmp) x)
+blank_none s blank x (inr h) = h (ap (λ js. map.get js x) blank.pending ∙ map.get-empty (slice_cmp nat_cmp) x)
 
 none_under_run : (entries : List (List ℕ × Entry)) → length entries ≡ 0 → list_any (λ e. is_volatile e.0) entries ≡ false
 none_under_run [] none = refl
@@ -427,13 +427,20 @@ pub empty_same : without_run map.empty ≡ map.empty
 empty_same =
     without_run_same map.empty (none_under_run (map.entries map.empty) (sym (map.len-entries map.empty) ∙ map.len-empty (slice_cmp nat_cmp) Entry))
 
-pub empty_few : IsFew empty_state
-empty_few r crowded = by_tree crowded.many
+pub blank_few : (s : State) → IsBlank s → IsFew s
+blank_few s blank r crowded = by_tree crowded.many
   where
-    by_tree : ¬ (KnowsTooMany map.empty (IsHeld empty_state) ⊎ KnowsTooMany (without_run map.empty) (IsHeld empty_state))
-    by_tree (inl k) = none_many (IsHeld empty_state) empty_none k
-    by_tree (inr k) = none_many (IsHeld empty_state) empty_none (subst (λ tree. KnowsTooMany tree (IsHeld empty_state)) empty_same k)
+    none : (x : List ℕ) → ¬ IsHeld s x
+    none = blank_none s blank
 
--- after any inputs no more units are known than may be
-pub few_after : (size : ℕ) (inputs : List Input) (t : State) → Run size empty_state inputs t → IsFew t
-few_after size inputs t run = run_few size empty_state t inputs run empty_few
+    by_tree : ¬ (KnowsTooMany s.loaded (IsHeld s) ⊎ KnowsTooMany (without_run s.loaded) (IsHeld s))
+    by_tree (inl k) = none_many (IsHeld s) none (subst (λ tree. KnowsTooMany tree (IsHeld s)) blank.loaded k)
+    by_tree (inr k) = none_many (IsHeld s) none (subst (λ tree. KnowsTooMany tree (IsHeld s)) (ap without_run blank.loaded ∙ empty_same) k)
+
+-- the empty state is such a state
+pub empty_blank : IsBlank empty_state
+empty_blank = record { tree = refl; loaded = refl; units = refl; pending = refl }
+
+-- after any inputs from it no more units are known than may be
+pub few_after : (size : ℕ) (s : State) (inputs : List Input) (t : State) → IsBlank s → Run size s inputs t → IsFew t
+few_after size s inputs t blank run = run_few size s t inputs run (blank_few s blank)

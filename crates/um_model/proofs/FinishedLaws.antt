@@ -13,7 +13,7 @@ use Rattle.um_model.specs.Service.{Action, active_state_of, dead_unit, is_dead, 
 use Rattle.um_model.specs.Settings.{ServiceSettings, has_place}
 use Rattle.um_model.specs.Timers.{Timers}
 use Rattle.um_model.specs.Transitions as table
-use Rattle.um_model.specs.Transitions.{deadline_after, has_number, is_live, just, asking, rests_for_good, rests, terminates, stop_command, winds_down, rests_unless_live, noted, without_main, without_control, timed_out, told_to_stop, is_stop_done, row, is_going, transition}
+use Rattle.um_model.specs.Transitions.{deadline_after, has_number, is_live, just, asking, rests_for_good, rests, terminates, stop_command, winds_down, rests_unless_live, noted, without_main, without_control, timed_out, told_to_stop, is_stop_done, row, is_going, transition, fails_start}
 use Rattle.um_model.specs.declared.jobs.JobKind.{JobKind}
 use Rattle.um_model.specs.declared.jobs.JobKind.TheVariants as job
 use Rattle.um_model.specs.declared.jobs.JobState.TheVariants.{Waiting}
@@ -135,7 +135,7 @@ module _ (s : ServiceSettings) (c : Around) where
   -- whatever happens to a unit that is down or done, but that its start begins, leaves it so
   transition_rests : (u : UnitState) (event : UnitEvent) → event ≢ StartBegins → Rests u → Leaves (transition s c u event)
   transition_rests u BoundStop isnt h =
-      by_cond Leaves (is_going (active_state_of u.sub)) (row s c u (active_state_of u.sub) u.sub StopBegins) (just u) (λ e. row_rests u.sub StopBegins u refl h stop_apart) (λ e. h)
+      by_cond Leaves (is_going (active_state_of u.sub)) (fails_start u.sub (row s c u (active_state_of u.sub) u.sub StopBegins)) (just u) (λ e. row_rests u.sub StopBegins u refl h stop_apart) (λ e. h)
   transition_rests u StartBegins isnt h = absurd (isnt refl)
   transition_rests u StopBegins isnt h = row_rests u.sub StopBegins u refl h isnt
   transition_rests u Executed isnt h = row_rests u.sub Executed u refl h isnt

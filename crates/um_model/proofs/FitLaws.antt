@@ -1,10 +1,10 @@
 -- A start job that goes on leaves its unit in start, and a stop job that goes on leaves it in a stop state: row by row of the table.
-use Rattle.std.proofs.Common.{ℕ, ◌≡◌, ◌∙◌, ◌+◌, ◌&&◌, Bool, true, false, true≢false, not, cond, Option, Some, None, refl, sym, ap, subst}
+use Rattle.std.proofs.Common.{ℕ, ◌≡◌, ◌≢◌, ◌∙◌, ◌+◌, ◌&&◌, Bool, true, false, true≢false, not, cond, Option, Some, None, refl, sym, ap, subst}
 use Rattle.um_model.specs.Limit.{counted}
 use Rattle.um_model.specs.Service.{active_state_of}
 use Rattle.um_model.specs.Settings.{ServiceSettings, has_place}
-use Rattle.um_model.specs.Ends.{is_clean, is_failed, is_stopping, is_restart_wanted, has_one_command}
-use Rattle.um_model.specs.Transitions.{deadline_after, has_number, is_live, just, asking, start_ends, start_fails, stop_ends, rests_for_good, waits_to_restart, rests, terminates, stop_command, winds_down, first_command, start_of, starts_if, starts, exits, next_command, start_goes_on, rests_unless_live, noted, without_main, without_control, timed_out, told_to_stop, is_stop_done, row, is_going, transition}
+use Rattle.um_model.specs.Ends.{is_clean, is_failed, is_starting, is_stopping, is_restart_wanted, has_one_command}
+use Rattle.um_model.specs.Transitions.{deadline_after, has_number, is_live, just, asking, start_ends, start_fails, stop_ends, rests_for_good, waits_to_restart, rests, terminates, stop_command, winds_down, first_command, start_of, starts_if, starts, exits, next_command, start_goes_on, rests_unless_live, noted, without_main, without_control, timed_out, told_to_stop, is_stop_done, row, is_going, transition, fails_start}
 use Rattle.um_model.specs.declared.limit.Counted.{Counted}
 use Rattle.um_model.specs.declared.service.End.{End}
 use Rattle.um_model.specs.declared.service.Signal.TheVariants.{Term}
@@ -128,34 +128,39 @@ module _ (s : ServiceSettings) (c : Around) where
   control_sub : (u : UnitState) (e : End) → (without_control s u e).sub ≡ u.sub
   control_sub u e = sub_of_noted (record u { control = None }) e (is_clean s u Control e)
 
-  in_start : (event : UnitEvent) (u : UnitState) → u.sub ≡ Start → StartFits (row s c u (active_state_of Start) Start event)
-  in_start StartBegins u is = λ e. is
-  in_start StopBegins u is = failed (terminates s c (told_to_stop u))
-  in_start BoundStop u is = λ e. is
-  in_start Executed u is = executed_fits u is
-  in_start (MainEnds e) u is =
+  in_start : (event : UnitEvent) (u : UnitState) → event ≢ StopBegins → u.sub ≡ Start → StartFits (row s c u (active_state_of Start) Start event)
+  in_start StartBegins u isnt is = λ e. is
+  in_start StopBegins u isnt is = absurd (isnt refl)
+  in_start BoundStop u isnt is = λ e. is
+  in_start Executed u isnt is = executed_fits u is
+  in_start (MainEnds e) u isnt is =
       by_cond StartFits (is_clean s u Main e) (start_goes_on s.kind s c (without_main s u e)) (start_fails (rests s c (without_main s u e)))
       (λ _. start_goes_on_fits s.kind (without_main s u e) (main_sub u e ∙ is)) (λ _. failed (rests s c (without_main s u e)))
-  in_start (ControlEnds e) u is = λ h. is
-  in_start DeadlinePasses u is = failed (terminates s c (record u { result = result.Timeout }))
-  in_start Reset u is = λ e. ap (λ x. cond (is_failed x) Dead x) is
+  in_start (ControlEnds e) u isnt is = λ h. is
+  in_start DeadlinePasses u isnt is = failed (terminates s c (record u { result = result.Timeout }))
+  in_start Reset u isnt is = λ e. ap (λ x. cond (is_failed x) Dead x) is
 
-  start_row : (event : UnitEvent) (u : UnitState) → u.sub ≡ Start → StartFits (row s c u (active_state_of u.sub) u.sub event)
-  start_row event u is = subst (λ x. StartFits (row s c u (active_state_of x) x event)) (sym is) (in_start event u is)
+  start_row : (event : UnitEvent) (u : UnitState) → event ≢ StopBegins → u.sub ≡ Start → StartFits (row s c u (active_state_of u.sub) u.sub event)
+  start_row event u isnt is = subst (λ x. StartFits (row s c u (active_state_of x) x event)) (sym is) (in_start event u isnt is)
 
-  -- whatever happens to a unit in start
-  pub start_fits : (u : UnitState) (event : UnitEvent) → u.sub ≡ Start → StartFits (transition s c u event)
-  start_fits u BoundStop is =
-      by_cond StartFits (is_going (active_state_of u.sub)) (row s c u (active_state_of u.sub) u.sub StopBegins) (just u) (λ e. start_row StopBegins u is) (λ e h. is)
-  start_fits u StartBegins is =
+  -- by a bound stop the start fails
+  bound_fails : (u : UnitState) → u.sub ≡ Start → StartFits (fails_start u.sub (row s c u (active_state_of u.sub) u.sub StopBegins))
+  bound_fails u is e = absurd (fails_stays (sym (ap (λ x. cond (is_starting x) Fails (row s c u (active_state_of u.sub) u.sub StopBegins).start) is) ∙ e))
+
+  -- whatever happens to a unit in start, but that its stop job begins
+  pub start_fits : (u : UnitState) (event : UnitEvent) → event ≢ StopBegins → u.sub ≡ Start → StartFits (transition s c u event)
+  start_fits u BoundStop isnt is =
+      by_cond StartFits (is_going (active_state_of u.sub)) (fails_start u.sub (row s c u (active_state_of u.sub) u.sub StopBegins)) (just u)
+      (λ e. bound_fails u is) (λ e h. is)
+  start_fits u StartBegins isnt is =
       by_cond StartFits c.loadable (row s c u (active_state_of u.sub) u.sub StartBegins) (start_fails (just (record u { result = result.NotLoaded })))
-      (λ e. start_row StartBegins u is) (λ e. not_loaded_fits u)
-  start_fits u StopBegins is = start_row StopBegins u is
-  start_fits u Executed is = start_row Executed u is
-  start_fits u (MainEnds e) is = start_row (MainEnds e) u is
-  start_fits u (ControlEnds e) is = start_row (ControlEnds e) u is
-  start_fits u DeadlinePasses is = start_row DeadlinePasses u is
-  start_fits u Reset is = start_row Reset u is
+      (λ e. start_row StartBegins u isnt is) (λ e. not_loaded_fits u)
+  start_fits u StopBegins isnt is = absurd (isnt refl)
+  start_fits u Executed isnt is = start_row Executed u isnt is
+  start_fits u (MainEnds e) isnt is = start_row (MainEnds e) u isnt is
+  start_fits u (ControlEnds e) isnt is = start_row (ControlEnds e) u isnt is
+  start_fits u DeadlinePasses isnt is = start_row DeadlinePasses u isnt is
+  start_fits u Reset isnt is = start_row Reset u isnt is
 
   -- ---- stop jobs
 
@@ -233,7 +238,7 @@ module _ (s : ServiceSettings) (c : Around) where
   -- whatever happens to a unit in a stop state
   pub stop_fits : (u : UnitState) (event : UnitEvent) → is_stopping u.sub ≡ true → StopFits (transition s c u event)
   stop_fits u BoundStop down =
-      by_cond StopFits (is_going (active_state_of u.sub)) (row s c u (active_state_of u.sub) u.sub StopBegins) (just u) (λ e. stop_row u.sub StopBegins u refl down) (λ e h. down)
+      by_cond StopFits (is_going (active_state_of u.sub)) (fails_start u.sub (row s c u (active_state_of u.sub) u.sub StopBegins)) (just u) (λ e. stop_row u.sub StopBegins u refl down) (λ e h. down)
   stop_fits u StartBegins down =
       by_cond StopFits c.loadable (row s c u (active_state_of u.sub) u.sub StartBegins) (start_fails (just (record u { result = result.NotLoaded })))
       (λ e. stop_row u.sub StartBegins u refl down) (λ e h. down)

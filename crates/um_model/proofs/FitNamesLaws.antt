@@ -7,9 +7,10 @@ use Rattle.um_model.specs.Dependencies as model
 use Rattle.um_model.specs.Dependencies.{IsKnown, IsNamed, Mentions}
 use Rattle.um_model.specs.InputSpellings.{FitCommand, FitEvent}
 use Rattle.um_model.specs.Jobs.{Job, stop_job, start_job, no_jobs, jobs_of_unit, jobs_left, AreTidyJobs, cancelled, jobs, job_of, IsPending}
-use Rattle.um_model.specs.Machine.{State, empty_state, Command, Happening, Event, IsHeld, IsHeldOr, Changes, puts, links, removes, reloads, plans, demands_nothing, cancels, installs, Does, units_reset, obeys, meets, Follows, unit_asked, jobs_asked, scene_at, booted, change_of, Becomes, Carries, begun, with_start_alone, TakesEffect}
+use Rattle.um_model.specs.Machine.{State, Command, Happening, Event, IsHeld, IsHeldOr, Changes, puts, links, removes, reloads, plans, demands_nothing, cancels, installs, Does, units_reset, obeys, meets, Follows, unit_asked, jobs_asked, scene_at, booted, change_of, Becomes, Carries, begun, with_start_alone, TakesEffect}
 use Rattle.um_model.specs.Names.{is_template, is_unit_name}
 use Rattle.um_model.specs.Plan.{IsPlan}
+use Rattle.um_model.specs.Servable.{IsBlank}
 use Rattle.um_model.specs.Service.{Action, ByUnit, AreTidyUnits, dead_unit}
 use Rattle.um_model.specs.Tree.{Tree}
 use Rattle.um_model.specs.declared.dependencies.Demand.{Demand}
@@ -20,7 +21,7 @@ use Rattle.um_model.specs.declared.jobs.UnitJobs.{UnitJobs}
 use Rattle.um_model.specs.declared.transition.Change.{Change}
 use Rattle.um_model.specs.declared.transition.UnitEvent.{UnitEvent}
 use Rattle.um_model.proofs.DemandsLaws.{reached_in}
-use Rattle.um_model.proofs.FewLaws.{HoldsNoMore, booted_none, cancel_no_more, empty_none, follows_no_more, resets_no_more, settles_no_more}
+use Rattle.um_model.proofs.FewLaws.{HoldsNoMore, booted_none, cancel_no_more, blank_none, follows_no_more, resets_no_more, settles_no_more}
 use Rattle.um_model.proofs.FreeLaws.{pending_known}
 use Rattle.um_model.proofs.GivesLaws.{names_of_link, names_mentioned, OwnOrName}
 use Rattle.um_model.proofs.InvariantLaws.{FitUnitEvent, kept_taking}
@@ -110,8 +111,8 @@ takes_names t s event actions v fit (obeys {command = command} {first = x} {more
     no_more_names u v (settles_no_more t u y v h) (does_names t s command x u fit does names)
 takes_names t s event actions v fit (meets {happening = happening} effect h) names = follows_names t s happening actions v h names
 
-pub empty_names : HoldsNames empty_state
-empty_names x held = absurd (empty_none x held)
+pub blank_names : (s : State) → IsBlank s → HoldsNames s
+blank_names s blank x held = absurd (blank_none s blank x held)
 
 -- ---- tidy maps
 
@@ -150,5 +151,5 @@ booted_tidy s boot tidy = record { units = tidy_empty dead_unit; pending = tidy_
 pub takes_tidy : (t : ℕ) (s : State) (event : Event) (actions : List Action) (v : State) → FitEvent event → TakesEffect t s event actions v → IsTidyState s → IsTidyState v
 takes_tidy t = kept_taking t IsTidyState (carried_tidy t) begun_tidy restart_tidy changes_tidy booted_tidy
 
-pub empty_tidy : IsTidyState empty_state
-empty_tidy = record { units = tidy_empty dead_unit; pending = tidy_empty no_jobs }
+pub blank_tidy : (s : State) → IsBlank s → IsTidyState s
+blank_tidy s blank = record { units = subst AreTidyUnits (sym blank.units) (tidy_empty dead_unit); pending = subst AreTidyJobs (sym blank.pending) (tidy_empty no_jobs) }

@@ -6,7 +6,7 @@ use Rattle.std.specs.Cmp.Lexicographic.{slice_cmp}
 use Rattle.std.specs.FinMap as map
 use Rattle.std.specs.Ordering.{nat_cmp}
 use Rattle.um_model.specs.InputSpellings.{FitEvent}
-use Rattle.um_model.specs.Machine.{State, empty_state, Command, Event, settings_in, around, change_of, changed, TakesAlong, Becomes, Carries, begun, with_start_alone, Changes, puts, links, removes, reloads, plans, demands_nothing, cancels, installs, booted, TakesEffect}
+use Rattle.um_model.specs.Machine.{State, Command, Event, settings_in, around, change_of, changed, TakesAlong, Becomes, Carries, begun, with_start_alone, Changes, puts, links, removes, reloads, plans, demands_nothing, cancels, installs, booted, TakesEffect}
 use Rattle.um_model.specs.Moments.{moment_limit, process_limit}
 use Rattle.um_model.specs.Service.{Action, dead_unit, state_of_unit, with_unit}
 use Rattle.um_model.specs.Transitions.{HasNumber, spawned}
@@ -170,7 +170,7 @@ nothing_held : (x : List ℕ) → state_of_unit map.empty x ≡ dead_unit
 nothing_held x = ap (λ o. unwrap_or o dead_unit) (map.get-empty (slice_cmp nat_cmp) x)
 
 -- no units are good
-none_good : (t : ℕ) (s : State) → s.units ≡ map.empty → 1 ≤ s.next → s.next ≤ process_limit → HasGoodUnits t s
+pub none_good : (t : ℕ) (s : State) → s.units ≡ map.empty → 1 ≤ s.next → s.next ≤ process_limit → HasGoodUnits t s
 none_good t s none some low = record {
   next_some = some;
   next_low = low;
@@ -187,9 +187,6 @@ pub takes_good : (t : ℕ) → t ≤ moment_limit → (s : State) (event : Event
 takes_good t early =
     kept_taking t (HasGoodUnits t) (carried_good t early) (λ s j h. same_good t s (begun s j) refl refl h) (λ s unit h. same_good t s (with_start_alone s unit) refl refl h) (changes_good t)
     (λ s boot h. none_good t (booted boot s) refl h.next_some h.next_low)
-
-pub empty_good : HasGoodUnits 0 empty_state
-empty_good = none_good 0 empty_state refl (omega arith) (omega arith)
 
 -- later they are good too
 later_window : (t r : ℕ) (o : Option Counted) → t ≤ r → IfSome o (λ w. (w.began ≤ t) × (w.count < 2 ^ 32)) → IfSome o (λ w. (w.began ≤ r) × (w.count < 2 ^ 32))

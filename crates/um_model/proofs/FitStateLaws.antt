@@ -7,16 +7,16 @@ use Rattle.std.proofs.lemmas.Bool.{cases_lt}
 use Rattle.std.proofs.lemmas.Option.{none-some}
 use Rattle.um_model.specs.Bytes.{FitText}
 use Rattle.um_model.specs.Dependencies.{unit_limit, IsKnown, CountsFor, extra}
-use Rattle.um_model.specs.InputSpellings.{FitCommand, FitEvent, FitInput, input_spelling}
+use Rattle.um_model.specs.InputSpellings.{input_limit, FitCommand, FitEvent, FitInput, input_spelling}
 use Rattle.um_model.specs.Jobs.{JobShown, job_shown, jobs_shown_of}
 use Rattle.um_model.specs.Machine.{State, empty_state, Command, Event, Input, Reply, Refusal, IsHeld, Refuses, Changes, puts, links, removes, reloads, plans, demands_nothing, cancels, installs, Does, units_reset, ends, reports, ticks, boots, TakesEffect, obeys, meets, end_of, moment_of, Step, refused, crowded_out, idle, taken, Run, goes}
 use Rattle.um_model.specs.Moments.{moment_limit, deadline_limit, process_limit}
 use Rattle.um_model.specs.Names.{is_unit_name}
 use Rattle.um_model.specs.Reached.{first}
 use Rattle.um_model.specs.Refusals.{Refused, too_large}
-use Rattle.um_model.specs.Servable.{IsFew}
+use Rattle.um_model.specs.Servable.{IsBlank, IsFew}
 use Rattle.um_model.specs.Service.{Action, dead_unit, state_of_unit}
-use Rattle.um_model.specs.Spellings.{FitMoment, FitProcess, FitDeadline, FitCounted, FitUnitName, FitUnit}
+use Rattle.um_model.specs.Spellings.{FitMoment, FitNext, FitProcess, FitDeadline, FitCounted, FitUnitName, FitUnit}
 use Rattle.um_model.specs.StateSpellings.{FitBoot, state_spelling, FitState}
 use Rattle.um_model.specs.Transitions.{HasNumber}
 use Rattle.um_model.specs.Weight.{weight_of}
@@ -31,9 +31,9 @@ use Rattle.um_model.specs.declared.transition.UnitEvent.TheVariants.{Executed}
 use Rattle.um_model.proofs.AmongLaws.{IsListOf}
 use Rattle.um_model.proofs.AsciiLaws.{low_utf8, name_utf8}
 use Rattle.um_model.proofs.EntriesLaws.{from_each}
-use Rattle.um_model.proofs.FewLaws.{few_after}
-use Rattle.um_model.proofs.FitNamesLaws.{HoldsNames, takes_names, empty_names, IsTidyState, takes_tidy, empty_tidy}
-use Rattle.um_model.proofs.FitNumbersLaws.{HasGoodUnits, takes_good, empty_good, later_good, clocked_good}
+use Rattle.um_model.proofs.FewLaws.{blank_few, empty_blank, few_after}
+use Rattle.um_model.proofs.FitNamesLaws.{HoldsNames, takes_names, blank_names, IsTidyState, takes_tidy, blank_tidy}
+use Rattle.um_model.proofs.FitNumbersLaws.{HasGoodUnits, takes_good, none_good, later_good, clocked_good}
 use Rattle.um_model.proofs.FitSoundLaws.{sound}
 use Rattle.um_model.proofs.FitTreeLaws.{IsOfTexts, each_entry, fit_of_texts, AreOfTexts, changes_texts, without_run_fits, empty_fits}
 use Rattle.um_model.proofs.FitUnitLaws.{IsGood}
@@ -226,31 +226,38 @@ run_whole : (size : ℕ) (s t : State) (inputs : List Input) → AllByRecursion 
 run_whole size s t inputs fit Run.rests h = h
 run_whole size s t (i ∷ inputs) fit (goes {t = v} reply actions step run) h = run_whole size v t inputs fit.1 run (step_whole size s i reply actions v fit.0 step h)
 
-pub empty_whole : IsWhole empty_state
-empty_whole = record {
-  texts = record { tree = empty_fits; loaded = empty_fits };
-  boot = ((omega arith, low_utf8 [] refl), refl);
-  early = omega arith;
-  names = empty_names;
-  tidy = empty_tidy;
-  units = empty_good;
+-- a state in which nothing is held, and whose boot, clock and next number have bytes
+pub blank_whole : (s : State) → IsBlank s → FitBoot s.boot → FitMoment s.clock → FitNext s.next → IsWhole s
+blank_whole s blank boot clock next = record {
+  texts = record { tree = subst IsOfTexts (sym blank.tree) empty_fits; loaded = subst IsOfTexts (sym blank.loaded) empty_fits };
+  boot = boot;
+  early = clock.1;
+  names = blank_names s blank;
+  tidy = blank_tidy s blank;
+  units = none_good s.clock s blank.units next.0 next.1;
 }
 
--- after inputs that have bytes
-pub whole_after : (size : ℕ) (inputs : List Input) (t : State) → AllByRecursion FitInput inputs → Run size empty_state inputs t → IsWhole t
-whole_after size inputs t fit run = run_whole size empty_state t inputs fit run empty_whole
+pub empty_whole : IsWhole empty_state
+empty_whole = blank_whole empty_state empty_blank ((omega arith, low_utf8 [] refl), refl) (omega arith, omega arith) (omega arith, omega arith)
 
--- a state has bytes
-pub fits_after : (size : ℕ) (inputs : List Input) (t : State) → AllByRecursion FitInput inputs → Run size empty_state inputs t → FitState t
-fits_after size inputs t fit run = fit_of_whole t (few_after size inputs t run) (whole_after size inputs t fit run)
+-- the empty state has bytes
+pub empty_fit : FitState empty_state
+empty_fit = fit_of_whole empty_state (blank_few empty_state empty_blank) empty_whole
 
--- of at most its weight
-pub spelled_after : (size : ℕ) (inputs : List Input) (t : State) (n : ℕ) → AllByRecursion FitInput inputs → Run size empty_state inputs t → CountsFor t.loaded (IsHeld t) n
-    → length (state_spelling t) ≤ weight_of t.tree t.loaded n
-spelled_after size inputs t n fit run counts = spelled_short t n (fits_after size inputs t fit run) counts
+module _ (size : ℕ) (s : State) (inputs : List Input) (t : State) (blank : IsBlank s) (has : FitState s) (fit : AllByRecursion FitInput inputs) (run : Run size s inputs t) where
+  -- after inputs that have bytes, from a state that has some and in which nothing is held
+  whole_after : IsWhole t
+  whole_after = run_whole size s t inputs fit run (blank_whole s blank has.boot has.clock has.next)
 
--- and an input that it doesn't refuse has at most 131,072 bytes
-pub accepted_after : (size : ℕ) (inputs : List Input) (s : State) (i : Input) (reply : Reply) (actions : List Action) (t : State) → AllByRecursion FitInput inputs
-    → Run size empty_state inputs s → FitInput i → Step size s i reply actions t → ((r : Refused) → reply ≢ Refusal r) → length (input_spelling i) ≤ 131072
-accepted_after size inputs s i reply actions t fits run fit step accepted =
-    accepted_short size s i reply actions t (whole_after size inputs s fits run).texts.tree.is fit step accepted
+  -- a state has bytes
+  pub fits_after : FitState t
+  fits_after = fit_of_whole t (few_after size s inputs t blank run) whole_after
+
+  -- of at most its weight
+  pub spelled_after : (n : ℕ) → CountsFor t.loaded (IsHeld t) n → length (state_spelling t) ≤ weight_of t.tree t.loaded n
+  spelled_after n counts = spelled_short t n fits_after counts
+
+  -- and an input that it doesn't refuse has at most 66,078 bytes
+  pub accepted_after : (i : Input) (reply : Reply) (actions : List Action) (u : State) → FitInput i → Step size t i reply actions u
+      → ((r : Refused) → reply ≢ Refusal r) → length (input_spelling i) ≤ input_limit
+  accepted_after i reply actions u fits step accepted = accepted_short size t i reply actions u whole_after.texts.tree.is fits step accepted

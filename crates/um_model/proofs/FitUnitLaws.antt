@@ -16,7 +16,7 @@ use Rattle.um_model.specs.Service.{active_state_of}
 use Rattle.um_model.specs.Settings.{ServiceSettings, default_settings, has_place}
 use Rattle.um_model.specs.Spellings.{FitEnd}
 use Rattle.um_model.specs.Ends.{is_clean, is_restart_wanted, has_one_command}
-use Rattle.um_model.specs.Transitions.{deadline_after, has_number, is_live, just, asking, start_ends, start_fails, rests_for_good, waits_to_restart, rests, terminates, stop_command, winds_down, first_command, start_of, starts_if, starts, exits, next_command, start_goes_on, rests_unless_live, noted, without_main, without_control, timed_out, told_to_stop, is_stop_done, row, is_going, transition, HasNumber}
+use Rattle.um_model.specs.Transitions.{deadline_after, has_number, is_live, just, asking, start_ends, start_fails, rests_for_good, waits_to_restart, rests, terminates, stop_command, winds_down, first_command, start_of, starts_if, starts, exits, next_command, start_goes_on, rests_unless_live, noted, without_main, without_control, timed_out, told_to_stop, is_stop_done, row, is_going, transition, HasNumber, fails_start}
 use Rattle.um_model.specs.Tree.{Tree}
 use Rattle.um_model.specs.Units.{Assigned, default_timeout, last_said, unless_zero, values_of, default_timeout_start, service_settings_with, service_settings_of, LoadedUnit, Loading, Found, Masked, NotFound, BadSetting, loading_at, load}
 use Rattle.um_model.specs.Values.{number_of, span_of}
@@ -388,7 +388,7 @@ module _ (s : ServiceSettings) (c : Around) (low : AreLow s) (early : c.moment �
 
   -- what follows for a unit leaves it good
   pub transition_fits : (u : UnitState) (e : UnitEvent) → FitUnitEvent e → IsGood c.moment u → ((n : ℕ) → HasNumber u n → n < c.next) → IsGood c.moment (transition s c u e).unit
-  transition_fits u BoundStop fit g below = by_cond Leaves (is_going (active_state_of u.sub)) (row s c u (active_state_of u.sub) u.sub StopBegins) (just u)
+  transition_fits u BoundStop fit g below = by_cond Leaves (is_going (active_state_of u.sub)) (fails_start u.sub (row s c u (active_state_of u.sub) u.sub StopBegins)) (just u)
       (λ e. row_good u.sub StopBegins u tt g below) (λ e. g)
   transition_fits u StartBegins fit g below =
       by_cond Leaves c.loadable (row s c u (active_state_of u.sub) u.sub StartBegins) (start_fails (just (record u { result = result.NotLoaded })))

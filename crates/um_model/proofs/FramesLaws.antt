@@ -13,13 +13,8 @@ use Rattle.um_model.specs.Service.{Action}
 use Rattle.um_model.specs.declared.frames.Ending.{Ending}
 use Rattle.um_model.specs.declared.frames.Ending.TheVariants.{Between, Inside, TooLong}
 use Rattle.um_model.specs.declared.requests.Mode.TheVariants.{Memory}
-use Rattle.um_model.proofs.MachineLaws.{AlikeBut, the_same, one_outcome, one_reply_to}
-
--- as many replies stand in both, each the same or both refusals that name a cycle, and the same end
-pub data AreAlikeBut (ending : Ending) : (out other : List ℕ) → Type 0 where
-  at_last : AreAlikeBut ending (last_reply ending) (last_reply ending)
-  and_reply : {r q : Reply} {out other : List ℕ} → AlikeBut r q → AreAlikeBut ending out other
-      → AreAlikeBut ending (frame_of (reply_text r) ++ out) (frame_of (reply_text q) ++ other)
+use Rattle.um_model.specs.Outcomes.{AlikeBut, the_same, AreAlikeBut, at_last, and_reply}
+use Rattle.um_model.proofs.MachineLaws.{one_outcome, one_reply_to}
 
 -- ---- one reading
 

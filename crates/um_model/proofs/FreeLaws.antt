@@ -4,12 +4,12 @@ use Rattle.std.proofs.lemmas.Option.{none-some}
 use Rattle.std.specs.FinMap as map
 use Rattle.um_model.specs.Dependencies.{IsKnown, Precedes, Mentions, extra}
 use Rattle.um_model.specs.Jobs.{Job, jobs, no_jobs, jobs_of_unit, with_jobs, job_of, unless_waiting, cancelled, without_start, GoesBefore, starts, stops, stops_then_starts, stops_then_starts_before, of_one_unit, ComesBefore, IsPending, unless_running, start_left, jobs_left, state_of_job}
-use Rattle.um_model.specs.Machine.{State, empty_state, Command, Happening, Event, Input, Reply, IsHeldOr, IsBefore, changed, TakesAlong, Becomes, Carries, change_of, begins, begun, Happens, AreReset, Settles, unit_asked, jobs_asked, scene_at, CausesOfLoad, Refuses, Changes, Does, units_reset, Restarts, ComesDue, Fires, FiresOne, booted, Follows, end_of, moment_of, Step, Run, isnt_put, TakesEffect}
+use Rattle.um_model.specs.Machine.{State, Command, Happening, Event, Input, Reply, IsHeldOr, IsBefore, changed, TakesAlong, Becomes, Carries, change_of, begins, begun, Happens, AreReset, Settles, unit_asked, jobs_asked, scene_at, CausesOfLoad, Refuses, Changes, Does, units_reset, Restarts, ComesDue, Fires, FiresOne, booted, Follows, end_of, moment_of, Step, Run, isnt_put, TakesEffect}
 use Rattle.um_model.specs.Order.{IsCycle}
 use Rattle.um_model.specs.Plan.{AreFree, Counts, restarted, started, stopped, left, Demands, IsPlan, units_of}
 use Rattle.um_model.specs.Reached.{first, next}
 use Rattle.um_model.specs.Refusals.{Refused, at_first, at_second, ordering_cycle}
-use Rattle.um_model.specs.Servable.{IsFree}
+use Rattle.um_model.specs.Servable.{IsBlank, IsFree}
 use Rattle.um_model.specs.Service.{Action, ByUnit, state_of_unit}
 use Rattle.um_model.specs.Timers.{Timers}
 use Rattle.um_model.specs.Tree.{Tree}
@@ -309,6 +309,9 @@ run_free : (size : ℕ) (s t : State) (inputs : List Input) → Run size s input
 run_free size s t inputs Run.rests free = free
 run_free size s t (i ∷ inputs) (Run.goes {t = v} reply actions step run) free = run_free size v t inputs run (step_free size s i reply actions v step free)
 
--- after any inputs the pending jobs have no cycle
-pub no_cycle_after : (size : ℕ) (inputs : List Input) (t : State) → Run size empty_state inputs t → IsFree t
-no_cycle_after size inputs t run = run_free size empty_state t inputs run (none_free (IsBefore empty_state.loaded))
+pub blank_free : (s : State) → IsBlank s → IsFree s
+blank_free s blank = subst (AreFree (IsBefore s.loaded)) (sym blank.pending) (none_free (IsBefore s.loaded))
+
+-- after any inputs from a state in which nothing is held the pending jobs have no cycle
+pub no_cycle_after : (size : ℕ) (s : State) (inputs : List Input) (t : State) → IsBlank s → Run size s inputs t → IsFree t
+no_cycle_after size s inputs t blank run = run_free size s t inputs run (blank_free s blank)

@@ -1,4 +1,4 @@
--- An input that isn't refused is spelled in at most 131,072 bytes: the longest puts a file at a path of a tree.
+-- An input that isn't refused is spelled in at most 66,078 bytes: the longest puts a file at a path of a tree.
 use Rattle.std.proofs.Common.{ℕ, ◌≡◌, ◌≢◌, ◌∙◌, ◌+◌, ◌-◌, ◌≤◌, ◌^◌, nat_lt, Bool, true, false, not, List, ◌++◌, length, Option, Some, None, is_none, Ok, refl, sym, ap, length-append, arith}
 use Rattle.std.specs.Prelude.{IfSome}
 use Rattle.std.specs.FinMap as map
@@ -11,11 +11,11 @@ use Rattle.um_model.specs.Tree.{Tree, Entry, File, Link, IsTree, path_parts, is_
 use Rattle.um_model.specs.Machine.{State, Command, PutFile, PutLink, Remove, DaemonReload, ForUnit, Cancel, ResetFailed, Install, Happening, ProcessEnded, ProcessExecuted, Tick, Booted, Event, Commanded, Happened, Input, Reply, Refusal, boot_limit, puts, links, removes, Does, TakesEffect, obeys, meets, moment_of, Step, refused, crowded_out, idle, taken}
 use Rattle.um_model.specs.Service.{Action}
 use Rattle.um_model.specs.Spellings.{FitUnitName, end_spelling}
-use Rattle.um_model.specs.InputSpellings.{command_fields, happening_fields, event_fields, input_spelling, FitCommand, FitHappening, FitInput, mode_tag}
+use Rattle.um_model.specs.InputSpellings.{input_limit, command_fields, happening_fields, event_fields, input_spelling, FitCommand, FitHappening, FitInput, mode_tag}
 use Rattle.um_model.specs.declared.service.End.{End}
 use Rattle.um_model.specs.declared.service.End.TheVariants as end
 use Rattle.um_model.proofs.TreeLaws.{none_of_three, none_of_four}
-use Rattle.um_model.proofs.WeightLaws.{short_name, entry_light}
+use Rattle.um_model.proofs.WeightLaws.{short_name, short_path, short_target, entry_short}
 use Rattle.um_model.proofs.Forms.{is_fit_at, cause}
 
 -- ---- lengths
@@ -35,32 +35,33 @@ no_cause : {A : Type 0} (o : Option Refused) (a b : A) → unless_refused o a �
 no_cause None a b e = refl
 no_cause (Some r) a b e = cc
 
-put_long : (s : State) (path text : List ℕ) (tree : Tree) → put_file s.tree path text ≡ Ok tree → length path + length text ≤ 2 ^ 17 - 32
+put_long : (s : State) (path text : List ℕ) (tree : Tree) → put_file s.tree path text ≡ Ok tree → length path + length text ≤ 66060
 unfolding put_file
 put_long s path text tree e =
     let none = no_cause (put_cause s.tree path text) (map.insert s.tree path (File text)) tree e in
     let all = none_of_four (not (is_served path)) (is_link (map.get s.tree path)) (nat_lt text_limit (length text)) (is_full_for s.tree path) _ _ _ _ none in
-    let light = entry_light path (File text) (and_from _ _ (not-false (is_served path) all.0) (le-leb (length text) text_limit (ltb-false text_limit (length text) all.2))) in
-    omega (arith, light)
+    let short = short_path path (path_parts path) refl (not-false (is_served path) all.0) in
+    let low = ltb-false text_limit (length text) all.2 in
+    omega (arith, short, low)
 
-link_long : (s : State) (path target : List ℕ) (tree : Tree) → put_link s.tree path target ≡ Ok tree → length path + length target ≤ 2 ^ 17 - 32
+link_long : (s : State) (path target : List ℕ) (tree : Tree) → put_link s.tree path target ≡ Ok tree → length path + length target ≤ 66060
 unfolding put_link
 link_long s path target tree e =
     let none = no_cause (link_cause s.tree path target) (map.insert s.tree path (Link target)) tree e in
     let all = none_of_three (not (is_fit_target (path_parts path) target)) (is_other_than_link (map.get s.tree path) target) (is_full_for s.tree path) _ _ _ none in
-    let light = entry_light path (Link target) (not-false _ all.0) in
-    omega (arith, light)
+    let short = short_target path target (path_parts path) refl (not-false _ all.0) in
+    omega (arith, short.0, short.1)
 
 -- where something stands the path is short
-held_long : (tree : Tree) (path : List ℕ) → IsTree tree → (o : Option Entry) → map.get tree path ≡ o → is_none o ≡ false → length path ≤ 2 ^ 17 - 32
+held_long : (tree : Tree) (path : List ℕ) → IsTree tree → (o : Option Entry) → map.get tree path ≡ o → is_none o ≡ false → length path ≤ 524
 held_long tree path is None at some = cc
-held_long tree path is (Some entry) at some = let light = entry_light path entry (sym (ap (is_fit_at path) at) ∙ is.fit path) in omega (arith, light)
+held_long tree path is (Some entry) at some = entry_short path entry (sym (ap (is_fit_at path) at) ∙ is.fit path)
 
 isnt_cause : (b : Bool) (r : Refused) → cause b r ≡ None → b ≡ false
 isnt_cause true r e = cc
 isnt_cause false r e = refl
 
-remove_long : (s : State) (path : List ℕ) (tree : Tree) → IsTree s.tree → remove_at s.tree path ≡ Ok tree → length path ≤ 2 ^ 17 - 32
+remove_long : (s : State) (path : List ℕ) (tree : Tree) → IsTree s.tree → remove_at s.tree path ≡ Ok tree → length path ≤ 524
 unfolding remove_at
 remove_long s path tree is e =
     let none = no_cause (remove_cause s.tree path) (map.remove s.tree path) tree e in
@@ -75,12 +76,12 @@ optional_long : (name : Option (List ℕ)) → IfSome name FitUnitName → lengt
 optional_long None fit = omega arith
 optional_long (Some name) fit = omega (arith, named_long name fit)
 
-two_long : (a b : List ℕ) → length a + length b ≤ 2 ^ 17 - 32 → length (text_spelling a ++ text_spelling b) ≤ 2 ^ 17 - 24
+two_long : (a b : List ℕ) → length a + length b ≤ 66060 → length (text_spelling a ++ text_spelling b) ≤ 66068
 two_long a b h = omega (arith, length-append (text_spelling a) (text_spelling b), text_long a, text_long b)
 
 -- what a command that has its effect is spelled in
 command_long : (t : ℕ) (s : State) (command : Command) (actions : List Action) (u : State) → IsTree s.tree → FitCommand command → Does t s command actions u
-    → length (command_fields command) ≤ 2 ^ 17 - 24
+    → length (command_fields command) ≤ 66068
 command_long t s (PutFile path text) actions u is fit (Does.changes (puts {tree = tree} e)) = two_long path text (put_long s path text tree e)
 command_long t s (PutLink path target) actions u is fit (Does.changes (links {tree = tree} e)) = two_long path target (link_long s path target tree e)
 command_long t s (Remove path) actions u is fit (Does.changes (removes {tree = tree} e)) = omega (arith, text_long path, remove_long s path tree is e)
@@ -95,7 +96,7 @@ end_long (end.Code code) = omega arith
 end_long (end.Signal number) = omega arith
 end_long end.Lost = omega arith
 
-happening_long : (happening : Happening) → FitHappening happening → length (happening_fields happening) ≤ 2 ^ 17 - 24
+happening_long : (happening : Happening) → FitHappening happening → length (happening_fields happening) ≤ 66068
 happening_long (ProcessEnded number e) fit = omega (arith, length-append (big_bytes 8 number) (end_spelling e), number_long 8 number, end_long e)
 happening_long (ProcessExecuted number) fit = omega (arith, number_long 8 number)
 happening_long Tick fit = omega arith
@@ -103,11 +104,11 @@ happening_long (Booted boot) fit = omega (arith, text_long boot, leb-true (lengt
 
 -- ---- the input
 
-whole_long : (i : Input) → length (event_fields i.event) ≤ 2 ^ 17 - 24 → length (input_spelling i) ≤ 131072
+whole_long : (i : Input) → length (event_fields i.event) ≤ 66068 → length (input_spelling i) ≤ input_limit
 whole_long i h = omega (arith, length-append (big_bytes 8 i.moment) (event_fields i.event), number_long 8 i.moment)
 
 taken_long : (t : ℕ) (s : State) (moment : ℕ) (event : Event) (actions : List Action) (u : State) → IsTree s.tree → FitInput (record { moment = moment; event = event })
-    → TakesEffect t s event actions u → length (input_spelling (record { moment = moment; event = event })) ≤ 131072
+    → TakesEffect t s event actions u → length (input_spelling (record { moment = moment; event = event })) ≤ input_limit
 taken_long t s moment event actions u is fit (obeys {command = command} {first = first} {u = v} none does settles) =
     whole_long (record { moment = moment; event = Commanded command }) (command_long t s command first v is fit.event does)
 taken_long t s moment event actions u is fit (meets {happening = happening} effect follows) =
@@ -115,7 +116,7 @@ taken_long t s moment event actions u is fit (meets {happening = happening} effe
 
 -- an input that isn't refused, in a state with a tree
 pub accepted_short : (size : ℕ) (s : State) (i : Input) (reply : Reply) (actions : List Action) (t : State) → IsTree s.tree → FitInput i → Step size s i reply actions t
-    → ((r : Refused) → reply ≢ Refusal r) → length (input_spelling i) ≤ 131072
+    → ((r : Refused) → reply ≢ Refusal r) → length (input_spelling i) ≤ input_limit
 accepted_short size s i reply actions t is fit (refused {r = r} e) accepted = absurd (accepted r refl)
 accepted_short size s i reply actions t is fit (crowded_out h heavy) accepted = absurd (accepted no_room refl)
 accepted_short size s i reply actions t is fit (idle {moment = moment} {happening = happening} e) accepted =

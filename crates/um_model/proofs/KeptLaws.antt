@@ -35,7 +35,7 @@ pub record Goes (layout : Layout) (past : Past) (slot : Slot) (generation number
   pub records : List (List ℕ)
   pub start : State
   pub inputs : List Input
-  pub on : GoesOn layout past slot generation body records number next
+  pub on : GoesOn layout past slot generation body records generation number next
   pub comes : ComesTo (body_limit layout) body records start inputs s
 
 module _ {layout : Layout} {past : Past} {c : Contents} {s : State} (holds : contents_of layout (seen past) ≡ Some c) (may : IsServable (body_limit layout) c.start)
@@ -65,7 +65,7 @@ module _ {layout : Layout} {past : Past} {c : Contents} {s : State} (holds : con
 -- ---- and back
 
 module _ {layout : Layout} {past : Past} {slot : Slot} {generation number next : ℕ} {body : List ℕ} {records : List (List ℕ)}
-    (on : GoesOn layout past slot generation body records number next) where
+    (on : GoesOn layout past slot generation body records generation number next) where
   -- each image is a store of the state that the sectors come to
   pub all_stores : {start : State} {inputs : List Input} {s : State} → ComesTo (body_limit layout) body records start inputs s → Images past (λ image. IsStoreOf layout image s)
   all_stores comes image at = store_of (on.store image at) comes

@@ -11,6 +11,7 @@ pub mod OrderLaws
 pub mod LimitLaws
 pub mod CausesLaws
 pub mod MachineLaws
+pub mod BegunLaws
 pub mod UnitLaws
 pub mod FitLaws
 pub mod FallLaws

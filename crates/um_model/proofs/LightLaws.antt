@@ -3,9 +3,10 @@ use Rattle.std.proofs.Common.{ℕ, ◌≡◌, ◌∙◌, ◌+◌, ◌*◌, ◌�
 use Rattle.um_model.specs.Dependencies.{KnowsSoMany, CountsFor, extra}
 use Rattle.um_model.specs.Machine.{State, Happening, Happened, Reply, Done, IsHeld, booted, Follows, end_of, moment_of, Step, TakesEffect}
 use Rattle.um_model.specs.Reached.{first}
+use Rattle.um_model.specs.Servable.{WeighsNoMore}
 use Rattle.um_model.specs.Service.{Action, state_of_unit}
 use Rattle.um_model.specs.Tree.{Tree, without_run}
-use Rattle.um_model.specs.Weight.{tree_weight, weight_of}
+use Rattle.um_model.specs.Weight.{tree_weight}
 use Rattle.um_model.specs.declared.transition.UnitEvent.TheVariants.{Executed}
 use Rattle.um_model.proofs.AmongLaws.{contains_among, among_contained}
 use Rattle.um_model.proofs.FewLaws.{HoldsNoMore, same_no_more, happened_no_more, fires_no_more, number_held, booted_none}
@@ -44,11 +45,6 @@ module _ (Fewer Extra : List ℕ → Type 0) (within : (x : List ℕ) → Fewer 
       omega (arith, held, lasting, most, least)
 
 -- ---- and no more is weighed
-
--- a state weighs no more than another
-abbrev pub WeighsNoMore : State → State → Type 0
-WeighsNoMore t s = (m n : ℕ) → CountsFor t.loaded (IsHeld t) m → CountsFor s.loaded (IsHeld s) n
-    → weight_of t.tree t.loaded m ≤ weight_of s.tree s.loaded n
 
 lighter : (a b c d m n : ℕ) → a ≤ b → c ≤ d → m ≤ n → 256 + a + c + 2048 * m ≤ 256 + b + d + 2048 * n
 lighter a b c d m n e f g = omega arith

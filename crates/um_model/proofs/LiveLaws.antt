@@ -1,15 +1,16 @@
 -- The machine is never stuck: after any inputs a pending job waits for a live process.
-use Rattle.std.proofs.Common.{ℕ, ◌≡◌, ◌≢◌, ◌⊎◌, ◌∙◌, ◌||◌, Bool, true, false, true≢false, cond, is_some, List, ◌∷◌, Option, Some, None, unwrap_or, refl, sym, ap, subst, subst₂, inl, inr}
+use Rattle.std.proofs.Common.{ℕ, ◌≡◌, ◌≢◌, ◌⊎◌, ◌∙◌, ◌||◌, Bool, true, false, true≢false, cond, is_some, List, ◌∷◌, ◌++◌, Option, Some, None, unwrap_or, refl, sym, ap, subst, subst₂, inl, inr}
 use Rattle.std.specs.FinMap as map
-use Rattle.um_model.specs.Service.{Action, ByUnit, active_state_of, dead_unit, state_of_unit}
+use Rattle.um_model.specs.Service.{Action, ByUnit, is_number, active_state_of, dead_unit, state_of_unit}
 use Rattle.um_model.specs.Settings.{ServiceSettings}
 use Rattle.um_model.specs.Ends.{is_starting, is_stopping}
-use Rattle.um_model.specs.Transitions.{transition, HasNumber}
+use Rattle.um_model.specs.Transitions.{transition, HasNumber, has_its_process, HasItsProcess}
 use Rattle.um_model.specs.Jobs.{Job, stop_job, start_job, job_of, jobs, no_jobs, jobs_of_unit, is_active, is_up, started, stopped, jobs_for, unless_waiting, cancelled, without_start, state_of_job, IsPending, of_one_unit, ComesBefore, IsReady, unless_running, start_left, jobs_left}
 use Rattle.um_model.specs.Timers.{Timers}
-use Rattle.um_model.specs.Machine.{State, empty_state, Command, Happening, Event, Input, Reply, IsBefore, TakesAlong, Becomes, Carries, change_of, changed, around, begins, begun, IsStill, FallDown, Happens, AreReset, Settles, begins_next, unit_asked, with_plan, jobs_asked, scene_at, Changes, puts, links, removes, reloads, plans, demands_nothing, cancels, installs, Does, units_reset, end_of, Restarts, ComesDue, Fires, FiresOne, booted, Follows, ends, reports, ticks, boots, obeys, meets, moment_of, Step, refused, crowded_out, idle, taken, Run, goes, settings_in, isnt_put, TakesEffect}
+use Rattle.um_model.specs.Machine.{State, Command, Happening, Event, Input, Reply, IsBefore, TakesAlong, Becomes, Carries, change_of, changed, around, begins, begun, IsStill, FallDown, all_told, told_next, Happens, AreReset, all_reset, reset_next, Settles, begins_next, unit_asked, with_plan, jobs_asked, scene_at, Changes, puts, links, removes, reloads, plans, demands_nothing, cancels, installs, Does, units_reset, end_of, Restarts, ComesDue, Fires, FiresOne, booted, Follows, ends, reports, ticks, boots, obeys, meets, moment_of, Step, refused, crowded_out, idle, taken, Run, goes, settings_in, isnt_put, TakesEffect}
+use Rattle.um_model.specs.Live.{WaitsFor, IsNotStuck}
 use Rattle.um_model.specs.Plan.{IsPlan}
-use Rattle.um_model.specs.Servable.{IsFree}
+use Rattle.um_model.specs.Servable.{IsBlank, IsFree}
 use Rattle.um_model.specs.declared.dependencies.Demand.{Demand}
 use Rattle.um_model.specs.declared.dependencies.Demand.TheVariants as demands
 use Rattle.um_model.specs.declared.jobs.JobKind.{JobKind}
@@ -19,6 +20,7 @@ use Rattle.um_model.specs.declared.jobs.JobState.TheVariants.{Waiting, Running}
 use Rattle.um_model.specs.declared.jobs.UnitJobs.{UnitJobs}
 use Rattle.um_model.specs.declared.service.ActiveState.{ActiveState}
 use Rattle.um_model.specs.declared.service.ActiveState.TheVariants as active
+use Rattle.um_model.specs.declared.service.End.{End}
 use Rattle.um_model.specs.declared.service.SubState.{SubState}
 use Rattle.um_model.specs.declared.service.SubState.TheVariants as sub
 use Rattle.um_model.specs.declared.service.UnitState.{UnitState}
@@ -27,28 +29,17 @@ use Rattle.um_model.specs.declared.transition.Change.{Change}
 use Rattle.um_model.specs.declared.transition.StartJob.{StartJob}
 use Rattle.um_model.specs.declared.transition.StartJob.TheVariants.{Stays, Ends, Fails}
 use Rattle.um_model.specs.declared.transition.UnitEvent.{UnitEvent}
-use Rattle.um_model.specs.declared.transition.UnitEvent.TheVariants.{StartBegins, StopBegins, Executed, DeadlinePasses}
+use Rattle.um_model.specs.declared.transition.UnitEvent.TheVariants.{StartBegins, StopBegins, BoundStop, Executed, MainEnds, ControlEnds, DeadlinePasses, Reset}
 use Rattle.um_model.proofs.AlongLaws.{before_or_not, taken_along_or_not, with_result_dependency}
 use Rattle.um_model.proofs.CycleLaws.{a_first_job}
-use Rattle.um_model.proofs.FallLaws.{over_falls, over_happening, over_resets}
 use Rattle.um_model.proofs.FreeLaws.{no_cycle_after}
 use Rattle.um_model.proofs.PlannedLaws.{counts_some}
 use Rattle.um_model.proofs.SceneLaws.{finite_scene}
 use Rattle.um_model.proofs.TimersLaws.{same_name}
 use Rattle.um_model.proofs.UnitLaws.{state_here, state_apart, jobs_here, jobs_apart}
-use Rattle.um_model.proofs.TransitionLaws.{HasItsProcess, has_its_process, keeps_process, same_held}
+use Rattle.um_model.proofs.TransitionLaws.{keeps_process, same_held}
 use Rattle.um_model.proofs.FitLaws.{StartFits, StopFits, begun_start_fits, start_fits, begun_stop_fits, stop_fits}
 use Rattle.um_model.proofs.Forms.{with_running}
-
--- a pending job whose unit is in start or in a stop state, where this is the number of a live process
-pub record WaitsFor (s : State) (job : Job) (number : ℕ) : Type 0 where
-  pub pending : IsPending s.pending job
-  pub busy : (is_starting (state_of_unit s.units job.unit).sub || is_stopping (state_of_unit s.units job.unit).sub) ≡ true
-  pub live : HasNumber (state_of_unit s.units job.unit) number
-
--- the machine isn't stuck: where a job is pending, some pending job waits for a live process
-abbrev pub IsNotStuck : State → Type 0
-IsNotStuck s = (job : Job) → IsPending s.pending job → (other : Job) × (number : ℕ) × WaitsFor s other number
 
 -- a unit and its jobs fit: it has its process, a start job runs only in start, a stop job only in a stop state, and not both
 pub record Fits (u : UnitState) (j : UnitJobs) : Type 0 where
@@ -266,31 +257,52 @@ nothing_ready Before units j ready = none_waits j.kind (sym (ap (job_of j.kind) 
 
 -- ---- a run
 
+-- what isn't a stop job that begins
+bound_apart : BoundStop ≡ StopBegins → ⊥
+bound_apart e = cc
+
+reset_apart : Reset ≡ StopBegins → ⊥
+reset_apart e = cc
+
+deadline_apart : DeadlinePasses ≡ StopBegins → ⊥
+deadline_apart e = cc
+
+executed_apart : Executed ≡ StopBegins → ⊥
+executed_apart e = cc
+
+end_apart : (b : Bool) (e : End) → cond b (MainEnds e) (ControlEnds e) ≢ StopBegins
+end_apart true e = λ is. cc
+end_apart false e = λ is. cc
+
 -- the table keeps the process of a unit
 module _ (keeps : (s : ServiceSettings) (c : Around) (u : UnitState) (e : UnitEvent) → HasItsProcess u → HasItsProcess (transition s c u e).unit) where
   -- what happens to a unit leaves all fitting
-  carried_fits : (t : ℕ) (unit : List ℕ) (event : UnitEvent) (s : State) (actions : List Action) (v : State) → Carries t unit event s actions v → AllFit s → AllFit v
-  carried_fits t unit event s actions v h fits =
+  carried_fits : (t : ℕ) (unit : List ℕ) (event : UnitEvent) (s : State) (actions : List Action) (v : State) → event ≢ StopBegins → Carries t unit event s actions v
+      → AllFit s → AllFit v
+  carried_fits t unit event s actions v isnt h fits =
       let u = state_of_unit s.units unit in
       let settings = settings_in s.loaded unit in
       becomes_fits s unit (change_of t s unit event) v h.state (fits_at s unit (change_of t s unit event) (λ other apart. fits other)
       (left_fits (change_of t s unit event) (jobs_of_unit s.pending unit) (keeps settings (around t s unit) u event (fits unit).held)
-      (λ e. start_fits settings (around t s unit) u event ((fits unit).starting e))
+      (λ e. start_fits settings (around t s unit) u event isnt ((fits unit).starting e))
       (λ e. stop_fits settings (around t s unit) u event ((fits unit).stopping e))
       (fits unit).apart))
 
-  abbrev LeavesFitting : State → List Action → State → Type 0
-  LeavesFitting s actions v = AllFit s → AllFit v
-
   -- so do all units that fall with it, and resets
-  fallen_fits : (t : ℕ) (units : List (List ℕ)) (s : State) (actions : List Action) (v : State) → FallDown t units s actions v → LeavesFitting s actions v
-  fallen_fits t = over_falls t LeavesFitting (λ s fits. fits) (λ s u v first more f g fits. g (f fits)) (carried_fits t)
+  fallen_fits : (t : ℕ) (units : List (List ℕ)) (s : State) (actions : List Action) (v : State) → FallDown t units s actions v → AllFit s → AllFit v
+  fallen_fits t units s actions v all_told fits = fits
+  fallen_fits t (unit ∷ units) s actions v (told_next {falling = falling} {u = u} {first = first} {more = more} carries falls later) fits =
+      fallen_fits t (falling ++ units) u more v later (carried_fits t unit BoundStop s first u bound_apart carries fits)
 
-  happened_fits : (t : ℕ) (unit : List ℕ) (event : UnitEvent) (s : State) (actions : List Action) (v : State) → Happens t unit event s actions v → LeavesFitting s actions v
-  happened_fits t = over_happening t LeavesFitting (λ s fits. fits) (λ s u v first more f g fits. g (f fits)) (carried_fits t)
+  happened_fits : (t : ℕ) (unit : List ℕ) (event : UnitEvent) (s : State) (actions : List Action) (v : State) → event ≢ StopBegins → Happens t unit event s actions v
+      → AllFit s → AllFit v
+  happened_fits t unit event s actions v isnt (Happens.happens {falling = falling} {u = u} {first = first} {more = more} carries falls later) fits =
+      fallen_fits t falling u more v later (carried_fits t unit event s first u isnt carries fits)
 
-  reset_fits : (t : ℕ) (units : List (List ℕ)) (s : State) (actions : List Action) (v : State) → AreReset t units s actions v → LeavesFitting s actions v
-  reset_fits t = over_resets t LeavesFitting (λ s fits. fits) (λ s u v first more f g fits. g (f fits)) (carried_fits t)
+  reset_fits : (t : ℕ) (units : List (List ℕ)) (s : State) (actions : List Action) (v : State) → AreReset t units s actions v → AllFit s → AllFit v
+  reset_fits t units s actions v all_reset fits = fits
+  reset_fits t (unit ∷ units) s actions v (reset_next {u = u} {first = first} {more = more} forgets later) fits =
+      reset_fits t units u more v later (happened_fits t unit Reset s first u reset_apart forgets fits)
 
   begun_here : (s : State) (j : Job) → jobs_of_unit (begun s j).pending j.unit ≡ with_running j.kind (jobs_of_unit s.pending j.unit)
   begun_here s j = jobs_here s.pending j.unit (with_running j.kind (jobs_of_unit s.pending j.unit))
@@ -329,7 +341,7 @@ module _ (keeps : (s : ServiceSettings) (c : Around) (u : UnitState) (e : UnitEv
 
   due_fits : (t : ℕ) (s : State) (unit : List ℕ) (actions : List Action) (v : State) → ComesDue t s unit actions v → AllFit s → AllFit v
   due_fits t s unit actions v (ComesDue.restarts is again) fits = restarted_fits s unit v again fits
-  due_fits t s unit actions v (ComesDue.passes isnt h) fits = happened_fits t unit DeadlinePasses s actions v h fits
+  due_fits t s unit actions v (ComesDue.passes isnt h) fits = happened_fits t unit DeadlinePasses s actions v deadline_apart h fits
 
   fired_fits : (t : ℕ) (timers : Timers) (s : State) (actions : List Action) (v : State) → Fires t timers s actions v → AllFit s × IsStill s → AllFit v × IsStill v
   fired_fits t timers s actions v (Fires.none_due none) calm = calm
@@ -339,9 +351,9 @@ module _ (keeps : (s : ServiceSettings) (c : Around) (u : UnitState) (e : UnitEv
 
   followed_fits : (t : ℕ) (s : State) (happening : Happening) (actions : List Action) (v : State) → Follows t s happening actions v → AllFit s × IsStill s → AllFit v × IsStill v
   followed_fits t s happening actions v (ends {number = number} {end = end} {first = first} {more = more} {u = u} unit is h k) calm =
-      settled_fits t u more v k (happened_fits t unit (end_of (state_of_unit s.units unit) number end) s first u h calm.0)
+      settled_fits t u more v k (happened_fits t unit (end_of (state_of_unit s.units unit) number end) s first u (end_apart (is_number number (state_of_unit s.units unit).main) end) h calm.0)
   followed_fits t s happening actions v (reports {first = first} {more = more} {u = u} unit is awaits h k) calm =
-      settled_fits t u more v k (happened_fits t unit Executed s first u h calm.0)
+      settled_fits t u more v k (happened_fits t unit Executed s first u executed_apart h calm.0)
   followed_fits t s happening actions v (ticks timers are h) calm = fired_fits t timers s actions v h calm
   followed_fits t s happening actions v (boots {boot = boot}) calm = (nothing_fits, nothing_ready (IsBefore (booted boot s).loaded) map.empty)
 
@@ -448,8 +460,17 @@ module _ (s : State) (fits : AllFit s) (still : IsStill s) where
       | inr runs ↦ let w = running_waits j is_there j.kind runs in (j, w.0, w.1)
     ]
 
--- after any inputs the machine isn't stuck
-pub never_stuck : (size : ℕ) (inputs : List Input) (t : State) → Run size empty_state inputs t → IsNotStuck t
-never_stuck size inputs t run =
-    let calm = run_fits keeps_process size empty_state t inputs run (nothing_fits, nothing_ready (IsBefore empty_state.loaded) map.empty) in
-    fitting_not_stuck t calm.0 calm.1 (no_cycle_after size inputs t run)
+-- in a state in which nothing is held all fits, and no job is ready
+blank_fits : (s : State) → IsBlank s → AllFit s
+blank_fits s blank =
+    subst₂ (λ us js. (unit : List ℕ) → Fits (state_of_unit us unit) (jobs_of_unit js unit)) (sym blank.units) (sym blank.pending) nothing_fits
+
+blank_still : (s : State) → IsBlank s → IsStill s
+blank_still s blank =
+    subst (λ js. (j : Job) → ¬ IsReady (IsBefore s.loaded) s.units js j) (sym blank.pending) (nothing_ready (IsBefore s.loaded) s.units)
+
+-- after any inputs from there the machine isn't stuck
+pub never_stuck : (size : ℕ) (s : State) (inputs : List Input) (t : State) → IsBlank s → Run size s inputs t → IsNotStuck t
+never_stuck size s inputs t blank run =
+    let calm = run_fits keeps_process size s t inputs run (blank_fits s blank, blank_still s blank) in
+    fitting_not_stuck t calm.0 calm.1 (no_cycle_after size s inputs t blank run)

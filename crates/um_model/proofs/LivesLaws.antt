@@ -2,7 +2,7 @@
 use Rattle.std.proofs.Common.{◌≡◌, inl, inr, ℕ, List, [], ◌∷◌, ◌++◌, refl, sym, subst}
 use Rattle.std.specs.List.{Contains}
 use Rattle.um_model.specs.Disk.{Image}
-use Rattle.um_model.specs.Machine.{State, Input, Reply, Run, rests, goes, empty_state}
+use Rattle.um_model.specs.Machine.{State, Input, Reply, Run, rests, goes}
 use Rattle.um_model.specs.Stands.{IsStoreOf}
 use Rattle.um_model.specs.Store.{body_limit}
 use Rattle.um_model.specs.Lives.{Outcome, answered, turned_away, unanswered, Offer, Life, AreUnanswered, none, turned, lost, MayLeave, holds, takes, turns_away, Lived, ended, lived, IsKept, no_more, keeps, passes, AreKept, all_kept, and_life}
@@ -63,11 +63,6 @@ pub lives_from : (layout : Layout) (first last : Image) (lives : List Life) (s :
 lives_from layout first last all s store led =
     let (b, t, run, stands) = lives_run layout first last all s store led in
     (b, all_kept_of run, t, whole_run_of run, stands)
-
--- What outlives any number of lives of a store that was new.
-pub lives : (layout : Layout) (first last : Image) (lives : List Life) → IsStoreOf layout first empty_state → Lived layout first lives last
-    → (b : List Input) × AreKept lives b × (s : State) × Run (body_limit layout) empty_state b s × IsStoreOf layout last s
-lives layout first last all store led = lives_from layout first last all empty_state store led
 
 -- ---- what was answered is kept
 

@@ -11,7 +11,7 @@ use Rattle.um_model.specs.Readings.{text_reading, names_reading, read_if}
 use Rattle.um_model.specs.Results.{◌and_then◌}
 use Rattle.um_model.specs.Resolution.{Resolution, AtFile, AtNoFile, AtMask, Nowhere, held, is_mask, is_of_same_type, is_served_type, shutdown_target, next_name, resolution_at, resolved, hop_limit, resolution_of}
 use Rattle.um_model.specs.Tree.{Tree, Entry, File, Link}
-use Rattle.um_model.specs.Units.{Source, Assigned, assignments_in, unit_by, loading_at, sources_at, load, name_in, unit_named, InstallSettings, nothing_installed, is_alias_for, install_settings_of}
+use Rattle.um_model.specs.Units.{Source, Assigned, assignments_in, unit_by, loading_at, sources_at, load, named_at, unit_named, InstallSettings, nothing_installed, is_alias_for, install_settings_of}
 use Rattle.um_model.specs.Words.{words_of}
 use Rattle.um_model.specs.declared.warnings.WarningKind.{WarningKind}
 use Rattle.um_model.specs.declared.warnings.WarningKind.TheVariants.{UnreadableValue}
@@ -69,16 +69,10 @@ resolution_name tree unit is = by_type (is_served_type (suffix_of unit))
 
 -- the name that counts for a unit name is a unit name
 pub named_by_name : (tree : Tree) (asked : List ℕ) → is_unit_name asked ≡ true → is_unit_name (unit_named tree asked) ≡ true
-unfolding load
 named_by_name tree asked is = by_resolution (resolution_of tree asked) (resolution_name tree asked is)
   where
-    by_reason : (unit path : List ℕ) (sources : List Source) → is_unit_name unit ≡ true → (reason : Option (List ℕ))
-        → is_unit_name (name_in asked (found_unless reason (unit_by unit (Some path) sources))) ≡ true
-    by_reason unit path sources named None = named
-    by_reason unit path sources named (Some reason) = named
-
-    by_resolution : (r : Resolution) → HasName r → is_unit_name (name_in asked (loading_at tree r)) ≡ true
-    by_resolution (AtFile unit path text) named = by_reason unit path (sources_at tree (AtFile unit path text)) named _
+    by_resolution : (r : Resolution) → HasName r → is_unit_name (named_at asked r) ≡ true
+    by_resolution (AtFile unit path text) named = named
     by_resolution (AtNoFile unit) named = named
     by_resolution (AtMask unit) named = named
     by_resolution Nowhere named = is

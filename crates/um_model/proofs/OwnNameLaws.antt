@@ -1,5 +1,5 @@
 -- What a unit says is said by its own name, so dependencies and the order of known units don't ask what else is known.
-use Rattle.std.proofs.Common.{◌≡◌, ◌⊎◌, ◌∙◌, ℕ, zero, suc, Bool, true, false, cond, List, [], ◌∷◌, Option, Some, None, refl, sym, ap, subst, inl, inr}
+use Rattle.std.proofs.Common.{◌≡◌, ◌⊎◌, ◌∙◌, ℕ, zero, suc, Bool, true, false, cond, List, [], ◌∷◌, Option, Some, None, refl, sym, ap, inl, inr}
 use Rattle.std.specs.Option.{option_map_or}
 use Rattle.std.proofs.lemmas.Option.{none-some, same_Some}
 use Rattle.std.proofs.lemmas.Slice.Eq.{bytes_eq-Decides}
@@ -10,7 +10,7 @@ use Rattle.um_model.specs.Names.{is_template, is_unit_name, instance_of, suffix_
 use Rattle.um_model.specs.Reached.{first, next}
 use Rattle.um_model.specs.Resolution.{Resolution, AtFile, AtNoFile, AtMask, Nowhere, held, is_mask, is_of_same_type, is_served_type, shutdown_target, next_name, resolution_at, resolved, hop_limit, resolution_of, unit_in_target, with_instance_of}
 use Rattle.um_model.specs.Tree.{Tree, Entry, File, Link}
-use Rattle.um_model.specs.Units.{LoadedUnit, Loading, Found, Masked, NotFound, BadSetting, assignments_in, reason_of, unit_by, loading_at, sources_at, load, name_in, unit_named}
+use Rattle.um_model.specs.Units.{LoadedUnit, Loading, Found, Masked, NotFound, BadSetting, assignments_in, reason_of, unit_by, loading_at, sources_at, load, name_in, named_at, unit_named}
 use Rattle.um_model.specs.declared.dependencies.DependencyKind.{DependencyKind}
 use Rattle.um_model.specs.declared.dependencies.DependencyKind.TheVariants as kinds
 use Rattle.um_model.specs.declared.names.Suffix.{Suffix}
@@ -140,13 +140,23 @@ name_at_file tree asked unit path text =
     let sources = sources_at tree (AtFile unit path text) in
     name_by_reason asked (unit_by unit (Some path) sources) (reason_of unit (assignments_in (suffix_of unit) sources))
 
+-- the name that counts is that of what was found
+pub named_by_loading : (tree : Tree) (asked : List ℕ) → unit_named tree asked ≡ name_in asked (load tree asked)
+unfolding load
+named_by_loading tree asked = by_resolution (resolution_of tree asked)
+  where
+    by_resolution : (r : Resolution) → named_at asked r ≡ name_in asked (loading_at tree r)
+    by_resolution (AtFile unit path text) = sym (name_at_file tree asked unit path text)
+    by_resolution (AtNoFile unit) = refl
+    by_resolution (AtMask unit) = refl
+    by_resolution Nowhere = refl
+
 -- the name that counts for one that was asked for is that one or a unit name
 pub named_or_asked : (tree : Tree) (asked : List ℕ) → AskedOrName asked (unit_named tree asked)
-unfolding load
 named_or_asked tree asked = by_resolution (resolution_of tree asked) (own_resolution tree asked)
   where
-    by_resolution : (r : Resolution) → HasOwn tree asked r → AskedOrName asked (name_in asked (loading_at tree r))
-    by_resolution (AtFile unit path text) own = subst (AskedOrName asked) (sym (name_at_file tree asked unit path text)) own.is_name
+    by_resolution : (r : Resolution) → HasOwn tree asked r → AskedOrName asked (named_at asked r)
+    by_resolution (AtFile unit path text) own = own.is_name
     by_resolution (AtNoFile unit) own = own.is_name
     by_resolution (AtMask unit) own = own.is_name
     by_resolution Nowhere own = inl refl
@@ -185,7 +195,7 @@ loadable_by_own tree asked l loadable =
 
 -- its name counts for each name that leads to it
 pub name_of_loadable : (tree : Tree) (asked : List ℕ) (l : LoadedUnit) → loadable_in tree asked ≡ Some l → unit_named tree asked ≡ l.name
-name_of_loadable tree asked l loadable = ap (name_in asked) (loadable_found (load tree asked) l loadable)
+name_of_loadable tree asked l loadable = named_by_loading tree asked ∙ ap (name_in asked) (loadable_found (load tree asked) l loadable)
 
 -- ---- what a known unit says, whatever else is known
 

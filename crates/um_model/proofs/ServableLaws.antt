@@ -7,17 +7,17 @@ use Rattle.std.specs.FinMap as map
 use Rattle.std.specs.Ordering.{nat_cmp}
 use mathlib.Core.HLevel.{Π_prop, ×₃_prop, ⊥_prop}
 use Rattle.um_model.specs.Dependencies.{IsKnown, KnowsSoMany, CountsFor}
-use Rattle.um_model.specs.Machine.{State, empty_state, Commanded, Happening, Happened, Event, Input, Reply, IsHeld, IsBefore, CausesOfLoad, IsTooHeavy, HasNoRoom, reply_after, moment_of, Step, taken, TakesEffect}
+use Rattle.um_model.specs.Machine.{State, Commanded, Happening, Happened, Event, Input, Reply, IsHeld, CausesOfLoad, IsTooHeavy, HasNoRoom, reply_after, moment_of, Step, taken, TakesEffect}
 use Rattle.um_model.specs.Refusals.{Refused, at_first, at_second}
-use Rattle.um_model.specs.Servable.{IsFew, IsFree, IsServable}
+use Rattle.um_model.specs.Servable.{IsBlank, IsFew, IsFree, IsServable}
 use Rattle.um_model.specs.Service.{Action}
 use Rattle.um_model.specs.Tree.{Entry}
 use Rattle.um_model.specs.Weight.{entry_weight, tree_weight}
 use Rattle.um_model.proofs.AmongLaws.{contains_among}
 use Rattle.um_model.proofs.CrowdedLaws.{a_count}
 use Rattle.um_model.proofs.DemandsLaws.{reached_in}
-use Rattle.um_model.proofs.FewLaws.{step_few, none_named, empty_none, empty_same, empty_few}
-use Rattle.um_model.proofs.FreeLaws.{loads_free, step_free, none_free}
+use Rattle.um_model.proofs.FewLaws.{step_few, none_named, blank_none, empty_same, blank_few}
+use Rattle.um_model.proofs.FreeLaws.{loads_free, step_free, blank_free}
 use Rattle.um_model.proofs.LightLaws.{happening_light}
 use Rattle.um_model.proofs.SceneLaws.{held_list}
 
@@ -45,7 +45,7 @@ pub refused_unservable : (size : ℕ) (s : State) (r : Refused) → CausesOfLoad
 refused_unservable size s r (at_first crowded) h = h.few r crowded
 refused_unservable size s r (at_second none circle) h = h.free circle.cycle circle.closed
 
--- ---- the empty state
+-- ---- a state in which nothing is held
 
 -- no unit counts for the empty tree where nothing is held
 module _ (Extra : List ℕ → Type 0) (none : (x : List ℕ) → ¬ Extra x) where
@@ -69,14 +69,16 @@ none_weighs (e ∷ es) none = cc
 empty_weight : tree_weight map.empty ≡ 0
 empty_weight = none_weighs (map.entries map.empty) (sym (map.len-entries map.empty) ∙ map.len-empty (slice_cmp nat_cmp) Entry)
 
-empty_light : (size : ℕ) → 256 ≤ size → ¬ IsTooHeavy size empty_state
-empty_light size room h =
-    let units = none_counted (IsHeld empty_state) empty_none h.units h.count in
-    omega (arith, h.heavy, units, empty_weight, room)
+blank_light : (size : ℕ) (s : State) → 256 ≤ size → IsBlank s → ¬ IsTooHeavy size s
+blank_light size s room blank h =
+    let units = none_counted (IsHeld s) (blank_none s blank) h.units (subst (λ tree. CountsFor tree (IsHeld s) h.units) blank.loaded h.count) in
+    let tree : tree_weight s.tree ≡ 0 = ap tree_weight blank.tree ∙ empty_weight in
+    let loaded : tree_weight s.loaded ≡ 0 = ap tree_weight blank.loaded ∙ empty_weight in
+    omega (arith, h.heavy, units, tree, loaded, room)
 
--- a store of 256 bytes or more may hold the empty state
-pub empty_servable : (size : ℕ) → 256 ≤ size → IsServable size empty_state
-empty_servable size room = record { light = empty_light size room; few = empty_few; free = none_free (IsBefore empty_state.loaded) }
+-- a store of 256 bytes or more may hold a state in which nothing is held
+pub blank_servable : (size : ℕ) (s : State) → 256 ≤ size → IsBlank s → IsServable size s
+blank_servable size s room blank = record { light = blank_light size s room blank; few = blank_few s blank; free = blank_free s blank }
 
 -- ---- a step
 

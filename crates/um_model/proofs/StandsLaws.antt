@@ -19,12 +19,12 @@ use Rattle.um_model.specs.StateSpellings.{state_spelling, state_at, FitState}
 use Rattle.um_model.specs.Store.{superblock, other, body_limit, log_start, Newest, newest_of, records_of, IsNewest, HasRecords, IsFree, IsStore}
 use Rattle.um_model.specs.declared.layout.Layout.{Layout}
 use Rattle.um_model.specs.declared.layout.Slot.{Slot}
-use Rattle.um_model.proofs.FewLaws.{empty_few}
-use Rattle.um_model.proofs.FitStateLaws.{fit_of_whole, empty_whole}
+use Rattle.um_model.proofs.FewLaws.{empty_blank}
+use Rattle.um_model.proofs.FitStateLaws.{empty_fit}
 use Rattle.um_model.proofs.ImageLaws.{newest_some, records_are, only_records}
 use Rattle.um_model.proofs.InputSpellingsLaws.{canonical_input}
 use Rattle.um_model.proofs.MachineLaws.{one_run, run-append}
-use Rattle.um_model.proofs.ServableLaws.{empty_servable, step_servable}
+use Rattle.um_model.proofs.ServableLaws.{blank_servable, step_servable}
 use Rattle.um_model.proofs.StateSpellingsLaws.{canonical_state}
 use Rattle.um_model.proofs.StoreLaws.{superblock_says, same_newest}
 use Rattle.um_model.proofs.TotalLaws.{a_step}
@@ -299,10 +299,10 @@ anew store is may = store_of store (comes_anew is may)
 
 -- the empty state has bytes, and any store may hold it
 pub empty_back : nothing_left (state_at (state_spelling empty_state)) ≡ Some empty_state
-empty_back = state_back empty_state (fit_of_whole empty_state empty_few empty_whole)
+empty_back = state_back empty_state empty_fit
 
 pub empty_may : (layout : Layout) → IsServable (body_limit layout) empty_state
-empty_may layout = empty_servable (body_limit layout) (omega (arith, layout.slot_least))
+empty_may layout = blank_servable (body_limit layout) empty_state (omega (arith, layout.slot_least)) empty_blank
 
 -- With the empty state's spelling and no record it is a store of the empty state.
 pub empty_store : {layout : Layout} {image : Image} {slot : Slot} {generation : ℕ} → IsStore layout image slot generation (state_spelling empty_state) [] → IsStoreOf layout image empty_state

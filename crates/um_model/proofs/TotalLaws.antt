@@ -9,7 +9,7 @@ use Rattle.um_model.specs.Install.{Installs, RefusesInstall}
 use Rattle.um_model.specs.Units.{load, Loading, NotFound}
 use Rattle.um_model.specs.Service.{Action, ByUnit, state_of_unit}
 use Rattle.um_model.specs.Plan.{IsPlan, CausesOfPlan}
-use Rattle.um_model.specs.Ends.{is_starting, has_one_command}
+use Rattle.um_model.specs.Ends.{waits_for_report, has_one_command}
 use Rattle.um_model.specs.Transitions.{HasNumber}
 use Rattle.um_model.specs.Machine.{State, Command, PutFile, PutLink, Remove, DaemonReload, ForUnit, Cancel, ResetFailed, Install, Happening, ProcessEnded, ProcessExecuted, Tick, Booted, Event, Commanded, Happened, Input, Reply, Done, Refusal, IsHeld, IsHeldOr, IsBefore, IsProcessOf, IsOver, end_of, settings_in, AwaitsReport, booted, Follows, ends, reports, ticks, boots, HasNoEffect, is_over, isnt_awaited, is_idle, is_known, active_asked, demand_of, jobs_asked, unit_asked, scene_at, IsCrowded, IsNotThere, to_stop, to_try_restart, IsMissing, HasNoPlan, HasNoneWaiting, CausesOfLoad, Refuses, Changes, puts, links, removes, reloads, plans, demands_nothing, cancels, installs, units_reset, Does, changes, resets, TakesEffect, obeys, meets, moment_of, HasNoRoom, Step, refused, crowded_out, idle, taken}
 use Rattle.um_model.specs.declared.commands.JobMode.{JobMode}
@@ -307,7 +307,7 @@ an_end t s number end = elim (process_or_over s.units number) as (λ _. HasEffec
 awaits_or_not : (s : State) (number : ℕ) (unit : List ℕ) → IsDecided (AwaitsReport s number unit)
 awaits_or_not s number unit =
     decided_as (λ h. record { starts = h.0; kind = h.1.0; main = h.1.1 }) (λ a. (a.starts, (a.kind, a.main)))
-    (both_decided (passes_or_not (is_starting (state_of_unit s.units unit).sub) true)
+    (both_decided (passes_or_not (waits_for_report (state_of_unit s.units unit).sub) true)
     (both_decided (passes_or_not (has_one_command (settings_in s.loaded unit).kind) true) (same_option same_number (state_of_unit s.units unit).main (Some number))))
 
 a_report : (t : ℕ) (s : State) (number : ℕ) → HasEffect t s (ProcessExecuted number)

@@ -8,7 +8,7 @@ use Rattle.um_model.specs.Limit.{counted}
 use Rattle.um_model.specs.Service.{Action, SpawnProcess, SendSignal, active_state_of, is_success}
 use Rattle.um_model.specs.Settings.{ServiceSettings, environment_texts, commands_in, has_place}
 use Rattle.um_model.specs.Ends.{is_clean, is_failed, is_restart_wanted, has_one_command}
-use Rattle.um_model.specs.Transitions.{deadline_after, has_number, is_live, just, asking, start_ends, start_fails, stop_ends, rests_for_good, waits_to_restart, rests, terminates, stop_command, winds_down, first_command, start_of, starts_if, starts, exits, next_command, start_goes_on, rests_unless_live, noted, without_main, without_control, timed_out, told_to_stop, forgiven, is_stop_done, row, is_going, transition, AreStarted, no_command, substituted, as_written, AreActions, nothing, spawn, signals, spawned, live_numbers, HasNumber}
+use Rattle.um_model.specs.Transitions.{deadline_after, has_number, is_live, just, asking, start_ends, start_fails, stop_ends, rests_for_good, waits_to_restart, rests, terminates, stop_command, winds_down, first_command, start_of, starts_if, starts, exits, next_command, start_goes_on, rests_unless_live, noted, without_main, without_control, timed_out, told_to_stop, forgiven, is_stop_done, row, is_going, transition, AreStarted, no_command, substituted, as_written, AreActions, nothing, spawn, signals, spawned, live_numbers, HasNumber, has_its_process, HasItsProcess, fails_start}
 use Rattle.um_model.specs.declared.limit.Counted.{Counted}
 use Rattle.um_model.specs.declared.service.End.{End}
 use Rattle.um_model.specs.declared.service.Signal as signal
@@ -29,19 +29,6 @@ use Rattle.um_model.specs.declared.transition.UnitEvent.TheVariants.{StartBegins
 use Rattle.um_model.specs.declared.transition.UnitKind.{UnitKind}
 use Rattle.um_model.specs.declared.transition.UnitKind.TheVariants.{Simple, Exec, Oneshot, Target}
 use Rattle.um_model.proofs.SubstitutionLaws.{same_substituted, have_substituted}
-
--- a unit that starts or runs has a main process, one that its ExecStop= commands stop a control process, and one that is told to
--- end one of them
-abbrev pub has_its_process : SubState → UnitState → Bool
-has_its_process Start u = is_some u.main
-has_its_process Running u = is_some u.main
-has_its_process Stop u = is_some u.control
-has_its_process StopSigterm u = is_live u
-has_its_process StopSigkill u = is_live u
-has_its_process other u = true
-
-abbrev pub HasItsProcess : UnitState → Type 0
-HasItsProcess u = has_its_process u.sub u ≡ true
 
 pub by_cond : (P : Change → Type 0) (b : Bool) (x y : Change) → (b ≡ true → P x) → (b ≡ false → P y) → P (cond b x y)
 by_cond P true x y f g = f refl
@@ -131,6 +118,9 @@ module _ (s : ServiceSettings) (c : Around) (Known : ℕ → Type 0) (Held : Typ
 
   failed : (v : Change) → Good v → Good (start_fails v)
   failed v g = record { held = g.held; fresh = g.fresh; below = g.below }
+
+  failing : (sub : SubState) (v : Change) → Good v → Good (fails_start sub v)
+  failing sub v g = record { held = g.held; fresh = g.fresh; below = g.below }
 
   stopped : (v : Change) → Good v → Good (stop_ends v)
   stopped v g = record { held = g.held; fresh = g.fresh; below = g.below }
@@ -243,7 +233,7 @@ module _ (s : ServiceSettings) (c : Around) (Known : ℕ → Type 0) (Held : Typ
       (λ _. exits_good (without_main s u e) (without_main_old u e old)) (λ _. winds_down_good (without_main s u e) 0 (without_main_old u e old))
   row_good Running StopBegins u is old h = winds_down_good (told_to_stop u) 0 old
   row_good Exited StopBegins u is old h = winds_down_good (told_to_stop u) 0 old
-  row_good Start StopBegins u is old h = failed (terminates s c (told_to_stop u)) (terminates_good (told_to_stop u) old)
+  row_good Start StopBegins u is old h = terminates_good (told_to_stop u) old
   row_good AutoRestart StopBegins u is old h = record { held = λ q. refl; fresh = λ n k. inl (old n k); below = inl refl }
   row_good Stop StopBegins u is old h = just_good (told_to_stop u) old (λ q. same_held u.sub u (told_to_stop u) refl refl (h q))
   row_good StopSigterm StopBegins u is old h = just_good (told_to_stop u) old (λ q. same_held u.sub u (told_to_stop u) refl refl (h q))
@@ -269,8 +259,8 @@ module _ (s : ServiceSettings) (c : Around) (Known : ℕ → Type 0) (Held : Typ
   row_good sub event u is old h = just_good u old h
 
   transition_good : (u : UnitState) (e : UnitEvent) → Old u → (Held → HasItsProcess u) → Good (transition s c u e)
-  transition_good u BoundStop old h = by_cond Good (is_going (active_state_of u.sub)) (row s c u (active_state_of u.sub) u.sub StopBegins) (just u)
-      (λ e. row_good u.sub StopBegins u refl old h) (λ e. just_good u old h)
+  transition_good u BoundStop old h = by_cond Good (is_going (active_state_of u.sub)) (fails_start u.sub (row s c u (active_state_of u.sub) u.sub StopBegins)) (just u)
+      (λ e. failing u.sub (row s c u (active_state_of u.sub) u.sub StopBegins) (row_good u.sub StopBegins u refl old h)) (λ e. just_good u old h)
   transition_good u StartBegins old h =
       by_cond Good c.loadable (row s c u (active_state_of u.sub) u.sub StartBegins) (start_fails (just (record u { result = result.NotLoaded })))
       (λ e. row_good u.sub StartBegins u refl old h)

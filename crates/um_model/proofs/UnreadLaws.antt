@@ -5,18 +5,12 @@ use Rattle.um_model.specs.Disk.{Image}
 use Rattle.um_model.specs.Machine.{State}
 use Rattle.um_model.specs.StateSpellings.{state_at}
 use Rattle.um_model.specs.Stands.{Contents, inputs_of, contents_of, StandsFor}
-use Rattle.um_model.specs.Store.{Newest, newest_of, records_of, log_start, IsSlotRead, IsLogRead}
+use Rattle.um_model.specs.Store.{Newest, newest_of, records_of, log_start}
+use Rattle.um_model.specs.Unread.{IsRead, is_first, of_slots, of_log}
 use Rattle.um_model.specs.declared.layout.Layout.{Layout}
 use Rattle.um_model.proofs.ImageLaws.{newest_some, newest_none, records_are, only_records}
 use Rattle.um_model.proofs.LogLaws.{unread_records}
 use Rattle.um_model.proofs.StoreLaws.{unread_newest, unread_none}
-
--- a sector that the reading of a store looks at: the first, those of its slots, and of the log those of the newest generation
-pub data IsRead (layout : Layout) (image : Image) : ℕ → Type 0 where
-  is_first : IsRead layout image 0
-  of_slots : {j : ℕ} → IsSlotRead layout image j → IsRead layout image j
-  of_log : {j : ℕ} (n : Newest) → newest_of layout image ≡ Some n → IsLogRead layout n.generation image 0 (log_start layout n.generation) j
-      → IsRead layout image j
 
 -- what the newest slot holds with these records
 abbrev held_with : Newest → List (List ℕ) → Option Contents

@@ -29,7 +29,7 @@ short_layer Run = refl
 short_layer Lib = refl
 
 -- of a place that fits its unit
-short_place : (unit : List ℕ) (place : Place) → is_fit_place unit place ≡ true → length (place_text place) ≤ 300
+short_place : (unit : List ℕ) (place : Place) → is_fit_place unit place ≡ true → length (place_text place) ≤ 265
 short_place unit Unit fit = omega arith
 short_place unit (DropIn name) fit =
     let named = (and_parts (is_unit_name unit) (is_drop_in_name name) fit).1 in
@@ -46,7 +46,7 @@ short_place unit (Requires other) fit =
     let is : length (place_text (Requires other)) ≡ 10 + length other = length-append (codes ".requires/") other in
     omega arith
 
-short_parts : (path : List ℕ) (p : PathParts) → IsPathOf path p → length path ≤ 600
+short_parts : (path : List ℕ) (p : PathParts) → IsPathOf path p → length path ≤ 524
 short_parts path p of =
     let name = short_name p.unit (fit-name p.unit p.place of.fit) in
     let place = short_place p.unit p.place of.fit in
@@ -55,17 +55,22 @@ short_parts path p of =
     ap length of.spelled ∙ length-append (layer_text p.layer) (p.unit ++ place_text p.place) ∙ ap (λ n. length (layer_text p.layer) + n) (length-append p.unit (place_text p.place)) in
     omega arith
 
-short_path : (path : List ℕ) (o : Option PathParts) → path_parts path ≡ o → is_some o ≡ true → length path ≤ 600
+pub short_path : (path : List ℕ) (o : Option PathParts) → path_parts path ≡ o → is_some o ≡ true → length path ≤ 524
 short_path path None told some = cc
 short_path path (Some p) told some = short_parts path p (path_of_parts path p told)
 
-short_target : (path target : List ℕ) (o : Option PathParts) → path_parts path ≡ o → is_fit_target o target ≡ true → (length path ≤ 600) × (length target ≤ 512)
+pub short_target : (path target : List ℕ) (o : Option PathParts) → path_parts path ≡ o → is_fit_target o target ≡ true → (length path ≤ 524) × (length target ≤ 512)
 short_target path target None told fit = cc
 short_target path target (Some p) told fit =
     let sized = (and_parts (nat_le 1 (length target) && nat_le (length target) target_limit) (may_lead_to p.unit p.place target) fit).0 in (
       short_parts path p (path_of_parts path p told),
       leb-true (length target) target_limit (and_parts (nat_le 1 (length target)) (nat_le (length target) target_limit) sized).1,
     )
+
+-- the path of an entry that may stand there
+pub entry_short : (path : List ℕ) (entry : Entry) → is_fit_entry path entry ≡ true → length path ≤ 524
+entry_short path (File text) fit = short_path path (path_parts path) refl (and_parts (is_some (path_parts path)) (nat_le (length text) text_limit) fit).0
+entry_short path (Link target) fit = (short_target path target (path_parts path) refl fit).0
 
 -- an entry that may stand at its path
 pub entry_light : (path : List ℕ) (entry : Entry) → is_fit_entry path entry ≡ true → entry_weight path entry ≤ 2 ^ 17

@@ -14,7 +14,7 @@ use Rattle.std.proofs.lemmas.Option.{none-some, same_Some}
 use Rattle.byteorder.specs.Endian.{big_bytes}
 use Rattle.um_model.specs.Bytes.{ByText, FitText}
 use Rattle.um_model.specs.Dependencies.{CountsFor}
-use Rattle.um_model.specs.InputSpellings.{event_fields, FitInput, input_spelling}
+use Rattle.um_model.specs.InputSpellings.{input_limit, event_fields, FitInput, input_spelling}
 use Rattle.um_model.specs.Jobs.{JobShown, jobs, no_jobs, jobs_shown_of}
 use Rattle.um_model.specs.Machine.{State, Input, Reply, Refusal, IsHeld, Step}
 use Rattle.um_model.specs.Moments.{deadline_limit}
@@ -307,8 +307,8 @@ spelled_room size s fit held = by (a_count (IsHeld s) (held_list s).0 (held_list
       | inr most ↦ omega (arith, spelled_short s n fit counts, most)
     ]
 
--- an input that isn't refused has from 10 to 131,072 bytes
+-- an input that isn't refused has from 10 to 66,078 bytes
 pub accepted_room : (size : ℕ) (s : State) (i : Input) (reply : Reply) (actions : List Action) (t : State) → FitState s → FitInput i → Step size s i reply actions t
-    → ((r : Refused) → reply ≢ Refusal r) → (10 ≤ length (input_spelling i)) × (length (input_spelling i) ≤ 131072)
+    → ((r : Refused) → reply ≢ Refusal r) → (10 ≤ length (input_spelling i)) × (length (input_spelling i) ≤ input_limit)
 accepted_room size s i reply actions t fit fits step accepted =
     (omega (arith, length-append (big_bytes 8 i.moment) (event_fields i.event), number_long 8 i.moment), accepted_short size s i reply actions t fit.tree.is fits step accepted)

@@ -34,9 +34,15 @@ is_stopping StopSigterm = true
 is_stopping StopSigkill = true
 is_stopping other = false
 
+-- a start of the unit has begun and hasn't ended
 abbrev pub is_starting : SubState → Bool
 is_starting Start = true
 is_starting other = false
+
+-- the unit waits for the report that the program of its main process runs
+abbrev pub waits_for_report : SubState → Bool
+waits_for_report Start = true
+waits_for_report other = false
 
 abbrev pub is_failed : SubState → Bool
 is_failed Failed = true

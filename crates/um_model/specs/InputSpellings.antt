@@ -93,9 +93,17 @@ event_fields (Happened happening) = happening_fields happening
 
 -- ---- an input
 
--- a 1, the tag, the moment, and the fields
+-- an input that isn't refused has at most so many bytes: the longest puts a file of 65,536 bytes at a path of 524
+abbrev pub input_limit : ℕ
+input_limit = 66078
+
+-- the first byte of an input
+abbrev pub input_version : ℕ
+input_version = 1
+
+-- its version, the tag, the moment, and the fields
 abbrev pub input_spelling : Spelling Input
-input_spelling i = 1 ∷ event_tag i.event ∷ (big_bytes 8 i.moment ++ event_fields i.event)
+input_spelling i = input_version ∷ event_tag i.event ∷ (big_bytes 8 i.moment ++ event_fields i.event)
 
 -- a moment, and behind it the fields of what comes in
 abbrev pub comes_at : {A : Type 0} → (A → Event) → Decoder A → Decoder Input
@@ -141,9 +149,9 @@ input_arms =
     ∷ comes_at (λ boot. Happened (Booted boot)) boot_at
     ∷ []
 
--- a 1, and what comes in behind its tag
+-- the version, and what comes in after its tag
 abbrev pub input_at : Decoder Input
-input_at = marked_at 1 (choice_at (arm_in input_arms))
+input_at = marked_at input_version (choice_at (arm_in input_arms))
 
 -- a command that has bytes: its texts are any, and its unit has a name
 abbrev pub FitCommand : Command → Type 0

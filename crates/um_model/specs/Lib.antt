@@ -30,12 +30,15 @@ pub mod Jobs
 pub mod Plan
 pub mod Weight
 pub mod Machine
+pub mod Begun
 pub mod Finished
+pub mod Live
 pub mod Servable
 pub mod Numbers
 pub mod Requests
 pub mod Replies
 pub mod Frames
+pub mod Outcomes
 pub mod Timers
 pub mod Specifiers
 pub mod Disk
@@ -44,6 +47,7 @@ pub mod Spellings
 pub mod StateSpellings
 pub mod InputSpellings
 pub mod Store
+pub mod Unread
 pub mod Stands
 pub mod Lives
 pub mod Sessions

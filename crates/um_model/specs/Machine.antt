@@ -10,11 +10,11 @@ use Rattle.um_model.specs.Names.{is_template}
 use Rattle.um_model.specs.Tree.{Tree, put_file, put_link, remove_at, without_run}
 use Rattle.um_model.specs.Settings.{ServiceSettings, default_settings}
 use Rattle.um_model.specs.Resolution.{UnitFile, Resolution, AtMask, Nowhere, files_at, resolution_of}
-use Rattle.um_model.specs.Units.{LoadedUnit, Loading, Found, Masked, NotFound, BadSetting, load, name_in, Warning}
+use Rattle.um_model.specs.Units.{LoadedUnit, Loading, Found, Masked, NotFound, BadSetting, load, unit_named, Warning}
 use Rattle.um_model.specs.Dependencies.{IsKnown, KnowsTooMany, CountsFor, Depends, Precedes, loadable_in}
 use Rattle.um_model.specs.Install.{Installs, RefusesInstall, paths_beyond, IsEnabledAs}
 use Rattle.um_model.specs.Service.{ByUnit, AreTidyUnits, state_of_unit, with_unit, active_state_of, is_number, Action}
-use Rattle.um_model.specs.Ends.{is_starting, has_one_command}
+use Rattle.um_model.specs.Ends.{waits_for_report, has_one_command}
 use Rattle.um_model.specs.Transitions.{transition, AreActions, HasNumber, spawned, is_going}
 use Rattle.um_model.specs.Jobs.{Job, job_of, jobs, no_jobs, jobs_of_unit, with_jobs, AreTidyJobs, is_active, cancelled, JobShown, jobs_shown, jobs_left, without_start, IsReady, BeginsNext, with_job}
 use Rattle.um_model.specs.Plan.{Scene, IsPlan, CausesOfPlan, NamesCycle, AreFree}
@@ -165,7 +165,7 @@ shown_of asked (BadSetting unit reason) state = shown_without_settings unit load
 
 -- the unit that counts for the name that was asked for, by the loaded tree
 abbrev pub unit_asked : State → List ℕ → List ℕ
-unit_asked s asked = name_in asked (load s.loaded asked)
+unit_asked s asked = unit_named s.loaded asked
 
 abbrev pub state_asked : State → List ℕ → UnitState
 state_asked s asked = state_of_unit s.units (unit_asked s asked)
@@ -481,7 +481,7 @@ pub data Fires (t : ℕ) : Timers → State → List Action → State → Type 0
 
 -- the unit waits for the report that the program of its main process runs, and that process has this number
 pub record AwaitsReport (s : State) (number : ℕ) (unit : List ℕ) : Type 0 where
-  pub starts : is_starting (state_of_unit s.units unit).sub ≡ true
+  pub starts : waits_for_report (state_of_unit s.units unit).sub ≡ true
   pub kind : has_one_command (settings_in s.loaded unit).kind ≡ true
   pub main : (state_of_unit s.units unit).main ≡ Some number
 

@@ -1,10 +1,21 @@
--- What it is that a store of so many bytes may hold a state.
+-- What it is that a store of so many bytes may hold a state, and that nothing is held in a state; what a state weighs, and when one
+-- weighs no more than another.
 -- Follows no manual page: the store and its limits are this project's own.
 -- The law of steps in proofs/ServableLaws depends on this file, the engine and the keeper stand on it.
-use Rattle.std.specs.Prelude.{ℕ}
+use Rattle.std.specs.Prelude.{◌≡◌, ◌≤◌, ℕ}
+use Rattle.std.specs.FinMap as map
+use Rattle.um_model.specs.Dependencies.{CountsFor}
 use Rattle.um_model.specs.Machine.{State, IsHeld, IsCrowded, IsBefore, IsTooHeavy}
 use Rattle.um_model.specs.Plan.{AreFree}
 use Rattle.um_model.specs.Refusals.{Refused}
+use Rattle.um_model.specs.Weight.{weight_of}
+
+-- both trees are empty, and nothing is held of any unit: so it is with the state of a new store
+pub record IsBlank (s : State) : Type 0 where
+  pub tree : s.tree ≡ map.empty
+  pub loaded : s.loaded ≡ map.empty
+  pub units : s.units ≡ map.empty
+  pub pending : s.pending ≡ map.empty
 
 -- no more units are known than may be, by the loaded tree and by it without its entries under `run/`
 abbrev pub IsFew : State → Type 0
@@ -19,3 +30,14 @@ pub record IsServable (size : ℕ) (s : State) : Type 0 where
   pub light : ¬ IsTooHeavy size s
   pub few : IsFew s
   pub free : IsFree s
+
+-- the state weighs so many bytes, by so many units
+pub record Weighs (s : State) (weight : ℕ) : Type 0 where
+  pub units : ℕ
+  pub count : CountsFor s.loaded (IsHeld s) units
+  pub is : weight ≡ weight_of s.tree s.loaded units
+
+-- a state weighs no more than another
+abbrev pub WeighsNoMore : State → State → Type 0
+WeighsNoMore t s = (m n : ℕ) → CountsFor t.loaded (IsHeld t) m → CountsFor s.loaded (IsHeld s) n
+    → weight_of t.tree t.loaded m ≤ weight_of s.tree s.loaded n

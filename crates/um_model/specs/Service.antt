@@ -38,7 +38,9 @@ active_state_of AutoRestart = active.Activating
 active_state_of Stop = active.Deactivating
 active_state_of StopSigterm = active.Deactivating
 active_state_of StopSigkill = active.Deactivating
-active_state_of other = active.Active
+active_state_of Running = active.Active
+active_state_of Exited = active.Active
+active_state_of Active = active.Active
 
 -- the word for an active state
 abbrev pub active_state_text : ActiveState → List ℕ

@@ -129,10 +129,14 @@ pub record FitPending (pending : ByUnit UnitJobs) : Type 0 where
 
 -- ---- the state: its version, and its fields in order
 
--- a 1, and each field behind the one before
+-- the first byte of a state
+abbrev pub state_version : ℕ
+state_version = 1
+
+-- its version, and each field after the one before
 abbrev pub state_spelling : Spelling State
 state_spelling s =
-    1 ∷ (tree_spelling s.tree ++ (tree_spelling s.loaded ++ (text_spelling s.boot ++ (big_bytes 8 s.clock ++ (big_bytes 8 s.next
+    state_version ∷ (tree_spelling s.tree ++ (tree_spelling s.loaded ++ (text_spelling s.boot ++ (big_bytes 8 s.clock ++ (big_bytes 8 s.next
     ++ (units_spelling s.units ++ pending_spelling s.pending))))))
 
 -- the fields alone
@@ -173,10 +177,10 @@ are_distinct (n ∷ more) = list_all (λ m. not (m == n)) more && are_distinct m
 abbrev pub is_sound : State → Bool
 is_sound s = have_begun s.clock s.units && list_all (λ n. nat_lt n s.next) (numbers_in s.units) && are_distinct (numbers_in s.units)
 
--- a 1, and each field behind the one before, where they fit together
+-- the version, and each field after the one before, where they fit together
 abbrev pub state_at : Decoder State
 state_at =
-    marked_at 1 (only_at is_sound (as_at state_of (pair_at tree_at (pair_at tree_at (pair_at boot_at (pair_at moment_at (pair_at next_at
+    marked_at state_version (only_at is_sound (as_at state_of (pair_at tree_at (pair_at tree_at (pair_at boot_at (pair_at moment_at (pair_at next_at
     (pair_at units_at pending_at))))))))
 
 -- a state that has bytes: what stands in its fields has some, and they fit together

@@ -9,7 +9,7 @@ use Rattle.um_model.specs.Substitution.{Variable, AreSubstituted}
 use Rattle.um_model.specs.Limit.{counted}
 use Rattle.um_model.specs.Service.{Action, SpawnProcess, SendSignal, active_state_of, is_success}
 use Rattle.um_model.specs.Settings.{ServiceSettings, commands_in, has_place, has_dash, environment_texts}
-use Rattle.um_model.specs.Ends.{is_clean, is_told, unclean_result, or_later, is_restart_wanted, is_failed, has_one_command}
+use Rattle.um_model.specs.Ends.{is_clean, is_told, unclean_result, or_later, is_restart_wanted, is_starting, is_failed, has_one_command}
 use Rattle.um_model.specs.declared.limit.Counted.{Counted}
 use Rattle.um_model.specs.declared.service.ActiveState.{ActiveState}
 use Rattle.um_model.specs.declared.service.ActiveState.TheVariants.{Activating, Active as IsActive, Deactivating}
@@ -44,6 +44,23 @@ has_number c = nat_lt c.next process_limit
 -- a process of the unit is live
 abbrev pub is_live : UnitState → Bool
 is_live u = is_some u.main || is_some u.control
+
+-- a unit that starts or runs has a main process, one that its ExecStop= commands stop a control process, and one that is told to
+-- end one of them
+abbrev pub has_its_process : SubState → UnitState → Bool
+has_its_process Start u = is_some u.main
+has_its_process Running u = is_some u.main
+has_its_process Stop u = is_some u.control
+has_its_process StopSigterm u = is_live u
+has_its_process StopSigkill u = is_live u
+has_its_process Dead u = true
+has_its_process Exited u = true
+has_its_process Failed u = true
+has_its_process AutoRestart u = true
+has_its_process Active u = true
+
+abbrev pub HasItsProcess : UnitState → Type 0
+HasItsProcess u = has_its_process u.sub u ≡ true
 
 -- the unit is now this, and nothing else follows
 abbrev pub just : UnitState → Change
@@ -185,7 +202,7 @@ row s c u _ Running (MainEnds e) = if is_clean s u Main e then exits s c (withou
 row s c u _ Active StopBegins = dies u
 row s c u _ AutoRestart StopBegins = dies u
 row s c u IsActive sub StopBegins = winds_down s c (told_to_stop u) 0
-row s c u _ Start StopBegins = start_fails (terminates s c (told_to_stop u))
+row s c u _ Start StopBegins = terminates s c (told_to_stop u)
 row s c u Deactivating sub StopBegins = just (told_to_stop u)
 row s c u _ Dead StopBegins = stop_ends (just u)
 row s c u _ Failed StopBegins = stop_ends (just u)
@@ -206,11 +223,17 @@ is_going IsActive = true
 is_going Activating = true
 is_going other = false
 
--- the table: a unit that can't be loaded isn't started; a bound stop is as a stop job that begins, where the unit is active or activating
+-- a start that has begun fails
+abbrev pub fails_start : SubState → Change → Change
+fails_start sub c = record c { start = if is_starting sub then Fails else c.start }
+
+-- the table: a unit that can't be loaded isn't started; a bound stop is as a stop job that begins, where the unit is active or activating,
+-- but that a start that has begun fails by it
 abbrev pub transition : ServiceSettings → Around → UnitState → UnitEvent → Change
 transition s c u StartBegins =
     if c.loadable then row s c u (active_state_of u.sub) u.sub StartBegins else start_fails (just (record u { result = result.NotLoaded }))
-transition s c u BoundStop = if is_going (active_state_of u.sub) then row s c u (active_state_of u.sub) u.sub StopBegins else just u
+transition s c u BoundStop =
+    if is_going (active_state_of u.sub) then fails_start u.sub (row s c u (active_state_of u.sub) u.sub StopBegins) else just u
 transition s c u event = row s c u (active_state_of u.sub) u.sub event
 
 -- ---- what is asked, as actions

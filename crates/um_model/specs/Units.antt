@@ -399,13 +399,20 @@ loading_at tree Nowhere = NotFound
 unfoldable pub load : Tree → List ℕ → Loading
 load tree unit = loading_at tree (resolution_of tree unit)
 
--- the name that counts for the one that was asked for: the last one, or where it leads nowhere the name itself
+-- the name that counts for the one that was asked for, by where that leads: the last one, or where it leads nowhere the name itself
+abbrev pub named_at : List ℕ → Resolution → List ℕ
+named_at asked (AtFile unit path text) = unit
+named_at asked (AtNoFile unit) = unit
+named_at asked (AtMask unit) = unit
+named_at asked Nowhere = asked
+
+-- the same by the tree: what the files say doesn't count
+abbrev pub unit_named : Tree → List ℕ → List ℕ
+unit_named tree asked = named_at asked (resolution_of tree asked)
+
+-- the same by what was found
 abbrev pub name_in : List ℕ → Loading → List ℕ
 name_in asked (Found u) = u.name
 name_in asked (Masked unit) = unit
 name_in asked NotFound = asked
 name_in asked (BadSetting unit reason) = unit
-
--- the same by the tree
-abbrev pub unit_named : Tree → List ℕ → List ℕ
-unit_named tree asked = name_in asked (load tree asked)

@@ -12,5 +12,5 @@ mod write;
 pub use read::read_request;
 pub use request::{Asked, Request};
 pub use um_model::{Mode, Verb};
-pub use verb::{Row, row_of, verb_in};
+pub use verb::{Row, row_of, verb_in, verbs_in};
 pub use write::{ReplyText, write_reply};

@@ -12,7 +12,7 @@ use crate::request::{Asked, Request};
 use serde_json::Value;
 use std::alloc::{AllocError, Global};
 use um_model::Mode;
-use um_name::{UnitName, is_unit_name, suffix_of};
+use um_name::{UnitName, suffix_of};
 use um_state::{Command, Event, Happening, Query};
 use um_wire::Refusal;
 
@@ -32,11 +32,13 @@ fn name_asked(alloc: Global, text: &str) -> Result<UnitName, Refusal>
     ensures { Gives (λ n. n) result (model.name_asked text.now) }
 {
     let name = completed(alloc, text)?;
-    if !is_unit_name(name.as_str()) {
-        let text = String::from_str(alloc, text)?;
-        return Err(Refusal::BadName { text });
+    match UnitName::named(alloc, name.as_str())? {
+        Some(unit) => Ok(unit),
+        None => {
+            let text = String::from_str(alloc, text)?;
+            Err(Refusal::BadName { text })
+        }
     }
-    UnitName::parse(alloc, name.as_str())
 }
 
 fn commanded(command: Command) -> Asked

@@ -122,8 +122,8 @@ pub fn row_of(verb: Verb) -> Row
     }
 }
 
-/// The verbs that are known there.
-fn verbs_in(mode: Mode) -> &'static [Verb]
+/// The verbs that are known there, in the order of the table of requests.
+pub fn verbs_in(mode: Mode) -> &'static [Verb]
     ensures { result.now ≡ model.verbs_in mode }
 {
     match mode {

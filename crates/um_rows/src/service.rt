@@ -92,9 +92,34 @@ const LIVES: &[&[Step]] = &[
     &[STARTS, FAILS],
 ];
 
-/// The settings of `ExecStart=/bin/sleep 9`.
-fn sleeps(rt: &(impl AllocGlobal + Abort)) -> ServiceSettings {
-    let mut settings = ServiceSettings::new(rt.alloc(), UnitKind::Simple);
+/// The start of an exec service has ninety seconds.
+const IS_STARTED: Step = Step {
+    event: UnitEvent::StartBegins,
+    micros: 0,
+    asked: r#"spawn 1 ["/bin/sleep", "9"] [];"#,
+    start: StartJob::Stays,
+    stop_ends: false,
+    stands: (
+        SubState::Start,
+        UnitResult::Success,
+        Some(1),
+        Some(90_000_000),
+    ),
+};
+
+/// A bound stop is as a stop job that begins, but that the start fails.
+const IS_BOUND: Step = Step {
+    event: UnitEvent::BoundStop,
+    start: StartJob::Fails,
+    ..IS_STOPPED
+};
+
+/// What happens to an exec service in turn.
+const STARTS_OF_EXEC: &[&[Step]] = &[&[IS_STARTED, IS_STOPPED], &[IS_STARTED, IS_BOUND]];
+
+/// The settings of `ExecStart=/bin/sleep 9` in a service of this kind.
+fn sleeps(rt: &(impl AllocGlobal + Abort), kind: UnitKind) -> ServiceSettings {
+    let mut settings = ServiceSettings::new(rt.alloc(), kind);
     let words = vec![in rt.alloc(); text(rt, "/bin/sleep"), text(rt, "9")];
     let command = Command {
         words: words.expect(rt, "no memory"),
@@ -107,14 +132,20 @@ fn sleeps(rt: &(impl AllocGlobal + Abort)) -> ServiceSettings {
 
 /// Asserts that this follows for the unit, which is loadable and no stop job of which waits, where this is the next process number;
 /// the next one is 2 then.
-fn follows(rt: &(impl AllocGlobal + Abort), unit: &mut Service, next: u64, step: &Step) {
+fn follows(
+    rt: &(impl AllocGlobal + Abort),
+    kind: UnitKind,
+    unit: &mut Service,
+    next: u64,
+    step: &Step,
+) {
     let around = Around {
         moment: at(rt, step.micros),
         next: NextNumber::new(next).expect(rt, "no number"),
         loadable: true,
         stop_waits: false,
     };
-    let after = unit.on(rt.alloc(), step.event, &sleeps(rt), around);
+    let after = unit.on(rt.alloc(), step.event, &sleeps(rt, kind), around);
     let after = after.expect(rt, "no memory");
     let asked = told(rt, after.actions.as_slice());
     same_at(rt, asked.as_str(), step.asked, step.event);
@@ -127,12 +158,12 @@ fn follows(rt: &(impl AllocGlobal + Abort), unit: &mut Service, next: u64, step:
     same_at(rt, stands, step.stands, step.event);
 }
 
-/// Asserts that this follows from the steps for a simple service, whose first process gets the number 1.
-fn lives(rt: &(impl AllocGlobal + Abort), steps: &[Step]) {
+/// Asserts that this follows from the steps for a service of this kind, whose first process gets the number 1.
+fn lives(rt: &(impl AllocGlobal + Abort), kind: UnitKind, steps: &[Step]) {
     let mut unit = Service::of(UnitState::DEAD);
     let mut next = 1;
     for step in steps {
-        follows(rt, &mut unit, next, step);
+        follows(rt, kind, &mut unit, next, step);
         next = 2;
     }
     same(rt, unit.copy().unit(), unit.unit());
@@ -141,6 +172,13 @@ fn lives(rt: &(impl AllocGlobal + Abort), steps: &[Step]) {
 #[test]
 fn each_event_has_its_consequences(rt: HostRuntime) {
     for steps in LIVES {
-        lives(&rt, steps);
+        lives(&rt, UnitKind::Simple, steps);
+    }
+}
+
+#[test]
+fn a_stop_leaves_the_start_to_its_end_and_a_bound_stop_fails_it(rt: HostRuntime) {
+    for steps in STARTS_OF_EXEC {
+        lives(&rt, UnitKind::Exec, steps);
     }
 }

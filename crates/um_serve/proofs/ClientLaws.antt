@@ -167,22 +167,23 @@ own_below (suc n) k ts old said new w lt at says =
 
 -- ---- what is heard in a round
 
-one_read : (k n : ℕ) (is_open : Option Bool) (piece : Option Piece) → taken_of k (reads_one n is_open piece) ≡ []
-one_read k n None piece = refl
-one_read k n (Some false) piece = refl
-one_read k n (Some true) None = refl
-one_read k n (Some true) (Some piece) = refl
+one_read : (k n : ℕ) (is_open is_held : Option Bool) (piece : Option Piece) → taken_of k (reads_one n is_open is_held piece) ≡ []
+one_read k n None is_held piece = refl
+one_read k n (Some false) is_held piece = refl
+one_read k n (Some true) is_held None = refl
+one_read k n (Some true) is_held (Some piece) = refl
 
-no_read : (k n : ℕ) (which : List Bool) (pieces : List Piece) → taken_of k (reads_below n which pieces) ≡ []
+no_read : (k n : ℕ) (which held : List Bool) (pieces : List Piece) → taken_of k (reads_below n which held pieces) ≡ []
 unfolding reads_below
-no_read k zero which pieces = refl
-no_read k (suc n) which pieces =
-    taken_join k (reads_below n which pieces) (reads_one n (slice_get which n) (slice_get pieces n)) ∙ ap (λ l. l ++ taken_of k (reads_one n (slice_get which n) (slice_get pieces n))) (no_read k n which pieces)
-    ∙ one_read k n (slice_get which n) (slice_get pieces n)
+no_read k zero which held pieces = refl
+no_read k (suc n) which held pieces =
+    let one = reads_one n (slice_get which n) (slice_get held n) (slice_get pieces n) in
+    taken_join k (reads_below n which held pieces) one ∙ ap (λ l. l ++ taken_of k one) (no_read k n which held pieces)
+    ∙ one_read k n (slice_get which n) (slice_get held n) (slice_get pieces n)
 
-no_heard : (b : Bool) (k : ℕ) (which : List Bool) (pieces : List Piece) → taken_of k (if b then [] else accepted which ∷ reads_below 64 which pieces) ≡ []
-no_heard true k which pieces = refl
-no_heard false k which pieces = no_read k 64 which pieces
+no_heard : (b : Bool) (k : ℕ) (which held : List Bool) (pieces : List Piece) → taken_of k (if b then [] else accepted which ∷ reads_below 64 which held pieces) ≡ []
+no_heard true k which held pieces = refl
+no_heard false k which held pieces = no_read k 64 which held pieces
 
 kept_at : (p : Option Piece) (w : Option Waits) → p ≢ Some Closed → after_piece p w ≡ w
 kept_at None w stays = refl
@@ -210,7 +211,7 @@ told_all k (and_round {r} {rs} {x} {mid} {y} round rounds) w lt at stays =
     let hears = round.hears in
     let one = own_below 64 k round.turn.sessions round.waits round.said mid.waits w lt (kept r.is_owed k r.pieces x.waits round.waits stays.0 hears.forgets ∙ at) round.says in
     let more = told_all k rounds one.0 lt one.1 stays.1 in
-    let silent = no_heard r.is_owed k r.which r.pieces in
+    let silent = no_heard r.is_owed k r.which r.held r.pieces in
     let first = heard_in r ++ round.said in
     let took : taken_of k (first ++ more.events) ≡ taken_of k round.said ++ taken_of k more.events =
     taken_join k first more.events ∙ ap (λ l. l ++ taken_of k more.events) (taken_join k (heard_in r) round.said ∙ ap (λ l. l ++ taken_of k round.said) silent) in

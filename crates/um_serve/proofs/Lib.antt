@@ -1,4 +1,7 @@
 mod BelowLaws
 mod ClientLaws
+mod HeldLaws
 mod RoundLaws
 mod SaidLaws
+mod ScanLaws
+mod SleepLaws

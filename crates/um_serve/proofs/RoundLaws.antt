@@ -10,29 +10,30 @@ use Rattle.um_model.specs.Machine.{State}
 use Rattle.um_model.specs.Sessions.{Session}
 use Rattle.um_manager.specs.declared.pieces.Piece.{Piece}
 use Rattle.um_model.specs.declared.layout.Layout.{Layout}
-use Rattle.um_serve.specs.Rounds.{Round, Served, served, Gathers, IsOffered, ForgetsWhere, heard_in, is_heard, SaysBelow, has_spoken, IsRound, IsOwing, ServesOne, Serves, EmptiesAll, is_want}
+use Rattle.um_serve.specs.Rounds.{Round, Served, served, Gathers, AreHeldBack, IsOffered, ForgetsWhere, heard_in, is_heard, SaysBelow, any_stirred, IsRound, IsOwing, ServesOne, Serves, EmptiesAll, is_want}
+use Rattle.um_serve.specs.Sleep.{has_changed}
 use Rattle.um_wire.specs.declared.refusal.Refusal.{Refusal}
 use Rattle.um_wire.specs.declared.refusal.Refusal.TheVariants as refusal
 
 -- what a round hears of what was gathered
-record Heard (r : Round) (owed : Option (List Piece)) (pieces : List Piece) (moment : ℕ) (old new : List Event) (waits left : List Waits) (busy : Bool) : Type 0 where
-  offered : IsOffered owed r
+record Heard (r : Round) (owed : Option (List Piece)) (ts : List Session) (pieces : List Piece) (moment : ℕ) (old new : List Event) (waits left : List Waits) (busy : Bool) : Type 0 where
+  offered : IsOffered owed ts waits r
   past : new ≡ old ++ heard_in r
   forgets : ForgetsWhere r.is_owed r.pieces waits left
   busy_is : busy ≡ is_heard r
   pieces_are : r.pieces ≡ pieces
   moment_is : r.moment ≡ moment
 
-heard_round : (h w is_owed : Bool) (before pieces : List Piece) (old new : List Event) (waits left : List Waits) (busy : Bool) (moment : ℕ)
-    → Gathers h w is_owed before pieces old new waits left busy → IsTrue h → IsTrue w
-    → (r : Round) × Heard r (if is_owed then Some before else None) pieces moment old new waits left busy
-heard_round h w true before pieces old new waits left busy moment g th tw = (
-  record { is_owed = true; which = []; pieces = pieces; moment = moment },
+heard_round : (h w is_owed : Bool) (held : List Bool) (ts : List Session) (before pieces : List Piece) (old new : List Event) (waits left : List Waits) (busy : Bool) (moment : ℕ)
+    → Gathers h w is_owed held before pieces old new waits left busy → AreHeldBack ts waits held → IsTrue h → IsTrue w
+    → (r : Round) × Heard r (if is_owed then Some before else None) ts pieces moment old new waits left busy
+heard_round h w true held ts before pieces old new waits left busy moment g are th tw = (
+  record { is_owed = true; which = []; held = []; pieces = pieces; moment = moment },
   record { offered = (refl, g.0); past = g.1 ∙ sym (append-nil old); forgets = g.2; busy_is = g.3; pieces_are = refl; moment_is = refl },
 )
-heard_round h w false before pieces old new waits left busy moment g th tw = (
-  record { is_owed = false; which = g.0; pieces = pieces; moment = moment },
-  record { offered = (refl, g.1); past = g.2 th tw; forgets = g.3; busy_is = g.4; pieces_are = refl; moment_is = refl },
+heard_round h w false held ts before pieces old new waits left busy moment g are th tw = (
+  record { is_owed = false; which = g.0; held = held; pieces = pieces; moment = moment },
+  record { offered = (refl, g.1, are, g.2); past = g.3 th tw; forgets = g.4; busy_is = g.5; pieces_are = refl; moment_is = refl },
 )
 
 wanted : (result : Result Unit Refusal) → is_want result ≡ true → result ≡ Err refusal.NoMemory
@@ -93,11 +94,13 @@ same_owed again pieces is = ap (λ (b : Bool). if b then Some pieces else None) 
 none_owed : (again : Bool) (pieces : List Piece) → again ≡ false → (if again then Some pieces else None) ≡ None
 none_owed again pieces is = ap (λ (b : Bool). if b then Some pieces else None) is
 
-pub unserved : {old new : List Event} {given : List ℕ} {is_owed again : Bool} {before pieces : List Piece} {waits left : List Waits} {was busy : Bool} {a : Now}
-    → new ≡ old → again ≡ is_owed → pieces ≡ before → left ≡ waits → busy ≡ was → served new given again pieces left busy a ≡ served old given is_owed before waits was a
-unserved {old} {new} {given} {is_owed} {again} {before} {pieces} {waits} {left} {was} {busy} {a} past owed same rest quiet =
-    ap (λ es. served es given again pieces left busy a) past ∙ ap (λ b. served old given b pieces left busy a) owed ∙ ap (λ ps. served old given is_owed ps left busy a) same
-    ∙ ap (λ ws. served old given is_owed before ws busy a) rest ∙ ap (λ b. served old given is_owed before waits b a) quiet
+pub unserved : {old new : List Event} {given : List ℕ} {is_owed again : Bool} {before pieces : List Piece} {waits left : List Waits} {was busy : Bool} {turned later : ℕ} {a : Now}
+    → new ≡ old → again ≡ is_owed → pieces ≡ before → left ≡ waits → busy ≡ was → later ≡ turned
+    → served new given again pieces left busy later a ≡ served old given is_owed before waits was turned a
+unserved {old} {new} {given} {is_owed} {again} {before} {pieces} {waits} {left} {was} {busy} {turned} {later} {a} past owed same rest quiet turn =
+    ap (λ es. served es given again pieces left busy later a) past ∙ ap (λ b. served old given b pieces left busy later a) owed
+    ∙ ap (λ ps. served old given is_owed ps left busy later a) same ∙ ap (λ ws. served old given is_owed before ws busy later a) rest
+    ∙ ap (λ b. served old given is_owed before waits b later a) quiet ∙ ap (λ m. served old given is_owed before waits was m a) turn
 
 pub same_now : {s t : State} {p q : List Call} {m n : List ℕ} {d e : Past} (us vs : List Session) → t ≡ s → q ≡ p → n ≡ m → e ≡ d
     → now t q n vs e ≡ record (now s p m us d) { sessions = vs }
@@ -106,12 +109,12 @@ same_now {s} {t} {p} {q} {m} {n} {d} {e} us vs state past marks disk =
 
 -- a turn that found no memory
 pub owing_round : {h w again honest whole busy : Bool} {pieces : List Piece} {waits left : List Waits} {given more : List ℕ} {moment : ℕ} {a b : Now}
-    → (is_owed was : Bool) (before : List Piece) (old new : List Event)
-    → (place : Place) (result : Result Unit Refusal) → Gathers h w is_owed before pieces old new waits left busy → IsTrue h → IsTrue w → more ≡ given ++ moment ∷ []
-    → Turns place result honest whole moment pieces a b → again ≡ is_want result → again ≡ true
-    → ServesOne place result (served old given is_owed before waits was a) (served new more again pieces left busy b)
-owing_round {h} {w} {again} {honest} {whole} {busy} {pieces} {waits} {left} {given} {more} {moment} {a} {b} is_owed was before old new at result g th tw ticks turns want is =
-    let p = heard_round h w is_owed before pieces old new waits left busy moment g th tw in
+    → (is_owed was : Bool) (held : List Bool) (before : List Piece) (old new : List Event) (turned later : ℕ)
+    → (place : Place) (result : Result Unit Refusal) → Gathers h w is_owed held before pieces old new waits left busy → AreHeldBack a.sessions waits held → IsTrue h → IsTrue w
+    → more ≡ given ++ moment ∷ [] → Turns place result honest whole moment pieces a b → again ≡ is_want result → again ≡ true → later ≡ turned
+    → ServesOne place result (served old given is_owed before waits was turned a) (served new more again pieces left busy later b)
+owing_round {h} {w} {again} {honest} {whole} {busy} {pieces} {waits} {left} {given} {more} {moment} {a} {b} is_owed was held before old new turned later at result g are th tw ticks turns want is turn =
+    let p = heard_round h w is_owed held a.sessions before pieces old new waits left busy moment g are th tw in
     wanting at result p.0 _ _ (sym want ∙ is)
     (record {
       hears = record {
@@ -123,18 +126,19 @@ owing_round {h} {w} {again} {honest} {whole} {busy} {pieces} {waits} {left} {giv
       untouched = turns.0 (wanted result (sym want ∙ is));
       owed = same_owed again pieces is ∙ ap Some (sym p.1.pieces_are);
       busy = p.1.busy_is;
+      moment_is = turn;
     })
 
 -- a turn that was taken, and what is handed to the gate then
-pub done_round : {h w again honest whole busy spoken : Bool} {pieces : List Piece} {waits left : List Waits} {given more : List ℕ} {moment : ℕ} {a b d : Now}
-    → (is_owed was came : Bool) (before : List Piece) (forgot : List Waits) (old new later said : List Event)
-    → (place : Place) (result : Result Unit Refusal) → Gathers h w is_owed before pieces old new waits forgot came → IsTrue h → IsTrue w → more ≡ given ++ moment ∷ []
-    → Turns place result honest whole moment pieces a b → again ≡ is_want result → again ≡ false
-    → SaysBelow 64 b.sessions forgot said left → later ≡ new ++ said → busy ≡ (came || spoken) → spoken ≡ has_spoken b.sessions
-    → EmptiesAll b.sessions d.sessions → d ≡ record b { sessions = d.sessions } → IsTrue honest → IsTrue whole
-    → ServesOne place result (served old given is_owed before waits was a) (served later more again pieces left busy d)
-done_round {h} {w} {again} {honest} {whole} {busy} {spoken} {pieces} {waits} {left} {given} {more} {moment} {a} {b} {d} is_owed was came before forgot old new later said at result g th tw ticks turns want is says handed was_busy spoke empties rest tc tl =
-    let p = heard_round h w is_owed before pieces old new waits forgot came moment g th tw in
+pub done_round : {h w again honest whole busy stirred changed : Bool} {pieces : List Piece} {waits left : List Waits} {given more : List ℕ} {moment : ℕ} {a b d : Now}
+    → (is_owed was came : Bool) (held : List Bool) (before : List Piece) (forgot : List Waits) (old new later said : List Event) (turned : ℕ)
+    → (place : Place) (result : Result Unit Refusal) → Gathers h w is_owed held before pieces old new waits forgot came → AreHeldBack a.sessions waits held → IsTrue h → IsTrue w
+    → more ≡ given ++ moment ∷ [] → Turns place result honest whole moment pieces a b → again ≡ is_want result → again ≡ false
+    → SaysBelow 64 b.sessions forgot said left → later ≡ new ++ said → busy ≡ (came || (stirred || changed)) → stirred ≡ any_stirred 64 b.sessions forgot left
+    → changed ≡ has_changed a.state d.state → EmptiesAll b.sessions d.sessions → d ≡ record b { sessions = d.sessions } → IsTrue honest → IsTrue whole
+    → ServesOne place result (served old given is_owed before waits was turned a) (served later more again pieces left busy moment d)
+done_round {h} {w} {again} {honest} {whole} {busy} {stirred} {changed} {pieces} {waits} {left} {given} {more} {moment} {a} {b} {d} is_owed was came held before forgot old new later said turned at result g are th tw ticks turns want is says handed was_busy stirs changes empties rest tc tl =
+    let p = heard_round h w is_owed held a.sessions before pieces old new waits forgot came moment g are th tw in
     gone at result p.0 _ _ (sym want ∙ is)
     (λ not. record {
       said = said;
@@ -151,7 +155,9 @@ done_round {h} {w} {again} {honest} {whole} {busy} {spoken} {pieces} {waits} {le
       empties = empties;
       rest = rest;
       settled = none_owed again pieces is;
-      busy = was_busy ∙ ap (λ x. x || spoken) p.1.busy_is ∙ ap (λ x. is_heard p.0 || x) spoke;
+      busy = was_busy ∙ ap (λ x. x || (stirred || changed)) p.1.busy_is ∙ ap (λ x. is_heard p.0 || (x || changed)) stirs
+          ∙ ap (λ x. is_heard p.0 || (any_stirred 64 b.sessions forgot left || x)) changes;
+      moment_is = sym p.1.moment_is;
     })
 
 -- ---- rounds

@@ -1,25 +1,12 @@
 -- What was said to the clients below a number, and what was taken of their sessions.
-use Rattle.std.proofs.Common.{◌≡◌, ◌≢◌, ◌<◌, ◌≤◌, ◌++◌, ◌∷◌, ◌+◌, ◌||◌, ℕ, zero, suc, List, [], Bool, Option, Some, None, refl, ap, sym, subst, ◌∙◌, append_assoc, append-nil, slice_get, take, IsTrue, arith, inl, inr}
-use Rattle.std.proofs.Math.Bool.{or-false}
+use Rattle.std.proofs.Common.{◌≡◌, ◌≢◌, ◌<◌, ◌≤◌, ◌++◌, ◌+◌, ◌||◌, ℕ, zero, suc, List, [], Bool, Option, Some, None, refl, ap, sym, subst, ◌∙◌, append_assoc, append-nil, slice_get, IsTrue, false, arith, inl, inr}
 use Rattle.std.proofs.Math.Numerals.{add-one}
 use Rattle.std.proofs.lemmas.Bool.{cases_lt}
-use Rattle.std.proofs.lemmas.List.Folds.{list_any-append}
-use Rattle.std.specs.List.{list_any}
 use Rattle.um_backlog.specs.Backlog.{Waits, HandsAt}
 use Rattle.um_gate.specs.Events.{Event, Logs}
 use Rattle.um_manager.specs.Replies.{IsOutput}
 use Rattle.um_model.specs.Sessions.{Session}
-use Rattle.um_serve.specs.Rounds.{Empties, SaysTo, SaysBelow, has_output, has_bytes}
-
-none_some : {X : Type 0} {x : X} → None ≡ Some x → ⊥
-none_some e = cc
-
-abbrev or_else : {X : Type 0} → X → Option X → X
-or_else d (Some x) = x
-or_else d None = d
-
-some_same : {X : Type 0} {x y : X} → Some x ≡ Some y → x ≡ y
-some_same {x = x} e = ap (or_else x) e
+use Rattle.um_serve.specs.Rounds.{Empties, SaysTo, SaysBelow, has_bytes, is_freed, is_stirred, any_stirred}
 
 -- what is put out for a client is what its session held
 says_output : (n : ℕ) (t u : Option Session) (bytes : List ℕ) (failed : Bool) (old new : Option Waits) (said : List Event) → IsOutput t bytes failed u
@@ -68,24 +55,39 @@ says_more past0 past1 past2 n ts t u old mid new bytes failed before hands outpu
       λ th tf. hands.2 (honest th) tf ∙ ap (λ es. es ++ hands.0) (before.2 th (whole tf)) ∙ append_assoc past0 before.0 hands.0,
     )
 
--- ---- whether something was put out
+-- ---- whether there is more to do
 
-take_suc : (ts : List Session) (n : ℕ) (t : Session) → slice_get ts n ≡ Some t → take (suc n) ts ≡ take n ts ++ t ∷ []
-take_suc [] n t is = absurd (none_some is)
-take_suc (x ∷ ts) zero t is = ap (λ y. y ∷ []) (some_same is)
-take_suc (x ∷ ts) (suc n) t is = ap (λ l. x ∷ l) (take_suc ts n t is)
+-- what waits for the others doesn't matter
+stirred_same : (n : ℕ) (ts : List Session) (old mid new : List Waits) → ((i : ℕ) → i < n → slice_get new i ≡ slice_get mid i)
+    → any_stirred n ts old new ≡ any_stirred n ts old mid
+unfolding any_stirred
+stirred_same zero ts old mid new same = refl
+stirred_same (suc n) ts old mid new same =
+    ap (λ b. b || is_stirred (slice_get ts n) (slice_get old n) (slice_get new n)) (stirred_same n ts old mid new (λ i below. same i (omega (arith, below))))
+    ∙ ap (λ (w : Option Waits). any_stirred n ts old mid || is_stirred (slice_get ts n) (slice_get old n) w) (same n (omega arith))
 
-take_one : (ts : List Session) (n : ℕ) (t : Session) → slice_get ts n ≡ Some t → take (n + 1) ts ≡ take n ts ++ t ∷ []
-take_one ts n t is = ap (λ k. take k ts) (add-one n) ∙ take_suc ts n t is
+stirred_one : (n : ℕ) (ts : List Session) (old new : List Waits)
+    → any_stirred (n + 1) ts old new ≡ (any_stirred n ts old new || is_stirred (slice_get ts n) (slice_get old n) (slice_get new n))
+unfolding any_stirred
+stirred_one n ts old new = ap (λ k. any_stirred k ts old new) (add-one n)
 
--- one more session
-pub spoken_more : (n : ℕ) (ts : List Session) (t u : Option Session) (bytes : List ℕ) (failed before here : Bool) → before ≡ list_any has_output (take n ts)
-    → here ≡ has_bytes bytes → IsOutput t bytes failed u → t ≡ slice_get ts n → (before || here) ≡ list_any has_output (take (n + 1) ts)
-spoken_more n ts None u bytes failed before here was is output at = absurd output
-spoken_more n ts (Some t) None bytes failed before here was is output at = absurd output
-spoken_more n ts (Some t) (Some u) bytes failed before here was is output at =
-    ap (λ b. b || here) was ∙ ap (λ b. list_any has_output (take n ts) || b) (is ∙ ap has_bytes output.0.3 ∙ sym (or-false (has_output t)))
-    ∙ sym (list_any-append has_output (take n ts) (t ∷ [])) ∙ ap (λ l. list_any has_output l) (sym (take_one ts n t (sym at)))
+-- nobody is below the first
+pub stirred_none : (ts : List Session) (old new : List Waits) → false ≡ any_stirred 0 ts old new
+unfolding any_stirred
+stirred_none ts old new = refl
+
+-- one more client
+pub stirred_more : (n : ℕ) (ts : List Session) (t u : Option Session) (old mid new : List Waits) (bytes : List ℕ) (failed before here : Bool)
+    → before ≡ any_stirred n ts old mid → here ≡ (has_bytes bytes || is_freed (slice_get mid n) (slice_get new n)) → IsOutput t bytes failed u
+    → t ≡ slice_get ts n → slice_get mid n ≡ slice_get old n → ((i : ℕ) → i ≢ n → slice_get new i ≡ slice_get mid i)
+    → (before || here) ≡ any_stirred (n + 1) ts old new
+stirred_more n ts None u old mid new bytes failed before here was is output at same others = absurd output
+stirred_more n ts (Some t) None old mid new bytes failed before here was is output at same others = absurd output
+stirred_more n ts (Some t) (Some u) old mid new bytes failed before here was is output at same others =
+    ap (λ b. b || here) (was ∙ sym (stirred_same n ts old mid new (λ i lt. others i (λ e. omega (arith, lt, e)))))
+    ∙ ap (λ b. any_stirred n ts old new || b)
+    (is ∙ ap (λ bs. has_bytes bs || is_freed (slice_get mid n) (slice_get new n)) output.0.3 ∙ ap (λ (w : Option Waits). has_bytes t.output || is_freed w (slice_get new n)) same)
+    ∙ ap (λ (s : Option Session). any_stirred n ts old new || is_stirred s (slice_get old n) (slice_get new n)) at ∙ sym (stirred_one n ts old new)
 
 -- ---- what is taken of a session
 

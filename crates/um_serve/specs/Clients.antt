@@ -28,7 +28,7 @@ put_out k (and_round round rounds) = output_in (slice_get round.turn.sessions k)
 -- the bytes that a gate took for a connection
 abbrev pub taken_in : ℕ → Event → List ℕ
 taken_in k (accepted which) = []
-taken_in k (read number came) = []
+taken_in k (read number most came) = []
 taken_in k (wrote number taken) = if number == k then taken else []
 taken_in k (dropped number) = []
 

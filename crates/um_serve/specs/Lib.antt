@@ -1,3 +1,4 @@
 pub mod Clients
 pub mod Rounds
+pub mod Scan
 pub mod Sleep

@@ -1,7 +1,30 @@
--- How long is slept between rounds in which nothing came.
+-- How long is slept between rounds in which nothing came, and until which deadline.
 -- No manual page has this: it is the project's own (docs/ARCHITECTURE.md, "A round of umd serve").
--- The pace of the loop stands on this file.
-use Rattle.std.specs.Prelude.{◌-◌, min, ℕ, Bool, if◌then◌else◌, Option, Some, None}
+-- The pace of the loop, and what it waits for, stand on this file.
+use Rattle.std.specs.Prelude.{◌≡◌, ◌<◌, ◌≤◌, ◌-◌, min, nat_lt, ℕ, List, Bool, if◌then◌else◌, Option, Some, None, MatchOption}
+use Rattle.um_model.specs.Machine.{State}
+use Rattle.um_model.specs.Service.{ByUnit, state_of_unit}
+use Rattle.um_model.specs.declared.service.UnitState.{UnitState}
+
+-- a turn changed the state: each step that has an effect sets its clock to the turn's moment, and one that has none leaves it
+abbrev pub has_changed : (before after : State) → Bool
+has_changed before after = nat_lt before.clock after.clock
+
+-- no unit has a deadline past a moment
+abbrev pub NoneAfter : ByUnit UnitState → ℕ → Type 0
+NoneAfter units moment = (unit : List ℕ) (deadline : ℕ) → (state_of_unit units unit).deadline ≡ Some deadline → deadline ≤ moment
+
+-- the least deadline past a moment that a unit has
+pub record IsNextAfter (units : ByUnit UnitState) (moment deadline : ℕ) : Type 0 where
+  pub unit : List ℕ
+  pub waits : (state_of_unit units unit).deadline ≡ Some deadline
+  pub past : moment < deadline
+  pub least : (other : List ℕ) (later : ℕ) → (state_of_unit units other).deadline ≡ Some later → moment < later → deadline ≤ later
+
+-- The deadline that is slept for, from a turn at a moment on: the least one past that moment. One up to that moment was offered to the turn. It
+-- stands because something holds it up, as a job that its restart has to wait for; what ends that is heard of, and wakes by itself.
+abbrev pub IsSleptFor : State → (turned : ℕ) → Option ℕ → Type 0
+IsSleptFor s turned deadline = MatchOption deadline (NoneAfter s.units turned) (IsNextAfter s.units turned)
 
 -- a second, in microseconds
 abbrev pub second : ℕ

@@ -1,9 +1,15 @@
-//! What rounds say together, as a function that does nothing.
-ghost use Rattle.std.specs.Prelude.{◌≡◌, ◌<◌, ℕ, List, Some, Ok, slice_get};
+//! What rounds and sleeps say together, as functions that do nothing.
+ghost use Rattle.std.specs.Prelude.{◌≡◌, ◌<◌, ◌≤◌, ◌-◌, ℕ, List, Bool, false, Option, Some, Result, Ok, slice_get};
 ghost use Rattle.um_backlog.specs.Backlog.{Waits};
 ghost use Rattle.um_manager.specs.Places.{Place};
+ghost use Rattle.um_manager.specs.Turns.{Now, Turned};
+ghost use Rattle.um_manager.specs.declared.pieces.Piece.{Piece};
+ghost use Rattle.um_model.specs.Machine.{State};
+ghost use Rattle.um_model.specs.Service.{state_of_unit};
 ghost use Rattle.um_serve.specs.Clients.{AllServed, StaysOpen, GetsItsOwn};
 ghost use Rattle.um_serve.specs.Rounds.{Round, Served, Serves};
+ghost use Rattle.um_serve.specs.Sleep.{has_changed, slept, IsSleptFor};
+ghost use Rattle.um_wire.specs.declared.refusal.Refusal.{Refusal};
 
 /// Each client gets its own bytes. Rounds that end Ok are one turn each; and for each connection that isn't told closed meanwhile, whatever
 /// is put out for the others and however little is taken at a time: what the gate took for it, in its order, is a beginning of what
@@ -12,4 +18,23 @@ pub fn each_client_gets_its_own()
     ensures { (place : Place) (rs : List Round) (x y : Served) → Serves place rs (Ok tt) x y → (rounds : AllServed place rs x y)
         × ((k : ℕ) (old : Waits) → k < 64 → slice_get x.waits k ≡ Some old → StaysOpen k rs
         → (new : Waits) × (slice_get y.waits k ≡ Some new) × GetsItsOwn k rounds old new) }
+{}
+
+/// A deadline that the last turn was offered, and that stands all the same, wakes nobody: what is slept for lies past the moment of that turn.
+pub fn a_blocked_deadline_wakes_nobody()
+    ensures { (s : State) (turned deadline : ℕ) (next : Option ℕ) → IsSleptFor s turned next → next ≡ Some deadline → turned < deadline }
+{}
+
+/// No other deadline is slept past, however long the pace would let it: each unit whose deadline lies past the moment of the last turn is looked
+/// at when it comes.
+pub fn no_deadline_is_slept_past()
+    ensures { (s : State) (turned deadline wait now : ℕ) (is_live : Bool) (next : Option ℕ) (unit : List ℕ) → IsSleptFor s turned next
+        → (state_of_unit s.units unit).deadline ≡ Some deadline → turned < deadline → slept wait is_live now next ≤ deadline - now }
+{}
+
+/// A turn at a moment past the state's clock that leaves the clock there changed nothing: so a deadline that it was offered, and that stands, is
+/// held up by something.
+pub fn a_turn_that_leaves_the_clock_changed_nothing()
+    ensures { (place : Place) (store : Result Unit Refusal) (moment : ℕ) (pieces : List Piece) (a b : Now) → Turned place store moment pieces a b
+        → a.state.clock < moment → has_changed a.state b.state ≡ false → b.state ≡ a.state }
 {}

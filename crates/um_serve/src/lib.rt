@@ -2,11 +2,15 @@
 #![tactic(auto)]
 
 mod blanks;
+mod deadlines;
 mod laws;
 mod listening;
 mod pace;
 mod rounds;
 
-pub use laws::each_client_gets_its_own;
+pub use laws::{
+    a_blocked_deadline_wakes_nobody, a_turn_that_leaves_the_clock_changed_nothing,
+    each_client_gets_its_own, no_deadline_is_slept_past,
+};
 pub use pace::Pace;
 pub use rounds::{Rounds, serve};

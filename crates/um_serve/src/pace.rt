@@ -5,7 +5,7 @@ ghost use Rattle.std.specs.Duration.{as_nanos};
 ghost use Rattle.um_serve.specs.Sleep.{slept};
 
 use std::time::Duration;
-use um_model::Moment;
+use um_model::{Deadline, Moment};
 
 /// Behind a start, a signal or an end it looks again after so many microseconds.
 const SOONEST: u64 = 500;
@@ -30,11 +30,11 @@ pub struct Pace {
     ghost bound: { wait ≤ 40000 },
 }
 
-/// How long it is from one moment to another, in microseconds; 0 where that is past.
-fn until(now: Moment, micros: u64) -> u64
-    ensures { result ≡ micros - now }
+/// How long it is until a deadline, in microseconds; 0 where that is past.
+fn until(now: Moment, deadline: Deadline) -> u64
+    ensures { result ≡ deadline - now }
 {
-    micros.saturating_sub(now.micros())
+    deadline.micros().saturating_sub(now.micros())
 }
 
 impl Pace {
@@ -59,13 +59,13 @@ impl Pace {
         self.wait = self.wait.min(RESTLESS);
     }
 
-    /// How long is slept now, where processes are live or none is, and the next deadline is at so many microseconds.
-    pub fn next(&mut self, is_live: bool, now: Moment, deadline: Option<u64>) -> Duration
+    /// How long is slept now, where processes are live or none is, and a deadline is slept for.
+    pub fn next(&mut self, is_live: bool, now: Moment, deadline: Option<Deadline>) -> Duration
         ensures sleeps { as_nanos result ≡ 1000 * slept self.old.wait is_live now deadline }
         ensures later { self.new.wait ≡ (if is_live then min (self.old.wait + self.old.wait / 2) 40000 else self.old.wait) }
     {
         let longest = match deadline {
-            Some(micros) => until(now, micros).min(IDLE),
+            Some(deadline) => until(now, deadline).min(IDLE),
             None => IDLE,
         };
         let wait = if is_live { self.wait } else { IDLE };

@@ -1,20 +1,23 @@
 //! Rounds over a gate.
 
-ghost use Rattle.std.specs.Prelude.{◌≡◌, ◌⊎◌, ◌↔◌, List, true, false, Err, IsTrue, IfOk, OnOk, OnErr, length, replicate};
-ghost use Rattle.um_backlog.specs.Backlog.{nothing};
+ghost use Rattle.std.specs.Prelude.{◌≡◌, ◌≢◌, ◌⊎◌, ◌↔◌, ◌||◌, nat_lt, ℕ, List, slice_get, true, false, Err, IsTrue, IfOk, OnOk, OnErr, length, replicate};
+ghost use Rattle.um_backlog.specs.Backlog.{nothing, HandsAt};
 ghost use Rattle.um_gate.specs.Events.{Event, Logs};
 ghost use Rattle.um_keeper.specs.Keepers.{disk_in, state_in, has_failed, IsSamePlace};
 ghost use Rattle.um_manager.specs.Places.{place_in};
 ghost use Rattle.um_manager.specs.Turns.{now};
-ghost use Rattle.um_serve.specs.Rounds.{Round, Trusts, Serves, ServesOne, IsCount, Gathers, served, SaysBelow, has_bytes, has_spoken, EmptiesAll, is_want};
+ghost use Rattle.um_serve.specs.Rounds.{Round, Trusts, Serves, ServesOne, IsCount, Gathers, served, SaysBelow, has_bytes, is_freed, any_stirred, EmptiesAll, is_want};
+ghost use Rattle.um_serve.specs.Sleep.{IsSleptFor};
 
 use crate::blanks::{Blank, fill_up};
-use crate::listening::{connection, forget_closed, has_come, listen};
+use crate::deadlines::next_deadline;
+use crate::listening::{Held, connection, forget_closed, has_come, held_back, listen};
 use std::alloc::{AllocError, Global};
 use um_backlog::Backlog;
 use um_children::Children;
 use um_gate::{CONNECTIONS, Gate, Moments};
 use um_manager::{Manager, Output, Pieces};
+use um_model::{Deadline, Moment};
 use um_sector::Disk;
 use um_wire::Refusal;
 
@@ -28,8 +31,10 @@ pub struct Rounds {
     is_owed: bool,
     backlog: Backlog,
     blanks: Vec<Blank>,
-    /// The last round read something, or put something out.
+    /// Another round may have more to do at once.
     was_busy: bool,
+    /// The moment of the last turn.
+    turned: Moment,
 }
 
 /// A turn found no memory for itself.
@@ -46,7 +51,38 @@ fn has_bytes(bytes: &[u8]) -> bool
     !bytes.is_empty()
 }
 
-/// Hands to the gate what the manager has for each connection, as far as it takes that, and tells whether there was anything.
+/// Where the clock of a manager's state stands.
+fn clock_of<D: Disk, C: Children>(manager: &Manager<D, C>) -> Moment
+    ensures { result ≡ (state_in manager.now.keeper).clock }
+{
+    manager.state().clock()
+}
+
+/// Whether the clock of a manager's state has moved from there.
+fn has_moved<D: Disk, C: Children>(manager: &Manager<D, C>, before: Moment) -> bool
+    ensures { result ≡ nat_lt before (state_in manager.now.keeper).clock }
+{
+    before.micros() < clock_of(manager).micros()
+}
+
+/// Hands to the gate what is put out for a client, as far as it takes that, and tells whether there is more to do for it.
+fn hand_out<G: Gate>(gate: &mut G, backlog: &mut Backlog, number: usize, output: Output) -> bool
+    ensures hands { (events : List Event) × HandsAt number (slice_get backlog.old number) output.bytes.items output.failed events (slice_get backlog.new number)
+        × Logs (G.honest gate.old) (G.whole gate.new) (G.past gate.old) (G.past gate.new) events }
+    ensures others { (other : ℕ) → other ≢ number → slice_get backlog.new other ≡ slice_get backlog.old other }
+    ensures stirred { result ≡ (has_bytes output.bytes.items || is_freed (slice_get backlog.old number) (slice_get backlog.new number)) }
+    ensures whole { IsTrue (G.whole gate.new) → IsTrue (G.whole gate.old) }
+    ensures honest { G.honest gate.new ≡ G.honest gate.old }
+{
+    let Output { bytes, failed } = output;
+    let has_spoken = has_bytes(bytes.as_slice());
+    let was_behind = backlog.is_behind(number);
+    backlog.put(gate, number, bytes, failed);
+    let is_behind = backlog.is_behind(number);
+    has_spoken | (was_behind & !is_behind)
+}
+
+/// Hands to the gate what the manager has for each connection, as far as it takes that, and tells whether there is more to do for any.
 fn speak<D: Disk, C: Children, G: Gate>(
     manager: &mut Manager<D, C>,
     gate: &mut G,
@@ -58,17 +94,16 @@ fn speak<D: Disk, C: Children, G: Gate>(
     ensures marks { manager.new.marks ≡ manager.old.marks }
     ensures says { (said : List Event) × SaysBelow 64 manager.old.sessions.items backlog.old said backlog.new
         × Logs (G.honest gate.old) (G.whole gate.new) (G.past gate.old) (G.past gate.new) said }
-    ensures spoken { result ≡ has_spoken manager.old.sessions.items }
+    ensures stirred { result ≡ any_stirred 64 manager.old.sessions.items backlog.old backlog.new }
     ensures events { IsTrue (G.whole gate.new) → IsTrue (G.whole gate.old) }
     ensures gate { G.honest gate.new ≡ G.honest gate.old }
 {
-    let mut has_spoken = false;
+    let mut is_stirred = false;
     for number in 0..CONNECTIONS {
-        let Output { bytes, failed } = manager.output(connection(number));
-        has_spoken |= has_bytes(bytes.as_slice());
-        backlog.put(gate, number, bytes, failed);
+        let output = manager.output(connection(number));
+        is_stirred |= hand_out(gate, backlog, number, output);
     }
-    has_spoken
+    is_stirred
 }
 
 impl Rounds {
@@ -77,6 +112,7 @@ impl Rounds {
         ensures owed { IfOk result (λ rounds. rounds.is_owed ≡ false) }
         ensures waits { IfOk result (λ rounds. rounds.backlog ≡ replicate 64 nothing) }
         ensures busy { IfOk result (λ rounds. rounds.was_busy ≡ false) }
+        ensures turned { IfOk result (λ rounds. rounds.turned ≡ 0) }
     {
         Ok(Rounds {
             alloc,
@@ -85,21 +121,35 @@ impl Rounds {
             backlog: Backlog::new(alloc)?,
             blanks: Vec::new(alloc),
             was_busy: false,
+            turned: Moment::FIRST,
         })
     }
 
-    /// Whether the last round read something or put something out: then another one may have more to do.
+    /// Whether another round may have more to do at once: the last one read something, put something out or changed the state, or a client is
+    /// read again that had fallen behind.
     pub fn was_busy(&self) -> bool
         ensures { result ≡ self.now.was_busy }
     {
         self.was_busy
     }
 
-    /// An accept and a read of each open connection, unless pieces are owed. Where there is no room for what a read may give nothing is
-    /// done.
-    fn gather<G: Gate>(&mut self, gate: &mut G) -> Result<(), AllocError>
-        ensures gathers { OnOk result (Gathers (G.honest gate.old) (G.whole gate.new) self.old.is_owed self.old.pieces self.new.pieces (G.past gate.old) (G.past gate.new)
-            self.old.backlog self.new.backlog self.new.was_busy) }
+    /// The deadline that is to be slept for behind the last round: the next one past the moment of its turn, of all units of the manager that it
+    /// served. None where there is none.
+    pub fn deadline<D: Disk, C: Children>(
+        &self,
+        manager: &Manager<D, C>,
+    ) -> Result<Option<Deadline>, AllocError>
+        ensures { IfOk result (λ deadline. IsSleptFor (state_in manager.now.keeper) self.now.turned deadline) }
+    {
+        next_deadline(manager.state().units(), self.turned)
+    }
+
+    /// An accept and a read of each open connection, unless pieces are owed; of those that are held back nothing is read. Where there is no
+    /// room for what a read may give nothing is done.
+    fn gather<G: Gate>(&mut self, gate: &mut G, held: Held) -> Result<(), AllocError>
+        ensures gathers { OnOk result (Gathers (G.honest gate.old) (G.whole gate.new) self.old.is_owed held.is_held self.old.pieces self.new.pieces
+            (G.past gate.old) (G.past gate.new) self.old.backlog self.new.backlog self.new.was_busy) }
+        ensures turned { self.new.turned ≡ self.old.turned }
         ensures owed { self.new.is_owed ≡ self.old.is_owed }
         ensures pieces { OnErr result (self.new.pieces ≡ self.old.pieces) }
         ensures backlog { OnErr result (self.new.backlog ≡ self.old.backlog) }
@@ -115,7 +165,7 @@ impl Rounds {
         }
         fill_up(self.alloc, &mut self.blanks)?;
         let open = gate.accept();
-        listen(gate, open, &mut self.blanks, &mut self.pieces);
+        listen(gate, open, held, &mut self.blanks, &mut self.pieces);
         forget_closed(&self.pieces, &mut self.backlog);
         self.was_busy = has_come(&self.pieces);
         Ok(())
@@ -131,9 +181,9 @@ impl Rounds {
     ) -> Result<(), Refusal>
         ensures serves { Trusts (C.honest manager.old.children) (C.whole manager.new.children) (G.honest gate.old) (G.whole gate.new) (M.honest clock.old) (M.whole clock.new)
             → ServesOne (place_in (D.honest (disk_in manager.old.keeper)) manager.old.keeper) result
-            (served (G.past gate.old) (M.given clock.old) self.old.is_owed self.old.pieces self.old.backlog self.old.was_busy
+            (served (G.past gate.old) (M.given clock.old) self.old.is_owed self.old.pieces self.old.backlog self.old.was_busy self.old.turned
             (now (state_in manager.old.keeper) (C.past manager.old.children) manager.old.marks manager.old.sessions.items (D.past (disk_in manager.old.keeper))))
-            (served (G.past gate.new) (M.given clock.new) self.new.is_owed self.new.pieces self.new.backlog self.new.was_busy
+            (served (G.past gate.new) (M.given clock.new) self.new.is_owed self.new.pieces self.new.backlog self.new.was_busy self.new.turned
             (now (state_in manager.new.keeper) (C.past manager.new.children) manager.new.marks manager.new.sessions.items (D.past (disk_in manager.new.keeper)))) }
         ensures whole { IsTrue (C.whole manager.new.children) → IsTrue (C.whole manager.old.children) }
         ensures honest { C.honest manager.new.children ≡ C.honest manager.old.children }
@@ -145,15 +195,20 @@ impl Rounds {
         ensures disk { D.honest (disk_in manager.new.keeper) ≡ D.honest (disk_in manager.old.keeper) }
         ensures failed { (has_failed manager.new.keeper ≡ true) ↔ ((has_failed manager.old.keeper ≡ true) ⊎ (result ≡ Err Refusal.Device)) }
     {
-        match self.gather(gate) {
+        let held = held_back(manager, &self.backlog);
+        match self.gather(gate, held) {
             Ok(()) => {}
             Err(_) => return Err(Refusal::NoMemory),
         }
-        let turned = manager.turn(clock.moment(), &self.pieces);
+        let before = clock_of(manager);
+        let moment = clock.moment();
+        let turned = manager.turn(moment, &self.pieces);
         self.is_owed = wants_memory(&turned);
         if !self.is_owed {
-            let has_spoken = speak(manager, gate, &mut self.backlog);
-            self.was_busy |= has_spoken;
+            self.turned = moment;
+            let is_stirred = speak(manager, gate, &mut self.backlog);
+            let has_changed = has_moved(manager, before);
+            self.was_busy |= is_stirred | has_changed;
         }
         turned
     }
@@ -172,9 +227,9 @@ pub fn serve<D: Disk, C: Children, G: Gate, M: Moments>(
 ) -> Result<(), Refusal>
     ensures serves { Trusts (C.honest manager.old.children) (C.whole manager.new.children) (G.honest gate.old) (G.whole gate.new) (M.honest clock.old) (M.whole clock.new)
         → (all : List Round) × IsCount result (length all) limit × Serves (place_in (D.honest (disk_in manager.old.keeper)) manager.old.keeper) all result
-        (served (G.past gate.old) (M.given clock.old) rounds.old.is_owed rounds.old.pieces rounds.old.backlog rounds.old.was_busy
+        (served (G.past gate.old) (M.given clock.old) rounds.old.is_owed rounds.old.pieces rounds.old.backlog rounds.old.was_busy rounds.old.turned
         (now (state_in manager.old.keeper) (C.past manager.old.children) manager.old.marks manager.old.sessions.items (D.past (disk_in manager.old.keeper))))
-        (served (G.past gate.new) (M.given clock.new) rounds.new.is_owed rounds.new.pieces rounds.new.backlog rounds.new.was_busy
+        (served (G.past gate.new) (M.given clock.new) rounds.new.is_owed rounds.new.pieces rounds.new.backlog rounds.new.was_busy rounds.new.turned
         (now (state_in manager.new.keeper) (C.past manager.new.children) manager.new.marks manager.new.sessions.items (D.past (disk_in manager.new.keeper)))) }
     ensures whole { IsTrue (C.whole manager.new.children) → IsTrue (C.whole manager.old.children) }
     ensures honest { C.honest manager.new.children ≡ C.honest manager.old.children }

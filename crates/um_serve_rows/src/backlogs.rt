@@ -74,11 +74,27 @@ fn a_client_for_which_too_much_waits_is_given_up(rt: HostRuntime) {
     let mut gate = with_client(&rt, 1, 0);
     let mut backlog = Backlog::new(rt.alloc()).expect(&rt, "no memory");
     let mut most = Vec::new(rt.alloc());
-    most.resize(4194304, 7).expect(&rt, "no memory");
+    most.resize(67_108_864, 7).expect(&rt, "no memory");
     backlog.put(&mut gate, 1, most, false);
     same(&rt, what_was_taken(&rt, &gate, 1).is_dropped, false);
     backlog.put(&mut gate, 1, bytes(&rt, b"a"), false);
     same(&rt, what_was_taken(&rt, &gate, 1).is_dropped, true);
+}
+
+#[test]
+fn a_client_falls_behind_once_more_than_4_mib_wait_for_it(rt: HostRuntime) {
+    let mut gate = with_client(&rt, 1, 0);
+    let mut backlog = Backlog::new(rt.alloc()).expect(&rt, "no memory");
+    let mut most = Vec::new(rt.alloc());
+    most.resize(4_194_304, 7).expect(&rt, "no memory");
+    backlog.put(&mut gate, 1, most, false);
+    same(&rt, backlog.is_behind(1), false);
+    backlog.put(&mut gate, 1, bytes(&rt, b"a"), false);
+    same(&rt, backlog.is_behind(1), true);
+    same(&rt, backlog.is_behind(2), false);
+    same(&rt, what_was_taken(&rt, &gate, 1).is_dropped, false);
+    backlog.forget(1);
+    same(&rt, backlog.is_behind(1), false);
 }
 
 #[test]

@@ -67,6 +67,33 @@ pub fn what_was_taken(rt: &(impl AllocGlobal + Abort), gate: &FakeGate, number: 
     }
 }
 
+/// What a read of at most so many bytes gives; the client is there still.
+fn read_of(
+    rt: &(impl AllocGlobal + Abort),
+    gate: &mut FakeGate,
+    number: usize,
+    most: usize,
+) -> Vec<u8> {
+    let most = most.min(MOST_BYTES);
+    let mut read = Vec::with_capacity(rt.alloc(), most).expect(rt, "no memory");
+    same(rt, gate.read(number, most, &mut read), true);
+    read
+}
+
+/// Reads of a client that sends `abcde`, one after another: of how many bytes at most, and what they give.
+const READS: &[(usize, &[u8])] = &[(0, b""), (2, b"ab"), (0, b""), (4096, b"cde"), (4096, b"")];
+
+#[test]
+fn what_is_not_read_stays_there(rt: HostRuntime) {
+    let mut gate = FakeGate::new(rt.alloc());
+    add_client(&rt, &mut gate, 3, b"abcde", 9);
+    let _open = gate.accept();
+    for (most, wanted) in READS {
+        let read = read_of(&rt, &mut gate, 3, *most);
+        same(&rt, read.as_slice(), *wanted);
+    }
+}
+
 #[test]
 fn a_client_that_was_given_up_takes_nothing_and_is_told_closed(rt: HostRuntime) {
     let mut gate = with_client(&rt, 2, 9);
@@ -74,6 +101,6 @@ fn a_client_that_was_given_up_takes_nothing_and_is_told_closed(rt: HostRuntime) 
     gate.drop_connection(2);
     same(&rt, gate.write(2, b"def"), 0);
     let mut read = Vec::with_capacity(rt.alloc(), MOST_BYTES).expect(&rt, "no memory");
-    same(&rt, gate.read(2, &mut read), false);
+    same(&rt, gate.read(2, MOST_BYTES, &mut read), false);
     same(&rt, read.len(), 0);
 }

@@ -2,7 +2,7 @@
 use crate::gates::{add_client, same, what_was_taken};
 use std::process::Abort;
 use um_children::FakeChildren;
-use um_gate::{FakeGate, FakeMoments};
+use um_gate::{FakeGate, FakeMoments, Note};
 use um_keeper::create;
 use um_manager::Manager;
 use um_model::{Layout, Moment};
@@ -58,5 +58,46 @@ fn clients_that_take_few_bytes_get_their_own_replies(rt: HostRuntime) {
             let got = what_was_taken(&rt, &gate, 1);
             same(&rt, got.bytes.as_slice(), *second);
         }
+    }
+}
+
+/// Rounds one by one, of a client that sends two requests in one part and then a third: how many bytes are to be read of it at most, how many
+/// bytes of replies it has then, each of 26, and whether the round was busy.
+const ONE_BY_ONE: &[(usize, usize, bool)] = &[
+    (4096, 26, true),
+    // the second request waits for its turn
+    (0, 52, true),
+    (4096, 78, true),
+    (4096, 78, false),
+];
+
+/// How many bytes were to be read at most in the last read.
+fn last_read(gate: &FakeGate) -> Option<usize> {
+    let mut last = None;
+    for note in gate.notes() {
+        if let Note::Came { most, .. } = note {
+            last = Some(*most);
+        }
+    }
+    last
+}
+
+#[test]
+fn nothing_is_read_of_a_client_while_a_whole_request_of_it_waits(rt: HostRuntime) {
+    let mut gate = FakeGate::new(rt.alloc());
+    let mut both = Vec::from_slice(rt.alloc(), LISTS).expect(&rt, "no memory");
+    both.extend_from_slice(LISTS).expect(&rt, "no memory");
+    let third = Vec::from_slice(rt.alloc(), LISTS).expect(&rt, "no memory");
+    let parts = vec![in rt.alloc(); third, both].expect(&rt, "no memory");
+    gate.client(0, parts, false, 4096).expect(&rt, "no memory");
+    let mut manager = new_manager(&rt);
+    let mut clock = FakeMoments::new(rt.alloc(), Moment::FIRST, 1);
+    let mut rounds = Rounds::new(rt.alloc()).expect(&rt, "no memory");
+    for (most, count, is_busy) in ONE_BY_ONE {
+        serve(&mut manager, &mut gate, &mut clock, &mut rounds, 1).expect(&rt, "refused");
+        same(&rt, last_read(&gate), Some(*most));
+        let got = what_was_taken(&rt, &gate, 0);
+        same(&rt, got.bytes.len(), *count);
+        same(&rt, rounds.was_busy(), *is_busy);
     }
 }

@@ -3,8 +3,7 @@
 ghost use Rattle.std.specs.Prelude.{◌≡◌, ◌+◌, ◌^◌, ◌≤◌, ◌⊎◌, ℕ, List};
 ghost use Rattle.um_model.specs.Service.{Action};
 ghost use Rattle.um_model.specs.Settings.{ServiceSettings};
-ghost use Rattle.um_model.specs.Transitions.{transition, spawned, AreActions, HasNumber};
-ghost use Rattle.um_model.proofs.TransitionLaws.{HasItsProcess};
+ghost use Rattle.um_model.specs.Transitions.{HasItsProcess, transition, spawned, AreActions, HasNumber};
 ghost use Rattle.um_model.specs.declared.service.UnitState.{UnitState};
 ghost use Rattle.um_model.specs.declared.transition.Around.{Around};
 ghost use Rattle.um_model.specs.declared.transition.Order.{Order};

@@ -1,8 +1,7 @@
 //! A unit, and what an event makes of it.
 
 ghost use Rattle.std.specs.Prelude.{◌≡◌, ◌+◌, ◌^◌, ◌≤◌, ℕ, map, IfOk, OnOk, OnErr};
-ghost use Rattle.um_model.specs.Transitions.{transition, spawned, AreActions};
-ghost use Rattle.um_model.proofs.TransitionLaws.{HasItsProcess};
+ghost use Rattle.um_model.specs.Transitions.{HasItsProcess, transition, spawned, AreActions};
 ghost use Rattle.um_model.specs.declared.service.UnitState.{UnitState};
 ghost use Rattle.um_service.specs.View.{HasRoom, action_of};
 ghost use Rattle.um_unit.specs.ServiceView.{service_settings_of};

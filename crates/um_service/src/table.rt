@@ -1,8 +1,9 @@
 //! The service table.
 
 ghost use Rattle.std.specs.Prelude.{◌≡◌};
+ghost use Rattle.um_model.specs.Ends.{is_starting};
 ghost use Rattle.um_model.specs.Service.{active_state_of};
-ghost use Rattle.um_model.specs.Transitions.{noted, without_main, without_control, timed_out, is_stop_done, is_going, row, transition};
+ghost use Rattle.um_model.specs.Transitions.{fails_start, noted, without_main, without_control, timed_out, is_stop_done, is_going, row, transition};
 ghost use Rattle.um_model.specs.declared.service.ActiveState.TheVariants.{Activating, Active as IsActive, Deactivating};
 ghost use Rattle.um_model.specs.declared.service.SubState.TheVariants.{Start, Running, Stop};
 ghost use Rattle.um_model.specs.declared.transition.UnitEvent.TheVariants.{MainEnds, ControlEnds};
@@ -151,7 +152,7 @@ fn row(settings: &ServiceSettings, around: Around, unit: UnitState, event: UnitE
         (Running, MainEnds(end)) => run_meets(settings, around, unit, end),
         (Active | AutoRestart, StopBegins) => dies(unit),
         (Running | Exited, StopBegins) => winds_down(settings, around, told_to_stop(unit)),
-        (Start, StopBegins) => start_fails(terminates(settings, around, told_to_stop(unit))),
+        (Start, StopBegins) => terminates(settings, around, told_to_stop(unit)),
         (Stop | StopSigterm | StopSigkill, StopBegins) => just(told_to_stop(unit)),
         (Dead | Failed, StopBegins) => stop_ends(just(unit)),
         (Stop, ControlEnds(end)) => stop_meets(settings, around, unit, end),
@@ -185,8 +186,26 @@ fn is_going(sub: SubState) -> bool
     )
 }
 
+/// Whether a start has begun and hasn't ended.
+fn is_starting(sub: SubState) -> bool
+    ensures { result ≡ is_starting sub }
+{
+    matches!(sub, SubState::Start)
+}
+
+/// The change, by which a start that has begun fails.
+fn fails_start(sub: SubState, change: Change) -> Change
+    ensures { result ≡ fails_start sub change }
+{
+    if is_starting(sub) {
+        start_fails(change)
+    } else {
+        change
+    }
+}
+
 /// What follows from the event. A unit that can't be loaded isn't started; a bound stop is as a stop job that begins, where the unit is
-/// active or activating.
+/// active or activating, but that a start that has begun fails by it.
 pub fn transition(
     settings: &ServiceSettings,
     around: Around,
@@ -200,9 +219,10 @@ pub fn transition(
             result: UnitResult::NotLoaded,
             ..unit
         })),
-        UnitEvent::BoundStop if is_going(unit.sub) => {
-            row(settings, around, unit, UnitEvent::StopBegins)
-        }
+        UnitEvent::BoundStop if is_going(unit.sub) => fails_start(
+            unit.sub,
+            row(settings, around, unit, UnitEvent::StopBegins),
+        ),
         UnitEvent::BoundStop => just(unit),
         _ => row(settings, around, unit, event),
     }

@@ -1,7 +1,8 @@
 -- What a session gives to be answered, as the code tells it.
 -- No manual page has this: it is the project's own protocol (docs/FORMATS.md, "Frames").
 -- Sessions stand on this file.
-use Rattle.std.specs.Prelude.{Option, Some, None, Result, ⊤}
+use Rattle.std.specs.Prelude.{◌≡◌, List, ℕ, false, Option, Some, None, Result, ⊤}
+use Rattle.um_model.specs.Frames.{BeginsWith}
 use Rattle.um_model.specs.Sessions.{Session, Asked, Reads}
 use Rattle.um_proto.specs.View.{request_of}
 use Rattle.um_proto.specs.declared.request.Request.{Request}
@@ -17,3 +18,10 @@ IsGiven given asked = ⊥
 -- what is read next is given, or that reading it found no memory
 abbrev pub IsReading : Session → Option (Result Request Refusal) → Session → Type 0
 IsReading s given t = (asked : Option Asked) × Reads s t asked × IsGiven given asked
+
+-- a whole frame waits in it to be read
+pub record HoldsFrame (s : Session) : Type 0 where
+  pub reads : s.failed ≡ false
+  pub bytes : List ℕ
+  pub rest : List ℕ
+  pub begins : BeginsWith s.rest bytes rest

@@ -1,8 +1,8 @@
-ghost use Rattle.std.specs.Prelude.{◌≡◌, ◌≤◌, ◌+◌, ◌-◌, [], length, drop, take, true, false, IsOk, OnOk, OnErr, vec_capacity, vec_len};
+ghost use Rattle.std.specs.Prelude.{◌≡◌, ◌↔◌, ◌≤◌, ◌+◌, ◌-◌, [], length, drop, take, true, false, IsOk, OnOk, OnErr, vec_capacity, vec_len};
 ghost use Rattle.um_model.specs.Sessions as model;
 ghost use Rattle.um_model.specs.Requests.{request_of as request_defined};
 ghost use Rattle.um_proto.specs.View.{request_of};
-ghost use Rattle.um_session.specs.Readings.{IsReading};
+ghost use Rattle.um_session.specs.Readings.{HoldsFrame, IsReading};
 ghost use Rattle.um_wire.specs.Gives.{Gives};
 
 use crate::front::{FrameFront, HEADER, front_of};
@@ -12,6 +12,9 @@ use std::marker::Model;
 use std::mem;
 use um_proto::{Mode, Request, read_request};
 use um_wire::{Limit, Refusal};
+
+/// Room past so many bytes is given back once nothing is held in it.
+const KEPT_ROOM: usize = 64 << 10;
 
 /// What is held of one client: the bytes that came and aren't read yet, and what was put out and isn't taken yet.
 #[derive(Drop)]
@@ -56,12 +59,22 @@ impl Session {
         self.failed
     }
 
-    /// Makes room, so that a next `feed` of at most `len` bytes takes no memory. The place of bytes that were read is given back.
+    /// Whether a whole frame is held: then `next_request` reads one without more bytes.
+    pub fn holds_frame(&self) -> bool
+        ensures { (result ≡ true) ↔ HoldsFrame self.now }
+    {
+        !self.failed && matches!(front_of(self.rest()), FrameFront::Frame(_))
+    }
+
+    /// Makes room, so that a next `feed` of at most `len` bytes takes no memory. The place of bytes that were read is given back once it is
+    /// half of what is held, so that no more bytes are moved than were read.
     pub fn room(&mut self, len: usize) -> Result<(), AllocError>
         ensures room { OnOk result (len ≤ self.new.room) }
         ensures deed { model.Does self.old model.Room self.new }
     {
-        self.pack();
+        if self.at >= self.held.len() - self.at {
+            self.pack();
+        }
         self.held.try_reserve(len)
     }
 
@@ -178,10 +191,21 @@ impl Session {
         self.fail();
     }
 
-    /// Takes what was put out.
+    /// Gives back much room for bytes, where none is held that isn't read.
+    fn give_back(&mut self)
+        ensures { model.Does self.old model.Room self.new }
+    {
+        if self.at == self.held.len() && self.held.capacity() > KEPT_ROOM {
+            self.held = Vec::new(self.alloc);
+            self.at = 0;
+        }
+    }
+
+    /// Takes what was put out. Where all that came is read, much room for it is given back.
     pub fn take_output(&mut self) -> Vec<u8>
         ensures { model.Does self.old (model.Take result.items) self.new }
     {
+        self.give_back();
         mem::replace(&mut self.output, Vec::new(self.alloc))
     }
 }

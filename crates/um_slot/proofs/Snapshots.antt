@@ -150,7 +150,7 @@ module _ {layout : Layout} (past : Past) {slot : Slot} {generation : ℕ} {befor
   -- and behind it
   pub goes_on_other : {new : Past} {body : List ℕ} → generation + 1 < 2 ^ 64 → length body ≤ body_limit layout → IsImage past (seen past)
       → MaybeSnapshot layout (seen past) (other slot) (generation + 1) body (seen new) → IsSnapshot layout (seen new) (other slot) (generation + 1) body → IsSettled new
-      → GoesOn layout new (other slot) (generation + 1) body [] 0 (log_start layout (generation + 1))
+      → GoesOn layout new (other slot) (generation + 1) body [] (generation + 1) 0 (log_start layout (generation + 1))
   goes_on_other {new} {body} last fits is maybe snapshot done = record {
     store = λ image at. subst (λ i. IsStore layout i (other slot) (generation + 1) body []) (sym (done image at)) (new_store (stores (seen past) is) maybe last fits snapshot);
     end = λ image at. subst (λ i. IsLogEnd layout (generation + 1) i [] 0 (log_start layout (generation + 1))) (sym (done image at)) (new_end (stores (seen past) is) maybe);

@@ -61,7 +61,7 @@ pub fn write_other<D: Disk>(
     ensures during { IsTrue (D.honest disk.old) → (before : List ℕ) → Images (D.past disk.old) (HasStore layout home.slot home.generation before)
         → During (D.past disk.old) (D.past disk.new) (EitherSnapshot layout (D.past disk.old) home.slot home.generation before body.now) }
     ensures ok { IfOk result (λ to. IfSome to (λ to. IsTrue (D.honest disk.old) → (before : List ℕ) → Images (D.past disk.old) (HasStore layout home.slot home.generation before)
-        → GoesOn layout (D.past disk.new) to.slot to.generation body.now [] 0 (log_start layout to.generation))) }
+        → GoesOn layout (D.past disk.new) to.slot to.generation body.now [] to.generation 0 (log_start layout to.generation))) }
     ensures settled { IfOk result (λ to. IfSome to (λ _. IsTrue (D.honest disk.old) → IsSettled (D.past disk.new))) }
     ensures home { IfOk result (λ to. IfSome to (λ to. (to.slot ≡ other home.slot) × (to.generation ≡ home.generation + 1))) }
     ensures spent { (result ≡ Err Refusal.GenerationsSpent) ↔ (home.generation ≡ 2 ^ 64 - 1) }

@@ -1,3 +1,4 @@
+pub mod DueLaws
 pub mod Distinct
 pub mod Fronts
 pub mod HeldLaws

@@ -1,4 +1,5 @@
 pub mod Arms
+pub mod Due
 pub mod Short
 pub mod Shown
 pub mod View

@@ -1,4 +1,4 @@
-//! The canonical bytes of inputs: a 1, a tag, the moment, and the fields of what comes in.
+//! The canonical bytes of inputs: a version, a tag, the moment, and the fields of what comes in.
 ghost use Rattle.std.specs.Prelude.{◌≡◌, ◌≤◌, ◌++◌, ℕ, length, drop, IfOk, IfSome, OnOk, OnErr};
 ghost use Rattle.std.specs.Option.{option_map};
 ghost use Rattle.um_model.specs.Bytes.{IsInFront, arm_in, as_at, pair_at, table_at};
@@ -16,6 +16,9 @@ use std::alloc::{AllocError, Global};
 use um_model::{End, InstallVerb, JobMode, Moment, UnitVerb};
 use um_name::UnitName;
 use um_wire::Canon;
+
+/// The first byte of an input.
+const INPUT_VERSION: u8 = 1;
 
 /// The tag of a command for a unit.
 fn verb_tag(verb: UnitVerb) -> u8
@@ -280,7 +283,7 @@ impl Canon for Input {
     ghost reading = { input_at };
 
     fn put(&self, out: &mut Vec<u8>) -> Result<(), AllocError> {
-        out.push(1)?;
+        out.push(INPUT_VERSION)?;
         out.push(self.event.tag())?;
         self.moment.put(out)?;
         self.event.put_fields(out)?;
@@ -289,7 +292,7 @@ impl Canon for Input {
 
     fn get(alloc: Global, bytes: &[u8]) -> Result<Option<(Input, usize)>, AllocError> {
         match bytes {
-            [1, tag, rest @ ..] => match input_in(alloc, *tag, rest)? {
+            [INPUT_VERSION, tag, rest @ ..] => match input_in(alloc, *tag, rest)? {
                 Some((input, n)) => Ok(Some((input, n + 2))),
                 None => Ok(None),
             },

@@ -2,11 +2,12 @@ ghost use Rattle.std.specs.Prelude.{◌≡◌, ◌≢◌, ◌≤◌, ◌++◌, �
 ghost use Rattle.std.specs.List.{AllByRecursion};
 ghost use Rattle.um_model.specs.Bytes.{IsBytes};
 ghost use Rattle.um_model.specs.Dependencies.{CountsFor};
-ghost use Rattle.um_model.specs.InputSpellings.{FitInput, input_spelling};
+ghost use Rattle.um_model.specs.InputSpellings.{FitInput, input_limit, input_spelling};
 ghost use Rattle.um_model.specs.Jobs.{AreTidyJobs, jobs_of_unit};
 ghost use Rattle.um_model.specs.Machine as model;
 ghost use Rattle.um_model.specs.Machine.{IsHeld, Run, Step, empty_state};
 ghost use Rattle.um_model.specs.Refusals.{Refused};
+ghost use Rattle.um_model.specs.Servable.{IsBlank};
 ghost use Rattle.um_model.specs.Service.{AreTidyUnits, Action, ByUnit, state_of_unit};
 ghost use Rattle.um_model.specs.StateSpellings.{FitState, state_at, state_spelling};
 ghost use Rattle.um_model.specs.Weight.{weight_of};
@@ -53,16 +54,21 @@ pub fn no_spelling_of_a_state_begins_another()
         → (s ≡ t) × (p ≡ q) }
 {}
 
-/// Each state of a run from the empty one has a spelling.
+/// The empty state has a spelling.
+pub fn the_empty_state_has_a_spelling()
+    ensures { FitState empty_state }
+{}
+
+/// Each state of a run from one that has a spelling and in which nothing is held has a spelling.
 pub fn each_state_of_a_run_has_a_spelling()
-    ensures { (size : ℕ) (inputs : List model.Input) (t : model.State) → AllByRecursion FitInput inputs
-        → Run size empty_state inputs t → FitState t }
+    ensures { (size : ℕ) (s : model.State) (inputs : List model.Input) (t : model.State) → IsBlank s → FitState s
+        → AllByRecursion FitInput inputs → Run size s inputs t → FitState t }
 {}
 
 /// It has at most as many bytes as the state weighs.
 pub fn no_spelling_of_a_run_is_longer_than_the_weight()
-    ensures { (size : ℕ) (inputs : List model.Input) (t : model.State) (units : ℕ) → AllByRecursion FitInput inputs
-        → Run size empty_state inputs t → CountsFor t.loaded (IsHeld t) units
+    ensures { (size : ℕ) (s : model.State) (inputs : List model.Input) (t : model.State) (units : ℕ) → IsBlank s → FitState s
+        → AllByRecursion FitInput inputs → Run size s inputs t → CountsFor t.loaded (IsHeld t) units
         → length (state_spelling t) ≤ weight_of t.tree t.loaded units }
 {}
 
@@ -75,9 +81,10 @@ pub fn each_input_has_a_spelling(input: &Input)
     event_fits(&input.event);
 }
 
-/// An input that is accepted after a run from the empty state has at most 131,072 bytes.
+/// An input that is accepted after such a run has at most 66,078 bytes.
 pub fn an_accepted_input_is_short()
-    ensures { (size : ℕ) (inputs : List model.Input) (s t : model.State) (input : model.Input) (reply : model.Reply) (actions : List Action)
-        → AllByRecursion FitInput inputs → FitInput input → Run size empty_state inputs s → Step size s input reply actions t
-        → ((r : Refused) → reply ≢ model.Refusal r) → length (input_spelling input) ≤ 131072 }
+    ensures { (size : ℕ) (s : model.State) (inputs : List model.Input) (t u : model.State) (input : model.Input) (reply : model.Reply)
+        (actions : List Action) → IsBlank s → FitState s → AllByRecursion FitInput inputs → FitInput input → Run size s inputs t
+        → Step size t input reply actions u
+        → ((r : Refused) → reply ≢ model.Refusal r) → length (input_spelling input) ≤ input_limit }
 {}

@@ -2,6 +2,7 @@
 #![tactic(auto)]
 
 mod boot;
+mod due;
 mod fitting;
 mod input;
 mod input_bytes;
@@ -20,7 +21,7 @@ pub use laws::{
     each_input_has_a_spelling, each_state_of_a_run_has_a_spelling,
     no_spelling_of_a_run_is_longer_than_the_weight, no_spelling_of_a_state_begins_another,
     no_state_is_read_only_where_none_is, pending_jobs_are_told_apart_by_look_ups,
-    units_are_told_apart_by_look_ups,
+    the_empty_state_has_a_spelling, units_are_told_apart_by_look_ups,
 };
 pub use reply::{JobShown, Reply, UnitListed, UnitShown};
 pub use state::State;

@@ -1,4 +1,4 @@
-//! The canonical bytes of the state: its version, a 1, and its fields in order.
+//! The canonical bytes of the state: its version and its fields in order.
 ghost use Rattle.std.specs.Prelude.{◌≡◌, ◌≤◌, ◌++◌, true, length, drop, nat_lt, IfOk, IfSome, OnOk, OnErr};
 ghost use Rattle.std.specs.List.{list_all};
 ghost use Rattle.std.specs.Option.{option_map};
@@ -14,6 +14,9 @@ use std::alloc::{AllocError, Global};
 use um_model::{Moment, NextNumber};
 use um_tree::Tree;
 use um_wire::Canon;
+
+/// The first byte of a state.
+const STATE_VERSION: u8 = 1;
 
 /// The fields of a state, in the order of their bytes.
 type Fields = (
@@ -54,7 +57,7 @@ impl State {
         ensures fits { OnOk result (is_sound (state_of self.now) ≡ true → FitState (state_of self.now)) }
         ensures front { OnErr result (IsInFront out.old.items out.new.items) }
     {
-        out.push(1)?;
+        out.push(STATE_VERSION)?;
         self.tree.put(out)?;
         self.loaded.put(out)?;
         self.boot.put(out)?;
@@ -71,7 +74,7 @@ impl State {
         ensures read { IfOk result (λ found. state_at bytes.now ≡ option_map (λ x. (state_of x.0, drop x.1 bytes.now)) found) }
         ensures within { IfOk result (λ found. IfSome found (λ x. x.1 ≤ length bytes.now)) }
     {
-        let [1, rest @ ..] = bytes else {
+        let [STATE_VERSION, rest @ ..] = bytes else {
             return Ok(None);
         };
         let Some((fields, n)) = Fields::get(alloc, rest)? else {

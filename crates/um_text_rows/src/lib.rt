@@ -4,6 +4,8 @@
 #[cfg(test)]
 mod answers;
 #[cfg(test)]
+mod install;
+#[cfg(test)]
 mod name;
 #[cfg(test)]
 mod resolve;

@@ -1,11 +1,17 @@
-//! What the definitions of settings and of warnings say together, as a function that does nothing.
+//! What the definitions of settings, of warnings and of names say together, as functions that do nothing.
 
 ghost use Rattle.std.specs.Prelude.{◌≡◌, ℕ, List, is_none};
-ghost use Rattle.um_model.specs.Units.{value_warning};
+ghost use Rattle.um_model.specs.Tree.{Tree};
+ghost use Rattle.um_model.specs.Units.{load, name_in, unit_named, value_warning};
 ghost use Rattle.um_model.specs.declared.units.ValueKind as kinds;
 ghost use Rattle.um_model.proofs.CountsLaws.{counts};
 
 /// Settings and warnings read values alike: a value counts, in all that it says, exactly where it gives no warning.
 pub fn a_value_counts_or_warns()
     ensures { (unit : List ℕ) (kind : kinds.ValueKind) (value : List ℕ) → counts unit kind value ≡ is_none (value_warning unit kind value) }
+{}
+
+/// The unit that counts for a name, by where the name leads alone, is the one that is found under it.
+pub fn the_unit_of_a_name_is_the_one_found()
+    ensures { (tree : Tree) (asked : List ℕ) → unit_named tree asked ≡ name_in asked (load tree asked) }
 {}

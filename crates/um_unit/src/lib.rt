@@ -15,7 +15,7 @@ mod settings;
 mod singles;
 mod warnings;
 
-pub use laws::a_value_counts_or_warns;
+pub use laws::{a_value_counts_or_warns, the_unit_of_a_name_is_the_one_found};
 pub use loaded::{LoadedUnit, Loading};
 pub use loader::load;
 pub use service_settings::ServiceSettings;

@@ -1,15 +1,16 @@
 //! The program `umd`: `--memory` answers the frames of standard input on standard output, `create` makes a store, `ctl` asks a manager,
-//! `run` runs a command for the manager, `serve` serves a store over a socket.
+//! `run` runs a command for the manager, `serve` serves a store over a socket, `help` says what a refusal means.
 #![tactic(auto)]
 
+mod lines;
 mod messages;
+mod places;
 mod serving;
-mod standing;
 mod telling;
 
 use messages::{DEVICE, REFUSED, USAGE, ctl_fault, report, status_of, tell_create};
 use serving::serve_store;
-use std::alloc::Global;
+use std::alloc::{AllocError, Global};
 use std::env::Env;
 use std::fs::{File, Files};
 use std::io::ErrorKind;
@@ -19,7 +20,7 @@ use std::time::Clock;
 use std::{env, io};
 use um_bin::{Ending, Fault, memory};
 use um_create::{Layout, create_store};
-use um_ctl::{Told, Words, ask};
+use um_ctl::{Told, Words, ask, meaning_line, shown};
 use um_line::{CreateLine, CtlLine, Line, read_line};
 use um_runner::{Folder, FolderFault, RunnerLine};
 
@@ -59,7 +60,7 @@ fn create<R: Files<File = File> + Eprint>(rt: &R, alloc: Global, line: &CreateLi
     match create_store(rt, alloc, layout, line.file) {
         Ok(()) => 0,
         Err(fault) => {
-            tell_create(rt, &fault, line.file);
+            tell_create(rt, alloc, &fault, line.file);
             fault.status()
         }
     }
@@ -92,10 +93,48 @@ fn ctl<R: Net + Input + Print + Eprint>(
     match ask(rt, alloc, line.socket, &words, &mut rt.reader()) {
         Ok(told) => tell(rt, &told),
         Err(fault) => {
-            ctl_fault(rt, &fault, line);
+            ctl_fault(rt, alloc, &fault, line);
             Ok(fault.status())
         }
     }
+}
+
+/// Puts out what the refusal of this number means.
+fn explain<R: Print>(rt: &R, alloc: Global, number: u32) -> Result<u8, Fault> {
+    match meaning_line(alloc, u64::from(number))? {
+        Some(line) => match print!(rt; "{line}") {
+            Ok(()) => Ok(0),
+            Err(e) => Err(Fault::Write(e)),
+        },
+        None => Ok(USAGE),
+    }
+}
+
+/// What the words ask for. What is told of wrong words is told of them as they are shown, without control characters.
+fn read<'a>(alloc: Global, words: &'a [String]) -> Result<Line<'a>, AllocError> {
+    match read_line(alloc, words)? {
+        Line::Wrong(_) => {}
+        line => return Ok(line),
+    }
+    let mut others = Vec::new(alloc);
+    for word in words {
+        others.push(shown(alloc, word.as_str())?)?;
+    }
+    let text = match read_line(alloc, others.as_slice())? {
+        Line::Wrong(text) => text,
+        _ => String::from_str(alloc, "error: a word holds a control character\n")?,
+    };
+    Ok(Line::Wrong(text))
+}
+
+/// Holds the descriptors of standard input, output and error where the program was started without them: else the next file that is opened, the
+/// store, would be taken for one of them, and a line for standard error written into it.
+fn hold_standard<R: Files<File = File>>(rt: &R) -> [Option<File>; 3] {
+    [null(rt), null(rt), null(rt)]
+}
+
+fn null<R: Files<File = File>>(rt: &R) -> Option<File> {
+    File::open(rt, "/dev/null").ok()
 }
 
 fn run_line<R>(rt: &R, alloc: Global, line: &Line<'_>) -> Result<u8, Fault>
@@ -108,6 +147,7 @@ where
         Line::Create(line) => Ok(create(rt, alloc, line)),
         Line::Ctl(line) => ctl(rt, alloc, line),
         Line::Serve(line) => Ok(serve_store(rt, alloc, line)),
+        Line::Help(number) => explain(rt, alloc, *number),
         Line::LongBoot => {
             let _unheard = eprintln!(rt; "E1 BadRequest");
             Ok(REFUSED)
@@ -130,10 +170,11 @@ where
     R: AllocGlobal + Env + Input + Print + Eprint + Files<File = File> + Net + Processes + Clock,
 {
     let alloc = rt.alloc();
+    let _held = hold_standard(rt);
     match env::args(rt) {
         Ok(args) => {
             let words: Vec<String> = args.collect(alloc)?;
-            let line = read_line(alloc, words.as_slice())?;
+            let line = read(alloc, words.as_slice())?;
             run_line(rt, alloc, &line)
         }
         Err(e) => match e.kind() {

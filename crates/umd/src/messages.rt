@@ -1,9 +1,12 @@
 //! What is told on standard error. Where that fails too, the exit status alone tells it.
 
+use crate::lines::put_line;
+use std::alloc::Global;
 use um_bin::Fault;
 use um_create::CreateFault;
-use um_ctl::CtlFault;
+use um_ctl::{CtlFault, meaning};
 use um_line::CtlLine;
+use um_wire::Refusal;
 
 /// The exit status where a request was refused, at a length past the limit, and where a growth of memory was refused.
 pub const REFUSED: u8 = 1;
@@ -32,31 +35,47 @@ pub fn status_of(fault: &Fault) -> u8 {
 }
 
 /// Says why no store was made.
-pub fn tell_create<R: Eprint>(rt: &R, fault: &CreateFault, path: &str) {
-    let _unheard = match fault {
-        CreateFault::Exists => eprintln!(rt; "E11 Exists {path}"),
-        CreateFault::File(fault) => eprintln!(rt; "umd: {path}: {fault}"),
-        CreateFault::Store(refusal) => eprintln!(rt; "{refusal}"),
-    };
+pub fn tell_create<R: Eprint>(rt: &R, alloc: Global, fault: &CreateFault, path: &str) {
+    match fault {
+        CreateFault::Exists => put_line(rt, alloc, format_args!("E11 Exists {path}")),
+        CreateFault::File(fault) => put_line(rt, alloc, format_args!("umd: {path}: {fault}")),
+        CreateFault::Store(refusal) => put_line(rt, alloc, format_args!("{refusal}")),
+    }
+}
+
+/// Says why nothing is served any more, and below it what that means and what to do.
+pub fn tell_ending<R: Eprint>(rt: &R, refusal: &Refusal) {
+    let _unheard = eprintln!(rt; "umd: ending: {refusal}");
+    if let Some(sentence) = meaning(refusal.number()) {
+        let _unheard = eprintln!(rt; "umd: {sentence}");
+    }
 }
 
 /// Says why there is no reply.
-pub fn ctl_fault<R: Eprint>(rt: &R, fault: &CtlFault, line: &CtlLine<'_>) {
+pub fn ctl_fault<R: Eprint>(rt: &R, alloc: Global, fault: &CtlFault, line: &CtlLine<'_>) {
     let verb = line.verb;
     let socket = line.socket;
-    let _unheard = match fault {
-        CtlFault::Usage => {
-            eprintln!(rt;
-                "error: {verb} isn't a verb with these arguments; 'umd ctl --help' tells of them"
-            )
+    match fault {
+        CtlFault::Usage => put_line(
+            rt,
+            alloc,
+            format_args!(
+                "error: {verb} isn't a verb with these arguments; 'umd ctl --help' lists the verbs"
+            ),
+        ),
+        CtlFault::TooLarge => put_line(rt, alloc, "E13 TooLarge text"),
+        CtlFault::NoText => put_line(rt, alloc, "error: the text of the file isn't UTF-8"),
+        CtlFault::NoConnection(e) => put_line(rt, alloc, format_args!("umd: {socket}: {e}")),
+        CtlFault::Input(e) => {
+            put_line(rt, alloc, format_args!("umd: reading standard input: {e}"))
         }
-        CtlFault::TooLarge => eprintln!(rt; "E13 TooLarge text"),
-        CtlFault::NoText => eprintln!(rt; "error: the text of the file isn't UTF-8"),
-        CtlFault::NoConnection(e) => eprintln!(rt; "umd: {socket}: {e}"),
-        CtlFault::Input(e) => eprintln!(rt; "umd: reading standard input: {e}"),
-        CtlFault::Read(e) => eprintln!(rt; "umd: reading {socket}: {e}"),
-        CtlFault::Write(e) => eprintln!(rt; "umd: writing {socket}: {e}"),
-        CtlFault::NoReply => eprintln!(rt; "umd: {socket}: what came is no reply"),
-        CtlFault::NoMemory => eprintln!(rt; "E15 NoMemory"),
-    };
+        CtlFault::Read(e) => put_line(rt, alloc, format_args!("umd: reading {socket}: {e}")),
+        CtlFault::Write(e) => put_line(rt, alloc, format_args!("umd: writing {socket}: {e}")),
+        CtlFault::NoReply => put_line(
+            rt,
+            alloc,
+            format_args!("umd: {socket}: what came is no reply"),
+        ),
+        CtlFault::NoMemory => put_line(rt, alloc, "E15 NoMemory"),
+    }
 }

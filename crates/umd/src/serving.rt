@@ -1,28 +1,27 @@
 //! `umd serve`: one loop over a store, children and a socket.
 
-use crate::messages::{DEVICE, REFUSED};
-use crate::standing::tell_standing;
+use crate::lines::Lines;
+use crate::messages::{DEVICE, REFUSED, tell_ending};
+use crate::places::{Taken, lacks, take_places};
 use crate::telling::{News, Tally, Telling};
 use std::alloc::Global;
-use std::fmt::Display;
 use std::fs::{File, Files};
 use std::net::Net;
 use std::process::Processes;
-use std::time::{Clock, Duration};
-use um_children::{Children, RunnerDir};
-use um_filedisk::FileDisk;
-use um_gate::{Moments, SocketGate, SystemMoments};
+use std::time::Clock;
+use um_children::Children;
+use um_gate::{Moments, SocketGate, SystemMoments, system_moment};
+use um_keeper::OpenedStore;
 use um_line::ServeLine;
 use um_manager::Manager;
+use um_model::Deadline;
+use um_sector::Disk;
 use um_serve::{Pace, Rounds, serve};
 use um_state::BootId;
 use um_wire::Refusal;
 
 /// Behind a sleep of so many parts, of 40 ms at most while a process is live, comes a round in any case.
 const PARTS: u32 = 25;
-
-/// Where a round found no memory the next one comes so many milliseconds later.
-const PAUSE: u64 = 10;
 
 /// Why nothing is served any more, as a line on standard error, and the exit status.
 #[derive(Clone, Copy)]
@@ -32,7 +31,7 @@ struct End {
 
 /// Says why nothing is served, and gives the exit status. Where standard error fails too, the exit status alone tells it.
 fn ends<R: Eprint>(rt: &R, refusal: Refusal) -> End {
-    let _unheard = eprintln!(rt; "umd: ending: {refusal}");
+    tell_ending(rt, &refusal);
     End {
         status: match refusal {
             Refusal::Device | Refusal::Reopen => DEVICE,
@@ -41,10 +40,15 @@ fn ends<R: Eprint>(rt: &R, refusal: Refusal) -> End {
     }
 }
 
-/// Says that something that is needed isn't there.
-fn lacks<R: Eprint, E: Display>(rt: &R, path: &str, fault: &E) -> End {
-    let _unheard = eprintln!(rt; "umd: {path}: {fault}");
-    End { status: DEVICE }
+/// Says how the store stood that was opened.
+fn tell_opened<R: Eprint>(rt: &R, opened: OpenedStore) {
+    let OpenedStore {
+        generation,
+        records,
+    } = opened;
+    let _unheard = eprintln!(rt;
+        "umd: the store is of generation {generation}, {records} records are replayed"
+    );
 }
 
 fn boot_id(alloc: Global, boot: &str) -> Result<BootId, Refusal> {
@@ -57,17 +61,6 @@ fn boot_id(alloc: Global, boot: &str) -> Result<BootId, Refusal> {
     }
 }
 
-/// The next deadline of the units, in microseconds; the last one that was known, where there is no memory to look.
-fn next_deadline<C: Children>(manager: &Manager<FileDisk, C>, known: Option<u64>) -> Option<u64> {
-    match manager.state().units().deadlines() {
-        Ok(timers) => match timers.next_due() {
-            Some((deadline, _)) => Some(deadline.micros()),
-            None => None,
-        },
-        Err(_) => known,
-    }
-}
-
 /// What goes from one round to the next in the program.
 #[derive(Drop)]
 struct Loop<'a, R> {
@@ -75,61 +68,64 @@ struct Loop<'a, R> {
     clock: SystemMoments<'a, R>,
     rounds: Rounds,
     pace: Pace,
-    deadline: Option<u64>,
+    /// The deadline that is slept for, as it was looked up last.
+    deadline: Option<Deadline>,
+    /// There may be another deadline to sleep for since then.
+    is_stale: bool,
 }
 
 impl<'a, R: Clock> Loop<'a, R> {
-    /// One round, and a sleep where nothing came in it.
-    fn step<C: Children + News>(
+    /// One round, and a sleep where nothing more is to be done at once. A refusal ends the serving, want of memory too.
+    fn step<D: Disk, C: Children + News>(
         &mut self,
-        manager: &mut Manager<FileDisk, C>,
+        manager: &mut Manager<D, C>,
         tally: &Tally,
     ) -> Result<(), Refusal> {
         tally.look();
-        match serve(
+        serve(
             manager,
             &mut self.gate,
             &mut self.clock,
             &mut self.rounds,
             1,
-        ) {
-            Ok(()) => {}
-            Err(Refusal::NoMemory) => {
-                let _is_hint = self.gate.wait(Duration::from_millis(PAUSE));
-                return Ok(());
-            }
-            Err(refusal) => return Err(refusal),
-        }
-        self.rest(manager, tally);
-        Ok(())
+        )?;
+        self.rest(manager, tally)
     }
 
-    /// Whether the next deadline has come.
+    /// Whether the deadline that is slept for has come.
     fn is_due(&mut self) -> bool {
         let now = self.clock.moment();
-        self.deadline.is_some_and(|micros| micros <= now.micros())
+        self.deadline
+            .is_some_and(|deadline| deadline.micros() <= now.micros())
     }
 
-    /// Sleeps until there is something to do, unless something came.
-    fn rest<C: Children + News>(&mut self, manager: &Manager<FileDisk, C>, tally: &Tally) {
+    /// Sleeps until there is something to do, unless another round may have more to do at once. E15 where the deadlines find no memory.
+    fn rest<D: Disk, C: Children + News>(
+        &mut self,
+        manager: &Manager<D, C>,
+        tally: &Tally,
+    ) -> Result<(), Refusal> {
         if tally.has_turned() {
             self.pace.begin();
         }
-        if tally.has_turned() || self.rounds.was_busy() || self.is_due() {
-            self.deadline = next_deadline(manager, self.deadline);
-        }
+        self.is_stale |= tally.has_turned() || self.rounds.was_busy();
         if self.rounds.was_busy() {
-            return;
+            return Ok(());
+        }
+        if self.is_stale || self.is_due() {
+            self.deadline = self.rounds.deadline(manager)?;
+            self.is_stale = false;
         }
         if tally.is_live() && manager.children().has_news() {
             self.pace.hasten();
         }
         self.sleep(manager, tally.is_live());
+        Ok(())
     }
 
     /// Sleeps until the next deadline, a byte, a client, or news of the processes that are live, a second at most. No round is needed before:
     /// it would take nothing, and its fates would tell nothing new.
-    fn sleep<C: Children + News>(&mut self, manager: &Manager<FileDisk, C>, is_live: bool) {
+    fn sleep<D: Disk, C: Children + News>(&mut self, manager: &Manager<D, C>, is_live: bool) {
         for _ in 0..PARTS {
             let wait = self.pace.next(is_live, self.clock.moment(), self.deadline);
             if self.gate.wait(wait) || !is_live || manager.children().has_news() || self.is_due() {
@@ -140,48 +136,53 @@ impl<'a, R: Clock> Loop<'a, R> {
 }
 
 /// Opens the manager and serves it, until it fails.
-fn serve_over<R>(rt: &R, alloc: Global, line: &ServeLine<'_>) -> Result<u8, End>
+fn serve_over<R>(system: &R, alloc: Global, line: &ServeLine<'_>) -> Result<u8, End>
 where
     R: Files<File = File> + Net + Processes + Clock + Eprint,
 {
+    let lines = Lines::new(system, alloc);
+    let rt = &lines;
     let boot = match boot_id(alloc, line.boot) {
         Ok(boot) => boot,
         Err(refusal) => return Err(ends(rt, refusal)),
     };
-    let mut disk = match FileDisk::open(rt, line.file) {
-        Ok(disk) => disk,
-        Err(fault) => return Err(lacks(rt, line.file, &fault)),
+    let Taken {
+        disk,
+        children,
+        lock: _lock,
+    } = match take_places(system, rt, alloc, line) {
+        Ok(taken) => taken,
+        Err(status) => return Err(End { status }),
     };
-    let children = match RunnerDir::open(rt, alloc, line.runner, line.dir) {
-        Ok(children) => children,
-        Err(fault) => return Err(lacks(rt, line.dir, &fault)),
-    };
-    let gate = match SocketGate::open(rt, alloc, line.socket) {
-        Ok(gate) => gate,
-        Err(fault) => return Err(lacks(rt, line.socket, &fault)),
-    };
-    tell_standing(rt, alloc, &mut disk);
     let tally = Tally::new();
-    let mut clock = SystemMoments::new(rt);
-    let moment = clock.moment();
     let children = Telling::new(children, rt, &tally);
-    let mut manager = match Manager::open(alloc, disk, children, boot, moment) {
+    let mut manager = match Manager::open(alloc, disk, children, boot, system_moment(system)) {
         Ok(manager) => manager,
         Err((refusal, _, _)) => return Err(ends(rt, refusal)),
     };
+    tell_opened(rt, manager.opened());
     let (adopted, lost) = (manager.adopted(), tally.absent());
     let _unheard = eprintln!(rt; "umd: {adopted} processes adopted, of which {lost} are lost");
     let Ok(rounds) = Rounds::new(alloc) else {
         return Err(ends(rt, Refusal::NoMemory));
     };
+    // only now: a store that can't be opened takes no socket
+    let gate = match SocketGate::open(system, alloc, line.socket) {
+        Ok(gate) => gate,
+        Err(fault) => {
+            return Err(End {
+                status: lacks(rt, line.socket, &fault),
+            });
+        }
+    };
     let mut state = Loop {
         gate,
-        clock,
+        clock: SystemMoments::starting(system, manager.state().clock()),
         rounds,
         pace: Pace::new(),
         deadline: None,
+        is_stale: true,
     };
-    state.deadline = next_deadline(&manager, None);
     for _ in 0..u64::MAX {
         if let Err(refusal) = state.step(&mut manager, &tally) {
             return Err(ends(rt, refusal));

@@ -3,7 +3,7 @@ use Rattle.um_model.specs.Jobs.{cancelled, jobs_of_unit}
 use Rattle.um_model.specs.Machine as model
 use Rattle.um_model.specs.Refusals.{Refused}
 use Rattle.um_model.specs.Machine.{State}
-use Rattle.um_model.specs.Units.{load, name_in}
+use Rattle.um_model.specs.Units.{unit_named}
 use Rattle.um_state.specs.View.{state_of}
 use Rattle.um_engine.specs.Known.{KnownView}
 use Rattle.um_answer.specs.Loaded.{Loads}
@@ -20,7 +20,7 @@ returns-clause-changed c =
     let tree : c.loaded.result.now ≡ s.loaded = c.loaded.ensures ∙ ap (λ (x : State). x.loaded) c.state-state.ensures.state in
     let loads : Loads c.graph.result.now c.loaded.result.now =
     subst (λ g. Loads g c.loaded.result.now) (sym graph) (subst (Loads known.graph) (sym tree) c.known.ensures.knows.made.of.loaded) in
-    let leads : unit ≡ model.unit_asked s asked = c.in_ok-leads.ensures.unit loads ∙ ap (λ t. name_in asked (load t asked)) tree in
+    let leads : unit ≡ model.unit_asked s asked = c.in_ok-leads.ensures.unit loads ∙ ap (λ t. unit_named t asked) tree in
     let pending : c.pending.result.now ≡ s.pending = c.pending.ensures ∙ ap (λ (x : State). x.pending) c.state-state.ensures.state in
     let jobs : c.cancelled-jobs.result ≡ cancelled (model.jobs_asked s asked) =
     c.cancelled-jobs.ensures ∙ ap cancelled (c.get.ensures.jobs ∙ (ap (λ p. jobs_of_unit p unit) pending ∙ ap (jobs_of_unit s.pending) leads)) in

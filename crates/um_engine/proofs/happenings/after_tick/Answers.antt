@@ -1,7 +1,14 @@
-use Rattle.std.proofs.Common.{◌∙◌, map, sym, ap, true≢false}
+use Rattle.std.proofs.Common.{◌∙◌, map, sym, ap, subst, true≢false}
 use Rattle.um_state.specs.View.{state_of, action_of}
-use Rattle.um_engine.proofs.Ticks.{serves_copy, tick_follows, tick_idle, tick_acts}
+use Rattle.um_engine.proofs.Ticks.{serves_copy, tick_follows, tick_idle, tick_acts, none_due_idle}
+use Rattle.um_state.specs.Due.{NoneDue}
 use Rattle.um_engine.proofs.happenings.after_tick.Goals as goal
+
+pub returns-then-none_due-clause-met : goal.returns-then-none_due-clause-met
+returns-then-none_due-clause-met c = λ serves. (
+  none_due_idle c.args.moment (state_of c.args.state.now) (subst (NoneDue c.args.moment) c.units.ensures (c.none_due.ensures.0 c.if-none_due.true)),
+  ap (map action_of) c.new-actions.ensures.items,
+)
 
 pub returns-then-is_idle-clause-met : goal.returns-then-is_idle-clause-met
 returns-then-is_idle-clause-met c = λ serves.

@@ -1,6 +1,6 @@
 use Rattle.std.proofs.Common.{◌≡◌, ◌∙◌, ap}
 use Rattle.std.proofs.lemmas.Bool.Decides.{Decides-at}
-use Rattle.um_model.specs.Ends.{is_starting, has_one_command}
+use Rattle.um_model.specs.Ends.{waits_for_report, has_one_command}
 use Rattle.um_model.specs.Dependencies.{loadable_in}
 use Rattle.um_model.specs.Settings.{ServiceSettings}
 use Rattle.um_falling.specs.Acting.{Acts}
@@ -18,5 +18,5 @@ returns c = λ serves known.
     let acting = c.in_graph-acting.ensures s serves known in
     let stands : c.get-stands.result ≡ state_of_unit s.units unit = c.get-stands.ensures.state ∙ ap (λ units. state_of_unit units unit) c.units.ensures in
     Decides-at c.awaits.result _ c.awaits.ensures
-    (report_decided s c.args.number unit _ _ _ (ap (λ (u : UnitState). is_starting u.sub) stands) (ap (λ (a : Acts). has_one_command a.settings.kind) acting ∙ ap (λ (x : ServiceSettings). has_one_command x.kind) (acts_by (loadable_in s.loaded unit)))
+    (report_decided s c.args.number unit _ _ _ (ap (λ (u : UnitState). waits_for_report u.sub) stands) (ap (λ (a : Acts). has_one_command a.settings.kind) acting ∙ ap (λ (x : ServiceSettings). has_one_command x.kind) (acts_by (loadable_in s.loaded unit)))
     (ap (λ (u : UnitState). is_number c.args.number u.main) stands))

@@ -1,5 +1,5 @@
-use Rattle.um_model.proofs.ServableLaws.{empty_servable}
+use Rattle.um_model.proofs.ServableLaws.{blank_servable}
 use Rattle.um_engine.proofs.laws.a_store_may_hold_the_empty_state.Goals as goal
 
 pub returns : goal.returns
-returns c = empty_servable
+returns c = blank_servable

@@ -2,7 +2,7 @@ use Rattle.std.proofs.Common.{◌≡◌, ◌∙◌, sym, subst}
 use Rattle.um_engine.specs.Engine.{state_in}
 use Rattle.um_model.specs.Disk.{seen, IsSettled, During, after, synced}
 use Rattle.um_model.proofs.DiskLaws.{settled_after_sync}
-use Rattle.um_keeper.specs.Opening.{IsAsBefore, IsTakenUp}
+use Rattle.um_keeper.specs.Opening.{IsAsBefore, IsTakenUp, IsRead}
 use Rattle.um_keeper.proofs.Results.{if_ok_from}
 use Rattle.um_keeper.proofs.Reopening.{synced_before, goes_on_before, next_of}
 use Rattle.um_keeper.proofs.opening.recover.Goals as goal
@@ -56,4 +56,17 @@ returns-clause-taken g c =
     facts.0 facts.2 facts.3 facts.4
     (subst (λ n. IsTakenUp n (seen p0) found.layout found.home.slot found.home.generation (state_in found.engine)) c.sync.ensures.size
     (subst (λ p. IsTakenUp (g.D.Disk.size c.sync.new.self) (seen p) found.layout found.home.slot found.home.generation (state_in found.engine)) synced_it (c.in_ok-found.ensures.found h1))))
+    c.renew.ensures.held
+
+pub returns-clause-opened : goal.returns-clause-opened
+returns-clause-opened g c =
+    if_ok_from c.renew.result _ _
+    (λ held facts h.
+    let p0 = g.D.Disk.past c.args.disk.now in
+    let found = c.in_ok-found.found in
+    let h1 = c.sync.ensures.honest ∙ h in
+    let synced_it : g.D.Disk.past c.sync.new.self ≡ after synced p0 = c.in_ok-sync.ensures.past h in
+    subst (λ l. IsRead l (seen p0) held.opened) (sym facts.2)
+    (subst (IsRead found.layout (seen p0)) (sym facts.7)
+    (subst (λ p. IsRead found.layout (seen p) (record { generation = found.home.generation; records = found.records })) synced_it (c.in_ok-found.ensures.read h1))))
     c.renew.ensures.held

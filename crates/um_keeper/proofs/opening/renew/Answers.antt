@@ -53,7 +53,7 @@ returns-clause-ok g c h settled taken =
     let some = λ (P : _ → Type 0) (o : IfSome c.in_ok-home.field-0 P). subst (λ x. IfSome x P) c.in-Some.is o in
     let on = some _ c.in_ok-home.ensures.ok h taken.body stores in
     let kept = keeps_anew (g.met.D.Disk.seen_is_image c.write_other.new.disk (c.write_other.ensures.honest ∙ h))
-    (subst (λ b. GoesOn layout past c.in-Some.home.slot c.in-Some.home.generation b [] 0 (log_start layout c.in-Some.home.generation)) body on)
+    (subst (λ b. GoesOn layout past c.in-Some.home.slot c.in-Some.home.generation b [] c.in-Some.home.generation 0 (log_start layout c.in-Some.home.generation)) body on)
     c.requires.kept.fits (subst (λ n. IsServable n s) c.requires.kept.size_is c.requires.kept.servable) (subst (λ n. sectors.store_sectors layout ≤ n) (sym c.write_other.ensures.size) c.requires.room) in
     subst (λ l. Keeps past (g.D.Disk.size c.write_other.new.disk) l c.in-Some.home.slot c.in-Some.home.generation c.new.result.number c.new.result.next s) (sym c.new.ensures.of.0)
     (subst (λ n. Keeps past (g.D.Disk.size c.write_other.new.disk) layout c.in-Some.home.slot c.in-Some.home.generation n c.new.result.next s) (sym c.new.ensures.empty.0)

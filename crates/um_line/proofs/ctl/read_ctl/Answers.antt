@@ -8,5 +8,5 @@ returns-in-Ok c =
 
 pub returns-in-Err : goal.returns-in-Err
 returns-in-Err c =
-    mistaken_by _ ctl_words _ _ c.in-Err.mistake c.line_of_mistake.result c.in_ok-command.ensures ctl_simple c.in-Err.ensures.kinds c.line_of_mistake.ensures.line
-    c.line_of_mistake.ensures.memory
+    mistaken_by _ ctl_words _ _ c.in-Err.mistake c.line_of_ctl_mistake.result c.in_ok-command.ensures ctl_simple c.in-Err.ensures.kinds c.line_of_ctl_mistake.ensures.line
+    c.line_of_ctl_mistake.ensures.memory

@@ -37,7 +37,7 @@ loop-step-preserved g c =
           )));
       whole = search rules;
       honest = search rules;
-      place = record { layout = c.turn.ensures.place.layout ∙ inv.place.layout; size = c.turn.ensures.place.size ∙ inv.place.size };
+      place = record { layout = c.turn.ensures.place.layout ∙ inv.place.layout; size = c.turn.ensures.place.size ∙ inv.place.size; opened = c.turn.ensures.place.opened ∙ inv.place.opened };
       disk = c.turn.ensures.disk ∙ inv.disk;
       failed = same_failed c.in_ok-turn.was c.turn.ensures.failed ∙ inv.failed;
       each = search rules;

@@ -17,9 +17,9 @@ loop-preserved g c =
     let start = place_in (D.honest (disk_in first)) first in
     let there = place_in (D.honest (disk_in old)) old in
     let same : there ≡ start = same_place inv.place.size inv.place.layout inv.disk inv.failed in
-    let before = served (g.G.Gate.past c.loop.gate) (g.M.Moments.given c.loop.clock) c.loop.rounds.is_owed c.loop.rounds.pieces c.loop.rounds.backlog c.loop.rounds.was_busy
+    let before = served (g.G.Gate.past c.loop.gate) (g.M.Moments.given c.loop.clock) c.loop.rounds.is_owed c.loop.rounds.pieces c.loop.rounds.backlog c.loop.rounds.was_busy c.loop.rounds.turned
     (now (state_in old) (g.C.Children.past c.loop.manager.children) c.loop.manager.marks c.loop.manager.sessions.items (D.past (disk_in old))) in
-    let after = served (g.G.Gate.past c.round.new.gate) (g.M.Moments.given c.round.new.clock) c.round.new.self.is_owed c.round.new.self.pieces c.round.new.self.backlog c.round.new.self.was_busy
+    let after = served (g.G.Gate.past c.round.new.gate) (g.M.Moments.given c.round.new.clock) c.round.new.self.is_owed c.round.new.self.pieces c.round.new.self.backlog c.round.new.self.was_busy c.round.new.self.turned
     (now (state_in m.keeper) (g.C.Children.past m.children) m.marks m.sessions.items (D.past (disk_in m.keeper))) in
     record {
       done = λ rounds result y trust rest.
@@ -34,7 +34,7 @@ loop-preserved g c =
       gate = search rules;
       moments = search rules;
       clock = search rules;
-      place = record { layout = c.round.ensures.place.layout ∙ inv.place.layout; size = c.round.ensures.place.size ∙ inv.place.size };
+      place = record { layout = c.round.ensures.place.layout ∙ inv.place.layout; size = c.round.ensures.place.size ∙ inv.place.size; opened = c.round.ensures.place.opened ∙ inv.place.opened };
       disk = c.round.ensures.disk ∙ inv.disk;
       failed = same_failed c.in-Ok.is c.round.ensures.failed ∙ inv.failed;
     }
@@ -55,9 +55,9 @@ returns-in-Err-clause-serves g c = λ trust.
     let start = place_in (D.honest (disk_in first)) first in
     let there = place_in (D.honest (disk_in old)) old in
     let same : there ≡ start = same_place inv.place.size inv.place.layout inv.disk inv.failed in
-    let before = served (g.G.Gate.past c.loop.gate) (g.M.Moments.given c.loop.clock) c.loop.rounds.is_owed c.loop.rounds.pieces c.loop.rounds.backlog c.loop.rounds.was_busy
+    let before = served (g.G.Gate.past c.loop.gate) (g.M.Moments.given c.loop.clock) c.loop.rounds.is_owed c.loop.rounds.pieces c.loop.rounds.backlog c.loop.rounds.was_busy c.loop.rounds.turned
     (now (state_in old) (g.C.Children.past c.loop.manager.children) c.loop.manager.marks c.loop.manager.sessions.items (D.past (disk_in old))) in
-    let after = served (g.G.Gate.past c.round.new.gate) (g.M.Moments.given c.round.new.clock) c.round.new.self.is_owed c.round.new.self.pieces c.round.new.self.backlog c.round.new.self.was_busy
+    let after = served (g.G.Gate.past c.round.new.gate) (g.M.Moments.given c.round.new.clock) c.round.new.self.is_owed c.round.new.self.pieces c.round.new.self.backlog c.round.new.self.was_busy c.round.new.self.turned
     (now (state_in m.keeper) (g.C.Children.past m.children) m.marks m.sessions.items (D.past (disk_in m.keeper))) in
     let last = last_of there c.in-Err.refusal before after
     (c.in-Err.ensures.serves (subst IsTrue (sym inv.honest) trust.0, trust.1, subst IsTrue (sym inv.gate) trust.2, trust.3, subst IsTrue (sym inv.clock) trust.4, trust.5)) in

@@ -36,7 +36,7 @@ returns-clause-ok g c h before stores =
     let new = g.D.Disk.past c.write_slot.new.disk in
     let is = g.met.D.Disk.seen_is_image c.args.disk.now h in
     let last = (stores (seen old) is).newest.header.last in
-    subst (λ (s : Slot). GoesOn c.args.layout new s (c.args.home.generation + 1) c.args.body.now [] 0 (log_start c.args.layout (c.args.home.generation + 1))) (sym c.other.ensures)
+    subst (λ (s : Slot). GoesOn c.args.layout new s (c.args.home.generation + 1) c.args.body.now [] (c.args.home.generation + 1) 0 (log_start c.args.layout (c.args.home.generation + 1))) (sym c.other.ensures)
     (goes_on_other old stores (omega (arith, c.if-home-eq18446744073709551615.false, last)) (omega (arith, c.if-body-body_limit.false, c.body_limit.ensures)) is
     (subst (λ (s : Slot). MaybeSnapshot c.args.layout (seen old) s (c.args.home.generation + 1) c.args.body.now (seen new)) c.other.ensures (c.in_ok-write_slot.ensures.beside h))
     (subst (λ (s : Slot). IsSnapshot c.args.layout (seen new) s (c.args.home.generation + 1) c.args.body.now) c.other.ensures (c.in_ok-write_slot.ensures.written h))

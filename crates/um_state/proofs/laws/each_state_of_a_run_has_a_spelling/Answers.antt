@@ -2,4 +2,4 @@ use Rattle.um_model.proofs.FitStateLaws.{fits_after}
 use Rattle.um_state.proofs.laws.each_state_of_a_run_has_a_spelling.Goals as goal
 
 pub returns : goal.returns
-returns c = fits_after
+returns c size s inputs t blank has fit run = fits_after size s inputs t blank has fit run

@@ -79,6 +79,7 @@ loop-input-preserved g c =
       calls = calls_left inv.layout step _ _ _ _ c.take_one.ensures.calls inv.calls;
       layout = c.take_one.ensures.place.layout ∙ inv.layout;
       size = c.take_one.ensures.place.size ∙ inv.size;
+      opened = c.take_one.ensures.place.opened ∙ inv.opened;
       failures = told.device ∙ inv.failures;
       sectors = c.take_one.ensures.size ∙ inv.sectors;
       honest = c.take_one.ensures.honest ∙ inv.honest;

@@ -5,7 +5,7 @@ use Rattle.um_model.specs.Lives.{HasInOrder}
 use Rattle.um_model.specs.Machine as model
 use Rattle.um_state.specs.View.{input_of}
 use Rattle.um_keeper.specs.Answering.{Answer, AreAnswered, taken, IsIdle, NeedNoRecord, IsSpentIn, most_calls, state_before_all}
-use Rattle.um_keeper.specs.Keepers.{disk_in, state_in, size_in, layout_in, generation_in, has_failed}
+use Rattle.um_keeper.specs.Keepers.{disk_in, state_in, size_in, layout_in, generation_in, has_failed, opened_in}
 use Rattle.um_keeper.specs.Keeping.{IsBegun}
 use Rattle.um_keeper.proofs.keeper.Keeper.take_all.Given as goal
 
@@ -34,6 +34,7 @@ invariant-loop-input g l =
       calls : D.calls (disk_in l.self) + most_calls (layout_in first) left ≤ D.calls (disk_in first) + most_calls (layout_in first) all;
       layout : layout_in l.self ≡ layout_in first;
       size : size_in l.self ≡ size_in first;
+      opened : opened_in l.self ≡ opened_in first;
       failures : D.failures (disk_in l.self) ≡ D.failures (disk_in first);
       sectors : D.size (disk_in l.self) ≡ D.size (disk_in first);
       honest : D.honest (disk_in l.self) ≡ D.honest (disk_in first);

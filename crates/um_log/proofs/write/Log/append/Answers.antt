@@ -63,6 +63,6 @@ returns-clause-ok g c is_ok h slot body records ready =
     let room = c.fits.ensures.0 c.if-not-fits.false in
     let count = c.in_ok-run.ensures.count in
     let size : log.next + part_count (length c.args.bytes.now) ≡ log.next + c.len.result = omega (arith, c.len.ensures, c.in_ok-run.run'.ok, count) in
-    subst (λ (n : ℕ). GoesOn log.layout new slot log.generation body (records ++ c.args.bytes.now ∷ []) (log.number + 1) n) size
+    subst (λ (n : ℕ). GoesOn log.layout new slot log.generation body (records ++ c.args.bytes.now ∷ []) log.generation (log.number + 1) n) size
     (goes_on_record log.layout log.generation log.number log.next c.args.bytes.now c.in_ok-run.run'.items last room.some room.short room.within count c.in_ok-run.ensures.each old new slot body records ready is
     (subst (λ (r : List Sector). IsLaid (seen old) log.next r (seen new)) c.deref.ensures.value (c.in_ok-write_run_synced.ensures.ok h)) (c.in_ok-write_run_synced.ensures.settled h))

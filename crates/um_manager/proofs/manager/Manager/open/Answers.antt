@@ -1,7 +1,7 @@
 use Rattle.std.proofs.Common.{◌≡◌, ◌∷◌, [], inl, refl, sym, subst}
 use Rattle.std.specs.Bool.{IsTrue}
-use Rattle.um_keeper.specs.Keepers.{disk_in, state_in, layout_in, has_failed}
-use Rattle.um_keeper.specs.Opening.{IsSomeStore}
+use Rattle.um_keeper.specs.Keepers.{disk_in, state_in, layout_in, has_failed, opened_in}
+use Rattle.um_keeper.specs.Opening.{IsRead, IsSomeStore}
 use Rattle.um_keeper.specs.Answering.{taken}
 use Rattle.um_model.proofs.DiskLaws.{weaker}
 use Rattle.um_model.proofs.StandsLaws.{one_layout}
@@ -69,3 +69,9 @@ returns-in-Err-begin-clause-err g c = λ h w sure layout images.
 
 pub returns-in-Ok-begin-clause-sized : goal.returns-in-Ok-begin-clause-sized
 returns-in-Ok-begin-clause-sized g c = c.begin.new.keeper.holds.size_is
+
+pub returns-in-Ok-begin-clause-read : goal.returns-in-Ok-begin-clause-read
+returns-in-Ok-begin-clause-read g c = λ h.
+    let first = seen (g.D.Disk.past c.args.disk) in
+    subst (λ (z : Layout). IsRead z first (opened_in c.begin.new.keeper)) (sym c.begin.ensures.place.layout)
+    (subst (IsRead (layout_in c.in-Ok.keeper) first) (sym c.begin.ensures.place.opened) (c.in-Ok.ensures.opened h))

@@ -1,0 +1,6 @@
+use Rattle.std.specs.Str.{chars}
+use Rattle.um_ctl.proofs.ShownLaws.{plain_chars, same_text}
+use Rattle.um_ctl.proofs.laws.what_is_shown_has_no_control_character.Goals as goal
+
+pub returns : goal.returns
+returns c = record { plain = λ text. plain_chars (chars text); same = same_text }

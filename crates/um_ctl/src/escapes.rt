@@ -1,0 +1,62 @@
+//! Text as it is shown on standard error, where a control character of a name, a path or a key could mislead a terminal or a script.
+
+ghost use Rattle.std.specs.Prelude.{◌≡◌, ◌++◌, ◌<◌, IfOk, OnOk, flat_map, string_bytes};
+ghost use Rattle.std.specs.Char.{digit_char};
+ghost use Rattle.std.specs.Str.{encode_utf8_all};
+ghost use Rattle.um_ctl.specs.Shown as model;
+ghost use Rattle.um_model.specs.Names.{byte_escape};
+
+use std::alloc::{AllocError, Global};
+
+/// The lower-case hexadecimal digit of a number below 16.
+fn hex_digit(n: u8) -> char
+    requires { n < 16 }
+    ensures value { result ≡ digit_char n }
+    ensures ascii { result < 128 }
+{
+    char::from(if n < 10 { b'0' + n } else { b'a' - 10 + n })
+}
+
+/// Puts `\x` and the two digits of a byte.
+fn push_byte(text: &mut String, byte: u8) -> Result<(), AllocError>
+    ensures { OnOk result (string_bytes text.new ≡ string_bytes text.old ++ byte_escape byte) }
+{
+    text.push_str("\\x")?;
+    text.push(hex_digit(byte / 16))?;
+    text.push(hex_digit(byte % 16))
+}
+
+/// Puts `\x` and two digits for each of the bytes.
+fn push_bytes(text: &mut String, bytes: &[u8]) -> Result<(), AllocError>
+    ensures { OnOk result (string_bytes text.new ≡ string_bytes text.old ++ flat_map byte_escape bytes.now) }
+{
+    for byte in bytes {
+        push_byte(text, *byte)?;
+    }
+    Ok(())
+}
+
+/// Puts a character as it is shown.
+#[tactic(auto, using(crate::proofs::ShownLaws::escapes_of_control))]
+fn push_shown(text: &mut String, c: char) -> Result<(), AllocError>
+    ensures { OnOk result (string_bytes text.new ≡ string_bytes text.old ++ encode_utf8_all (model.shown_char c)) }
+{
+    if c.is_control() {
+        let mut buffer = [0; 4];
+        push_bytes(text, c.encode_utf8(&mut buffer).as_bytes())
+    } else {
+        text.push(c)
+    }
+}
+
+/// The text as it is shown on standard error: a control character (below U+0020, and U+007F to U+009F) as `\x` and two lower-case
+/// hexadecimal digits for each of its bytes in UTF-8, so a line feed as `\x0a`; any other character as it is.
+pub fn shown(alloc: Global, text: &str) -> Result<String, AllocError>
+    ensures { IfOk result (λ s. string_bytes s ≡ model.shown text.now) }
+{
+    let mut all = String::new(alloc);
+    for c in text.chars() {
+        push_shown(&mut all, c)?;
+    }
+    Ok(all)
+}

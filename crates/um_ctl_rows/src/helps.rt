@@ -1,0 +1,93 @@
+//! What the help says of verbs and refusals, and text as it is shown.
+use std::process::Abort;
+use um_ctl::{meaning_line, shown, verb_lines};
+
+/// How each verb is called.
+const VERBS: &str = "  put-file <path> < FILE
+  put-link <path> <target>
+  remove <path>
+  daemon-reload
+  start [--mode <MODE>] <unit>
+  stop [--mode <MODE>] <unit>
+  restart [--mode <MODE>] <unit>
+  try-restart [--mode <MODE>] <unit>
+  cancel <unit>
+  reset-failed [unit]
+  enable <unit>
+  disable <unit>
+  mask <unit>
+  unmask <unit>
+  show <unit>
+  is-active <unit>
+  is-failed <unit>
+  is-enabled <unit>
+  cat <unit>
+  list-units
+  list-jobs
+";
+
+#[test]
+fn each_verb_has_a_line_with_its_arguments(rt: HostRuntime) {
+    let lines = verb_lines(rt.alloc()).expect(&rt, "no memory");
+    assert!(rt; lines.as_str() == VERBS, "{lines}");
+}
+
+/// How the line of each refusal begins, the first first.
+const REFUSALS: &[&str] = &[
+    "E1 BadRequest: ",
+    "E2 UnknownVerb: ",
+    "E3 BadName: ",
+    "E4 NotFound: ",
+    "E5 Masked: ",
+    "E6 BadSetting: ",
+    "E7 NotLoaded: ",
+    "E8 Clash: ",
+    "E9 OrderingCycle: ",
+    "E10 JobConflict: ",
+    "E11 Exists: ",
+    "E12 BadPath: ",
+    "E13 TooLarge: ",
+    "E14 NoRoom: ",
+    "E15 NoMemory: ",
+    "E16 Device: ",
+    "E17 Reopen: ",
+    "E18 Damaged: ",
+    "E19 NotFormatted: ",
+    "E20 GenerationsSpent: ",
+    "E21 NoSuchJob: ",
+    "E22 OtherLayout: ",
+];
+
+#[test]
+fn each_refusal_has_a_sentence_and_no_other_number_has_one(rt: HostRuntime) {
+    for (at, front) in REFUSALS.iter().enumerate() {
+        let line = meaning_line(rt.alloc(), at as u64 + 1).expect(&rt, "no memory");
+        let line = line.expect(&rt, "no sentence");
+        assert!(rt; line.starts_with(*front) && line.ends_with(".\n"), "{line}");
+    }
+    for number in [0, 23, u64::MAX] {
+        let line = meaning_line(rt.alloc(), number).expect(&rt, "no memory");
+        assert!(rt; line.is_none(), "{number}");
+    }
+}
+
+/// Texts, and how they are shown.
+const SHOWN: &[(&str, &str)] = &[
+    ("", ""),
+    ("a b.service", "a b.service"),
+    ("a\\x0a", "a\\x0a"),
+    ("a\nb", "a\\x0ab"),
+    ("\0\u{1f} \u{7f}", "\\x00\\x1f \\x7f"),
+    (
+        "\u{80}\u{9f}\u{a0}\u{e4}",
+        "\\xc2\\x80\\xc2\\x9f\u{a0}\u{e4}",
+    ),
+];
+
+#[test]
+fn control_characters_are_shown_by_their_bytes(rt: HostRuntime) {
+    for (text, wanted) in SHOWN {
+        let found = shown(rt.alloc(), text).expect(&rt, "no memory");
+        assert!(rt; found.as_str() == *wanted, "{wanted}: {found}");
+    }
+}

@@ -1,8 +1,0 @@
-use Rattle.std.proofs.Common.{◌≡◌, map as each}
-use Rattle.um_install.specs.Changes.{linked}
-use Rattle.um_install.specs.View.{path_and_target}
-use Rattle.um_install.proofs.enable.with_links.Given as goal
-
--- the rest put in what there is are the whole
-abbrev pub invariant-loop-path : goal.invariant-loop-path
-invariant-loop-path l = linked l.linked (each path_and_target l.path-iterator) ≡ linked l.tree (each path_and_target l.initial.path-iterator)

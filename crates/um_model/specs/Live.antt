@@ -1,0 +1,19 @@
+-- What it is that the machine isn't stuck: a pending job waits for a live process.
+-- Follows no manual page: the machine is this project's own.
+-- The law of runs in proofs/LiveLaws depends on this file.
+use Rattle.std.specs.Prelude.{◌≡◌, ℕ, ◌||◌, true}
+use Rattle.um_model.specs.Ends.{is_starting, is_stopping}
+use Rattle.um_model.specs.Jobs.{Job, IsPending}
+use Rattle.um_model.specs.Machine.{State}
+use Rattle.um_model.specs.Service.{state_of_unit}
+use Rattle.um_model.specs.Transitions.{HasNumber}
+
+-- a pending job whose unit is in start or in a stop state, where this is the number of a live process
+pub record WaitsFor (s : State) (job : Job) (number : ℕ) : Type 0 where
+  pub pending : IsPending s.pending job
+  pub busy : (is_starting (state_of_unit s.units job.unit).sub || is_stopping (state_of_unit s.units job.unit).sub) ≡ true
+  pub live : HasNumber (state_of_unit s.units job.unit) number
+
+-- the machine isn't stuck: where a job is pending, some pending job waits for a live process
+abbrev pub IsNotStuck : State → Type 0
+IsNotStuck s = (job : Job) → IsPending s.pending job → (other : Job) × (number : ℕ) × WaitsFor s other number

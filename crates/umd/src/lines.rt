@@ -1,0 +1,117 @@
+//! Lines on standard error: no control character goes out as it is, and a manager that serves never waits for them.
+
+use mio::unix::SourceFd;
+use mio::{Events, Interest, Poll, Token};
+use std::alloc::{AllocError, Global};
+use std::cell::Cell;
+use std::fmt::Display;
+use std::io;
+use std::io::ErrorKind;
+use std::net::Net;
+use std::time::Duration;
+use um_ctl::shown;
+
+/// The descriptor of standard error.
+const STANDARD_ERROR: i32 = 2;
+
+/// A longer line is cut to so many bytes: a pipe that takes anything takes 4,096 bytes at once.
+const LONGEST: usize = 4_000;
+
+/// The line as it is shown.
+fn shown_line<D: Display + Drop>(alloc: Global, line: D) -> Result<String, AllocError> {
+    let text = String::format(alloc, line)?;
+    shown(alloc, text.as_str())
+}
+
+/// Puts a line on standard error, and waits until it is taken. Where standard error fails, the exit status alone tells it.
+pub fn put_line<R: Eprint, D: Display + Drop>(rt: &R, alloc: Global, line: D) {
+    let _unheard = match shown_line(alloc, line) {
+        Ok(text) => eprintln!(rt; "{text}"),
+        Err(_) => eprintln!(rt; "E15 NoMemory"),
+    };
+}
+
+/// The front of the line that goes out.
+fn cut(line: &str) -> &str {
+    // a character has at most four bytes
+    for end in [LONGEST, LONGEST - 1, LONGEST - 2, LONGEST - 3] {
+        if let Some(front) = line.get(..end) {
+            return front;
+        }
+    }
+    line
+}
+
+/// Whether standard error takes a line at once. A file always does, and no event tells it.
+fn takes_line<R: Net>(rt: &R, alloc: Global) -> bool {
+    let (Ok(mut poll), Ok(mut events)) = (Poll::new(rt), Events::with_capacity(alloc, 1)) else {
+        return false;
+    };
+    let mut source = SourceFd(&STANDARD_ERROR);
+    let asked = poll
+        .registry()
+        .register(&mut source, Token(0), Interest::WRITABLE);
+    asked.is_err() || (poll.poll(&mut events, Some(Duration::ZERO)).is_ok() && !events.is_empty())
+}
+
+/// Standard error of a manager that serves. A line that it doesn't take at once is dropped, and the next one that goes out says how many were.
+#[derive(Drop)]
+pub struct Lines<'a, R> {
+    rt: &'a R,
+    alloc: Global,
+    dropped: Cell<u64>,
+}
+
+impl<'a, R: Net + Eprint> Lines<'a, R> {
+    /// No line was dropped yet.
+    pub fn new(rt: &'a R, alloc: Global) -> Lines<'a, R> {
+        Lines {
+            rt,
+            alloc,
+            dropped: Cell::new(0),
+        }
+    }
+
+    /// Puts the line, where it is taken at once.
+    fn put(&self, line: &str) -> io::Result<()> {
+        if !takes_line(self.rt, self.alloc) {
+            return Err(io::Error::from(ErrorKind::WouldBlock));
+        }
+        let line = cut(line);
+        eprintln!(self.rt; "{line}")
+    }
+
+    /// Says how many lines were dropped, if any were.
+    fn put_dropped(&self) -> io::Result<()> {
+        let count = self.dropped.get();
+        if count == 0 {
+            return Ok(());
+        }
+        let line = format!(in self.alloc;
+            "umd: {count} lines were dropped here, since standard error took none"
+        )?;
+        self.put(line.as_str())?;
+        self.dropped.set(0);
+        Ok(())
+    }
+
+    fn put_shown<D: Display + Drop>(&self, line: D) -> io::Result<()> {
+        let line = shown_line(self.alloc, line)?;
+        self.put_dropped()?;
+        self.put(line.as_str())
+    }
+}
+
+impl<'a, R: Net + Eprint> Eprint for Lines<'a, R> {
+    fn eprint<D: Display + Drop>(&self, value: D) -> io::Result<()> {
+        self.eprintln(value)
+    }
+
+    fn eprintln<D: Display + Drop>(&self, value: D) -> io::Result<()> {
+        let put = self.put_shown(value);
+        if put.is_err() {
+            self.dropped.set(self.dropped.get().saturating_add(1));
+        }
+        put
+    }
+}
