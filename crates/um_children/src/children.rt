@@ -5,7 +5,7 @@ ghost use Rattle.um_children.specs.Faults.{CountsFault, KeepsWhole};
 
 use crate::fault::ChildFault;
 use um_keeper::SpawnOrder;
-use um_model::{Fate, ProcessNumber, Signal};
+use um_model::{Fate, NextNumber, ProcessNumber, Signal};
 
 /// The processes of a manager, each under its number. What they do is told by one history of calls.
 ///
@@ -57,8 +57,9 @@ pub trait Children {
         ensures honest { honest self.new ≡ honest self.old };
 
     /// Lets go what is kept of each number that has ended and isn't among these, as a manager does that opens: of those nothing is asked any
-    /// more. As `forget` it is no call of the history, and a claim stays.
-    fn forget_others(&mut self, live: &[ProcessNumber]) -> Result<(), ChildFault>
+    /// more. As `forget` it is no call of the history, and a claim stays. No number from `next` on was ever started: where something is kept
+    /// of one, it is another manager's, and nothing goes.
+    fn forget_others(&mut self, live: &[ProcessNumber], next: NextNumber) -> Result<(), ChildFault>
         ensures past { past self.new ≡ past self.old }
         ensures whole { whole self.new ≡ whole self.old }
         ensures failures { CountsFault result (failures self.old) (failures self.new) }

@@ -11,7 +11,7 @@ use crate::children::Children;
 use crate::fault::ChildFault;
 use std::alloc::{AllocError, Global};
 use um_keeper::SpawnOrder;
-use um_model::{End, Fate, ProcessNumber, Signal};
+use um_model::{End, Fate, NextNumber, ProcessNumber, Signal};
 
 /// Children in memory, for tests and for `memory`. They are honest, and keep each call.
 ///
@@ -330,7 +330,7 @@ impl Children for FakeChildren {
     }
 
     /// As `forget`.
-    fn forget_others(&mut self, live: &[ProcessNumber]) -> Result<(), ChildFault>
+    fn forget_others(&mut self, live: &[ProcessNumber], next: NextNumber) -> Result<(), ChildFault>
         ensures past { calls_of self.new.calls.items ≡ calls_of self.old.calls.items }
         ensures whole { not self.new.lost ≡ not self.old.lost }
         ensures failures { CountsFault result self.old.failures self.new.failures }

@@ -2,13 +2,18 @@
 use std::process::Abort;
 use um_children::{Children, Fate};
 use um_keeper::{Handed, Keeper, Receipt, SpawnOrder, create};
-use um_model::{JobMode, Layout, Moment, ProcessNumber, UnitVerb};
+use um_model::{JobMode, Layout, Moment, NextNumber, ProcessNumber, UnitVerb};
 use um_name::UnitName;
 use um_sector::MemDisk;
 use um_state::{Command, Event, Input};
 
 pub fn number(rt: &impl Abort, n: u64) -> ProcessNumber {
     ProcessNumber::new(n).expect(rt, "no process number")
+}
+
+/// The number that is started next.
+pub fn next(rt: &impl Abort, n: u64) -> NextNumber {
+    NextNumber::new(n).expect(rt, "no next number")
 }
 
 /// Asserts what is told of a number.

@@ -22,7 +22,7 @@ use std::alloc::{AllocError, Global};
 use um_children::Children;
 use um_fates::{Marks, claim_all, is_in, live_numbers};
 use um_keeper::Keeper;
-use um_model::{Moment, ProcessNumber, Signal, SubState};
+use um_model::{Moment, NextNumber, ProcessNumber, Signal, SubState};
 use um_sector::Disk;
 use um_session::Session;
 use um_state::{BootId, Event, Happening, Input, Reply, State, Units};
@@ -92,6 +92,7 @@ fn signal_all<C: Children>(
 fn claim_live<C: Children>(
     children: &mut C,
     live: &[ProcessNumber],
+    next: NextNumber,
     moment: Moment,
     inputs: &mut Vec<Input>,
 )
@@ -103,7 +104,7 @@ fn claim_live<C: Children>(
     ensures whole { IsTrue (C.whole children.new) → IsTrue (C.whole children.old) }
     ensures honest { C.honest children.new ≡ C.honest children.old }
 {
-    let _forgotten = children.forget_others(live);
+    let _forgotten = children.forget_others(live, next);
     claim_all(children, live, moment, inputs);
 }
 
@@ -150,7 +151,8 @@ fn adopt<D: Disk, C: Children>(
     ensures failed { (has_failed keeper.new ≡ true) ↔ ((has_failed keeper.old ≡ true) ⊎ (result ≡ Err Refusal.Device)) }
 {
     let mut inputs = inputs;
-    claim_live(children, live, moment, &mut inputs);
+    let next = keeper.state().next();
+    claim_live(children, live, next, moment, &mut inputs);
     let submitted = submit(keeper, children, marks, inputs, replies);
     let units = keeper.state().units();
     signal_all(children, units, SubState::StopSigterm, Signal::Term, live);
@@ -182,7 +184,7 @@ fn live_in(alloc: Global, state: &State, boot: &BootId) -> Result<Vec<ProcessNum
     ensures other { IfOk result (λ live. boot.now ≢ (state_of state.now).boot → live.items ≡ []) }
 {
     if state.boot().as_str() == boot.as_str() {
-        live_numbers(alloc, state.units())
+        live_numbers(state.units())
     } else {
         Ok(Vec::new(alloc))
     }

@@ -74,7 +74,7 @@ pub fn turn<D: Disk, C: Children>(
     ensures disk { D.honest (disk_in keeper.new) ≡ D.honest (disk_in keeper.old) }
     ensures failed { (has_failed keeper.new ≡ true) ↔ ((has_failed keeper.old ≡ true) ⊎ (result ≡ Err Refusal.Device)) }
 {
-    let Ok(live) = live_numbers(alloc, keeper.state().units()) else {
+    let Ok(live) = live_numbers(keeper.state().units()) else {
         return Err(Refusal::NoMemory);
     };
     let room = 2 * live.len() + 1 + CONNECTIONS;

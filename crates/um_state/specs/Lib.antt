@@ -1,5 +1,6 @@
 pub mod Arms
 pub mod Due
+pub mod Finding
 pub mod Short
 pub mod Shown
 pub mod View

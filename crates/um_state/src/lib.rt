@@ -3,6 +3,7 @@
 
 mod boot;
 mod due;
+mod finder;
 mod fitting;
 mod input;
 mod input_bytes;

@@ -8,6 +8,7 @@ ghost use Rattle.um_model.specs.StateSpellings.{FitUnits, are_distinct, are_know
 ghost use Rattle.um_model.proofs.StateSpellingsLaws.{canonical_units};
 ghost use Rattle.um_model.specs.declared.service.UnitState as unit;
 
+use crate::finder::Finder;
 use crate::units::Units;
 use std::alloc::{AllocError, Global};
 use std::collections::{BTreeMap, BTreeSet};
@@ -50,7 +51,15 @@ impl Canon for Units {
         if !are_known(&entries) {
             return Ok(None);
         }
-        Ok(Some((Units { alloc, entries }, n)))
+        let finder = Finder::of(alloc, &entries)?;
+        Ok(Some((
+            Units {
+                alloc,
+                entries,
+                finder,
+            },
+            n,
+        )))
     }
 
     ghost canonical = { canonical_units };
@@ -72,6 +81,19 @@ fn push_number(told: &mut Vec<u64>, process: Option<ProcessNumber>) -> Result<()
 {
     if let Some(process) = process {
         told.push(process.get())?;
+    }
+    Ok(())
+}
+
+/// Adds the process, if it is there, behind the others.
+fn push_process(
+    told: &mut Vec<ProcessNumber>,
+    process: Option<ProcessNumber>,
+) -> Result<(), AllocError>
+    ensures { OnOk result (told.new.items ≡ told.old.items ++ option_to_list process) }
+{
+    if let Some(process) = process {
+        told.push(process)?;
     }
     Ok(())
 }
@@ -102,6 +124,18 @@ impl Units {
             }
         }
         true
+    }
+
+    /// The numbers of the live processes, unit by unit.
+    pub fn processes(&self) -> Result<Vec<ProcessNumber>, AllocError>
+        ensures { IfOk result (λ numbers. numbers.items ≡ numbers_in self.now) }
+    {
+        let mut numbers = Vec::new(self.alloc);
+        for (_, unit) in self.entries.iter() {
+            push_process(&mut numbers, unit.main)?;
+            push_process(&mut numbers, unit.control)?;
+        }
+        Ok(numbers)
     }
 
     /// The numbers of the live processes.

@@ -8,8 +8,10 @@ ghost use Rattle.um_model.specs.Machine.{IsOver, IsProcessOf, AreDeadlines};
 ghost use Rattle.um_model.specs.Service.{ByUnit, AreTidyUnits, state_of_unit, with_unit};
 ghost use Rattle.um_model.specs.declared.jobs.UnitJobs as jobs;
 ghost use Rattle.um_model.specs.declared.service.UnitState as unit;
+ghost use Rattle.um_state.specs.Finding.{Finds};
 ghost use Rattle.um_state.specs.Shown.{job_of};
 
+use crate::finder::{Finder, state_in};
 use crate::reply::JobShown;
 use std::alloc::{AllocError, Global};
 use std::collections::BTreeMap;
@@ -31,11 +33,49 @@ fn push_keys<V>(
     Ok(())
 }
 
+/// Puts in how the unit stands; a dead one of which nothing is known isn't held. Where memory is refused, all is as before.
+fn hold(
+    entries: &mut BTreeMap<UnitName, UnitState>,
+    unit: &UnitName,
+    state: &UnitState,
+) -> Result<(), AllocError>
+    ensures ok { OnOk result (maps.from_entries {R = slice_cmp nat_cmp} entries.new.entries ≡ with_unit (maps.from_entries entries.old.entries) unit.now state.now) }
+    ensures err { OnErr result (maps.from_entries {R = slice_cmp nat_cmp} entries.new.entries ≡ maps.from_entries entries.old.entries) }
+{
+    if state.holds_nothing() {
+        entries.remove(unit);
+    } else {
+        entries.insert(unit.copy()?, *state)?;
+    }
+    Ok(())
+}
+
+/// Puts in how the unit stands, so that it is found by the numbers of its processes. Where memory is refused, all is as before.
+fn put(
+    entries: &mut BTreeMap<UnitName, UnitState>,
+    finder: &mut Finder,
+    unit: &UnitName,
+    state: UnitState,
+) -> Result<(), AllocError>
+    requires { Finds (maps.from_entries entries.old.entries) finder.old }
+    ensures ok { OnOk result (maps.from_entries {R = slice_cmp nat_cmp} entries.new.entries ≡ with_unit (maps.from_entries entries.old.entries) unit.now state) }
+    ensures err { OnErr result (maps.from_entries {R = slice_cmp nat_cmp} entries.new.entries ≡ maps.from_entries entries.old.entries) }
+    ensures finds { Finds (maps.from_entries entries.new.entries) finder.new }
+{
+    let before = state_in(entries, unit);
+    finder.note(entries, unit, &state)?;
+    hold(entries, unit, &state)?;
+    finder.leave(entries, &before);
+    Ok(())
+}
+
 /// What the state holds of units, by name: those that differ from a dead unit of which nothing is known.
 #[derive(Drop)]
 pub struct Units {
     pub(crate) alloc: Global,
     pub(crate) entries: BTreeMap<UnitName, UnitState>,
+    pub(crate) finder: Finder,
+    ghost finds: { Finds (maps.from_entries entries.entries) finder },
 }
 
 impl Model for Units {
@@ -56,6 +96,7 @@ impl Units {
         Units {
             alloc,
             entries: BTreeMap::new(alloc),
+            finder: Finder::new(alloc),
         }
     }
 
@@ -98,16 +139,12 @@ impl Units {
         ensures ok { OnOk result (self.new ≡ with_unit self.old unit.now state) }
         ensures err { OnErr result (self.new ≡ self.old) }
     {
-        if state.holds_nothing() {
-            self.entries.remove(unit);
-        } else {
-            self.entries.insert(unit.copy()?, state)?;
-        }
+        put(&mut self.entries, &mut self.finder, unit, state)?;
         Ok(())
     }
 
-    /// The unit of the live process with this number; of several the one with the least name. It takes no memory.
-    pub fn process(&self, number: u64) -> Option<&UnitName>
+    /// The first unit by name that has the number.
+    fn first_with(&self, number: u64) -> Option<&UnitName>
         ensures { MatchOption result (IsOver self.now number) (λ unit. IsProcessOf self.now number unit.now) }
     {
         for (unit, state) in self.entries.iter() {
@@ -116,6 +153,19 @@ impl Units {
             }
         }
         None
+    }
+
+    /// The unit of the live process with this number; of several the one with the least name. It takes no memory.
+    pub fn process(&self, number: u64) -> Option<&UnitName>
+        ensures { MatchOption result (IsOver self.now number) (λ unit. IsProcessOf self.now number unit.now) }
+    {
+        if self.finder.is_shared {
+            return self.first_with(number);
+        }
+        match self.finder.names.get(&number) {
+            Some(unit) if state_in(&self.entries, unit).has_number(number) => Some(unit),
+            Some(_) | None => None,
+        }
     }
 
     /// The deadlines of the units.
@@ -142,9 +192,11 @@ impl Units {
     pub fn copy(&self) -> Result<Units, AllocError>
         ensures { IfOk result (λ u. u ≡ self.now) }
     {
+        let entries = copy_by_name(self.alloc, &self.entries)?;
         Ok(Units {
             alloc: self.alloc,
-            entries: copy_by_name(self.alloc, &self.entries)?,
+            finder: Finder::of(self.alloc, &entries)?,
+            entries,
         })
     }
 }

@@ -160,6 +160,9 @@ where
         Ok(manager) => manager,
         Err((refusal, _, _)) => return Err(ends(rt, refusal)),
     };
+    if manager.children().is_foreign() {
+        return Err(End { status: REFUSED });
+    }
     tell_opened(rt, manager.opened());
     let (adopted, lost) = (manager.adopted(), tally.absent());
     let _unheard = eprintln!(rt; "umd: {adopted} processes adopted, of which {lost} are lost");

@@ -2,7 +2,7 @@ use Rattle.std.proofs.Common.{◌≡◌, ◌∙◌, ap, sym, find, Some, None, c
 use Rattle.um_model.proofs.FirstByName.{first_found, none_found}
 use Rattle.um_model.proofs.ScanLaws.{of_number, process_is, process_over}
 use Rattle.um_model.specs.Machine.{IsProcessOf, IsOver}
-use Rattle.um_state.proofs.units.Units.process.Goals as goal
+use Rattle.um_state.proofs.units.Units.first_with.Goals as goal
 
 pub returns-then-has_number : goal.returns-then-has_number
 returns-then-has_number c =
