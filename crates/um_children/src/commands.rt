@@ -62,15 +62,17 @@ pub fn start_command(
 {
     let number = order.number().get();
     let number = format!(in alloc; "{number}")?;
-    let count = order.environment().len();
+    let environment = order.environment(alloc)?;
+    let words = order.words(alloc)?;
+    let count = environment.len();
     let count = format!(in alloc; "{count}")?;
     let mut command = shell(alloc, DETACHING, &[program, "run", "--dir", folder])?;
     add(
         &mut command,
         &["--number", number.as_str(), "--env", count.as_str(), "--"],
     )?;
-    add_texts(&mut command, order.environment())?;
-    add_texts(&mut command, order.words())?;
+    add_texts(&mut command, environment.as_slice())?;
+    add_texts(&mut command, words.as_slice())?;
     Ok(command)
 }
 

@@ -15,6 +15,7 @@ ghost use Rattle.um_wire.specs.declared.refusal.Refusal.TheVariants.{NoMemory};
 use crate::served::Served;
 use crate::settling::{fire, settle};
 use std::alloc::{AllocError, Global};
+use std::rc::Rc;
 use um_falling::{Acting, happen};
 use um_graph::Graph;
 use um_model::{End, Moment, ProcessNumber, SubState, UnitEvent, UnitKind, UnitState};
@@ -116,13 +117,19 @@ fn awaits(stands: UnitState, kind: UnitKind, number: u64) -> bool
 
 /// Whether the unit, one of the graph, waits for the report that the program of its main process runs, and that process has the
 /// number.
-fn awaits_report(alloc: Global, graph: &Graph, state: &State, number: u64, unit: &UnitName) -> bool
-    ensures { Serves graph.now (state_of state.now) → Contains graph.now.names unit.now → Decides result (model.AwaitsReport (state_of state.now) number unit.now) }
+fn awaits_report(
+    alloc: Global,
+    graph: &Graph,
+    state: &State,
+    number: u64,
+    unit: &UnitName,
+) -> Result<bool, AllocError>
+    ensures { IfOk result (λ awaits. Serves graph.now (state_of state.now) → Contains graph.now.names unit.now → Decides awaits (model.AwaitsReport (state_of state.now) number unit.now)) }
 {
     let stands = state.units().get(unit);
-    let defaults = ServiceSettings::new(alloc, UnitKind::Simple);
+    let defaults = Rc::new(alloc, ServiceSettings::new(alloc, UnitKind::Simple))?;
     let acting = Acting::in_graph(graph, unit, &defaults);
-    awaits(stands, acting.settings.kind, number)
+    Ok(awaits(stands, acting.settings.kind, number))
 }
 
 /// The state after the report that the program of a process runs; none where no unit waits for it.
@@ -140,7 +147,8 @@ fn after_report(
         Some(unit) => unit,
         None => return Ok((None, Vec::new(alloc))),
     };
-    if !awaits_report(alloc, graph, state, number, unit) {
+    let awaits = awaits_report(alloc, graph, state, number, unit)?;
+    if !awaits {
         return Ok((None, Vec::new(alloc)));
     }
     let event = UnitEvent::Executed;

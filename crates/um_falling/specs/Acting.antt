@@ -24,4 +24,4 @@ acts_as found = record { settings = option_map_or (λ l. l.settings.service) fou
 
 -- the same as the code holds it
 abbrev pub acting_of : Acting → Acts
-acting_of a = record { settings = service_settings_of a.settings.now; loadable = a.loadable }
+acting_of a = record { settings = service_settings_of a.settings.now.value; loadable = a.loadable }

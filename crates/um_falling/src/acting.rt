@@ -10,6 +10,7 @@ ghost use Rattle.um_model.specs.declared.transition.UnitKind.TheVariants.{Simple
 ghost use Rattle.um_unit.specs.ServiceView.{service_settings_of};
 ghost use Rattle.um_unit.specs.View.{loading_of, unit_of};
 
+use std::rc::Rc;
 use um_graph::Graph;
 use um_name::UnitName;
 use um_unit::{LoadedUnit, Loading, ServiceSettings};
@@ -18,7 +19,7 @@ use um_unit::{LoadedUnit, Loading, ServiceSettings};
 #[derive(Clone, Copy)]
 pub struct Acting<'g> {
     /// Those that the unit acts by.
-    pub settings: &'g ServiceSettings,
+    pub settings: &'g Rc<ServiceSettings>,
     /// It can be started: it is found, has no refused setting and is no template.
     pub loadable: bool,
 }
@@ -35,8 +36,8 @@ impl<'g> Acting<'g> {
     ghost use Rattle.um_falling.specs.Acting.{acting_of, acts_as, unloadable};
 
     /// A unit that isn't loadable: it acts as a simple service with default settings.
-    fn unloadable(defaults: &'g ServiceSettings) -> Acting<'g>
-        requires { service_settings_of defaults.now ≡ default_settings Simple }
+    fn unloadable(defaults: &'g Rc<ServiceSettings>) -> Acting<'g>
+        requires { service_settings_of defaults.now.value ≡ default_settings Simple }
         ensures { acting_of result ≡ unloadable }
     {
         Acting {
@@ -46,8 +47,8 @@ impl<'g> Acting<'g> {
     }
 
     /// How a unit acts that was found: a template isn't loadable.
-    fn of_found(found: &'g LoadedUnit, defaults: &'g ServiceSettings) -> Acting<'g>
-        requires { service_settings_of defaults.now ≡ default_settings Simple }
+    fn of_found(found: &'g LoadedUnit, defaults: &'g Rc<ServiceSettings>) -> Acting<'g>
+        requires { service_settings_of defaults.now.value ≡ default_settings Simple }
         ensures { acting_of result ≡ acts_as (loadable_of (units.Found (unit_of found.now))) }
     {
         if found.name.is_template() {
@@ -60,8 +61,8 @@ impl<'g> Acting<'g> {
     }
 
     /// How a unit acts, by what was found of it.
-    fn of(loading: &'g Loading, defaults: &'g ServiceSettings) -> Acting<'g>
-        requires { service_settings_of defaults.now ≡ default_settings Simple }
+    fn of(loading: &'g Loading, defaults: &'g Rc<ServiceSettings>) -> Acting<'g>
+        requires { service_settings_of defaults.now.value ≡ default_settings Simple }
         ensures { acting_of result ≡ acts_as (loadable_of (loading_of loading.now)) }
     {
         match loading {
@@ -74,8 +75,12 @@ impl<'g> Acting<'g> {
 
     /// How a unit of the graph acts. One that isn't loadable acts as a simple service with default settings, and so does one that the
     /// graph doesn't have.
-    pub fn in_graph(graph: &'g Graph, unit: &UnitName, defaults: &'g ServiceSettings) -> Acting<'g>
-        requires { service_settings_of defaults.now ≡ default_settings Simple }
+    pub fn in_graph(
+        graph: &'g Graph,
+        unit: &UnitName,
+        defaults: &'g Rc<ServiceSettings>,
+    ) -> Acting<'g>
+        requires { service_settings_of defaults.now.value ≡ default_settings Simple }
         ensures { (s : model.State) → Serves graph.now s → Contains graph.now.names unit.now
             → acting_of result ≡ acts_as (loadable_in s.loaded unit.now) }
     {

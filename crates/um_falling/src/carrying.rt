@@ -11,6 +11,7 @@ ghost use Rattle.um_state.specs.View.{state_of, action_of};
 use crate::acting::Acting;
 use crate::along::take_along;
 use std::alloc::{AllocError, Global};
+use std::rc::Rc;
 use um_graph::Graph;
 use um_jobs::{is_waiting, jobs_left};
 use um_model::{Around, JobState, Moment, StartJob, UnitEvent, UnitKind};
@@ -43,7 +44,7 @@ fn change(
     ensures others { OnOk result (KeepsOthers unit.now (state_of state.old) (state_of state.new)) }
     ensures stops { OnOk result (event ≡ BoundStop → StopsOne unit.now (state_of state.old) (state_of state.new)) }
 {
-    let defaults = ServiceSettings::new(alloc, UnitKind::Simple);
+    let defaults = Rc::new(alloc, ServiceSettings::new(alloc, UnitKind::Simple))?;
     let acting = Acting::in_graph(graph, unit, &defaults);
     let jobs = state.pending().get(unit);
     let around = Around {

@@ -1,3 +1,5 @@
 pub mod WordLemmas
 pub mod VariableLemmas
 pub mod CommandLemmas
+pub mod RoomLemmas
+pub mod CountLemmas

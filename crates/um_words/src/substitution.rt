@@ -14,7 +14,7 @@ use std::alloc::{AllocError, Global};
 use um_model::WordRules;
 
 /// What a `$` stands for, by what follows it, and what is left behind.
-fn piece<'a>(environment: &'a [Variable], behind: &'a str) -> (&'a str, &'a str)
+pub fn piece<'a>(environment: &'a [Variable], behind: &'a str) -> (&'a str, &'a str)
     ensures front { dollar_front (variables_of environment.now) behind.now ≡ Gives result.0.now (length behind.now - length result.1.now + 1) }
     ensures rest { result.1.now ≡ drop (length behind.now - length result.1.now) behind.now }
     ensures within { length result.1.now ≤ length behind.now }

@@ -8,8 +8,12 @@ use Rattle.um_falling.proofs.Acts.{acts_by}
 use Rattle.um_model.specs.Service.{is_number, state_of_unit}
 use Rattle.um_model.specs.declared.service.UnitState.{UnitState}
 use Rattle.um_state.specs.View.{state_of}
+use Rattle.um_unit.specs.ServiceView.{service_settings_of}
 use Rattle.um_engine.proofs.Ticks.{report_decided}
 use Rattle.um_engine.proofs.happenings.awaits_report.Goals as goal
+
+pub in_graph-acting-requires : goal.in_graph-acting-requires
+in_graph-acting-requires c = ap service_settings_of c.in_ok-defaults.ensures.ok ∙ c.new.ensures
 
 pub returns : goal.returns
 returns c = λ serves known.

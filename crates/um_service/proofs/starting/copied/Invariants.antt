@@ -1,5 +1,5 @@
 use Rattle.std.proofs.Common.{◌≡◌, ◌++◌, map, drop, string_bytes}
-use Rattle.um_service.proofs.actions.copied.Given as goal
+use Rattle.um_service.proofs.starting.copied.Given as goal
 
 -- the copies and the words that are left are all words
 abbrev pub invariant-loop-word : goal.invariant-loop-word

@@ -1,7 +1,7 @@
 use Rattle.std.proofs.Common.{◌≡◌, ◌++◌, map, drop, string_bytes}
 use Rattle.um_service.specs.Variables.{variable_text}
 use Rattle.um_words.specs.Environment.{variables_of}
-use Rattle.um_service.proofs.actions.environment_texts.Given as goal
+use Rattle.um_service.proofs.starting.environment_texts.Given as goal
 
 -- the texts and those of the variables that are left are all texts
 abbrev pub invariant-loop-variable : goal.invariant-loop-variable
