@@ -14,7 +14,7 @@ use um_gate::{Moments, SocketGate, SystemMoments, system_moment};
 use um_keeper::OpenedStore;
 use um_line::ServeLine;
 use um_manager::Manager;
-use um_model::Deadline;
+use um_model::{Deadline, Moment};
 use um_sector::Disk;
 use um_serve::{Pace, Rounds, serve};
 use um_state::BootId;
@@ -135,6 +135,36 @@ impl<'a, R: Clock> Loop<'a, R> {
     }
 }
 
+/// What the rounds stand on, with the socket, where moments are no earlier than the least. Only behind the opening of the store: one that can't
+/// be opened takes no socket.
+fn open_loop<'a, R: Net + Clock, E: Eprint>(
+    system: &'a R,
+    alloc: Global,
+    rt: &E,
+    line: &ServeLine<'_>,
+    least: Moment,
+) -> Result<Loop<'a, R>, End> {
+    let Ok(rounds) = Rounds::new(alloc) else {
+        return Err(ends(rt, Refusal::NoMemory));
+    };
+    let gate = match SocketGate::open(system, alloc, line.socket) {
+        Ok(gate) => gate,
+        Err(fault) => {
+            return Err(End {
+                status: lacks(rt, line.socket, &fault),
+            });
+        }
+    };
+    Ok(Loop {
+        gate,
+        clock: SystemMoments::starting(system, least),
+        rounds,
+        pace: Pace::new(),
+        deadline: None,
+        is_stale: true,
+    })
+}
+
 /// Opens the manager and serves it, until it fails.
 fn serve_over<R>(system: &R, alloc: Global, line: &ServeLine<'_>) -> Result<u8, End>
 where
@@ -166,26 +196,7 @@ where
     tell_opened(rt, manager.opened());
     let (adopted, lost) = (manager.adopted(), tally.absent());
     let _unheard = eprintln!(rt; "umd: {adopted} processes adopted, of which {lost} are lost");
-    let Ok(rounds) = Rounds::new(alloc) else {
-        return Err(ends(rt, Refusal::NoMemory));
-    };
-    // only now: a store that can't be opened takes no socket
-    let gate = match SocketGate::open(system, alloc, line.socket) {
-        Ok(gate) => gate,
-        Err(fault) => {
-            return Err(End {
-                status: lacks(rt, line.socket, &fault),
-            });
-        }
-    };
-    let mut state = Loop {
-        gate,
-        clock: SystemMoments::starting(system, manager.state().clock()),
-        rounds,
-        pace: Pace::new(),
-        deadline: None,
-        is_stale: true,
-    };
+    let mut state = open_loop(system, alloc, rt, line, manager.state().clock())?;
     for _ in 0..u64::MAX {
         if let Err(refusal) = state.step(&mut manager, &tally) {
             return Err(ends(rt, refusal));
