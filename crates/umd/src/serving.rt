@@ -137,7 +137,7 @@ impl<'a, R: Clock> Loop<'a, R> {
 
 /// What the rounds stand on, with the socket, where moments are no earlier than the least. Only behind the opening of the store: one that can't
 /// be opened takes no socket.
-fn open_loop<'a, R: Net + Clock, E: Eprint>(
+fn open_loop<'a, R: Files + Net + Clock, E: Eprint>(
     system: &'a R,
     alloc: Global,
     rt: &E,
