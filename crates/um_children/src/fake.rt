@@ -210,7 +210,7 @@ impl FakeChildren {
         ChildFault::Device
     }
 
-    /// Fails a call that found no memory for its note.
+    /// Fails a call that found no memory for its note, or to see what it would note.
     fn lose(&mut self) -> ChildFault
         ensures fault { result ≡ ChildFault.Device }
         ensures failures { self.new.failures ≡ one_more self.old.failures }
@@ -250,8 +250,10 @@ impl Children for FakeChildren {
         ensures ends { self.new.ends ≡ self.old.ends }
     {
         let number = order.number();
-        let is_too_long = order.is_too_long();
         let burns = self.burns();
+        let Ok(is_too_long) = order.is_too_long(*self.calls.allocator()) else {
+            return Err(self.lose());
+        };
         let is_absent = was_absent(self.calls.as_slice(), number);
         let call = Call::Spawned {
             number,

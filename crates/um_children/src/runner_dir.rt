@@ -501,7 +501,7 @@ impl<'a, R: Files + Processes + Clock> Children for RunnerDir<'a, R> {
 
     fn spawn(&mut self, order: SpawnOrder) -> Result<(), ChildFault> {
         self.is_restless = true;
-        if order.is_too_long() {
+        if order.is_too_long(self.alloc)? {
             return Err(ChildFault::TooLong);
         }
         let answer = self.start(&order);

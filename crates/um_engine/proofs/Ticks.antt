@@ -74,22 +74,22 @@ number_is : (number : ℕ) (o : Option ℕ) → o ≡ Some number → is_number 
 number_is number o e = ap (is_number number) e ∙ (Decides-eqb number number).1 refl
 
 -- whether the unit waits for the report, by what it is asked of
-pub report_decided : (s : State) (number : ℕ) (unit : List ℕ) (starts asked is : Bool) → starts ≡ waits_for_report (state_of_unit s.units unit).sub
-    → asked ≡ has_one_command (settings_in s.loaded unit).kind → is ≡ is_number number (state_of_unit s.units unit).main
-    → Decides (starts && asked && is) (AwaitsReport s number unit)
-report_decided s number unit starts asked is e f g = (told, tells)
+pub report_decided : (s : State) (number : ℕ) (unit : List ℕ) (starts is asked : Bool) → starts ≡ waits_for_report (state_of_unit s.units unit).sub
+    → is ≡ is_number number (state_of_unit s.units unit).main → asked ≡ has_one_command (settings_in s.loaded unit).kind
+    → Decides (starts && is && asked) (AwaitsReport s number unit)
+report_decided s number unit starts is asked e f g = (told, tells)
   where
-    told : starts && asked && is ≡ true → AwaitsReport s number unit
+    told : starts && is && asked ≡ true → AwaitsReport s number unit
     told h =
-        let (both, d) = and_parts (starts && asked) is h in
-        let (a, b) = and_parts starts asked both in
-        record { starts = sym e ∙ a; kind = sym f ∙ b; main = number_told number (state_of_unit s.units unit).main (sym g ∙ d) }
+        let (both, c) = and_parts (starts && is) asked h in
+        let (a, b) = and_parts starts is both in
+        record { starts = sym e ∙ a; kind = sym g ∙ c; main = number_told number (state_of_unit s.units unit).main (sym f ∙ b) }
 
-    tells : AwaitsReport s number unit → starts && asked && is ≡ true
+    tells : AwaitsReport s number unit → starts && is && asked ≡ true
     tells h =
-        ap (λ b. b && asked && is) (e ∙ h.starts)
-        ∙ (ap (λ b. b && is) (f ∙ h.kind)
-        ∙ (g ∙ number_is number (state_of_unit s.units unit).main h.main))
+        ap (λ b. b && is && asked) (e ∙ h.starts)
+        ∙ (ap (λ b. b && asked) (f ∙ number_is number (state_of_unit s.units unit).main h.main)
+        ∙ (g ∙ h.kind))
 
 -- a tick, by the deadlines that fired
 pub tick_follows : (t : ℕ) (s copy v : State) (none all : List Action) → copy ≡ s → none ≡ [] → Adds (Follows t copy Tick) none v all → Follows t s Tick all v

@@ -1,7 +1,7 @@
 //! What follows from what happens.
 
 ghost use Rattle.std.specs.Bool.{Decides};
-ghost use Rattle.std.specs.Prelude.{◌≡◌, ◌↔◌, ◌&&◌, ℕ, List, [], Contains, map, option_map, IsTrue, IfOk, IfSome};
+ghost use Rattle.std.specs.Prelude.{◌≡◌, ◌↔◌, ℕ, List, [], Contains, map, option_map, IsTrue, IfOk, IfSome};
 ghost use Rattle.um_engine.specs.Engine.{FollowsUpon, Met, MetBy, IsSame};
 ghost use Rattle.um_engine.specs.Known.{KnowsFor};
 ghost use Rattle.um_falling.specs.Over.{Serves};
@@ -15,14 +15,12 @@ ghost use Rattle.um_wire.specs.declared.refusal.Refusal.TheVariants.{NoMemory};
 use crate::served::Served;
 use crate::settling::{fire, settle};
 use std::alloc::{AllocError, Global};
-use std::rc::Rc;
-use um_falling::{Acting, happen};
+use um_falling::{happen, kind_in};
 use um_graph::Graph;
-use um_model::{End, Moment, ProcessNumber, SubState, UnitEvent, UnitKind, UnitState};
+use um_model::{End, Moment, ProcessNumber, SubState, UnitEvent, UnitState};
 use um_name::UnitName;
 use um_service::has_one_command;
 use um_state::{Action, BootId, Happening, State};
-use um_unit::ServiceSettings;
 use um_wire::Refusal;
 
 /// What the end of a process is for its unit.
@@ -107,29 +105,15 @@ fn is_number(number: u64, process: Option<ProcessNumber>) -> bool
     }
 }
 
-/// Whether a unit of this kind that stands so waits for the report that the program of its main process runs, and that process has
-/// the number.
-fn awaits(stands: UnitState, kind: UnitKind, number: u64) -> bool
-    ensures { result ≡ (waits_for_report stands.sub && has_one_command kind && is_number number stands.main) }
-{
-    waits_for_report(stands.sub) && has_one_command(kind) && is_number(number, stands.main)
-}
-
 /// Whether the unit, one of the graph, waits for the report that the program of its main process runs, and that process has the
 /// number.
-fn awaits_report(
-    alloc: Global,
-    graph: &Graph,
-    state: &State,
-    number: u64,
-    unit: &UnitName,
-) -> Result<bool, AllocError>
-    ensures { IfOk result (λ awaits. Serves graph.now (state_of state.now) → Contains graph.now.names unit.now → Decides awaits (model.AwaitsReport (state_of state.now) number unit.now)) }
+fn awaits_report(graph: &Graph, state: &State, number: u64, unit: &UnitName) -> bool
+    ensures { Serves graph.now (state_of state.now) → Contains graph.now.names unit.now → Decides result (model.AwaitsReport (state_of state.now) number unit.now) }
 {
     let stands = state.units().get(unit);
-    let defaults = Rc::new(alloc, ServiceSettings::new(alloc, UnitKind::Simple))?;
-    let acting = Acting::in_graph(graph, unit, &defaults);
-    Ok(awaits(stands, acting.settings.kind, number))
+    waits_for_report(stands.sub)
+        && is_number(number, stands.main)
+        && has_one_command(kind_in(graph, unit))
 }
 
 /// The state after the report that the program of a process runs; none where no unit waits for it.
@@ -147,8 +131,7 @@ fn after_report(
         Some(unit) => unit,
         None => return Ok((None, Vec::new(alloc))),
     };
-    let awaits = awaits_report(alloc, graph, state, number, unit)?;
-    if !awaits {
+    if !awaits_report(graph, state, number, unit) {
         return Ok((None, Vec::new(alloc)));
     }
     let event = UnitEvent::Executed;

@@ -49,11 +49,11 @@ impl SpawnOrder {
     }
 
     /// Whether no process can be started with so much: past two MiB (2,097,152 bytes) of words and environment in all, or 128 KiB
-    /// (131,072 bytes) in one, each with a zero byte behind it. Nothing is put together, and it takes no memory.
-    pub fn is_too_long(&self) -> bool
-        ensures { result ≡ is_too_long self.now.words self.now.environment }
+    /// (131,072 bytes) in one, each with a zero byte behind it. Nothing is put together. Refused only for want of memory.
+    pub fn is_too_long(&self, alloc: Global) -> Result<bool, AllocError>
+        ensures { IfOk result (λ told. told ≡ is_too_long self.now.words self.now.environment) }
     {
-        self.start.is_too_long()
+        self.start.is_too_long(alloc)
     }
 
     /// What is to be started, as it is set. The order is spent.

@@ -265,43 +265,48 @@ fn reply_value(alloc: Global, reply: &Reply) -> Result<Value, AllocError>
 }
 
 /// The room that the words of an action leave.
-fn room_after(room: Room, action: &Action) -> Option<Room>
-    ensures { result ≡ left room (words_told (action_of action.now)) }
+fn room_after(alloc: Global, room: Room, action: &Action) -> Result<Option<Room>, AllocError>
+    ensures { IfOk result (λ free. free ≡ left room (words_told (action_of action.now))) }
 {
     match action {
-        Action::Spawn { start, .. } => start.room_after_words(room),
-        Action::Signal { .. } => Some(room),
+        Action::Spawn { start, .. } => start.room_after_words(alloc, room),
+        Action::Signal { .. } => Ok(Some(room)),
     }
 }
 
 /// The room that the words of these actions leave.
-fn room_after_all(room: Room, actions: &[Action]) -> Option<Room>
-    ensures { result ≡ left room (flat_map words_told (map action_of actions.now)) }
+fn room_after_all(
+    alloc: Global,
+    room: Room,
+    actions: &[Action],
+) -> Result<Option<Room>, AllocError>
+    ensures { IfOk result (λ free. free ≡ left room (flat_map words_told (map action_of actions.now))) }
 {
     let mut free = room;
     for action in actions {
-        free = room_after(free, action)?;
+        let Some(less) = room_after(alloc, free, action)? else {
+            return Ok(None);
+        };
+        free = less;
     }
-    Some(free)
+    Ok(Some(free))
 }
 
 /// Whether the words of the starts alone make a reply too long that tells these actions. They are not put together.
-fn are_too_long(actions: &[Action]) -> bool
-    ensures { IsTrue result → model.is_told_whole (Told (map action_of actions.now)) ≡ false }
+fn are_too_long(alloc: Global, actions: &[Action]) -> Result<bool, AllocError>
+    ensures { IfOk result (λ told. IsTrue told → model.is_told_whole (Told (map action_of actions.now)) ≡ false) }
 {
-    match room_after_all(room_of_words(), actions) {
-        Some(_) => false,
-        None => true,
-    }
+    let free = room_after_all(alloc, room_of_words(), actions)?;
+    Ok(free.is_none())
 }
 
 /// Whether the reply is too long by what can be seen without writing it.
-fn is_too_long(reply: &Reply) -> bool
-    ensures { IsTrue result → model.is_told_whole (reply_of reply.now) ≡ false }
+fn is_too_long(alloc: Global, reply: &Reply) -> Result<bool, AllocError>
+    ensures { IfOk result (λ told. IsTrue told → model.is_told_whole (reply_of reply.now) ≡ false) }
 {
     match reply {
-        Reply::Told(actions) => are_too_long(actions.as_slice()),
-        _other => false,
+        Reply::Told(actions) => are_too_long(alloc, actions.as_slice()),
+        _other => Ok(false),
     }
 }
 
@@ -337,7 +342,8 @@ pub fn write_reply(alloc: Global, reply: &Reply) -> Result<ReplyText, AllocError
     ensures whole { IfOk result (λ text. text.is_whole ≡ model.is_told_whole (reply_of reply.now)) }
     ensures short { IfOk result (λ text. length text.bytes.items ≤ model.reply_limit) }
 {
-    if is_too_long(reply) {
+    let is_long = is_too_long(alloc, reply)?;
+    if is_long {
         return refused_text(alloc);
     }
     let text = reply_value(alloc, reply)?.to_vec(alloc)?;

@@ -72,16 +72,21 @@ fn words_of(
 }
 
 /// The room that the words leave with which the command is started.
-fn room_after_words(room: Room, command: Option<&Command>, environment: &[Variable]) -> Option<Room>
-    ensures { result ≡ left room (started_words (variables_of environment.now) (option_map (λ c. command_seen c.now) command.entry)) }
+fn room_after_words(
+    alloc: Global,
+    room: Room,
+    command: Option<&Command>,
+    environment: &[Variable],
+) -> Result<Option<Room>, AllocError>
+    ensures { IfOk result (λ free. free ≡ left room (started_words (variables_of environment.now) (option_map (λ c. command_seen c.now) command.entry))) }
 {
     let Some(command) = command else {
-        return Some(room);
+        return Ok(Some(room));
     };
     if command.substitutes {
-        room_after(room, command.words.as_slice(), environment)
+        room_after(alloc, room, command.words.as_slice(), environment)
     } else {
-        room.after_texts(command.words.as_slice())
+        Ok(room.after_texts(command.words.as_slice()))
     }
 }
 
@@ -157,11 +162,13 @@ impl Start {
         environment_texts(alloc, self.settings.environment.as_slice())
     }
 
-    /// The room that the words leave, where they fit. They are not put together, and it takes no memory.
-    pub fn room_after_words(&self, room: Room) -> Option<Room>
-        ensures { result ≡ left room self.now.words }
+    /// The room that the words leave, where they fit. They are not put together: memory is taken for the words of the variables' values
+    /// alone. Refused only for want of it.
+    pub fn room_after_words(&self, alloc: Global, room: Room) -> Result<Option<Room>, AllocError>
+        ensures { IfOk result (λ free. free ≡ left room self.now.words) }
     {
         room_after_words(
+            alloc,
             room,
             command_at(&self.settings, self.which, self.index),
             self.settings.environment.as_slice(),
@@ -169,15 +176,14 @@ impl Start {
     }
 
     /// Whether the words and the environment are longer than execve(2) takes: past two MiB (2,097,152 bytes) in all, or 128 KiB
-    /// (131,072 bytes) in one, each with the zero byte behind it. Nothing is put together, and it takes no memory.
-    pub fn is_too_long(&self) -> bool
-        ensures { result ≡ is_too_long self.now.words self.now.environment }
+    /// (131,072 bytes) in one, each with the zero byte behind it. Nothing is put together. Refused only for want of memory.
+    pub fn is_too_long(&self, alloc: Global) -> Result<bool, AllocError>
+        ensures { IfOk result (λ told. told ≡ is_too_long self.now.words self.now.environment) }
     {
-        match self.room_after_words(arguments()) {
-            Some(room) => {
-                room_after_environment(room, self.settings.environment.as_slice()).is_none()
-            }
-            None => true,
-        }
+        let Some(room) = self.room_after_words(alloc, arguments())? else {
+            return Ok(true);
+        };
+        let free = room_after_environment(room, self.settings.environment.as_slice());
+        Ok(free.is_none())
     }
 }

@@ -284,7 +284,8 @@ fn the_room_of_words_is_counted_with_their_variables(rt: HostRuntime) {
             longest: row.longest,
             beside: 1,
         };
-        let left = room_after(room, &words, &environment);
+        let left: Result<_, _> = room_after(rt.alloc(), room, &words, &environment);
+        let left = left.expect(&rt, "no memory");
         same_at(&rt, left.map(|left| left.total), row.wanted, row.text);
     }
 }

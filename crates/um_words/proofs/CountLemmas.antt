@@ -1,8 +1,8 @@
 -- The words of a value and what a word becomes, step by step from the front.
-use Rattle.std.proofs.Common.{◌≡◌, ◌≢◌, ◌<◌, ℕ, ◌+◌, ◌-◌, Bool, true, false, cond, eqb, List, [], ◌∷◌, ◌++◌, length, get_or, drop, map, Option, Some, None, option_map, refl, sym, ap, ◌∙◌, subst, append-nil, append_assoc, arith}
+use Rattle.std.proofs.Common.{◌≡◌, ◌≢◌, ◌<◌, ℕ, ◌+◌, ◌-◌, Bool, true, false, cond, eqb, List, [], ◌∷◌, ◌++◌, length, get_or, drop, Option, Some, None, option_map, refl, sym, ap, ◌∙◌, append-nil, arith}
 use Rattle.std.specs.Prelude.{unwrap_or}
 use Rattle.std.specs.List.{flat_map}
-use Rattle.std.proofs.lemmas.Option.{none-some, same_Some, some_pair_parts}
+use Rattle.std.proofs.lemmas.Option.{none-some, some_pair_parts}
 use Rattle.um_model.specs.Ascii.{is_space}
 use Rattle.um_model.specs.Pieces.{Front, Gives, reading}
 use Rattle.um_model.specs.Substitution.{Variable, value_of, whole_name, braced_name, dollar_front, piece_front, Becomes, splits, fills, AllBecome, no_more, one_more, AreSubstituted, no_words, first_stays}
@@ -117,3 +117,7 @@ are_substituted environment (first ∷ words) = first_stays first words (flat_ma
 
 pub substituted_is : (environment : List Variable) (words out : List (List ℕ)) → AreSubstituted environment words out → substituted environment words ≡ out
 substituted_is environment words out are = same_substituted environment words (substituted environment words) out (are_substituted environment words) are
+
+-- what is filled in is what the function finds
+pub filled_is : (environment : List Variable) (word text : List ℕ) → StandsForText (piece_front environment) word text → filled environment word ≡ text
+filled_is environment word text stands = ap (λ r. unwrap_or r []) (reading-StandsForText (piece_front environment) word text stands)

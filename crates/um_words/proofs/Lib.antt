@@ -3,3 +3,4 @@ pub mod VariableLemmas
 pub mod CommandLemmas
 pub mod RoomLemmas
 pub mod CountLemmas
+pub mod ValueLemmas

@@ -4,3 +4,4 @@ pub mod Environment
 pub mod Commands
 pub mod Substituted
 pub mod Rooms
+pub mod Values

@@ -1,71 +1,27 @@
 //! How much room the words of a command take with its variables, counted without putting them together.
 
-ghost use Rattle.std.specs.Prelude.{◌≡◌, ◌<◌, ◌^◌, ◌-◌, ℕ, List, None, Some, false, length, min, map, slice_index, string_bytes};
-ghost use Rattle.std.specs.Option.{option_map};
-ghost use Rattle.um_model.specs.Ascii.{is_space};
-ghost use Rattle.um_model.proofs.WordSteps.{read};
-ghost use Rattle.um_model.specs.declared.words.WordRules.TheVariants.{Plain};
+ghost use Rattle.std.specs.Prelude.{◌≡◌, ◌++◌, ◌∷◌, ◌^◌, ◌-◌, List, IfOk, length, min, map, string_bytes};
+ghost use Rattle.std.specs.List.{flat_map};
+ghost use Rattle.um_model.specs.Substitution as pure;
 ghost use Rattle.um_words.specs.Environment.{variables_of};
 ghost use Rattle.um_words.specs.Rooms.{left};
-ghost use Rattle.um_words.specs.Substituted.{value_words, filled, becomes, substituted};
+ghost use Rattle.um_words.specs.Substituted.{filled, becomes, substituted};
+ghost use Rattle.um_words.specs.Values.{Holds};
 
 use crate::room::Room;
-use crate::spelling::{WordFront, bare, is_space};
 use crate::substitution::piece;
-use crate::variables::{Variable, value_of, whole_name};
-
-/// How long the word at the front of a value is, and what follows it.
-fn word_len(value: &[u8]) -> (usize, &[u8])
-    requires nonempty { 0 < length value.now }
-    requires nonspace { is_space (slice_index value.now 0) ≡ false }
-    ensures told { option_map {U = ℕ × List ℕ} (λ p. (length p.0, p.1)) (read Plain 0 None value.now) ≡ Some (result.0, result.1.now) }
-    ensures shorter { length result.1.now < length value.now }
-{
-    let mut length = 0;
-    let mut quote = None;
-    let mut rest = value;
-    while let Some((first, more)) = rest.split_first() {
-        match bare(quote, *first) {
-            WordFront::Stop => return (length, rest),
-            WordFront::Turn(other) => {
-                quote = other;
-                rest = more;
-            }
-            WordFront::Kept(_) | WordFront::Means(_, _) | WordFront::Bad => {
-                length += 1;
-                rest = more;
-            }
-        }
-    }
-    (length, rest)
-}
-
-/// The room that the words of a value leave.
-fn after_value(room: Room, value: &str) -> Option<Room>
-    ensures { result ≡ left room (value_words value.now) }
-{
-    let mut free = room;
-    let mut rest = value.as_bytes();
-    while let Some((first, more)) = rest.split_first() {
-        if is_space(*first) {
-            rest = more;
-            continue;
-        }
-        let (length, after) = word_len(rest);
-        free = free.after(length)?;
-        rest = after;
-    }
-    Some(free)
-}
+use crate::values::Values;
+use crate::variables::{Variable, whole_name};
+use std::alloc::{AllocError, Global};
 
 /// How long the word is with each `${NAME}` filled in, up to the last length of all.
-fn filled_len(environment: &[Variable], word: &str) -> usize
-    ensures { result ≡ min (length (filled (variables_of environment.now) word.now)) (2 ^ 64 - 1) }
+fn filled_len<'a>(values: &'a Values, word: &'a str) -> usize
+    ensures { (environment : List pure.Variable) → Holds environment values.now → result ≡ min (length (filled environment word.now)) (2 ^ 64 - 1) }
 {
     let mut length: usize = 0;
     let mut rest = word;
     while let Some((before, behind)) = rest.split_once('$') {
-        let (value, after) = piece(environment, behind);
+        let (value, after) = piece(values, behind);
         length = length
             .saturating_add(before.len())
             .saturating_add(value.len());
@@ -75,26 +31,40 @@ fn filled_len(environment: &[Variable], word: &str) -> usize
 }
 
 /// The room that what a word becomes leaves.
-fn after_word(room: Room, environment: &[Variable], word: &str) -> Option<Room>
-    ensures { result ≡ left room (becomes (variables_of environment.now) word.now) }
+fn after_word(room: Room, values: &Values, word: &str) -> Option<Room>
+    ensures { (environment : List pure.Variable) → Holds environment values.now → result ≡ left room (becomes environment word.now) }
 {
     match whole_name(word) {
-        Some(name) => after_value(room, value_of(environment, name)),
-        None => room.after(filled_len(environment, word)),
+        Some(name) => room.after_texts(values.words(name)),
+        None => room.after(filled_len(values, word)),
     }
 }
 
-/// The room that the words of a command leave with its variables, as `substitute` puts them together, where they fit. It takes no
-/// memory, and goes no further than to the word that doesn't fit.
-pub fn room_after(room: Room, words: &[String], environment: &[Variable]) -> Option<Room>
-    ensures { result ≡ left room (substituted (variables_of environment.now) (map string_bytes words.now)) }
+/// The room that the first word leaves, and what each other becomes.
+fn after_words(room: Room, values: &Values, first: &str, others: &[String]) -> Option<Room>
+    ensures { (environment : List pure.Variable) → Holds environment values.now
+        → result ≡ left room (substituted environment (first.now ∷ map string_bytes others.now)) }
 {
-    let Some((first, others)) = words.split_first() else {
-        return Some(room);
-    };
     let mut free = room.after(first.len())?;
     for word in others {
-        free = after_word(free, environment, word)?;
+        free = after_word(free, values, word)?;
     }
     Some(free)
+}
+
+/// The room that the words of a command leave with its variables, as `substitute` puts them together, where they fit. It goes no
+/// further than to the word that doesn't fit, and takes memory for the values alone, each split once.
+pub fn room_after(
+    alloc: Global,
+    room: Room,
+    words: &[String],
+    environment: &[Variable],
+) -> Result<Option<Room>, AllocError>
+    ensures { IfOk result (λ free. free ≡ left room (substituted (variables_of environment.now) (map string_bytes words.now))) }
+{
+    let Some((first, others)) = words.split_first() else {
+        return Ok(Some(room));
+    };
+    let values = Values::of(alloc, environment)?;
+    Ok(after_words(room, &values, first, others))
 }

@@ -9,6 +9,7 @@ mod room;
 mod spelling;
 mod splitting;
 mod substitution;
+mod values;
 mod variables;
 mod word;
 

@@ -125,7 +125,7 @@ fn escape(behind: &[u8]) -> WordFront
 }
 
 /// A byte that begins no escape.
-pub fn bare(quote: Option<u8>, first: u8) -> WordFront
+fn bare(quote: Option<u8>, first: u8) -> WordFront
     requires { IfSome quote (λ q. q < 128) }
     ensures value { spelling_of result ≡ bare quote first }
     ensures there { (more : List ℕ) → IsThere (spelling_of result) first more }

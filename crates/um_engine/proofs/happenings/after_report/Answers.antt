@@ -10,13 +10,13 @@ returns-in-None-clause-met c = λ serves.
     let over = rw c.units.ensures at c.in-None.ensures in
     (report_is_over c.args.moment (state_of c.args.state.now) c.args.number over, ap (map action_of) c.new.ensures.items)
 
-pub returns-then-not-awaits-clause-met : goal.returns-then-not-awaits-clause-met
-returns-then-not-awaits-clause-met c = λ serves.
+pub returns-then-not-awaits_report-clause-met : goal.returns-then-not-awaits_report-clause-met
+returns-then-not-awaits_report-clause-met c = λ serves.
     let s = state_of c.args.state.now in
     let process = rw c.units.ensures at c.in-Some.ensures in
     let known = process_known c.args.graph.now s c.in-Some.unit.now c.args.number serves process.has in (
-      report_is_idle c.args.moment s c.args.number c.in-Some.unit.now process (λ awaits. true≢false (sym ((c.in_ok-awaits.ensures serves known).1 awaits) ∙ c.if-not-awaits.true)),
-      ap (map action_of) c.new-then-not-awaits.ensures.items,
+      report_is_idle c.args.moment s c.args.number c.in-Some.unit.now process (λ awaits. true≢false (sym ((c.awaits_report.ensures serves known).1 awaits) ∙ c.if-not-awaits_report.true)),
+      ap (map action_of) c.new-then-not-awaits_report.ensures.items,
     )
 
 pub returns-clause-met : goal.returns-clause-met
@@ -24,7 +24,7 @@ returns-clause-met c = λ serves.
     let s = state_of c.args.state.now in
     let process = rw c.units.ensures at c.in-Some.ensures in
     let known = process_known c.args.graph.now s c.in-Some.unit.now c.args.number serves process.has in
-    let awaits = (c.in_ok-awaits.ensures serves known).0 c.if-not-awaits.false in (
+    let awaits = (c.awaits_report.ensures serves known).0 c.if-not-awaits_report.false in (
       report_has_effect c.args.moment s c.args.number c.in-Some.unit.now process awaits,
       report_follows c.args.moment s (state_of c.in_ok-after.after) c.args.number c.in-Some.unit.now (map action_of c.in_ok-after.actions.items) process awaits
           (c.in_ok-after.ensures serves known).0,

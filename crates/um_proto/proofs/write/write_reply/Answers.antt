@@ -19,19 +19,19 @@ returns-clause-whole c =
     let written : c.in_ok-text.text.items ≡ compact_text (reply_data reply) = (rw c.in_ok-reply_value.ensures at c.in_ok-text.ensures.text) (reply_plain reply) in
     told_whole reply c.in_ok-text.text.items written (omega arith)
 
-pub returns-then-is_too_long-clause-text : goal.returns-then-is_too_long-clause-text
-returns-then-is_too_long-clause-text c =
+pub returns-then-is_long-clause-text : goal.returns-then-is_long-clause-text
+returns-then-is_long-clause-text c =
     let reply = reply_of c.args.reply.now in
-    let long = c.is_too_long.ensures (search (rules, c.if-is_too_long.true)) in
+    let long = c.in_ok-is_long.ensures (search (rules, c.if-is_long.true)) in
     IfOk-weaker c.refused_text.result _ _ (λ text told. told ∙ sym (refused_instead reply long)) c.refused_text.ensures.text
 
-pub returns-then-is_too_long-clause-whole : goal.returns-then-is_too_long-clause-whole
-returns-then-is_too_long-clause-whole c =
-    let long = c.is_too_long.ensures (search (rules, c.if-is_too_long.true)) in
+pub returns-then-is_long-clause-whole : goal.returns-then-is_long-clause-whole
+returns-then-is_long-clause-whole c =
+    let long = c.in_ok-is_long.ensures (search (rules, c.if-is_long.true)) in
     IfOk-weaker c.refused_text.result _ _ (λ text told. told ∙ sym long) c.refused_text.ensures.whole
 
-pub returns-then-is_too_long-clause-short : goal.returns-then-is_too_long-clause-short
-returns-then-is_too_long-clause-short c = IfOk-weaker c.refused_text.result _ _ (λ text told. rw told too_large_short) c.refused_text.ensures.text
+pub returns-then-is_long-clause-short : goal.returns-then-is_long-clause-short
+returns-then-is_long-clause-short c = IfOk-weaker c.refused_text.result _ _ (λ text told. rw told too_large_short) c.refused_text.ensures.text
 
 pub returns-then-len-gt-REPLY_LIMIT-clause-text : goal.returns-then-len-gt-REPLY_LIMIT-clause-text
 returns-then-len-gt-REPLY_LIMIT-clause-text c =
