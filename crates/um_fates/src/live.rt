@@ -9,15 +9,15 @@ use um_state::Units;
 
 /// Whether the number is that of a live process. It takes no memory.
 pub fn is_live(units: &Units, number: ProcessNumber) -> bool
-    ensures { result ≡ is_live units.now number }
+    ensures { result ≡ is_live units.now.held number }
 {
     units.process(number.get()).is_some()
 }
 
 /// Whether the number is that of a live process whose unit is in this state. It takes no memory.
 pub fn is_in(units: &Units, sub: SubState, number: ProcessNumber) -> bool
-    ensures yes { result ≡ true → IsIn units.now sub number }
-    ensures no { result ≡ false → ¬ IsIn units.now sub number }
+    ensures yes { result ≡ true → IsIn units.now.held sub number }
+    ensures no { result ≡ false → ¬ IsIn units.now.held sub number }
 {
     match units.process(number.get()) {
         Some(unit) => units.get(unit).sub == sub,
@@ -27,7 +27,7 @@ pub fn is_in(units: &Units, sub: SubState, number: ProcessNumber) -> bool
 
 /// The numbers of the live processes, ascending.
 pub fn live_numbers(units: &Units) -> Result<Vec<ProcessNumber>, AllocError>
-    ensures { IfOk result (λ numbers. AreLive units.now numbers.items) }
+    ensures { IfOk result (λ numbers. AreLive units.now.held numbers.items) }
 {
     let mut numbers = units.processes()?;
     numbers.sort_by_key(|number| number.get())?;

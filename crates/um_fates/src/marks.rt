@@ -56,7 +56,7 @@ fn is_among(numbers: &[ProcessNumber], number: ProcessNumber) -> bool
 /// Notes each of these numbers that is live.
 fn pick_live(numbers: &[ProcessNumber], units: &Units, picked: &mut Vec<ProcessNumber>)
     requires { vec_len picked.old + length numbers.now ≤ vec_capacity picked.old }
-    ensures items { picked.new.items ≡ picked.old.items ++ filter (is_live units.now) numbers.now }
+    ensures items { picked.new.items ≡ picked.old.items ++ filter (is_live units.now.held) numbers.now }
     ensures len { vec_len picked.new ≤ vec_len picked.old + length numbers.now }
     ensures capacity { vec_capacity picked.old ≤ vec_capacity picked.new }
 {
@@ -156,7 +156,7 @@ impl Marks {
     /// No number that isn't live stays marked.
     #[tactic(auto, using(crate::proofs::Marking::distinct_filter))]
     fn forget_others(&mut self, units: &Units)
-        ensures same { self.new ≡ filter (is_live units.now) self.old }
+        ensures same { self.new ≡ filter (is_live units.now.held) self.old }
         ensures once { are_distinct self.new ≡ true }
     {
         self.is_plain = true;
@@ -167,9 +167,9 @@ impl Marks {
 
     /// Where there is no more room, the numbers that aren't live go.
     fn make_room(&mut self, units: &Units)
-        ensures live { (n : ℕ) → is_live units.now n ≡ true → has n self.new ≡ has n self.old }
+        ensures live { (n : ℕ) → is_live units.now.held n ≡ true → has n self.new ≡ has n self.old }
         ensures none { (n : ℕ) → has n self.old ≡ false → has n self.new ≡ false }
-        ensures full { 2048 ≤ length self.new → list_all (is_live units.now) self.new ≡ true }
+        ensures full { 2048 ≤ length self.new → list_all (is_live units.now.held) self.new ≡ true }
         ensures once { are_distinct self.new ≡ true }
     {
         if self.numbers.len() >= MOST_LIVE {
@@ -197,7 +197,7 @@ impl Marks {
     /// Marks a number. Where there is no more room those that aren't live go first. Where there is no memory for its index the marks are looked
     /// through from then on.
     pub fn mark(&mut self, number: ProcessNumber, units: &Units)
-        ensures { HasFewLive units.now → (n : ℕ) → is_live units.now n ≡ true → has n self.new ≡ (has n self.old || has n (number ∷ [])) }
+        ensures { HasFewLive units.now.held → (n : ℕ) → is_live units.now.held n ≡ true → has n self.new ≡ (has n self.old || has n (number ∷ [])) }
     {
         if self.contains(number) {
             return;

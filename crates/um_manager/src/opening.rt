@@ -59,7 +59,7 @@ fn signal_one<C: Children>(
     signal: Signal,
     number: ProcessNumber,
 )
-    ensures signals { IsTrue (C.honest children.old) → IsTrue (C.whole children.new) → Signalled units.now sub signal (number ∷ [])
+    ensures signals { IsTrue (C.honest children.old) → IsTrue (C.whole children.new) → Signalled units.now.held sub signal (number ∷ [])
         (C.past children.old) (C.past children.new) }
     ensures whole { IsTrue (C.whole children.new) → IsTrue (C.whole children.old) }
     ensures honest { C.honest children.new ≡ C.honest children.old }
@@ -77,7 +77,7 @@ fn signal_all<C: Children>(
     signal: Signal,
     numbers: &[ProcessNumber],
 )
-    ensures signals { IsTrue (C.honest children.old) → IsTrue (C.whole children.new) → Signalled units.now sub signal numbers.now
+    ensures signals { IsTrue (C.honest children.old) → IsTrue (C.whole children.new) → Signalled units.now.held sub signal numbers.now
         (C.past children.old) (C.past children.new) }
     ensures whole { IsTrue (C.whole children.new) → IsTrue (C.whole children.old) }
     ensures honest { C.honest children.new ≡ C.honest children.old }
@@ -110,7 +110,7 @@ fn claim_live<C: Children>(
 
 /// Kills the numbers whose unit is in stop-sigkill, and lets go what is kept of those that aren't live any more.
 fn kill_all<C: Children>(children: &mut C, units: &Units, numbers: &[ProcessNumber])
-    ensures signals { IsTrue (C.honest children.old) → IsTrue (C.whole children.new) → Signalled units.now SubState.StopSigkill Signal.Kill numbers.now (C.past children.old) (C.past children.new) }
+    ensures signals { IsTrue (C.honest children.old) → IsTrue (C.whole children.new) → Signalled units.now.held SubState.StopSigkill Signal.Kill numbers.now (C.past children.old) (C.past children.new) }
     ensures whole { IsTrue (C.whole children.new) → IsTrue (C.whole children.old) }
     ensures honest { C.honest children.new ≡ C.honest children.old }
 {

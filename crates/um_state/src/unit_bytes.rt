@@ -31,7 +31,7 @@ fn are_known(entries: &BTreeMap<UnitName, UnitState>) -> bool
 impl Canon for Units {
     ghost Value = { ByUnit unit.UnitState };
 
-    ghost value = { λ units. units };
+    ghost value = { λ units. units.held };
 
     ghost fits = { FitUnits };
 
@@ -116,7 +116,7 @@ pub(crate) fn are_distinct(alloc: Global, numbers: &[u64]) -> Result<bool, Alloc
 impl Units {
     /// Whether no window began after the clock. It takes no memory.
     pub(crate) fn have_begun(&self, clock: Moment) -> bool
-        ensures { result ≡ have_begun clock self.now }
+        ensures { result ≡ have_begun clock self.now.held }
     {
         for (_, unit) in self.entries.iter() {
             if !has_begun(clock, unit.window) {
@@ -128,7 +128,7 @@ impl Units {
 
     /// The numbers of the live processes, unit by unit.
     pub fn processes(&self) -> Result<Vec<ProcessNumber>, AllocError>
-        ensures { IfOk result (λ numbers. numbers.items ≡ numbers_in self.now) }
+        ensures { IfOk result (λ numbers. numbers.items ≡ numbers_in self.now.held) }
     {
         let mut numbers = Vec::new(self.alloc);
         for (_, unit) in self.entries.iter() {
@@ -140,7 +140,7 @@ impl Units {
 
     /// The numbers of the live processes.
     pub(crate) fn live_numbers(&self) -> Result<Vec<u64>, AllocError>
-        ensures { IfOk result (λ numbers. numbers.items ≡ numbers_in self.now) }
+        ensures { IfOk result (λ numbers. numbers.items ≡ numbers_in self.now.held) }
     {
         let mut numbers = Vec::new(self.alloc);
         for (_, unit) in self.entries.iter() {

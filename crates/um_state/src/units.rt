@@ -5,10 +5,12 @@ ghost use Rattle.std.specs.FinMap as maps;
 ghost use Rattle.std.specs.Ordering.{nat_cmp};
 ghost use Rattle.um_model.specs.Jobs.{AreTidyJobs, job_shown, jobs_shown_of, jobs_shown, jobs_of_unit, with_jobs};
 ghost use Rattle.um_model.specs.Machine.{IsOver, IsProcessOf, AreDeadlines};
-ghost use Rattle.um_model.specs.Service.{ByUnit, AreTidyUnits, state_of_unit, with_unit};
+ghost use Rattle.um_model.specs.Service.{AreTidyUnits, state_of_unit, with_unit};
+ghost use Rattle.um_model.specs.Standing.{Table};
 ghost use Rattle.um_model.specs.declared.jobs.UnitJobs as jobs;
 ghost use Rattle.um_model.specs.declared.service.UnitState as unit;
 ghost use Rattle.um_state.specs.Finding.{Finds};
+ghost use Rattle.um_state.specs.Held.{table_of};
 ghost use Rattle.um_state.specs.Shown.{job_of};
 
 use crate::finder::{Finder, state_in};
@@ -79,11 +81,11 @@ pub struct Units {
 }
 
 impl Model for Units {
-    ghost Value = { ByUnit unit.UnitState };
+    ghost Value = { Table unit.UnitState };
 
     ghost coded = { Prim.hlevel (codes, maps.code) };
 
-    ghost view = { λ u. maps.from_entries u.entries.entries };
+    ghost view = { λ u. table_of (maps.from_entries u.entries.entries) };
 
     ghost invariant = { λ u. AreTidyUnits (maps.from_entries u.entries.entries) };
 }
@@ -91,7 +93,7 @@ impl Model for Units {
 impl Units {
     /// Nothing of any unit. It takes no memory.
     pub fn new(alloc: Global) -> Units
-        ensures { result ≡ maps.empty }
+        ensures { result.held ≡ maps.empty }
     {
         Units {
             alloc,
@@ -102,8 +104,8 @@ impl Units {
 
     /// How the unit stands. It takes no memory.
     pub fn get(&self, unit: &UnitName) -> UnitState
-        ensures state { result ≡ state_of_unit self.now unit.now }
-        ensures tidy { AreTidyUnits self.now }
+        ensures state { result ≡ state_of_unit self.now.held unit.now }
+        ensures tidy { AreTidyUnits self.now.held }
     {
         match self.entries.get(unit) {
             Some(state) => *state,
@@ -113,21 +115,21 @@ impl Units {
 
     /// Whether the state holds anything of the unit. It takes no memory.
     pub fn holds(&self, unit: &UnitName) -> bool
-        ensures { result ≡ is_some (maps.get self.now unit.now) }
+        ensures { result ≡ is_some (maps.get self.now.held unit.now) }
     {
         self.entries.contains_key(unit)
     }
 
     /// Adds the names of the units of which it holds anything behind the others.
     pub(crate) fn push_names(&self, names: &mut Vec<UnitName>) -> Result<(), AllocError>
-        ensures { OnOk result (names.new.items ≡ names.old.items ++ maps.keys self.now) }
+        ensures { OnOk result (names.new.items ≡ names.old.items ++ maps.keys self.now.held) }
     {
         push_keys(names, &self.entries)
     }
 
     /// The units of which it holds anything, by name.
     pub fn names(&self) -> Result<Vec<UnitName>, AllocError>
-        ensures { IfOk result (λ names. names.items ≡ maps.keys self.now) }
+        ensures { IfOk result (λ names. names.items ≡ maps.keys self.now.held) }
     {
         let mut names = Vec::new(self.alloc);
         self.push_names(&mut names)?;
@@ -136,7 +138,7 @@ impl Units {
 
     /// Sets how the unit stands; a dead one of which nothing is known isn't held. Where memory is refused, all is as before.
     pub fn set(&mut self, unit: &UnitName, state: UnitState) -> Result<(), AllocError>
-        ensures ok { OnOk result (self.new ≡ with_unit self.old unit.now state) }
+        ensures ok { OnOk result (self.new.held ≡ with_unit self.old.held unit.now state) }
         ensures err { OnErr result (self.new ≡ self.old) }
     {
         put(&mut self.entries, &mut self.finder, unit, state)?;
@@ -145,7 +147,7 @@ impl Units {
 
     /// The first unit by name that has the number.
     fn first_with(&self, number: u64) -> Option<&UnitName>
-        ensures { MatchOption result (IsOver self.now number) (λ unit. IsProcessOf self.now number unit.now) }
+        ensures { MatchOption result (IsOver self.now.held number) (λ unit. IsProcessOf self.now.held number unit.now) }
     {
         for (unit, state) in self.entries.iter() {
             if state.has_number(number) {
@@ -157,7 +159,7 @@ impl Units {
 
     /// The unit of the live process with this number; of several the one with the least name. It takes no memory.
     pub fn process(&self, number: u64) -> Option<&UnitName>
-        ensures { MatchOption result (IsOver self.now number) (λ unit. IsProcessOf self.now number unit.now) }
+        ensures { MatchOption result (IsOver self.now.held number) (λ unit. IsProcessOf self.now.held number unit.now) }
     {
         if self.finder.is_shared {
             return self.first_with(number);
@@ -170,7 +172,7 @@ impl Units {
 
     /// The deadlines of the units.
     pub fn deadlines(&self) -> Result<Timers, AllocError>
-        ensures { IfOk result (λ timers. AreDeadlines self.now timers) }
+        ensures { IfOk result (λ timers. AreDeadlines self.now.held timers) }
     {
         let mut timers = Timers::new(self.alloc);
         for (unit, state) in self.entries.iter() {
@@ -183,7 +185,7 @@ impl Units {
 
     /// Whether the other holds the same of each unit. It takes no memory.
     pub fn is_same(&self, other: &Units) -> bool
-        ensures { IsTrue result ↔ (self.now ≡ other.now) }
+        ensures { IsTrue result ↔ (self.now.held ≡ other.now.held) }
     {
         self.entries.len() == other.entries.len() && self.entries == other.entries
     }
@@ -234,11 +236,11 @@ pub struct Pending {
 }
 
 impl Model for Pending {
-    ghost Value = { ByUnit jobs.UnitJobs };
+    ghost Value = { Table jobs.UnitJobs };
 
     ghost coded = { Prim.hlevel (codes, maps.code) };
 
-    ghost view = { λ p. maps.from_entries p.entries.entries };
+    ghost view = { λ p. table_of (maps.from_entries p.entries.entries) };
 
     ghost invariant = { λ p. AreTidyJobs (maps.from_entries p.entries.entries) };
 }
@@ -246,7 +248,7 @@ impl Model for Pending {
 impl Pending {
     /// No job. It takes no memory.
     pub fn new(alloc: Global) -> Pending
-        ensures { result ≡ maps.empty }
+        ensures { result.held ≡ maps.empty }
     {
         Pending {
             alloc,
@@ -256,8 +258,8 @@ impl Pending {
 
     /// The pending jobs of the unit. It takes no memory.
     pub fn get(&self, unit: &UnitName) -> UnitJobs
-        ensures jobs { result ≡ jobs_of_unit self.now unit.now }
-        ensures tidy { AreTidyJobs self.now }
+        ensures jobs { result ≡ jobs_of_unit self.now.held unit.now }
+        ensures tidy { AreTidyJobs self.now.held }
     {
         match self.entries.get(unit) {
             Some(jobs) => *jobs,
@@ -267,21 +269,21 @@ impl Pending {
 
     /// Whether a job of the unit is pending. It takes no memory.
     pub fn holds(&self, unit: &UnitName) -> bool
-        ensures { result ≡ is_some (maps.get self.now unit.now) }
+        ensures { result ≡ is_some (maps.get self.now.held unit.now) }
     {
         self.entries.contains_key(unit)
     }
 
     /// Adds the names of the units of which a job is pending behind the others.
     pub(crate) fn push_names(&self, names: &mut Vec<UnitName>) -> Result<(), AllocError>
-        ensures { OnOk result (names.new.items ≡ names.old.items ++ maps.keys self.now) }
+        ensures { OnOk result (names.new.items ≡ names.old.items ++ maps.keys self.now.held) }
     {
         push_keys(names, &self.entries)
     }
 
     /// Sets the pending jobs of the unit. Where memory is refused, all is as before.
     pub fn set(&mut self, unit: &UnitName, jobs: UnitJobs) -> Result<(), AllocError>
-        ensures ok { OnOk result (self.new ≡ with_jobs self.old unit.now jobs) }
+        ensures ok { OnOk result (self.new.held ≡ with_jobs self.old.held unit.now jobs) }
         ensures err { OnErr result (self.new ≡ self.old) }
     {
         if jobs.has_job() {
@@ -294,7 +296,7 @@ impl Pending {
 
     /// The pending jobs as they are told: in the order of the names of their units, of one unit the stop job first.
     pub fn shown(&self) -> Result<Vec<JobShown>, AllocError>
-        ensures { IfOk result (λ shown. map job_of shown.items ≡ jobs_shown self.now) }
+        ensures { IfOk result (λ shown. map job_of shown.items ≡ jobs_shown self.now.held) }
     {
         let mut shown = Vec::new(self.alloc);
         for (unit, jobs) in self.entries.iter() {
@@ -305,7 +307,7 @@ impl Pending {
 
     /// Whether the other holds the same jobs. It takes no memory.
     pub fn is_same(&self, other: &Pending) -> bool
-        ensures { IsTrue result ↔ (self.now ≡ other.now) }
+        ensures { IsTrue result ↔ (self.now.held ≡ other.now.held) }
     {
         self.entries.len() == other.entries.len() && self.entries == other.entries
     }

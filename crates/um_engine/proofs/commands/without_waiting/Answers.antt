@@ -21,7 +21,7 @@ returns-clause-changed c =
     let loads : Loads c.graph.result.now c.loaded.result.now =
     subst (λ g. Loads g c.loaded.result.now) (sym graph) (subst (Loads known.graph) (sym tree) c.known.ensures.knows.made.of.loaded) in
     let leads : unit ≡ model.unit_asked s asked = c.in_ok-leads.ensures.unit loads ∙ ap (λ t. unit_named t asked) tree in
-    let pending : c.pending.result.now ≡ s.pending = c.pending.ensures ∙ ap (λ (x : State). x.pending) c.state-state.ensures.state in
+    let pending : c.pending.result.now.held ≡ s.pending = c.pending.ensures ∙ ap (λ (x : State). x.pending) c.state-state.ensures.state in
     let jobs : c.cancelled-jobs.result ≡ cancelled (model.jobs_asked s asked) =
     c.cancelled-jobs.ensures ∙ ap cancelled (c.get.ensures.jobs ∙ (ap (λ p. jobs_of_unit p unit) pending ∙ ap (jobs_of_unit s.pending) leads)) in
     cancels_to s asked (state_of c.in_ok-changed.changed) (state_of c.set_jobs.new.self) unit c.cancelled-jobs.result

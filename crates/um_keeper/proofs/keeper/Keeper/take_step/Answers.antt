@@ -1,4 +1,4 @@
-use Rattle.std.proofs.Common.{◌∙◌, [], ◌∷◌, inr, sym}
+use Rattle.std.proofs.Common.{◌∙◌, [], ◌∷◌, inr, sym, ap}
 use Rattle.um_state.specs.View.{input_of}
 use Rattle.um_keeper.proofs.Results.{if_err_all}
 use Rattle.um_keeper.proofs.Kept.{still, not_begun, stores, stores_at, stores_for, if_ok, new_numbers}
@@ -20,7 +20,7 @@ pub returns-clause-during : goal.returns-clause-during
 returns-clause-during g c h = not_begun (input_of c.args.input.now ∷ []) (c.args.self.now.kept c.requires.working h)
 
 pub returns-clause-stored : goal.returns-clause-stored
-returns-clause-stored g c f h = stores_for (c.args.self.now.kept f h) (c.commit-reply.ensures.state ∙ (c.in_ok-next.ensures.nothing (sym c.has_effect.ensures ∙ c.if-has_effect.false)).0)
+returns-clause-stored g c f h = stores_for (c.args.self.now.kept f h) (ap (λ s. s.state) c.commit-reply.ensures.state ∙ (c.in_ok-next.ensures.nothing (sym c.has_effect.ensures ∙ c.if-has_effect.false)).0)
 
 pub returns-in_err-next-clause-kept : goal.returns-in_err-next-clause-kept
 returns-in_err-next-clause-kept g c = if_err_all c.from_residual.result _ (λ e. inr (λ h. still (c.args.self.now.kept c.requires.working h)))
