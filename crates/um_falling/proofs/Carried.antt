@@ -203,6 +203,3 @@ others_kept unit s u v w stands jobs next e f g = record {
 
     units : w.units ≡ with_unit s.units unit stands
     units = ap (λ (x : State). x.units) g ∙ (ap (λ (x : State). x.units) f ∙ ap (λ (x : State). x.units) e)
-
-pub kept_then : (unit : List ℕ) (s u v : State) → KeepsOthers unit s u → KeepsOthers unit u v → KeepsOthers unit s v
-kept_then unit s u v k l = record { jobs = λ x apart. l.jobs x apart ∙ k.jobs x apart; states = λ x apart. l.states x apart ∙ k.states x apart }
