@@ -221,6 +221,13 @@ pub some_waits : (s : State) (asked unit : List ℕ) (jobs : UnitJobs) → unit 
 some_waits s asked unit jobs is held waits r h =
     waits r (ap has_waiting (held ∙ ap (jobs_of_unit s.pending) is) ∙ none_told (model.jobs_asked s asked) h.none, h.refusal ∙ ap no_such_job (sym is))
 
+-- a cancel is refused as the cancel of the waiting jobs is, where the unit isn't missing
+pub cancel_refused : {X : Type 0} (s : State) (asked unit : List ℕ) (jobs : UnitJobs) → unit ≡ model.unit_asked s asked → jobs ≡ jobs_of_unit s.pending unit
+    → ((q : Refused) → ¬ IsMissing s asked q) → (result : Result X Refusal) → RefusesBy (λ r. (has_waiting jobs ≡ false) × (r ≡ no_such_job unit)) result
+    → RefusesBy (Refuses s (model.Cancel asked)) result
+cancel_refused s asked unit jobs is held there (Ok left) waits = free_to_cancel s asked there (some_waits s asked unit jobs is held waits)
+cancel_refused s asked unit jobs is held there (Err e) none = λ differs. by_none_waiting s asked _ there (none_waits s asked unit jobs is held _ (none differs))
+
 pub by_tree_of_install : (s : State) (verb : InstallVerb) (unit : List ℕ) (tree : Tree) → Installs s.tree verb unit tree → ((r : Refused) → ¬ RefusesInstall s.tree verb unit r)
     → (r : Refused) → model.CausesOfLoad s tree r → Refuses s (model.Install verb unit) r
 by_tree_of_install s verb unit tree made free r h = at_second free (record { tree = tree; installs = made; cause = h })

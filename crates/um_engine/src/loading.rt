@@ -7,7 +7,7 @@ ghost use Rattle.um_state.specs.View.{state_of};
 ghost use Rattle.um_wire.specs.Gives.{RefusesBy};
 
 use crate::known::Known;
-use crate::planning::pending_by_number;
+use crate::numbered::pending_by_number;
 use std::alloc::Global;
 use um_state::State;
 use um_transact::check_pending;

@@ -20,6 +20,7 @@ ghost use Rattle.um_wire.specs.declared.refusal.Refusal.TheVariants.{NoMemory};
 
 use crate::jobs::demand_of;
 use crate::known::Known;
+use crate::numbered::{jobs_in, jobs_named};
 use crate::served::Served;
 use std::alloc::{AllocError, Global};
 use std::rc::Rc;
@@ -27,7 +28,7 @@ use um_answer::{Asked, check_missing};
 use um_graph::Graph;
 use um_model::{ActiveState, Demand, JobMode, UnitJobs, UnitVerb};
 use um_name::UnitName;
-use um_state::{Pending, State};
+use um_state::State;
 use um_transact::{Plan, build};
 use um_wire::Refusal;
 
@@ -52,71 +53,17 @@ fn activity(alloc: Global, graph: &Graph, state: &State) -> Result<Vec<ActiveSta
     Ok(activity)
 }
 
-/// The pending jobs of the unit with this number.
-fn jobs_of(graph: &Graph, state: &State, unit: usize) -> UnitJobs
-    ensures { (x : List ℕ) → IsNumberOf graph.now unit x → result ≡ jobs_of_unit (state_of state.now).pending x }
-{
-    match graph.name(unit) {
-        Some(name) => state.pending().get(name),
-        None => UnitJobs::NONE,
-    }
-}
-
-/// The pending jobs of each unit of the graph, by number.
-pub fn pending_by_number(
-    alloc: Global,
-    graph: &Graph,
-    state: &State,
-) -> Result<Vec<UnitJobs>, AllocError>
-    ensures graph { IsGraph graph.now }
-    ensures len { IfOk result (λ pending. length pending.items ≡ length graph.now.names) }
-    ensures each { IfOk result (λ pending. ArePending graph.now (state_of state.now) pending.items) }
-{
-    let mut pending = Vec::new(alloc);
-    for unit in 0..graph.len() {
-        pending.push(jobs_of(graph, state, unit))?;
-    }
-    Ok(pending)
-}
-
-/// Puts the jobs that the plan has for the unit with this number.
-fn put_jobs(
-    pending: &mut Pending,
-    graph: &Graph,
-    plan: &Plan,
-    unit: usize,
-) -> Result<(), AllocError>
-    ensures { OnOk result ((x : List ℕ) → IsNumberOf graph.now unit x → pending.new ≡ with_jobs pending.old x (jobs_at plan.now unit)) }
-{
-    match graph.name(unit) {
-        Some(name) => pending.set(name, plan.jobs(unit)),
-        None => Ok(()),
-    }
-}
-
-/// The jobs of the plan by the names of the units.
-fn jobs_planned(alloc: Global, graph: &Graph, plan: &Plan) -> Result<Pending, AllocError>
-    requires { length plan.now ≡ length graph.now.names }
-    ensures { IfOk result (λ pending. pending ≡ jobs_by graph.now.names plan.now) }
-{
-    let mut pending = Pending::new(alloc);
-    let mut unit = graph.len();
-    while unit > 0 {
-        unit -= 1;
-        put_jobs(&mut pending, graph, plan, unit)?;
-    }
-    Ok(pending)
-}
-
 /// The plan for what is demanded of the unit with this number.
 fn plan_for(
     alloc: Global,
     graph: &Graph,
     state: &State,
+    pending: &[UnitJobs],
     demand: Demand,
     unit: usize,
     mode: JobMode,
 ) -> Result<Plan, Refusal>
+    requires { ArePending graph.now (state_of state.now) pending.now }
     ensures len { IfOk result (λ plan. length plan ≡ length graph.now.names) }
     ensures accepted { IfOk result (λ plan. (x : List ℕ) → IsNumberOf graph.now unit x
         → IsGraphFor (state_of state.now).loaded (IsHeldOr (state_of state.now) x) graph.now
@@ -126,8 +73,7 @@ fn plan_for(
         → IsRefused (scene_at (state_of state.now) x) (demand, x) mode (refused_of e)) }
 {
     let activity = activity(alloc, graph, state)?;
-    let pending = pending_by_number(alloc, graph, state)?;
-    build(alloc, graph, &activity, &pending, demand, unit, mode)
+    build(alloc, graph, &activity, pending, demand, unit, mode)
 }
 
 /// The state with the plan for what is demanded of the unit.
@@ -147,9 +93,12 @@ fn demanded(
     let Some(number) = graph.number(unit) else {
         return Ok(state.copy()?);
     };
-    let plan = plan_for(alloc, graph, state, demand, number, mode)?;
+    let mut jobs = jobs_in(alloc, graph, state)?;
+    let pending = jobs.as_slice();
+    let plan = plan_for(alloc, graph, state, pending, demand, number, mode)?;
+    jobs.install(plan.as_slice());
     let mut planned = state.copy()?;
-    planned.set_pending(jobs_planned(alloc, graph, &plan)?);
+    planned.set_pending(jobs_named(alloc, graph, &jobs)?);
     Ok(planned)
 }
 

@@ -62,10 +62,7 @@ fn pick_live(numbers: &[ProcessNumber], units: &Units, picked: &mut Vec<ProcessN
 {
     for number in numbers {
         if is_live(units, *number) {
-            match picked.push(*number) {
-                Ok(()) => {}
-                Err(_) => unreachable!(),
-            }
+            picked.push_reserved(*number);
         }
     }
 }
@@ -83,10 +80,7 @@ fn note(noted: &mut Vec<ProcessNumber>, number: ProcessNumber)
     if is_among(noted.as_slice(), number) {
         return;
     }
-    match noted.push(number) {
-        Ok(()) => {}
-        Err(_) => unreachable!(),
-    }
+    noted.push_reserved(number);
 }
 
 /// Adds the number to an index. False where there is no memory for it.
@@ -184,10 +178,7 @@ impl Marks {
         ensures { self.new ≡ (if nat_lt (length self.old) 2048 then self.old ++ number ∷ [] else self.old) }
     {
         if self.numbers.len() < MOST_LIVE {
-            match self.numbers.push(number) {
-                Ok(()) => {}
-                Err(_) => unreachable!(),
-            }
+            self.numbers.push_reserved(number);
             if !enter(&mut self.index, number) {
                 self.is_plain = true;
             }

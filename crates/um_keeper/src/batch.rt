@@ -28,10 +28,7 @@ fn note(answers: &mut Vec<Result<Receipt, Refusal>>, answer: Result<Receipt, Ref
     ensures len { vec_len answers.new ≡ vec_len answers.old + 1 }
     ensures capacity { vec_capacity answers.old ≤ vec_capacity answers.new }
 {
-    match answers.push(answer) {
-        Ok(()) => {}
-        Err(_) => unreachable!(),
-    }
+    answers.push_reserved(answer);
 }
 
 /// Keeps the way back from a step, for which there is room.
@@ -41,10 +38,7 @@ fn keep(backs: &mut Vec<Back>, back: Back)
     ensures len { vec_len backs.new ≡ vec_len backs.old + 1 }
     ensures capacity { vec_capacity backs.old ≤ vec_capacity backs.new }
 {
-    match backs.push(back) {
-        Ok(()) => {}
-        Err(_) => unreachable!(),
-    }
+    backs.push_reserved(back);
 }
 
 /// Lets go of an answer that nobody was given.

@@ -61,10 +61,7 @@ pub fn put_reply(replies: &mut Vec<Reply>, reply: Reply)
     ensures len { vec_len replies.new ≡ vec_len replies.old + 1 }
     ensures capacity { vec_capacity replies.old ≤ vec_capacity replies.new }
 {
-    match replies.push(reply) {
-        Ok(()) => {}
-        Err(_) => unreachable!(),
-    }
+    replies.push_reserved(reply);
 }
 
 /// Carries out what the answer to an input hands out, and gives the reply.

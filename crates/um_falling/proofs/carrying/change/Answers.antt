@@ -1,7 +1,7 @@
 use Rattle.std.proofs.Common.{◌∙◌, ap, map}
 use Rattle.std.proofs.lemmas.List.{map-append}
 use Rattle.um_state.specs.View.{state_of, action_of}
-use Rattle.um_falling.proofs.Carried.{changes_so, no_more_left, others_kept}
+use Rattle.um_falling.proofs.Carried.{changes_so, ends_own, no_more_left, others_kept}
 use Rattle.um_falling.proofs.FallenLaws.{stopped_by, stops_one}
 use Rattle.um_model.specs.Service.{state_of_unit}
 use Rattle.um_unit.specs.ServiceView.{service_settings_of}
@@ -33,6 +33,11 @@ returns-clause-changes c = λ serves known.
 pub returns-clause-waits : goal.returns-clause-waits
 returns-clause-waits c =
     no_more_left c.args.unit.now c.in_ok-asked.asked.start c.in_ok-asked.asked.stop_ends (state_of c.args.state.now) (state_of c.set_unit.new.self) (state_of c.set_jobs.new.self) (state_of c.set_next.new.self)
+    c.unit.result c.in_ok-asked.asked.next c.in_ok-set_unit.ensures.ok (rw (c.jobs_left.ensures, c.get-jobs.ensures.jobs, c.pending.ensures) at c.in_ok-set_jobs.ensures.ok) c.set_next.ensures
+
+pub returns-clause-ends : goal.returns-clause-ends
+returns-clause-ends c =
+    ends_own c.args.unit.now c.in_ok-asked.asked.start c.in_ok-asked.asked.stop_ends (state_of c.args.state.now) (state_of c.set_unit.new.self) (state_of c.set_jobs.new.self) (state_of c.set_next.new.self)
     c.unit.result c.in_ok-asked.asked.next c.in_ok-set_unit.ensures.ok (rw (c.jobs_left.ensures, c.get-jobs.ensures.jobs, c.pending.ensures) at c.in_ok-set_jobs.ensures.ok) c.set_next.ensures
 
 pub returns-clause-others : goal.returns-clause-others

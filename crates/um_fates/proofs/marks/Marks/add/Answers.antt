@@ -9,9 +9,9 @@ pub invariant_of-self-inside-else-not-enter : goal.invariant_of-self-inside-else
 invariant_of-self-inside-else-not-enter c =
     let old = c.self.inside.numbers.items in
     let number = c.args.number in
-    let items = c.in-Ok.ensures.items in
-    let room : 2048 ≤ vec_capacity c.push.new.self = omega (arith, c.self.inside.room, c.in-Ok.ensures.capacity) in
-    let fits : vec_len c.push.new.self ≤ vec_capacity c.self.inside.spare = omega (arith, c.in-Ok.ensures.len, c.if-len-lt-MOST_LIVE.true, c.len.ensures, c.self.inside.spare_room) in
+    let items = c.push_reserved.ensures.items in
+    let room : 2048 ≤ vec_capacity c.push_reserved.new.self = omega (arith, c.self.inside.room, c.push_reserved.ensures.capacity) in
+    let fits : vec_len c.push_reserved.new.self ≤ vec_capacity c.self.inside.spare = omega (arith, c.push_reserved.ensures.len, c.if-len-lt-MOST_LIVE.true, c.len.ensures, c.self.inside.spare_room) in
     let isnt = subst (λ ns. has number ns ≡ false) (sym c.self.view_is) c.requires in
     let once = subst (λ ns. are_distinct ns ≡ true) (sym items) (distinct_push number old c.self.inside.once isnt) in
     (room, (c.self.inside.spare_room, (fits, (once, ((λ plain n.

@@ -4,12 +4,12 @@ use Rattle.um_graph.proofs.NamedLaws.{name_got}
 use Rattle.um_jobs.specs.Named.{jobs_at, jobs_by}
 use Rattle.um_model.specs.Jobs.{with_jobs}
 use Rattle.um_engine.proofs.NumberedLaws.{jobs_from}
-use Rattle.um_engine.proofs.planning.jobs_planned.Goals as goal
+use Rattle.um_engine.proofs.numbered.jobs_named.Goals as goal
 
 pub loop-unit-preserved : goal.loop-unit-preserved
 loop-unit-preserved c =
     let names = c.args.graph.now.names in
-    let plan = c.args.plan.now in
+    let plan = c.args.jobs.now.units in
     let n = c.loop-unit.unit - 1 in
     let next : suc n ≡ c.loop-unit.unit = omega (arith, c.loop-unit-test.true) in
     let low : n < length names = omega (arith, c.loop-unit-test.true, c.loop-unit.invariant.within) in

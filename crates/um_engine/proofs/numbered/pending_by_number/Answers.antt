@@ -5,7 +5,7 @@ use Rattle.um_model.specs.Jobs.{jobs_of_unit, no_jobs}
 use Rattle.um_model.specs.declared.jobs.UnitJobs.{UnitJobs}
 use Rattle.um_state.specs.View.{state_of}
 use Rattle.um_engine.proofs.NumberedLaws.{each_more}
-use Rattle.um_engine.proofs.planning.pending_by_number.Goals as goal
+use Rattle.um_engine.proofs.numbered.pending_by_number.Goals as goal
 
 pub loop-unit-preserved : goal.loop-unit-preserved
 loop-unit-preserved c = record {

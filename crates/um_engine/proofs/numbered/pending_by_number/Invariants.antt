@@ -3,7 +3,7 @@ use Rattle.um_graph.specs.Graph.{IsNumberOf}
 use Rattle.um_jobs.specs.Named.{jobs_at}
 use Rattle.um_model.specs.Jobs.{jobs_of_unit}
 use Rattle.um_state.specs.View.{state_of}
-use Rattle.um_engine.proofs.planning.pending_by_number.Given as goal
+use Rattle.um_engine.proofs.numbered.pending_by_number.Given as goal
 
 abbrev pub invariant-loop-unit : goal.invariant-loop-unit
 invariant-loop-unit l = record {
