@@ -82,7 +82,7 @@ fn put_jobs(
     jobs: &Jobs<'_>,
     unit: usize,
 ) -> Result<(), AllocError>
-    ensures { OnOk result ((x : List ℕ) → IsNumberOf graph.now unit x → pending.new ≡ with_jobs pending.old x (jobs_at jobs.now.units unit)) }
+    ensures { OnOk result ((x : List ℕ) → IsNumberOf graph.now unit x → pending.new.held ≡ with_jobs pending.old.held x (jobs_at jobs.now.units unit)) }
 {
     match graph.name(unit) {
         Some(name) => pending.set(name, jobs.get(unit)),
@@ -93,7 +93,7 @@ fn put_jobs(
 /// The pending jobs by the names of the units.
 pub fn jobs_named(alloc: Global, graph: &Graph, jobs: &Jobs<'_>) -> Result<Pending, AllocError>
     requires { length jobs.now.units ≡ length graph.now.names }
-    ensures { IfOk result (λ pending. pending ≡ jobs_by graph.now.names jobs.now.units) }
+    ensures { IfOk result (λ pending. pending.held ≡ jobs_by graph.now.names jobs.now.units) }
 {
     let mut pending = Pending::new(alloc);
     let mut unit = graph.len();
