@@ -282,8 +282,7 @@ impl<'a, R: Files + Processes + Clock> RunnerDir<'a, R> {
     }
 
     /// What is known of the number now; its files are read where anything may have come since they were read.
-    fn look(&self, number: ProcessNumber) -> Result<Known, Trouble> {
-        let known = self.known(number);
+    fn look(&self, number: ProcessNumber, known: Known) -> Result<Known, Trouble> {
         let changes = Some(self.watch.changes());
         if known.standing.is_final() || known.changes == changes {
             return Ok(known);
@@ -333,9 +332,14 @@ impl<'a, R: Files + Processes + Clock> RunnerDir<'a, R> {
     }
 
     /// What is known of the number, once it was claimed where it has to be, and a kept signal was sent where it can be.
-    fn learn(&self, number: ProcessNumber, claim: bool) -> Result<Known, Trouble> {
+    fn learn(
+        &self,
+        number: ProcessNumber,
+        before: Known,
+        claim: bool,
+    ) -> Result<Known, Trouble> {
         self.admit()?;
-        let mut known = self.look(number)?;
+        let mut known = self.look(number, before)?;
         if claim && known.standing == Standing::Silent {
             known.standing = self.bar(number)?;
         }
@@ -374,10 +378,11 @@ impl<'a, R: Files + Processes + Clock> RunnerDir<'a, R> {
         self.begin(number);
         let was_restless = mem::replace(&mut self.is_restless, true);
         self.silent = None;
-        let known = self.learn(number, claim)?;
+        let before = self.known(number);
+        let known = self.learn(number, before, claim)?;
         self.heed(number, known.standing);
         // where there is no memory for it the files are read again
-        let is_kept = self.known.insert(number.get(), known).is_ok();
+        let is_kept = known == before || self.known.insert(number.get(), known).is_ok();
         self.is_restless = was_restless || !is_kept || !known.is_settled();
         Ok(known.standing.fate(claim))
     }

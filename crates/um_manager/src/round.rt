@@ -31,12 +31,29 @@ fn tick(moment: Moment) -> Input
     Input::new(moment, Event::Happened(Happening::Tick))
 }
 
+/// The number of which an input tells an end.
+fn end_in(input: &Input) -> Option<ProcessNumber> {
+    match input.event() {
+        Event::Happened(Happening::ProcessEnded { number, end: _ }) => ProcessNumber::new(*number),
+        _ => None,
+    }
+}
+
 /// The replies behind so many.
 fn behind(replies: &[Reply], count: usize) -> &[Reply]
     requires { count ≤ length replies.now }
     ensures { result.now ≡ drop count replies.now }
 {
     &replies[count..]
+}
+
+/// Notes the numbers of which these inputs tell an end, where there is room.
+fn note_ended(inputs: &[Input], ended: &mut Vec<ProcessNumber>) {
+    for input in inputs {
+        if let Some(number) = end_in(input) {
+            let _noted = ended.push(number);
+        }
+    }
 }
 
 /// Forgets each of these numbers that isn't live any more. What isn't forgotten for a fault is forgotten by a later opening.
@@ -87,6 +104,9 @@ pub fn turn<D: Disk, C: Children>(
     let Ok(mut owed) = Vec::with_capacity(alloc, CONNECTIONS) else {
         return Err(Refusal::NoMemory);
     };
+    let Ok(mut ended) = Vec::with_capacity(alloc, live.len()) else {
+        return Err(Refusal::NoMemory);
+    };
     if room_all(sessions, pieces).is_err() {
         return Err(Refusal::NoMemory);
     }
@@ -98,12 +118,14 @@ pub fn turn<D: Disk, C: Children>(
         moment,
         &mut inputs,
     );
+    note_ended(&inputs, &mut ended);
     put(&mut inputs, tick(moment));
     let firsts = inputs.len();
     take_all(alloc, sessions, pieces, moment, &mut inputs, &mut owed);
     let submitted = submit(keeper, children, marks, inputs, &mut replies);
     let replies = behind(replies.as_slice(), firsts);
     pay_all(alloc, keeper, sessions, owed.as_slice(), replies);
-    forget_ended(children, keeper.state().units(), live.as_slice());
+    // nothing else is over, so that a turn in which nothing ended looks for none
+    forget_ended(children, keeper.state().units(), ended.as_slice());
     submitted
 }

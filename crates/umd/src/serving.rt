@@ -4,7 +4,7 @@ use crate::lines::Lines;
 use crate::messages::{DEVICE, REFUSED, tell_ending};
 use crate::places::{Taken, lacks, take_places};
 use crate::telling::{News, Tally, Telling};
-use std::alloc::Global;
+use std::alloc::{AllocError, Global};
 use std::fs::{File, Files};
 use std::net::Net;
 use std::process::Processes;
@@ -22,6 +22,14 @@ use um_wire::Refusal;
 
 /// Behind a sleep of so many parts, of 40 ms at most while a process is live, comes a round in any case.
 const PARTS: u32 = 25;
+
+/// A block of so many bytes is taken, and given back, before anything is served. From then on the system's allocator keeps twice as much that is
+/// free; before, it would give back what is past 128 KiB behind each turn, and take it anew in the next.
+const BLOCK: usize = 1 << 19;
+
+fn take_block(alloc: Global) {
+    let _block: Result<Vec<u8>, AllocError> = Vec::with_capacity(alloc, BLOCK);
+}
 
 /// Why nothing is served any more, as a line on standard error, and the exit status.
 #[derive(Clone, Copy)]
@@ -170,6 +178,7 @@ fn serve_over<R>(system: &R, alloc: Global, line: &ServeLine<'_>) -> Result<u8, 
 where
     R: Files<File = File> + Net + Processes + Clock + Eprint,
 {
+    take_block(alloc);
     let lines = Lines::new(system, alloc);
     let rt = &lines;
     let boot = match boot_id(alloc, line.boot) {

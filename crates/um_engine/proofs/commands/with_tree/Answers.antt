@@ -1,7 +1,7 @@
-use Rattle.std.proofs.Common.{◌∙◌, ap, subst, sym}
+use Rattle.std.proofs.Common.{◌≡◌, ◌∙◌, ap, sym, subst}
 use Rattle.um_model.specs.Machine.{State}
 use Rattle.um_state.specs.View.{state_of}
-use Rattle.um_engine.specs.Known.{KnownView, KnowsFor}
+use Rattle.um_engine.specs.Known.{KnowsFor}
 use Rattle.um_engine.proofs.KnownLaws.{few_loaded, knows_loaded}
 use Rattle.um_engine.proofs.commands.with_tree.Goals as goal
 
@@ -13,7 +13,7 @@ with-requires-clause-few c =
 pub with-requires-clause-knows : goal.with-requires-clause-knows
 with-requires-clause-knows c =
     let s = state_of c.args.state.now in
-    let u = state_of c.load_tree.new.self in
-    subst (λ (k : KnownView). KnowsFor k u) (sym c.in_ok-known-2.ensures.ok)
-    (knows_loaded c.in_ok-known.known s u c.args.tree c.in_ok-known.ensures.made c.in_ok-known.ensures.held
-    (c.in_ok-load_tree.ensures.ok ∙ ap (λ (x : State). record x { tree = c.args.tree; loaded = c.args.tree }) c.in_ok-changed.ensures))
+    let loaded : state_of c.load_tree.new.self ≡ record s { tree = c.args.tree; loaded = c.args.tree } =
+    c.in_ok-load_tree.ensures.ok ∙ ap (λ (x : State). record x { tree = c.args.tree; loaded = c.args.tree }) c.in_ok-changed.ensures in
+    subst (λ k. KnowsFor k (state_of c.load_tree.new.self)) (sym c.in_ok-known-2.ensures.ok)
+    (knows_loaded c.in_ok-known.known s (state_of c.load_tree.new.self) c.args.tree c.in_ok-known.ensures.made c.in_ok-known.ensures.held loaded)
