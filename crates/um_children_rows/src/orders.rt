@@ -21,10 +21,10 @@ pub fn told<C: Children>(rt: &impl Abort, children: &mut C, n: u64, claim: bool,
     assert_eq!(rt; children.fate(number(rt, n), claim), Ok(wanted), "at {n}");
 }
 
-/// The keeper of a new store in memory.
+/// The keeper of a new store in memory, with room for a unit of 64 kB.
 fn keeper(rt: &(impl AllocGlobal + Abort)) -> Keeper<MemDisk> {
-    let mut disk = MemDisk::new(rt.alloc(), 641).expect(rt, "no memory");
-    let layout = Layout::new(64, 512).expect(rt, "no layout");
+    let mut disk = MemDisk::new(rt.alloc(), 1_537).expect(rt, "no memory");
+    let layout = Layout::new(512, 512).expect(rt, "no layout");
     create(rt.alloc(), &mut disk, layout).expect(rt, "not created");
     match Keeper::open(rt.alloc(), disk) {
         Ok(keeper) => keeper,

@@ -1,7 +1,7 @@
 //! What follows from what happens.
 
 ghost use Rattle.std.specs.Bool.{Decides};
-ghost use Rattle.std.specs.Prelude.{◌≡◌, ◌↔◌, ℕ, List, [], Contains, map, option_map, IsTrue, IfOk, IfSome};
+ghost use Rattle.std.specs.Prelude.{◌≡◌, ◌↔◌, ◌&&◌, ℕ, List, [], Contains, map, option_map, IsTrue, IfOk, IfSome};
 ghost use Rattle.um_engine.specs.Engine.{FollowsUpon, Met, MetBy, IsSame};
 ghost use Rattle.um_engine.specs.Known.{KnowsFor};
 ghost use Rattle.um_falling.specs.Over.{Serves};
@@ -105,15 +105,23 @@ fn is_number(number: u64, process: Option<ProcessNumber>) -> bool
     }
 }
 
+/// Whether a unit that stands so may wait for a report of the process with the number: it is its main process, and the start goes on.
+fn may_await(stands: UnitState, number: u64) -> bool
+    ensures { result ≡ (waits_for_report stands.sub && is_number number stands.main) }
+{
+    waits_for_report(stands.sub) && is_number(number, stands.main)
+}
+
 /// Whether the unit, one of the graph, waits for the report that the program of its main process runs, and that process has the
-/// number.
+/// number. The graph is asked only where the unit stands so.
 fn awaits_report(graph: &Graph, state: &State, number: u64, unit: &UnitName) -> bool
     ensures { Serves graph.now (state_of state.now) → Contains graph.now.names unit.now → Decides result (model.AwaitsReport (state_of state.now) number unit.now) }
 {
     let stands = state.units().get(unit);
-    waits_for_report(stands.sub)
-        && is_number(number, stands.main)
-        && has_one_command(kind_in(graph, unit))
+    if !may_await(stands, number) {
+        return false;
+    }
+    has_one_command(kind_in(graph, unit))
 }
 
 /// The state after the report that the program of a process runs; none where no unit waits for it.
