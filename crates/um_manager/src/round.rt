@@ -31,14 +31,6 @@ fn tick(moment: Moment) -> Input
     Input::new(moment, Event::Happened(Happening::Tick))
 }
 
-/// The number of which an input tells an end.
-fn end_in(input: &Input) -> Option<ProcessNumber> {
-    match input.event() {
-        Event::Happened(Happening::ProcessEnded { number, end: _ }) => ProcessNumber::new(*number),
-        _ => None,
-    }
-}
-
 /// The replies behind so many.
 fn behind(replies: &[Reply], count: usize) -> &[Reply]
     requires { count ≤ length replies.now }
@@ -50,8 +42,10 @@ fn behind(replies: &[Reply], count: usize) -> &[Reply]
 /// Notes the numbers of which these inputs tell an end, where there is room.
 fn note_ended(inputs: &[Input], ended: &mut Vec<ProcessNumber>) {
     for input in inputs {
-        if let Some(number) = end_in(input) {
-            let _noted = ended.push(number);
+        if let Event::Happened(Happening::ProcessEnded { number, end: _ }) = input.event() {
+            if let Some(number) = ProcessNumber::new(*number) {
+                let _noted = ended.push(number);
+            }
         }
     }
 }
