@@ -424,7 +424,7 @@ module _ (tree : Tree) (asked : List â„•) (u : Tree) (is : is_unit_name asked â‰
   obeyed_again r (at_first (enables_none (at_first unfit))) = fit_again unfit.name unfit.least.has
   obeyed_again r (at_first (enables_none (at_second fit (at_first occupied)))) = free_again occupied.name occupied.least.has
   obeyed_again r (at_first (enables_none (at_second fit (at_second free many)))) = few_again r many
-  obeyed_again r (at_second made (takes_none barred)) = open_again barred.name barred.least.has
+  obeyed_again r (at_second _ (takes_none barred)) = open_again barred.name barred.least.has
 
   pub enable_twice : Obeys u verbs.Enable asked u
   enable_twice = record { free = obeyed_again; makes = enables already }
