@@ -332,12 +332,7 @@ impl<'a, R: Files + Processes + Clock> RunnerDir<'a, R> {
     }
 
     /// What is known of the number, once it was claimed where it has to be, and a kept signal was sent where it can be.
-    fn learn(
-        &self,
-        number: ProcessNumber,
-        before: Known,
-        claim: bool,
-    ) -> Result<Known, Trouble> {
+    fn learn(&self, number: ProcessNumber, before: Known, claim: bool) -> Result<Known, Trouble> {
         self.admit()?;
         let mut known = self.look(number, before)?;
         if claim && known.standing == Standing::Silent {
