@@ -275,11 +275,7 @@ fn room_after(alloc: Global, room: Room, action: &Action) -> Result<Option<Room>
 }
 
 /// The room that the words of these actions leave.
-fn room_after_all(
-    alloc: Global,
-    room: Room,
-    actions: &[Action],
-) -> Result<Option<Room>, AllocError>
+fn room_after_all(alloc: Global, room: Room, actions: &[Action]) -> Result<Option<Room>, AllocError>
     ensures { IfOk result (λ free. free ≡ left room (flat_map words_told (map action_of actions.now))) }
 {
     let mut free = room;
