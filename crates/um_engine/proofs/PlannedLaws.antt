@@ -10,7 +10,7 @@ use Rattle.um_model.specs.Machine as model
 use Rattle.um_model.specs.Machine.{State, IsCrowded, IsHeld, IsHeldOr, IsNotThere, Refuses, Changes, active_asked, demand_of, scene_at}
 use Rattle.um_model.specs.Reached.{first}
 use Rattle.um_model.specs.Refusals.{Refused}
-use Rattle.um_model.specs.Service.{active_state_of, state_of_unit}
+use Rattle.um_model.specs.Service.{ByUnit, active_state_of, state_of_unit}
 use Rattle.um_model.specs.Tree.{Tree, without_run}
 use Rattle.um_model.specs.declared.commands.JobMode.{JobMode}
 use Rattle.um_model.specs.declared.commands.UnitVerb.{UnitVerb}
@@ -21,7 +21,7 @@ use Rattle.um_graph.specs.Graph.{GraphView}
 use Rattle.um_graph.proofs.NamedLaws.{among_or_apart, name_got}
 use Rattle.um_jobs.specs.Named.{jobs_by}
 use Rattle.um_jobs.proofs.NamedLaws.{jobs_by_none, jobs_by_tidy}
-use Rattle.um_transact.specs.Scene.{IsRefused}
+use Rattle.um_transact.specs.Scene.{IsAccepted, IsRefused}
 use Rattle.um_wire.specs.Gives.{RefusesBy}
 use Rattle.um_wire.specs.Refusal.{refused_of}
 use Rattle.um_wire.specs.declared.refusal.Refusal.{Refusal}
@@ -58,6 +58,11 @@ holds_planned s u named g plan exact is x held = by (subst (λ (w : State). IsHe
     by : IsHeld (record s { pending = jobs_by g.names plan }) x → Contains g.names x
     by (inl unit) = (exact.of.known x).1 (first (extra (inl (inl unit))))
     by (inr job) = planned (map.get (jobs_by g.names plan) x) refl job
+
+-- the state with the plan has it
+pub has_plan : (s u : State) (root : Demand × List ℕ) (mode : JobMode) (after : ByUnit UnitJobs) → IsAccepted (scene_at s root.1) root mode after
+    → u ≡ record s { pending = after } → HasPlan s root mode u
+has_plan s u root mode after accepted is = subst (HasPlan s root mode) (sym is) (record { accepted = accepted; rest = refl })
 
 -- what is known is known for that state
 pub knows_after : (k : KnownView) (s u : State) (demand : Option Demand) (unit : List ℕ) (mode : JobMode) → IsGraphFor s.loaded (Contains k.extra) k.graph

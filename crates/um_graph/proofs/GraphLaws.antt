@@ -457,7 +457,7 @@ module _ (tree : Tree) (extra : List (List ℕ)) (loaded : Loaded) (told : List 
         apart = λ i j d lt le e. not_before_itself _ _ (ascend i j d lt le) e;
         many = many;
       }))
-      | inr no ↦ omega arith
+      | inr fits ↦ omega arith
     ]
 
     pub graph_sound : ¬ KnowsTooMany tree Extra → (count : ℕ) → IsGraph (graph_of units count)

@@ -52,7 +52,7 @@ module _ (g : GraphView) (is : IsGraph g) where
       out (u, l, c) =
           let f = flat_contains (dependencies_by u) (row_of g.rows u) (kind, x, y) c in
           let k = flat_contains (dependency_by u f.0) all_kinds (kind, x, y) f.2 in
-          let one = one_is (has (bit_of k.0) f.0.kinds) (k.0, u, f.0.unit) (kind, x, y) k.2 in
+          let one = one_is {A = DependencyKind × ℕ × ℕ} (has (bit_of k.0) f.0.kinds) (k.0, u, f.0.unit) (kind, x, y) k.2 in
           subst (λ (e : DependencyKind × ℕ × ℕ). Stands g.rows (bit_of e.0) e.1 e.2) one.1
           (record { neighbour = f.0; listed = f.1; is = refl; kind = one.0 })
 
@@ -62,7 +62,7 @@ module _ (g : GraphView) (is : IsGraph g) where
         (stands_within g is (bit_of kind) x y s).0,
         contains_flat (dependencies_by x) (row_of g.rows x) s.neighbour (kind, x, y) s.listed
             (contains_flat (dependency_by x s.neighbour) all_kinds kind (kind, x, y) (each_kind kind)
-            (subst (λ u. Contains (dependency_by x s.neighbour kind) (kind, x, u)) s.is (one_in (has (bit_of kind) s.neighbour.kinds) (kind, x, s.neighbour.unit) s.kind))),
+            (subst (λ u. Contains (dependency_by x s.neighbour kind) (kind, x, u)) s.is (one_in {A = DependencyKind × ℕ × ℕ} (has (bit_of kind) s.neighbour.kinds) (kind, x, s.neighbour.unit) s.kind))),
       )
 
   -- ---- the order
@@ -73,7 +73,7 @@ module _ (g : GraphView) (is : IsGraph g) where
       out : (u : ℕ) × (u < length g.names) × Contains (order_in u (row_of g.rows u)) (x, y) → Stands g.rows before_bit x y
       out (u, l, c) =
           let f = flat_contains (order_by u) (row_of g.rows u) (x, y) c in
-          let one = one_is (has before_bit f.0.kinds) (u, f.0.unit) (x, y) f.2 in
+          let one = one_is {A = ℕ × ℕ} (has before_bit f.0.kinds) (u, f.0.unit) (x, y) f.2 in
           subst (λ (e : ℕ × ℕ). Stands g.rows before_bit e.0 e.1) one.1 (record { neighbour = f.0; listed = f.1; is = refl; kind = one.0 })
 
       back : Stands g.rows before_bit x y → Contains items (x, y)
@@ -81,5 +81,5 @@ module _ (g : GraphView) (is : IsGraph g) where
         x,
         (stands_within g is before_bit x y s).0,
         contains_flat (order_by x) (row_of g.rows x) s.neighbour (x, y) s.listed
-            (subst (λ u. Contains (order_by x s.neighbour) (x, u)) s.is (one_in (has before_bit s.neighbour.kinds) (x, s.neighbour.unit) s.kind)),
+            (subst (λ u. Contains (order_by x s.neighbour) (x, u)) s.is (one_in {A = ℕ × ℕ} (has before_bit s.neighbour.kinds) (x, s.neighbour.unit) s.kind)),
       )

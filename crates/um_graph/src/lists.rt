@@ -1,10 +1,9 @@
 //! The dependencies and the order of a graph as lists of pairs of numbers.
 
 ghost use Rattle.std.specs.Prelude.{◌≡◌, ◌↔◌, ◌++◌, ℕ, Contains, IfOk, OnOk};
-ghost use Rattle.std.specs.List.{flat_map};
 ghost use Rattle.um_graph.specs.Graph.{Stands};
 ghost use Rattle.um_graph.specs.Kinds.{before_bit, bit_of};
-ghost use Rattle.um_graph.specs.Listed.{dependencies_by, dependencies_in, order_in};
+ghost use Rattle.um_graph.specs.Listed.{dependencies_by, dependencies_in, dependency_by, order_in};
 ghost use Rattle.um_model.specs.declared.dependencies.DependencyKind.{DependencyKind as Kind};
 
 use crate::graph::Graph;
@@ -12,16 +11,23 @@ use crate::row::Neighbour;
 use std::alloc::{AllocError, Global};
 use um_model::DependencyKind;
 
-const ALL_KINDS: [DependencyKind; 5] = [
-    DependencyKind::Wants,
-    DependencyKind::Requires,
-    DependencyKind::BindsTo,
-    DependencyKind::PartOf,
-    DependencyKind::Conflicts,
-];
-
 /// A dependency: its kind, and the numbers of the unit that depends and of the one on which it does.
 type Dependency = (DependencyKind, usize, usize);
+
+/// Adds that the unit with this number depends on its neighbour so, where it does.
+fn push_kind(
+    edges: &mut Vec<Dependency>,
+    unit: usize,
+    neighbour: Neighbour,
+    kind: DependencyKind,
+) -> Result<(), AllocError>
+    ensures { OnOk result (edges.new.items ≡ edges.old.items ++ dependency_by unit neighbour kind) }
+{
+    if neighbour.kinds.has(kind) {
+        edges.push((kind, unit, neighbour.unit))?;
+    }
+    Ok(())
+}
 
 /// Adds in which ways the unit with this number depends on its neighbour.
 fn push_kinds(
@@ -31,11 +37,11 @@ fn push_kinds(
 ) -> Result<(), AllocError>
     ensures { OnOk result (edges.new.items ≡ edges.old.items ++ dependencies_by unit neighbour) }
 {
-    for kind in ALL_KINDS {
-        if neighbour.kinds.has(kind) {
-            edges.push((kind, unit, neighbour.unit))?;
-        }
-    }
+    push_kind(edges, unit, neighbour, DependencyKind::Wants)?;
+    push_kind(edges, unit, neighbour, DependencyKind::Requires)?;
+    push_kind(edges, unit, neighbour, DependencyKind::BindsTo)?;
+    push_kind(edges, unit, neighbour, DependencyKind::PartOf)?;
+    push_kind(edges, unit, neighbour, DependencyKind::Conflicts)?;
     Ok(())
 }
 

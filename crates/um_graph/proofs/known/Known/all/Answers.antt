@@ -6,13 +6,13 @@ use Rattle.um_graph.proofs.CountLaws.{knows}
 use Rattle.um_graph.proofs.KnownLaws.{left_out, left_out_as}
 use Rattle.um_graph.proofs.known.Known.all.Goals as goal
 
-pub returns-in_default-clause-whole : goal.returns-in_default-clause-whole
-returns-in_default-clause-whole c =
+pub returns-clause-whole : goal.returns-clause-whole
+returns-clause-whole c =
     left_out_as c.args.tree.now c.args.extra.now c.loop-name.known.loaded c.next.new.self.loaded c.loop-name.known.left.items [] c.loop-name.known.told.items c.next.new.self.told.items
     c.in_default.ensures.loaded (ap (λ v. v.items) c.in_default.ensures.told) c.in_default.ensures.none c.loop-name.invariant.whole
 
-pub returns-in_default-clause-count : goal.returns-in_default-clause-count
-returns-in_default-clause-count c =
+pub returns-clause-count : goal.returns-clause-count
+returns-clause-count c =
     subst (λ (m : Loaded). KnowsSoMany c.args.tree.now (Contains c.args.extra.now) (btree_map_len m)) (sym c.in_default.ensures.loaded)
     (knows c.args.tree.now c.args.extra.now c.loop-name.known.loaded c.loop-name.known.told.items
     (left_out c.args.tree.now c.args.extra.now c.loop-name.known.loaded c.loop-name.known.left.items [] c.loop-name.known.told.items c.in_default.ensures.none c.loop-name.invariant.whole) c.loop-name.invariant.ordered)
