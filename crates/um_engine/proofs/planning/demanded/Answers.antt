@@ -1,9 +1,7 @@
-use Rattle.std.proofs.Common.{◌≡◌, ◌∙◌, length, ap, subst, sym}
-use Rattle.um_model.specs.Machine.{State, scene_at}
-use Rattle.um_graph.specs.Graph.{IsNumberOf}
+use Rattle.std.proofs.Common.{◌∙◌, length, ap, subst, sym}
+use Rattle.um_model.specs.Machine.{State}
 use Rattle.um_jobs.specs.Named.{jobs_by}
 use Rattle.um_state.specs.View.{state_of}
-use Rattle.um_transact.specs.Scene.{IsAccepted}
 use Rattle.um_engine.specs.Planned.{ArePending}
 use Rattle.um_engine.proofs.NumberedLaws.{has_named}
 use Rattle.um_engine.proofs.PlannedLaws.{has_plan, holds_same, holds_planned}
