@@ -1,5 +1,5 @@
 -- The job that begins next by the graph is the one that begins next by the tree.
-use Rattle.std.proofs.Common.{◌≡◌, ◌≢◌, ◌∙◌, ◌+◌, ◌<◌, ◌≤◌, ℕ, Bool, true, false, true≢false, List, length, replicate, set, sum_by, Contains, Option, Some, None, MatchOption, slice_get, unwrap_or, refl, sym, ap, subst, inl, inr, arith}
+use Rattle.std.proofs.Common.{◌≡◌, ◌≢◌, ◌∙◌, ◌+◌, ◌<◌, ◌≤◌, ℕ, Bool, true, false, true≢false, List, length, replicate, set, sum_by, Contains, Option, Some, None, Result, Ok, Err, IsOk, ◌↔◌, MatchOption, slice_get, unwrap_or, refl, sym, ap, subst, inl, inr, arith}
 use Rattle.std.proofs.lemmas.Bool.{cases_lt}
 use Rattle.std.proofs.lemmas.Grind.{get_or-set_at}
 use Rattle.std.proofs.lemmas.List.{get_or-set_other, get_or_past, length-replicate, length-set}
@@ -342,3 +342,11 @@ left_told v w n waits is = ap (λ (x : JobsView). jobs_at x.units n) is ∙ elim
   | inl within ↦ get_or-set_at v.units n n (cancelled (jobs_at v.units n)) no_jobs refl within
   | inr past ↦ absurd (true≢false (sym waits ∙ ap has_waiting (get_or_past v.units n no_jobs (omega (arith, past)))))
 ]
+
+-- a cancel that isn't refused finds a job that waits, and one that is refused none
+pub some_waits_told : {X E : Type 0} (waits : Bool) (result : Result X E) (x : X) → result ≡ Ok x → (IsOk result ↔ (waits ≡ true)) → waits ≡ true
+some_waits_told waits result x is iff = (subst (λ r. IsOk r ↔ (waits ≡ true)) is iff).0 tt
+
+pub none_waits_told : {X E : Type 0} (waits : Bool) (result : Result X E) (e : E) → result ≡ Err e → (IsOk result ↔ (waits ≡ true)) → waits ≡ false
+none_waits_told true result e is iff = absurd ((subst (λ r. IsOk r ↔ (true ≡ true)) is iff).1 refl)
+none_waits_told false result e is iff = refl

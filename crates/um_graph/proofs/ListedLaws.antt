@@ -1,13 +1,12 @@
 -- The lists of what the rows tell hold just what stands in the rows.
-use Rattle.std.proofs.Common.{◌≡◌, ◌↔◌, ◌+◌, ◌<◌, ℕ, Bool, true, false, cond, List, [], ◌∷◌, ◌++◌, length, Contains, refl, sym, ap, subst, inl, inr, arith}
+use Rattle.std.proofs.Common.{◌≡◌, ◌↔◌, ◌+◌, ◌<◌, ℕ, Bool, true, false, cond, List, [], ◌∷◌, ◌++◌, length, Contains, refl, sym, subst, inl, inr, arith}
 use Rattle.std.proofs.lemmas.Bool.{cases_lt}
 use Rattle.std.proofs.lemmas.List.Elements.{Contains-append_left, Contains-append_right, Contains-append_cases}
 use Rattle.um_model.specs.declared.dependencies.DependencyKind.{DependencyKind}
 use Rattle.um_model.specs.declared.dependencies.DependencyKind.TheVariants.{Wants, Requires, BindsTo, PartOf, Conflicts}
-use Rattle.um_graph.specs.Graph.{GraphView, Holds, IsGraph, Stands, row_of}
+use Rattle.um_graph.specs.Graph.{GraphView, IsGraph, Stands, row_of}
 use Rattle.um_graph.specs.Kinds.{before_bit, bit_of, has}
 use Rattle.um_graph.specs.Listed.{AreOf, all_kinds, dependencies_by, dependencies_in, dependency_by, order_by, order_in}
-use Rattle.um_graph.specs.declared.row.Neighbour.{Neighbour}
 use Rattle.um_graph.proofs.ListLaws.{contains_flat, flat_contains, in_none, is_one}
 use Rattle.um_graph.proofs.StandLaws.{stands_within}
 

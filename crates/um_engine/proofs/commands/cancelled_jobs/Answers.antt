@@ -1,4 +1,4 @@
-use Rattle.std.proofs.Common.{◌≡◌, ◌≢◌, rules, refl}
+use Rattle.std.proofs.Common.{◌≢◌, rules, refl}
 use Rattle.um_model.specs.Jobs.{jobs_of_unit}
 use Rattle.um_model.specs.Machine as model
 use Rattle.um_state.specs.View.{state_of}

@@ -1,4 +1,4 @@
-use Rattle.std.proofs.Common.{◌*◌, length, refl, sym, arith, subst}
+use Rattle.std.proofs.Common.{◌*◌, refl, sym, subst}
 use Rattle.um_order.specs.Pairs.{Precedes, IsLeastFirstCycle}
 use Rattle.um_order.specs.Certificate.{IsCertificate}
 use Rattle.um_transact.proofs.PairLaws.{numbered, cycle_named}
