@@ -1,11 +1,13 @@
 -- Jobs of a unit that are over, ended by its number, the stop first and then the start.
-use Rattle.std.proofs.Common.{◌≡◌, ◌≢◌, ◌⊎◌, ◌∙◌, ℕ, ◌≤◌, length, None, refl, sym, ap, inl, inr, arith}
+use Rattle.std.proofs.Common.{◌≡◌, ◌≢◌, ◌⊎◌, ◌∙◌, ℕ, ◌≤◌, length, true, false, true≢false, is_none, Option, Some, None, refl, sym, ap, inl, inr, arith}
 use Rattle.std.proofs.lemmas.Bool.{cases_lt}
 use Rattle.std.proofs.lemmas.Grind.{get_or-set_at}
 use Rattle.std.proofs.lemmas.List.{length-set, set-get_or, set-set, set_past}
+use Rattle.std.proofs.lemmas.Option.{none-some}
 use Rattle.um_model.specs.Jobs.{job_of, jobs, no_jobs}
 use Rattle.um_model.specs.declared.jobs.JobKind.{JobKind}
 use Rattle.um_model.specs.declared.jobs.JobKind.TheVariants.{Stop, Start}
+use Rattle.um_model.specs.declared.jobs.JobState.{JobState}
 use Rattle.um_model.specs.declared.jobs.UnitJobs.{UnitJobs}
 use Rattle.um_jobs.specs.Jobs.{JobsView, with_jobs_at, without_job}
 use Rattle.um_jobs.specs.Named.{jobs_at}
@@ -46,3 +48,11 @@ module _ (v : JobsView) (u : ℕ) (left : UnitJobs) (ends : OnlyEnds (jobs_at v.
         past_same w u (without_job Start (jobs_at w.units u)) (omega (arith, long, past))
         ∙ (stop_ended w stop ∙ (past_same v u (jobs left.stop held.start) (omega (arith, past)) ∙ sym (past_same v u left (omega (arith, past)))))
   ]
+
+pub none_by : (o : Option JobState) → is_none o ≡ true → o ≡ None
+none_by None e = refl
+none_by (Some j) e = absurd (true≢false (sym e))
+
+pub some_by : (o : Option JobState) → is_none o ≡ false → o ≢ None
+some_by None e = absurd (true≢false e)
+some_by (Some j) e = none-some j
