@@ -3,6 +3,7 @@
 ghost use Rattle.std.specs.Prelude.{◌≡◌, Err, [], false, map, IfOk, IfErr};
 ghost use Rattle.um_model.proofs.FewLaws.{HoldsNoMore};
 ghost use Rattle.um_answer.specs.Loaded.{is_found as finds};
+ghost use Rattle.um_engine.specs.Known.{KnowsFor};
 ghost use Rattle.um_model.proofs.WaitingLaws.{has_waiting};
 ghost use Rattle.um_model.specs.Install.{paths_beyond};
 ghost use Rattle.um_model.specs.Machine as model;
@@ -15,14 +16,15 @@ ghost use Rattle.um_wire.specs.Refusal.{refused_of};
 ghost use Rattle.um_wire.specs.declared.refusal.Refusal.TheVariants.{NoMemory};
 
 use crate::jobs::{cancelled, has_waiting};
-use crate::loading::known_of_loaded;
+use crate::known::Known;
+use crate::loading::{check_order, known_of_loaded};
 use crate::planning::planned;
 use crate::resetting::without_failures;
 use crate::served::Served;
 use std::alloc::{AllocError, Global};
 use std::rc::Rc;
 use um_answer::{Asked, check_missing, text_of};
-use um_install::{Installed, install};
+use um_install::{Installed, check_units, relink};
 use um_model::{InstallVerb, Moment, UnitJobs};
 use um_name::UnitName;
 use um_state::{Action, Command, Reply, State};
@@ -185,19 +187,20 @@ fn reloaded(alloc: Global, state: &State) -> Result<Served, Refusal>
     Ok(Served::with(changed, known))
 }
 
-/// The state with that tree, loaded. Refused are too many known units (E13), and pending jobs in a circle (E9).
-fn with_tree(alloc: Global, state: &State, tree: Tree) -> Result<Served, Refusal>
-    ensures changed { IfOk result (λ u. u.state ≡ record (state_of state.now) { tree = tree; loaded = tree }) }
-    ensures refused { RefusesBy (model.CausesOfLoad (state_of state.now) tree) result }
+/// The state with that tree, loaded, of whose units that is known.
+fn with_tree(alloc: Global, state: &State, tree: Tree, known: Known) -> Result<Served, AllocError>
+    requires { KnowsFor known (record (state_of state.now) { loaded = tree }) }
+    ensures { IfOk result (λ u. u.state ≡ record (state_of state.now) { tree = tree; loaded = tree }) }
 {
-    let known = known_of_loaded(alloc, state, &tree)?;
     let known = Rc::new(alloc, known)?;
     let mut changed = state.copy()?;
     changed.load_tree(tree)?;
     Ok(Served::with(changed, known))
 }
 
-/// The state with the tree that comes of enabling the unit or its kin, loaded.
+/// The state with the tree that comes of enabling the unit or its kin, loaded. Refused are, in this order, links that can't be made
+/// (E12, E11, E13 `entries`), too many known units (E13 `units`), a unit that can't be enabled (E4 to E6), and pending jobs in a
+/// circle (E9).
 fn installed(
     alloc: Global,
     state: &State,
@@ -214,9 +217,12 @@ fn installed(
         tree,
         made,
         removed,
-    } = install(alloc, state.tree(), verb, unit)?;
+    } = relink(alloc, state.tree(), verb, unit)?;
+    let known = Known::of(alloc, &tree, state, None)?;
+    check_units(alloc, state.tree(), verb, unit)?;
+    check_order(alloc, &known, state)?;
     Ok(Outcome {
-        served: with_tree(alloc, state, tree)?,
+        served: with_tree(alloc, state, tree, known)?,
         reply: Reply::Relinked { made, removed },
         actions: Vec::new(alloc),
     })

@@ -6,7 +6,6 @@ ghost use Rattle.um_engine.specs.Engine.{FollowsUpon, Met, MetBy, IsSame};
 ghost use Rattle.um_engine.specs.Known.{KnowsFor};
 ghost use Rattle.um_falling.specs.Over.{Serves};
 ghost use Rattle.um_model.specs.Ends.{waits_for_report, has_one_command};
-ghost use Rattle.um_model.specs.Servable.{IsFew};
 ghost use Rattle.um_model.specs.Machine as model;
 ghost use Rattle.um_model.specs.Service.{is_number};
 ghost use Rattle.um_state.specs.View.{state_of, happening_of, action_of};
@@ -208,8 +207,7 @@ fn after_boot(alloc: Global, served: &Served, boot: &BootId) -> Result<Option<Se
 
 /// The state, if there is one, with what is known as it was.
 fn with_known(served: &Served, after: Option<State>) -> Result<Option<Served>, AllocError>
-    requires knows { IfSome after (λ state. KnowsFor served.now.known (state_of state)) }
-    requires few { IfSome after (λ state. IsFew (state_of state)) }
+    requires { IfSome after (λ state. KnowsFor served.now.known (state_of state)) }
     ensures { IfOk result (λ known. option_map (λ s. s.state) known ≡ option_map state_of after) }
 {
     match after {
