@@ -8,10 +8,10 @@ use Rattle.um_model.specs.Servable.{IsFew}
 use Rattle.um_model.specs.Jobs.{no_jobs}
 use Rattle.um_model.specs.Machine as model
 use Rattle.um_model.specs.Machine.{State, IsCrowded, IsHeld, IsHeldOr, IsNotThere, Refuses, Changes, active_asked, demand_of, scene_at}
-use Rattle.um_model.specs.Plan.{CausesOfPlan}
+use Rattle.um_model.specs.Plan.{CausesOfPlan, IsPlan}
 use Rattle.um_model.specs.Reached.{first}
 use Rattle.um_model.specs.Refusals.{Refused}
-use Rattle.um_model.specs.Service.{active_state_of, state_of_unit}
+use Rattle.um_model.specs.Service.{ByUnit, active_state_of, state_of_unit}
 use Rattle.um_model.specs.declared.commands.JobMode.{JobMode}
 use Rattle.um_model.specs.declared.commands.UnitVerb.{UnitVerb}
 use Rattle.um_model.specs.declared.dependencies.Demand.{Demand}
@@ -57,6 +57,12 @@ pub knows_after : (k : KnownView) (s u : State) (plan : List UnitJobs) (named : 
     → IsGraphFor s.loaded (IsHeldOr s named) k.graph → u ≡ record s { pending = jobs_by k.graph.names plan } → KnowsFor k u
 knows_after k s u plan named knows exact is =
     subst (KnowsFor k) (sym is) (record { made = knows.made; lasting = knows.lasting; held = holds_planned s (record s { pending = jobs_by k.graph.names plan }) named k.graph plan exact refl })
+
+-- a state with the jobs of a plan has the plan
+pub has_plan : (s u : State) (root : Demand × List ℕ) (after : ByUnit UnitJobs) → u ≡ record s { pending = after } → IsPlan (scene_at s root.1) root after → HasPlan s root u
+has_plan s u root after is plan =
+    let jobs : u.pending ≡ after = ap (λ (x : State). x.pending) is in
+    record { plan = subst (IsPlan (scene_at s root.1) root) (sym jobs) plan; rest = is ∙ ap (λ p. record s { pending = p }) (sym jobs) }
 
 -- ---- why the command is refused and what it changes
 

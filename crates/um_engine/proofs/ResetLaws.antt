@@ -124,7 +124,6 @@ module _ (k : KnownView) (g : GraphView) (t : ℕ) (units : List (List ℕ)) (s 
   pub known_reset : KnowsFor k u
   known_reset = knows_less k s u knows less
 
-
 pub does_reset : (t : ℕ) (s u v : State) (asked : Option (List ℕ)) (units : List (List ℕ)) (all : List Action) → units ≡ units_reset s asked → v ≡ u → AreReset t units s all u
     → Does t s (ResetFailed asked) all v
 does_reset t s u v asked units all is same h =

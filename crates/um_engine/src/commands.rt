@@ -189,12 +189,7 @@ fn reloaded(alloc: Global, state: &State) -> Result<Served, Refusal>
 }
 
 /// The state with that tree, loaded, of whose units that is known.
-fn with_tree(
-    alloc: Global,
-    state: &State,
-    tree: Tree,
-    known: Known,
-) -> Result<Served, AllocError>
+fn with_tree(alloc: Global, state: &State, tree: Tree, known: Known) -> Result<Served, AllocError>
     requires { KnowsFor known (record (state_of state.now) { loaded = tree }) }
     ensures { IfOk result (λ u. u.state ≡ record (state_of state.now) { tree = tree; loaded = tree }) }
 {

@@ -1,8 +1,7 @@
-use Rattle.std.proofs.Common.{◌≡◌, ◌≢◌, refl, rules, sym, ap, subst}
+use Rattle.std.proofs.Common.{◌≡◌, ◌≢◌, refl, rules, ap, subst}
 use Rattle.um_model.specs.Install.{Installs, RefusesLinks, RefusesUnits}
 use Rattle.um_model.specs.Machine as model
 use Rattle.um_model.specs.Machine.{IsCrowded, IsHeld}
-use Rattle.um_model.specs.Plan.{NamesCycle}
 use Rattle.um_model.specs.Refusals.{Refused}
 use Rattle.um_state.specs.View.{state_of}
 use Rattle.um_wire.specs.Refusal.{refused_of}
