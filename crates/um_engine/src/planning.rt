@@ -58,7 +58,7 @@ struct Situation {
 }
 
 /// How the units of the graph stand.
-fn situation(alloc: Global, graph: &Graph, state: &State) -> Result<Situation, AllocError>
+fn situation_of(alloc: Global, graph: &Graph, state: &State) -> Result<Situation, AllocError>
     ensures active { IfOk result (λ at. AreActive graph.now (state_of state.now) at.activity.items) }
     ensures pends { IfOk result (λ at. ArePending graph.now (state_of state.now) at.pending.items) }
 {
@@ -180,7 +180,7 @@ pub fn planned(
         return Ok(Served::with(state.copy()?, served.share_known()?));
     };
     let graph = known.graph();
-    let situation = situation(alloc, graph, state)?;
+    let situation = situation_of(alloc, graph, state)?;
     let transaction = transaction(alloc, graph, &situation, demand, &unit)?;
     let changed = with_plan(alloc, graph, state, transaction.plan())?;
     let after = served_after(alloc, changed, known.clone()?)?;
