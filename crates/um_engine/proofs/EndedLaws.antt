@@ -1,5 +1,5 @@
 -- Jobs of a unit that are over, ended by its number, the stop first and then the start.
-use Rattle.std.proofs.Common.{◌≡◌, ◌≢◌, ◌⊎◌, ◌∙◌, ℕ, ◌≤◌, length, true, false, true≢false, is_none, Option, Some, None, refl, sym, ap, inl, inr, arith}
+use Rattle.std.proofs.Common.{◌≡◌, ◌≢◌, ◌⊎◌, ◌∙◌, ℕ, ◌≤◌, length, true, false, is_some, Option, Some, None, refl, sym, ap, inl, inr, arith}
 use Rattle.std.proofs.lemmas.Bool.{cases_lt}
 use Rattle.std.proofs.lemmas.Grind.{get_or-set_at}
 use Rattle.std.proofs.lemmas.List.{length-set, set-get_or, set-set, set_past}
@@ -49,10 +49,11 @@ module _ (v : JobsView) (u : ℕ) (left : UnitJobs) (ends : OnlyEnds (jobs_at v.
         ∙ (stop_ended w stop ∙ (past_same v u (jobs left.stop held.start) (omega (arith, past)) ∙ sym (past_same v u left (omega (arith, past)))))
   ]
 
-pub none_by : (o : Option JobState) → is_none o ≡ true → o ≡ None
-none_by None e = refl
-none_by (Some j) e = absurd (true≢false (sym e))
+by_option : (o : Option JobState) {A B : Type 0} → (is_some o ≡ false → A) → (is_some o ≡ true → B) → ((o ≡ None) × A) ⊎ ((o ≢ None) × B)
+by_option None over stays = inl (refl, over refl)
+by_option (Some j) over stays = inr ((λ is. none-some j (sym is)), stays refl)
 
-pub some_by : (o : Option JobState) → is_none o ≡ false → o ≢ None
-some_by None e = absurd (true≢false e)
-some_by (Some j) e = none-some j
+-- a job is ended where none of it is left, as the code tests it
+pub ended_by : (kind : JobKind) (u : ℕ) (left : UnitJobs) (v w : JobsView) → (is_some (job_of kind left) ≡ false → w ≡ with_jobs_at v u (without_job kind (jobs_at v.units u)))
+    → (is_some (job_of kind left) ≡ true → w ≡ v) → EndsWhere kind u left v w
+ended_by kind u left v w over stays = by_option (job_of kind left) over stays

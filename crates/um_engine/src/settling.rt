@@ -1,11 +1,11 @@
 ghost use Rattle.um_falling.specs.Carrying.{Adds};
-ghost use Rattle.std.specs.Prelude.{◌≡◌, false, map, Contains, Some, IfOk, IfSome, OnOk, MatchOption};
+ghost use Rattle.std.specs.Prelude.{◌≡◌, false, map, Contains, Some, IfOk, IfSome, OnOk, MatchOption, is_some, true};
 ghost use Rattle.um_engine.specs.Engine.{waits_to_restart, IsDue, NoneIsDue};
 ghost use Rattle.um_engine.specs.Filled.{Tells, told_of};
 ghost use Rattle.um_falling.specs.Carrying.{KeepsOthers, OnlyEnds};
 ghost use Rattle.um_falling.specs.Over.{Serves};
 ghost use Rattle.um_graph.specs.Graph.{GraphView, IsNumberOf};
-ghost use Rattle.um_jobs.specs.Jobs.{with_jobs_at};
+ghost use Rattle.um_jobs.specs.Jobs.{with_jobs_at, without_job};
 ghost use Rattle.um_jobs.specs.Named.{jobs_at};
 ghost use Rattle.um_model.specs.Jobs.{BeginsNext, Job, jobs_of_unit, state_of_job};
 ghost use Rattle.um_model.specs.Machine as model;
@@ -20,21 +20,28 @@ use std::alloc::{AllocError, Global};
 use um_falling::happen;
 use um_graph::Graph;
 use um_jobs::Jobs;
-use um_model::{Deadline, JobKind, Moment, SubState, UnitEvent, UnitJobs};
+use um_model::{Deadline, JobKind, JobState, Moment, SubState, UnitEvent, UnitJobs};
 use um_name::UnitName;
 use um_state::{Action, State};
 use um_timer::Timers;
+
+/// Ends the job of this kind of the unit with this number, where nothing of it is left.
+fn end_unless_left(jobs: &mut Jobs<'_>, unit: usize, kind: JobKind, left: Option<JobState>)
+    ensures over { is_some left ≡ false → jobs.new ≡ with_jobs_at jobs.old unit (without_job kind (jobs_at jobs.old.units unit)) }
+    ensures stays { is_some left ≡ true → jobs.new ≡ jobs.old }
+{
+    if left.is_some() {
+        return;
+    }
+    jobs.finish(unit, kind);
+}
 
 /// Ends those jobs of the unit with this number that aren't left: what is left of each was there before.
 fn end_jobs(jobs: &mut Jobs<'_>, unit: usize, left: UnitJobs)
     ensures { OnlyEnds (jobs_at jobs.old.units unit) left → jobs.new ≡ with_jobs_at jobs.old unit left }
 {
-    if left.stop.is_none() {
-        jobs.finish(unit, JobKind::Stop);
-    }
-    if left.start.is_none() {
-        jobs.finish(unit, JobKind::Start);
-    }
+    end_unless_left(jobs, unit, JobKind::Stop, left.stop);
+    end_unless_left(jobs, unit, JobKind::Start, left.start);
 }
 
 /// Tells of the unit with this number and name what the state holds of it, where jobs of it have only ended.
@@ -81,7 +88,8 @@ fn begin_job(jobs: &mut Jobs<'_>, state: &mut State, next: &NextJob) -> Result<(
         → Tells g (state_of state.new) jobs.new) }
 {
     jobs.begin(next.unit, next.kind);
-    state.set_jobs(&next.name, jobs.get(next.unit))
+    state.set_jobs(&next.name, jobs.get(next.unit))?;
+    Ok(())
 }
 
 /// Tells anew what the state holds of units, after a job of one of them began: of that one, or of all where others may have changed.
