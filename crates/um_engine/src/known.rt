@@ -79,6 +79,16 @@ fn lasting(
     Ok(Some(known_units(alloc, &rest, extra)?))
 }
 
+/// Whether the unit is found among these, which stand in the order of their names.
+fn is_among(names: &[UnitName], unit: &UnitName) -> bool
+    ensures { IsTrue result → Contains names.now unit.now }
+{
+    match names.binary_search(unit) {
+        Ok(_) => true,
+        Err(_) => false,
+    }
+}
+
 impl Known {
     /// What is known of the units of the tree, with those that the state holds and one that is named. Refused are too many (E13
     /// `units`).
@@ -139,7 +149,7 @@ impl Known {
         ensures { IsTrue result → Contains self.now.graph.names unit.now → Contains self.now.lasting unit.now }
     {
         match &self.lasting {
-            Some(lasting) => lasting.binary_search(unit).is_ok(),
+            Some(lasting) => is_among(lasting, unit),
             None => true,
         }
     }
