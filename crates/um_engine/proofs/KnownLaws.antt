@@ -1,6 +1,6 @@
 -- What is known for a state, by what the tests of it tell.
 use Rattle.std.proofs.Common.{◌≡◌, ◌⊎◌, ◌↔◌, ◌∙◌, ◌<◌, ◌≤◌, ℕ, List, Contains, Option, Some, None, Result, Ok, Err, is_some, Bool, true, false, true≢false, refl, sym, ap, subst, inl, inr, arith}
-use Rattle.std.specs.Prelude.{IfOk, MatchOption, slice_get}
+use Rattle.std.specs.Prelude.{IfOk, MatchOption, slice_get, unwrap_or}
 use Rattle.std.proofs.lemmas.Option.{get_or_from_slice_get}
 use Rattle.um_graph.proofs.NamedLaws.{got_within}
 use Rattle.um_model.specs.Dependencies.{CountsFor, IsKnown, KnowsTooMany, extra}
@@ -13,7 +13,8 @@ use Rattle.um_model.proofs.FewLaws.{booted_none, cancel_no_more, HoldsNoMore}
 use Rattle.um_model.proofs.KnownLaws.{more_known}
 use Rattle.um_model.proofs.SceneLaws.{one_count}
 use Rattle.um_model.proofs.TreeLaws.{without_run_twice}
-use Rattle.um_engine.specs.Known.{IsHeldWith, IsGraphFor, KnownView, KnowsFor}
+use Rattle.um_graph.specs.Graph.{GraphView, IsGraphOf}
+use Rattle.um_engine.specs.Known.{AreLasting, IsHeldWith, IsGraphFor, KnownView, KnowsFor}
 use Rattle.um_falling.specs.Over.{Serves}
 use Rattle.um_engine.proofs.SameUnitsLaws.{KnowsSame, count_by, graph_same}
 
@@ -124,3 +125,9 @@ light_by size s units weight counts is fits heavy =
     let over : size < weight_of s.tree s.loaded units = subst (λ n. size < weight_of s.tree s.loaded n) same heavy.heavy in
     let under : weight_of s.tree s.loaded units ≤ size = subst (λ n. n ≤ size) is fits in
     omega (arith, over, under)
+
+-- the units that are known without the entries under `run/`: those that were found apart, or those of the graph
+pub lasting_known : (tree : Tree) (extra : List (List ℕ)) (g : GraphView) (o : Option (List (List ℕ))) → IsGraphOf tree (Contains extra) g → AreLasting tree extra o
+    → (unit : List ℕ) → Contains (unwrap_or o g.names) unit ↔ IsKnown (without_run tree) (Contains extra) unit
+lasting_known tree extra g None of same unit = subst (λ t. Contains g.names unit ↔ IsKnown t (Contains extra) unit) (sym same) (of.known unit)
+lasting_known tree extra g (Some names) of each unit = each unit
