@@ -86,7 +86,7 @@ fn put_jobs(
     plan: &Plan,
     unit: usize,
 ) -> Result<(), AllocError>
-    ensures { OnOk result ((x : List ℕ) → IsNumberOf graph.now unit x → pending.new ≡ with_jobs pending.old x (jobs_at plan.now unit)) }
+    ensures { OnOk result ((x : List ℕ) → IsNumberOf graph.now unit x → pending.new.held ≡ with_jobs pending.old.held x (jobs_at plan.now unit)) }
 {
     match graph.name(unit) {
         Some(name) => pending.set(name, plan.jobs(unit)),
@@ -97,7 +97,7 @@ fn put_jobs(
 /// The jobs of the plan by the names of the units.
 fn jobs_planned(alloc: Global, graph: &Graph, plan: &Plan) -> Result<Pending, AllocError>
     requires { length plan.now ≡ length graph.now.names }
-    ensures { IfOk result (λ pending. pending ≡ jobs_by graph.now.names plan.now) }
+    ensures { IfOk result (λ pending. pending.held ≡ jobs_by graph.now.names plan.now) }
 {
     let mut pending = Pending::new(alloc);
     let mut unit = graph.len();

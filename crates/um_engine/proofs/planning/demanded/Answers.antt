@@ -18,5 +18,5 @@ returns-clause-held c =
     let g = c.args.graph.now in
     holds_planned s (state_of c.set_pending.new.self) c.args.unit.now g c.in_ok-plan.plan c.requires
     (c.set_pending.ensures
-    ∙ (ap (λ (x : State). record x { pending = c.in_ok-jobs_planned.field-0 }) c.in_ok-planned.ensures
+    ∙ (ap (λ (x : State). record x { pending = c.in_ok-jobs_planned.field-0.held }) c.in_ok-planned.ensures
     ∙ ap (λ jobs. record s { pending = jobs }) c.in_ok-jobs_planned.ensures))
