@@ -1,4 +1,4 @@
-ghost use Rattle.std.specs.Prelude.{◌≡◌, ◌⊎◌, ◌||◌, ◌∷◌, ◌++◌, [], List, IsTrue, true, false, not, if◌then◌else◌, is_ok, IfOk, OnOk, OnErr};
+ghost use Rattle.std.specs.Prelude.{IfErr, ◌≡◌, ◌⊎◌, ◌||◌, ◌∷◌, ◌++◌, [], List, IsTrue, true, false, not, if◌then◌else◌, is_ok, IfOk, OnOk, OnErr};
 ghost use Rattle.um_model.specs.Children.{Spawned};
 ghost use Rattle.um_model.specs.Disk.{one_more};
 ghost use Rattle.um_children.specs.History.{is_absent, has_started, was_absent, IsFinal, Spawns, Signals, Asks};

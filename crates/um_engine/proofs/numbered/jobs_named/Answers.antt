@@ -18,6 +18,6 @@ loop-unit-preserved c =
     record {
       within = omega (arith, c.loop-unit.invariant.within);
       put = c.in_ok-put_jobs.ensures x at
-          ∙ (ap (λ p. with_jobs p x (jobs_at plan n)) (subst (λ k. c.loop-unit.pending ≡ jobs_by (drop k names) (drop k plan)) (sym next) c.loop-unit.invariant.put)
+          ∙ (ap (λ p. with_jobs p x (jobs_at plan n)) (subst (λ k. c.loop-unit.pending.held ≡ jobs_by (drop k names) (drop k plan)) (sym next) c.loop-unit.invariant.put)
           ∙ sym (jobs_from names plan n x c.requires low at));
     }

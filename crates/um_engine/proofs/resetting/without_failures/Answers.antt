@@ -8,7 +8,7 @@ pub with-requires : goal.with-requires
 with-requires c =
     let same = c.in_ok-state.ensures ∙ c.state.ensures.state in
     let shown : c.graph-graph.result.now ≡ c.args.served.now.known.graph = search rules in
-    subst (λ (k : KnownView). KnowsFor k (state_of c.reset_all.new.state)) (sym c.in_ok-share_known.ensures.known)
+    subst (λ (k : KnownView). KnowsFor k (state_of c.reset_all.new.state)) (sym c.in_ok-known.ensures.known)
     (known_reset c.args.served.now.known c.graph-graph.result.now c.args.moment c.deref.result.now c.args.served.now.state (state_of c.in_ok-state.state) (state_of c.reset_all.new.state)
     (map action_of c.new-actions.result.items) (map action_of c.reset_all.new.actions.items) c.state.ensures.knows same shown (ap (map action_of) c.new-actions.ensures.items) c.in_ok-reset_all.ensures)
 
