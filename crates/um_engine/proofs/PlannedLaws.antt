@@ -16,6 +16,9 @@ use Rattle.um_model.specs.declared.commands.JobMode.{JobMode}
 use Rattle.um_model.specs.declared.commands.UnitVerb.{UnitVerb}
 use Rattle.um_model.specs.declared.dependencies.Demand.{Demand}
 use Rattle.um_model.specs.declared.jobs.UnitJobs.{UnitJobs}
+use Rattle.um_model.specs.Tree.{Tree}
+use Rattle.um_model.specs.Units.{unit_named}
+use Rattle.um_answer.specs.Loaded.{Loads}
 use Rattle.um_graph.specs.Graph.{GraphView}
 use Rattle.um_graph.proofs.NamedLaws.{among_or_apart, name_got}
 use Rattle.um_jobs.specs.Named.{jobs_by}
@@ -25,7 +28,9 @@ use Rattle.um_wire.specs.Refusal.{refused_of}
 use Rattle.um_wire.specs.declared.refusal.Refusal.{Refusal}
 use Rattle.um_wire.specs.declared.refusal.Refusal.TheVariants.{NoMemory}
 use Rattle.um_engine.specs.Known.{IsGraphFor, KnownView, KnowsFor}
-use Rattle.um_engine.specs.Planned.{HasPlan}
+use Rattle.um_engine.specs.Planned.{HasPlan, IsTransactionFor}
+use Rattle.um_engine.proofs.NumberedLaws.{free_for, plan_for, refused_for}
+use Rattle.um_transact.specs.Transaction.{TransactionView, scene_in}
 use Rattle.um_engine.proofs.Causes.{by_crowd, by_absence, by_fullness, by_plan, few_at_rest, few_planned, free_to_plan, free_to_rest, plans_to, rests_so}
 
 -- a call that gives on the refusal of another is refused for its cause
@@ -33,6 +38,12 @@ pub refuses_on : {X : Type 0} (Cause : Refused → Type 0) (result : Result X Re
     → RefusesBy Cause result
 refuses_on Cause (Ok done) e h cause = absurd h
 refuses_on Cause (Err f) e h cause = subst (λ (r : Refusal). r ≢ NoMemory → Cause (refused_of r)) (sym h) cause
+
+-- what was asked for by the graph that is known is so by the state
+pub asked_so : (k : KnownView) (s : State) (g : GraphView) (tree : Tree) (asked unit : List ℕ) → KnowsFor k s → g ≡ k.graph → tree ≡ s.loaded
+    → (Loads g tree → unit ≡ unit_named tree asked) → unit ≡ model.unit_asked s asked
+asked_so k s g tree asked unit knows graph loaded leads =
+    leads (subst (λ h. Loads h tree) (sym graph) (subst (Loads k.graph) (sym loaded) knows.made.of.loaded)) ∙ ap (λ t. unit_named t asked) loaded
 
 -- ---- what the state holds after it
 
@@ -58,11 +69,36 @@ pub knows_after : (k : KnownView) (s u : State) (plan : List UnitJobs) (named : 
 knows_after k s u plan named knows exact is =
     subst (KnowsFor k) (sym is) (record { made = knows.made; lasting = knows.lasting; held = holds_planned s (record s { pending = jobs_by k.graph.names plan }) named k.graph plan exact refl })
 
--- a state with the jobs of a plan has the plan
-pub has_plan : (s u : State) (root : Demand × List ℕ) (after : ByUnit UnitJobs) → u ≡ record s { pending = after } → IsPlan (scene_at s root.1) root after → HasPlan s root u
-has_plan s u root after is plan =
-    let jobs : u.pending ≡ after = ap (λ (x : State). x.pending) is in
-    record { plan = subst (IsPlan (scene_at s root.1) root) (sym jobs) plan; rest = is ∙ ap (λ p. record s { pending = p }) (sym jobs) }
+-- ---- the state with the plan of a transaction that is made for it
+
+module _ (s u : State) (root : Demand × List ℕ) (t : TransactionView) (is : IsTransactionFor s root t) where
+  abbrev after : ByUnit UnitJobs
+  after = jobs_by t.graph.names t.plan
+
+  -- it is so by what was told of the state, of the graph and of the plan
+  pub planned_so : (seen : State) (g : GraphView) (plan : List UnitJobs) → seen ≡ s → t.graph ≡ g → plan ≡ t.plan → u ≡ record seen { pending = jobs_by g.names plan }
+      → u ≡ record s { pending = after }
+  planned_so seen g plan same e f made =
+      made
+      ∙ (ap (λ (x : State). record x { pending = jobs_by g.names plan }) same
+      ∙ (ap (λ p. record s { pending = jobs_by g.names p }) f ∙ ap (λ (h : GraphView). record s { pending = jobs_by h.names t.plan }) (sym e)))
+
+  module _ (so : u ≡ record s { pending = after }) where
+    abbrev jobs : u.pending ≡ after
+    jobs = ap (λ (x : State). x.pending) so
+
+    pub has_plan : IsPlan (scene_in t) (t.root.0, root.1) after → HasPlan s root u
+    has_plan plan = record {
+      plan = subst (IsPlan (scene_at s root.1) root) (sym jobs) (plan_for s root t is plan);
+      rest = so ∙ ap (λ p. record s { pending = p }) (sym jobs);
+    }
+
+    pub refused_so : (mode : JobMode) (r : Refused) → CausesOfPlan (scene_in t) (t.root.0, root.1) mode after r → CausesOfPlan (scene_at s root.1) root mode u.pending r
+    refused_so mode r cause = subst (λ p. CausesOfPlan (scene_at s root.1) root mode p r) (sym jobs) (refused_for s root t is mode r cause)
+
+    pub free_so : (mode : JobMode) → ((r : Refused) → ¬ CausesOfPlan (scene_in t) (t.root.0, root.1) mode after r)
+        → (r : Refused) → ¬ CausesOfPlan (scene_at s root.1) root mode u.pending r
+    free_so mode none r cause = free_for s root t is mode none r (subst (λ p. CausesOfPlan (scene_at s root.1) root mode p r) jobs cause)
 
 -- ---- why the command is refused and what it changes
 
