@@ -234,22 +234,22 @@ module _ (s : State) (verb : InstallVerb) (unit : List ℕ) where
     told : (Cause : Tree → Refused → Type 0) (r : Refused) → Cause tree r → LoadsNone s verb unit Cause r
     told Cause r h = record { tree = tree; installs = made; cause = h }
 
-    never_told : (Cause : Tree → Refused → Type 0) → ((q : Refused) → ¬ Cause tree q) → (q : Refused) → ¬ LoadsNone s verb unit Cause q
-    never_told Cause none q h = none q (subst (λ (x : Tree). Cause x q) (one_install s.tree verb unit h.tree tree h.installs made) h.cause)
+    none_loads : (Cause : Tree → Refused → Type 0) → ((q : Refused) → ¬ Cause tree q) → (q : Refused) → ¬ LoadsNone s verb unit Cause q
+    none_loads Cause none q h = none q (subst (λ (x : Tree). Cause x q) (one_install s.tree verb unit h.tree tree h.installs made) h.cause)
 
     pub by_crowd_of_install : (r : Refused) → Crowded tree r → Refuses s (model.Install verb unit) r
     by_crowd_of_install r h = at_second linked (at_first (told Crowded r h))
 
     module _ (few : (q : Refused) → ¬ Crowded tree q) where
       pub by_units : (r : Refused) → RefusesUnits s.tree verb unit r → Refuses s (model.Install verb unit) r
-      by_units r h = at_second linked (at_second (never_told Crowded few) (at_first h))
+      by_units r h = at_second linked (at_second (none_loads Crowded few) (at_first h))
 
       module _ (able : (q : Refused) → ¬ RefusesUnits s.tree verb unit q) where
         pub by_circle : (r : Refused) → Circles tree r → Refuses s (model.Install verb unit) r
-        by_circle r h = at_second linked (at_second (never_told Crowded few) (at_second able (told Circles r h)))
+        by_circle r h = at_second linked (at_second (none_loads Crowded few) (at_second able (told Circles r h)))
 
         pub free_to_install : ((q : Refused) → ¬ Circles tree q) → (r : Refused) → ¬ Refuses s (model.Install verb unit) r
         free_to_install free r (at_first h) = linked r h
-        free_to_install free r (at_second n (at_first h)) = never_told Crowded few r h
+        free_to_install free r (at_second n (at_first h)) = none_loads Crowded few r h
         free_to_install free r (at_second n (at_second m (at_first h))) = able r h
-        free_to_install free r (at_second n (at_second m (at_second k h))) = never_told Circles free r h
+        free_to_install free r (at_second n (at_second m (at_second k h))) = none_loads Circles free r h

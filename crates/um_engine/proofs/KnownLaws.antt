@@ -127,7 +127,7 @@ light_by size s units weight counts is fits heavy =
     omega (arith, over, under)
 
 -- the units that are known without the entries under `run/`: those that were found apart, or those of the graph
-pub lasting_known : (tree : Tree) (extra : List (List ℕ)) (g : GraphView) (o : Option (List (List ℕ))) → IsGraphOf tree (Contains extra) g → AreLasting tree extra o
-    → (unit : List ℕ) → Contains (unwrap_or o g.names) unit ↔ IsKnown (without_run tree) (Contains extra) unit
-lasting_known tree extra g None of same unit = subst (λ t. Contains g.names unit ↔ IsKnown t (Contains extra) unit) (sym same) (of.known unit)
-lasting_known tree extra g (Some names) of each unit = each unit
+pub lasting_known : (tree : Tree) (others : List (List ℕ)) (g : GraphView) (o : Option (List (List ℕ))) → IsGraphOf tree (Contains others) g → AreLasting tree others o
+    → (unit : List ℕ) → Contains (unwrap_or o g.names) unit ↔ IsKnown (without_run tree) (Contains others) unit
+lasting_known tree others g None of same unit = subst (λ t. Contains g.names unit ↔ IsKnown t (Contains others) unit) (sym same) (of.known unit)
+lasting_known tree others g (Some names) of each unit = each unit

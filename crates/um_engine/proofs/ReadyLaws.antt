@@ -345,8 +345,8 @@ left_told v w n waits is = ap (λ (x : JobsView). jobs_at x.units n) is ∙ elim
 
 -- a cancel that isn't refused finds a job that waits, and one that is refused none
 pub some_waits_told : {X E : Type 0} (waits : Bool) (result : Result X E) (x : X) → result ≡ Ok x → (IsOk result ↔ (waits ≡ true)) → waits ≡ true
-some_waits_told waits result x is iff = (subst (λ r. IsOk r ↔ (waits ≡ true)) is iff).0 tt
+some_waits_told waits result x is iff = (subst (λ r. IsOk r ↔ (waits ≡ true)) is iff).0 refl
 
 pub none_waits_told : {X E : Type 0} (waits : Bool) (result : Result X E) (e : E) → result ≡ Err e → (IsOk result ↔ (waits ≡ true)) → waits ≡ false
-none_waits_told true result e is iff = absurd ((subst (λ r. IsOk r ↔ (true ≡ true)) is iff).1 refl)
+none_waits_told true result e is iff = absurd (true≢false (sym ((subst (λ r. IsOk r ↔ (true ≡ true)) is iff).1 refl)))
 none_waits_told false result e is iff = refl

@@ -7,6 +7,7 @@ use Rattle.std.proofs.lemmas.Option.{none-some, same_Some}
 use Rattle.um_model.specs.Machine as model
 use Rattle.um_model.specs.Machine.{State, Command, Happening, Booted, Event, Commanded, Happened, Follows, ends, reports, ticks, boots, end_of, obeys, Changes, Does, changes, Input, Reply, Done, Refuses, HasNoEffect, IsTooHeavy, TakesEffect, meets, Step, refused, crowded_out, HasNoRoom, idle, taken, reply_after, moment_of}
 use Rattle.um_model.specs.Refusals.{Refused, no_room}
+use Rattle.um_model.specs.Standing.{Standing}
 use Rattle.um_model.specs.Service.{Action, state_of_unit}
 use Rattle.um_model.specs.declared.transition.UnitEvent.TheVariants.{Executed}
 use Rattle.um_model.proofs.KeepsLaws.{settles_keeps}

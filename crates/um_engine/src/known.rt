@@ -160,9 +160,17 @@ impl Known {
         ensures { IsTrue result → (unit : List ℕ) → Contains self.now.graph.names unit → IsHeldWith (state_of state.now) (option_copied named.entry) unit
             → Contains self.now.lasting unit }
     {
-        if self.lasting.is_none() {
-            return true;
+        match &self.lasting {
+            Some(_) => self.all_last(state, named),
+            None => true,
         }
+    }
+
+    /// The same, unit by unit.
+    fn all_last(&self, state: &State, named: Option<&UnitName>) -> bool
+        ensures { IsTrue result → (unit : List ℕ) → Contains self.now.graph.names unit → IsHeldWith (state_of state.now) (option_copied named.entry) unit
+            → Contains self.now.lasting unit }
+    {
         for number in 0..self.graph.len() {
             if !self.lasts_at(state, named, number) {
                 return false;
@@ -188,6 +196,12 @@ impl Known {
         ensures { IsTrue result → KnowsFor self.now (state_of state.now)
             → IsGraphFor (state_of state.now).loaded (IsHeldWith (state_of state.now) (option_copied named.entry)) self.now.graph }
     {
-        self.knows(named) && self.is_made_for(state, named) && self.lasts_for(state, named)
+        if !self.knows(named) {
+            return false;
+        }
+        if !self.is_made_for(state, named) {
+            return false;
+        }
+        self.lasts_for(state, named)
     }
 }

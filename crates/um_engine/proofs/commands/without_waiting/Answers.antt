@@ -16,9 +16,9 @@ returns-clause-changed c =
     let known : KnownView = c.args.served.now.known in
     let asked = c.args.asked.now in
     let unit = c.in_ok-leads.leads.unit in
-    let graph : c.graph.result.now ≡ known.graph = c.graph.ensures ∙ ap (λ (k : KnownView). k.graph) c.known.ensures.known in
+    let graph : c.graph-graph.result.now ≡ known.graph = c.graph-graph.ensures ∙ ap (λ (k : KnownView). k.graph) c.known.ensures.known in
     let tree : c.loaded.result.now ≡ s.loaded = c.loaded.ensures ∙ ap (λ (x : State). x.loaded) c.state-state.ensures.state in
-    let loads : Loads c.graph.result.now c.loaded.result.now =
+    let loads : Loads c.graph-graph.result.now c.loaded.result.now =
     subst (λ g. Loads g c.loaded.result.now) (sym graph) (subst (Loads known.graph) (sym tree) c.known.ensures.knows.made.of.loaded) in
     let leads : unit ≡ model.unit_asked s asked = c.in_ok-leads.ensures.unit loads ∙ ap (λ t. unit_named t asked) tree in
     let state : state_of c.state-state.result.now ≡ s = c.state-state.ensures.state in

@@ -7,5 +7,4 @@ pub returns : goal.returns
 returns c told knows =
     let known : c.knows.result ≡ true = search rules in
     let made : c.is_made_for.result ≡ true = search rules in
-    let lasts : c.lasts_for.result ≡ true = search rules in
-    fits_for (state_of c.args.state.now) c.args.self.now (option_copied c.args.named) knows (c.is_made_for.ensures made) (c.knows.ensures known) (c.lasts_for.ensures lasts)
+    fits_for (state_of c.args.state.now) c.args.self.now (option_copied c.args.named) knows (c.is_made_for.ensures made) (c.knows.ensures known) (c.lasts_for.ensures told)
