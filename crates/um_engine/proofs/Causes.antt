@@ -4,7 +4,7 @@ use Rattle.um_model.specs.Jobs.{cancelled, jobs_of_unit}
 use Rattle.um_model.specs.Machine as model
 use Rattle.um_model.specs.Machine.{State, IsCrowded, IsHeld, IsHeldOr, IsNotThere, to_stop, to_try_restart, IsMissing, HasNoneWaiting, PlansTooMany, by_name, by_jobs, HasNoPlan, LoadsNone, Refuses, scene_at, active_asked, demand_of, demands_nothing, Changes, puts, links, removes, reloads, plans, cancels, installs}
 use Rattle.um_model.specs.Servable.{IsFew}
-use Rattle.um_model.specs.Refusals.{Refused, no_such_job, unless_refused, FirstCause, at_first, at_second}
+use Rattle.um_model.specs.Refusals.{Refused, no_such_job, unless_refused, at_first, at_second}
 use Rattle.std.specs.FinMap as map
 use Rattle.um_model.specs.Tree.{Tree, File, Link, put_cause, link_cause, remove_cause, put_file, put_link, remove_at}
 use Rattle.um_model.specs.Install.{Installs, RefusesLinks, RefusesUnits}
