@@ -12,7 +12,7 @@ pub returns-in_err-next-clause-stored : goal.returns-in_err-next-clause-stored
 returns-in_err-next-clause-stored g c f h = stores (c.args.self.now.kept f h)
 
 pub returns-then-has_effect-clause-order : goal.returns-then-has_effect-clause-order
-returns-then-has_effect-clause-order g c = if_ok c.record.result (λ receipt is. new_numbers c.in_ok-next.ensures.ok (ap (λ (x : Standing). x.state) is.1) is.2) c.record.ensures.ok
+returns-then-has_effect-clause-order g c = if_ok c.record.result (λ receipt is. new_numbers c.in_ok-next.ensures.ok is.1 (ap (λ (x : Standing). x.state) is.2)) c.record.ensures.ok
 
 pub returns-then-has_effect-clause-stored : goal.returns-then-has_effect-clause-stored
 returns-then-has_effect-clause-stored g c f h = stores_at (c.record.new.self.kept f (c.record.ensures.honest ∙ h)) c.record.ensures.place.layout
