@@ -60,11 +60,7 @@ fn deactivates(graph: &Graph, state: &State, unit: usize) -> bool
 }
 
 /// The pending jobs of the graph's units by their numbers, and which of the units count as deactivating.
-pub fn jobs_in<'g>(
-    alloc: Global,
-    graph: &'g Graph,
-    state: &State,
-) -> Result<Jobs<'g>, AllocError>
+pub fn jobs_in<'g>(alloc: Global, graph: &'g Graph, state: &State) -> Result<Jobs<'g>, AllocError>
     ensures { IfOk result (λ jobs. Tells graph.now (state_of state.now) jobs) }
 {
     let pending = pending_by_number(alloc, graph, state)?;

@@ -103,7 +103,7 @@ fn tell_anew<'g>(
 ) -> Result<(), AllocError>
     ensures { OnOk result ((before : model.State) → Tells graph.now before jobs.old → IsNumberOf graph.now next.now.unit next.now.name
         → (spreads ≡ false → KeepsOthers next.now.name before (state_of state.now)
-            × OnlyEnds (jobs_of_unit before.pending next.now.name) (jobs_of_unit (state_of state.now).pending next.now.name))
+        × OnlyEnds (jobs_of_unit before.pending next.now.name) (jobs_of_unit (state_of state.now).pending next.now.name))
         → Tells graph.now (state_of state.now) jobs.new) }
 {
     if spreads {

@@ -120,12 +120,7 @@ impl Known {
     }
 
     /// Follows a name: its unit is loaded, once. Tells how many were by then.
-    fn follow(
-        &mut self,
-        alloc: Global,
-        tree: &Tree,
-        name: UnitName,
-    ) -> Result<usize, AllocError>
+    fn follow(&mut self, alloc: Global, tree: &Tree, name: UnitName) -> Result<usize, AllocError>
         ensures whole { OnOk result ((extra : List (List ℕ)) → IsUnderWay tree.now extra self.old.loaded (self.old.left.items ++ name ∷ []) self.old.told.items
             → IsUnderWay tree.now extra self.new.loaded self.new.left.items self.new.told.items) }
         ensures count { OnOk result (loading_at self.old.loaded name ≡ None

@@ -92,8 +92,18 @@ fn a_cancel_takes_out_what_waits_and_nothing_else(rt: HostRuntime) {
     same(&rt, left.get(1), UnitJobs::NONE);
     same(&rt, jobs.get(1), WAITS_TO_START);
     let refused = Some("E21 NoSuchJob b.service");
-    is_refused(&rt, left.cancel(alloc, 1, &name), refused, "cancelled twice");
-    is_refused(&rt, left.cancel(alloc, 2, &name), refused, "past the last unit");
+    is_refused(
+        &rt,
+        left.cancel(alloc, 1, &name),
+        refused,
+        "cancelled twice",
+    );
+    is_refused(
+        &rt,
+        left.cancel(alloc, 2, &name),
+        refused,
+        "past the last unit",
+    );
     same(&rt, left.cancel(alloc, 0, &name).is_err(), true);
     same(&rt, left.as_slice().len(), 2);
 }

@@ -217,4 +217,3 @@ returns-clause-refused c =
     subst (λ (x : State). (q : Refused) → ¬ model.IsNotThere x c.args.verb c.args.asked.now q) here c.in_ok-check_there-2.ensures in
     free_planned s c.args.verb c.args.asked.now c.args.mode unit same c.in-Some.demand is u plans c.in_ok-known.ensures.refused c.in_ok-after.ensures.refused there
     (free_so s u root t made so c.args.mode (c.in_ok-check.ensures.causes unit made.number))
-

@@ -13,7 +13,21 @@ invariant_of-self-inside-else-not-enter c =
     let room : 2048 ≤ vec_capacity c.push_reserved.new.self = omega (arith, c.self.inside.room, c.push_reserved.ensures.capacity) in
     let fits : vec_len c.push_reserved.new.self ≤ vec_capacity c.self.inside.spare = omega (arith, c.push_reserved.ensures.len, c.if-len-lt-MOST_LIVE.true, c.len.ensures, c.self.inside.spare_room) in
     let isnt = subst (λ ns. has number ns ≡ false) (sym c.self.view_is) c.requires in
-    let once = subst (λ ns. are_distinct ns ≡ true) (sym items) (distinct_push number old c.self.inside.once isnt) in
-    (room, (c.self.inside.spare_room, (fits, (once, ((λ plain n.
-    c.enter.ensures c.if-not-enter.false n ∙ (ap (λ b. b || has n (number ∷ [])) (c.self.inside.indexed plain n)
-    ∙ (sym (list_any-append (λ m. m == n) old (number ∷ [])) ∙ ap (has n) (sym items)))), tt)))))
+    let once = subst (λ ns. are_distinct ns ≡ true) (sym items) (distinct_push number old c.self.inside.once isnt) in (
+      room,
+      (
+        c.self.inside.spare_room,
+        (
+          fits,
+          (
+            once,
+            (
+              (λ plain n.
+                  c.enter.ensures c.if-not-enter.false n ∙ (ap (λ b. b || has n (number ∷ [])) (c.self.inside.indexed plain n)
+                  ∙ (sym (list_any-append (λ m. m == n) old (number ∷ [])) ∙ ap (has n) (sym items)))),
+              tt,
+            ),
+          ),
+        ),
+      ),
+    )
