@@ -102,6 +102,7 @@ class Server:
         self.socket = f"{self.folder}/socket"
         self.dir = f"{self.folder}/processes"
         self.runner = program
+        self.boot = BOOT
         self.running = None
 
     def __enter__(self):
@@ -127,7 +128,7 @@ class Server:
         return self
 
     def words(self):
-        named = ["--boot", BOOT, "--socket", self.socket, "--dir", self.dir, "--runner", self.runner]
+        named = ["--boot", self.boot, "--socket", self.socket, "--dir", self.dir, "--runner", self.runner]
         return [self.program, "serve", *named, self.file]
 
     def start(self, **how):

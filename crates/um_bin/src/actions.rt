@@ -26,12 +26,8 @@ fn action_in(handed: Handed) -> Action
     match handed {
         Handed::Spawn(order) => {
             let number = order.number();
-            let (words, environment) = order.into_words();
-            Action::Spawn {
-                number,
-                words,
-                environment,
-            }
+            let start = order.into_start();
+            Action::Spawn { number, start }
         }
         Handed::Signal { number, signal } => Action::Signal { number, signal },
     }

@@ -1,15 +1,15 @@
 -- The calls that children in memory keep, as those of the definitions.
 -- No manual page has this: processes under numbers are the project's own.
 -- Children in memory stand on this file.
-use Rattle.std.specs.Prelude.{◌≡◌, List, ℕ, true, false, map, string_bytes}
+use Rattle.std.specs.Prelude.{◌≡◌, List, ℕ, true, false, map}
 use Rattle.um_model.specs.Children as model
 use Rattle.um_children.specs.History.{is_start, is_absence, has_started, was_absent}
 use Rattle.um_children.specs.declared.call.Call.{Call}
 use Rattle.um_children.specs.declared.call.Call.TheVariants as call
 
 abbrev pub call_of : Call → model.Call
-call_of (call.Spawned number words environment is_taken starts) =
-    model.Spawned (record { number = number; words = map string_bytes words.items; environment = map string_bytes environment.items }) is_taken starts
+call_of (call.Spawned number start is_taken starts) =
+    model.Spawned (record { number = number; words = start.words; environment = start.environment }) is_taken starts
 call_of (call.Signalled number signal) = model.Signalled number signal
 call_of (call.Asked number claim told) = model.Asked number claim told
 

@@ -1,4 +1,4 @@
--- The command lines by which the manager starts a runner and signals a process.
+-- The command lines by which the manager looks for its runner, starts one, and signals a process.
 -- Follows sh(1) and kill(1); the runner's own words are the project's (docs/FORMATS.md, "The runner").
 -- Children through runners stand on this file.
 use Rattle.std.specs.Prelude.{◌≡◌, ◌∷◌, ◌++◌, List, ℕ, length, map, codes, decimal}
@@ -13,6 +13,10 @@ use Rattle.um_model.specs.declared.service.Signal.TheVariants.{Term, Kill}
 -- names no file that it can execute, it ends with 126 and runs nothing
 abbrev pub detaching : List ℕ
 detaching = codes "p=$(command -v \"$1\") && test -f \"$p\" && test -x \"$p\" || exit 126; \"$@\" </dev/null >/dev/null 2>&1 &"
+
+-- what the shell runs: nothing, and it fails where its word names no file that it can execute
+abbrev pub finding : List ℕ
+finding = codes "p=$(command -v \"$1\") && test -f \"$p\" && test -x \"$p\""
 
 -- what the shell runs: the signal of its first word to the pid of its second
 abbrev pub signalling : List ℕ

@@ -19,15 +19,18 @@ fault_of (folder.System error) = fault.Device
 abbrev pub refusal_of : ChildFault → Refusal
 refusal_of fault.NoMemory = refusal.NoMemory
 refusal_of fault.Device = refusal.Device
+refusal_of fault.TooLong = refusal.Device
 
 -- the count of failures rises exactly where the children failed
 abbrev pub CountsFault : {T : Type 0} → Result T ChildFault → ℕ → ℕ → Type 0
 CountsFault (Ok x) old new = new ≡ old
 CountsFault (Err fault.NoMemory) old new = new ≡ old
+CountsFault (Err fault.TooLong) old new = new ≡ old
 CountsFault (Err fault.Device) old new = new ≡ one_more old
 
 -- a call can be missing from the history only where the children failed
 abbrev pub KeepsWhole : {T : Type 0} → Result T ChildFault → Bool → Bool → Type 0
 KeepsWhole (Ok x) old new = new ≡ old
 KeepsWhole (Err fault.NoMemory) old new = new ≡ old
+KeepsWhole (Err fault.TooLong) old new = new ≡ old
 KeepsWhole (Err fault.Device) old new = IsTrue new → IsTrue old

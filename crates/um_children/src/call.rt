@@ -1,9 +1,10 @@
-ghost use Rattle.std.specs.Prelude.{◌≡◌, ◌&&◌, false, IfOk, map, string_bytes};
+ghost use Rattle.std.specs.Prelude.{◌≡◌, ◌&&◌, false, IfOk};
 ghost use Rattle.um_children.specs.History.{tells_absent, is_start, is_absence};
 ghost use Rattle.um_children.specs.Calls.{call_of};
 
-use std::alloc::{AllocError, Global};
+use std::alloc::AllocError;
 use um_model::{Fate, ProcessNumber, Signal};
+use um_state::Start;
 
 /// A call to the children.
 #[derive(Debug, Drop)]
@@ -11,9 +12,7 @@ pub enum Call {
     /// A start.
     Spawned {
         number: ProcessNumber,
-        words: Vec<String>,
-        /// `NAME=value` each.
-        environment: Vec<String>,
+        start: Start,
         /// It was answered Ok.
         is_taken: bool,
         /// The process starts.
@@ -30,17 +29,6 @@ pub enum Call {
         /// Nothing where the call failed.
         told: Option<Fate>,
     },
-}
-
-/// The texts again.
-fn copied(alloc: Global, texts: &[String]) -> Result<Vec<String>, AllocError>
-    ensures { IfOk result (λ copies. map string_bytes copies.items ≡ map string_bytes texts.now) }
-{
-    let mut copies = Vec::new(alloc);
-    for text in texts {
-        copies.push(text.clone()?)?;
-    }
-    Ok(copies)
 }
 
 /// Whether absence was told.
@@ -76,20 +64,18 @@ impl Call {
     }
 
     /// The call again.
-    pub fn copy(&self, alloc: Global) -> Result<Call, AllocError>
+    pub fn copy(&self) -> Result<Call, AllocError>
         ensures { IfOk result (λ call. call_of call ≡ call_of self.now) }
     {
         match self {
             Call::Spawned {
                 number,
-                words,
-                environment,
+                start,
                 is_taken,
                 starts,
             } => Ok(Call::Spawned {
                 number: *number,
-                words: copied(alloc, words.as_slice())?,
-                environment: copied(alloc, environment.as_slice())?,
+                start: start.share()?,
                 is_taken: *is_taken,
                 starts: *starts,
             }),

@@ -1,17 +1,19 @@
-ghost use Rattle.std.specs.Prelude.{◌≡◌, ℕ, List, Bool, IsTrue, false, IfOk};
+ghost use Rattle.std.specs.Prelude.{◌≡◌, ℕ, List, Bool, IsTrue, false, IfOk, OnOk};
 ghost use Rattle.um_model.specs.Children.{Call};
 ghost use Rattle.um_children.specs.History.{is_absent, IsFinal, Spawns, Signals, Asks};
 ghost use Rattle.um_children.specs.Faults.{CountsFault, KeepsWhole};
+ghost use Rattle.um_service.specs.Started.{is_too_long};
 
 use crate::fault::ChildFault;
 use um_keeper::SpawnOrder;
-use um_model::{Fate, ProcessNumber, Signal};
+use um_model::{Fate, NextNumber, ProcessNumber, Signal};
 
 /// The processes of a manager, each under its number. What they do is told by one history of calls.
 ///
 /// The clauses on the history stand under `honest`, and under `whole`, since children that keep their history may find no memory for a
-/// call. Those on counts always stand. A call that isn't done answers `NoMemory` where a growth was refused, and `Device` where the
-/// children failed: then, and only then, the count of failures rises by one, up to the last value of a `u64`.
+/// call. Those on counts always stand. A call that isn't done answers `NoMemory` where a growth was refused, `TooLong` where no process can
+/// be started with so much, and `Device` where the children failed: then, and only then, the count of failures rises by one, up to the
+/// last value of a `u64`.
 pub trait Children {
     /// The calls, the oldest first.
     ghost past: { Self → List Call };
@@ -26,9 +28,10 @@ pub trait Children {
     ghost honest: { Self → Bool };
 
     /// Starts the process of an order. At Err it may have started all the same; no order is asked twice, so whether it did is told by
-    /// its fate under a claim.
+    /// its fate under a claim. An order that is too long is refused, and its words aren't put together.
     fn spawn(&mut self, order: SpawnOrder) -> Result<(), ChildFault>
         ensures past { IsTrue (honest self.old) → IsTrue (whole self.new) → Spawns order result (past self.old) (past self.new) }
+        ensures bound { OnOk result (is_too_long order.words order.environment ≡ false) }
         ensures whole { KeepsWhole result (whole self.old) (whole self.new) }
         ensures failures { CountsFault result (failures self.old) (failures self.new) }
         ensures honest { honest self.new ≡ honest self.old };
@@ -57,8 +60,9 @@ pub trait Children {
         ensures honest { honest self.new ≡ honest self.old };
 
     /// Lets go what is kept of each number that has ended and isn't among these, as a manager does that opens: of those nothing is asked any
-    /// more. As `forget` it is no call of the history, and a claim stays.
-    fn forget_others(&mut self, live: &[ProcessNumber]) -> Result<(), ChildFault>
+    /// more. As `forget` it is no call of the history, and a claim stays. No number from `next` on was ever started: where something is kept
+    /// of one, it is another manager's, and nothing goes.
+    fn forget_others(&mut self, live: &[ProcessNumber], next: NextNumber) -> Result<(), ChildFault>
         ensures past { past self.new ≡ past self.old }
         ensures whole { whole self.new ≡ whole self.old }
         ensures failures { CountsFault result (failures self.old) (failures self.new) }

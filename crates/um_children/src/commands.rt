@@ -1,8 +1,8 @@
-//! The command lines that the manager runs: one that starts a runner, and one that signals a process.
+//! The command lines that the manager runs: one that looks for the runner's program, one that starts a runner, and one that signals a process.
 
 ghost use Rattle.std.specs.Prelude.{◌≡◌, ◌∷◌, ◌++◌, [], List, ℕ, map, codes, decimal, string_bytes, IfOk, OnOk};
 ghost use Rattle.std.specs.Process.{command_program, command_args};
-ghost use Rattle.um_children.specs.Commands.{IsShell, lent, detaching, signalling, runner_words, signal_name};
+ghost use Rattle.um_children.specs.Commands.{IsShell, lent, detaching, finding, signalling, runner_words, signal_name};
 
 use std::alloc::{AllocError, Global};
 use std::process::Command;
@@ -13,6 +13,9 @@ use um_model::Signal;
 /// execute, is told by the status.
 const DETACHING: &str =
     "p=$(command -v \"$1\") && test -f \"$p\" && test -x \"$p\" || exit 126; \"$@\" </dev/null >/dev/null 2>&1 &";
+
+/// Fails where its word names no file that can be executed.
+const FINDING: &str = "p=$(command -v \"$1\") && test -f \"$p\" && test -x \"$p\"";
 
 const SIGNALLING: &str = "kill -s \"$1\" \"$2\"";
 
@@ -59,16 +62,25 @@ pub fn start_command(
 {
     let number = order.number().get();
     let number = format!(in alloc; "{number}")?;
-    let count = order.environment().len();
+    let environment = order.environment(alloc)?;
+    let words = order.words(alloc)?;
+    let count = environment.len();
     let count = format!(in alloc; "{count}")?;
     let mut command = shell(alloc, DETACHING, &[program, "run", "--dir", folder])?;
     add(
         &mut command,
         &["--number", number.as_str(), "--env", count.as_str(), "--"],
     )?;
-    add_texts(&mut command, order.environment())?;
-    add_texts(&mut command, order.words())?;
+    add_texts(&mut command, environment.as_slice())?;
+    add_texts(&mut command, words.as_slice())?;
     Ok(command)
+}
+
+/// The command that fails where nobody can execute the runner at `program`.
+pub fn finding_command(alloc: Global, program: &str) -> Result<Command, AllocError>
+    ensures { IfOk result (IsShell finding (program.now ∷ [])) }
+{
+    shell(alloc, FINDING, &[program])
 }
 
 /// The name of the signal as kill(1) has it.

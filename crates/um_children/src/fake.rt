@@ -1,17 +1,18 @@
-ghost use Rattle.std.specs.Prelude.{◌≡◌, ◌⊎◌, ◌∷◌, ◌++◌, [], List, IsTrue, true, false, not, if◌then◌else◌, is_ok, IfOk, OnOk, OnErr};
+ghost use Rattle.std.specs.Prelude.{IfErr, ◌≡◌, ◌⊎◌, ◌||◌, ◌∷◌, ◌++◌, [], List, IsTrue, true, false, not, if◌then◌else◌, is_ok, IfOk, OnOk, OnErr};
 ghost use Rattle.um_model.specs.Children.{Spawned};
 ghost use Rattle.um_model.specs.Disk.{one_more};
 ghost use Rattle.um_children.specs.History.{is_absent, has_started, was_absent, IsFinal, Spawns, Signals, Asks};
 ghost use Rattle.um_children.specs.Calls.{call_of, calls_of, Fits};
 ghost use Rattle.um_children.specs.Fakes.{fate_of, end_of, fuse_after, is_due};
 ghost use Rattle.um_children.specs.Faults.{CountsFault, KeepsWhole};
+ghost use Rattle.um_service.specs.Started.{is_too_long};
 
 use crate::call::Call;
 use crate::children::Children;
 use crate::fault::ChildFault;
 use std::alloc::{AllocError, Global};
 use um_keeper::SpawnOrder;
-use um_model::{End, Fate, ProcessNumber, Signal};
+use um_model::{End, Fate, NextNumber, ProcessNumber, Signal};
 
 /// Children in memory, for tests and for `memory`. They are honest, and keep each call.
 ///
@@ -95,7 +96,7 @@ fn copied(alloc: Global, calls: &[Call]) -> Result<Vec<Call>, AllocError>
 {
     let mut copies = Vec::new(alloc);
     for call in calls {
-        copies.push(call.copy(alloc)?)?;
+        copies.push(call.copy()?)?;
     }
     Ok(copies)
 }
@@ -209,7 +210,7 @@ impl FakeChildren {
         ChildFault::Device
     }
 
-    /// Fails a call that found no memory for its note.
+    /// Fails a call that found no memory for its note, or to see what it would note.
     fn lose(&mut self) -> ChildFault
         ensures fault { result ≡ ChildFault.Device }
         ensures failures { self.new.failures ≡ one_more self.old.failures }
@@ -234,32 +235,42 @@ impl Children for FakeChildren {
 
     ghost absence_is_final = { λ f _. f.kept };
 
-    /// The number starts unless the call fails or it was told to be absent.
+    /// The number starts unless the call fails, it was told to be absent, or the order is too long, which is noted as a start that was
+    /// refused.
     fn spawn(&mut self, order: SpawnOrder) -> Result<(), ChildFault>
         ensures past { IsTrue true → IsTrue (not self.new.lost) → Spawns order result (calls_of self.old.calls.items) (calls_of self.new.calls.items) }
+        ensures bound { OnOk result (is_too_long order.words order.environment ≡ false) }
         ensures starts { OnOk result (calls_of self.new.calls.items ≡ calls_of self.old.calls.items ++ Spawned order true (not (was_absent (calls_of self.old.calls.items) order.number)) ∷ []) }
+        ensures refused { IfErr result (λ fault. fault ≡ ChildFault.TooLong → calls_of self.new.calls.items ≡ calls_of self.old.calls.items ++ Spawned order false false ∷ []) }
         ensures whole { KeepsWhole result (not self.old.lost) (not self.new.lost) }
         ensures failures { CountsFault result self.old.failures self.new.failures }
         ensures due { OnOk result (is_due self.old.fuse ≡ false) }
-        ensures fails { OnErr result ((is_due self.old.fuse ≡ true) ⊎ (self.new.lost ≡ true)) }
+        ensures fails { IfErr result (λ fault. (is_due self.old.fuse ≡ true) ⊎ ((self.new.lost ≡ true) ⊎ (fault ≡ ChildFault.TooLong))) }
         ensures fuse { self.new.fuse ≡ fuse_after self.old.fuse }
         ensures ends { self.new.ends ≡ self.old.ends }
     {
         let number = order.number();
         let burns = self.burns();
+        let Ok(is_too_long) = order.is_too_long(*self.calls.allocator()) else {
+            return Err(self.lose());
+        };
         let is_absent = was_absent(self.calls.as_slice(), number);
-        let (words, environment) = order.into_words();
         let call = Call::Spawned {
             number,
-            words,
-            environment,
-            is_taken: !burns,
-            starts: !(burns | is_absent),
+            start: order.into_start(),
+            is_taken: !(burns | is_too_long),
+            starts: !(burns | is_too_long | is_absent),
         };
         if !note(&mut self.calls, call) {
             return Err(self.lose());
         }
-        if burns { Err(self.fail()) } else { Ok(()) }
+        if burns {
+            return Err(self.fail());
+        }
+        if is_too_long {
+            return Err(ChildFault::TooLong);
+        }
+        Ok(())
     }
 
     fn signal(&mut self, number: ProcessNumber, signal: Signal) -> Result<(), ChildFault>
@@ -330,7 +341,7 @@ impl Children for FakeChildren {
     }
 
     /// As `forget`.
-    fn forget_others(&mut self, live: &[ProcessNumber]) -> Result<(), ChildFault>
+    fn forget_others(&mut self, live: &[ProcessNumber], next: NextNumber) -> Result<(), ChildFault>
         ensures past { calls_of self.new.calls.items ≡ calls_of self.old.calls.items }
         ensures whole { not self.new.lost ≡ not self.old.lost }
         ensures failures { CountsFault result self.old.failures self.new.failures }

@@ -16,6 +16,9 @@ pub enum ChildFault {
     /// The children failed in that call, and counted it.
     #[error("the children failed")]
     Device,
+    /// The words and the environment of a start are longer than a process may be given.
+    #[error("argument list too long")]
+    TooLong,
 }
 
 impl From<AllocError> for ChildFault {
@@ -65,7 +68,7 @@ impl From<ChildFault> for Refusal {
     fn from(fault: ChildFault) -> Refusal {
         match fault {
             ChildFault::NoMemory => Refusal::NoMemory,
-            ChildFault::Device => Refusal::Device,
+            ChildFault::Device | ChildFault::TooLong => Refusal::Device,
         }
     }
 }

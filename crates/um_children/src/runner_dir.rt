@@ -4,24 +4,23 @@ ghost use Rattle.um_children.specs.History.{is_absent};
 ghost use Rattle.um_children.specs.Faults.{CountsFault};
 
 use crate::children::Children;
-use crate::commands::{signal_command, start_command};
+use crate::commands::{finding_command, signal_command, start_command};
 use crate::fault::ChildFault;
+use crate::places::{OpenFault, file_named, runs, take_folder};
+use crate::silence::Silence;
 use crate::standing::{Known, Standing, stronger};
+use crate::trouble::{Cause, Trouble};
 use crate::watch::Watch;
 use std::alloc::Global;
 use std::collections::BTreeMap;
-use std::fs::{DirBuilder, File, Files, Permissions};
+use std::fs::{File, Files};
 use std::io::{ErrorKind, Read};
-use std::os::unix::fs::{DirBuilderExt, PermissionsExt};
 use std::process::{Command, Processes, Stdio};
-use std::time::Clock;
+use std::time::{Clock, Instant};
 use std::{fs, io, mem};
 use um_keeper::SpawnOrder;
-use um_model::{Fate, ProcessNumber, Signal};
-use um_runner::{Claimant, RunnerFile, claim, file_path, pid_in, read_claim, status_in};
-
-/// The folder is the manager's own.
-const MODE: u32 = 0o700;
+use um_model::{Fate, NextNumber, ProcessNumber, Signal};
+use um_runner::{Claimant, RunnerFile, Told, claim, file_path, pid_in, read_claim, status_in};
 
 /// Processes through runners: each is started by a runner of its own, which outlives the manager and tells of it by files in a folder.
 ///
@@ -29,7 +28,7 @@ const MODE: u32 = 0o700;
 /// and claims alone say something here: that a runner does what its files tell is a premise of what is proved above.
 ///
 /// Fates are asked in rounds, each in ascending order: a number that isn't above the last one begins a round, and the folder is looked
-/// at once a round. Where nothing came, a fate costs no call of the system; and `has_news` tells whether a round is worth its while.
+/// at once a round. Where nothing came, a fate costs no call of the system but once a second; and `has_news` tells whether a round is worth its while.
 #[derive(Drop)]
 pub struct RunnerDir<'a, R: Files + Processes + Clock> {
     rt: &'a R,
@@ -44,6 +43,16 @@ pub struct RunnerDir<'a, R: Files + Processes + Clock> {
     /// The next round may tell or do something even where no file comes.
     is_restless: bool,
     failures: u64,
+    /// What failed in the last call that did.
+    cause: Option<Cause>,
+    /// How long numbers have been silent, those alone that are.
+    silences: BTreeMap<u64, Silence>,
+    /// The number that the last call found silent for too long, once.
+    silent: Option<ProcessNumber>,
+    /// The greatest number of which the folder has a file though it was never started from this store.
+    foreign: Option<ProcessNumber>,
+    /// So many processes run that aren't live.
+    unmanaged: u64,
 }
 
 /// What is left of a number beside its claim, the status last.
@@ -56,25 +65,6 @@ const LEFT: [RunnerFile; 6] = [
     RunnerFile::Status,
 ];
 
-/// The number of which a file of this name tells the end.
-fn ended_number(name: &str) -> Option<ProcessNumber> {
-    let digits = name.strip_suffix(RunnerFile::Status.ending())?;
-    ProcessNumber::new(digits.parse::<u64>().ok()?)
-}
-
-/// Makes the folder where nothing stands there, and takes it for the manager alone.
-fn take_folder<R: Files>(rt: &R, folder: &str) -> io::Result<()> {
-    match DirBuilder::new().mode(MODE).create(rt, folder) {
-        Ok(()) => {}
-        Err(error) if error.kind() == ErrorKind::AlreadyExists => {}
-        Err(error) => return Err(error),
-    }
-    if !fs::symlink_metadata(rt, folder)?.is_dir() {
-        return Err(io::Error::from(ErrorKind::NotADirectory));
-    }
-    fs::set_permissions(rt, folder, Permissions::from_mode(MODE))
-}
-
 /// Runs a shell and waits for it. False where it says that it failed.
 fn has_run<R: Processes>(rt: &R, mut shell: Command) -> io::Result<bool> {
     shell
@@ -82,6 +72,10 @@ fn has_run<R: Processes>(rt: &R, mut shell: Command) -> io::Result<bool> {
         .stdout(Stdio::null())
         .stderr(Stdio::null());
     Ok(shell.status(rt)?.success())
+}
+
+fn by_shell(error: io::Error) -> Trouble {
+    Trouble::Failed(Cause::Shell(error))
 }
 
 /// Removes the file at the path, where one is there.
@@ -106,20 +100,25 @@ fn is_barred<R: Files>(rt: &R, path: &str) -> io::Result<bool> {
 }
 
 impl<'a, R: Files + Processes + Clock> RunnerDir<'a, R> {
-    /// Children over the folder, through the runner at `program`. The folder is made where nothing stands there, and is the manager's
-    /// alone from then on (mode 700).
+    /// Children over the folder, through the runner at `program`. The folder is made where nothing stands there; one that stands there is
+    /// the manager's alone from then on (mode 700).
     ///
-    /// `NoMemory` where a growth was refused; `Device` where something else than a folder stands there, or the system refuses it.
+    /// `NoMemory` where a growth was refused; `NoFolder` where something else stands there; `Owner` for a folder of another user than the
+    /// process's effective one, `Writable` for one that its group or others may write; `System` where the system refuses it.
     pub fn open(
         rt: &'a R,
         alloc: Global,
         program: &str,
         folder: &str,
-    ) -> Result<RunnerDir<'a, R>, ChildFault>
+    ) -> Result<RunnerDir<'a, R>, OpenFault>
         ensures { IfOk result (λ children. children.failures ≡ 0) }
     {
-        let program = String::from_str(alloc, program)?;
-        let folder = String::from_str(alloc, folder)?;
+        let Ok(program) = String::from_str(alloc, program) else {
+            return Err(OpenFault::NoMemory);
+        };
+        let Ok(folder) = String::from_str(alloc, folder) else {
+            return Err(OpenFault::NoMemory);
+        };
         take_folder(rt, folder.as_str())?;
         Ok(RunnerDir {
             rt,
@@ -131,6 +130,11 @@ impl<'a, R: Files + Processes + Clock> RunnerDir<'a, R> {
             last: u64::MAX,
             is_restless: true,
             failures: 0,
+            cause: None,
+            silences: BTreeMap::new(alloc),
+            silent: None,
+            foreign: None,
+            unmanaged: 0,
         })
     }
 
@@ -152,40 +156,121 @@ impl<'a, R: Files + Processes + Clock> RunnerDir<'a, R> {
         self.is_restless || self.watch.has_changed(self.rt, self.folder.as_str())
     }
 
-    /// Counts the call where it failed.
-    fn count<T: Drop>(&mut self, answer: Result<T, ChildFault>) -> Result<T, ChildFault>
-        ensures same { result ≡ answer }
-        ensures failures { CountsFault result self.old.failures self.new.failures }
-    {
-        if let Err(ChildFault::Device) = answer {
-            self.failures = self.failures.saturating_add(1);
-        }
-        answer
+    /// The folder.
+    pub fn folder(&self) -> &str {
+        self.folder.as_str()
     }
 
-    fn start(&self, order: &SpawnOrder) -> Result<(), ChildFault> {
+    /// The path of the runner's program.
+    pub fn program(&self) -> &str {
+        self.program.as_str()
+    }
+
+    /// What it is that failed.
+    fn place_of(&self, cause: &Cause) -> &str {
+        match cause {
+            Cause::Folder(_) | Cause::Foreign => self.folder.as_str(),
+            Cause::Runner => self.program.as_str(),
+            Cause::Shell(_) => "sh",
+        }
+    }
+
+    /// What failed in the last call that failed, and where.
+    pub fn trouble(&self) -> Option<(&str, &Cause)> {
+        match &self.cause {
+            Some(cause) => Some((self.place_of(cause), cause)),
+            None => None,
+        }
+    }
+
+    /// Whether the runner's program is there and can be executed, as far as a shell can tell.
+    pub fn has_runner(&self) -> bool {
+        match finding_command(self.alloc, self.program.as_str()) {
+            Ok(command) => has_run(self.rt, command).unwrap_or(true),
+            Err(_) => true,
+        }
+    }
+
+    /// Whether the folder wasn't there when a round of fates began last.
+    pub fn is_gone(&self) -> bool {
+        self.watch.is_gone()
+    }
+
+    /// The number whose fate was asked last, where for ten seconds nobody has claimed it and this wasn't told of it yet.
+    pub fn silent(&self) -> Option<ProcessNumber> {
+        self.silent
+    }
+
+    /// The greatest number of which the folder had files at `forget_others` although it was never started: they are another store's. From
+    /// then on each call is refused as `Device`, and touches nothing.
+    pub fn foreign(&self) -> Option<ProcessNumber> {
+        self.foreign
+    }
+
+    /// How many processes ran at `forget_others` that aren't live, and of which nothing tells an end: those of an earlier boot.
+    pub fn unmanaged(&self) -> u64 {
+        self.unmanaged
+    }
+
+    /// Counts the call where it failed, and keeps what did.
+    fn count<T: Drop>(&mut self, answer: Result<T, Trouble>) -> Result<T, ChildFault>
+        ensures same { IfOk result (λ value. answer ≡ Ok value) }
+        ensures failures { CountsFault result self.old.failures self.new.failures }
+        ensures restless { self.new.is_restless ≡ self.old.is_restless }
+    {
+        match answer {
+            Ok(value) => Ok(value),
+            Err(Trouble::NoMemory) => Err(ChildFault::NoMemory),
+            Err(Trouble::Failed(cause)) => {
+                self.failures = self.failures.saturating_add(1);
+                self.cause = Some(cause);
+                Err(ChildFault::Device)
+            }
+        }
+    }
+
+    /// Nothing is done in a folder of another store.
+    fn admit(&self) -> Result<(), Trouble> {
+        match self.foreign {
+            Some(_) => Err(Trouble::Failed(Cause::Foreign)),
+            None => Ok(()),
+        }
+    }
+
+    fn start(&self, order: &SpawnOrder) -> Result<(), Trouble> {
+        self.admit()?;
         let (program, folder) = (self.program.as_str(), self.folder.as_str());
+        // a runner tells nobody that it found no folder
+        if !fs::symlink_metadata(self.rt, folder)?.is_dir() {
+            return Err(Trouble::from(io::Error::from(ErrorKind::NotADirectory)));
+        }
         let command = start_command(self.alloc, program, folder, order)?;
-        if has_run(self.rt, command)? {
-            Ok(())
-        } else {
-            Err(ChildFault::Device)
+        match has_run(self.rt, command) {
+            Ok(true) => Ok(()),
+            Ok(false) => Err(Trouble::Failed(Cause::Runner)),
+            Err(error) => Err(by_shell(error)),
         }
     }
 
     /// Signals the pid. That no process has it is no failure.
-    fn send(&self, pid: u32, signal: Signal) -> Result<(), ChildFault> {
-        has_run(self.rt, signal_command(self.alloc, signal, pid)?)?;
-        Ok(())
+    fn send(&self, pid: u32, signal: Signal) -> Result<(), Trouble> {
+        match has_run(self.rt, signal_command(self.alloc, signal, pid)?) {
+            Ok(_) => Ok(()),
+            Err(error) => Err(by_shell(error)),
+        }
     }
 
-    /// How the number stands by its files, where a runner may have claimed it before.
-    fn read(&self, number: ProcessNumber, before: Standing) -> Result<Standing, ChildFault> {
+    /// How the number stands by its files, where a runner may have claimed it before. The manager's own pid is none.
+    fn read(&self, number: ProcessNumber, before: Standing) -> Result<Standing, Trouble> {
         let folder = self.folder.as_str();
         if let Some(end) = status_in(self.rt, self.alloc, folder, number)? {
             return Ok(Standing::Ended(end));
         }
-        Ok(before.by_pid(pid_in(self.rt, self.alloc, folder, number)?))
+        let told = match pid_in(self.rt, self.alloc, folder, number)? {
+            Told::Pid(pid) if pid == libc::getpid().unsigned_abs() => Told::NoPid,
+            told => told,
+        };
+        Ok(before.by_pid(told))
     }
 
     /// What is known of the number.
@@ -197,8 +282,7 @@ impl<'a, R: Files + Processes + Clock> RunnerDir<'a, R> {
     }
 
     /// What is known of the number now; its files are read where anything may have come since they were read.
-    fn look(&self, number: ProcessNumber) -> Result<Known, ChildFault> {
-        let known = self.known(number);
+    fn look(&self, number: ProcessNumber, known: Known) -> Result<Known, Trouble> {
         let changes = Some(self.watch.changes());
         if known.standing.is_final() || known.changes == changes {
             return Ok(known);
@@ -211,7 +295,7 @@ impl<'a, R: Files + Processes + Clock> RunnerDir<'a, R> {
     }
 
     /// Claims the number for the manager.
-    fn bar(&self, number: ProcessNumber) -> Result<Standing, ChildFault> {
+    fn bar(&self, number: ProcessNumber) -> Result<Standing, Trouble> {
         let folder = self.folder.as_str();
         let claiming = claim(self.rt, self.alloc, folder, number, Claimant::Manager)?;
         Ok(Standing::claimed(claiming))
@@ -248,31 +332,60 @@ impl<'a, R: Files + Processes + Clock> RunnerDir<'a, R> {
     }
 
     /// What is known of the number, once it was claimed where it has to be, and a kept signal was sent where it can be.
-    fn learn(&self, number: ProcessNumber, claim: bool) -> Result<Known, ChildFault> {
-        let mut known = self.look(number)?;
+    fn learn(&self, number: ProcessNumber, before: Known, claim: bool) -> Result<Known, Trouble> {
+        self.admit()?;
+        let mut known = self.look(number, before)?;
         if claim && known.standing == Standing::Silent {
             known.standing = self.bar(number)?;
         }
         Ok(self.send_kept(known))
     }
 
-    fn find(&mut self, number: ProcessNumber, claim: bool) -> Result<Fate, ChildFault>
+    /// Notes whether nobody has claimed the number, and since when.
+    fn heed(&mut self, number: ProcessNumber, standing: Standing)
+        ensures failures { self.new.failures ≡ self.old.failures }
+    {
+        let n = number.get();
+        if standing != Standing::Silent {
+            self.silences.remove(&n);
+            return;
+        }
+        let Ok(now) = Instant::now(self.rt) else {
+            return;
+        };
+        let silence = match self.silences.get(&n) {
+            Some(silence) => *silence,
+            None => Silence::Since(now),
+        };
+        let is_long = silence.is_long(now);
+        let next = if is_long { Silence::Told } else { silence };
+        // where there is no memory for it, it is told later
+        if self.silences.insert(n, next).is_ok() && is_long {
+            self.silent = Some(number);
+        }
+    }
+
+    fn find(&mut self, number: ProcessNumber, claim: bool) -> Result<Fate, Trouble>
         ensures claim { claim ≡ false → IfOk result (λ fate. is_absent fate ≡ false) }
         ensures failures { self.new.failures ≡ self.old.failures }
         ensures restless { self.new.is_restless ≡ false → result ≡ Ok Fate.Executed }
     {
         self.begin(number);
         let was_restless = mem::replace(&mut self.is_restless, true);
-        let known = self.learn(number, claim)?;
+        self.silent = None;
+        let before = self.known(number);
+        let known = self.learn(number, before, claim)?;
+        self.heed(number, known.standing);
         // where there is no memory for it the files are read again
-        let is_kept = self.known.insert(number.get(), known).is_ok();
+        let is_kept = known == before || self.known.insert(number.get(), known).is_ok();
         self.is_restless = was_restless || !is_kept || !known.is_settled();
         Ok(known.standing.fate(claim))
     }
 
-    fn deliver(&mut self, number: ProcessNumber, signal: Signal) -> Result<(), ChildFault>
+    fn deliver(&mut self, number: ProcessNumber, signal: Signal) -> Result<(), Trouble>
         ensures failures { self.new.failures ≡ self.old.failures }
     {
+        self.admit()?;
         let known = self.known(number);
         if known.standing.is_final() {
             return Ok(());
@@ -291,7 +404,8 @@ impl<'a, R: Files + Processes + Clock> RunnerDir<'a, R> {
 
     /// Removes the files of a number whose status stands there; of another one none. The status goes last, so that it is found again
     /// where this fails. A claim of the manager stays.
-    fn remove_files(&self, number: ProcessNumber) -> Result<(), ChildFault> {
+    fn remove_files(&self, number: ProcessNumber) -> Result<(), Trouble> {
+        self.admit()?;
         let folder = self.folder.as_str();
         if status_in(self.rt, self.alloc, folder, number)?.is_none() {
             return Ok(());
@@ -307,24 +421,60 @@ impl<'a, R: Files + Processes + Clock> RunnerDir<'a, R> {
         Ok(())
     }
 
-    /// The numbers whose status stands in the folder.
-    fn ended(&self) -> Result<Vec<ProcessNumber>, ChildFault> {
-        let mut numbers = Vec::new(self.alloc);
+    /// The files of processes that stand in the folder.
+    fn files(&self) -> Result<Vec<(ProcessNumber, RunnerFile)>, Trouble> {
+        let mut files = Vec::new(self.alloc);
         for entry in fs::read_dir(&(self.rt, self.alloc), self.folder.as_str())? {
-            if let Some(number) = ended_number(entry?.file_name()) {
-                numbers.push(number)?;
+            if let Some(file) = file_named(entry?.file_name()) {
+                files.push(file)?;
             }
         }
-        Ok(numbers)
+        Ok(files)
     }
 
-    /// Forgets each number whose status stands in the folder, but these.
-    fn forget_but(&mut self, live: &[ProcessNumber]) -> Result<(), ChildFault>
+    /// Notes the greatest number of these files from the next one of the store on.
+    fn note_foreign(&mut self, files: &[(ProcessNumber, RunnerFile)], next: NextNumber)
+        ensures failures { self.new.failures ≡ self.old.failures }
+    {
+        let mut greatest: u64 = 0;
+        for (number, _) in files {
+            if number.get() >= next.get() && number.get() > greatest {
+                greatest = number.get();
+            }
+        }
+        // no process has the number 0
+        self.foreign = ProcessNumber::new(greatest);
+    }
+
+    /// How many processes these files tell of that run and aren't live. What can't be read counts as none.
+    fn count_unmanaged(
+        &self,
+        files: &[(ProcessNumber, RunnerFile)],
+        live: &[ProcessNumber],
+    ) -> u64 {
+        let mut count: u64 = 0;
+        for (number, file) in files {
+            if *file == RunnerFile::Pid && !live.contains(number) {
+                if let Ok(true) = runs(self.rt, self.alloc, self.folder.as_str(), *number) {
+                    count = count.saturating_add(1);
+                }
+            }
+        }
+        count
+    }
+
+    /// Forgets each number whose status stands in the folder, but these. Nothing goes where the folder is another store's.
+    fn forget_but(&mut self, live: &[ProcessNumber], next: NextNumber) -> Result<(), ChildFault>
         ensures failures { CountsFault result self.old.failures self.new.failures }
     {
-        let ended = self.ended();
-        for number in &self.count(ended)? {
-            if !live.contains(number) {
+        let files = self.files();
+        let files = self.count(files)?;
+        self.note_foreign(files.as_slice(), next);
+        let admitted = self.admit();
+        self.count(admitted)?;
+        self.unmanaged = self.count_unmanaged(files.as_slice(), live);
+        for (number, file) in &files {
+            if *file == RunnerFile::Status && !live.contains(number) {
                 self.forget(*number)?;
             }
         }
@@ -346,6 +496,9 @@ impl<'a, R: Files + Processes + Clock> Children for RunnerDir<'a, R> {
 
     fn spawn(&mut self, order: SpawnOrder) -> Result<(), ChildFault> {
         self.is_restless = true;
+        if order.is_too_long(self.alloc)? {
+            return Err(ChildFault::TooLong);
+        }
         let answer = self.start(&order);
         self.count(answer)
     }
@@ -373,10 +526,15 @@ impl<'a, R: Files + Processes + Clock> Children for RunnerDir<'a, R> {
         self.count(answer)
     }
 
-    /// Removes the files of each other number whose status stands in the folder, as `forget` does.
+    /// Removes the files of each other number whose status stands in the folder, as `forget` does. Where files stand there of a number
+    /// that was never started nothing is removed, and it is noted (`foreign`).
     ///
-    /// `NoMemory` where a growth was refused, `Device` where the system refuses: a later call removes what was left.
-    fn forget_others(&mut self, live: &[ProcessNumber]) -> Result<(), ChildFault> {
-        self.forget_but(live)
+    /// `NoMemory` where a growth was refused, `Device` where the folder is another store's, or the system refuses: a later call removes what was left.
+    fn forget_others(
+        &mut self,
+        live: &[ProcessNumber],
+        next: NextNumber,
+    ) -> Result<(), ChildFault> {
+        self.forget_but(live, next)
     }
 }

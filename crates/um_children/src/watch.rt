@@ -1,12 +1,16 @@
 //! Whether anything came into the folder since the last look.
 
 use std::fs::Files;
-use std::time::{Clock, SystemTime};
+use std::io::ErrorKind;
+use std::time::{Clock, Duration, Instant, SystemTime};
 use std::{fs, io};
 
 /// A folder's time that is younger than this tells nothing: the clock of the files goes on in steps of up to 10 ms, and so the next
 /// file may come at the same time.
 const YOUNG_MILLIS: u128 = 20;
+
+/// After so many milliseconds the files are read again, whatever the folder's time says: that of some file systems goes on in whole seconds.
+const OLD_MILLIS: u128 = 1_000;
 
 /// What was seen of the folder's time.
 #[derive(Clone, Copy, Debug)]
@@ -15,6 +19,10 @@ pub struct Watch {
     time: Option<SystemTime>,
     /// How often anything may have come.
     changes: u64,
+    /// When the files were to be read last.
+    read: Option<Instant>,
+    /// At the last look there was no such folder.
+    is_gone: bool,
 }
 
 fn folder_time<R: Files>(rt: &R, folder: &str) -> io::Result<SystemTime> {
@@ -33,11 +41,18 @@ fn settled_time<R: Files + Clock>(rt: &R, folder: &str) -> io::Result<Option<Sys
     Ok(if is_old { Some(time) } else { None })
 }
 
+/// Whether files that were read so long ago have to be read again, whatever the folder's time says.
+fn is_old(age: Duration) -> bool {
+    age.as_millis() >= OLD_MILLIS
+}
+
 impl Watch {
     /// Nothing was seen yet.
     pub const NEW: Watch = Watch {
         time: None,
         changes: 0,
+        read: None,
+        is_gone: false,
     };
 
     /// How often anything may have come into the folder.
@@ -45,20 +60,43 @@ impl Watch {
         self.changes
     }
 
-    /// Whether anything may have come since the last look. Where the folder's time can't be seen, it may.
-    pub fn has_changed<R: Files>(&self, rt: &R, folder: &str) -> bool {
-        match (self.time, folder_time(rt, folder)) {
-            // it wasn't young at that look, and so whatever came since has a later time
-            (Some(seen), Ok(time)) => time != seen,
+    /// Whether there was no such folder at the last look.
+    pub fn is_gone(&self) -> bool {
+        self.is_gone
+    }
+
+    /// Whether the files were read too long ago to go by the folder's time.
+    fn is_overdue<R: Clock>(&self, rt: &R) -> bool {
+        match (self.read, Instant::now(rt)) {
+            (Some(read), Ok(now)) => is_old(now.duration_since(read)),
             _ => true,
         }
     }
 
-    /// Looks at the folder's time: files that were read before have to be read again, unless it is as at the last look.
+    /// Whether anything may have come since the last look. Where the folder's time can't be seen, it may.
+    pub fn has_changed<R: Files + Clock>(&self, rt: &R, folder: &str) -> bool {
+        match (self.time, folder_time(rt, folder)) {
+            // it wasn't young at that look, and so whatever came since has a later time, if the file system's times are fine
+            (Some(seen), Ok(time)) => time != seen || self.is_overdue(rt),
+            _ => true,
+        }
+    }
+
+    /// Looks at the folder's time: files that were read before have to be read again, unless it is as at the last look and they were
+    /// read within a second.
     pub fn look<R: Files + Clock>(&mut self, rt: &R, folder: &str) {
-        let time = settled_time(rt, folder).unwrap_or(None);
-        if time.is_none() || time != self.time {
+        let seen = settled_time(rt, folder);
+        self.is_gone = match &seen {
+            Ok(_) => false,
+            Err(error) => error.kind() == ErrorKind::NotFound,
+        };
+        let time = seen.unwrap_or(None);
+        if time.is_none() || time != self.time || self.is_overdue(rt) {
             self.changes = self.changes.wrapping_add(1);
+            self.read = match Instant::now(rt) {
+                Ok(now) => Some(now),
+                Err(_) => None,
+            };
         }
         self.time = time;
     }

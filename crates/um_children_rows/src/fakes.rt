@@ -39,10 +39,10 @@ fn sleeps(rt: &impl Abort, words: &[String]) {
 }
 
 /// Asserts that a start, a signal and a question that failed were noted, and no other call.
-fn are_noted(rt: &impl Abort, calls: &[Call]) {
+fn are_noted(rt: &(impl AllocGlobal + Abort), calls: &[Call]) {
     let [
         Call::Spawned {
-            words,
+            start,
             is_taken: true,
             starts: true,
             ..
@@ -60,6 +60,7 @@ fn are_noted(rt: &impl Abort, calls: &[Call]) {
     else {
         rt.abort()
     };
+    let words = start.words(rt.alloc()).expect(rt, "no memory");
     sleeps(rt, words.as_slice());
 }
 
@@ -108,4 +109,49 @@ fn each_call_is_noted_and_forgetting_is_none(rt: HostRuntime) {
     fails(&rt, &mut children, true);
     let copy = children.copy(rt.alloc()).expect(&rt, "no memory");
     are_noted(&rt, copy.calls());
+}
+
+/// Asserts that the start of number 1 was noted as one that was refused, and no other call.
+fn is_refused(rt: &impl Abort, children: &FakeChildren) {
+    let [
+        Call::Spawned {
+            is_taken: false,
+            starts: false,
+            ..
+        },
+    ] = children.calls()
+    else {
+        rt.abort()
+    };
+    has_failed(rt, children, 0);
+}
+
+/// The lines of a service of which one word is so many bytes long, or its value is said so many times.
+fn long_lines(rt: &(impl AllocGlobal + Abort), bytes: usize, times: usize) -> String {
+    let mut lines = String::from_str(rt.alloc(), "Environment=X=").expect(rt, "no memory");
+    for _ in 0..bytes {
+        lines.push('x').expect(rt, "no memory");
+    }
+    lines
+        .push_str("\nExecStart=/bin/true")
+        .expect(rt, "no memory");
+    for _ in 0..times {
+        lines.push_str(" ${X}").expect(rt, "no memory");
+    }
+    lines
+}
+
+#[test]
+fn a_start_past_the_bound_is_refused_and_noted(rt: HostRuntime) {
+    // 10 for /bin/true, 30,003 for X=, and 30,001 each: 68 of them are 2,070,081, and 69 are 2,100,082
+    let lines = long_lines(&rt, 30_000, 69);
+    let mut children = FakeChildren::new(rt.alloc());
+    let answer = children.spawn(order(&rt, lines.as_str()));
+    assert_eq!(&rt; answer, Err(ChildFault::TooLong));
+    is_refused(&rt, &children);
+    told(&rt, &mut children, 1, true, Fate::Absent);
+    let lines = long_lines(&rt, 30_000, 68);
+    let mut children = FakeChildren::new(rt.alloc());
+    let answer = children.spawn(order(&rt, lines.as_str()));
+    assert_eq!(&rt; answer, Ok(()));
 }

@@ -1,12 +1,13 @@
 //! Children through runners, over a folder of files that a test has put there. No process is started.
-use crate::orders::{number, told};
-use std::fs::{File, Files};
+use crate::orders::{next, number, told};
+use std::fs::{File, Files, Permissions};
+use std::os::unix::fs::PermissionsExt;
 use std::path::PathBuf;
 use std::process::{Abort, Processes};
 use std::test::Fail;
-use std::time::Clock;
-use std::{env, fs, process};
-use um_children::{Children, End, Fate, RunnerDir, Signal};
+use std::time::{Clock, Duration};
+use std::{env, fs, process, thread};
+use um_children::{ChildFault, Children, End, Fate, OpenFault, RunnerDir, Signal};
 
 /// A new folder of this name for a test, free of what an earlier process left there.
 fn folder(rt: &HostRuntime, name: &str) -> Result<PathBuf, Fail> {
@@ -146,6 +147,92 @@ fn a_number_that_ended_is_forgotten_with_its_files(rt: HostRuntime) -> Result<()
     stands(&rt, place, "2.claim", true);
     stands(&rt, place, "2.pid", true);
     assert_eq!(rt; children.failures(), 0);
+    remove(&rt, place);
+    Ok(())
+}
+
+/// A number that runs in a folder, whose files were read after its time was old enough to go by.
+fn running<'a, R: AllocGlobal + Files<File = File> + Processes + Clock + Abort>(
+    rt: &'a R,
+    place: &str,
+) -> RunnerDir<'a, R> {
+    put(rt, place, "1.pid", b"2147483647\n");
+    let mut children = children(rt, place);
+    told(rt, &mut children, 1, false, Fate::Executed);
+    thread::sleep(rt, Duration::from_millis(50));
+    told(rt, &mut children, 1, false, Fate::Executed);
+    children
+}
+
+/// The time of some folders goes on in whole seconds: it is here as before the status came.
+#[test]
+fn an_end_is_found_within_a_second_whatever_the_time_of_the_folder_says(
+    rt: HostRuntime,
+) -> Result<(), Fail> {
+    let place = folder(&rt, "coarse")?;
+    let place = place.as_str();
+    let mut children = running(&rt, place);
+    let time = fs::metadata(&rt, place)?.modified()?;
+    put(&rt, place, "1.status", b"code 3\n");
+    File::open(&rt, place)?.set_modified(time)?;
+    thread::sleep(&rt, Duration::from_millis(1100));
+    assert!(rt; children.has_news());
+    told(&rt, &mut children, 1, false, Fate::Ended(End::Code(3)));
+    remove(&rt, place);
+    Ok(())
+}
+
+#[test]
+fn files_of_a_number_that_was_never_started_are_another_stores(
+    rt: HostRuntime,
+) -> Result<(), Fail> {
+    let place = folder(&rt, "foreign")?;
+    let place = place.as_str();
+    put_all(&rt, place, 7);
+    put(&rt, place, "lock", b"");
+    put(&rt, place, "09.claim", b"manager\n");
+    let mut children = children(&rt, place);
+    let refused = children.forget_others(&[], next(&rt, 7));
+    assert_eq!(rt; refused, Err(ChildFault::Device));
+    assert!(rt; children.foreign() == Some(number(&rt, 7)));
+    stands(&rt, place, "7.status", true);
+    let refused = children.fate(number(&rt, 1), true);
+    assert_eq!(rt; refused, Err(ChildFault::Device));
+    stands(&rt, place, "1.claim", false);
+    children
+        .forget_others(&[], next(&rt, 8))
+        .expect(&rt, "not forgotten");
+    assert!(rt; children.foreign().is_none());
+    has_none(&rt, place, 7);
+    remove(&rt, place);
+    Ok(())
+}
+
+#[test]
+fn no_signal_goes_to_the_manager_itself(rt: HostRuntime) -> Result<(), Fail> {
+    let place = folder(&rt, "own")?;
+    let place = place.as_str();
+    let own = process::id(rt.process());
+    let text = format!(in rt.alloc(); "{own}\n")?;
+    put(&rt, place, "1.pid", text.as_bytes());
+    let mut children = children(&rt, place);
+    told(&rt, &mut children, 1, false, Fate::Executed);
+    children
+        .signal(number(&rt, 1), Signal::Kill)
+        .expect(&rt, "a failure");
+    remove(&rt, place);
+    Ok(())
+}
+
+#[test]
+fn a_folder_that_others_may_write_is_refused(rt: HostRuntime) -> Result<(), Fail> {
+    let place = folder(&rt, "open")?;
+    let place = place.as_str();
+    fs::set_permissions(&rt, place, Permissions::from_mode(0o770))?;
+    let opened = RunnerDir::open(&rt, rt.alloc(), "/nonexistent", place);
+    assert!(rt; matches!(opened, Err(OpenFault::Writable)));
+    fs::set_permissions(&rt, place, Permissions::from_mode(0o755))?;
+    assert!(rt; RunnerDir::open(&rt, rt.alloc(), "/nonexistent", place).is_ok());
     remove(&rt, place);
     Ok(())
 }

@@ -2,7 +2,7 @@
 use std::process::Abort;
 use um_children::{Children, Fate};
 use um_keeper::{Handed, Keeper, Receipt, SpawnOrder, create};
-use um_model::{JobMode, Layout, Moment, ProcessNumber, UnitVerb};
+use um_model::{JobMode, Layout, Moment, NextNumber, ProcessNumber, UnitVerb};
 use um_name::UnitName;
 use um_sector::MemDisk;
 use um_state::{Command, Event, Input};
@@ -11,15 +11,20 @@ pub fn number(rt: &impl Abort, n: u64) -> ProcessNumber {
     ProcessNumber::new(n).expect(rt, "no process number")
 }
 
+/// The number that is started next.
+pub fn next(rt: &impl Abort, n: u64) -> NextNumber {
+    NextNumber::new(n).expect(rt, "no next number")
+}
+
 /// Asserts what is told of a number.
 pub fn told<C: Children>(rt: &impl Abort, children: &mut C, n: u64, claim: bool, wanted: Fate) {
     assert_eq!(rt; children.fate(number(rt, n), claim), Ok(wanted), "at {n}");
 }
 
-/// The keeper of a new store in memory.
+/// The keeper of a new store in memory, with room for a unit of 64 kB.
 fn keeper(rt: &(impl AllocGlobal + Abort)) -> Keeper<MemDisk> {
-    let mut disk = MemDisk::new(rt.alloc(), 641).expect(rt, "no memory");
-    let layout = Layout::new(64, 512).expect(rt, "no layout");
+    let mut disk = MemDisk::new(rt.alloc(), 1_537).expect(rt, "no memory");
+    let layout = Layout::new(512, 512).expect(rt, "no layout");
     create(rt.alloc(), &mut disk, layout).expect(rt, "not created");
     match Keeper::open(rt.alloc(), disk) {
         Ok(keeper) => keeper,

@@ -5,7 +5,9 @@ use anyhow::Context;
 use std::alloc::Global;
 use std::time::Duration;
 use std::{env, fs, thread};
-use um_children::{Children, End, FakeChildren, Fate, ProcessNumber, RunnerDir, Signal};
+use um_children::{
+    Children, End, FakeChildren, Fate, NextNumber, ProcessNumber, RunnerDir, Signal,
+};
 
 /// Fates are asked so many times, every 10 ms.
 const POLLS: u32 = 500;
@@ -215,7 +217,8 @@ fn no_runner(rt: &HostRuntime, alloc: Global) -> anyhow::Result<()> {
 fn forgets(rt: &HostRuntime, children: &mut Dir<'_>) -> anyhow::Result<()> {
     children.forget(number(1)?)?;
     let left = is_there(rt, "processes/1.status") || is_there(rt, "processes/1.claim");
-    children.forget_others(&[number(2)?])?;
+    let next = NextNumber::new(9).context("no next number")?;
+    children.forget_others(&[number(2)?], next)?;
     let two = is_there(rt, "processes/2.status");
     let three = is_there(rt, "processes/3.status");
     let claim = is_there(rt, "twice/1.claim");

@@ -22,7 +22,7 @@ pub fn meaning(number: u64) -> Option<&'static str>
         5 =>
             "the unit is masked, by an empty file or a link to /dev/null: unmask it, or remove that entry, and ask daemon-reload.",
         6 =>
-            "a setting of the unit can't be served, and the reason follows its name: mend the file, put it again and ask daemon-reload.",
+            "a setting of the unit isn't served, or it is a template where an instance is wanted, and the reason follows its name: mend the file, put it again and ask daemon-reload, or name an instance.",
         7 =>
             "the manager knows no such unit: look for its name with list-units, or put its file and ask daemon-reload.",
         8 =>

@@ -3,10 +3,11 @@ use crate::answers::same;
 use std::process::Abort;
 use um_order::{Order, check};
 
-/// Nodes, pairs, and the cycles of which one is told; none where the nodes can be numbered.
+/// Nodes, pairs, and how many nodes are numbered where they can be; else the cycles of which one is told.
 struct Row {
     nodes: usize,
     pairs: &'static [(usize, usize)],
+    numbered: usize,
     cycles: &'static [&'static [usize]],
 }
 
@@ -15,53 +16,71 @@ const ROWS: &[Row] = &[
     Row {
         nodes: 4,
         pairs: &[(2, 3), (3, 0), (0, 1)],
+        numbered: 4,
         cycles: &[],
     },
     Row {
         nodes: 4,
         pairs: &[(1, 0), (1, 2), (0, 3), (2, 3), (1, 3)],
+        numbered: 4,
         cycles: &[],
     },
     // a ring is told from its least node on
     Row {
         nodes: 5,
         pairs: &[(4, 0), (3, 1), (2, 3), (1, 2)],
+        numbered: 0,
         cycles: &[&[1, 2, 3]],
     },
     // of two rings one is told
     Row {
         nodes: 4,
         pairs: &[(0, 1), (1, 0), (3, 2), (2, 3)],
+        numbered: 0,
         cycles: &[&[0, 1], &[2, 3]],
     },
     // a pair of a node with itself is a cycle
     Row {
         nodes: 3,
         pairs: &[(0, 1), (1, 1), (1, 2)],
+        numbered: 0,
         cycles: &[&[1]],
     },
     // no nodes have no numbers
     Row {
         nodes: 0,
         pairs: &[],
+        numbered: 0,
         cycles: &[],
     },
-    // a pair past the last node says nothing
+    // a pair may name a number past the last node: all up to it are numbered, and it may stand in a cycle
+    Row {
+        nodes: 2,
+        pairs: &[(4, 0), (1, 2)],
+        numbered: 5,
+        cycles: &[],
+    },
     Row {
         nodes: 2,
         pairs: &[(0, 1), (1, 2), (2, 0)],
-        cycles: &[],
+        numbered: 0,
+        cycles: &[&[0, 1, 2]],
+    },
+    Row {
+        nodes: 0,
+        pairs: &[(0, 0)],
+        numbered: 0,
+        cycles: &[&[0]],
     },
 ];
 
 /// Asserts that each node has a number, that these ascend along each pair, and that no cycle is wanted.
 fn is_numbered(rt: &impl Abort, numbers: &[usize], row: &Row) {
-    same(rt, (numbers.len(), row.cycles.len()), (row.nodes, 0));
+    same(rt, (numbers.len(), row.cycles.len()), (row.numbered, 0));
     for pair in row.pairs {
-        // a pair past the last node says nothing
-        if let (Some(before), Some(after)) = (numbers.get(pair.0), numbers.get(pair.1)) {
-            assert!(rt; before < after, "{numbers:?} at {pair:?}");
-        }
+        let before = *numbers.get(pair.0).expect(rt, "no number");
+        let after = *numbers.get(pair.1).expect(rt, "no number");
+        assert!(rt; before < after, "{numbers:?} at {pair:?}");
     }
 }
 
@@ -76,4 +95,9 @@ fn nodes_are_numbered_along_pairs_or_have_a_cycle(rt: HostRuntime) {
             }
         }
     }
+}
+
+#[test]
+fn no_list_is_long_enough_for_the_greatest_number(rt: HostRuntime) {
+    assert!(&rt; check(rt.alloc(), 0, &[(0, usize::MAX)]).is_err());
 }

@@ -2,12 +2,12 @@
 use Rattle.std.proofs.Common.{◌≡◌, ◌≢◌, ◌∙◌, ℕ, List, Some, None, false, Result, Ok, Err, sym, ap, subst, true, true≢false}
 use Rattle.um_model.specs.Jobs.{cancelled, jobs_of_unit}
 use Rattle.um_model.specs.Machine as model
-use Rattle.um_model.specs.Machine.{State, IsCrowded, IsHeld, IsHeldOr, IsNotThere, to_stop, to_try_restart, IsMissing, HasNoneWaiting, HasNoPlan, Refuses, scene_at, active_asked, demand_of, demands_nothing, Changes, puts, links, removes, reloads, plans, cancels, installs}
+use Rattle.um_model.specs.Machine.{State, IsCrowded, IsHeld, IsHeldOr, IsNotThere, to_stop, to_try_restart, IsMissing, HasNoneWaiting, PlansTooMany, by_name, by_jobs, HasNoPlan, LoadsNone, Refuses, scene_at, active_asked, demand_of, demands_nothing, Changes, puts, links, removes, reloads, plans, cancels, installs}
 use Rattle.um_model.specs.Servable.{IsFew}
-use Rattle.um_model.specs.Refusals.{Refused, no_such_job, unless_refused, FirstCause, at_first, at_second}
+use Rattle.um_model.specs.Refusals.{Refused, no_such_job, unless_refused, at_first, at_second}
 use Rattle.std.specs.FinMap as map
 use Rattle.um_model.specs.Tree.{Tree, File, Link, put_cause, link_cause, remove_cause, put_file, put_link, remove_at}
-use Rattle.um_model.specs.Install.{Installs, RefusesInstall}
+use Rattle.um_model.specs.Install.{Installs, RefusesLinks, RefusesUnits}
 use Rattle.um_model.specs.Service.{ByUnit}
 use Rattle.um_model.specs.declared.commands.JobMode.{JobMode}
 use Rattle.um_model.specs.declared.commands.UnitVerb.{UnitVerb}
@@ -17,11 +17,10 @@ use Rattle.um_model.specs.declared.jobs.UnitJobs.{UnitJobs}
 use Rattle.um_model.proofs.InstallLaws.{one_install}
 use Rattle.um_model.proofs.WaitingLaws.{has_waiting, none_told, none_waiting}
 use Rattle.um_engine.specs.Planned.{HasPlan}
-use Rattle.um_model.specs.Plan.{IsPlan, CausesOfPlan}
+use Rattle.um_model.specs.Plan.{IsPlan, CausesOfPlan, NamesCycle}
 use Rattle.um_model.specs.declared.dependencies.Demand.{Demand}
 use Rattle.um_model.proofs.PlannedLaws.{one_plan}
 use Rattle.um_model.proofs.SceneLaws.{finite_scene}
-use Rattle.um_transact.specs.Scene.{IsRefused}
 use Rattle.std.proofs.lemmas.Option.{none-some, same_Some}
 use Rattle.um_model.proofs.RefusesLaws.{missing_there}
 use Rattle.um_engine.specs.Demanded.{wants_it_there}
@@ -54,12 +53,6 @@ pub installs_to : (s u v : State) (verb : InstallVerb) (unit : List ℕ) (tree :
     → v ≡ record u { tree = tree; loaded = tree } → Changes s (model.Install verb unit) v
 installs_to s u v verb unit tree same made is =
     subst (Changes s (model.Install verb unit)) (sym (is ∙ ap (λ (x : State). record x { tree = tree; loaded = tree }) same)) (installs made)
-
-pub free_to_install : (s : State) (verb : InstallVerb) (unit : List ℕ) (tree : Tree) → Installs s.tree verb unit tree → ((r : Refused) → ¬ RefusesInstall s.tree verb unit r)
-    → ((r : Refused) → ¬ model.CausesOfLoad s tree r) → (r : Refused) → ¬ Refuses s (model.Install verb unit) r
-free_to_install s verb unit tree made free loads r (at_first h) = free r h
-free_to_install s verb unit tree made free loads r (at_second none h) =
-    loads r (subst (λ (x : Tree). model.CausesOfLoad s x r) (one_install s.tree verb unit h.tree tree h.installs made) h.cause)
 
 pub puts_none_to : (s u : State) (path text : List ℕ) (e : Refusal) → u ≡ s → (e ≢ NoMemory → put_file u.tree path text ≡ Err (refused_of e))
     → e ≢ NoMemory → Refuses s (model.PutFile path text) (refused_of e)
@@ -109,70 +102,67 @@ module _ (s : State) (verb : UnitVerb) (asked : List ℕ) (mode : JobMode) where
   Crowds = IsCrowded s.loaded (IsHeldOr s (model.unit_asked s asked))
 
   pub by_crowd : (r : Refused) → Crowds r → Refuses s (model.ForUnit verb asked mode) r
-  by_crowd r h = at_first h
+  by_crowd r h = at_first (by_name h)
 
-  pub by_absence : (r : Refused) → ((q : Refused) → ¬ Crowds q) → IsNotThere s verb asked r → Refuses s (model.ForUnit verb asked mode) r
+  pub by_absence : (r : Refused) → ((q : Refused) → ¬ PlansTooMany s verb asked q) → IsNotThere s verb asked r → Refuses s (model.ForUnit verb asked mode) r
   by_absence r few h = at_second few (at_first h)
 
-  pub by_plan : (r : Refused) (demand : Demand) → ((q : Refused) → ¬ Crowds q) → ((q : Refused) → ¬ IsNotThere s verb asked q)
-      → demand_of verb (active_asked s asked) ≡ Some demand → IsRefused (scene_at s (model.unit_asked s asked)) (demand, model.unit_asked s asked) mode r → Refuses s (model.ForUnit verb asked mode) r
-  by_plan r demand few there demanded h =
-      at_second few (at_second there (record { demand = demand; demanded = demanded; after = h.after; plan = h.plan; cause = at_first h.cause }))
-
-  -- too many units would be known with the plan
-  pub by_fullness : (r : Refused) (demand : Demand) (u : State) → ((q : Refused) → ¬ Crowds q) → ((q : Refused) → ¬ IsNotThere s verb asked q)
-      → demand_of verb (active_asked s asked) ≡ Some demand → HasPlan s (demand, model.unit_asked s asked) mode u → IsCrowded u.loaded (IsHeld u) r
-      → Refuses s (model.ForUnit verb asked mode) r
-  by_fullness r demand u few there demanded planned h =
-      (at_second few (at_second there (record {
-        demand = demand;
-        demanded = demanded;
-        after = u.pending;
-        plan = planned.accepted.plan;
-        cause = at_second planned.accepted.unrefused (subst (λ (x : State). IsCrowded x.loaded (IsHeld x) r) planned.rest h);
-      })))
-
-  free_by : ((q : Refused) → ¬ Crowds q) → ((q : Refused) → ¬ IsNotThere s verb asked q) → ((q : Refused) → ¬ HasNoPlan s verb asked mode q)
+  free_by : ((q : Refused) → ¬ PlansTooMany s verb asked q) → ((q : Refused) → ¬ IsNotThere s verb asked q) → ((q : Refused) → ¬ HasNoPlan s verb asked mode q)
       → (r : Refused) → ¬ Refuses s (model.ForUnit verb asked mode) r
   free_by few there planned r (at_first h) = few r h
   free_by few there planned r (at_second n (at_first h)) = there r h
   free_by few there planned r (at_second n (at_second m h)) = planned r h
 
-  pub free_to_rest : ((q : Refused) → ¬ Crowds q) → ((q : Refused) → ¬ IsNotThere s verb asked q) → demand_of verb (active_asked s asked) ≡ None
-      → (r : Refused) → ¬ Refuses s (model.ForUnit verb asked mode) r
-  free_to_rest few there nothing = free_by few there (λ q h. none-some h.demand (sym nothing ∙ h.demanded))
+  -- ---- where nothing is demanded
+  module _ (few : (q : Refused) → ¬ Crowds q) (nothing : demand_of verb (active_asked s asked) ≡ None) where
+    pub few_at_rest : (q : Refused) → ¬ PlansTooMany s verb asked q
+    few_at_rest q (by_name h) = few q h
+    few_at_rest q (by_jobs {demand = d} is plan h) = none-some d (sym nothing ∙ is)
 
-  -- the causes for which a plan is refused: its own, and that too many units would be known with it
-  abbrev CausesWith : Demand → ByUnit UnitJobs → Refused → Type 0
-  CausesWith demand after =
-      FirstCause (CausesOfPlan (scene_at s (model.unit_asked s asked)) (demand, model.unit_asked s asked) mode after)
-      (IsCrowded s.loaded (IsHeld (record s { pending = after })))
-
-  pub free_to_plan : (demand : Demand) (u : State) → ((q : Refused) → ¬ Crowds q) → ((q : Refused) → ¬ IsNotThere s verb asked q) → demand_of verb (active_asked s asked) ≡ Some demand
-      → HasPlan s (demand, model.unit_asked s asked) mode u → IsFew u → (r : Refused) → ¬ Refuses s (model.ForUnit verb asked mode) r
-  free_to_plan demand u few there demanded planned fits = free_by few there (λ q h. unrefused q h)
-    where
-      by_cause : (q : Refused) → ¬ CausesWith demand u.pending q
-      by_cause q (at_first c) = planned.accepted.unrefused q c
-      by_cause q (at_second none h) = fits q (subst (λ (x : State). IsCrowded x.loaded (IsHeld x) q) (sym planned.rest) h)
-
-      unrefused : (q : Refused) → ¬ HasNoPlan s verb asked mode q
-      unrefused q h =
-          let named = model.unit_asked s asked in
-          let finite = finite_scene s named in
-          let same = same_Some h.demand demand (sym h.demanded ∙ demanded) in
-          let plan = subst (λ d. IsPlan (scene_at s named) (d, named) h.after) same h.plan in
-          let cause = subst (λ d. CausesWith d h.after q) same h.cause in
-          by_cause q
-          (subst (λ p. CausesWith demand p q)
-          (one_plan (scene_at s named) finite.0 finite.1 (demand, named) h.after u.pending plan planned.accepted.plan) cause)
-
-  pub plans_to : (demand : Demand) (u : State) → demand_of verb (active_asked s asked) ≡ Some demand → HasPlan s (demand, model.unit_asked s asked) mode u
-      → Changes s (model.ForUnit verb asked mode) u
-  plans_to demand u demanded planned = subst (Changes s (model.ForUnit verb asked mode)) (sym planned.rest) (plans demanded planned.accepted.plan)
+    pub free_to_rest : ((q : Refused) → ¬ IsNotThere s verb asked q) → (r : Refused) → ¬ Refuses s (model.ForUnit verb asked mode) r
+    free_to_rest there = free_by few_at_rest there (λ q h. none-some h.demand (sym nothing ∙ h.demanded))
 
   pub rests_so : (u : State) → demand_of verb (active_asked s asked) ≡ None → u ≡ s → Changes s (model.ForUnit verb asked mode) u
   rests_so u nothing is = subst (Changes s (model.ForUnit verb asked mode)) (sym is) (demands_nothing nothing)
+
+  -- ---- the plan for what is demanded
+  module _ (demand : Demand) (demanded : demand_of verb (active_asked s asked) ≡ Some demand) (u : State) (planned : HasPlan s (demand, model.unit_asked s asked) u) where
+    abbrev named : List ℕ
+    named = model.unit_asked s asked
+
+    -- what holds of some plan for what is demanded, holds of this one
+    of_this_plan : (Holds : Demand → ByUnit UnitJobs → Type 0) (d : Demand) (other : ByUnit UnitJobs) → demand_of verb (active_asked s asked) ≡ Some d
+        → IsPlan (scene_at s named) (d, named) other → Holds d other → Holds demand u.pending
+    of_this_plan Holds d other is plan holds =
+        let same = same_Some d demand (sym is ∙ demanded) in
+        let finite = finite_scene s named in
+        subst (Holds demand)
+        (one_plan (scene_at s named) finite.0 finite.1 (demand, named) other u.pending (subst (λ e. IsPlan (scene_at s named) (e, named) other) same plan) planned.plan)
+        (subst (λ e. Holds e other) same holds)
+
+    -- too many units would be known with it
+    pub by_fullness : (r : Refused) → IsCrowded u.loaded (IsHeld u) r → Refuses s (model.ForUnit verb asked mode) r
+    by_fullness r h = at_first (by_jobs demanded planned.plan (subst (λ (x : State). IsCrowded x.loaded (IsHeld x) r) planned.rest h))
+
+    pub few_planned : ((q : Refused) → ¬ Crowds q) → IsFew u → (q : Refused) → ¬ PlansTooMany s verb asked q
+    few_planned few fits q (by_name h) = few q h
+    few_planned few fits q (by_jobs {demand = d} {after = other} is plan h) =
+        fits q
+        (subst (λ (x : State). IsCrowded x.loaded (IsHeld x) q) (sym planned.rest)
+        (of_this_plan (λ e jobs. IsCrowded s.loaded (IsHeld (record s { pending = jobs })) q) d other is plan h))
+
+    pub by_plan : ((q : Refused) → ¬ PlansTooMany s verb asked q) → ((q : Refused) → ¬ IsNotThere s verb asked q) → (r : Refused)
+        → CausesOfPlan (scene_at s named) (demand, named) mode u.pending r → Refuses s (model.ForUnit verb asked mode) r
+    by_plan few there r h = at_second few (at_second there (record { demand = demand; demanded = demanded; after = u.pending; plan = planned.plan; cause = h }))
+
+    pub free_to_plan : ((q : Refused) → ¬ PlansTooMany s verb asked q) → ((q : Refused) → ¬ IsNotThere s verb asked q)
+        → ((q : Refused) → ¬ CausesOfPlan (scene_at s named) (demand, named) mode u.pending q) → (r : Refused) → ¬ Refuses s (model.ForUnit verb asked mode) r
+    free_to_plan few there unrefused =
+        free_by few there
+        (λ q h. unrefused q (of_this_plan (λ e jobs. CausesOfPlan (scene_at s named) (e, named) mode jobs q) h.demand h.after h.demanded h.plan h.cause))
+
+    pub plans_to : Changes s (model.ForUnit verb asked mode) u
+    plans_to = subst (Changes s (model.ForUnit verb asked mode)) (sym planned.rest) (plans demanded planned.plan)
 
 -- ---- a unit that is there already
 
@@ -221,9 +211,45 @@ pub some_waits : (s : State) (asked unit : List ℕ) (jobs : UnitJobs) → unit 
 some_waits s asked unit jobs is held waits r h =
     waits r (ap has_waiting (held ∙ ap (jobs_of_unit s.pending) is) ∙ none_told (model.jobs_asked s asked) h.none, h.refusal ∙ ap no_such_job (sym is))
 
-pub by_tree_of_install : (s : State) (verb : InstallVerb) (unit : List ℕ) (tree : Tree) → Installs s.tree verb unit tree → ((r : Refused) → ¬ RefusesInstall s.tree verb unit r)
-    → (r : Refused) → model.CausesOfLoad s tree r → Refuses s (model.Install verb unit) r
-by_tree_of_install s verb unit tree made free r h = at_second free (record { tree = tree; installs = made; cause = h })
+-- a cancel is refused as the cancel of the waiting jobs is, where the unit isn't missing
+pub cancel_refused : {X : Type 0} (s : State) (asked unit : List ℕ) (jobs : UnitJobs) → unit ≡ model.unit_asked s asked → jobs ≡ jobs_of_unit s.pending unit
+    → ((q : Refused) → ¬ IsMissing s asked q) → (result : Result X Refusal) → RefusesBy (λ r. (has_waiting jobs ≡ false) × (r ≡ no_such_job unit)) result
+    → RefusesBy (Refuses s (model.Cancel asked)) result
+cancel_refused s asked unit jobs is held there (Ok left) waits = free_to_cancel s asked there (some_waits s asked unit jobs is held waits)
+cancel_refused s asked unit jobs is held there (Err e) none = λ differs. by_none_waiting s asked _ there (none_waits s asked unit jobs is held _ (none differs))
 
-pub by_install : (s : State) (verb : InstallVerb) (unit : List ℕ) (r : Refused) → RefusesInstall s.tree verb unit r → Refuses s (model.Install verb unit) r
-by_install s verb unit r h = at_first h
+-- ---- enabling and its kin
+
+module _ (s : State) (verb : InstallVerb) (unit : List ℕ) where
+  abbrev Crowded : Tree → Refused → Type 0
+  Crowded tree = IsCrowded tree (IsHeld s)
+
+  abbrev Circles : Tree → Refused → Type 0
+  Circles tree = NamesCycle (model.IsBefore tree) s.pending
+
+  pub by_links : (r : Refused) → RefusesLinks s.tree verb unit r → Refuses s (model.Install verb unit) r
+  by_links r h = at_first h
+
+  module _ (tree : Tree) (made : Installs s.tree verb unit tree) (linked : (q : Refused) → ¬ RefusesLinks s.tree verb unit q) where
+    told : (Cause : Tree → Refused → Type 0) (r : Refused) → Cause tree r → LoadsNone s verb unit Cause r
+    told Cause r h = record { tree = tree; installs = made; cause = h }
+
+    none_loads : (Cause : Tree → Refused → Type 0) → ((q : Refused) → ¬ Cause tree q) → (q : Refused) → ¬ LoadsNone s verb unit Cause q
+    none_loads Cause none q h = none q (subst (λ (x : Tree). Cause x q) (one_install s.tree verb unit h.tree tree h.installs made) h.cause)
+
+    pub by_crowd_of_install : (r : Refused) → Crowded tree r → Refuses s (model.Install verb unit) r
+    by_crowd_of_install r h = at_second linked (at_first (told Crowded r h))
+
+    module _ (few : (q : Refused) → ¬ Crowded tree q) where
+      pub by_units : (r : Refused) → RefusesUnits s.tree verb unit r → Refuses s (model.Install verb unit) r
+      by_units r h = at_second linked (at_second (none_loads Crowded few) (at_first h))
+
+      module _ (able : (q : Refused) → ¬ RefusesUnits s.tree verb unit q) where
+        pub by_circle : (r : Refused) → Circles tree r → Refuses s (model.Install verb unit) r
+        by_circle r h = at_second linked (at_second (none_loads Crowded few) (at_second able (told Circles r h)))
+
+        pub free_to_install : ((q : Refused) → ¬ Circles tree q) → (r : Refused) → ¬ Refuses s (model.Install verb unit) r
+        free_to_install free r (at_first h) = linked r h
+        free_to_install free r (at_second n (at_first h)) = none_loads Crowded few r h
+        free_to_install free r (at_second n (at_second m (at_first h))) = able r h
+        free_to_install free r (at_second n (at_second m (at_second k h))) = none_loads Circles free r h

@@ -1,20 +1,20 @@
 -- What is known for a state, by what the tests of it tell.
 use Rattle.std.proofs.Common.{◌≡◌, ◌⊎◌, ◌↔◌, ◌∙◌, ◌<◌, ◌≤◌, ℕ, List, Contains, Option, Some, None, Result, Ok, Err, is_some, Bool, true, false, true≢false, refl, sym, ap, subst, inl, inr, arith}
-use Rattle.std.specs.Prelude.{IfOk, MatchOption, slice_get}
+use Rattle.std.specs.Prelude.{IfOk, MatchOption, slice_get, unwrap_or}
 use Rattle.std.proofs.lemmas.Option.{get_or_from_slice_get}
 use Rattle.um_graph.proofs.NamedLaws.{got_within}
 use Rattle.um_model.specs.Dependencies.{CountsFor, IsKnown, KnowsTooMany, extra}
 use Rattle.um_model.specs.Servable.{IsFew}
-use Rattle.um_model.specs.Machine.{State, IsCrowded, IsHeld, IsTooHeavy, CausesOfLoad, PutFile, PutLink, Remove, Cancel, Changes, puts, links, removes, cancels, unit_asked}
+use Rattle.um_model.specs.Machine.{State, IsHeld, IsHeldOr, IsTooHeavy, booted, PutFile, PutLink, Remove, Cancel, Changes, puts, links, removes, cancels, unit_asked}
 use Rattle.um_model.specs.Reached.{first}
-use Rattle.um_model.specs.Refusals.{Refused, at_first}
 use Rattle.um_model.specs.Tree.{Tree, without_run}
 use Rattle.um_model.specs.Weight.{weight_of}
-use Rattle.um_model.proofs.FewLaws.{cancel_no_more, HoldsNoMore}
+use Rattle.um_model.proofs.FewLaws.{booted_none, cancel_no_more, HoldsNoMore}
 use Rattle.um_model.proofs.KnownLaws.{more_known}
 use Rattle.um_model.proofs.SceneLaws.{one_count}
-use Rattle.um_model.proofs.TreeLaws.{without_run_same, has_run}
-use Rattle.um_engine.specs.Known.{IsHeldWith, IsGraphFor, KnownView, KnowsFor}
+use Rattle.um_model.proofs.TreeLaws.{without_run_twice}
+use Rattle.um_graph.specs.Graph.{GraphView, IsGraphOf}
+use Rattle.um_engine.specs.Known.{AreLasting, IsHeldWith, IsGraphFor, KnownView, KnowsFor}
 use Rattle.um_falling.specs.Over.{Serves}
 use Rattle.um_engine.proofs.SameUnitsLaws.{KnowsSame, count_by, graph_same}
 
@@ -28,11 +28,16 @@ module _ (s : State) (k : KnownView) (named : Option (List ℕ)) (knows : KnowsF
   same_here : KnowsSame s.loaded (Contains k.extra) (IsHeldWith s named)
   same_here = record { into = λ x e. first (extra (made x e)); back = λ x h. held_known named refl x h }
 
-  -- the graph is exactly that of the units that count
-  pub fits_for : has_run s.loaded ≡ false → IsGraphFor s.loaded (IsHeldWith s named) k.graph
-  fits_for none =
-      graph_same s.loaded (Contains k.extra) (IsHeldWith s named) same_here
-      (subst (λ tree. KnowsSame tree (Contains k.extra) (IsHeldWith s named)) (sym (without_run_same s.loaded none)) same_here) k.graph knows.made
+  module _ (lasts : (x : List ℕ) → Contains k.graph.names x → IsHeldWith s named x → Contains k.lasting x) where
+    same_without : KnowsSame (without_run s.loaded) (Contains k.extra) (IsHeldWith s named)
+    same_without = record {
+      into = λ x e. first (extra (made x e));
+      back = λ x h. (knows.lasting x).0 (lasts x ((knows.made.of.known x).1 (held_known named refl x h)) h);
+    }
+
+    -- the graph is exactly that of the units that count
+    pub fits_for : IsGraphFor s.loaded (IsHeldWith s named) k.graph
+    fits_for = graph_same s.loaded (Contains k.extra) (IsHeldWith s named) same_here same_without k.graph knows.made
 
 -- what is known for a state serves for it
 pub serves_for : (k : KnownView) (s : State) → KnowsFor k s → Serves k.graph s
@@ -40,18 +45,33 @@ serves_for k s h = record { extra = k.extra; graph = h.made.graph; of = h.made.o
 
 -- and stays so where the graph serves and the same tree is loaded
 pub knows_still : (k : KnownView) (s u : State) → KnowsFor k s → u.loaded ≡ s.loaded → ((unit : List ℕ) → IsHeld u unit → Contains k.graph.names unit) → KnowsFor k u
-knows_still k s u h same held = record { made = subst (λ tree. IsGraphFor tree (Contains k.extra) k.graph) (sym same) h.made; held = held }
+knows_still k s u h same held = record {
+  made = subst (λ tree. IsGraphFor tree (Contains k.extra) k.graph) (sym same) h.made;
+  lasting = subst (λ tree. (unit : List ℕ) → Contains k.lasting unit ↔ IsKnown (without_run tree) (Contains k.extra) unit) (sym same) h.lasting;
+  held = held;
+}
 
--- where no entry stands under `run/`, no more units are known for the state than may be
-pub few_known : (k : KnownView) (s : State) → KnowsFor k s → has_run s.loaded ≡ false → IsFew s
-few_known k s knows none r crowded = knows.made.few (inl (by_tree crowded.many))
+-- where all that the state holds is known without the entries under `run/` too, no more units are known for it than may be
+pub few_known : (k : KnownView) (s : State) → KnowsFor k s → ((x : List ℕ) → Contains k.graph.names x → IsHeld s x → Contains k.lasting x) → IsFew s
+few_known k s knows lasts r crowded = knows.made.few (by_tree crowded.many)
   where
-    more : KnowsTooMany s.loaded (IsHeld s) → KnowsTooMany s.loaded (Contains k.extra)
-    more = more_known s.loaded (IsHeld s) (Contains k.extra) (λ x is. (knows.made.of.known x).0 (knows.held x is))
+    by_tree : KnowsTooMany s.loaded (IsHeld s) ⊎ KnowsTooMany (without_run s.loaded) (IsHeld s)
+        → KnowsTooMany s.loaded (Contains k.extra) ⊎ KnowsTooMany (without_run s.loaded) (Contains k.extra)
+    by_tree (inl many) = inl (more_known s.loaded (IsHeld s) (Contains k.extra) (λ x is. (knows.made.of.known x).0 (knows.held x is)) many)
+    by_tree (inr many) =
+        inr (more_known (without_run s.loaded) (IsHeld s) (Contains k.extra) (λ x is. (knows.lasting x).0 (lasts x (knows.held x is) is)) many)
 
-    by_tree : KnowsTooMany s.loaded (IsHeld s) ⊎ KnowsTooMany (without_run s.loaded) (IsHeld s) → KnowsTooMany s.loaded (Contains k.extra)
-    by_tree (inl many) = more many
-    by_tree (inr many) = more (subst (λ tree. KnowsTooMany tree (IsHeld s)) (without_run_same s.loaded none) many)
+-- nor after a boot: nothing is held then, and what stands under `run/` is gone
+pub few_booted : (k : KnownView) (s : State) (boot : List ℕ) → KnowsFor k s → IsFew (booted boot s)
+few_booted k s boot knows r crowded = knows.made.few (inr (by_tree crowded.many))
+  where
+    fewer : KnowsTooMany (without_run s.loaded) (IsHeld (booted boot s)) → KnowsTooMany (without_run s.loaded) (Contains k.extra)
+    fewer = more_known (without_run s.loaded) (IsHeld (booted boot s)) (Contains k.extra) (λ x is. absurd (booted_none boot s x is))
+
+    by_tree : KnowsTooMany (without_run s.loaded) (IsHeld (booted boot s)) ⊎ KnowsTooMany (without_run (without_run s.loaded)) (IsHeld (booted boot s))
+        → KnowsTooMany (without_run s.loaded) (Contains k.extra)
+    by_tree (inl many) = fewer many
+    by_tree (inr many) = fewer (subst (λ tree. KnowsTooMany tree (IsHeld (booted boot s))) (without_run_twice s.loaded) many)
 
 pub knows_less : (k : KnownView) (s u : State) → KnowsFor k s → HoldsNoMore s u → KnowsFor k u
 knows_less k s u h less = knows_still k s u h less.loaded (λ x held. h.held x (less.held x held))
@@ -62,17 +82,22 @@ pub known_by : (names : List (List ℕ)) (o : Option ℕ) (x y : List ℕ) (b : 
 known_by names None x y b e found is t = absurd (true≢false (sym t ∙ e))
 known_by names (Some i) x y b e found is t = (i, got_within names i y (found ∙ ap Some is), get_or_from_slice_get names i y y (found ∙ ap Some is))
 
--- what is known for a tree is so for the state that loads it
-pub knows_loaded : (k : KnownView) (s u : State) (tree : Tree) → IsGraphFor tree (Contains k.extra) k.graph → ((unit : List ℕ) → IsHeld s unit → Contains k.graph.names unit)
-    → u ≡ record s { tree = tree; loaded = tree } → KnowsFor k u
-knows_loaded k s u tree made held is = subst (KnowsFor k) (sym is) (record { made = made; held = held })
+-- what is known for the state with a tree that it may load is so for the one that loads it, and is told of the tree by itself
+pub knows_loaded : (k : KnownView) (s u : State) (hand tree : Tree) → KnowsFor k (record s { loaded = tree }) → u ≡ record s { tree = hand; loaded = tree } → KnowsFor k u
+knows_loaded k s u hand tree knows is = subst (KnowsFor k) (sym is) (record { made = knows.made; lasting = knows.lasting; held = knows.held })
 
--- where a tree is loaded that may be, no more units are known than may be
-pub few_loaded : (s u : State) (tree : Tree) → ((r : Refused) → ¬ CausesOfLoad s tree r) → u ≡ record s { tree = tree; loaded = tree } → IsFew u
-few_loaded s u tree free is r crowded = free r (at_first (subst (λ (x : State). IsCrowded x.loaded (IsHeld x) r) is crowded))
+pub knows_named : (k : KnownView) (s : State) (named : List ℕ) → IsGraphFor s.loaded (Contains k.extra) k.graph
+    → ((unit : List ℕ) → Contains k.lasting unit ↔ IsKnown (without_run s.loaded) (Contains k.extra) unit) → ((unit : List ℕ) → Contains k.extra unit ↔ IsHeldOr s named unit)
+    → KnowsFor k s
+knows_named k s named made lasting extras = record { made = made; lasting = lasting; held = λ unit held. (made.of.known unit).1 (first (extra ((extras unit).1 (inl held)))) }
 
-pub few_reloaded : (s u : State) → ((r : Refused) → ¬ CausesOfLoad s s.tree r) → u ≡ record s { loaded = s.tree } → IsFew u
-few_reloaded s u free is r crowded = free r (at_first (subst (λ (x : State). IsCrowded x.loaded (IsHeld x) r) is crowded))
+pub knows_of : (k : KnownView) (s : State) (tree : Tree) → tree ≡ s.loaded → KnowsFor k (record s { loaded = tree }) → KnowsFor k s
+knows_of k s tree same knows = subst (λ t. KnowsFor k (record s { loaded = t })) same knows
+
+pub knows_made : (k : KnownView) (s : State) (tree : Tree) → IsGraphFor tree (Contains k.extra) k.graph
+    → ((unit : List ℕ) → Contains k.lasting unit ↔ IsKnown (without_run tree) (Contains k.extra) unit) → ((unit : List ℕ) → Contains k.extra unit ↔ IsHeld s unit)
+    → KnowsFor k (record s { loaded = tree })
+knows_made k s tree made lasting extras = record { made = made; lasting = lasting; held = λ unit held. (made.of.known unit).1 (first (extra ((extras unit).1 held))) }
 
 -- commands that leave the loaded tree make the state hold nothing new, but for plans
 pub put_holds_no_more : (s u : State) (path text : List ℕ) → Changes s (PutFile path text) u → HoldsNoMore s u
@@ -100,3 +125,9 @@ light_by size s units weight counts is fits heavy =
     let over : size < weight_of s.tree s.loaded units = subst (λ n. size < weight_of s.tree s.loaded n) same heavy.heavy in
     let under : weight_of s.tree s.loaded units ≤ size = subst (λ n. n ≤ size) is fits in
     omega (arith, over, under)
+
+-- the units that are known without the entries under `run/`: those that were found apart, or those of the graph
+pub lasting_known : (tree : Tree) (others : List (List ℕ)) (g : GraphView) (o : Option (List (List ℕ))) → IsGraphOf tree (Contains others) g → AreLasting tree others o
+    → (unit : List ℕ) → Contains (unwrap_or o g.names) unit ↔ IsKnown (without_run tree) (Contains others) unit
+lasting_known tree others g None of same unit = subst (λ t. Contains g.names unit ↔ IsKnown t (Contains others) unit) (sym same) (of.known unit)
+lasting_known tree others g (Some names) of each unit = each unit

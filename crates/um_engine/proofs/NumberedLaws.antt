@@ -1,5 +1,5 @@
 -- What is found of a state by the numbers of a graph's units, and the plan that comes of it.
-use Rattle.std.proofs.Common.{◌≡◌, ◌≢◌, ◌⊎◌, ◌↔◌, ◌∙◌, ◌+◌, ◌<◌, ℕ, suc, List, [], ◌∷◌, ◌++◌, length, drop, get_or, Contains, Option, Some, None, unwrap_or, refl, sym, ap, subst, inl, inr, arith}
+use Rattle.std.proofs.Common.{◌≡◌, ◌≢◌, ◌⊎◌, ◌↔◌, ◌∙◌, ◌+◌, ◌<◌, ℕ, suc, List, [], ◌∷◌, ◌++◌, length, drop, get_or, Contains, Option, Some, None, Result, Ok, Err, unwrap_or, refl, sym, ap, subst, inl, inr, arith}
 use Rattle.std.specs.FinMap as map
 use Rattle.std.proofs.Math.Seq.{drop-cons}
 use Rattle.std.proofs.lemmas.Bool.{cases_lt}
@@ -7,6 +7,7 @@ use Rattle.std.proofs.lemmas.List.{get_or_append_left, get_or_push}
 use Rattle.std.proofs.lemmas.List.Elements.{Contains-append_left, Contains-push, Contains-push_cases}
 use Rattle.std.proofs.lemmas.Option.{none-some, get_or_from_slice_get, slice_get-get_or}
 use Rattle.std.specs.List.{slice_get}
+use Rattle.std.specs.Result.{IfOk}
 use Rattle.um_model.specs.Dependencies.{IsKnown, extra, loadable_in}
 use Rattle.um_model.specs.Jobs.{jobs_of_unit, no_jobs, with_jobs}
 use Rattle.um_model.specs.Machine.{State, IsHeld, IsHeldOr, scene_at}
@@ -18,13 +19,17 @@ use Rattle.um_model.specs.declared.dependencies.Demand.{Demand}
 use Rattle.um_model.specs.declared.jobs.UnitJobs.{UnitJobs}
 use Rattle.um_model.specs.declared.service.ActiveState.{ActiveState}
 use Rattle.um_model.specs.Refusals.{Refused}
-use Rattle.um_model.proofs.PlanLaws.{AreAlike}
+use Rattle.um_model.specs.Plan.{IsPlan, CausesOfPlan}
+use Rattle.um_model.proofs.PlanLaws.{AreAlike, alike_back, causes_same, plan_same}
 use Rattle.um_graph.specs.Graph.{GraphView, IsNumberOf}
 use Rattle.um_jobs.specs.Named.{jobs_at, jobs_by}
-use Rattle.um_transact.specs.Scene.{IsAccepted, IsRefused, scene_of}
-use Rattle.um_transact.proofs.TreeLaws.{alike_tree, accepted_alike, refused_alike}
+use Rattle.um_transact.specs.Scene.{scene_of}
+use Rattle.um_transact.specs.Transaction as transactions
+use Rattle.um_transact.specs.Transaction.{TransactionView}
+use Rattle.um_transact.proofs.PlanLaws.{made_from}
+use Rattle.um_transact.proofs.TreeLaws.{alike_tree}
 use Rattle.um_engine.specs.Known.{IsGraphFor}
-use Rattle.um_engine.specs.Planned.{AreActive, ArePending}
+use Rattle.um_engine.specs.Planned.{AreActive, ArePending, IsTransactionFor}
 
 -- ---- lists by number
 
@@ -99,14 +104,50 @@ module _ (s : State) (named : List ℕ) (g : GraphView) (exact : IsGraphFor s.lo
   named_known : IsKnown s.loaded (IsHeldOr s named) named
   named_known = first (extra (inr refl))
 
-  pub accepted_here : (demand : Demand) (mode : JobMode) (after : ByUnit UnitJobs) → IsAccepted (scene_of g activity pending) (demand, named) mode after
-      → IsAccepted (scene_at s named) (demand, named) mode after
-  accepted_here demand mode =
-      accepted_alike (IsKnown s.loaded (IsHeldOr s named)) (demand, named) named_known (scene_of g activity pending) (scene_at s named) alike mode
+  pub planned_here : (demand : Demand) (after : ByUnit UnitJobs) → IsPlan (scene_of g activity pending) (demand, named) after → IsPlan (scene_at s named) (demand, named) after
+  planned_here demand = plan_same (IsKnown s.loaded (IsHeldOr s named)) (demand, named) named_known (scene_of g activity pending) (scene_at s named) alike
 
-  pub refused_here : (demand : Demand) (mode : JobMode) (r : Refused) → IsRefused (scene_of g activity pending) (demand, named) mode r
-      → IsRefused (scene_at s named) (demand, named) mode r
-  refused_here demand mode = refused_alike (IsKnown s.loaded (IsHeldOr s named)) (demand, named) named_known (scene_of g activity pending) (scene_at s named) alike mode
+  pub causes_here : (demand : Demand) (mode : JobMode) (after : ByUnit UnitJobs) (r : Refused) → CausesOfPlan (scene_of g activity pending) (demand, named) mode after r
+      → CausesOfPlan (scene_at s named) (demand, named) mode after r
+  causes_here demand = causes_same (IsKnown s.loaded (IsHeldOr s named)) (demand, named) named_known (scene_of g activity pending) (scene_at s named) alike
+
+  pub causes_there : (demand : Demand) (mode : JobMode) (after : ByUnit UnitJobs) (r : Refused) → CausesOfPlan (scene_at s named) (demand, named) mode after r
+      → CausesOfPlan (scene_of g activity pending) (demand, named) mode after r
+  causes_there demand =
+      causes_same (IsKnown s.loaded (IsHeldOr s named)) (demand, named) named_known (scene_at s named) (scene_of g activity pending)
+      (alike_back (IsKnown s.loaded (IsHeldOr s named)) (scene_of g activity pending) (scene_at s named) alike)
+
+-- a transaction by what it was made from
+pub made_for : {E : Type 0} (g : GraphView) (activity : List ActiveState) (pending : List UnitJobs) (demand : Demand) (unit : List ℕ) (number : ℕ) (result : Result TransactionView E)
+    → IsNumberOf g number unit → IfOk result (λ t. t.graph ≡ g) → IfOk result (λ t. t.activity ≡ activity) → IfOk result (λ t. t.pending ≡ pending)
+    → IfOk result (λ t. t.root ≡ (demand, number))
+    → IfOk result (λ t. (s : State) → IsGraphFor s.loaded (IsHeldOr s unit) g → AreActive g s activity → ArePending g s pending → IsTransactionFor s (demand, unit) t)
+made_for g activity pending demand unit number (Ok t) at e f h k = λ s exact active pends.
+    subst (IsTransactionFor s (demand, unit)) (sym (made_from t g activity pending (demand, number) e f h k))
+    (record { exact = exact; active = active; pends = pends; number = at; demand = refl })
+made_for g activity pending demand unit number (Err x) at e f h k = e
+
+-- one that is made for a state
+module _ (s : State) (root : Demand × List ℕ) (t : TransactionView) (is : IsTransactionFor s root t) where
+  abbrev after : ByUnit UnitJobs
+  after = jobs_by t.graph.names t.plan
+
+  pub plan_for : IsPlan (transactions.scene_in t) (t.root.0, root.1) after → IsPlan (scene_at s root.1) root after
+  plan_for plan =
+      planned_here s root.1 t.graph is.exact t.activity t.pending is.active is.pends root.0 after
+      (subst (λ d. IsPlan (transactions.scene_in t) (d, root.1) after) is.demand plan)
+
+  pub refused_for : (mode : JobMode) (r : Refused) → CausesOfPlan (transactions.scene_in t) (t.root.0, root.1) mode after r → CausesOfPlan (scene_at s root.1) root mode after r
+  refused_for mode r cause =
+      causes_here s root.1 t.graph is.exact t.activity t.pending is.active is.pends root.0 mode after r
+      (subst (λ d. CausesOfPlan (transactions.scene_in t) (d, root.1) mode after r) is.demand cause)
+
+  pub free_for : (mode : JobMode) → ((r : Refused) → ¬ CausesOfPlan (transactions.scene_in t) (t.root.0, root.1) mode after r)
+      → (r : Refused) → ¬ CausesOfPlan (scene_at s root.1) root mode after r
+  free_for mode none r cause =
+      none r
+      (subst (λ d. CausesOfPlan (transactions.scene_in t) (d, root.1) mode after r) (sym is.demand)
+      (causes_there s root.1 t.graph is.exact t.activity t.pending is.active is.pends root.0 mode after r cause))
 
 -- the unit for which the graph was made is one of its units
 pub has_named : (s : State) (named : List ℕ) (g : GraphView) → IsGraphFor s.loaded (IsHeldOr s named) g → Contains g.names named

@@ -1,11 +1,11 @@
 -- The job that begins next by the graph is the one that begins next by the tree.
-use Rattle.std.proofs.Common.{◌≡◌, ◌≢◌, ◌∙◌, ◌+◌, ◌<◌, ◌≤◌, ℕ, Bool, true, false, true≢false, List, length, replicate, set, sum_by, Contains, Option, Some, None, slice_get, unwrap_or, refl, sym, ap, subst, inl, inr, arith}
+use Rattle.std.proofs.Common.{◌≡◌, ◌≢◌, ◌∙◌, ◌+◌, ◌<◌, ◌≤◌, ℕ, Bool, true, false, true≢false, List, length, replicate, set, sum_by, Contains, Option, Some, None, Result, Ok, Err, IsOk, ◌↔◌, MatchOption, slice_get, unwrap_or, refl, sym, ap, subst, inl, inr, arith}
 use Rattle.std.proofs.lemmas.Bool.{cases_lt}
 use Rattle.std.proofs.lemmas.Grind.{get_or-set_at}
-use Rattle.std.proofs.lemmas.List.{get_or-set_other, length-replicate, length-set}
+use Rattle.std.proofs.lemmas.List.{get_or-set_other, get_or_past, length-replicate, length-set}
 use Rattle.std.proofs.lemmas.Option.{none-some, same_Some}
 use Rattle.std.specs.FinMap as map
-use Rattle.um_model.specs.Jobs.{Job, BeginsNext, ComesBefore, GoesBefore, IsReady, IsToldBefore, job_of, jobs_of_unit, no_jobs, of_one_unit, starts, state_of_job, stops, stops_then_starts, stops_then_starts_before}
+use Rattle.um_model.specs.Jobs.{Job, BeginsNext, ComesBefore, GoesBefore, IsReady, IsToldBefore, cancelled, job_of, jobs_of_unit, no_jobs, with_jobs, of_one_unit, starts, state_of_job, stops, stops_then_starts, stops_then_starts_before}
 use Rattle.um_model.specs.Least.{IsLeast}
 use Rattle.um_model.specs.Machine.{State, IsBefore, IsHeld, IsStill, begun}
 use Rattle.um_model.specs.Service.{active_state_of, state_of_unit}
@@ -17,16 +17,17 @@ use Rattle.um_model.specs.declared.service.ActiveState.{ActiveState}
 use Rattle.um_model.specs.declared.service.ActiveState.TheVariants.{Deactivating}
 use Rattle.um_model.proofs.TimersLaws.{same_name}
 use Rattle.um_model.proofs.UnitLaws.{jobs_apart, jobs_here}
-use Rattle.um_model.proofs.WaitingLaws.{NoMoreWait, waits, waits_in}
+use Rattle.um_model.proofs.WaitingLaws.{NoMoreWait, has_waiting, waits, waits_in}
 use Rattle.um_model.proofs.Forms.{with_running}
 use Rattle.um_graph.specs.Graph.{GraphView, IsGraph, IsNumberOf}
 use Rattle.um_graph.specs.Kinds.{before_bit}
 use Rattle.um_graph.specs.Named.{Joins, item_for, name_at}
 use Rattle.um_graph.proofs.NamedLaws.{among_or_apart, got_within, item_at, name_got, name_is, names_once}
-use Rattle.um_jobs.specs.Jobs.{IsReadyIn, JobsView, held_at, job_named}
+use Rattle.um_jobs.specs.Jobs.{IsReadyIn, JobsView, held_at, job_named, with_held_at, with_jobs_at}
 use Rattle.um_jobs.specs.Named.{jobs_at, jobs_by}
 use Rattle.um_jobs.proofs.NamedLaws.{jobs_by_at, jobs_by_none}
 use Rattle.um_falling.specs.Carrying.{KeepsOthers}
+use Rattle.um_engine.specs.Planned.{ArePending}
 use Rattle.um_engine.specs.Filled.{Tells, TellsBelow, deactivates, is_deactivating, told_of}
 use Rattle.um_falling.specs.Over.{Serves}
 use Rattle.um_falling.proofs.AlongLaws.{number_by, pending_apart, sum_drops}
@@ -34,69 +35,46 @@ use Rattle.um_falling.proofs.TakenLaws.{before_by, stands_by}
 
 -- ---- the jobs by number are filled
 
-pub none_told : (g : GraphView) (s : State) (v : JobsView) (n : ℕ) (none : UnitJobs) → IsGraph g → n ≡ length g.names → v.units ≡ replicate n none → v.held ≡ replicate n false → TellsBelow g s 0 v
-none_told g s v n none graph e f h = record {
+-- as they are made: of no unit is told whether it counts as deactivating
+pub none_told : (g : GraphView) (s : State) (v : JobsView) (pending : List UnitJobs) → IsGraph g → v.graph ≡ g → length pending ≡ length g.names → ArePending g s pending
+    → v.units ≡ pending → v.held ≡ replicate (length g.names) false → TellsBelow g s 0 v
+none_told g s v pending graph same long pends e f = record {
   graph = graph;
-  long = ap length f ∙ (length-replicate n none ∙ e);
-  wide = ap length h ∙ (length-replicate n false ∙ e);
-  jobs = λ i unit below. absurd (omega (arith, below));
+  same = same;
+  long = ap length e ∙ long;
+  wide = ap length f ∙ length-replicate (length g.names) false;
+  jobs = subst (ArePending g s) (sym e) pends;
   held = λ i unit below. absurd (omega (arith, below));
 }
 
-module _ (g : GraphView) (s : State) (n : ℕ) (v : JobsView) (tells : TellsBelow g s n v) where
-  pub told_more : (name : List ℕ) (w : JobsView) → IsNumberOf g n name → w ≡ told_of s n name v → TellsBelow g s (n + 1) w
-  told_more name w number is = subst (TellsBelow g s (n + 1)) (sym is) (record {
-    graph = tells.graph;
-    long = length-set v.units n (jobs_of_unit s.pending name) ∙ tells.long;
-    wide = length-set v.held n (deactivates s name) ∙ tells.wide;
-    jobs = jobs_now;
-    held = held_now;
-  })
-    where
-      within : n < length g.names
-      within = got_within g.names n name number
-
-      jobs_now : (i : ℕ) (unit : List ℕ) → i < n + 1 → IsNumberOf g i unit → jobs_at (set v.units n (jobs_of_unit s.pending name)) i ≡ jobs_of_unit s.pending unit
-      jobs_now i unit below m = elim (cases_lt i n) as (λ _. jobs_at (set v.units n (jobs_of_unit s.pending name)) i ≡ jobs_of_unit s.pending unit) [
-        | inl lower ↦ get_or-set_other v.units n i (jobs_of_unit s.pending name) no_jobs (λ e. omega (arith, e, lower)) ∙ tells.jobs i unit lower m
-        | inr past ↦
-            let at : i ≡ n = omega arith in
-            let same : unit ≡ name = same_Some unit name (sym m ∙ (ap (slice_get g.names) at ∙ number)) in
-            get_or-set_at v.units n i (jobs_of_unit s.pending name) no_jobs at (omega (arith, within, tells.long)) ∙ ap (jobs_of_unit s.pending) (sym same)
-      ]
-
-      held_now : (i : ℕ) (unit : List ℕ) → i < n + 1 → IsNumberOf g i unit → held_at (set v.held n (deactivates s name)) i ≡ deactivates s unit
-      held_now i unit below m = elim (cases_lt i n) as (λ _. held_at (set v.held n (deactivates s name)) i ≡ deactivates s unit) [
-        | inl lower ↦ get_or-set_other v.held n i (deactivates s name) false (λ e. omega (arith, e, lower)) ∙ tells.held i unit lower m
-        | inr past ↦
-            let at : i ≡ n = omega arith in
-            let same : unit ≡ name = same_Some unit name (sym m ∙ (ap (slice_get g.names) at ∙ number)) in
-            get_or-set_at v.held n i (deactivates s name) false at (omega (arith, within, tells.wide)) ∙ ap (deactivates s) (sym same)
-      ]
-
-  -- there is no unit of that number
-  pub told_same : slice_get g.names n ≡ None → TellsBelow g s (n + 1) v
-  told_same none = record {
-    graph = tells.graph;
-    long = tells.long;
-    wide = tells.wide;
-    jobs = λ i unit below m. tells.jobs i unit (is_lower i unit below m) m;
-    held = λ i unit below m. tells.held i unit (is_lower i unit below m) m;
-  }
-    where
-      is_lower : (i : ℕ) (unit : List ℕ) → i < n + 1 → IsNumberOf g i unit → i < n
-      is_lower i unit below m = elim (cases_lt i n) as (λ _. i < n) [
-        | inl lower ↦ lower
-        | inr past ↦ let at : i ≡ n = omega arith in absurd (none-some unit (sym none ∙ (ap (slice_get g.names) (sym at) ∙ m)))
-      ]
+pub told_more : (g : GraphView) (s : State) (n : ℕ) (v : JobsView) → TellsBelow g s n v → (deactivating : Bool) (w : JobsView)
+    → ((unit : List ℕ) → IsNumberOf g n unit → deactivating ≡ deactivates s unit) → w ≡ with_held_at v n deactivating → TellsBelow g s (n + 1) w
+told_more g s n v tells deactivating w told is = subst (TellsBelow g s (n + 1)) (sym is) (record {
+  graph = tells.graph;
+  same = tells.same;
+  long = tells.long;
+  wide = length-set v.held n deactivating ∙ tells.wide;
+  jobs = tells.jobs;
+  held = held_now;
+})
+  where
+    held_now : (i : ℕ) (unit : List ℕ) → i < n + 1 → IsNumberOf g i unit → held_at (set v.held n deactivating) i ≡ deactivates s unit
+    held_now i unit below m = elim (cases_lt i n) as (λ _. held_at (set v.held n deactivating) i ≡ deactivates s unit) [
+      | inl lower ↦ get_or-set_other v.held n i deactivating false (λ e. omega (arith, e, lower)) ∙ tells.held i unit lower m
+      | inr past ↦
+          let at : i ≡ n = omega arith in
+          let number : IsNumberOf g n unit = subst (λ k. IsNumberOf g k unit) at m in
+          get_or-set_at v.held n i deactivating false at (let within = got_within g.names n unit number in omega (arith, within, tells.wide)) ∙ told unit number
+    ]
 
 -- all of them are filled
 pub told_all : (g : GraphView) (s : State) (n : ℕ) (v : JobsView) → TellsBelow g s n v → length g.names ≤ n → Tells g s v
 told_all g s n v tells past = record {
   graph = tells.graph;
+  same = tells.same;
   long = tells.long;
   wide = tells.wide;
-  jobs = λ i unit below m. tells.jobs i unit (omega (arith, below, past)) m;
+  jobs = tells.jobs;
   held = λ i unit below m. tells.held i unit (omega (arith, below, past)) m;
 }
 
@@ -131,7 +109,7 @@ module _ (g : GraphView) (s : State) (v : JobsView) (tells : Tells g s v) where
   pub waits_named : (u : ℕ) (name : List ℕ) (kind : JobKind) → IsNumberOf g u name → (state_of_job (jobs_by g.names v.units) (job_named g u kind) ≡ Some Waiting) → (state_of_job s.pending (record { unit = name; kind = kind }) ≡ Some Waiting)
   waits_named u name kind number w =
       let within = got_within g.names u name number in
-      sym (ap (job_of kind) (jobs_by_at g.names v.units (names_once g.names tells.graph.sorted) u within ∙ tells.jobs u name within number)) ∙ w
+      sym (ap (job_of kind) (jobs_by_at g.names v.units (names_once g.names tells.graph.sorted) u within ∙ tells.jobs u name number)) ∙ w
 
 -- ---- what is ready by the graph is ready by the tree
 module _ (g : GraphView) (s : State) (serves : Serves g s) (v : JobsView) (tells : Tells g s v) where
@@ -145,7 +123,7 @@ module _ (g : GraphView) (s : State) (serves : Serves g s) (v : JobsView) (tells
   same_jobs x = elim (among_or_apart g.names x) as (λ _. jobs_of_unit (jobs_by g.names v.units) x ≡ jobs_of_unit s.pending x) [
     | inl a ↦
         let (i, within, is) = a in
-        ap (jobs_of_unit (jobs_by g.names v.units)) (sym is) ∙ (jobs_by_at g.names v.units once i within ∙ tells.jobs i x within (name_got g.names i within ∙ ap Some is))
+        ap (jobs_of_unit (jobs_by g.names v.units)) (sym is) ∙ (jobs_by_at g.names v.units once i within ∙ tells.jobs i x (name_got g.names i within ∙ ap Some is))
     | inr apart ↦ jobs_by_none g.names v.units x apart ∙ sym (none_held (map.get s.pending x) refl (λ h. let (i, within, is, number) = named x (serves.held x (inr h)) in apart i within is))
   ]
     where
@@ -265,16 +243,54 @@ serves_begun g s b j serves known is = subst (Serves g) (sym is) (record { extra
         before (inl h) apart = inl h
         before (inr h) apart = inr (λ e. h (pending_apart s.pending j.unit (with_running j.kind (jobs_of_unit s.pending j.unit)) x apart ∙ e))
 
-pub begun_keeps : (s b : State) (j : Job) → b ≡ begun s j → KeepsOthers j.unit s b
-begun_keeps s b j is = record {
-  jobs = λ x apart. ap (λ (z : State). jobs_of_unit z.pending x) is ∙ jobs_apart s.pending j.unit (with_running j.kind (jobs_of_unit s.pending j.unit)) x apart;
-  states = λ x apart. ap (λ (z : State). state_of_unit z.units x) is;
-}
+-- where a job of a unit begins by its number and its name, the state is as it is begun, and is told by number
+module _ (g : GraphView) (s b : State) (v w : JobsView) (n : ℕ) (name : List ℕ) (kind : JobKind) (tells : Tells g s v) (number : IsNumberOf g n name)
+    (by_number : w ≡ with_jobs_at v n (with_running kind (jobs_at v.units n))) (by_name : b ≡ record s { pending = with_jobs s.pending name (jobs_at w.units n) }) where
+  begins_within : n < length v.units
+  begins_within = let h = got_within g.names n name number in omega (arith, h, tells.long)
+
+  begins_here : jobs_at w.units n ≡ with_running kind (jobs_of_unit s.pending name)
+  begins_here =
+      ap (λ (x : JobsView). jobs_at x.units n) by_number
+      ∙ (get_or-set_at v.units n n (with_running kind (jobs_at v.units n)) no_jobs refl begins_within ∙ ap (with_running kind) (tells.jobs n name number))
+
+  pub begun_so : b ≡ begun s (record { unit = name; kind = kind })
+  begun_so = by_name ∙ ap (λ jobs. record s { pending = with_jobs s.pending name jobs }) begins_here
+
+  pub begun_told : Tells g b w
+  begun_told = record {
+    graph = tells.graph;
+    same = ap (λ (x : JobsView). x.graph) by_number ∙ tells.same;
+    long = ap (λ (x : JobsView). length x.units) by_number ∙ (length-set v.units n (with_running kind (jobs_at v.units n)) ∙ tells.long);
+    wide = ap (λ (x : JobsView). length x.held) by_number ∙ tells.wide;
+    jobs = jobs_now;
+    held = λ i unit below m.
+        ap (λ (x : JobsView). held_at x.held i) by_number ∙ (tells.held i unit below m ∙ ap (λ (x : State). deactivates x unit) (sym units_same));
+  }
+    where
+      units_same : record s { units = b.units } ≡ s
+      units_same = ap (λ (x : State). record s { units = x.units }) by_name
+
+      jobs_now : (i : ℕ) (unit : List ℕ) → IsNumberOf g i unit → jobs_at w.units i ≡ jobs_of_unit b.pending unit
+      jobs_now i unit m = elim (same_name unit name) as (λ _. jobs_at w.units i ≡ jobs_of_unit b.pending unit) [
+        | inl same ↦
+            let at : i ≡ n = names_once g.names tells.graph.sorted i n (got_within g.names i unit m) (got_within g.names n name number)
+            (name_is g.names i unit m ∙ (same ∙ sym (name_is g.names n name number))) in
+            ap (jobs_at w.units) at
+            ∙ (sym (ap (λ (x : State). jobs_of_unit x.pending name) by_name ∙ jobs_here s.pending name (jobs_at w.units n)) ∙ ap (jobs_of_unit b.pending) (sym same))
+        | inr apart ↦
+            let elsewhere : i ≢ n = λ at. apart (same_Some unit name (sym m ∙ (ap (slice_get g.names) at ∙ number))) in
+            ap (λ (x : JobsView). jobs_at x.units i) by_number
+            ∙ (get_or-set_other v.units n i (with_running kind (jobs_at v.units n)) no_jobs elsewhere
+            ∙ (tells.jobs i unit m
+            ∙ sym (ap (λ (x : State). jobs_of_unit x.pending unit) by_name ∙ jobs_apart s.pending name (jobs_at w.units n) unit apart)))
+      ]
 
 -- of one unit it is told anew
 pub told_anew : (g : GraphView) (s t : State) (v w : JobsView) (n : ℕ) (name : List ℕ) → Tells g s v → IsNumberOf g n name → KeepsOthers name s t → w ≡ told_of t n name v → Tells g t w
 told_anew g s t v w n name tells number keeps is = subst (Tells g t) (sym is) (record {
   graph = tells.graph;
+  same = tells.same;
   long = length-set v.units n (jobs_of_unit t.pending name) ∙ tells.long;
   wide = length-set v.held n (deactivates t name) ∙ tells.wide;
   jobs = jobs_now;
@@ -290,11 +306,11 @@ told_anew g s t v w n name tells number keeps is = subst (Tells g t) (sym is) (r
     elsewhere : (i : ℕ) (unit : List ℕ) → IsNumberOf g i unit → unit ≢ name → i ≢ n
     elsewhere i unit m apart at = apart (same_Some unit name (sym m ∙ (ap (slice_get g.names) at ∙ number)))
 
-    jobs_now : (i : ℕ) (unit : List ℕ) → i < length g.names → IsNumberOf g i unit → jobs_at (set v.units n (jobs_of_unit t.pending name)) i ≡ jobs_of_unit t.pending unit
-    jobs_now i unit below m = elim (same_name unit name) as (λ _. jobs_at (set v.units n (jobs_of_unit t.pending name)) i ≡ jobs_of_unit t.pending unit) [
-      | inl same ↦ get_or-set_at v.units n i (jobs_of_unit t.pending name) no_jobs (here i unit below m same) (omega (arith, within, tells.long)) ∙ ap (jobs_of_unit t.pending) (sym same)
+    jobs_now : (i : ℕ) (unit : List ℕ) → IsNumberOf g i unit → jobs_at (set v.units n (jobs_of_unit t.pending name)) i ≡ jobs_of_unit t.pending unit
+    jobs_now i unit m = elim (same_name unit name) as (λ _. jobs_at (set v.units n (jobs_of_unit t.pending name)) i ≡ jobs_of_unit t.pending unit) [
+      | inl same ↦ get_or-set_at v.units n i (jobs_of_unit t.pending name) no_jobs (here i unit (got_within g.names i unit m) m same) (omega (arith, within, tells.long)) ∙ ap (jobs_of_unit t.pending) (sym same)
       | inr apart ↦
-          get_or-set_other v.units n i (jobs_of_unit t.pending name) no_jobs (λ e. elsewhere i unit m apart (omega (arith, e))) ∙ (tells.jobs i unit below m ∙ sym (keeps.jobs unit apart))
+          get_or-set_other v.units n i (jobs_of_unit t.pending name) no_jobs (λ e. elsewhere i unit m apart (omega (arith, e))) ∙ (tells.jobs i unit m ∙ sym (keeps.jobs unit apart))
     ]
 
     held_now : (i : ℕ) (unit : List ℕ) → i < length g.names → IsNumberOf g i unit → held_at (set v.held n (deactivates t name)) i ≡ deactivates t unit
@@ -304,3 +320,33 @@ told_anew g s t v w n name tells number keeps is = subst (Tells g t) (sym is) (r
           get_or-set_other v.held n i (deactivates t name) false (λ e. elsewhere i unit m apart (omega (arith, e)))
           ∙ (tells.held i unit below m ∙ ap (λ u. is_deactivating (active_state_of u.sub)) (sym (keeps.states unit apart)))
     ]
+
+-- ---- what is told of one unit, known or not
+
+module _ (g : GraphView) (s : State) (v : JobsView) (tells : Tells g s v) where
+  -- a unit that isn't one of the graph's has no job, and a number past the last is that of a unit without jobs
+  pub told_by : (unit : List ℕ) → ((x : List ℕ) → IsHeld s x → Contains g.names x) → (o : Option ℕ) (n : ℕ) → MatchOption o (¬ Contains g.names unit) (λ i. IsNumberOf g i unit)
+      → n ≡ unwrap_or o (length g.names) → jobs_at v.units n ≡ jobs_of_unit s.pending unit
+  told_by unit held (Some i) n number is = ap (jobs_at v.units) is ∙ tells.jobs i unit number
+  told_by unit held None n apart is =
+      get_or_past v.units n no_jobs (omega (arith, is, tells.long)) ∙ sym (none_held (map.get s.pending unit) refl)
+    where
+      none_held : (o : Option UnitJobs) → map.get s.pending unit ≡ o → jobs_of_unit s.pending unit ≡ no_jobs
+      none_held None e = ap (λ o. unwrap_or o no_jobs) e
+      none_held (Some j) e = absurd (apart (held unit (inr (λ n. none-some j (sym n ∙ e)))))
+
+-- where one of the jobs of a unit waits, those that a cancel leaves of it are told by its number
+pub left_told : (v w : JobsView) (n : ℕ) → has_waiting (jobs_at v.units n) ≡ true → w ≡ with_jobs_at v n (cancelled (jobs_at v.units n))
+    → jobs_at w.units n ≡ cancelled (jobs_at v.units n)
+left_told v w n waits is = ap (λ (x : JobsView). jobs_at x.units n) is ∙ elim (cases_lt n (length v.units)) as (λ _. jobs_at (set v.units n (cancelled (jobs_at v.units n))) n ≡ cancelled (jobs_at v.units n)) [
+  | inl within ↦ get_or-set_at v.units n n (cancelled (jobs_at v.units n)) no_jobs refl within
+  | inr past ↦ absurd (true≢false (sym waits ∙ ap has_waiting (get_or_past v.units n no_jobs (omega (arith, past)))))
+]
+
+-- a cancel that isn't refused finds a job that waits, and one that is refused none
+pub some_waits_told : {X E : Type 0} (waits : Bool) (result : Result X E) (x : X) → result ≡ Ok x → (IsOk result ↔ (waits ≡ true)) → waits ≡ true
+some_waits_told waits result x is iff = (subst (λ r. IsOk r ↔ (waits ≡ true)) is iff).0 refl
+
+pub none_waits_told : {X E : Type 0} (waits : Bool) (result : Result X E) (e : E) → result ≡ Err e → (IsOk result ↔ (waits ≡ true)) → waits ≡ false
+none_waits_told true result e is iff = absurd (true≢false (sym ((subst (λ r. IsOk r ↔ (true ≡ true)) is iff).1 refl)))
+none_waits_told false result e is iff = refl

@@ -4,7 +4,6 @@ use Rattle.std.proofs.Common.{◌≡◌, ◌∙◌, ◌+◌, ◌<◌, ℕ, Bool,
 use Rattle.std.specs.Cmp.Lexicographic.{slice_cmp, nat_list_cmp_total}
 use Rattle.std.specs.FinMap as map
 use Rattle.std.specs.Ordering.{nat_cmp, eq_by_cmp}
-use Rattle.um_model.specs.Servable.{IsFew}
 use Rattle.um_model.specs.Jobs.{no_jobs, jobs_left, with_jobs}
 use Rattle.um_model.specs.Machine.{State, IsHeld, Does, ResetFailed, units_reset, settings_in, around, change_of, changed, Becomes, alone, Carries, AreByName, FallsWith, all_told, Happens, happens, AreReset, all_reset, reset_next, resets}
 use Rattle.um_model.specs.Service.{Action, ByUnit, dead_unit}
@@ -14,7 +13,7 @@ use Rattle.um_model.specs.declared.service.UnitState.{UnitState}
 use Rattle.um_model.specs.declared.transition.Around.{Around}
 use Rattle.um_model.specs.declared.transition.StartJob.TheVariants.{Stays}
 use Rattle.um_model.specs.declared.transition.UnitEvent.TheVariants.{Reset}
-use Rattle.um_model.proofs.FewLaws.{no_more_few, none_there, resets_no_more, HoldsNoMore}
+use Rattle.um_model.proofs.FewLaws.{none_there, resets_no_more, HoldsNoMore}
 use Rattle.um_model.proofs.TimersLaws.{same_name}
 use Rattle.um_model.proofs.UnitLaws.{unlike}
 use Rattle.um_graph.specs.Graph.{GraphView}
@@ -124,9 +123,6 @@ module _ (k : KnownView) (g : GraphView) (t : ℕ) (units : List (List ℕ)) (s 
 
   pub known_reset : KnowsFor k u
   known_reset = knows_less k s u knows less
-
-  pub few_reset : IsFew s → IsFew u
-  few_reset = no_more_few s u less
 
 pub does_reset : (t : ℕ) (s u v : State) (asked : Option (List ℕ)) (units : List (List ℕ)) (all : List Action) → units ≡ units_reset s asked → v ≡ u → AreReset t units s all u
     → Does t s (ResetFailed asked) all v

@@ -4,17 +4,16 @@ use Rattle.um_falling.specs.Carrying.{Adds}
 use Rattle.std.proofs.Common.{◌≡◌, ◌≢◌, ◌∙◌, ◌↔◌, ℕ, Bool, true, false, true≢false, List, [], Option, Some, None, is_some, refl, sym, ap, subst, inl}
 use Rattle.std.specs.Prelude.{IfSome, option_map}
 use Rattle.std.proofs.lemmas.Option.{none-some, same_Some}
-use Rattle.um_model.specs.Servable.{IsFew}
 use Rattle.um_model.specs.Machine as model
 use Rattle.um_model.specs.Machine.{State, Command, Happening, Booted, Event, Commanded, Happened, Follows, ends, reports, ticks, boots, end_of, obeys, Changes, Does, changes, Input, Reply, Done, Refuses, HasNoEffect, IsTooHeavy, TakesEffect, meets, Step, refused, crowded_out, HasNoRoom, idle, taken, reply_after, moment_of}
 use Rattle.um_model.specs.Refusals.{Refused, no_room}
+use Rattle.um_model.specs.Standing.{Standing}
 use Rattle.um_model.specs.Service.{Action, state_of_unit}
 use Rattle.um_model.specs.declared.transition.UnitEvent.TheVariants.{Executed}
 use Rattle.um_model.proofs.KeepsLaws.{settles_keeps}
-use Rattle.um_model.proofs.FewLaws.{fires_no_more, happened_no_more, no_more_few, number_held, settles_no_more, HoldsNoMore}
+use Rattle.um_model.proofs.FewLaws.{fires_no_more, happened_no_more, number_held, settles_no_more, HoldsNoMore}
 use Rattle.um_graph.specs.Graph.{GraphView}
 use Rattle.um_state.specs.View.{state_of}
-use Rattle.um_state.specs.declared.state.State.{State as Kept}
 use Rattle.um_wire.specs.Refusal.{refused_of}
 use Rattle.um_wire.specs.declared.refusal.Refusal.{Refusal}
 use Rattle.um_wire.specs.declared.refusal.Refusal.TheVariants.{NoMemory}
@@ -110,34 +109,24 @@ module _ (k here : KnownView) (g : GraphView) (t : ℕ) (s old v : State) (befor
   pub known_settled : KnowsFor here v
   known_settled = subst (λ x. KnowsFor x v) (sym is) (knows_less k s v knows less)
 
-  pub few_settled : IsFew s → IsFew v
-  few_settled = no_more_few s v less
-
 -- something happens in a state in the time of one boot, over what is known for it
-module _ (k : KnownView) (g : GraphView) (t : ℕ) (s old : State) (happening : Happening) (o : Option Kept) (actions : List Action) (knows : KnowsFor k s) (same : old ≡ s) (shown : g ≡ k.graph)
+module _ (k : KnownView) (g : GraphView) (t : ℕ) (s old : State) (happening : Happening) (o : Option Standing) (actions : List Action) (knows : KnowsFor k s) (same : old ≡ s) (shown : g ≡ k.graph)
     (isnt : (boot : List ℕ) → ¬ (happening ≡ Booted boot)) (met : Serves g old → Met t old happening o actions) where
   met_here : Met t s happening o actions
   met_here = subst (λ x. Met t x happening o actions) same (met (subst (λ x. Serves x old) (sym shown) (subst (Serves k.graph) (sym same) (serves_for k s knows))))
 
-  less_met : (p : Option Kept) → Met t s happening p actions → IfSome p (λ after. HoldsNoMore s (state_of after))
+  less_met : (p : Option Standing) → Met t s happening p actions → IfSome p (λ after. HoldsNoMore s (state_of after))
   less_met None h = tt
   less_met (Some after) h = follows_less t s (state_of after) happening actions isnt h.1
 
-  known_of : (p : Option Kept) → IfSome p (λ after. HoldsNoMore s (state_of after)) → IfSome p (λ after. KnowsFor k (state_of after))
+  known_of : (p : Option Standing) → IfSome p (λ after. HoldsNoMore s (state_of after)) → IfSome p (λ after. KnowsFor k (state_of after))
   known_of None h = tt
   known_of (Some after) h = knows_less k s (state_of after) knows h
-
-  few_of : IsFew s → (p : Option Kept) → IfSome p (λ after. HoldsNoMore s (state_of after)) → IfSome p (λ after. IsFew (state_of after))
-  few_of few None h = tt
-  few_of few (Some after) h = no_more_few s (state_of after) h few
 
   pub known_met : IfSome o (λ after. KnowsFor k (state_of after))
   known_met = known_of o (less_met o met_here)
 
-  pub few_met : IsFew s → IfSome o (λ after. IsFew (state_of after))
-  few_met few = few_of few o (less_met o met_here)
-
-  by_state : (p : Option Kept) (w : Option ServedView) → option_map (λ (x : ServedView). x.state) w ≡ option_map state_of p → Met t s happening p actions → MetBy t s happening w actions
+  by_state : (p : Option Standing) (w : Option ServedView) → option_map (λ (x : ServedView). x.state) w ≡ option_map state_of p → Met t s happening p actions → MetBy t s happening w actions
   by_state None None e h = h
   by_state None (Some w) e h = absurd (none-some w.state (sym e))
   by_state (Some after) None e h = absurd (none-some (state_of after) e)

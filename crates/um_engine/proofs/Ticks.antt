@@ -73,23 +73,22 @@ number_told number (Some n) t = ap Some ((Decides-eqb n number).0 t)
 number_is : (number : ℕ) (o : Option ℕ) → o ≡ Some number → is_number number o ≡ true
 number_is number o e = ap (is_number number) e ∙ (Decides-eqb number number).1 refl
 
--- whether the unit waits for the report, by what it is asked of
-pub report_decided : (s : State) (number : ℕ) (unit : List ℕ) (starts asked is : Bool) → starts ≡ waits_for_report (state_of_unit s.units unit).sub
-    → asked ≡ has_one_command (settings_in s.loaded unit).kind → is ≡ is_number number (state_of_unit s.units unit).main
-    → Decides (starts && asked && is) (AwaitsReport s number unit)
-report_decided s number unit starts asked is e f g = (told, tells)
-  where
-    told : starts && asked && is ≡ true → AwaitsReport s number unit
-    told h =
-        let (both, d) = and_parts (starts && asked) is h in
-        let (a, b) = and_parts starts asked both in
-        record { starts = sym e ∙ a; kind = sym f ∙ b; main = number_told number (state_of_unit s.units unit).main (sym g ∙ d) }
+module _ (s : State) (number : ℕ) (unit : List ℕ) (may : Bool) (is : may ≡ (waits_for_report (state_of_unit s.units unit).sub && is_number number (state_of_unit s.units unit).main)) where
+  stands_so : AwaitsReport s number unit → may ≡ true
+  stands_so h = is ∙ (ap (λ b. b && is_number number (state_of_unit s.units unit).main) h.starts ∙ number_is number (state_of_unit s.units unit).main h.main)
 
-    tells : AwaitsReport s number unit → starts && asked && is ≡ true
-    tells h =
-        ap (λ b. b && asked && is) (e ∙ h.starts)
-        ∙ (ap (λ b. b && is) (f ∙ h.kind)
-        ∙ (g ∙ number_is number (state_of_unit s.units unit).main h.main))
+  -- a unit that doesn't stand so waits for no report
+  pub waits_for_none : may ≡ false → Decides false (AwaitsReport s number unit)
+  waits_for_none none = (λ h. absurd (true≢false (sym h)), λ h. sym none ∙ stands_so h)
+
+  -- and one that does waits for it by its kind
+  pub waits_by_kind : (asked : Bool) → may ≡ true → asked ≡ has_one_command (settings_in s.loaded unit).kind → Decides asked (AwaitsReport s number unit)
+  waits_by_kind asked so kind = (told, λ h. kind ∙ h.kind)
+    where
+      told : asked ≡ true → AwaitsReport s number unit
+      told h =
+          let (a, b) = and_parts (waits_for_report (state_of_unit s.units unit).sub) (is_number number (state_of_unit s.units unit).main) (sym is ∙ so) in
+          record { starts = a; kind = sym kind ∙ h; main = number_told number (state_of_unit s.units unit).main b }
 
 -- a tick, by the deadlines that fired
 pub tick_follows : (t : ℕ) (s copy v : State) (none all : List Action) → copy ≡ s → none ≡ [] → Adds (Follows t copy Tick) none v all → Follows t s Tick all v

@@ -1,15 +1,17 @@
--- What an engine, a planned step and the way back hold; and what the engine's helpers do, with the actions before and after.
-use Rattle.std.specs.Prelude.{◌≡◌, ℕ, ◌<◌, ◌≤◌, Bool, true, false, List, [], ◌++◌, Option, Some, None, is_some, map}
+-- What an engine stands on, what a planned step and the way back make of that; and what the engine's helpers do, with the actions before and after.
+use Rattle.std.specs.Prelude.{◌≡◌, ℕ, ◌<◌, ◌≤◌, Bool, true, false, List, [], ◌++◌, Option, Some, None, map}
 use Rattle.std.specs.FinMap as finite
 use Rattle.um_model.specs.Machine as model
 use Rattle.um_model.specs.Service.{Action}
+use Rattle.um_model.specs.Standing.{Standing}
 use Rattle.um_model.specs.Timers.{Timers, IsDueFirst}
 use Rattle.um_model.specs.declared.service.SubState.{SubState}
 use Rattle.um_model.specs.declared.service.SubState.TheVariants.{AutoRestart}
 use Rattle.um_model.specs.declared.transition.UnitEvent.{UnitEvent}
 use Rattle.um_state.specs.View.{state_of, reply_of, action_of}
-use Rattle.um_state.specs.declared.state.State.{State}
-use Rattle.um_engine.specs.Served.{ServedView}
+use Rattle.um_engine.specs.Served.{ServedView, standing_of}
+use Rattle.um_engine.specs.declared.engine.Change.{Change}
+use Rattle.um_engine.specs.declared.engine.Change.TheVariants.{Nothing, Tables}
 use Rattle.um_engine.specs.declared.engine.Engine.{Engine}
 use Rattle.um_engine.specs.declared.engine.Next.{Next}
 use Rattle.um_engine.specs.declared.engine.Back.{Back}
@@ -18,23 +20,32 @@ use Rattle.um_engine.specs.declared.engine.Back.{Back}
 abbrev pub state_in : Engine → model.State
 state_in e = e.served.state
 
+-- what an engine stands on: its state, and the names that have a number in it
+abbrev pub standing_in : Engine → Standing
+standing_in e = standing_of e.served
+
 -- the size of its store, in bytes
 abbrev pub size_in : Engine → ℕ
 size_in e = e.size
-
--- the state that is given, or else this one
-abbrev pub given_or : Option ServedView → model.State → model.State
-given_or None s = s
-given_or (Some given) s = given.state
 
 -- the state that is given, at the moment, or else this one
 abbrev pub state_at : ℕ → Option ServedView → model.State → model.State
 state_at t None s = s
 state_at t (Some given) s = record given.state { clock = t }
 
--- the state after a planned step that is taken in the state for which it was planned
-abbrev pub state_after : Next → model.State → model.State
-state_after n s = given_or n.served s
+-- what a change makes of a standing
+abbrev pub changed : Change → Standing → Standing
+changed Nothing s = s
+changed (Tables given) s = standing_of given
+
+-- it changes something
+abbrev pub is_change : Change → Bool
+is_change Nothing = false
+is_change (Tables given) = true
+
+-- the standing after a planned step that is taken
+abbrev pub state_after : Next → Standing → Standing
+state_after n s = changed n.change s
 
 -- its reply
 abbrev pub reply_in : Next → model.Reply
@@ -46,11 +57,11 @@ actions_in n = map action_of n.actions.items
 
 -- it has an effect, so that it must be recorded
 abbrev pub has_effect_in : Next → Bool
-has_effect_in n = is_some n.served
+has_effect_in n = is_change n.change
 
--- the state before a step that was taken, from the state in which it left the engine
-abbrev pub state_before : Back → model.State → model.State
-state_before b s = given_or b.served s
+-- the standing before a step that was taken
+abbrev pub state_before : Back → Standing → Standing
+state_before b s = changed b.change s
 
 -- an event without effect: a command that isn't refused has one always
 abbrev pub LacksEffect : ℕ → model.State → model.Event → Type 0
@@ -85,7 +96,7 @@ pub record IsSame (s v : model.State) : Type 0 where
   pub next : s.next ≡ v.next
 
 -- what comes of a happening: nothing, where it has no effect; else the state after it, with its clock still to be set
-abbrev pub Met : ℕ → model.State → model.Happening → Option State → List Action → Type 0
+abbrev pub Met : ℕ → model.State → model.Happening → Option Standing → List Action → Type 0
 Met t s happening None actions = model.HasNoEffect t s happening × (actions ≡ [])
 Met t s happening (Some v) actions = (¬ model.HasNoEffect t s happening) × model.Follows t s happening actions (state_of v)
 

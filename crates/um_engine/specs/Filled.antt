@@ -23,12 +23,14 @@ deactivates s unit = is_deactivating (active_state_of (state_of_unit s.units uni
 abbrev pub told_of : State → ℕ → List ℕ → JobsView → JobsView
 told_of s i unit v = with_held_at (with_jobs_at v i (jobs_of_unit s.pending unit)) i (deactivates s unit)
 
--- of the units of the graph with a number below n what is told by number is what the state tells
+-- the jobs are told by the numbers of the graph's units as the state holds them, and of the units with a number below n is told whether
+-- they count as deactivating
 pub record TellsBelow (g : GraphView) (s : State) (n : ℕ) (v : JobsView) : Type 0 where
   pub graph : IsGraph g
+  pub same : v.graph ≡ g
   pub long : length v.units ≡ length g.names
   pub wide : length v.held ≡ length g.names
-  pub jobs : (i : ℕ) (unit : List ℕ) → i < n → IsNumberOf g i unit → jobs_at v.units i ≡ jobs_of_unit s.pending unit
+  pub jobs : (i : ℕ) (unit : List ℕ) → IsNumberOf g i unit → jobs_at v.units i ≡ jobs_of_unit s.pending unit
   pub held : (i : ℕ) (unit : List ℕ) → i < n → IsNumberOf g i unit → held_at v.held i ≡ deactivates s unit
 
 -- so it is of all of them

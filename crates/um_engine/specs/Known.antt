@@ -1,8 +1,8 @@
 -- What the engine knows of the units of a tree: the graph, and the units for which it was made.
 -- Follows no manual page: it is how the engine keeps what it knows of units.
 -- Commands and the room that a state takes stand on this file.
-use Rattle.std.specs.Prelude.{◌⊎◌, ℕ, List, Contains, Option, Some, None}
-use Rattle.um_model.specs.Dependencies.{CountsFor, KnowsTooMany}
+use Rattle.std.specs.Prelude.{◌≡◌, ◌⊎◌, ◌↔◌, ℕ, List, Contains, Option, Some, None}
+use Rattle.um_model.specs.Dependencies.{CountsFor, IsKnown, KnowsTooMany}
 use Rattle.um_model.specs.Machine.{State, IsHeld, IsHeldOr}
 use Rattle.um_model.specs.Tree.{Tree, without_run}
 use Rattle.um_graph.specs.Graph.{GraphView, IsGraph, IsGraphOf}
@@ -23,12 +23,19 @@ pub record IsGraphFor (tree : Tree) (Extra : List ℕ → Type 0) (g : GraphView
   pub count : CountsFor tree Extra g.count
   pub few : ¬ IsFull tree Extra
 
--- the graph and the units for which it was made
+-- the graph, the units for which it was made, and those that are known without the entries under `run/`
 pub record KnownView : Type 0 where
   pub graph : GraphView
   pub extra : List (List ℕ)
+  pub lasting : List (List ℕ)
+
+-- these are the units that are known by the tree without its entries under `run/`; where it has none, nothing is told
+abbrev pub AreLasting : Tree → List (List ℕ) → Option (List (List ℕ)) → Type 0
+AreLasting tree extra None = without_run tree ≡ tree
+AreLasting tree extra (Some names) = (unit : List ℕ) → Contains names unit ↔ IsKnown (without_run tree) (Contains extra) unit
 
 -- it was made for the state's loaded tree, and the state holds units of the graph alone
 pub record KnowsFor (k : KnownView) (s : State) : Type 0 where
   pub made : IsGraphFor s.loaded (Contains k.extra) k.graph
+  pub lasting : (unit : List ℕ) → Contains k.lasting unit ↔ IsKnown (without_run s.loaded) (Contains k.extra) unit
   pub held : (unit : List ℕ) → IsHeld s unit → Contains k.graph.names unit

@@ -3,17 +3,18 @@
 -- Plans stand on this file.
 use Rattle.std.specs.Prelude.{◌≡◌, ℕ, List}
 use Rattle.um_model.specs.Jobs.{jobs_of_unit}
-use Rattle.um_model.specs.Machine.{State, TakesEffect, Commanded, Command, Refuses, IsTooHeavy, scene_at}
+use Rattle.um_model.specs.Machine.{State, TakesEffect, Commanded, Command, Refuses, IsHeldOr, IsTooHeavy, scene_at}
+use Rattle.um_model.specs.Plan.{IsPlan}
 use Rattle.um_model.specs.Refusals.{Refused, no_room}
 use Rattle.um_model.specs.Service.{Action, active_state_of, state_of_unit}
-use Rattle.um_model.specs.declared.commands.JobMode.{JobMode}
 use Rattle.um_model.specs.declared.dependencies.Demand.{Demand}
 use Rattle.um_model.specs.declared.jobs.UnitJobs.{UnitJobs}
 use Rattle.um_model.specs.declared.service.ActiveState.{ActiveState}
 use Rattle.um_graph.specs.Graph.{GraphView, IsNumberOf}
 use Rattle.um_jobs.specs.Named.{jobs_at}
-use Rattle.um_transact.specs.Scene.{IsAccepted}
+use Rattle.um_transact.specs.Transaction.{TransactionView}
 use Rattle.um_transact.specs.Walk.{activity_at}
+use Rattle.um_engine.specs.Known.{IsGraphFor}
 
 -- by number: how active the units are
 abbrev pub AreActive : GraphView → State → List ActiveState → Type 0
@@ -23,10 +24,18 @@ AreActive g s activity = (i : ℕ) (x : List ℕ) → IsNumberOf g i x → activ
 abbrev pub ArePending : GraphView → State → List UnitJobs → Type 0
 ArePending g s pending = (i : ℕ) (x : List ℕ) → IsNumberOf g i x → jobs_at pending i ≡ jobs_of_unit s.pending x
 
--- the state has the jobs of a plan that is accepted
-pub record HasPlan (s : State) (root : Demand × List ℕ) (mode : JobMode) (u : State) : Type 0 where
-  pub accepted : IsAccepted (scene_at s root.1) root mode u.pending
+-- the state has the jobs of the plan for what is demanded
+pub record HasPlan (s : State) (root : Demand × List ℕ) (u : State) : Type 0 where
+  pub plan : IsPlan (scene_at s root.1) root u.pending
   pub rest : u ≡ record s { pending = u.pending }
+
+-- the transaction is made from what counts in the state for the demand on the unit of that name
+pub record IsTransactionFor (s : State) (root : Demand × List ℕ) (t : TransactionView) : Type 0 where
+  pub exact : IsGraphFor s.loaded (IsHeldOr s root.1) t.graph
+  pub active : AreActive t.graph s t.activity
+  pub pends : ArePending t.graph s t.pending
+  pub number : IsNumberOf t.graph t.root.1 root.1
+  pub demand : t.root.0 ≡ root.0
 
 -- a command is refused for a cause of its own, or for want of room for what comes of it
 pub data Declines (size t : ℕ) (s : State) (command : Command) : Refused → Type 0 where

@@ -1,9 +1,14 @@
--- A state with what is known of its units.
+-- A state with what is known of its units, and the standing that both make.
 -- Follows no manual page: it is how the engine keeps what it knows of units.
 -- The engine, its steps and the ways back stand on this file.
 use Rattle.um_model.specs.Machine.{State}
+use Rattle.um_model.specs.Standing.{Standing}
 use Rattle.um_engine.specs.Known.{KnownView}
 
 pub record ServedView : Type 0 where
   pub state : State
   pub known : KnownView
+
+-- the names that have a number are those of the graph
+abbrev pub standing_of : ServedView → Standing
+standing_of v = record { state = v.state; names = v.known.graph.names }

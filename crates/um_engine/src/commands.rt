@@ -1,10 +1,12 @@
 //! What a command does, and why it is refused.
 
-ghost use Rattle.std.specs.Prelude.{◌≡◌, Err, [], false, map, IfOk, IfErr};
+ghost use Rattle.std.specs.Prelude.{◌≡◌, Err, ℕ, List, [], false, map, Contains, IfOk, IfErr};
 ghost use Rattle.um_model.proofs.FewLaws.{HoldsNoMore};
 ghost use Rattle.um_answer.specs.Loaded.{is_found as finds};
+ghost use Rattle.um_engine.specs.Known.{KnowsFor};
 ghost use Rattle.um_model.proofs.WaitingLaws.{has_waiting};
 ghost use Rattle.um_model.specs.Install.{paths_beyond};
+ghost use Rattle.um_model.specs.Jobs.{cancelled, jobs_of_unit};
 ghost use Rattle.um_model.specs.Machine as model;
 ghost use Rattle.um_model.specs.Refusals as told;
 ghost use Rattle.um_model.specs.Tree.{put_file, put_link, remove_at};
@@ -14,55 +16,56 @@ ghost use Rattle.um_wire.specs.Gives.{RefusesBy};
 ghost use Rattle.um_wire.specs.Refusal.{refused_of};
 ghost use Rattle.um_wire.specs.declared.refusal.Refusal.TheVariants.{NoMemory};
 
-use crate::jobs::{cancelled, has_waiting};
-use crate::loading::known_of_loaded;
+use crate::known::Known;
+use crate::loading::{check_order, known_of_loaded};
+use crate::numbered::jobs_in;
 use crate::planning::planned;
 use crate::resetting::without_failures;
 use crate::served::Served;
 use std::alloc::{AllocError, Global};
 use std::rc::Rc;
-use um_answer::{Asked, check_missing, text_of};
-use um_install::{Installed, install};
+use um_answer::{Asked, check_missing};
+use um_graph::Graph;
+use um_install::{Installed, check_units, relink};
 use um_model::{InstallVerb, Moment, UnitJobs};
 use um_name::UnitName;
 use um_state::{Action, Command, Reply, State};
 use um_tree::Tree;
 use um_wire::Refusal;
 
-/// E21 with the unit, or want of memory for its text.
-fn no_such_job(alloc: Global, unit: &UnitName) -> Refusal
-    ensures { ¬ (result ≡ NoMemory) → refused_of result ≡ told.no_such_job unit.now }
-{
-    match text_of(alloc, unit) {
-        Ok(unit) => Refusal::NoSuchJob { unit },
-        Err(_) => Refusal::NoMemory,
-    }
-}
-
-/// Refuses to drop the waiting jobs of a unit where none waits (E21).
-fn check_waiting(alloc: Global, unit: &UnitName, jobs: UnitJobs) -> Result<(), Refusal>
-    ensures { RefusesBy (λ r. (has_waiting jobs ≡ false) × (r ≡ told.no_such_job unit.now)) result }
-{
-    if has_waiting(jobs) {
-        return Ok(());
-    }
-    Err(no_such_job(alloc, unit))
-}
-
-/// Refuses to drop the waiting jobs of a unit for the first of E7 and E21 that holds.
-fn check_cancel(
+/// The jobs that a cancel leaves of the unit. Where none of them waits it is refused (E21).
+fn left_by_cancel(
     alloc: Global,
+    graph: &Graph,
+    state: &State,
+    unit: &UnitName,
+) -> Result<UnitJobs, Refusal>
+    requires held { (x : List ℕ) → model.IsHeld (state_of state.now) x → Contains graph.now.names x }
+    ensures left { IfOk result (λ left. left ≡ cancelled (jobs_of_unit (state_of state.now).pending unit.now)) }
+    ensures refused { RefusesBy (λ r. (has_waiting (jobs_of_unit (state_of state.now).pending unit.now) ≡ false) × (r ≡ told.no_such_job unit.now)) result }
+{
+    let number = graph.number(unit).unwrap_or(graph.len());
+    let mut jobs = jobs_in(alloc, graph, state)?;
+    jobs.cancel(alloc, number, unit)?;
+    Ok(jobs.get(number))
+}
+
+/// The jobs that a cancel leaves of the unit, or the refusal for the first of E7 and E21 that holds.
+fn cancelled_jobs(
+    alloc: Global,
+    graph: &Graph,
     state: &State,
     asked: &UnitName,
     leads: &Asked,
-) -> Result<(), Refusal>
+) -> Result<UnitJobs, Refusal>
+    requires held { (x : List ℕ) → model.IsHeld (state_of state.now) x → Contains graph.now.names x }
     requires unit { leads.now.unit ≡ model.unit_asked (state_of state.now) asked.now }
     requires found { leads.now.is_found ≡ finds (units.load (state_of state.now).loaded asked.now) }
-    ensures { RefusesBy (model.Refuses (state_of state.now) (model.Cancel asked.now)) result }
+    ensures left { IfOk result (λ left. left ≡ cancelled (jobs_of_unit (state_of state.now).pending leads.now.unit)) }
+    ensures refused { RefusesBy (model.Refuses (state_of state.now) (model.Cancel asked.now)) result }
 {
     check_missing(alloc, state, asked, leads.is_found)?;
-    check_waiting(alloc, &leads.unit, state.pending().get(&leads.unit))?;
-    Ok(())
+    left_by_cancel(alloc, graph, state, &leads.unit)
 }
 
 /// The state without the waiting jobs of a unit.
@@ -71,11 +74,11 @@ fn without_waiting(alloc: Global, served: &Served, asked: &UnitName) -> Result<S
     ensures refused { RefusesBy (model.Refuses served.now.state (model.Cancel asked.now)) result }
 {
     let state = served.state();
-    let leads = Asked::of(alloc, served.known().graph(), state.loaded(), asked)?;
-    check_cancel(alloc, state, asked, &leads)?;
-    let jobs = cancelled(state.pending().get(&leads.unit));
+    let graph = served.known().graph();
+    let leads = Asked::of(alloc, graph, state.loaded(), asked)?;
+    let left = cancelled_jobs(alloc, graph, state, asked, &leads)?;
     let mut changed = state.copy()?;
-    changed.set_jobs(&leads.unit, jobs)?;
+    changed.set_jobs(&leads.unit, left)?;
     Ok(changed)
 }
 
@@ -185,19 +188,20 @@ fn reloaded(alloc: Global, state: &State) -> Result<Served, Refusal>
     Ok(Served::with(changed, known))
 }
 
-/// The state with that tree, loaded. Refused are too many known units (E13), and pending jobs in a circle (E9).
-fn with_tree(alloc: Global, state: &State, tree: Tree) -> Result<Served, Refusal>
-    ensures changed { IfOk result (λ u. u.state ≡ record (state_of state.now) { tree = tree; loaded = tree }) }
-    ensures refused { RefusesBy (model.CausesOfLoad (state_of state.now) tree) result }
+/// The state with that tree, loaded, of whose units that is known.
+fn with_tree(alloc: Global, state: &State, tree: Tree, known: Known) -> Result<Served, AllocError>
+    requires { KnowsFor known (record (state_of state.now) { loaded = tree }) }
+    ensures { IfOk result (λ u. u.state ≡ record (state_of state.now) { tree = tree; loaded = tree }) }
 {
-    let known = known_of_loaded(alloc, state, &tree)?;
     let known = Rc::new(alloc, known)?;
     let mut changed = state.copy()?;
     changed.load_tree(tree)?;
     Ok(Served::with(changed, known))
 }
 
-/// The state with the tree that comes of enabling the unit or its kin, loaded.
+/// The state with the tree that comes of enabling the unit or its kin, loaded. Refused are, in this order, links that can't be made
+/// (E12, E11, E13 `entries`), too many known units (E13 `units`), a unit that can't be enabled (E4 to E6), and pending jobs in a
+/// circle (E9).
 fn installed(
     alloc: Global,
     state: &State,
@@ -214,9 +218,12 @@ fn installed(
         tree,
         made,
         removed,
-    } = install(alloc, state.tree(), verb, unit)?;
+    } = relink(alloc, state.tree(), verb, unit)?;
+    let known = Known::of(alloc, &tree, state, None)?;
+    check_units(alloc, state.tree(), verb, unit)?;
+    check_order(alloc, &known, state)?;
     Ok(Outcome {
-        served: with_tree(alloc, state, tree)?,
+        served: with_tree(alloc, state, tree, known)?,
         reply: Reply::Relinked { made, removed },
         actions: Vec::new(alloc),
     })

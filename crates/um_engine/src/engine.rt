@@ -1,12 +1,13 @@
 ghost use Rattle.um_falling.specs.Carrying.{Adds};
 ghost use Rattle.std.specs.Prelude.{◌≡◌, ◌≢◌, ◌↔◌, [], false, is_some, map, IfOk, IfErr, IfSome, IsTrue};
-ghost use Rattle.um_engine.specs.Engine.{LacksEffect, state_in, size_in, has_effect_in, state_at, state_after, reply_in, actions_in, state_before};
+ghost use Rattle.um_engine.specs.Engine.{LacksEffect, standing_in, state_in, size_in, has_effect_in, state_at, state_after, reply_in, actions_in, state_before};
 ghost use Rattle.um_engine.specs.OfStore.{is_of_store};
 ghost use Rattle.um_engine.specs.Planned.{Declines};
 ghost use Rattle.um_model.specs.Machine as model;
 ghost use Rattle.um_model.specs.Machine.{Step, TakesEffect, moment_of, IsTooHeavy};
 ghost use Rattle.um_model.specs.Refusals.{Refused};
 ghost use Rattle.um_model.specs.Servable.{IsServable};
+ghost use Rattle.um_model.specs.Standing.{Standing};
 ghost use Rattle.um_state.specs.View.{state_of, input_of, query_of, reply_of, action_of, command_of};
 ghost use Rattle.um_wire.specs.Refusal.{refused_of};
 ghost use Rattle.um_wire.specs.declared.refusal.Refusal.TheVariants.{NoMemory};
@@ -41,11 +42,18 @@ struct Settled {
     actions: Vec<Action>,
 }
 
+/// What a step changes.
+#[derive(Drop)]
+pub(crate) enum Change {
+    Nothing,
+    /// All: the state, and what is known of its units.
+    Tables(Served),
+}
+
 /// A step that is planned and not yet taken: of use for the engine that planned it, in the state that it had then.
 #[derive(Drop)]
 pub struct Next {
-    /// None where the step has no effect.
-    served: Option<Served>,
+    change: Change,
     reply: Reply,
     actions: Vec<Action>,
 }
@@ -53,20 +61,17 @@ pub struct Next {
 impl Next {
     /// The step to this state, but for its clock, at the moment; none without effect.
     fn at(moment: Moment, served: Option<Served>, reply: Reply, actions: Vec<Action>) -> Next
-        ensures state { (s : model.State) → state_after result s ≡ state_at moment served s }
+        ensures state { (s : Standing) → (state_after result s).state ≡ state_at moment served s.state }
         ensures effect { has_effect_in result ≡ is_some served }
         ensures reply { reply_in result ≡ reply_of reply }
         ensures actions { actions_in result ≡ map action_of actions.items }
     {
-        let Some(served) = served else {
-            return Next {
-                served: None,
-                reply,
-                actions,
-            };
+        let change = match served {
+            Some(served) => Change::Tables(served.at(moment)),
+            None => Change::Nothing,
         };
         Next {
-            served: Some(served.at(moment)),
+            change,
             reply,
             actions,
         }
@@ -77,15 +82,17 @@ impl Next {
     pub fn has_effect(&self) -> bool
         ensures { result ≡ has_effect_in self.now }
     {
-        self.served.is_some()
+        match self.change {
+            Change::Nothing => false,
+            Change::Tables(_) => true,
+        }
     }
 }
 
 /// The way back from a step that was taken: of use for the engine that took it, in the state in which it was left.
 #[derive(Drop)]
 pub struct Back {
-    /// None where the step had no effect.
-    served: Option<Served>,
+    change: Change,
 }
 
 impl Engine {
@@ -148,11 +155,13 @@ impl Engine {
     /// The step that the input is. It is refused as the machine refuses it, or for want of memory (E15); nothing has changed then.
     pub fn plan(&self, input: &Input) -> Result<Next, Refusal>
         ensures ok { IfOk result (λ next.
-            Step (size_in self.now) (state_in self.now) (input_of input.now) (reply_in next) (actions_in next) (state_after next (state_in self.now))) }
+            Step (size_in self.now) (state_in self.now) (input_of input.now) (reply_in next) (actions_in next)
+            (state_after next (standing_in self.now)).state) }
         ensures accepted { IfOk result (λ next. (r : Refused) → reply_in next ≢ model.Refusal r) }
         ensures effect { IfOk result (λ next. (has_effect_in next ≡ false)
             ↔ LacksEffect (moment_of (state_in self.now) (input_of input.now).moment) (state_in self.now) (input_of input.now).event) }
-        ensures nothing { IfOk result (λ next. has_effect_in next ≡ false → (state_after next (state_in self.now) ≡ state_in self.now) × (actions_in next ≡ [])) }
+        ensures nothing { IfOk result (λ next. has_effect_in next ≡ false
+            → ((state_after next (standing_in self.now)).state ≡ state_in self.now) × (actions_in next ≡ [])) }
         ensures refused { IfErr result (λ e. ¬ (e ≡ NoMemory)
             → Step (size_in self.now) (state_in self.now) (input_of input.now) (model.Refusal (refused_of e)) [] (state_in self.now)) }
         ensures only { IfErr result (λ e. is_of_store e ≡ false) }
@@ -177,38 +186,33 @@ impl Engine {
 
     /// Takes a step that this engine planned in the state in which it stands. It takes no memory and always succeeds.
     pub fn commit(&mut self, next: Next) -> (Reply, Vec<Action>, Back)
-        ensures state { state_in self.new ≡ state_after next (state_in self.old) }
+        ensures state { standing_in self.new ≡ state_after next (standing_in self.old) }
         ensures size { size_in self.new ≡ size_in self.old }
         ensures reply { reply_of result.0 ≡ reply_in next }
         ensures actions { map action_of result.1.items ≡ actions_in next }
-        ensures back { state_before result.2 (state_in self.new) ≡ state_in self.old }
+        ensures back { state_before result.2 (standing_in self.new) ≡ standing_in self.old }
     {
         let Next {
-            served,
+            change,
             reply,
             actions,
         } = next;
-        let Some(served) = served else {
-            return (reply, actions, Back { served: None });
+        let change = match change {
+            Change::Nothing => Change::Nothing,
+            Change::Tables(served) => Change::Tables(mem::replace(&mut self.served, served)),
         };
-        let before = mem::replace(&mut self.served, served);
-        (
-            reply,
-            actions,
-            Back {
-                served: Some(before),
-            },
-        )
+        (reply, actions, Back { change })
     }
 
     /// Takes back the step that the last commit of this engine took. It takes no memory and always succeeds.
     pub fn back(&mut self, back: Back)
-        ensures state { state_in self.new ≡ state_before back (state_in self.old) }
+        ensures state { standing_in self.new ≡ state_before back (standing_in self.old) }
         ensures size { size_in self.new ≡ size_in self.old }
     {
-        let Back { served } = back;
-        if let Some(served) = served {
-            self.served = served;
+        let Back { change } = back;
+        match change {
+            Change::Nothing => {}
+            Change::Tables(served) => self.served = served,
         }
     }
 

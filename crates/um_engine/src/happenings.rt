@@ -6,7 +6,6 @@ ghost use Rattle.um_engine.specs.Engine.{FollowsUpon, Met, MetBy, IsSame};
 ghost use Rattle.um_engine.specs.Known.{KnowsFor};
 ghost use Rattle.um_falling.specs.Over.{Serves};
 ghost use Rattle.um_model.specs.Ends.{waits_for_report, has_one_command};
-ghost use Rattle.um_model.specs.Servable.{IsFew};
 ghost use Rattle.um_model.specs.Machine as model;
 ghost use Rattle.um_model.specs.Service.{is_number};
 ghost use Rattle.um_state.specs.View.{state_of, happening_of, action_of};
@@ -15,13 +14,12 @@ ghost use Rattle.um_wire.specs.declared.refusal.Refusal.TheVariants.{NoMemory};
 use crate::served::Served;
 use crate::settling::{fire, settle};
 use std::alloc::{AllocError, Global};
-use um_falling::{Acting, happen};
+use um_falling::{happen, kind_in};
 use um_graph::Graph;
-use um_model::{End, Moment, ProcessNumber, SubState, UnitEvent, UnitKind, UnitState};
+use um_model::{End, Moment, ProcessNumber, SubState, UnitEvent, UnitState};
 use um_name::UnitName;
 use um_service::has_one_command;
 use um_state::{Action, BootId, Happening, State};
-use um_unit::ServiceSettings;
 use um_wire::Refusal;
 
 /// What the end of a process is for its unit.
@@ -106,23 +104,23 @@ fn is_number(number: u64, process: Option<ProcessNumber>) -> bool
     }
 }
 
-/// Whether a unit of this kind that stands so waits for the report that the program of its main process runs, and that process has
-/// the number.
-fn awaits(stands: UnitState, kind: UnitKind, number: u64) -> bool
-    ensures { result ≡ (waits_for_report stands.sub && has_one_command kind && is_number number stands.main) }
+/// Whether a unit that stands so may wait for a report of the process with the number: it is its main process, and the start goes on.
+fn may_await(stands: UnitState, number: u64) -> bool
+    ensures { result ≡ (waits_for_report stands.sub && is_number number stands.main) }
 {
-    waits_for_report(stands.sub) && has_one_command(kind) && is_number(number, stands.main)
+    waits_for_report(stands.sub) && is_number(number, stands.main)
 }
 
 /// Whether the unit, one of the graph, waits for the report that the program of its main process runs, and that process has the
-/// number.
-fn awaits_report(alloc: Global, graph: &Graph, state: &State, number: u64, unit: &UnitName) -> bool
+/// number. The graph is asked only where the unit stands so.
+fn awaits_report(graph: &Graph, state: &State, number: u64, unit: &UnitName) -> bool
     ensures { Serves graph.now (state_of state.now) → Contains graph.now.names unit.now → Decides result (model.AwaitsReport (state_of state.now) number unit.now) }
 {
     let stands = state.units().get(unit);
-    let defaults = ServiceSettings::new(alloc, UnitKind::Simple);
-    let acting = Acting::in_graph(graph, unit, &defaults);
-    awaits(stands, acting.settings.kind, number)
+    if !may_await(stands, number) {
+        return false;
+    }
+    has_one_command(kind_in(graph, unit))
 }
 
 /// The state after the report that the program of a process runs; none where no unit waits for it.
@@ -140,7 +138,7 @@ fn after_report(
         Some(unit) => unit,
         None => return Ok((None, Vec::new(alloc))),
     };
-    if !awaits_report(alloc, graph, state, number, unit) {
+    if !awaits_report(graph, state, number, unit) {
         return Ok((None, Vec::new(alloc)));
     }
     let event = UnitEvent::Executed;
@@ -200,8 +198,7 @@ fn after_boot(alloc: Global, served: &Served, boot: &BootId) -> Result<Option<Se
 
 /// The state, if there is one, with what is known as it was.
 fn with_known(served: &Served, after: Option<State>) -> Result<Option<Served>, AllocError>
-    requires knows { IfSome after (λ state. KnowsFor served.now.known (state_of state)) }
-    requires few { IfSome after (λ state. IsFew (state_of state)) }
+    requires { IfSome after (λ state. KnowsFor served.now.known (state_of state)) }
     ensures { IfOk result (λ known. option_map (λ s. s.state) known ≡ option_map state_of after) }
 {
     match after {

@@ -1,7 +1,10 @@
 //! What is known of the units of a tree.
 
-ghost use Rattle.std.specs.Prelude.{◌≡◌, ◌↔◌, ℕ, List, Contains, IfOk, IfErr, IsTrue, Option, Some, option_copied};
-ghost use Rattle.um_engine.specs.Known.{IsFull, IsGraphFor, IsHeldWith, KnowsFor, KnownView};
+ghost use Rattle.std.specs.Prelude.{◌≡◌, ◌↔◌, ℕ, List, Contains, IfOk, IfErr, IsTrue, Option, Some, option_copied, option_map, unwrap_or};
+ghost use Rattle.um_engine.specs.Known.{AreLasting, IsFull, IsGraphFor, IsHeldWith, KnowsFor, KnownView};
+ghost use Rattle.um_model.specs.Dependencies.{IsKnown};
+ghost use Rattle.um_model.specs.Tree.{without_run};
+ghost use Rattle.um_graph.specs.Graph.{IsNumberOf};
 ghost use Rattle.um_model.specs.Machine.{IsHeld};
 ghost use Rattle.um_state.specs.View.{state_of};
 ghost use Rattle.um_wire.specs.declared.refusal.Refusal.TheVariants as refusals;
@@ -9,23 +12,26 @@ ghost use Rattle.um_model.specs.declared.refusals.Limit.TheVariants as limits;
 
 use std::alloc::{AllocError, Global};
 use std::marker::Model;
-use um_graph::Graph;
+use um_graph::{Graph, known_units};
 use um_name::UnitName;
 use um_state::State;
 use um_tree::Tree;
 use um_wire::Refusal;
 
-/// The graph of a tree, and the units beside those of the tree for which it was made.
+/// The graph of a tree, the units beside those of the tree for which it was made, and the units that are known without the tree's
+/// entries under `run/`.
 #[derive(Drop)]
 pub struct Known {
     graph: Graph,
     extra: Vec<UnitName>,
+    /// In the order of their names; None where no entry stands under `run/`, since they are those of the graph then.
+    lasting: Option<Vec<UnitName>>,
 }
 
 impl Model for Known {
     ghost Value = { KnownView };
 
-    ghost view = { λ k. record { graph = k.graph; extra = k.extra.items } };
+    ghost view = { λ k. record { graph = k.graph; extra = k.extra.items; lasting = unwrap_or (option_map (λ names. names.items) k.lasting) k.graph.names } };
 }
 
 /// The units that the state holds, and the one that is named.
@@ -48,11 +54,38 @@ fn held_with(
 
 /// Whether the state holds the unit, or it is the one that is named.
 fn holds_with(state: &State, named: Option<&UnitName>, unit: &UnitName) -> bool
-    ensures { IsTrue result → IsHeldWith (state_of state.now) (option_copied named.entry) unit.now }
+    ensures { IsTrue result ↔ IsHeldWith (state_of state.now) (option_copied named.entry) unit.now }
 {
     match named {
         Some(named) => state.holds(unit) || unit == named,
         None => state.holds(unit),
+    }
+}
+
+/// The units that are known by the tree without its entries under `run/`, with those that are named beside it; None where it has no
+/// such entries.
+fn lasting(
+    alloc: Global,
+    tree: &Tree,
+    extra: &[UnitName],
+) -> Result<Option<Vec<UnitName>>, AllocError>
+    ensures { IfOk result (λ lasting. AreLasting tree.now extra.now (option_map (λ names. names.items) lasting)) }
+{
+    if !tree.has_run() {
+        return Ok(None);
+    }
+    let mut rest = tree.copy()?;
+    rest.clear_run();
+    Ok(Some(known_units(alloc, &rest, extra)?))
+}
+
+/// Whether the unit is found among these, which stand in the order of their names.
+fn is_among(names: &[UnitName], unit: &UnitName) -> bool
+    ensures { IsTrue result → Contains names.now unit.now }
+{
+    match names.binary_search(unit) {
+        Ok(_) => true,
+        Err(_) => false,
     }
 }
 
@@ -67,13 +100,19 @@ impl Known {
     ) -> Result<Known, Refusal>
         ensures made { IfOk result (λ k. IsGraphFor tree.now (Contains k.extra) k.graph) }
         ensures extra { IfOk result (λ k. (unit : List ℕ) → Contains k.extra unit ↔ IsHeldWith (state_of state.now) (option_copied named.entry) unit) }
+        ensures lasting { IfOk result (λ k. (unit : List ℕ) → Contains k.lasting unit ↔ IsKnown (without_run tree.now) (Contains k.extra) unit) }
         ensures few { IfOk result (λ k. ¬ IsFull tree.now (IsHeldWith (state_of state.now) (option_copied named.entry))) }
         ensures refused { IfErr result (λ e. ¬ (e ≡ refusals.NoMemory) → (e ≡ refusals.TooLarge limits.Units)
             × IsFull tree.now (IsHeldWith (state_of state.now) (option_copied named.entry))) }
     {
         let extra = held_with(alloc, state, named)?;
         let graph = Graph::of(alloc, tree, extra.as_slice())?;
-        Ok(Known { graph, extra })
+        let lasting = lasting(alloc, tree, extra.as_slice())?;
+        Ok(Known {
+            graph,
+            extra,
+            lasting,
+        })
     }
 
     /// The graph.
@@ -105,17 +144,64 @@ impl Known {
         }
     }
 
+    /// Whether the unit, one of the graph, is known without the entries under `run/` too.
+    fn lasts(&self, unit: &UnitName) -> bool
+        ensures { IsTrue result → Contains self.now.graph.names unit.now → Contains self.now.lasting unit.now }
+    {
+        match &self.lasting {
+            Some(lasting) => is_among(lasting, unit),
+            None => true,
+        }
+    }
+
+    /// Whether each unit of the graph that the state holds, or that is named, is known without the entries under `run/` too: those
+    /// that only such entries name aren't.
+    pub fn lasts_for(&self, state: &State, named: Option<&UnitName>) -> bool
+        ensures { IsTrue result → (unit : List ℕ) → Contains self.now.graph.names unit → IsHeldWith (state_of state.now) (option_copied named.entry) unit
+            → Contains self.now.lasting unit }
+    {
+        match &self.lasting {
+            Some(_) => self.all_last(state, named),
+            None => true,
+        }
+    }
+
+    /// The same, unit by unit.
+    fn all_last(&self, state: &State, named: Option<&UnitName>) -> bool
+        ensures { IsTrue result → (unit : List ℕ) → Contains self.now.graph.names unit → IsHeldWith (state_of state.now) (option_copied named.entry) unit
+            → Contains self.now.lasting unit }
+    {
+        for number in 0..self.graph.len() {
+            if !self.lasts_at(state, named, number) {
+                return false;
+            }
+        }
+        true
+    }
+
+    /// The same of the unit with this number.
+    fn lasts_at(&self, state: &State, named: Option<&UnitName>, number: usize) -> bool
+        ensures { IsTrue result → (unit : List ℕ) → IsNumberOf self.now.graph number unit → IsHeldWith (state_of state.now) (option_copied named.entry) unit
+            → Contains self.now.lasting unit }
+    {
+        match self.graph.name(number) {
+            Some(unit) => !holds_with(state, named, unit) || self.lasts(unit),
+            None => true,
+        }
+    }
+
     /// Whether what is known for a state is exactly what counts by its loaded tree, with the units that it holds and the one that
     /// is named.
-    ///
-    /// Where entries stand under `run/` it never is: without those the tree may lack units that the state holds.
     pub fn fits(&self, state: &State, named: Option<&UnitName>) -> bool
         ensures { IsTrue result → KnowsFor self.now (state_of state.now)
             → IsGraphFor (state_of state.now).loaded (IsHeldWith (state_of state.now) (option_copied named.entry)) self.now.graph }
     {
-        if state.loaded().has_run() || !self.knows(named) {
+        if !self.knows(named) {
             return false;
         }
-        self.is_made_for(state, named)
+        if !self.is_made_for(state, named) {
+            return false;
+        }
+        self.lasts_for(state, named)
     }
 }

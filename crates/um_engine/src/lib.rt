@@ -9,6 +9,7 @@ mod jobs;
 mod known;
 mod laws;
 mod loading;
+mod numbered;
 mod planning;
 mod resetting;
 mod restarting;

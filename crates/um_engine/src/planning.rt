@@ -1,34 +1,32 @@
 //! What the plan of a command for a unit makes of the state (systemctl(1), "start", "stop", "restart", "try-restart").
 
-ghost use Rattle.std.specs.Prelude.{◌≡◌, ◌≢◌, ◌<◌, ℕ, List, IfOk, IfErr, OnOk, drop, length};
+ghost use Rattle.std.specs.Prelude.{◌≡◌, ◌<◌, ℕ, List, Contains, IfOk, drop, length};
 ghost use Rattle.um_answer.specs.Loaded.{is_found as finds};
-ghost use Rattle.um_engine.specs.Demanded.{HoldsWithin, IsDeclined, Obeys, wants_it_there};
+ghost use Rattle.um_engine.specs.Demanded.{wants_it_there};
 ghost use Rattle.um_engine.specs.Known.{IsGraphFor, KnowsFor};
-ghost use Rattle.um_engine.specs.Planned.{AreActive, ArePending, HasPlan};
-ghost use Rattle.um_graph.specs.Graph.{IsGraph, IsNumberOf};
-ghost use Rattle.um_jobs.specs.Named.{jobs_at, jobs_by};
-ghost use Rattle.um_model.specs.Jobs.{jobs_of_unit, with_jobs};
+ghost use Rattle.um_engine.specs.Planned.{AreActive, ArePending, IsTransactionFor};
+ghost use Rattle.um_graph.specs.Graph.{IsNumberOf};
+ghost use Rattle.um_jobs.specs.Named.{jobs_by};
 ghost use Rattle.um_model.specs.Machine as model;
-ghost use Rattle.um_model.specs.Machine.{IsHeldOr, scene_at};
+ghost use Rattle.um_model.specs.Machine.{IsHeldOr};
 ghost use Rattle.um_model.specs.Service.{active_state_of, state_of_unit};
 ghost use Rattle.um_state.specs.View.{state_of};
 ghost use Rattle.um_model.specs.Units.{load as load_in};
-ghost use Rattle.um_transact.specs.Scene.{IsAccepted, IsRefused};
 ghost use Rattle.um_wire.specs.Gives.{RefusesBy};
-ghost use Rattle.um_wire.specs.Refusal.{refused_of};
-ghost use Rattle.um_wire.specs.declared.refusal.Refusal.TheVariants.{NoMemory};
 
 use crate::jobs::demand_of;
 use crate::known::Known;
+use crate::numbered::{jobs_named, pending_by_number};
 use crate::served::Served;
 use std::alloc::{AllocError, Global};
 use std::rc::Rc;
 use um_answer::{Asked, check_missing};
 use um_graph::Graph;
+use um_jobs::Jobs;
 use um_model::{ActiveState, Demand, JobMode, UnitJobs, UnitVerb};
 use um_name::UnitName;
-use um_state::{Pending, State};
-use um_transact::{Plan, build};
+use um_state::State;
+use um_transact::{Plan, Transaction};
 use um_wire::Refusal;
 
 /// How active the unit with this number is.
@@ -52,125 +50,68 @@ fn activity(alloc: Global, graph: &Graph, state: &State) -> Result<Vec<ActiveSta
     Ok(activity)
 }
 
-/// The pending jobs of the unit with this number.
-fn jobs_of(graph: &Graph, state: &State, unit: usize) -> UnitJobs
-    ensures { (x : List ℕ) → IsNumberOf graph.now unit x → result ≡ jobs_of_unit (state_of state.now).pending x }
+/// How active the units of a graph are, and their pending jobs, by number.
+#[derive(Drop)]
+struct Situation {
+    activity: Vec<ActiveState>,
+    pending: Vec<UnitJobs>,
+}
+
+/// How the units of the graph stand.
+fn situation_of(alloc: Global, graph: &Graph, state: &State) -> Result<Situation, AllocError>
+    ensures active { IfOk result (λ at. AreActive graph.now (state_of state.now) at.activity.items) }
+    ensures pends { IfOk result (λ at. ArePending graph.now (state_of state.now) at.pending.items) }
 {
-    match graph.name(unit) {
-        Some(name) => state.pending().get(name),
-        None => UnitJobs::NONE,
+    Ok(Situation {
+        activity: activity(alloc, graph, state)?,
+        pending: pending_by_number(alloc, graph, state)?,
+    })
+}
+
+/// The number of a unit of the graph.
+fn number_of(graph: &Graph, unit: &UnitName) -> usize
+    requires { Contains graph.now.names unit.now }
+    ensures { IsNumberOf graph.now result unit.now }
+{
+    match graph.number(unit) {
+        Some(number) => number,
+        None => unreachable!(),
     }
 }
 
-/// The pending jobs of each unit of the graph, by number.
-pub fn pending_by_number(
+/// The transaction for the demand on a unit of the graph.
+fn transaction<'t>(
     alloc: Global,
-    graph: &Graph,
-    state: &State,
-) -> Result<Vec<UnitJobs>, AllocError>
-    ensures graph { IsGraph graph.now }
-    ensures len { IfOk result (λ pending. length pending.items ≡ length graph.now.names) }
-    ensures each { IfOk result (λ pending. ArePending graph.now (state_of state.now) pending.items) }
+    graph: &'t Graph,
+    situation: &'t Situation,
+    demand: Demand,
+    unit: &UnitName,
+) -> Result<Transaction<'t>, AllocError>
+    requires { Contains graph.now.names unit.now }
+    ensures made { IfOk result (λ t. (s : model.State) → IsGraphFor s.loaded (IsHeldOr s unit.now) graph.now → AreActive graph.now s situation.now.activity.items
+        → ArePending graph.now s situation.now.pending.items → IsTransactionFor s (demand, unit.now) t) }
+    ensures graph { IfOk result (λ t. t.graph ≡ graph.now) }
 {
-    let mut pending = Vec::new(alloc);
-    for unit in 0..graph.len() {
-        pending.push(jobs_of(graph, state, unit))?;
-    }
-    Ok(pending)
+    let number = number_of(graph, unit);
+    Transaction::of(
+        alloc,
+        graph,
+        &situation.activity,
+        &situation.pending,
+        demand,
+        number,
+    )
 }
 
-/// Puts the jobs that the plan has for the unit with this number.
-fn put_jobs(
-    pending: &mut Pending,
-    graph: &Graph,
-    plan: &Plan,
-    unit: usize,
-) -> Result<(), AllocError>
-    ensures { OnOk result ((x : List ℕ) → IsNumberOf graph.now unit x → pending.new ≡ with_jobs pending.old x (jobs_at plan.now unit)) }
-{
-    match graph.name(unit) {
-        Some(name) => pending.set(name, plan.jobs(unit)),
-        None => Ok(()),
-    }
-}
-
-/// The jobs of the plan by the names of the units.
-fn jobs_planned(alloc: Global, graph: &Graph, plan: &Plan) -> Result<Pending, AllocError>
+/// The state with the jobs of the plan.
+fn with_plan(alloc: Global, graph: &Graph, state: &State, plan: &Plan) -> Result<State, AllocError>
     requires { length plan.now ≡ length graph.now.names }
-    ensures { IfOk result (λ pending. pending ≡ jobs_by graph.now.names plan.now) }
+    ensures { IfOk result (λ u. state_of u ≡ record (state_of state.now) { pending = jobs_by graph.now.names plan.now }) }
 {
-    let mut pending = Pending::new(alloc);
-    let mut unit = graph.len();
-    while unit > 0 {
-        unit -= 1;
-        put_jobs(&mut pending, graph, plan, unit)?;
-    }
-    Ok(pending)
-}
-
-/// The plan for what is demanded of the unit with this number.
-fn plan_for(
-    alloc: Global,
-    graph: &Graph,
-    state: &State,
-    demand: Demand,
-    unit: usize,
-    mode: JobMode,
-) -> Result<Plan, Refusal>
-    ensures len { IfOk result (λ plan. length plan ≡ length graph.now.names) }
-    ensures accepted { IfOk result (λ plan. (x : List ℕ) → IsNumberOf graph.now unit x
-        → IsGraphFor (state_of state.now).loaded (IsHeldOr (state_of state.now) x) graph.now
-        → IsAccepted (scene_at (state_of state.now) x) (demand, x) mode (jobs_by graph.now.names plan)) }
-    ensures refused { IfErr result (λ e. e ≢ NoMemory → (x : List ℕ) → IsNumberOf graph.now unit x
-        → IsGraphFor (state_of state.now).loaded (IsHeldOr (state_of state.now) x) graph.now
-        → IsRefused (scene_at (state_of state.now) x) (demand, x) mode (refused_of e)) }
-{
-    let activity = activity(alloc, graph, state)?;
-    let pending = pending_by_number(alloc, graph, state)?;
-    build(alloc, graph, &activity, &pending, demand, unit, mode)
-}
-
-/// The state with the plan for what is demanded of the unit.
-fn demanded(
-    alloc: Global,
-    graph: &Graph,
-    state: &State,
-    demand: Demand,
-    unit: &UnitName,
-    mode: JobMode,
-) -> Result<State, Refusal>
-    requires { IsGraphFor (state_of state.now).loaded (IsHeldOr (state_of state.now) unit.now) graph.now }
-    ensures planned { IfOk result (λ u. HasPlan (state_of state.now) (demand, unit.now) mode (state_of u)) }
-    ensures held { IfOk result (λ u. HoldsWithin graph.now (state_of u)) }
-    ensures refused { IfErr result (λ e. e ≢ NoMemory → IsRefused (scene_at (state_of state.now) unit.now) (demand, unit.now) mode (refused_of e)) }
-{
-    let Some(number) = graph.number(unit) else {
-        return Ok(state.copy()?);
-    };
-    let plan = plan_for(alloc, graph, state, demand, number, mode)?;
+    let jobs = Jobs::of(alloc, graph, plan.as_slice())?;
     let mut planned = state.copy()?;
-    planned.set_pending(jobs_planned(alloc, graph, &plan)?);
+    planned.set_pending(jobs_named(alloc, graph, &jobs)?);
     Ok(planned)
-}
-
-/// The state with the plan for what is demanded of the unit, or the same where nothing is demanded.
-fn demanded_or_same(
-    alloc: Global,
-    graph: &Graph,
-    state: &State,
-    demand: Option<Demand>,
-    unit: &UnitName,
-    mode: JobMode,
-) -> Result<State, Refusal>
-    requires { IsGraphFor (state_of state.now).loaded (IsHeldOr (state_of state.now) unit.now) graph.now }
-    ensures obeyed { IfOk result (λ u. Obeys (state_of state.now) demand unit.now mode (state_of u)) }
-    ensures held { IfOk result (λ u. HoldsWithin graph.now (state_of u)) }
-    ensures refused { IfErr result (λ e. e ≢ NoMemory → IsDeclined (state_of state.now) demand unit.now mode (refused_of e)) }
-{
-    let Some(demand) = demand else {
-        return Ok(state.copy()?);
-    };
-    demanded(alloc, graph, state, demand, unit, mode)
 }
 
 /// What a command demands of the unit.
@@ -213,14 +154,14 @@ fn served_after(alloc: Global, changed: State, known: Rc<Known>) -> Result<Serve
     ensures state { IfOk result (λ u. u.state ≡ state_of changed) }
     ensures refused { RefusesBy (model.IsCrowded (state_of changed).loaded (model.IsHeld (state_of changed))) result }
 {
-    if changed.loaded().has_run() {
-        return Served::of(alloc, changed);
+    if known.lasts_for(&changed, None) {
+        return Ok(Served::with(changed, known));
     }
-    Ok(Served::with(changed, known))
+    Served::of(alloc, changed)
 }
 
-/// The state with the plan of a command for a unit. Refused are, in this order, too many known units (E13), one that isn't there
-/// (E7), what `build` refuses, and too many known units with the plan (E13).
+/// The state with the plan of a command for a unit. Refused are, in this order, too many known units with the one that is named, or
+/// with the jobs of the plan (E13), one that isn't there (E7), and what `Transaction::check` refuses.
 pub fn planned(
     alloc: Global,
     served: &Served,
@@ -234,8 +175,16 @@ pub fn planned(
     let state = served.state();
     let Asked { unit, is_found } = Asked::of(alloc, served.known().graph(), state.loaded(), asked)?;
     let known = served.known_with(alloc, &unit)?;
+    let Some(demand) = demand_for(state, verb, &unit) else {
+        check_there(alloc, state, verb, asked, is_found)?;
+        return Ok(Served::with(state.copy()?, served.share_known()?));
+    };
+    let graph = known.graph();
+    let situation = situation_of(alloc, graph, state)?;
+    let transaction = transaction(alloc, graph, &situation, demand, &unit)?;
+    let changed = with_plan(alloc, graph, state, transaction.plan())?;
+    let after = served_after(alloc, changed, known.clone()?)?;
     check_there(alloc, state, verb, asked, is_found)?;
-    let demand = demand_for(state, verb, &unit);
-    let changed = demanded_or_same(alloc, known.graph(), state, demand, &unit, mode)?;
-    served_after(alloc, changed, known)
+    transaction.check(alloc, mode)?;
+    Ok(after)
 }

@@ -101,5 +101,6 @@ pub fn without_failures(
     let mut actions = Vec::new(alloc);
     let graph = served.known().graph();
     reset_all(alloc, graph, &mut state, &mut actions, moment, &units)?;
-    Ok((Served::with(state, served.share_known()?), actions))
+    let known = served.share_known()?;
+    Ok((Served::with(state, known), actions))
 }

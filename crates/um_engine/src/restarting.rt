@@ -9,7 +9,7 @@ ghost use Rattle.um_model.specs.Order.{IsCycle};
 ghost use Rattle.um_model.specs.Plan.{AreFree};
 ghost use Rattle.um_state.specs.View.{state_of};
 
-use crate::planning::pending_by_number;
+use crate::numbered::pending_by_number;
 use std::alloc::{AllocError, Global};
 use um_graph::Graph;
 use um_model::{JobState, UnitJobs};

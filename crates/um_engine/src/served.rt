@@ -1,12 +1,11 @@
 //! A state with what is known of its units.
 
-ghost use Rattle.std.specs.Prelude.{◌≡◌, IfOk, Contains, Some};
+ghost use Rattle.std.specs.Prelude.{◌≡◌, IfOk, Some};
 ghost use Rattle.std.specs.Coded.{codes};
 ghost use Rattle.std.specs.FinMap as maps;
 ghost use Rattle.um_engine.specs.Known.{IsGraphFor, KnowsFor};
 ghost use Rattle.um_engine.specs.Served.{ServedView};
 ghost use Rattle.um_model.specs.Machine.{IsHeld, IsHeldOr, IsCrowded};
-ghost use Rattle.um_model.specs.Servable.{IsFew};
 ghost use Rattle.um_state.specs.View.{state_of};
 ghost use Rattle.um_tree.specs.Code.{tree_code};
 ghost use Rattle.um_wire.specs.Gives.{RefusesBy};
@@ -21,7 +20,7 @@ use um_state::State;
 use um_wire::Refusal;
 
 /// A state and what is known of the units of its loaded tree, all that the state holds among them. States that follow one another
-/// share what is known. No more units are known by it than may be.
+/// share what is known.
 #[derive(Drop)]
 pub struct Served {
     state: State,
@@ -35,7 +34,7 @@ impl Model for Served {
 
     ghost view = { λ s. record { state = state_of s.state; known = s.known.value } };
 
-    ghost invariant = { λ s. KnowsFor s.known.value (state_of s.state) × IsFew (state_of s.state) };
+    ghost invariant = { λ s. KnowsFor s.known.value (state_of s.state) };
 }
 
 impl Served {
@@ -49,10 +48,9 @@ impl Served {
         Ok(Served { state, known })
     }
 
-    /// A state with what is known for it, by which no more units are known than may be.
+    /// A state with what is known for it.
     pub fn with(state: State, known: Rc<Known>) -> Served
-        requires knows { KnowsFor known.value (state_of state) }
-        requires few { IsFew (state_of state) }
+        requires { KnowsFor known.value (state_of state) }
         ensures state { result.state ≡ state_of state }
         ensures known { result.known ≡ known.value }
     {
@@ -64,7 +62,6 @@ impl Served {
         ensures state { state_of result.0 ≡ self.state }
         ensures known { result.1.value ≡ self.known }
         ensures knows { KnowsFor self.known self.state }
-        ensures few { IsFew self.state }
     {
         let Served { state, known } = self;
         (state, known)
@@ -83,7 +80,6 @@ impl Served {
     pub fn state(&self) -> &State
         ensures state { state_of result.now ≡ self.now.state }
         ensures knows { KnowsFor self.now.known self.now.state }
-        ensures few { IsFew self.now.state }
     {
         &self.state
     }
@@ -100,7 +96,6 @@ impl Served {
     pub fn share_known(&self) -> Result<Rc<Known>, AllocError>
         ensures known { IfOk result (λ k. k.value ≡ self.now.known) }
         ensures knows { KnowsFor self.now.known self.now.state }
-        ensures few { IsFew self.now.state }
     {
         self.known.clone()
     }
@@ -108,7 +103,7 @@ impl Served {
     /// What is known of the units and of the one that a command names: the same again where that fits. Refused are too many known
     /// units (E13).
     pub fn known_with(&self, alloc: Global, named: &UnitName) -> Result<Rc<Known>, Refusal>
-        ensures made { IfOk result (λ k. IsGraphFor self.now.state.loaded (Contains k.value.extra) k.value.graph) }
+        ensures knows { IfOk result (λ k. KnowsFor k.value self.now.state) }
         ensures known { IfOk result (λ k. IsGraphFor self.now.state.loaded (IsHeldOr self.now.state named.now) k.value.graph) }
         ensures refused { RefusesBy (IsCrowded self.now.state.loaded (IsHeldOr self.now.state named.now)) result }
     {

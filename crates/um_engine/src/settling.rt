@@ -1,54 +1,56 @@
 ghost use Rattle.um_falling.specs.Carrying.{Adds};
-ghost use Rattle.std.specs.Prelude.{◌≡◌, false, map, Contains, Some, IfOk, IfSome, OnOk, MatchOption};
+ghost use Rattle.std.specs.Prelude.{◌≡◌, false, map, Contains, Some, IfOk, IfSome, OnOk, MatchOption, is_some, true};
 ghost use Rattle.um_engine.specs.Engine.{waits_to_restart, IsDue, NoneIsDue};
-ghost use Rattle.um_engine.specs.Filled.{Tells, is_deactivating, told_of};
-ghost use Rattle.um_falling.specs.Carrying.{KeepsOthers};
+ghost use Rattle.um_engine.specs.Filled.{Tells, told_of};
+ghost use Rattle.um_falling.specs.Carrying.{KeepsOthers, OnlyEnds};
 ghost use Rattle.um_falling.specs.Over.{Serves};
-ghost use Rattle.um_graph.specs.Graph.{IsNumberOf};
-ghost use Rattle.um_model.specs.Jobs.{BeginsNext, Job, state_of_job};
+ghost use Rattle.um_graph.specs.Graph.{GraphView, IsNumberOf};
+ghost use Rattle.um_jobs.specs.Jobs.{with_jobs_at, without_job};
+ghost use Rattle.um_jobs.specs.Named.{jobs_at};
+ghost use Rattle.um_model.specs.Jobs.{BeginsNext, Job, jobs_of_unit, state_of_job};
 ghost use Rattle.um_model.specs.Machine as model;
 ghost use Rattle.um_model.specs.declared.jobs.JobState.TheVariants.{Waiting};
 ghost use Rattle.um_model.specs.Machine.{begun, IsBefore, IsStill};
-ghost use Rattle.um_model.specs.Service.{active_state_of};
 ghost use Rattle.um_state.specs.View.{state_of, action_of};
 
 use crate::jobs::begins;
+use crate::numbered::{is_deactivating, jobs_in};
 use crate::restarting::restart;
 use std::alloc::{AllocError, Global};
 use um_falling::happen;
 use um_graph::Graph;
-use um_jobs::{Jobs, with_running};
-use um_model::{ActiveState, Deadline, JobKind, Moment, SubState, UnitEvent, UnitState};
+use um_jobs::Jobs;
+use um_model::{Deadline, JobKind, JobState, Moment, SubState, UnitEvent, UnitJobs};
 use um_name::UnitName;
 use um_state::{Action, State};
 use um_timer::Timers;
 
-/// Whether the unit counts as deactivating.
-fn is_deactivating(stands: UnitState) -> bool
-    ensures { result ≡ is_deactivating (active_state_of stands.sub) }
+/// Ends the job of this kind of the unit with this number, where nothing of it is left.
+fn end_unless_left(jobs: &mut Jobs<'_>, unit: usize, kind: JobKind, left: Option<JobState>)
+    ensures over { is_some left ≡ false → jobs.new ≡ with_jobs_at jobs.old unit (without_job kind (jobs_at jobs.old.units unit)) }
+    ensures stays { is_some left ≡ true → jobs.new ≡ jobs.old }
 {
-    matches!(stands.sub.active_state(), ActiveState::Deactivating)
-}
-
-/// Tells of the unit with this number and name what the state holds of it.
-fn tell(jobs: &mut Jobs, state: &State, unit: usize, name: &UnitName)
-    ensures { jobs.new ≡ told_of (state_of state.now) unit name.now jobs.old }
-{
-    jobs.set(unit, state.pending().get(name));
-    jobs.hold(unit, is_deactivating(state.units().get(name)));
-}
-
-/// The pending jobs of the graph's units by their numbers, and which of the units count as deactivating.
-fn jobs_in(alloc: Global, graph: &Graph, state: &State) -> Result<Jobs, AllocError>
-    ensures { IfOk result (λ jobs. Tells graph.now (state_of state.now) jobs) }
-{
-    let mut jobs = Jobs::new(alloc, graph.len())?;
-    for unit in 0..graph.len() {
-        if let Some(name) = graph.name(unit) {
-            tell(&mut jobs, state, unit, name);
-        }
+    if left.is_some() {
+        return;
     }
-    Ok(jobs)
+    jobs.finish(unit, kind);
+}
+
+/// Ends those jobs of the unit with this number that aren't left: what is left of each was there before.
+fn end_jobs(jobs: &mut Jobs<'_>, unit: usize, left: UnitJobs)
+    ensures { OnlyEnds (jobs_at jobs.old.units unit) left → jobs.new ≡ with_jobs_at jobs.old unit left }
+{
+    end_unless_left(jobs, unit, JobKind::Stop, left.stop);
+    end_unless_left(jobs, unit, JobKind::Start, left.start);
+}
+
+/// Tells of the unit with this number and name what the state holds of it, where jobs of it have only ended.
+fn tell(jobs: &mut Jobs<'_>, state: &State, unit: usize, name: &UnitName)
+    ensures { OnlyEnds (jobs_at jobs.old.units unit) (jobs_of_unit (state_of state.now).pending name.now)
+        → jobs.new ≡ told_of (state_of state.now) unit name.now jobs.old }
+{
+    end_jobs(jobs, unit, state.pending().get(name));
+    jobs.hold(unit, is_deactivating(state.units().get(name)));
 }
 
 /// A job that begins: its unit's number and name, and what it does.
@@ -60,7 +62,7 @@ struct NextJob {
 }
 
 /// The job that begins next.
-fn next_job(graph: &Graph, jobs: &Jobs) -> Result<Option<NextJob>, AllocError>
+fn next_job(graph: &Graph, jobs: &Jobs<'_>) -> Result<Option<NextJob>, AllocError>
     ensures next { IfOk result (λ next. (s : model.State) → Serves graph.now s → Tells graph.now s jobs.now → MatchOption next
         (IsStill s)
         (λ job. BeginsNext (IsBefore s.loaded) s.units s.pending (record { unit = job.name; kind = job.kind }))) }
@@ -68,7 +70,7 @@ fn next_job(graph: &Graph, jobs: &Jobs) -> Result<Option<NextJob>, AllocError>
         → IfSome next (λ job. (state_of_job s.pending (record { unit = job.name; kind = job.kind }) ≡ Some Waiting))) }
     ensures number { IfOk result (λ next. IfSome next (λ job. IsNumberOf graph.now job.unit job.name)) }
 {
-    let Some((unit, kind)) = jobs.ready(graph) else {
+    let Some((unit, kind)) = jobs.ready() else {
         return Ok(None);
     };
     let Some(name) = graph.name(unit) else {
@@ -79,24 +81,30 @@ fn next_job(graph: &Graph, jobs: &Jobs) -> Result<Option<NextJob>, AllocError>
 }
 
 /// The job runs from now on.
-fn begin_job(state: &mut State, next: &NextJob) -> Result<(), AllocError>
-    ensures { OnOk result (state_of state.new ≡ begun (state_of state.old) (record { unit = next.now.name; kind = next.now.kind })) }
+fn begin_job(jobs: &mut Jobs<'_>, state: &mut State, next: &NextJob) -> Result<(), AllocError>
+    ensures begun { OnOk result ((g : GraphView) → Tells g (state_of state.old) jobs.old → IsNumberOf g next.now.unit next.now.name
+        → state_of state.new ≡ begun (state_of state.old) (record { unit = next.now.name; kind = next.now.kind })) }
+    ensures tells { OnOk result ((g : GraphView) → Tells g (state_of state.old) jobs.old → IsNumberOf g next.now.unit next.now.name
+        → Tells g (state_of state.new) jobs.new) }
 {
-    let jobs = state.pending().get(&next.name);
-    state.set_jobs(&next.name, with_running(next.kind, jobs))
+    jobs.begin(next.unit, next.kind);
+    state.set_jobs(&next.name, jobs.get(next.unit))?;
+    Ok(())
 }
 
 /// Tells anew what the state holds of units, after a job of one of them began: of that one, or of all where others may have changed.
-fn tell_anew(
+fn tell_anew<'g>(
     alloc: Global,
-    graph: &Graph,
-    jobs: &mut Jobs,
+    graph: &'g Graph,
+    jobs: &mut Jobs<'g>,
     state: &State,
     next: &NextJob,
     spreads: bool,
 ) -> Result<(), AllocError>
     ensures { OnOk result ((before : model.State) → Tells graph.now before jobs.old → IsNumberOf graph.now next.now.unit next.now.name
-        → (spreads ≡ false → KeepsOthers next.now.name before (state_of state.now)) → Tells graph.now (state_of state.now) jobs.new) }
+        → (spreads ≡ false → KeepsOthers next.now.name before (state_of state.now)
+        × OnlyEnds (jobs_of_unit before.pending next.now.name) (jobs_of_unit (state_of state.now).pending next.now.name))
+        → Tells graph.now (state_of state.now) jobs.new) }
 {
     if spreads {
         *jobs = jobs_in(alloc, graph, state)?;
@@ -120,7 +128,7 @@ pub fn settle(
 {
     let mut jobs = jobs_in(alloc, graph, state)?;
     'jobs: while let Some(next) = next_job(graph, &jobs)? {
-        begin_job(state, &next)?;
+        begin_job(&mut jobs, state, &next)?;
         let event = begins(next.kind);
         let spreads = happen(alloc, graph, state, actions, moment, &next.name, event)?;
         tell_anew(alloc, graph, &mut jobs, state, &next, spreads)?;

@@ -1,12 +1,13 @@
 -- What happens to a unit is carried out, by what its parts have become.
 use Rattle.um_falling.specs.Carrying.{Adds}
-use Rattle.std.proofs.Common.{◌≡◌, ◌≢◌, ◌∙◌, ℕ, ◌+◌, ◌≤◌, Bool, true, false, List, ◌++◌, Contains, Option, Some, None, unwrap_or, sym, ap, subst, inl, inr, arith, refl, true≢false}
+use Rattle.std.proofs.Common.{◌≡◌, ◌≢◌, ◌⊎◌, ◌∙◌, ℕ, ◌+◌, ◌≤◌, Bool, true, false, List, ◌++◌, Contains, Option, Some, None, unwrap_or, sym, ap, subst, inl, inr, arith, refl, true≢false}
 use Rattle.std.proofs.lemmas.Option.{none-some}
 use Rattle.um_model.specs.Jobs.{AreTidyJobs, jobs_of_unit, jobs_left, start_left, unless_running, with_jobs}
 use Rattle.um_model.specs.Machine as machine
 use Rattle.um_model.specs.Machine.{State, IsHeld, TakesAlong, settings_in, around, alone, along, change_of, changed}
 use Rattle.um_model.specs.Service.{Action, AreTidyUnits, dead_unit, state_of_unit, with_unit}
 use Rattle.um_model.specs.Transitions.{AreActions, HasNumber, spawned}
+use Rattle.um_model.specs.declared.jobs.JobKind.TheVariants.{Stop, Start}
 use Rattle.um_model.specs.declared.jobs.JobState.{JobState}
 use Rattle.um_model.specs.declared.jobs.JobState.TheVariants.{Waiting, Running}
 use Rattle.um_model.specs.declared.jobs.UnitJobs.{UnitJobs}
@@ -19,7 +20,7 @@ use Rattle.um_model.proofs.TimersLaws.{same_name}
 use Rattle.um_model.proofs.UnitLaws.{jobs_apart, jobs_here, state_apart, tidy_jobs, tidy_units}
 use Rattle.um_model.proofs.WaitingLaws.{NoMoreWait, waits, waits_in}
 use Rattle.um_graph.specs.Graph.{GraphView}
-use Rattle.um_falling.specs.Carrying.{ChangesTo, KeepsOthers, fails_start}
+use Rattle.um_falling.specs.Carrying.{ChangesTo, KeepsOthers, OnlyEnds, fails_start}
 use Rattle.um_falling.specs.Over.{Serves}
 use Rattle.um_falling.proofs.AlongLaws.{pending_apart, units_apart}
 
@@ -91,6 +92,28 @@ no_more_left unit start stop_ends s u v w stands next e f g other =
           let now : waits_in (jobs_of_unit w.pending other) ≡ waits_in (jobs_of_unit s.pending other) = ap waits_in (ap (λ p. jobs_of_unit p other) pending ∙ jobs_apart s.pending unit left other apart) in
           omega arith
     ]
+
+-- a job of the unit is left, or is over
+unless_ends : (o : Option JobState) → (unless_running o ≡ o) ⊎ (unless_running o ≡ None)
+unless_ends None = inl refl
+unless_ends (Some Waiting) = inl refl
+unless_ends (Some Running) = inr refl
+
+left_ends : (start : StartJob) (stop_ends : Bool) (j : UnitJobs) → OnlyEnds j (jobs_left start stop_ends j)
+left_ends start true j Stop = unless_ends j.stop
+left_ends start false j Stop = inl refl
+left_ends Stays stop_ends j Start = inl refl
+left_ends Ends stop_ends j Start = unless_ends j.start
+left_ends Fails stop_ends j Start = unless_ends j.start
+
+pub ends_own : (unit : List ℕ) (start : StartJob) (stop_ends : Bool) (s u v w : State) (stands : UnitState) (next : ℕ) → u ≡ record s { units = with_unit s.units unit stands }
+    → v ≡ record u { pending = with_jobs u.pending unit (jobs_left start stop_ends (jobs_of_unit s.pending unit)) } → w ≡ record v { next = next }
+    → OnlyEnds (jobs_of_unit s.pending unit) (jobs_of_unit w.pending unit)
+ends_own unit start stop_ends s u v w stands next e f g =
+    let left = jobs_left start stop_ends (jobs_of_unit s.pending unit) in
+    let pending : w.pending ≡ with_jobs s.pending unit left =
+    ap (λ (x : State). x.pending) g ∙ (ap (λ (x : State). x.pending) f ∙ ap (λ (x : State). with_jobs x.pending unit left) e) in
+    subst (OnlyEnds (jobs_of_unit s.pending unit)) (sym (ap (λ p. jobs_of_unit p unit) pending ∙ jobs_here s.pending unit left)) (left_ends start stop_ends (jobs_of_unit s.pending unit))
 
 pub no_more_then : (u v w : State) → NoMoreWait v.pending u.pending → NoMoreWait w.pending v.pending → NoMoreWait w.pending u.pending
 no_more_then u v w first later unit = omega (arith, first unit, later unit)
@@ -180,6 +203,3 @@ others_kept unit s u v w stands jobs next e f g = record {
 
     units : w.units ≡ with_unit s.units unit stands
     units = ap (λ (x : State). x.units) g ∙ (ap (λ (x : State). x.units) f ∙ ap (λ (x : State). x.units) e)
-
-pub kept_then : (unit : List ℕ) (s u v : State) → KeepsOthers unit s u → KeepsOthers unit u v → KeepsOthers unit s v
-kept_then unit s u v k l = record { jobs = λ x apart. l.jobs x apart ∙ k.jobs x apart; states = λ x apart. l.states x apart ∙ k.states x apart }

@@ -1,5 +1,4 @@
 pub mod Carried
-pub mod Acts
 pub mod AlongLaws
 pub mod FallenLaws
 pub mod FallingLaws

@@ -1,7 +1,7 @@
 -- How a unit acts, as the code holds it: by which settings, and whether it can be started.
 -- Follows the definition of how a unit acts by the loaded tree.
 -- What happens to a unit stands on this file.
-use Rattle.std.specs.Prelude.{Bool, false, Option, is_some}
+use Rattle.std.specs.Prelude.{Bool, Option, is_some}
 use Rattle.std.specs.Option.{option_map_or}
 use Rattle.um_model.specs.Settings.{ServiceSettings, default_settings}
 use Rattle.um_model.specs.Units.{LoadedUnit}
@@ -14,14 +14,10 @@ pub record Acts : Type 0 where
   pub settings : ServiceSettings
   pub loadable : Bool
 
--- a unit that isn't loadable acts as a simple service with default settings
-abbrev pub unloadable : Acts
-unloadable = record { settings = default_settings Simple; loadable = false }
-
--- how a unit acts, by what can be loaded of it
+-- how a unit acts, by what can be loaded of it: one that can't acts as a simple service with default settings
 abbrev pub acts_as : Option LoadedUnit → Acts
 acts_as found = record { settings = option_map_or (λ l. l.settings.service) found (default_settings Simple); loadable = is_some found }
 
 -- the same as the code holds it
 abbrev pub acting_of : Acting → Acts
-acting_of a = record { settings = service_settings_of a.settings.now; loadable = a.loadable }
+acting_of a = record { settings = service_settings_of a.settings.now.value; loadable = a.loadable }

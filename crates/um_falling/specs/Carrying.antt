@@ -1,13 +1,15 @@
 -- What an event makes of its unit and the unit's jobs, before a failed start takes others along, and with these.
 -- Follows the definition of what is carried out: it is the part of it that concerns the unit itself.
 -- Carrying out stands on this file.
-use Rattle.std.specs.Prelude.{◌≡◌, ◌≢◌, ℕ, Bool, true, false, List, ◌++◌, Option, Some}
-use Rattle.um_model.specs.Jobs.{AreTidyJobs, jobs_of_unit}
+use Rattle.std.specs.Prelude.{◌≡◌, ◌≢◌, ◌⊎◌, ℕ, Bool, true, false, List, ◌++◌, Option, Some, None}
+use Rattle.um_model.specs.Jobs.{AreTidyJobs, job_of, jobs_of_unit}
 use Rattle.um_model.specs.Machine.{State, settings_in, around, change_of, changed}
 use Rattle.um_model.specs.Service.{Action, AreTidyUnits, state_of_unit}
 use Rattle.um_model.specs.Transitions.{AreActions}
+use Rattle.um_model.specs.declared.jobs.JobKind.{JobKind}
 use Rattle.um_model.specs.declared.jobs.JobState.{JobState}
 use Rattle.um_model.specs.declared.jobs.JobState.TheVariants.{Running}
+use Rattle.um_model.specs.declared.jobs.UnitJobs.{UnitJobs}
 use Rattle.um_model.specs.declared.transition.StartJob.{StartJob}
 use Rattle.um_model.specs.declared.transition.StartJob.TheVariants.{Fails}
 use Rattle.um_model.specs.declared.transition.UnitEvent.{UnitEvent}
@@ -32,6 +34,10 @@ pub record ChangesTo (t : ℕ) (unit : List ℕ) (event : UnitEvent) (s : State)
 pub record KeepsOthers (unit : List ℕ) (s s' : State) : Type 0 where
   pub jobs : (x : List ℕ) → x ≢ unit → jobs_of_unit s'.pending x ≡ jobs_of_unit s.pending x
   pub states : (x : List ℕ) → x ≢ unit → state_of_unit s'.units x ≡ state_of_unit s.units x
+
+-- of one unit's jobs each is as it was, or is over
+abbrev pub OnlyEnds : UnitJobs → UnitJobs → Type 0
+OnlyEnds before after = (kind : JobKind) → (job_of kind after ≡ job_of kind before) ⊎ (job_of kind after ≡ None)
 
 -- what the relation has of actions and of the state behind them is behind the actions that are there
 abbrev pub Adds : (List Action → State → Type 0) → List Action → State → List Action → Type 0

@@ -10,17 +10,19 @@ ghost use Rattle.um_model.specs.declared.transition.UnitKind.TheVariants.{Simple
 ghost use Rattle.um_unit.specs.ServiceView.{service_settings_of};
 ghost use Rattle.um_unit.specs.View.{loading_of, unit_of};
 
+use std::rc::Rc;
 use um_graph::Graph;
+use um_model::UnitKind;
 use um_name::UnitName;
 use um_unit::{LoadedUnit, Loading, ServiceSettings};
 
 /// What the service table knows of a unit.
 #[derive(Clone, Copy)]
-pub struct Acting<'g> {
+pub(crate) struct Acting<'g> {
     /// Those that the unit acts by.
-    pub settings: &'g ServiceSettings,
+    pub(crate) settings: &'g Rc<ServiceSettings>,
     /// It can be started: it is found, has no refused setting and is no template.
-    pub loadable: bool,
+    pub(crate) loadable: bool,
 }
 
 /// What became of the look for the unit, where it is one of the graph.
@@ -31,57 +33,58 @@ fn loading<'g>(graph: &'g Graph, unit: &UnitName) -> Option<&'g Loading>
     graph.loading(graph.number(unit)?)
 }
 
+/// The unit, if it can be started: it is found and is no template.
+fn loadable(loading: &Loading) -> Option<&LoadedUnit>
+    ensures { option_map (λ unit. unit_of unit.now) result ≡ loadable_of (loading_of loading.now) }
+{
+    match loading {
+        Loading::Found(unit) if !unit.name.is_template() => Some(unit),
+        _ => None,
+    }
+}
+
+/// The unit of the graph, if it can be started.
+fn loadable_in<'g>(graph: &'g Graph, unit: &UnitName) -> Option<&'g LoadedUnit>
+    ensures { (s : model.State) → Serves graph.now s → Contains graph.now.names unit.now
+        → option_map (λ unit. unit_of unit.now) result ≡ loadable_in s.loaded unit.now }
+{
+    loadable(loading(graph, unit)?)
+}
+
+/// The kind of service that a unit of the graph acts as: its own, and simple where it can't be started.
+pub fn kind_in(graph: &Graph, unit: &UnitName) -> UnitKind
+    ensures { (s : model.State) → Serves graph.now s → Contains graph.now.names unit.now
+        → result ≡ (model.settings_in s.loaded unit.now).kind }
+{
+    match loadable_in(graph, unit) {
+        Some(unit) => unit.settings.service.kind,
+        None => UnitKind::Simple,
+    }
+}
+
 impl<'g> Acting<'g> {
-    ghost use Rattle.um_falling.specs.Acting.{acting_of, acts_as, unloadable};
+    ghost use Rattle.um_falling.specs.Acting.{acting_of, acts_as};
 
-    /// A unit that isn't loadable: it acts as a simple service with default settings.
-    fn unloadable(defaults: &'g ServiceSettings) -> Acting<'g>
-        requires { service_settings_of defaults.now ≡ default_settings Simple }
-        ensures { acting_of result ≡ unloadable }
-    {
-        Acting {
-            settings: defaults,
-            loadable: false,
-        }
-    }
-
-    /// How a unit acts that was found: a template isn't loadable.
-    fn of_found(found: &'g LoadedUnit, defaults: &'g ServiceSettings) -> Acting<'g>
-        requires { service_settings_of defaults.now ≡ default_settings Simple }
-        ensures { acting_of result ≡ acts_as (loadable_of (units.Found (unit_of found.now))) }
-    {
-        if found.name.is_template() {
-            return Acting::unloadable(defaults);
-        }
-        Acting {
-            settings: &found.settings.service,
-            loadable: true,
-        }
-    }
-
-    /// How a unit acts, by what was found of it.
-    fn of(loading: &'g Loading, defaults: &'g ServiceSettings) -> Acting<'g>
-        requires { service_settings_of defaults.now ≡ default_settings Simple }
-        ensures { acting_of result ≡ acts_as (loadable_of (loading_of loading.now)) }
-    {
-        match loading {
-            Loading::Found(found) => Acting::of_found(found, defaults),
-            Loading::Masked { .. } => Acting::unloadable(defaults),
-            Loading::NotFound => Acting::unloadable(defaults),
-            Loading::BadSetting { .. } => Acting::unloadable(defaults),
-        }
-    }
-
-    /// How a unit of the graph acts. One that isn't loadable acts as a simple service with default settings, and so does one that the
-    /// graph doesn't have.
-    pub fn in_graph(graph: &'g Graph, unit: &UnitName, defaults: &'g ServiceSettings) -> Acting<'g>
-        requires { service_settings_of defaults.now ≡ default_settings Simple }
+    /// How a unit of the graph acts. One that can't be started acts as a simple service with default settings, and so does one that
+    /// the graph doesn't have.
+    pub(crate) fn in_graph(
+        graph: &'g Graph,
+        unit: &UnitName,
+        defaults: &'g Rc<ServiceSettings>,
+    ) -> Acting<'g>
+        requires { service_settings_of defaults.now.value ≡ default_settings Simple }
         ensures { (s : model.State) → Serves graph.now s → Contains graph.now.names unit.now
             → acting_of result ≡ acts_as (loadable_in s.loaded unit.now) }
     {
-        match loading(graph, unit) {
-            Some(loading) => Acting::of(loading, defaults),
-            None => Acting::unloadable(defaults),
+        match loadable_in(graph, unit) {
+            Some(unit) => Acting {
+                settings: &unit.settings.service,
+                loadable: true,
+            },
+            None => Acting {
+                settings: defaults,
+                loadable: false,
+            },
         }
     }
 }

@@ -1,9 +1,10 @@
 ghost use Rattle.um_falling.specs.Carrying.{Adds};
 ghost use Rattle.std.specs.Prelude.{◌≡◌, false, Contains, map, IfOk, OnOk};
-ghost use Rattle.um_falling.specs.Carrying.{ChangesTo, KeepsOthers, fails_start};
+ghost use Rattle.um_falling.specs.Carrying.{ChangesTo, KeepsOthers, OnlyEnds, fails_start};
 ghost use Rattle.um_falling.specs.Falling.{StopsOne};
 ghost use Rattle.um_falling.specs.Over.{Serves};
 ghost use Rattle.um_model.proofs.WaitingLaws.{NoMoreWait};
+ghost use Rattle.um_model.specs.Jobs.{jobs_of_unit};
 ghost use Rattle.um_model.specs.Machine as model;
 ghost use Rattle.um_model.specs.declared.transition.UnitEvent.TheVariants.{BoundStop};
 ghost use Rattle.um_state.specs.View.{state_of, action_of};
@@ -11,6 +12,7 @@ ghost use Rattle.um_state.specs.View.{state_of, action_of};
 use crate::acting::Acting;
 use crate::along::take_along;
 use std::alloc::{AllocError, Global};
+use std::rc::Rc;
 use um_graph::Graph;
 use um_jobs::{is_waiting, jobs_left};
 use um_model::{Around, JobState, Moment, StartJob, UnitEvent, UnitKind};
@@ -41,9 +43,10 @@ fn change(
         → ChangesTo moment unit.now event (state_of state.old) (map action_of actions.old.items) fails (state_of state.new) (map action_of actions.new.items)) }
     ensures waits { OnOk result (NoMoreWait (state_of state.new).pending (state_of state.old).pending) }
     ensures others { OnOk result (KeepsOthers unit.now (state_of state.old) (state_of state.new)) }
+    ensures ends { OnOk result (OnlyEnds (jobs_of_unit (state_of state.old).pending unit.now) (jobs_of_unit (state_of state.new).pending unit.now)) }
     ensures stops { OnOk result (event ≡ BoundStop → StopsOne unit.now (state_of state.old) (state_of state.new)) }
 {
-    let defaults = ServiceSettings::new(alloc, UnitKind::Simple);
+    let defaults = Rc::new(alloc, ServiceSettings::new(alloc, UnitKind::Simple))?;
     let acting = Acting::in_graph(graph, unit, &defaults);
     let jobs = state.pending().get(unit);
     let around = Around {
@@ -78,6 +81,8 @@ pub fn carry(
         × Serves graph.now (state_of state.new)) }
     ensures waits { OnOk result (NoMoreWait (state_of state.new).pending (state_of state.old).pending) }
     ensures others { IfOk result (λ fails. fails ≡ false → KeepsOthers unit.now (state_of state.old) (state_of state.new)) }
+    ensures ends { IfOk result (λ fails. fails ≡ false
+        → OnlyEnds (jobs_of_unit (state_of state.old).pending unit.now) (jobs_of_unit (state_of state.new).pending unit.now)) }
     ensures stops { OnOk result (event ≡ BoundStop → StopsOne unit.now (state_of state.old) (state_of state.new)) }
 {
     let fails = change(alloc, graph, state, actions, moment, unit, event)?;

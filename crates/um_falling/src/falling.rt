@@ -3,13 +3,14 @@
 
 ghost use Rattle.um_falling.specs.Carrying.{Adds};
 ghost use Rattle.std.specs.Prelude.{◌≡◌, ◌++◌, ℕ, List, [], false, map, Contains, IfOk, OnOk, slice_get};
-ghost use Rattle.um_falling.specs.Carrying.{KeepsOthers};
+ghost use Rattle.um_falling.specs.Carrying.{KeepsOthers, OnlyEnds};
 ghost use Rattle.um_falling.specs.Falling as falls;
 ghost use Rattle.um_falling.specs.Falling.{AddsFalling, AreNamed, StopsIf, StopsOne, falling_from, goes, sub_of};
 ghost use Rattle.um_falling.specs.Over.{Serves};
 ghost use Rattle.um_graph.specs.Graph.{IsGraph, IsNumberOf};
 ghost use Rattle.um_model.proofs.FallTotal.{comes_to_rest};
 ghost use Rattle.um_model.proofs.WaitingLaws.{NoMoreWait};
+ghost use Rattle.um_model.specs.Jobs.{jobs_of_unit};
 ghost use Rattle.um_model.specs.Machine as model;
 ghost use Rattle.um_model.specs.declared.transition.UnitEvent.TheVariants.{BoundStop};
 ghost use Rattle.um_state.specs.View.{state_of, action_of};
@@ -122,6 +123,8 @@ fn carry_on(
     ensures adds { OnOk result (AddsFalling graph.now (state_of state.new) (sub_of (state_of state.old) unit.now) unit.now list.old.items list.new.items) }
     ensures waits { OnOk result (NoMoreWait (state_of state.new).pending (state_of state.old).pending) }
     ensures others { IfOk result (λ fails. fails ≡ false → KeepsOthers unit.now (state_of state.old) (state_of state.new)) }
+    ensures ends { IfOk result (λ fails. fails ≡ false
+        → OnlyEnds (jobs_of_unit (state_of state.old).pending unit.now) (jobs_of_unit (state_of state.new).pending unit.now)) }
     ensures stops { OnOk result (event ≡ BoundStop → StopsOne unit.now (state_of state.old) (state_of state.new)) }
 {
     let before = state.units().get(unit).sub;
@@ -194,6 +197,8 @@ pub fn happen(
         × Serves graph.now (state_of state.new)) }
     ensures waits { OnOk result (NoMoreWait (state_of state.new).pending (state_of state.old).pending) }
     ensures others { IfOk result (λ spreads. spreads ≡ false → KeepsOthers unit.now (state_of state.old) (state_of state.new)) }
+    ensures ends { IfOk result (λ spreads. spreads ≡ false
+        → OnlyEnds (jobs_of_unit (state_of state.old).pending unit.now) (jobs_of_unit (state_of state.new).pending unit.now)) }
 {
     let mut list = VecDeque::new(alloc);
     let fails = carry_on(alloc, graph, state, actions, &mut list, moment, unit, event)?;

@@ -7,5 +7,5 @@ mod along;
 mod carrying;
 mod falling;
 
-pub use acting::Acting;
+pub use acting::kind_in;
 pub use falling::happen;

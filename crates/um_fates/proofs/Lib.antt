@@ -1,3 +1,4 @@
 pub mod Hearing
+pub mod Indexing
 pub mod Marking
 pub mod Numbered

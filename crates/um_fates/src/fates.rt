@@ -18,10 +18,7 @@ pub fn put(inputs: &mut Vec<Input>, input: Input)
     ensures len { vec_len inputs.new ≡ vec_len inputs.old + 1 }
     ensures capacity { vec_capacity inputs.old ≤ vec_capacity inputs.new }
 {
-    match inputs.push(input) {
-        Ok(()) => {}
-        Err(_) => unreachable!(),
-    }
+    inputs.push_reserved(input);
 }
 
 fn ended(moment: Moment, number: ProcessNumber, end: End) -> Input

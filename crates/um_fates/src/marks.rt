@@ -1,13 +1,16 @@
 //! The numbers whose fate is asked with a claim.
 
 ghost use Rattle.std.specs.Prelude.{◌≡◌, ◌||◌, ◌+◌, ◌≤◌, ◌++◌, ◌∷◌, [], ℕ, List};
-ghost use Rattle.std.specs.Prelude.{true, false, nat_lt, if◌then◌else◌, length, filter, vec_len, vec_capacity, IfOk};
+ghost use Rattle.std.specs.Prelude.{true, false, nat_lt, if◌then◌else◌, length, filter, vec_len, vec_capacity, IfOk, IfSome};
+ghost use Rattle.std.specs.BTreeSet as sets;
+ghost use Rattle.std.specs.Ordering.{nat_cmp};
 ghost use Rattle.std.specs.List.{list_all};
 ghost use Rattle.um_model.specs.StateSpellings.{are_distinct};
 ghost use Rattle.um_fates.specs.Live.{has, is_live, HasFewLive};
 
 use crate::live::is_live;
 use std::alloc::{AllocError, Global};
+use std::collections::BTreeSet;
 use std::marker::Model;
 use std::mem;
 use um_model::ProcessNumber;
@@ -22,10 +25,15 @@ const MOST_LIVE: usize = 2048;
 pub struct Marks {
     numbers: Vec<ProcessNumber>,
     spare: Vec<ProcessNumber>,
+    /// The same numbers, found without a look at each of them.
+    index: BTreeSet<u64>,
+    /// The index isn't kept any more, since it found no memory or numbers were forgotten: they are looked through.
+    is_plain: bool,
     ghost room: { 2048 ≤ vec_capacity numbers },
     ghost spare_room: { 2048 ≤ vec_capacity spare },
     ghost fits: { vec_len numbers ≤ vec_capacity spare },
     ghost once: { are_distinct numbers.items ≡ true },
+    ghost indexed: { is_plain ≡ false → (n : ℕ) → sets.contains nat_cmp index n ≡ has n numbers.items },
 }
 
 impl Model for Marks {
@@ -48,16 +56,13 @@ fn is_among(numbers: &[ProcessNumber], number: ProcessNumber) -> bool
 /// Notes each of these numbers that is live.
 fn pick_live(numbers: &[ProcessNumber], units: &Units, picked: &mut Vec<ProcessNumber>)
     requires { vec_len picked.old + length numbers.now ≤ vec_capacity picked.old }
-    ensures items { picked.new.items ≡ picked.old.items ++ filter (is_live units.now) numbers.now }
+    ensures items { picked.new.items ≡ picked.old.items ++ filter (is_live units.now.held) numbers.now }
     ensures len { vec_len picked.new ≤ vec_len picked.old + length numbers.now }
     ensures capacity { vec_capacity picked.old ≤ vec_capacity picked.new }
 {
     for number in numbers {
         if is_live(units, *number) {
-            match picked.push(*number) {
-                Ok(()) => {}
-                Err(_) => unreachable!(),
-            }
+            picked.push_reserved(*number);
         }
     }
 }
@@ -75,10 +80,30 @@ fn note(noted: &mut Vec<ProcessNumber>, number: ProcessNumber)
     if is_among(noted.as_slice(), number) {
         return;
     }
-    match noted.push(number) {
-        Ok(()) => {}
-        Err(_) => unreachable!(),
+    noted.push_reserved(number);
+}
+
+/// Adds the number to an index. False where there is no memory for it.
+fn enter(index: &mut BTreeSet<u64>, number: ProcessNumber) -> bool
+    ensures { result ≡ true → (n : ℕ) → sets.contains nat_cmp index.new n ≡ (sets.contains nat_cmp index.old n || has n (number ∷ [])) }
+{
+    match index.insert(number.get()) {
+        Ok(_) => true,
+        Err(_) => false,
     }
+}
+
+/// The index of these numbers; None where there is no memory for it.
+fn index_of(alloc: Global, numbers: &[ProcessNumber]) -> Option<BTreeSet<u64>>
+    ensures { IfSome result (λ index. (n : ℕ) → sets.contains nat_cmp index n ≡ has n numbers.now) }
+{
+    let mut index = BTreeSet::new(alloc);
+    for number in numbers {
+        if !enter(&mut index, *number) {
+            return None;
+        }
+    }
+    Some(index)
 }
 
 impl Marks {
@@ -96,25 +121,39 @@ impl Marks {
         for number in numbers {
             note(&mut noted, *number);
         }
-        Ok(Marks {
-            numbers: noted,
-            spare,
-        })
+        match index_of(alloc, noted.as_slice()) {
+            Some(index) => Ok(Marks {
+                numbers: noted,
+                spare,
+                index,
+                is_plain: false,
+            }),
+            None => Ok(Marks {
+                numbers: noted,
+                spare,
+                index: BTreeSet::new(alloc),
+                is_plain: true,
+            }),
+        }
     }
 
     /// Whether it is marked.
     pub fn contains(&self, number: ProcessNumber) -> bool
         ensures { result ≡ has number self.now }
     {
-        is_among(self.numbers.as_slice(), number)
+        if self.is_plain {
+            return is_among(self.numbers.as_slice(), number);
+        }
+        self.index.contains(&number.get())
     }
 
     /// No number that isn't live stays marked.
     #[tactic(auto, using(crate::proofs::Marking::distinct_filter))]
     fn forget_others(&mut self, units: &Units)
-        ensures same { self.new ≡ filter (is_live units.now) self.old }
+        ensures same { self.new ≡ filter (is_live units.now.held) self.old }
         ensures once { are_distinct self.new ≡ true }
     {
+        self.is_plain = true;
         self.spare.clear();
         pick_live(self.numbers.as_slice(), units, &mut self.spare);
         mem::swap(&mut self.numbers, &mut self.spare);
@@ -122,9 +161,9 @@ impl Marks {
 
     /// Where there is no more room, the numbers that aren't live go.
     fn make_room(&mut self, units: &Units)
-        ensures live { (n : ℕ) → is_live units.now n ≡ true → has n self.new ≡ has n self.old }
+        ensures live { (n : ℕ) → is_live units.now.held n ≡ true → has n self.new ≡ has n self.old }
         ensures none { (n : ℕ) → has n self.old ≡ false → has n self.new ≡ false }
-        ensures full { 2048 ≤ length self.new → list_all (is_live units.now) self.new ≡ true }
+        ensures full { 2048 ≤ length self.new → list_all (is_live units.now.held) self.new ≡ true }
         ensures once { are_distinct self.new ≡ true }
     {
         if self.numbers.len() >= MOST_LIVE {
@@ -139,16 +178,17 @@ impl Marks {
         ensures { self.new ≡ (if nat_lt (length self.old) 2048 then self.old ++ number ∷ [] else self.old) }
     {
         if self.numbers.len() < MOST_LIVE {
-            match self.numbers.push(number) {
-                Ok(()) => {}
-                Err(_) => unreachable!(),
+            self.numbers.push_reserved(number);
+            if !enter(&mut self.index, number) {
+                self.is_plain = true;
             }
         }
     }
 
-    /// Marks a number. Where there is no more room those that aren't live go first. It takes no memory.
+    /// Marks a number. Where there is no more room those that aren't live go first. Where there is no memory for its index the marks are looked
+    /// through from then on.
     pub fn mark(&mut self, number: ProcessNumber, units: &Units)
-        ensures { HasFewLive units.now → (n : ℕ) → is_live units.now n ≡ true → has n self.new ≡ (has n self.old || has n (number ∷ [])) }
+        ensures { HasFewLive units.now.held → (n : ℕ) → is_live units.now.held n ≡ true → has n self.new ≡ (has n self.old || has n (number ∷ [])) }
     {
         if self.contains(number) {
             return;

@@ -80,12 +80,12 @@ impl Moments for FakeMoments {
     }
 }
 
-/// The moment that the system's clock tells; the first one where it tells none, as before 1970 and from 2^62 microseconds after that on.
+/// The moment that the system's clock tells; the first one where it tells none, as before 1970 and past 2^62 microseconds after that.
 pub fn system_moment<R: Clock>(rt: &R) -> Moment {
     told(rt).unwrap_or(Moment::FIRST)
 }
 
-/// The moment that the system tells; none before 1970, from 2^62 microseconds on, and where it tells none.
+/// The moment that the system tells; none before 1970, past 2^62 microseconds, and where it tells none.
 fn told<R: Clock>(rt: &R) -> Option<Moment> {
     let now = SystemTime::now(rt).ok()?;
     let since = now.duration_since(UNIX_EPOCH).ok()?;

@@ -1,19 +1,19 @@
 -- The units joined by all that was told are the graph of the tree.
-use Rattle.std.proofs.Common.{◌≡◌, ◌≢◌, ◌⊎◌, ◌∙◌, ◌↔◌, ◌<◌, ◌&&◌, ℕ, zero, suc, Bool, true, false, not, List, [], ◌∷◌, length, map, get_or, All, AllPairs, Contains, Option, Some, None, option_map, slice_get, Ordering, refl, sym, ap, subst, inl, inr, arith}
+use Rattle.std.proofs.Common.{◌≡◌, ◌≢◌, ◌⊎◌, ◌∙◌, ◌↔◌, ◌<◌, ◌≤◌, ◌&&◌, ℕ, zero, suc, Bool, true, false, not, List, [], ◌∷◌, length, map, get_or, All, AllPairs, Contains, Option, Some, None, option_map, slice_get, Ordering, refl, sym, ap, subst, inl, inr, arith}
 use Rattle.std.specs.BTreeMap as tied
 use Rattle.std.specs.Cmp.Lexicographic.{slice_cmp, nat_list_cmp_total}
 use Rattle.std.specs.List.{flat_map}
 use Rattle.std.specs.Map.{keys_of, values_of}
 use Rattle.std.specs.Ordering.{nat_cmp}
-use Rattle.std.proofs.lemmas.Bool.{and_parts}
+use Rattle.std.proofs.lemmas.Bool.{and_parts, cases_lt}
 use Rattle.std.proofs.lemmas.List.{length-map}
-use Rattle.std.proofs.lemmas.List.Elements.{All-map, Contains-append_left, Contains-append_right, Contains-append_cases}
+use Rattle.std.proofs.lemmas.List.Elements.{All-map, Contains-get_or, Contains-append_left, Contains-append_right, Contains-append_cases}
 use Rattle.std.proofs.lemmas.Map.Entries.{btree_map_get_place}
 use Rattle.std.proofs.lemmas.Map.Keys.{Less-from_sorted}
 use Rattle.std.proofs.lemmas.Map.Lookups.{exact_bytes}
 use Rattle.std.proofs.lemmas.Map.Views.{btree_map_contains_key_iff}
 use Rattle.std.proofs.lemmas.Option.{slice_get-get_or, slice_get-map}
-use Rattle.um_model.specs.Dependencies.{Declares, Declines, Depends as DependsOn, Gives, IsDeclared, IsKnown, Orders, Precedes, PullsIn, loadable_in, loadable_of}
+use Rattle.um_model.specs.Dependencies.{Declares, Declines, Depends as DependsOn, Gives, IsDeclared, IsKnown, KnowsTooMany, Orders, Precedes, PullsIn, loadable_in, loadable_of, unit_limit}
 use Rattle.um_model.specs.Resolution.{shutdown_target}
 use Rattle.um_model.specs.Dependencies as model
 use Rattle.um_model.specs.Least.{IsNamedBefore}
@@ -25,7 +25,7 @@ use Rattle.um_model.specs.declared.dependencies.DependencyKind.TheVariants as ki
 use Rattle.um_model.proofs.KnownLaws.{is_target, target_suffix}
 use Rattle.um_unit.specs.View.{loading_of}
 use Rattle.um_graph.specs.Edges.{AreUnits, comes_after, comes_after_by, declines, declines_by, edge, edge_between, edge_bonds, edge_seen, edges_seen, names_of, number_in, order_seen, pair, pair_bonds, unit_seen}
-use Rattle.um_graph.specs.Graph.{Holds, IsGraph, IsGraphOf, Stands, row_of}
+use Rattle.um_graph.specs.Graph.{AreOnce, Holds, IsGraph, IsGraphOf, Stands, row_of}
 use Rattle.um_graph.specs.Kinds.{after_bit, before_bit, bit_of, has, inverse_bit_of}
 use Rattle.um_graph.specs.Known.{IsFollowed, IsTold, IsUnderWay, Loaded, by_link, by_unit}
 use Rattle.um_graph.specs.Rows.{Bond, IsRow, Joins, entries_at, entries_of, found_or_new}
@@ -42,7 +42,8 @@ use Rattle.um_graph.proofs.BondLaws as bonds
 use Rattle.um_graph.proofs.BondLaws.{FromEdge, FromOrder, FromPair, between_in, between_out, bit_small, edge_bond_out, inverse_between, order_out, pair_bond_out, same_inverse, same_kind}
 use Rattle.um_graph.proofs.KnownLaws.{all_followed, gives_in}
 use Rattle.um_graph.proofs.ListLaws.{contains_flat, flat_contains}
-use Rattle.um_graph.proofs.NumberLaws.{number_found, number_of}
+use Rattle.um_graph.proofs.NumberLaws.{not_before_itself, number_found, number_of}
+use Rattle.um_graph.proofs.OnceLaws.{once_of}
 use Rattle.um_graph.proofs.RowLaws.{kind_found, kind_held}
 use Rattle.um_graph.proofs.TellLaws.{declares_told, ends_told, link_depends, link_gives, told_declares, told_ends, told_gives}
 
@@ -445,8 +446,24 @@ module _ (tree : Tree) (extra : List (List ℕ)) (loaded : Loaded) (told : List 
       rowed = rows_long;
     }
 
-    pub graph_sound : (count : ℕ) → IsGraph (graph_of units count)
-    graph_sound count = record {
+    once : (x : ℕ) → AreOnce (row_of (map (λ (u : Unit). values_of u.row.neighbours.entries) units) x)
+    once x = let r = a.joined.rows.rows x in subst AreOnce (sym (row_seen units x)) (once_of (entries_of units x) r.keyed r.unique)
+
+    few_names : ¬ KnowsTooMany tree Extra → length (names_of units) ≤ unit_limit
+    few_names few = elim (cases_lt unit_limit (length (names_of units))) as (λ _. length (names_of units) ≤ unit_limit) [
+      | inl many ↦ absurd (few (record {
+        names = names_of units;
+        known = λ k d lt. (known_iff (get_or (names_of units) k d)).0 (Contains-get_or (names_of units) k d lt);
+        apart = λ i j d lt le e. not_before_itself _ _ (ascend i j d lt le) e;
+        many = many;
+      }))
+      | inr fits ↦ omega arith
+    ]
+
+    pub graph_sound : ¬ KnowsTooMany tree Extra → (count : ℕ) → IsGraph (graph_of units count)
+    graph_sound few count = record {
+      few = few_names few;
+      once = once;
       loaded = length-map units (λ (u : Unit). u.loading) ∙ sym (length-map units (λ (u : Unit). u.name));
       rowed = rows_long;
       sorted = ascend;

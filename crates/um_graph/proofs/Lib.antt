@@ -3,9 +3,11 @@ pub mod CountLaws
 pub mod GraphLaws
 pub mod KnownLaws
 pub mod ListLaws
+pub mod ListedLaws
 pub mod MapLaws
 pub mod NamedLaws
 pub mod NumberLaws
+pub mod OnceLaws
 pub mod RowLaws
 pub mod SettingLaws
 pub mod StandLaws

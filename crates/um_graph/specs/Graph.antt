@@ -1,8 +1,8 @@
 -- What a graph is: names, loadings and rows by the numbers of the units, and when it is the graph of a tree.
 -- Follows the definitions of dependencies: it says them by numbers.
 -- Transactions stand on this file.
-use Rattle.std.specs.Prelude.{◌≡◌, ℕ, ◌<◌, ◌↔◌, true, List, [], length, All, AllPairs, Contains, Option, Some, None, option_map, slice_get}
-use Rattle.um_model.specs.Dependencies.{IsKnown, Depends, Precedes}
+use Rattle.std.specs.Prelude.{◌≡◌, ◌≢◌, ℕ, ◌<◌, ◌≤◌, ◌↔◌, true, List, [], length, All, AllPairs, Contains, Option, Some, None, option_map, slice_get}
+use Rattle.um_model.specs.Dependencies.{IsKnown, Depends, Precedes, unit_limit}
 use Rattle.um_model.specs.Least.{IsNamedBefore}
 use Rattle.um_model.specs.Tree.{Tree}
 use Rattle.um_model.specs.Units.{load}
@@ -38,13 +38,19 @@ row_of rows x = neighbours_or_none (slice_get rows x)
 abbrev pub Stands : List (List Neighbour) → ℕ → ℕ → ℕ → Type 0
 Stands rows bit x y = Holds (row_of rows x) bit y
 
--- there is a row and a loading for each name, the names ascend, each neighbour is one of the units, and each dependency stands in
--- the rows of both units, as the order does
+-- no unit stands in the row twice
+abbrev pub AreOnce : List Neighbour → Type 0
+AreOnce row = AllPairs (λ (m n : Neighbour). m.unit ≢ n.unit) row
+
+-- there is a row and a loading for each name, the names ascend and are no more than units may be known, each neighbour is one of the
+-- units and stands in a row once, and each dependency stands in the rows of both units, as the order does
 pub record IsGraph (g : GraphView) : Type 0 where
   pub loaded : length g.loadings ≡ length g.names
   pub rowed : length g.rows ≡ length g.names
   pub sorted : AllPairs IsNamedBefore g.names
+  pub few : length g.names ≤ unit_limit
   pub within : All (All (λ (n : Neighbour). n.unit < length g.names)) g.rows
+  pub once : (x : ℕ) → AreOnce (row_of g.rows x)
   pub mirrored : (kind : DependencyKind) (i j : ℕ) → Stands g.rows (inverse_bit_of kind) i j ↔ Stands g.rows (bit_of kind) j i
   pub ordered : (i j : ℕ) → Stands g.rows after_bit i j ↔ Stands g.rows before_bit j i
 

@@ -6,3 +6,4 @@ pub mod Rows
 pub mod Edges
 pub mod View
 pub mod Named
+pub mod Listed

@@ -119,18 +119,19 @@ impl Known {
         Ok(())
     }
 
-    /// Follows a name: its unit is loaded, once.
-    fn follow(&mut self, alloc: Global, tree: &Tree, name: UnitName) -> Result<(), AllocError>
+    /// Follows a name: its unit is loaded, once. Tells how many were by then.
+    fn follow(&mut self, alloc: Global, tree: &Tree, name: UnitName) -> Result<usize, AllocError>
         ensures whole { OnOk result ((extra : List (List ℕ)) → IsUnderWay tree.now extra self.old.loaded (self.old.left.items ++ name ∷ []) self.old.told.items
             → IsUnderWay tree.now extra self.new.loaded self.new.left.items self.new.told.items) }
         ensures count { OnOk result (loading_at self.old.loaded name ≡ None
             → btree_map_len self.new.loaded ≡ btree_map_len self.old.loaded + 1) }
         ensures ordered { OnOk result (IsOrdered (slice_cmp nat_cmp) self.new.loaded) }
+        ensures told { IfOk result (λ followed. followed ≡ btree_map_len self.new.loaded) }
     {
         let loading = load(alloc, tree, &name)?;
         self.take_unit(alloc, tree, &loading)?;
         self.loaded.insert(name, loading)?;
-        Ok(())
+        Ok(self.loaded.len())
     }
 
     /// All known units, and what they tell. Refused is a tree by which more than 1,024 units are known (E13 `units`).
@@ -159,12 +160,9 @@ impl Known {
         ensures count { IfOk result (λ k. KnowsSoMany tree.now (Contains extra.now) (btree_map_len k.loaded)) }
     {
         let mut known = Known::begin(alloc, tree, extra)?;
-        for _ in 0..u64::MAX {
-            let Some(name) = known.next() else {
-                return Ok(known);
-            };
+        while let Some(name) = known.next() {
             known.follow(alloc, tree, name)?;
         }
-        Err(AllocError)
+        Ok(known)
     }
 }

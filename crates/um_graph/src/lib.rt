@@ -8,6 +8,7 @@ mod entries;
 mod graph;
 mod kinds;
 mod known;
+mod lists;
 mod row;
 mod told;
 mod units;

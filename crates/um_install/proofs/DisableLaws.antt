@@ -11,7 +11,7 @@ use Rattle.std.proofs.lemmas.Cmp.{tied_itself}
 use Rattle.std.proofs.lemmas.Map.Lookups.{exact_bytes}
 use Rattle.std.proofs.lemmas.Map.Views.{tells_apart}
 use Rattle.std.proofs.lemmas.Slice.Eq.{bytes_eq-Decides}
-use Rattle.um_model.specs.Install.{IsMeant, IsUnlinked, IsDisabled, Installs, disables, RefusesInstall, IsEnabledAs, enabling_of}
+use Rattle.um_model.specs.Install.{IsMeant, IsUnlinked, IsDisabled, Installs, disables, RefusesLinks, IsEnabledAs, enabling_of}
 use Rattle.um_model.specs.Reached.{first, next}
 use Rattle.um_model.specs.Refusals.{Refused, bad_path, unless_refused}
 use Rattle.um_model.specs.Resolution.{unit_in_target}
@@ -265,10 +265,10 @@ module _ (tree : Tree) (asked : List ℕ) (units : Units) (w : AreWalked AsWritt
   installs (Ok t) g = disables (subst (IsDisabled tree asked) (same_ok (taken_out tree paths) t (sym made ∙ g)) disabled_is)
   installs (Err e) g = tt
 
-  no_cause : (r : Refused) → ¬ RefusesInstall tree verbs.Disable asked r
+  no_cause : (r : Refused) → ¬ RefusesLinks tree verbs.Disable asked r
   no_cause r h = elim h [ ]
 
-  pub refuses : (result : Result Tree Refusal) → Gives (λ t. t) result (removed tree paths) → RefusesBy (RefusesInstall tree verbs.Disable asked) result
+  pub refuses : (result : Result Tree Refusal) → Gives (λ t. t) result (removed tree paths) → RefusesBy (RefusesLinks tree verbs.Disable asked) result
   refuses (Ok t) g = no_cause
   refuses (Err e) g = λ differs. absurd (not_both (taken_out tree paths) (refused_of e) (sym made ∙ g differs))
 

@@ -8,7 +8,7 @@ use Rattle.std.specs.Result.{IfOk}
 use Rattle.std.specs.Str.{bytes_eq}
 use Rattle.std.proofs.lemmas.Bool.Decides.{nat_tests}
 use Rattle.std.proofs.lemmas.Option.{none-some}
-use Rattle.um_model.specs.Install.{LinkAt, link_at, linked_name, IsTaken, IsAskedFor, IsEnabled, IsUnfit, IsOccupied, HasTooMany, too_many, CannotEnable, isnt_found, is_masked, has_bad_setting, lacks_instance, IsBarred, Installs, enables, RefusesInstall, enables_none}
+use Rattle.um_model.specs.Install.{LinkAt, link_at, linked_name, IsTaken, IsAskedFor, IsEnabled, IsUnfit, IsOccupied, HasTooMany, too_many, CannotEnable, isnt_found, is_masked, has_bad_setting, lacks_instance, IsBarred, Installs, enables, RefusesLinks, enables_none, RefusesUnits, takes_none}
 use Rattle.um_model.specs.Least.{IsNamedBefore, NamesLeast}
 use Rattle.um_model.specs.Refusals.{Refused, at_first, at_second, bad_path, exists_at, too_large, not_found, masked, bad_setting}
 use Rattle.um_model.specs.Tree.{Tree, IsTree, Link, entry_limit, is_fit_target, is_other_than_link, path_parts}
@@ -95,6 +95,36 @@ module _ (tree : Tree) (asked : List ℕ) (units : Units) (w : AreWalked AsResol
   abbrev es : List (List ℕ × List ℕ)
   es = map.entries targets
 
+  -- ---- units that can't be enabled
+
+  entry_of : (unit : List ℕ) → IsTaken tree asked unit → Contains (map.entries units) (unit, load tree unit)
+  entry_of unit t = get_there units unit (load tree unit) (there tree asked units w unit t)
+
+  pub by_barred : (r : Refused) → RefusesFirst (map.entries units) r → RefusesUnits tree verbs.Enable asked r
+  by_barred r h =
+      let f = first_barred (map.entries units) (rising (map.entries units) (map.entries_sorted units)) r h in
+      let at = there_get units f.e f.inside in
+      let cannot = subst (λ l. CannotEnable f.e.0 l r) (w.loaded f.e.0 f.e.1 at) f.cannot in
+      takes_none
+      (record {
+        name = f.e.0;
+        least = record {
+          has = record { taken = to_taken tree asked f.e.0 (w.walked f.e.0 f.e.1 at); refusal = r; cause = cannot };
+          first = λ other b ne. f.before (other, load tree other) (entry_of other b.taken) b.refusal b.cause ne;
+        };
+        told = cannot;
+      })
+
+  none_barred : ((q : Refused) → ¬ RefusesFirst (map.entries units) q) → (q : Refused) → ¬ RefusesUnits tree verbs.Enable asked q
+  none_barred cans q (takes_none h) =
+      let b = h.least.has in
+      let s = some_first (map.entries units) (h.name, load tree h.name) b.refusal (entry_of h.name b.taken) b.cause in
+      cans s.0 s.1
+
+  pub refuses_units : {X : Type 0} (result : Result X Refusal) → RefusesBy (RefusesFirst (map.entries units)) result → RefusesBy (RefusesUnits tree verbs.Enable asked) result
+  refuses_units (Ok done) none = none_barred none
+  refuses_units (Err e) first = λ differs. by_barred (refused_of e) (first differs)
+
   -- ---- unfit and occupied paths
 
   names_unfit : (o : Option (List ℕ)) (r : Refused) → least_of is_unfit None links ≡ o → Names bad_path o r → NamesLeast (IsUnfit tree asked) (λ path r. r ≡ bad_path path) r
@@ -119,14 +149,14 @@ module _ (tree : Tree) (asked : List ℕ) (units : Units) (w : AreWalked AsResol
   none_occupied : least_of (is_occupied tree targets) None links ≡ None → (q : Refused) → ¬ NamesLeast (IsOccupied tree asked) (λ path r. r ≡ exists_at path) q
   none_occupied n q h = none_has (is_occupied tree targets) links (IsOccupied tree asked) (occupied_in tree asked units w) (occupied_out tree asked units w) n h.name h.least.has
 
-  pub by_unfit : (r : Refused) → Names bad_path (least_of is_unfit None links) r → RefusesInstall tree verbs.Enable asked r
+  pub by_unfit : (r : Refused) → Names bad_path (least_of is_unfit None links) r → RefusesLinks tree verbs.Enable asked r
   by_unfit r h = enables_none (at_first (names_unfit (least_of is_unfit None links) r refl h))
 
   module _ (fits : (q : Refused) → ¬ Names bad_path (least_of is_unfit None links) q) where
     no_unfit : least_of is_unfit None links ≡ None
     no_unfit = none_found bad_path (least_of is_unfit None links) fits
 
-    pub by_occupied : (r : Refused) → Names exists_at (least_of (is_occupied tree targets) None links) r → RefusesInstall tree verbs.Enable asked r
+    pub by_occupied : (r : Refused) → Names exists_at (least_of (is_occupied tree targets) None links) r → RefusesLinks tree verbs.Enable asked r
     by_occupied r h = enables_none (at_second (none_unfit no_unfit) (at_first (names_occupied (least_of (is_occupied tree targets) None links) r refl h)))
 
     module _ (frees : (q : Refused) → ¬ Names exists_at (least_of (is_occupied tree targets) None links) q) where
@@ -193,12 +223,12 @@ module _ (tree : Tree) (asked : List ℕ) (units : Units) (w : AreWalked AsResol
       past : (m n : ℕ) → nat_le n (entry_limit - m) ≡ false → entry_limit < m + n
       past m n e = let f : entry_limit - m < n = grind (arith, nat_tests) in omega (arith, f)
 
-      pub by_room : (r : Refused) → LacksRoom tree targets r → RefusesInstall tree verbs.Enable asked r
+      pub by_room : (r : Refused) → LacksRoom tree targets r → RefusesLinks tree verbs.Enable asked r
       by_room r h =
           enables_none
           (at_second (none_unfit no_unfit) (at_second (none_occupied no_occupied)
-          (at_first (subst (HasTooMany tree asked) (sym h.refusal)
-          (too_many whole (subst (λ n. entry_limit < n) (sym (len_grown tree es rise)) (past (map.len tree) (new_paths tree (map.keys targets)) h.full)))))))
+          (subst (HasTooMany tree asked) (sym h.refusal)
+          (too_many whole (subst (λ n. entry_limit < n) (sym (len_grown tree es rise)) (past (map.len tree) (new_paths tree (map.keys targets)) h.full))))))
 
       module _ (is : IsTree tree) (rooms : (q : Refused) → ¬ LacksRoom tree targets q) where
         room_by : (b : Bool) → has_room tree targets ≡ b → has_room tree targets ≡ true
@@ -217,45 +247,18 @@ module _ (tree : Tree) (asked : List ℕ) (units : Units) (w : AreWalked AsResol
             let f = few in
             omega (arith, l, m, f)
 
-        entry_of : (unit : List ℕ) → IsTaken tree asked unit → Contains (map.entries units) (unit, load tree unit)
-        entry_of unit t = get_there units unit (load tree unit) (there tree asked units w unit t)
+        no_cause : (q : Refused) → ¬ RefusesLinks tree verbs.Enable asked q
+        no_cause q (enables_none (at_first h)) = none_unfit no_unfit q h
+        no_cause q (enables_none (at_second n (at_first h))) = none_occupied no_occupied q h
+        no_cause q (enables_none (at_second n (at_second m h))) = not_too_many q h
 
-        pub by_barred : (r : Refused) → RefusesFirst (map.entries units) r → RefusesInstall tree verbs.Enable asked r
-        by_barred r h =
-            let f = first_barred (map.entries units) (rising (map.entries units) (map.entries_sorted units)) r h in
-            let at = there_get units f.e f.inside in
-            let cannot = subst (λ l. CannotEnable f.e.0 l r) (w.loaded f.e.0 f.e.1 at) f.cannot in
-            enables_none
-            (at_second (none_unfit no_unfit) (at_second (none_occupied no_occupied) (at_second not_too_many
-            (record {
-              name = f.e.0;
-              least = record {
-                has = record { taken = to_taken tree asked f.e.0 (w.walked f.e.0 f.e.1 at); refusal = r; cause = cannot };
-                first = λ other b ne. f.before (other, load tree other) (entry_of other b.taken) b.refusal b.cause ne;
-              };
-              told = cannot;
-            }))))
+        made : linked tree es ≡ Ok (grown tree es)
+        made = all_put tree es rise may few
 
-        module _ (cans : (q : Refused) → ¬ RefusesFirst (map.entries units) q) where
-          none_barred : (q : Refused) → ¬ NamesLeast (IsBarred tree asked) (λ unit r. CannotEnable unit (load tree unit) r) q
-          none_barred q h =
-              let b = h.least.has in
-              let s = some_first (map.entries units) (h.name, load tree h.name) b.refusal (entry_of h.name b.taken) b.cause in
-              cans s.0 s.1
+        pub installs : (result : Result Tree Refusal) → Gives (λ t. t) result (linked tree es) → IfOk result (λ t. Installs tree verbs.Enable asked t)
+        installs (Ok t) g = enables (subst (IsEnabled tree asked) (same_ok (grown tree es) t (sym made ∙ g)) whole)
+        installs (Err e) g = tt
 
-          no_cause : (q : Refused) → ¬ RefusesInstall tree verbs.Enable asked q
-          no_cause q (enables_none (at_first h)) = none_unfit no_unfit q h
-          no_cause q (enables_none (at_second n (at_first h))) = none_occupied no_occupied q h
-          no_cause q (enables_none (at_second n (at_second m (at_first h)))) = not_too_many q h
-          no_cause q (enables_none (at_second n (at_second m (at_second k h)))) = none_barred q h
-
-          made : linked tree es ≡ Ok (grown tree es)
-          made = all_put tree es rise may few
-
-          pub installs : (result : Result Tree Refusal) → Gives (λ t. t) result (linked tree es) → IfOk result (λ t. Installs tree verbs.Enable asked t)
-          installs (Ok t) g = enables (subst (IsEnabled tree asked) (same_ok (grown tree es) t (sym made ∙ g)) whole)
-          installs (Err e) g = tt
-
-          pub refuses : (result : Result Tree Refusal) → Gives (λ t. t) result (linked tree es) → RefusesBy (RefusesInstall tree verbs.Enable asked) result
-          refuses (Ok t) g = no_cause
-          refuses (Err e) g = λ differs. absurd (not_both (grown tree es) (refused_of e) (sym made ∙ g differs))
+        pub refuses : (result : Result Tree Refusal) → Gives (λ t. t) result (linked tree es) → RefusesBy (RefusesLinks tree verbs.Enable asked) result
+        refuses (Ok t) g = no_cause
+        refuses (Err e) g = λ differs. absurd (not_both (grown tree es) (refused_of e) (sym made ∙ g differs))

@@ -10,7 +10,7 @@ use Rattle.std.proofs.lemmas.Bool.{cond-false, cond-true}
 use Rattle.std.proofs.lemmas.Option.{none-some, same_Some}
 use Rattle.std.proofs.lemmas.Slice.Eq.{bytes_eq-Decides}
 use Rattle.um_install.specs.Enabled.{Obeys, IsFoundByName, IsUndone, HasNoAlias}
-use Rattle.um_model.specs.Install.{LinkAt, link_at, install_of, linked_name, path_in_etc, links_to, links_of, IsAlso, IsTaken, IsAskedFor, IsEnabled, IsUnfit, IsMeant, IsUnlinked, IsDisabled, enabling_of, IsEnabledAs, CausesOfEnable, Installs, enables, disables, RefusesInstall, enables_none, IsOccupied, stands, differs, HasTooMany, too_many, CannotEnable, IsBarred, enabling_by, paths_beyond}
+use Rattle.um_model.specs.Install.{LinkAt, link_at, install_of, linked_name, path_in_etc, links_to, links_of, IsAlso, IsTaken, IsAskedFor, IsEnabled, IsUnfit, IsMeant, IsUnlinked, IsDisabled, enabling_of, IsEnabledAs, CausesOfLinks, Installs, enables, disables, RefusesLinks, enables_none, RefusesUnits, takes_none, RefusesInstall, IsOccupied, stands, differs, HasTooMany, too_many, CannotEnable, IsBarred, enabling_by, paths_beyond}
 use Rattle.um_model.specs.Names.{is_unit_name, is_template}
 use Rattle.um_model.specs.Reached.{first, next}
 use Rattle.um_model.specs.Refusals.{Refused, at_first, at_second, too_large}
@@ -133,9 +133,13 @@ module _ (tree : Tree) (asked name file : List ℕ) (l : LoadedUnit) (is : IsLin
 
 -- ---- enabling that isn't refused
 
--- an enabling that is obeyed has no cause against it
-no_cause : (tree : Tree) (asked : List ℕ) (u : Tree) → Obeys tree verbs.Enable asked u → (r : Refused) → ¬ (CausesOfEnable tree asked r)
-no_cause tree asked u obeys r h = obeys.free r (enables_none h)
+-- an enabling that is obeyed has no cause against its links
+no_cause : (tree : Tree) (asked : List ℕ) (u : Tree) → Obeys tree verbs.Enable asked u → (r : Refused) → ¬ (CausesOfLinks tree asked r)
+no_cause tree asked u obeys r h = obeys.free r (at_first (enables_none h))
+
+-- nor against a unit that it takes
+none_refused : (tree : Tree) (asked : List ℕ) (u : Tree) → Obeys tree verbs.Enable asked u → (r : Refused) → ¬ (RefusesUnits tree verbs.Enable asked r)
+none_refused tree asked u obeys r h = obeys.free r (at_second (λ q links. obeys.free q (at_first links)) h)
 
 enabled_by : (tree : Tree) (asked : List ℕ) (u : Tree) → Installs tree verbs.Enable asked u → IsEnabled tree asked u
 enabled_by tree asked u (enables made) = made
@@ -409,7 +413,7 @@ module _ (tree : Tree) (asked : List ℕ) (u : Tree) (is : is_unit_name asked �
 
   open_again : (unit : List ℕ) → ¬ (IsBarred u asked unit)
   open_again unit h =
-      open_of_causes tree asked (no_cause tree asked u obeys) unit
+      open_of_causes tree asked (none_refused tree asked u obeys) unit
       (record {
         taken = taken_as u tree (enabled_loads_as tree asked u no_alias obeys) asked unit is h.taken;
         refusal = h.refusal;
@@ -417,10 +421,10 @@ module _ (tree : Tree) (asked : List ℕ) (u : Tree) (is : is_unit_name asked �
       })
 
   obeyed_again : (r : Refused) → ¬ (RefusesInstall u verbs.Enable asked r)
-  obeyed_again r (enables_none (at_first unfit)) = fit_again unfit.name unfit.least.has
-  obeyed_again r (enables_none (at_second fit (at_first occupied))) = free_again occupied.name occupied.least.has
-  obeyed_again r (enables_none (at_second fit (at_second free (at_first many)))) = few_again r many
-  obeyed_again r (enables_none (at_second fit (at_second free (at_second few barred)))) = open_again barred.name barred.least.has
+  obeyed_again r (at_first (enables_none (at_first unfit))) = fit_again unfit.name unfit.least.has
+  obeyed_again r (at_first (enables_none (at_second fit (at_first occupied)))) = free_again occupied.name occupied.least.has
+  obeyed_again r (at_first (enables_none (at_second fit (at_second free many)))) = few_again r many
+  obeyed_again r (at_second _ (takes_none barred)) = open_again barred.name barred.least.has
 
   pub enable_twice : Obeys u verbs.Enable asked u
   enable_twice = record { free = obeyed_again; makes = enables already }

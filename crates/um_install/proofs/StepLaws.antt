@@ -5,7 +5,7 @@ use Rattle.std.proofs.Math.Seq.{drop-cons}
 use Rattle.std.proofs.lemmas.Bool.Decides.{nat_tests}
 use Rattle.um_model.specs.declared.install.Enabling.TheVariants as enabling
 use Rattle.um_model.specs.Install.{enabling_by}
-use Rattle.um_model.specs.Install.{linked_name, CannotEnable, isnt_found, is_masked, has_bad_setting, lacks_instance, Installs, RefusesInstall, masks, masks_none, unmasks, is_masking, unmasked}
+use Rattle.um_model.specs.Install.{linked_name, CannotEnable, isnt_found, is_masked, has_bad_setting, lacks_instance, Installs, RefusesLinks, masks, masks_none, unmasks, is_masking, unmasked}
 use Rattle.um_model.specs.Refusals.{Refused, not_found, masked, bad_setting, unless_refused}
 use Rattle.um_model.specs.Resolution.{unit_path}
 use Rattle.um_model.specs.Tree.{Tree, Link, link_cause, put_link, remove_at}
@@ -86,20 +86,20 @@ none_first r h = elim h [ ]
 pub masks_to : (tree changed : Tree) (unit path : List ℕ) → path ≡ unit_path Etc unit → put_link tree path (codes "/dev/null") ≡ Ok changed → Installs tree verbs.Mask unit changed
 masks_to tree changed unit path is ok = masks (ap (λ p. put_link tree p (codes "/dev/null")) (sym is) ∙ ok)
 
-pub masks_none_to : (tree : Tree) (unit path : List ℕ) (r : Refused) → path ≡ unit_path Etc unit → put_link tree path (codes "/dev/null") ≡ Err r → RefusesInstall tree verbs.Mask unit r
+pub masks_none_to : (tree : Tree) (unit path : List ℕ) (r : Refused) → path ≡ unit_path Etc unit → put_link tree path (codes "/dev/null") ≡ Err r → RefusesLinks tree verbs.Mask unit r
 masks_none_to tree unit path r is err = masks_none (ap (λ p. put_link tree p (codes "/dev/null")) (sym is) ∙ err)
 
 pub link_refused : (tree : Tree) (path target : List ℕ) (r q : Refused) → link_cause tree path target ≡ Some r → q ≡ r → put_link tree path target ≡ Err q
 unfolding put_link
 link_refused tree path target r q e f = ap (λ o. unless_refused o (map.insert tree path (Link target))) e ∙ ap Err (sym f)
 
-pub free_to_mask : (tree changed : Tree) (unit path : List ℕ) → path ≡ unit_path Etc unit → put_link tree path (codes "/dev/null") ≡ Ok changed → (r : Refused) → RefusesInstall tree verbs.Mask unit r → ⊥
+pub free_to_mask : (tree changed : Tree) (unit path : List ℕ) → path ≡ unit_path Etc unit → put_link tree path (codes "/dev/null") ≡ Ok changed → (r : Refused) → RefusesLinks tree verbs.Mask unit r → ⊥
 free_to_mask tree changed unit path is ok r (masks_none e) = let a = ap (λ p. put_link tree p (codes "/dev/null")) is in cc
 
-pub free_to_unmask : (tree : Tree) (unit : List ℕ) (r : Refused) → RefusesInstall tree verbs.Unmask unit r → ⊥
+pub free_to_unmask : (tree : Tree) (unit : List ℕ) (r : Refused) → RefusesLinks tree verbs.Unmask unit r → ⊥
 free_to_unmask tree unit r h = elim h [ ]
 
-pub free_to_disable : (tree : Tree) (unit : List ℕ) (r : Refused) → RefusesInstall tree verbs.Disable unit r → ⊥
+pub free_to_disable : (tree : Tree) (unit : List ℕ) (r : Refused) → RefusesLinks tree verbs.Disable unit r → ⊥
 free_to_disable tree unit r h = elim h [ ]
 
 -- ---- masks taken away

@@ -77,7 +77,7 @@ fn without(tree: &Tree, paths: &[String]) -> Result<Tree, Refusal>
 /// The tree without the links that disabling the unit removes.
 pub(crate) fn disabled(alloc: Global, tree: &Tree, unit: &UnitName) -> Result<Tree, Refusal>
     ensures installs { IfOk result (λ t. model.Installs tree.now verbs.Disable unit.now t) }
-    ensures refused { RefusesBy (model.RefusesInstall tree.now verbs.Disable unit.now) result }
+    ensures refused { RefusesBy (model.RefusesLinks tree.now verbs.Disable unit.now) result }
 {
     let units = walk(alloc, tree, Naming::AsWritten, unit)?;
     let paths = unlinked(alloc, tree, &units)?;

@@ -115,10 +115,18 @@ fn with_links(tree: &Tree, targets: &Targets) -> Result<Tree, Refusal>
     Ok(linked)
 }
 
-/// The tree with the links that enabling the unit asks for.
+/// Refuses to enable the unit where one that it takes along can't be enabled: the least of them.
+pub(crate) fn check_taken(alloc: Global, tree: &Tree, unit: &UnitName) -> Result<(), Refusal>
+    ensures { RefusesBy (model.RefusesUnits tree.now verbs.Enable unit.now) result }
+{
+    let units = walk(alloc, tree, Naming::AsResolved, unit)?;
+    check_units(alloc, &units)
+}
+
+/// The tree with the links that enabling the unit asks for, whether the units that it takes can be enabled or not.
 pub(crate) fn enabled(alloc: Global, tree: &Tree, unit: &UnitName) -> Result<Tree, Refusal>
     ensures installs { IfOk result (λ t. model.Installs tree.now verbs.Enable unit.now t) }
-    ensures refused { RefusesBy (model.RefusesInstall tree.now verbs.Enable unit.now) result }
+    ensures refused { RefusesBy (model.RefusesLinks tree.now verbs.Enable unit.now) result }
 {
     let units = walk(alloc, tree, Naming::AsResolved, unit)?;
     let links = links_of(alloc, &units)?;
@@ -126,6 +134,5 @@ pub(crate) fn enabled(alloc: Global, tree: &Tree, unit: &UnitName) -> Result<Tre
     check_fit(alloc, tree, links.as_slice())?;
     check_free(alloc, tree, &targets, links.as_slice())?;
     check_room(tree, &targets)?;
-    check_units(alloc, &units)?;
     with_links(tree, &targets)
 }

@@ -5,7 +5,7 @@ ghost use Rattle.um_model.specs.Install as model;
 ghost use Rattle.um_wire.specs.Gives.{RefusesBy};
 
 use crate::disabling::disabled;
-use crate::enabling::enabled;
+use crate::enabling::{check_taken, enabled};
 use crate::masking::{masked, unmasked};
 use std::alloc::{AllocError, Global};
 use um_model::InstallVerb;
@@ -39,13 +39,54 @@ fn paths_beyond(alloc: Global, other: &Tree, tree: &Tree) -> Result<Vec<String>,
 /// The tree that the verb makes of this one.
 fn changed(alloc: Global, tree: &Tree, verb: InstallVerb, unit: &UnitName) -> Result<Tree, Refusal>
     ensures installs { IfOk result (λ t. model.Installs tree.now verb unit.now t) }
-    ensures refused { RefusesBy (model.RefusesInstall tree.now verb unit.now) result }
+    ensures refused { RefusesBy (model.RefusesLinks tree.now verb unit.now) result }
 {
     match verb {
         InstallVerb::Enable => enabled(alloc, tree, unit),
         InstallVerb::Disable => disabled(alloc, tree, unit),
         InstallVerb::Mask => masked(alloc, tree, unit),
         InstallVerb::Unmask => unmasked(alloc, tree, unit),
+    }
+}
+
+/// What the verb makes of the tree for the unit, with the paths that are made and removed, whether the units that it takes can be
+/// enabled or not: `check_units` asks that.
+///
+/// Refused are the least path that isn't served or at which its link may not stand (E12), the least at which something else stands
+/// or another link is asked for (E11), and more new paths than there is room for (E13 `entries`), in this order. Want of memory is
+/// E15.
+pub fn relink(
+    alloc: Global,
+    tree: &Tree,
+    verb: InstallVerb,
+    unit: &UnitName,
+) -> Result<Installed, Refusal>
+    ensures installed { IfOk result (λ i. model.Installs tree.now verb unit.now i.tree) }
+    ensures made { IfOk result (λ i. each string_bytes i.made.items ≡ model.paths_beyond tree.now i.tree) }
+    ensures removed { IfOk result (λ i. each string_bytes i.removed.items ≡ model.paths_beyond i.tree tree.now) }
+    ensures refused { RefusesBy (model.RefusesLinks tree.now verb unit.now) result }
+{
+    let changed = changed(alloc, tree, verb, unit)?;
+    Ok(Installed {
+        made: paths_beyond(alloc, tree, &changed)?,
+        removed: paths_beyond(alloc, &changed, tree)?,
+        tree: changed,
+    })
+}
+
+/// Refuses the verb for the least unit that it takes and that can't be enabled: one that isn't found (E4), is masked (E5), has a
+/// refused setting or is a template without a fit default instance (E6). Only enabling takes units. Want of memory is E15.
+pub fn check_units(
+    alloc: Global,
+    tree: &Tree,
+    verb: InstallVerb,
+    unit: &UnitName,
+) -> Result<(), Refusal>
+    ensures { RefusesBy (model.RefusesUnits tree.now verb unit.now) result }
+{
+    match verb {
+        InstallVerb::Enable => check_taken(alloc, tree, unit),
+        InstallVerb::Disable | InstallVerb::Mask | InstallVerb::Unmask => Ok(()),
     }
 }
 
@@ -62,10 +103,7 @@ pub fn install(
     ensures removed { IfOk result (λ i. each string_bytes i.removed.items ≡ model.paths_beyond i.tree tree.now) }
     ensures refused { RefusesBy (model.RefusesInstall tree.now verb unit.now) result }
 {
-    let changed = changed(alloc, tree, verb, unit)?;
-    Ok(Installed {
-        made: paths_beyond(alloc, tree, &changed)?,
-        removed: paths_beyond(alloc, &changed, tree)?,
-        tree: changed,
-    })
+    let installed = relink(alloc, tree, verb, unit)?;
+    check_units(alloc, tree, verb, unit)?;
+    Ok(installed)
 }

@@ -16,7 +16,7 @@ mod verbs;
 mod walk;
 
 pub use enabled::is_enabled;
-pub use installed::{Installed, install};
+pub use installed::{Installed, check_units, install, relink};
 pub use laws::{
     a_unit_is_enabled_in_one_way, disabling_undoes_enabling, each_verb_has_one_outcome,
     enabling_twice_makes_nothing,

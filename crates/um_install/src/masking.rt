@@ -29,7 +29,7 @@ fn path_of_mask(alloc: Global, unit: &UnitName) -> Result<String, AllocError>
 /// The tree with the link that masks the unit.
 pub(crate) fn masked(alloc: Global, tree: &Tree, unit: &UnitName) -> Result<Tree, Refusal>
     ensures installs { IfOk result (λ t. model.Installs tree.now verbs.Mask unit.now t) }
-    ensures refused { RefusesBy (model.RefusesInstall tree.now verbs.Mask unit.now) result }
+    ensures refused { RefusesBy (model.RefusesLinks tree.now verbs.Mask unit.now) result }
 {
     let path = path_of_mask(alloc, unit)?;
     if let Some(cause) = tree.link_cause(path.as_str(), NOWHERE) {
@@ -52,7 +52,7 @@ fn is_masking(entry: Option<Entry<'_>>) -> bool
 /// The tree without the link that masks the unit, where there is one.
 pub(crate) fn unmasked(alloc: Global, tree: &Tree, unit: &UnitName) -> Result<Tree, Refusal>
     ensures installs { IfOk result (λ t. model.Installs tree.now verbs.Unmask unit.now t) }
-    ensures refused { RefusesBy (model.RefusesInstall tree.now verbs.Unmask unit.now) result }
+    ensures refused { RefusesBy (model.RefusesLinks tree.now verbs.Unmask unit.now) result }
 {
     let path = path_of_mask(alloc, unit)?;
     let mut changed = tree.copy()?;

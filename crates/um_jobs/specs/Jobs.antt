@@ -12,8 +12,9 @@ use Rattle.um_graph.specs.Kinds.{before_bit}
 use Rattle.um_graph.specs.Named.{Joins, item_for, name_at}
 use Rattle.um_jobs.specs.Named.{jobs_by}
 
--- of each unit, by its number: its pending jobs, and whether it counts as deactivating
+-- the graph of the units; and of each of them, by its number: its pending jobs, and whether it counts as deactivating
 pub record JobsView : Type 0 where
+  pub graph : GraphView
   pub units : List UnitJobs
   pub held : List Bool
 
@@ -37,11 +38,11 @@ job_named g u kind = record { unit = name_at g.names u; kind = kind }
 
 -- with these jobs of the unit with this number
 abbrev pub with_jobs_at : JobsView → ℕ → UnitJobs → JobsView
-with_jobs_at v u j = record { units = slice_set v.units u j; held = v.held }
+with_jobs_at v u j = record { graph = v.graph; units = slice_set v.units u j; held = v.held }
 
 -- with the unit with this number counting as deactivating, or not
 abbrev pub with_held_at : JobsView → ℕ → Bool → JobsView
-with_held_at v u deactivating = record { units = v.units; held = slice_set v.held u deactivating }
+with_held_at v u deactivating = record { graph = v.graph; units = v.units; held = slice_set v.held u deactivating }
 
 -- without the job of this kind
 abbrev pub without_job : JobKind → UnitJobs → UnitJobs

@@ -28,39 +28,54 @@ use um_wire::Refusal;
 /// The pending jobs of the units of a graph by their numbers, and which units count as deactivating. A number past the last unit
 /// is that of a unit without jobs, and nothing changes it.
 #[derive(Drop)]
-pub struct Jobs {
+pub struct Jobs<'g> {
+    graph: &'g Graph,
     units: Vec<UnitJobs>,
     held: Vec<bool>,
 }
 
-impl Model for Jobs {
+impl<'g> Model for Jobs<'g> {
     ghost use Rattle.std.specs.Prelude.{◌≡◌, length};
     ghost use Rattle.um_jobs.specs.Jobs.{JobsView};
 
     ghost Value = { JobsView };
 
-    ghost view = { λ j. record { units = j.units.items; held = j.held.items } };
+    ghost view = { λ j. record { graph = j.graph.now; units = j.units.items; held = j.held.items } };
 
-    ghost invariant = { λ j. length j.held.items ≡ length j.units.items };
+    ghost invariant = { λ j. (length j.units.items ≡ length j.graph.now.names) × (length j.held.items ≡ length j.units.items) };
 }
 
-impl Jobs {
-    /// No job of so many units, none of which counts as deactivating.
-    pub fn new(alloc: Global, units: usize) -> Result<Jobs, AllocError>
-        ensures units { IfOk result (λ j. j.units ≡ replicate units no_jobs) }
-        ensures held { IfOk result (λ j. j.held ≡ replicate units false) }
+impl<'g> Jobs<'g> {
+    /// No job of the graph's units, none of which counts as deactivating.
+    pub fn new(alloc: Global, graph: &'g Graph) -> Result<Jobs<'g>, AllocError>
+        ensures graph { IfOk result (λ j. j.graph ≡ graph.now) }
+        ensures units { IfOk result (λ j. j.units ≡ replicate (length graph.now.names) no_jobs) }
+        ensures held { IfOk result (λ j. j.held ≡ replicate (length graph.now.names) false) }
     {
-        Ok(Jobs {
-            units: vec![in alloc; UnitJobs::NONE; units]?,
-            held: vec![in alloc; false; units]?,
-        })
+        let units = vec![in alloc; UnitJobs::NONE; graph.len()]?;
+        let held = vec![in alloc; false; graph.len()]?;
+        Ok(Jobs { graph, units, held })
+    }
+
+    /// Just these jobs, in the order of the graph's units, none of which counts as deactivating. A unit past their end has none.
+    pub fn of(alloc: Global, graph: &'g Graph, pending: &[UnitJobs]) -> Result<Jobs<'g>, AllocError>
+        ensures graph { IfOk result (λ j. j.graph ≡ graph.now) }
+        ensures each { IfOk result (λ j. (u : ℕ) → u < length graph.now.names → jobs_at j.units u ≡ jobs_at pending.now u) }
+        ensures whole { IfOk result (λ j. length pending.now ≡ length graph.now.names → j.units ≡ pending.now) }
+        ensures len { IfOk result (λ j. length j.units ≡ length graph.now.names) }
+        ensures held { IfOk result (λ j. j.held ≡ replicate (length graph.now.names) false) }
+    {
+        let mut jobs = Jobs::new(alloc, graph)?;
+        jobs.install(pending);
+        Ok(jobs)
     }
 
     /// The same jobs again.
-    pub fn copy(&self) -> Result<Jobs, AllocError>
+    pub fn copy(&self) -> Result<Jobs<'g>, AllocError>
         ensures { IfOk result (λ j. j ≡ self.now) }
     {
         Ok(Jobs {
+            graph: self.graph,
             units: self.units.clone()?,
             held: self.held.clone()?,
         })
@@ -77,6 +92,7 @@ impl Jobs {
     pub fn as_slice(&self) -> &[UnitJobs]
         ensures units { result.now ≡ self.now.units }
         ensures held { length self.now.held ≡ length self.now.units }
+        ensures len { length self.now.units ≡ length self.now.graph.names }
     {
         self.units.as_slice()
     }
@@ -89,13 +105,14 @@ impl Jobs {
     }
 }
 
-impl Jobs {
+impl Jobs<'_> {
     /// Leaves just these jobs, those of a plan by number. It takes no memory. Which units count as deactivating stays.
     pub fn install(&mut self, plan: &[UnitJobs])
         ensures each { (u : ℕ) → u < length self.old.units → jobs_at self.new.units u ≡ jobs_at plan.now u }
         ensures whole { length plan.now ≡ length self.old.units → self.new.units ≡ plan.now }
         ensures len { length self.new.units ≡ length self.old.units }
         ensures held { self.new.held ≡ self.old.held }
+        ensures graph { self.new.graph ≡ self.old.graph }
     {
         for unit in 0..self.units.len() {
             self.units[unit] = jobs_of(plan, unit);
@@ -112,7 +129,7 @@ impl Jobs {
     }
 
     /// The unit with this number has just these jobs.
-    pub fn set(&mut self, unit: usize, jobs: UnitJobs)
+    fn set(&mut self, unit: usize, jobs: UnitJobs)
         ensures { self.new ≡ with_jobs_at self.old unit jobs }
     {
         if let Some(now) = self.units.get_mut(unit) {
@@ -150,18 +167,18 @@ impl Jobs {
     }
 }
 
-impl Jobs {
+impl Jobs<'_> {
     /// The job that begins next, with the number of its unit: the least ready one; none where none is ready. It takes no memory.
     ///
-    /// A job is ready where it waits and no other comes before it by the rows of the graph; a start moreover where its unit
-    /// doesn't count as deactivating. One is less than another by the names of their units, and of one unit the stop is.
-    pub fn ready(&self, graph: &Graph) -> Option<(usize, JobKind)>
-        ensures least { MatchOption result ((job : Job) → ¬ IsReadyIn graph.now self.now job)
-            (λ r. IsLeast IsToldBefore (IsReadyIn graph.now self.now) (job_named graph.now r.0 r.1)) }
-        ensures within { IfSome result (λ r. r.0 < length graph.now.names) }
+    /// A job is ready where it waits and no other comes before it by the rows of the graph, be that one waiting or running; a start
+    /// moreover where its unit doesn't count as deactivating. One is less than another by the names of their units, and of one unit the stop is.
+    pub fn ready(&self) -> Option<(usize, JobKind)>
+        ensures least { MatchOption result ((job : Job) → ¬ IsReadyIn self.now.graph self.now job)
+            (λ r. IsLeast IsToldBefore (IsReadyIn self.now.graph self.now) (job_named self.now.graph r.0 r.1)) }
+        ensures within { IfSome result (λ r. r.0 < length self.now.graph.names) }
     {
-        for unit in 0..graph.len() {
-            if let Some(kind) = self.ready_kind(graph, unit) {
+        for unit in 0..self.graph.len() {
+            if let Some(kind) = self.ready_kind(unit) {
                 return Some((unit, kind));
             }
         }
@@ -169,12 +186,12 @@ impl Jobs {
     }
 
     /// The first job of the unit that is ready.
-    fn ready_kind(&self, graph: &Graph, unit: usize) -> Option<JobKind>
-        ensures { result ≡ ready_kind graph.now self.now unit }
+    fn ready_kind(&self, unit: usize) -> Option<JobKind>
+        ensures { result ≡ ready_kind self.now.graph self.now unit }
     {
-        if self.is_stop_ready(graph, unit) {
+        if self.is_stop_ready(unit) {
             Some(JobKind::Stop)
-        } else if self.is_start_ready(graph, unit) {
+        } else if self.is_start_ready(unit) {
             Some(JobKind::Start)
         } else {
             None
@@ -182,21 +199,21 @@ impl Jobs {
     }
 
     /// Whether the stop of the unit waits, and for no other job.
-    fn is_stop_ready(&self, graph: &Graph, unit: usize) -> bool
-        ensures { result ≡ rows.is_stop_ready graph.now self.now unit }
+    fn is_stop_ready(&self, unit: usize) -> bool
+        ensures { result ≡ rows.is_stop_ready self.now.graph self.now unit }
     {
-        is_waiting(self.get(unit).stop) && !self.holds_stop_of(graph.neighbours(unit))
+        is_waiting(self.get(unit).stop) && !self.holds_stop_of(self.graph.neighbours(unit))
     }
 
     /// Whether the start of the unit waits, and neither for another job nor for the end of its being deactivating.
-    fn is_start_ready(&self, graph: &Graph, unit: usize) -> bool
-        ensures { result ≡ rows.is_start_ready graph.now self.now unit }
+    fn is_start_ready(&self, unit: usize) -> bool
+        ensures { result ≡ rows.is_start_ready self.now.graph self.now unit }
     {
         let jobs = self.get(unit);
         is_waiting(jobs.start)
             && jobs.stop.is_none()
             && !self.is_held(unit)
-            && !self.holds_start_of(graph.neighbours(unit))
+            && !self.holds_start_of(self.graph.neighbours(unit))
     }
 
     /// Whether the stop of a unit waits for one of its neighbours.

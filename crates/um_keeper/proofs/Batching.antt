@@ -9,6 +9,7 @@ use Rattle.um_model.specs.Lives.{HasInOrder, no_others, has, between}
 use Rattle.um_model.specs.Machine.{State, Input, Reply, Refusal, Run, rests, goes, Step}
 use Rattle.um_model.specs.Numbers.{AreNew, started_numbers, actions_in}
 use Rattle.um_model.specs.Service.{Action}
+use Rattle.um_model.specs.Standing.{Standing}
 use Rattle.um_model.specs.Store.{body_limit}
 use Rattle.um_model.specs.declared.layout.Layout.{Layout}
 use Rattle.um_model.proofs.DiskLaws.{weaker, followed}
@@ -89,7 +90,7 @@ numbers_asked {size} {s} {t} answered =
 
 -- ---- ways back
 
-pub back_append : (xs ys : List Back) (s : State) → state_before_all (xs ++ ys) s ≡ state_before_all xs (state_before_all ys s)
+pub back_append : (xs ys : List Back) (s : Standing) → state_before_all (xs ++ ys) s ≡ state_before_all xs (state_before_all ys s)
 back_append [] ys s = refl
 back_append (x ∷ xs) ys s = ap (state_before x) (back_append xs ys s)
 

@@ -10,6 +10,7 @@ use Rattle.um_model.specs.Machine.{State, Input, Reply, Refusal, Step, moment_of
 use Rattle.um_engine.specs.Engine.{LacksEffect}
 use Rattle.um_model.specs.Refusals.{Refused}
 use Rattle.um_model.specs.Service.{Action}
+use Rattle.um_model.specs.Standing.{Standing}
 use Rattle.um_model.specs.Store.{body_limit, sector_count}
 use Rattle.um_model.specs.declared.layout.Layout.{Layout}
 use Rattle.um_wire.specs.Refusal.{refused_of}
@@ -77,8 +78,8 @@ NeedNoRecord s inputs answers = Unit {0}
 abbrev pub IsSpentIn : ℕ → Answer → Type 0
 IsSpentIn generation answer = answer ≡ Err GenerationsSpent → 2 ^ 64 - 1 ≤ generation
 
--- the state before the steps that these ways lead back from, the last one first
-abbrev pub state_before_all : List Back → State → State
+-- the standing before the steps that these ways lead back from, the last one first
+abbrev pub state_before_all : List Back → Standing → Standing
 state_before_all [] s = s
 state_before_all (back ∷ backs) s = state_before back (state_before_all backs s)
 

@@ -4,6 +4,7 @@
 use Rattle.std.specs.Prelude.{◌≡◌, ◌≢◌, ◌-◌, ◌^◌, ℕ, Bool}
 use Rattle.um_model.specs.Machine.{State, Refusal, Step}
 use Rattle.um_model.specs.Refusals.{Refused}
+use Rattle.um_model.specs.Standing.{Standing}
 use Rattle.um_model.specs.declared.layout.Layout.{Layout}
 use Rattle.um_model.specs.declared.layout.Slot.{Slot}
 use Rattle.um_engine.specs.Engine as engine
@@ -16,6 +17,10 @@ use Rattle.um_keeper.specs.declared.keeper.OpenedStore.{OpenedStore}
 
 abbrev pub disk_in : {D : Type 0} {g : _} → Keeper D g → D
 disk_in k = k.disk
+
+-- what its engine stands on
+abbrev pub standing_in : {D : Type 0} {g : _} → Keeper D g → Standing
+standing_in k = engine.standing_in k.engine
 
 -- the state, and the size of the store that may hold it, in bytes
 abbrev pub state_in : {D : Type 0} {g : _} → Keeper D g → State
@@ -62,5 +67,5 @@ pub record HasNoRoom {D : Type 0} {g : _} (k : Keeper D g) (bytes : ℕ) : Type 
 
 -- it is the step of the machine that the input is, and no refusal
 pub record IsPlanned {D : Type 0} {g : _} (k : Keeper D g) (input : Input) (next : Next) : Type 0 where
-  pub step : Step (size_in k) (state_in k) (input_of input) (engine.reply_in next) (engine.actions_in next) (engine.state_after next (state_in k))
+  pub step : Step (size_in k) (state_in k) (input_of input) (engine.reply_in next) (engine.actions_in next) (engine.state_after next (standing_in k)).state
   pub accepted : (r : Refused) → engine.reply_in next ≢ Refusal r

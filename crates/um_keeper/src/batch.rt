@@ -3,7 +3,7 @@ ghost use Rattle.std.specs.Prelude.{◌≡◌, ◌⊎◌, ◌↔◌, ◌+◌, �
 ghost use Rattle.std.specs.List.{AllByRecursion};
 ghost use Rattle.um_engine.specs.Engine as machine;
 ghost use Rattle.um_keeper.specs.Answering.{Answered, AreAnswered, where_step, taken, all_asked, IsIdle, IsRefusal, NeedNoRecord, IsSpentIn, most_calls, state_before_all};
-ghost use Rattle.um_keeper.specs.Keepers.{disk_in, state_in, size_in, layout_in, generation_in, has_failed, IsSamePlace};
+ghost use Rattle.um_keeper.specs.Keepers.{disk_in, standing_in, state_in, size_in, layout_in, generation_in, has_failed, IsSamePlace};
 ghost use Rattle.um_keeper.specs.Keeping.{IsBegun, record_calls};
 ghost use Rattle.um_model.specs.Disk.{During, Images};
 ghost use Rattle.um_model.specs.Lives.{HasInOrder};
@@ -28,10 +28,7 @@ fn note(answers: &mut Vec<Result<Receipt, Refusal>>, answer: Result<Receipt, Ref
     ensures len { vec_len answers.new ≡ vec_len answers.old + 1 }
     ensures capacity { vec_capacity answers.old ≤ vec_capacity answers.new }
 {
-    match answers.push(answer) {
-        Ok(()) => {}
-        Err(_) => unreachable!(),
-    }
+    answers.push_reserved(answer);
 }
 
 /// Keeps the way back from a step, for which there is room.
@@ -41,10 +38,7 @@ fn keep(backs: &mut Vec<Back>, back: Back)
     ensures len { vec_len backs.new ≡ vec_len backs.old + 1 }
     ensures capacity { vec_capacity backs.old ≤ vec_capacity backs.new }
 {
-    match backs.push(back) {
-        Ok(()) => {}
-        Err(_) => unreachable!(),
-    }
+    backs.push_reserved(back);
 }
 
 /// Lets go of an answer that nobody was given.
@@ -66,7 +60,7 @@ fn let_go(answers: Vec<Result<Receipt, Refusal>>) {
 
 /// Takes steps back, the last one first.
 fn go_back(engine: &mut Engine, mut backs: Vec<Back>)
-    ensures state { machine.state_in engine.new ≡ state_before_all backs.items (machine.state_in engine.old) }
+    ensures state { machine.standing_in engine.new ≡ state_before_all backs.items (machine.standing_in engine.old) }
     ensures size { machine.size_in engine.new ≡ machine.size_in engine.old }
 {
     while let Some(back) = backs.pop() {
@@ -88,7 +82,7 @@ impl<D: Disk> Keeper<D> {
             → During (D.past (disk_in self.old)) (D.past (disk_in self.new)) (IsBegun (layout_in self.old) (state_in self.old) (where_step answer (input_of input.now)))) }
         ensures lost { OnErr result (IsTrue (D.honest (disk_in self.old))
             → During (D.past (disk_in self.old)) (D.past (disk_in self.new)) (IsBegun (layout_in self.old) (state_in self.old) (input_of input.now ∷ []))) }
-        ensures back { state_before_all backs.new.items (state_in self.new) ≡ state_before_all backs.old.items (state_in self.old) }
+        ensures back { state_before_all backs.new.items (standing_in self.new) ≡ state_before_all backs.old.items (standing_in self.old) }
         ensures one { vec_len backs.new ≤ vec_len backs.old + 1 }
         ensures capacity { vec_capacity backs.old ≤ vec_capacity backs.new }
         ensures place { IsSamePlace self.old self.new }
@@ -135,7 +129,7 @@ impl<D: Disk> Keeper<D> {
         ensures lost { OnErr result (IsTrue (D.honest (disk_in self.old))
             → (some : List model.Input) × HasInOrder some (map input_of inputs.now)
             × During (D.past (disk_in self.old)) (D.past (disk_in self.new)) (IsBegun (layout_in self.old) (state_in self.old) some)) }
-        ensures back { state_before_all backs.new.items (state_in self.new) ≡ state_before_all backs.old.items (state_in self.old) }
+        ensures back { state_before_all backs.new.items (standing_in self.new) ≡ state_before_all backs.old.items (standing_in self.old) }
         ensures place { IsSamePlace self.old self.new }
         ensures refused { IfErr result (λ e. e ≡ Refusal.Device) }
         ensures idle { AllByRecursion (IsIdle (state_in self.old)) (map input_of inputs.now) → disk_in self.new ≡ disk_in self.old }

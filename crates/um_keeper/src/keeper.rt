@@ -89,7 +89,7 @@ fn noted(failed: &mut bool, refusal: Refusal) -> Refusal
 }
 
 impl<D: Disk> Keeper<D> {
-    ghost use Rattle.um_keeper.specs.Keepers.{disk_in, state_in, size_in, layout_in, slot_in, generation_in, number_in, next_in, has_failed, opened_in, IsSamePlace, HasNoRoom, IsPlanned};
+    ghost use Rattle.um_keeper.specs.Keepers.{disk_in, standing_in, state_in, size_in, layout_in, slot_in, generation_in, number_in, next_in, has_failed, opened_in, IsSamePlace, HasNoRoom, IsPlanned};
 
     /// What was read of the store when it was opened.
     pub fn opened(&self) -> OpenedStore
@@ -131,6 +131,7 @@ impl<D: Disk> Keeper<D> {
         ensures stored { OnOk result (IsTrue (D.honest (disk_in self.old)) → Images (D.past (disk_in self.new)) (λ image. contents_of (layout_in self.old) image
             ≡ Some (record { slot = slot_in self.new; generation = generation_in self.new; start = state_in self.old; inputs = [] }))) }
         ensures state { state_in self.new ≡ state_in self.old }
+        ensures stands { standing_in self.new ≡ standing_in self.old }
         ensures place { IsSamePlace self.old self.new }
         ensures same { OnErr result ((slot_in self.new ≡ slot_in self.old) × (generation_in self.new ≡ generation_in self.old)
             × (number_in self.new ≡ number_in self.old) × (next_in self.new ≡ next_in self.old)) }
@@ -176,7 +177,7 @@ impl<D: Disk> Keeper<D> {
         ensures during { IsTrue (D.honest (disk_in self.old))
             → During (D.past (disk_in self.old)) (D.past (disk_in self.new)) (λ image. IsStoreOf (layout_in self.old) image (state_in self.old)) }
         ensures fits { OnOk result (Fits (layout_in self.new) (generation_in self.new) (next_in self.new) bytes) }
-        ensures state { state_in self.new ≡ state_in self.old }
+        ensures state { standing_in self.new ≡ standing_in self.old }
         ensures place { IsSamePlace self.old self.new }
         ensures grows { generation_in self.old ≤ generation_in self.new }
         ensures refused { IfErr result (λ e. IsLost e ⊎ (e ≡ Refusal.GenerationsSpent)) }
@@ -209,9 +210,9 @@ impl<D: Disk> Keeper<D> {
         requires fits { Fits (layout_in self.old) (generation_in self.old) (next_in self.old) (length bytes.now) }
         ensures during { IsTrue (D.honest (disk_in self.old))
             → During (D.past (disk_in self.old)) (D.past (disk_in self.new)) (IsBegun (layout_in self.old) (state_in self.old) (input_of input.now ∷ [])) }
-        ensures ok { IfOk result (λ taken. (taken.0.0 ≡ reply_in next) × (taken.0.1 ≡ actions_in next) × (state_in self.new ≡ state_after next (state_in self.old))) }
-        ensures back { IfOk result (λ taken. state_before taken.1 (state_in self.new) ≡ state_in self.old) }
-        ensures state { OnErr result (state_in self.new ≡ state_in self.old) }
+        ensures ok { IfOk result (λ taken. (taken.0.0 ≡ reply_in next) × (taken.0.1 ≡ actions_in next) × (standing_in self.new ≡ state_after next (standing_in self.old))) }
+        ensures back { IfOk result (λ taken. state_before taken.1 (standing_in self.new) ≡ standing_in self.old) }
+        ensures state { OnErr result (standing_in self.new ≡ standing_in self.old) }
         ensures place { IsSamePlace self.old self.new }
         ensures grows { generation_in self.old ≤ generation_in self.new }
         ensures refused { IfErr result IsLost }
@@ -238,9 +239,9 @@ impl<D: Disk> Keeper<D> {
         requires step { IsPlanned self.old input.now next }
         ensures during { IsTrue (D.honest (disk_in self.old))
             → During (D.past (disk_in self.old)) (D.past (disk_in self.new)) (IsBegun (layout_in self.old) (state_in self.old) (input_of input.now ∷ [])) }
-        ensures ok { IfOk result (λ taken. (taken.0.0 ≡ reply_in next) × (taken.0.1 ≡ actions_in next) × (state_in self.new ≡ state_after next (state_in self.old))) }
-        ensures back { IfOk result (λ taken. state_before taken.1 (state_in self.new) ≡ state_in self.old) }
-        ensures state { OnErr result (state_in self.new ≡ state_in self.old) }
+        ensures ok { IfOk result (λ taken. (taken.0.0 ≡ reply_in next) × (taken.0.1 ≡ actions_in next) × (standing_in self.new ≡ state_after next (standing_in self.old))) }
+        ensures back { IfOk result (λ taken. state_before taken.1 (standing_in self.new) ≡ standing_in self.old) }
+        ensures state { OnErr result (standing_in self.new ≡ standing_in self.old) }
         ensures kept { IfErr result (λ e. (e ≡ Refusal.Device) ⊎ (IsTrue (D.honest (disk_in self.old))
             → During (D.past (disk_in self.old)) (D.past (disk_in self.new)) (λ image. IsStoreOf (layout_in self.old) image (state_in self.old)))) }
         ensures place { IsSamePlace self.old self.new }
@@ -268,10 +269,10 @@ impl<D: Disk> Keeper<D> {
         ensures ok { IfOk result (λ taken. Step (size_in self.old) (state_in self.old) (input_of input.now) taken.0.0 taken.0.1 (state_in self.new)) }
         ensures accepted { IfOk result (λ taken. (r : Refused) → taken.0.0 ≢ model.Refusal r) }
         ensures order { IfOk result (λ taken. AreNew (state_in self.old).next (state_in self.new).next (started_numbers taken.0.1)) }
-        ensures back { IfOk result (λ taken. state_before taken.1 (state_in self.new) ≡ state_in self.old) }
+        ensures back { IfOk result (λ taken. state_before taken.1 (standing_in self.new) ≡ standing_in self.old) }
         ensures stored { has_failed self.new ≡ false → IsTrue (D.honest (disk_in self.old))
             → Images (D.past (disk_in self.new)) (λ image. IsStoreOf (layout_in self.old) image (state_in self.new)) }
-        ensures state { OnErr result (state_in self.new ≡ state_in self.old) }
+        ensures state { OnErr result (standing_in self.new ≡ standing_in self.old) }
         ensures kept { IfErr result (λ e. (e ≡ Refusal.Device) ⊎ (IsTrue (D.honest (disk_in self.old))
             → During (D.past (disk_in self.old)) (D.past (disk_in self.new)) (λ image. IsStoreOf (layout_in self.old) image (state_in self.old)))) }
         ensures place { IsSamePlace self.old self.new }

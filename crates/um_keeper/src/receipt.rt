@@ -1,28 +1,29 @@
-ghost use Rattle.std.specs.Prelude.{◌≡◌, [], List, map, string_bytes};
+ghost use Rattle.std.specs.Prelude.{◌≡◌, [], IfOk, List, map, string_bytes};
 ghost use Rattle.std.specs.Vec.Iter.{into_iter_items};
 ghost use Rattle.um_model.specs.Children as children;
 ghost use Rattle.um_model.specs.Machine as machine;
 ghost use Rattle.um_model.specs.Service as service;
+ghost use Rattle.um_service.specs.Started.{is_too_long};
 ghost use Rattle.um_state.specs.View.{action_of, reply_of};
 
+use std::alloc::{AllocError, Global};
 use std::marker::Model;
 use std::vec;
 use um_model::{ProcessNumber, Signal};
-use um_state::{Action, Reply};
+use um_state::{Action, Reply, Start};
 
 /// An order to start a process. `Receipt::next_action` alone makes one, and nothing copies it: so no process is started but for an
-/// accepted input, and none twice.
+/// accepted input, and none twice. Its words are put together only where they are read.
 #[derive(Drop)]
 pub struct SpawnOrder {
     number: ProcessNumber,
-    words: Vec<String>,
-    environment: Vec<String>,
+    start: Start,
 }
 
 impl Model for SpawnOrder {
     ghost Value = { children.Spawn };
 
-    ghost view = { λ o. record { number = o.number; words = map string_bytes o.words.items; environment = map string_bytes o.environment.items } };
+    ghost view = { λ o. record { number = o.number; words = o.start.words; environment = o.start.environment } };
 }
 
 impl SpawnOrder {
@@ -33,26 +34,34 @@ impl SpawnOrder {
         self.number
     }
 
-    /// The program and its arguments.
-    pub fn words(&self) -> &[String]
-        ensures { map string_bytes result.now ≡ self.now.words }
+    /// The program and its arguments, put together. Refused only for want of memory.
+    pub fn words(&self, alloc: Global) -> Result<Vec<String>, AllocError>
+        ensures { IfOk result (λ words. map string_bytes words.items ≡ self.now.words) }
     {
-        self.words.as_slice()
+        self.start.words(alloc)
     }
 
-    /// `NAME=value` each.
-    pub fn environment(&self) -> &[String]
-        ensures { map string_bytes result.now ≡ self.now.environment }
+    /// `NAME=value` each, put together. Refused only for want of memory.
+    pub fn environment(&self, alloc: Global) -> Result<Vec<String>, AllocError>
+        ensures { IfOk result (λ texts. map string_bytes texts.items ≡ self.now.environment) }
     {
-        self.environment.as_slice()
+        self.start.environment(alloc)
     }
 
-    /// The words and the environment, without a copy. The order is spent.
-    pub fn into_words(self) -> (Vec<String>, Vec<String>)
-        ensures words { map string_bytes result.0.items ≡ self.words }
-        ensures environment { map string_bytes result.1.items ≡ self.environment }
+    /// Whether no process can be started with so much: past two MiB (2,097,152 bytes) of words and environment in all, or 128 KiB
+    /// (131,072 bytes) in one, each with a zero byte behind it. Nothing is put together. Refused only for want of memory.
+    pub fn is_too_long(&self, alloc: Global) -> Result<bool, AllocError>
+        ensures { IfOk result (λ told. told ≡ is_too_long self.now.words self.now.environment) }
     {
-        (self.words, self.environment)
+        self.start.is_too_long(alloc)
+    }
+
+    /// What is to be started, as it is set. The order is spent.
+    pub fn into_start(self) -> Start
+        ensures words { result.words ≡ self.words }
+        ensures environment { result.environment ≡ self.environment }
+    {
+        self.start
     }
 }
 
@@ -106,15 +115,7 @@ impl Receipt {
         ensures reply { self.new.0 ≡ self.old.0 }
     {
         match self.actions.next()? {
-            Action::Spawn {
-                number,
-                words,
-                environment,
-            } => Some(Handed::Spawn(SpawnOrder {
-                number,
-                words,
-                environment,
-            })),
+            Action::Spawn { number, start } => Some(Handed::Spawn(SpawnOrder { number, start })),
             Action::Signal { number, signal } => Some(Handed::Signal { number, signal }),
         }
     }

@@ -37,7 +37,7 @@ For more information, try '--help'.
 ";
 
 const BOOT_HELP: &str =
-    "The id of the running boot, $(cat /proc/sys/kernel/random/boot_id): with another one than the store's last all units start anew, with that of an earlier boot the manager adopts and signals pids that belong to others by now";
+    "The id of the running boot, $(cat /proc/sys/kernel/random/boot_id): with another one than the store's last every process is taken to be gone and nothing runs, with that of an earlier boot the manager adopts and signals pids that belong to others by now";
 
 const DIR_HELP: &str =
     "The folder of the files of processes, made where it isn't there; nothing may clean it while the machine is up";

@@ -16,6 +16,7 @@ use Rattle.um_manager.specs.Orders.{Grew}
 pub keeps_whole : {T : Type 0} (result : Result T ChildFault) (old new : Bool) → KeepsWhole result old new → IsTrue new → IsTrue old
 keeps_whole (Ok x) old new same whole = subst (λ b. IsTrue b) same whole
 keeps_whole (Err fault.NoMemory) old new same whole = subst (λ b. IsTrue b) same whole
+keeps_whole (Err fault.TooLong) old new same whole = subst (λ b. IsTrue b) same whole
 keeps_whole (Err fault.Device) old new kept whole = kept whole
 
 or_false : (a : Bool) → (a || false) ≡ a

@@ -22,7 +22,7 @@ use std::alloc::{AllocError, Global};
 use um_children::Children;
 use um_fates::{Marks, claim_all, is_in, live_numbers};
 use um_keeper::Keeper;
-use um_model::{Moment, ProcessNumber, Signal, SubState};
+use um_model::{Moment, NextNumber, ProcessNumber, Signal, SubState};
 use um_sector::Disk;
 use um_session::Session;
 use um_state::{BootId, Event, Happening, Input, Reply, State, Units};
@@ -59,7 +59,7 @@ fn signal_one<C: Children>(
     signal: Signal,
     number: ProcessNumber,
 )
-    ensures signals { IsTrue (C.honest children.old) → IsTrue (C.whole children.new) → Signalled units.now sub signal (number ∷ [])
+    ensures signals { IsTrue (C.honest children.old) → IsTrue (C.whole children.new) → Signalled units.now.held sub signal (number ∷ [])
         (C.past children.old) (C.past children.new) }
     ensures whole { IsTrue (C.whole children.new) → IsTrue (C.whole children.old) }
     ensures honest { C.honest children.new ≡ C.honest children.old }
@@ -77,7 +77,7 @@ fn signal_all<C: Children>(
     signal: Signal,
     numbers: &[ProcessNumber],
 )
-    ensures signals { IsTrue (C.honest children.old) → IsTrue (C.whole children.new) → Signalled units.now sub signal numbers.now
+    ensures signals { IsTrue (C.honest children.old) → IsTrue (C.whole children.new) → Signalled units.now.held sub signal numbers.now
         (C.past children.old) (C.past children.new) }
     ensures whole { IsTrue (C.whole children.new) → IsTrue (C.whole children.old) }
     ensures honest { C.honest children.new ≡ C.honest children.old }
@@ -92,6 +92,7 @@ fn signal_all<C: Children>(
 fn claim_live<C: Children>(
     children: &mut C,
     live: &[ProcessNumber],
+    next: NextNumber,
     moment: Moment,
     inputs: &mut Vec<Input>,
 )
@@ -103,13 +104,13 @@ fn claim_live<C: Children>(
     ensures whole { IsTrue (C.whole children.new) → IsTrue (C.whole children.old) }
     ensures honest { C.honest children.new ≡ C.honest children.old }
 {
-    let _forgotten = children.forget_others(live);
+    let _forgotten = children.forget_others(live, next);
     claim_all(children, live, moment, inputs);
 }
 
 /// Kills the numbers whose unit is in stop-sigkill, and lets go what is kept of those that aren't live any more.
 fn kill_all<C: Children>(children: &mut C, units: &Units, numbers: &[ProcessNumber])
-    ensures signals { IsTrue (C.honest children.old) → IsTrue (C.whole children.new) → Signalled units.now SubState.StopSigkill Signal.Kill numbers.now (C.past children.old) (C.past children.new) }
+    ensures signals { IsTrue (C.honest children.old) → IsTrue (C.whole children.new) → Signalled units.now.held SubState.StopSigkill Signal.Kill numbers.now (C.past children.old) (C.past children.new) }
     ensures whole { IsTrue (C.whole children.new) → IsTrue (C.whole children.old) }
     ensures honest { C.honest children.new ≡ C.honest children.old }
 {
@@ -150,7 +151,8 @@ fn adopt<D: Disk, C: Children>(
     ensures failed { (has_failed keeper.new ≡ true) ↔ ((has_failed keeper.old ≡ true) ⊎ (result ≡ Err Refusal.Device)) }
 {
     let mut inputs = inputs;
-    claim_live(children, live, moment, &mut inputs);
+    let next = keeper.state().next();
+    claim_live(children, live, next, moment, &mut inputs);
     let submitted = submit(keeper, children, marks, inputs, replies);
     let units = keeper.state().units();
     signal_all(children, units, SubState::StopSigterm, Signal::Term, live);
@@ -182,7 +184,7 @@ fn live_in(alloc: Global, state: &State, boot: &BootId) -> Result<Vec<ProcessNum
     ensures other { IfOk result (λ live. boot.now ≢ (state_of state.now).boot → live.items ≡ []) }
 {
     if state.boot().as_str() == boot.as_str() {
-        live_numbers(alloc, state.units())
+        live_numbers(state.units())
     } else {
         Ok(Vec::new(alloc))
     }

@@ -15,7 +15,7 @@ use um_wire::Refusal;
 
 /// Asks one order. The number of a start that is refused is marked; a signal that fails isn't repeated.
 fn ask<C: Children>(children: &mut C, marks: &mut Marks, units: &Units, handed: Handed)
-    ensures carries { Carries (C.honest children.old) (C.whole children.new) units.now (C.past children.old) (C.past children.new) marks.old marks.new
+    ensures carries { Carries (C.honest children.old) (C.whole children.new) units.now.held (C.past children.old) (C.past children.new) marks.old marks.new
         (handed_of handed ∷ []) }
     ensures whole { IsTrue (C.whole children.new) → IsTrue (C.whole children.old) }
     ensures honest { C.honest children.new ≡ C.honest children.old }
@@ -41,7 +41,7 @@ pub fn carry_out<C: Children>(
     units: &Units,
     receipt: Receipt,
 ) -> Reply
-    ensures carries { Carries (C.honest children.old) (C.whole children.new) units.now (C.past children.old)
+    ensures carries { Carries (C.honest children.old) (C.whole children.new) units.now.held (C.past children.old)
         (C.past children.new) marks.old marks.new receipt.1 }
     ensures whole { IsTrue (C.whole children.new) → IsTrue (C.whole children.old) }
     ensures honest { C.honest children.new ≡ C.honest children.old }
@@ -61,10 +61,7 @@ pub fn put_reply(replies: &mut Vec<Reply>, reply: Reply)
     ensures len { vec_len replies.new ≡ vec_len replies.old + 1 }
     ensures capacity { vec_capacity replies.old ≤ vec_capacity replies.new }
 {
-    match replies.push(reply) {
-        Ok(()) => {}
-        Err(_) => unreachable!(),
-    }
+    replies.push_reserved(reply);
 }
 
 /// Carries out what the answer to an input hands out, and gives the reply.
@@ -74,7 +71,7 @@ fn carry_one<C: Children>(
     units: &Units,
     answer: Result<Receipt, Refusal>,
 ) -> Reply
-    ensures carries { Carries (C.honest children.old) (C.whole children.new) units.now (C.past children.old) (C.past children.new) marks.old marks.new
+    ensures carries { Carries (C.honest children.old) (C.whole children.new) units.now.held (C.past children.old) (C.past children.new) marks.old marks.new
         (asked_by answer) }
     ensures whole { IsTrue (C.whole children.new) → IsTrue (C.whole children.old) }
     ensures honest { C.honest children.new ≡ C.honest children.old }
@@ -95,7 +92,7 @@ pub fn carry_all<C: Children>(
     replies: &mut Vec<Reply>,
 )
     requires room { vec_len replies.old + length answers.items ≤ vec_capacity replies.old }
-    ensures carries { Carries (C.honest children.old) (C.whole children.new) units.now (C.past children.old) (C.past children.new) marks.old marks.new
+    ensures carries { Carries (C.honest children.old) (C.whole children.new) units.now.held (C.past children.old) (C.past children.new) marks.old marks.new
         (all_asked answers.items) }
     ensures whole { IsTrue (C.whole children.new) → IsTrue (C.whole children.old) }
     ensures honest { C.honest children.new ≡ C.honest children.old }

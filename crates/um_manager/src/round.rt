@@ -39,6 +39,17 @@ fn behind(replies: &[Reply], count: usize) -> &[Reply]
     &replies[count..]
 }
 
+/// Notes the numbers of which these inputs tell an end, where there is room.
+fn note_ended(inputs: &[Input], ended: &mut Vec<ProcessNumber>) {
+    for input in inputs {
+        if let Event::Happened(Happening::ProcessEnded { number, end: _ }) = input.event() {
+            if let Some(number) = ProcessNumber::new(*number) {
+                let _noted = ended.push(number);
+            }
+        }
+    }
+}
+
 /// Forgets each of these numbers that isn't live any more. What isn't forgotten for a fault is forgotten by a later opening.
 pub fn forget_ended<C: Children>(children: &mut C, units: &Units, numbers: &[ProcessNumber])
     ensures past { C.past children.new ≡ C.past children.old }
@@ -74,7 +85,7 @@ pub fn turn<D: Disk, C: Children>(
     ensures disk { D.honest (disk_in keeper.new) ≡ D.honest (disk_in keeper.old) }
     ensures failed { (has_failed keeper.new ≡ true) ↔ ((has_failed keeper.old ≡ true) ⊎ (result ≡ Err Refusal.Device)) }
 {
-    let Ok(live) = live_numbers(alloc, keeper.state().units()) else {
+    let Ok(live) = live_numbers(keeper.state().units()) else {
         return Err(Refusal::NoMemory);
     };
     let room = 2 * live.len() + 1 + CONNECTIONS;
@@ -85,6 +96,9 @@ pub fn turn<D: Disk, C: Children>(
         return Err(Refusal::NoMemory);
     };
     let Ok(mut owed) = Vec::with_capacity(alloc, CONNECTIONS) else {
+        return Err(Refusal::NoMemory);
+    };
+    let Ok(mut ended) = Vec::with_capacity(alloc, live.len()) else {
         return Err(Refusal::NoMemory);
     };
     if room_all(sessions, pieces).is_err() {
@@ -98,12 +112,14 @@ pub fn turn<D: Disk, C: Children>(
         moment,
         &mut inputs,
     );
+    note_ended(&inputs, &mut ended);
     put(&mut inputs, tick(moment));
     let firsts = inputs.len();
     take_all(alloc, sessions, pieces, moment, &mut inputs, &mut owed);
     let submitted = submit(keeper, children, marks, inputs, &mut replies);
     let replies = behind(replies.as_slice(), firsts);
     pay_all(alloc, keeper, sessions, owed.as_slice(), replies);
-    forget_ended(children, keeper.state().units(), live.as_slice());
+    // nothing else is over, so that a turn in which nothing ended looks for none
+    forget_ended(children, keeper.state().units(), ended.as_slice());
     submitted
 }

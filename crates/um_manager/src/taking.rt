@@ -103,10 +103,7 @@ fn put_due(owed: &mut Vec<Due>, due: Due)
     ensures len { vec_len owed.new ≡ vec_len owed.old + 1 }
     ensures capacity { vec_capacity owed.old ≤ vec_capacity owed.new }
 {
-    match owed.push(due) {
-        Ok(()) => {}
-        Err(_) => unreachable!(),
-    }
+    owed.push_reserved(due);
 }
 
 /// Takes each piece and of each connection the request of the first whole frame; the inputs that they ask for come behind the others,

@@ -8,7 +8,7 @@ use Rattle.std.specs.Ordering.{nat_cmp, eq_by_cmp}
 use Rattle.um_model.specs.Dependencies as model
 use Rattle.um_model.specs.Dependencies.{Links, IsNamed, IsKnown, KnowsTooMany, extra}
 use Rattle.um_model.specs.Jobs.{Job, job_of, jobs, no_jobs, jobs_of_unit, has_job, with_jobs, cancelled, IsPending, jobs_left, state_of_job}
-use Rattle.um_model.specs.Machine.{State, empty_state, Command, Happening, Event, Input, Reply, IsHeld, IsCrowded, settings_in, around, changed, IsTakenAlong, TakesAlong, Becomes, Carries, change_of, FallDown, all_told, told_next, Happens, begins, begun, Settles, Refuses, Changes, AreReset, all_reset, reset_next, units_reset, Does, with_plan, unit_asked, with_start_alone, Restarts, isnt_put, ComesDue, Fires, FiresOne, IsProcessOf, booted, Follows, TakesEffect, end_of, moment_of, Step, Run}
+use Rattle.um_model.specs.Machine.{State, empty_state, Command, Happening, Event, Input, Reply, IsHeld, IsCrowded, by_jobs, settings_in, around, changed, IsTakenAlong, TakesAlong, Becomes, Carries, change_of, FallDown, all_told, told_next, Happens, begins, begun, Settles, Refuses, Changes, AreReset, all_reset, reset_next, units_reset, Does, with_plan, unit_asked, with_start_alone, Restarts, isnt_put, ComesDue, Fires, FiresOne, IsProcessOf, booted, Follows, TakesEffect, end_of, moment_of, Step, Run}
 use Rattle.um_model.specs.Reached.{first, next}
 use Rattle.um_model.specs.Refusals.{Refused, at_first, at_second}
 use Rattle.um_model.specs.Resolution.{unit_path}
@@ -329,22 +329,10 @@ changes_few s command u none (Changes.links e) few = few
 changes_few s command u none (Changes.removes e) few = few
 changes_few s command u none Changes.reloads few = λ r crowded. none r ((at_first crowded))
 changes_few s command u none (Changes.installs {tree = tree} h) few = λ r crowded.
-    none r ((at_second (λ q refuses. none q ((at_first refuses))) (record { tree = tree; installs = h; cause = at_first crowded })))
+    none r (at_second (λ q refuses. none q (at_first refuses)) (at_first (record { tree = tree; installs = h; cause = crowded })))
 changes_few s command u none (Changes.cancels {asked = asked}) few = no_more_few s u (cancel_no_more s (unit_asked s asked)) few
 changes_few s command u none (Changes.demands_nothing is) few = few
-changes_few s command u none (Changes.plans {demand = demand} {after = after} is plan) few = λ r crowded.
-    none r ((at_second (λ q full. none q ((at_first full)))
-    (at_second (λ q missing. none q ((at_second (λ x full. none x ((at_first full))) (at_first missing))))
-    (record {
-      demand = demand;
-      demanded = is;
-      after = after;
-      plan = plan;
-      cause = at_second (λ q c. none q (
-          (at_second (λ x full. none x ((at_first full)))
-          (at_second (λ x missing. none x ((at_second (λ y full. none y ((at_first full))) (at_first missing))))
-          (record { demand = demand; demanded = is; after = after; plan = plan; cause = at_first c }))))) crowded;
-    }))))
+changes_few s command u none (Changes.plans is plan) few = λ r crowded. none r (at_first (by_jobs is plan crowded))
 
 does_few : (t : ℕ) (s : State) (command : Command) (actions : List Action) (u : State) → ((r : Refused) → ¬ Refuses s command r) → Does t s command actions u → IsFew s → IsFew u
 does_few t s command actions u none (Does.changes h) few = changes_few s command u none h few

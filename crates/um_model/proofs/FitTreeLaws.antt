@@ -17,7 +17,7 @@ use Rattle.std.proofs.lemmas.Map.Views.{tells_apart}
 use Rattle.std.proofs.lemmas.Option.{none-some}
 use Rattle.std.specs.Str.{bytes_eq}
 use Rattle.um_model.specs.Bytes.{ByText, FitText, are_keys}
-use Rattle.um_model.specs.Install.{LinkAt, link_at, links_to, links_of, linked_name, path_in_etc, IsAskedFor, IsUnlinked, IsEnabled, IsDisabled, is_masking, too_many, CausesOfEnable, Installs, enables, disables, masks, unmasks, RefusesInstall, enables_none}
+use Rattle.um_model.specs.Install.{LinkAt, link_at, links_to, links_of, linked_name, path_in_etc, IsAskedFor, IsUnlinked, IsEnabled, IsDisabled, is_masking, too_many, CausesOfLinks, Installs, enables, disables, masks, unmasks, RefusesLinks, enables_none}
 use Rattle.um_model.specs.InputSpellings.{FitCommand}
 use Rattle.um_model.specs.Machine.{State, Command, Refuses, Changes, puts, links, removes, reloads, plans, demands_nothing, cancels, installs}
 use Rattle.um_model.specs.Names.{template_of}
@@ -296,7 +296,7 @@ isnt_false : (b : Bool) → ¬ (b ≡ false) → b ≡ true
 isnt_false true h = refl
 isnt_false false h = absurd (h refl)
 
-enabled_fits : (tree : Tree) (asked : List ℕ) (enabled : Tree) → IsOfTexts tree → ((r : Refused) → ¬ CausesOfEnable tree asked r) → IsEnabled tree asked enabled → IsOfTexts enabled
+enabled_fits : (tree : Tree) (asked : List ℕ) (enabled : Tree) → IsOfTexts tree → ((r : Refused) → ¬ CausesOfLinks tree asked r) → IsEnabled tree asked enabled → IsOfTexts enabled
 enabled_fits tree asked enabled h none made = record { is = record { fit = λ path. fit path (path_asked_or_not tree asked path); few = few }; texts = λ path. text path (path_asked_or_not tree asked path) }
   where
     fit : (path : List ℕ) → IsDecided ((target : List ℕ) × IsAskedFor tree asked (link_at path target)) → is_fit_at path (map.get enabled path) ≡ true
@@ -343,7 +343,7 @@ unmasked_fits : (tree : Tree) (unit : List ℕ) (b : Bool) → IsOfTexts tree �
 unmasked_fits tree unit true h = removed tree (unit_path Etc unit) h
 unmasked_fits tree unit false h = h
 
-installed_fits : (tree : Tree) (verb : InstallVerb) (unit : List ℕ) (after : Tree) → IsOfTexts tree → ((r : Refused) → ¬ RefusesInstall tree verb unit r) → Installs tree verb unit after → IsOfTexts after
+installed_fits : (tree : Tree) (verb : InstallVerb) (unit : List ℕ) (after : Tree) → IsOfTexts tree → ((r : Refused) → ¬ RefusesLinks tree verb unit r) → Installs tree verb unit after → IsOfTexts after
 installed_fits tree verb unit after h none (enables {unit = x} made) = enabled_fits tree x after h (λ r c. none r (enables_none c)) made
 installed_fits tree verb unit after h none (disables {unit = x} made) = disabled_fits tree x after h made
 installed_fits tree verb unit after h none (masks {unit = x} e) = link_fits tree (unit_path Etc x) (codes "/dev/null") after h (low_utf8 (codes "/dev/null") refl) e

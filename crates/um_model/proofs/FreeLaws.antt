@@ -3,10 +3,11 @@ use Rattle.std.proofs.Common.{ℕ, ◌≡◌, ◌∙◌, Bool, true, false, true
 use Rattle.std.proofs.lemmas.Option.{none-some}
 use Rattle.std.specs.FinMap as map
 use Rattle.um_model.specs.Dependencies.{IsKnown, Precedes, Mentions, extra}
+use Rattle.um_model.specs.Install.{RefusesLinks, RefusesUnits}
 use Rattle.um_model.specs.Jobs.{Job, jobs, no_jobs, jobs_of_unit, with_jobs, job_of, unless_waiting, cancelled, without_start, GoesBefore, starts, stops, stops_then_starts, stops_then_starts_before, of_one_unit, ComesBefore, IsPending, unless_running, start_left, jobs_left, state_of_job}
-use Rattle.um_model.specs.Machine.{State, Command, Happening, Event, Input, Reply, IsHeldOr, IsBefore, changed, TakesAlong, Becomes, Carries, change_of, begins, begun, Happens, AreReset, Settles, unit_asked, jobs_asked, scene_at, CausesOfLoad, Refuses, Changes, Does, units_reset, Restarts, ComesDue, Fires, FiresOne, booted, Follows, end_of, moment_of, Step, Run, isnt_put, TakesEffect}
+use Rattle.um_model.specs.Machine.{State, Command, Happening, Event, Input, Reply, IsHeld, IsHeldOr, IsCrowded, IsBefore, changed, TakesAlong, Becomes, Carries, change_of, begins, begun, Happens, AreReset, Settles, unit_asked, jobs_asked, scene_at, CausesOfLoad, LoadsNone, Refuses, Changes, Does, units_reset, Restarts, ComesDue, Fires, FiresOne, booted, Follows, end_of, moment_of, Step, Run, isnt_put, TakesEffect}
 use Rattle.um_model.specs.Order.{IsCycle}
-use Rattle.um_model.specs.Plan.{AreFree, Counts, restarted, started, stopped, left, Demands, IsPlan, units_of}
+use Rattle.um_model.specs.Plan.{AreFree, Counts, restarted, started, stopped, left, Demands, IsPlan, NamesCycle, units_of}
 use Rattle.um_model.specs.Reached.{first, next}
 use Rattle.um_model.specs.Refusals.{Refused, at_first, at_second, ordering_cycle}
 use Rattle.um_model.specs.Servable.{IsBlank, IsFree}
@@ -241,20 +242,32 @@ module _ (s : State) (named : List ℕ) where
 
 -- ---- a command
 
+-- where no cycle is named, the pending jobs have none
+no_circle : (Before : List ℕ → List ℕ → Type 0) (pending : ByUnit UnitJobs) → ((r : Refused) → ¬ NamesCycle Before pending r) → AreFree Before pending
+no_circle Before pending none cycle c =
+    let turned = least_unit_first (ComesBefore Before pending) cycle c in
+    none (ordering_cycle (units_of turned.0)) (record { cycle = turned.0; closed = turned.1; least = turned.2; refusal = refl })
+
 -- a tree that isn't refused leaves the pending jobs without a cycle
 pub loads_free : (s : State) (tree : Tree) → ((r : Refused) → ¬ CausesOfLoad s tree r) → (cycle : List Job) → ¬ IsCycle (ComesBefore (IsBefore tree) s.pending) cycle
-loads_free s tree none cycle c =
-    let turned = least_unit_first (ComesBefore (IsBefore tree) s.pending) cycle c in
-    none (ordering_cycle (units_of turned.0)) (at_second (λ r crowded. none r (at_first crowded))
-    (record { cycle = turned.0; closed = turned.1; least = turned.2; refusal = refl }))
+loads_free s tree none = no_circle (IsBefore tree) s.pending (λ r circle. none r (at_second (λ q crowded. none q (at_first crowded)) circle))
 
 changes_free : (s : State) (command : Command) (u : State) → ((r : Refused) → ¬ Refuses s command r) → Changes s command u → IsFree s → IsFree u
 changes_free s command u none (Changes.puts e) free = free
 changes_free s command u none (Changes.links e) free = free
 changes_free s command u none (Changes.removes e) free = free
 changes_free s command u none Changes.reloads free = loads_free s s.tree (λ r c. none r (c))
-changes_free s command u none (Changes.installs {tree = tree} h) free =
-    loads_free s tree (λ r c. none r ((at_second (λ q refuses. none q ((at_first refuses))) (record { tree = tree; installs = h; cause = c }))))
+changes_free s command u none (Changes.installs {verb = verb} {unit = unit} {tree = tree} h) free =
+    no_circle (IsBefore tree) s.pending (λ r c. none r (at_second unlinked (at_second uncrowded (at_second untaken (record { tree = tree; installs = h; cause = c })))))
+  where
+    unlinked : (r : Refused) → ¬ RefusesLinks s.tree verb unit r
+    unlinked r refuses = none r (at_first refuses)
+
+    uncrowded : (r : Refused) → ¬ LoadsNone s verb unit (λ t. IsCrowded t (IsHeld s)) r
+    uncrowded r crowded = none r (at_second unlinked (at_first crowded))
+
+    untaken : (r : Refused) → ¬ RefusesUnits s.tree verb unit r
+    untaken r refuses = none r (at_second unlinked (at_second uncrowded (at_first refuses)))
 changes_free s command u none (Changes.cancels {asked = asked}) free =
     less_free s u (record { loaded = refl; fewer = fewer_at s.pending (unit_asked s asked) _ (cancelled_fewer (jobs_asked s asked)) }) free
 changes_free s command u none (Changes.demands_nothing is) free = free
@@ -262,7 +275,7 @@ changes_free s command u none (Changes.plans {verb = verb} {asked = asked} {mode
     plan_free s (unit_asked s asked) demand after plan (free_of_causes (scene_at s (unit_asked s asked)) (demand, unit_asked s asked) mode after
     (λ r c. none r ((at_second (λ q crowded. none q ((at_first crowded)))
     (at_second (λ q missing. none q ((at_second (λ x crowded. none x ((at_first crowded))) (at_first missing))))
-    (record { demand = demand; demanded = is; after = after; plan = plan; cause = at_first c }))))))
+    (record { demand = demand; demanded = is; after = after; plan = plan; cause = c }))))))
 
 does_free : (t : ℕ) (s : State) (command : Command) (actions : List Action) (u : State) → ((r : Refused) → ¬ Refuses s command r) → Does t s command actions u → IsFree s → IsFree u
 does_free t s command actions u none (Does.changes h) free = changes_free s command u none h free

@@ -9,7 +9,7 @@ use Rattle.std.proofs.lemmas.Bool.{cases_lt, and_parts, or_cases}
 use Rattle.std.proofs.lemmas.Option.{none-some}
 use Rattle.std.proofs.lemmas.Slice.Eq.{bytes_eq-Decides}
 use Rattle.std.specs.Str.{bytes_eq}
-use Rattle.um_model.specs.Install.{LinkAt, link_at, install_of, linked_name, links_of, IsAlso, also, IsTaken, IsAskedFor, IsEnabled, IsUnfit, IsOccupied, stands, differs, HasTooMany, too_many, CannotEnable, isnt_found, is_masked, has_bad_setting, lacks_instance, IsBarred, CausesOfEnable, IsMeant, IsUnlinked, IsDisabled, unmasked, Installs, enables, disables, masks, unmasks, RefusesInstall, enables_none, masks_none, enabling_of, IsEnabledAs}
+use Rattle.um_model.specs.Install.{LinkAt, link_at, install_of, linked_name, links_of, IsAlso, also, IsTaken, IsAskedFor, IsEnabled, IsUnfit, IsOccupied, stands, differs, HasTooMany, too_many, CannotEnable, isnt_found, is_masked, has_bad_setting, lacks_instance, IsBarred, CausesOfLinks, IsMeant, IsUnlinked, IsDisabled, unmasked, Installs, enables, disables, masks, unmasks, RefusesLinks, enables_none, masks_none, RefusesUnits, takes_none, RefusesInstall, enabling_of, IsEnabledAs}
 use Rattle.um_model.specs.Least.{IsNamedBefore, NamesLeast}
 use Rattle.um_model.specs.Names.{is_unit_name}
 use Rattle.um_model.specs.Reached.{first, next}
@@ -423,20 +423,23 @@ module _ (tree : Tree) (asked : List ℕ) where
         | inr most ↦ inr (few u enabled most)
       ]
 
-  -- one cause refuses the enabling, or none
-  enabling_cause : OneOrNone (CausesOfEnable tree asked)
-  enabling_cause =
+  -- one cause keeps the links from being made, or none
+  links_cause : OneOrNone (CausesOfLinks tree asked)
+  links_cause =
       first_or_then _ _ (named_or_none (IsUnfit tree asked) (λ path r. r ≡ bad_path path) (λ path h. (bad_path path, refl)) least_unfit) (λ fit.
       first_or_then _ _ (named_or_none (IsOccupied tree asked) (λ path r. r ≡ exists_at path) (λ path h. (exists_at path, refl)) least_occupied) (λ free.
-      first_or_then _ _ (too_many_or_not (none_occupied free)) (λ few.
-      named_or_none (IsBarred tree asked) (λ unit r. CannotEnable unit (load tree unit) r) (λ unit h. (h.refusal, h.cause)) least_barred)))
+      too_many_or_not (none_occupied free)))
 
-  -- where none does, no path is occupied
-  pub free_of_causes : ((r : Refused) → ¬ (CausesOfEnable tree asked r)) → IsFree
+  -- a unit that is taken can't be enabled, or each can
+  bars_cause : OneOrNone (NamesLeast (IsBarred tree asked) (λ unit r. CannotEnable unit (load tree unit) r))
+  bars_cause = named_or_none (IsBarred tree asked) (λ unit r. CannotEnable unit (load tree unit) r) (λ unit h. (h.refusal, h.cause)) least_barred
+
+  -- where no cause does, no path is occupied
+  pub free_of_causes : ((r : Refused) → ¬ (CausesOfLinks tree asked r)) → IsFree
   free_of_causes none = none_occupied (λ r h. none r (at_second (λ other unfit. none other (at_first unfit)) (at_first h)))
 
   -- and no link is unfit
-  pub fit_of_causes : ((r : Refused) → ¬ (CausesOfEnable tree asked r)) → (path : List ℕ) → ¬ (IsUnfit tree asked path)
+  pub fit_of_causes : ((r : Refused) → ¬ (CausesOfLinks tree asked r)) → (path : List ℕ) → ¬ (IsUnfit tree asked path)
   fit_of_causes none = by_least least_unfit
     where
       by_least : NoneOrLeast (IsUnfit tree asked) → (path : List ℕ) → ¬ (IsUnfit tree asked path)
@@ -444,26 +447,19 @@ module _ (tree : Tree) (asked : List ℕ) where
       by_least (inr found) = absurd (none (bad_path found.0) (at_first (record { name = found.0; least = found.1; told = refl })))
 
   -- nor are the entries too many
-  pub few_of_causes : ((r : Refused) → ¬ (CausesOfEnable tree asked r)) → (r : Refused) → ¬ (HasTooMany tree asked r)
+  pub few_of_causes : ((r : Refused) → ¬ (CausesOfLinks tree asked r)) → (r : Refused) → ¬ (HasTooMany tree asked r)
   few_of_causes none q many =
       none q
       (at_second (λ r unfit. none r (at_first unfit))
-      (at_second (λ r occupied. none r (at_second (λ q unfit. none q (at_first unfit)) (at_first occupied)))
-      (at_first many)))
+      (at_second (λ r occupied. none r (at_second (λ q unfit. none q (at_first unfit)) (at_first occupied))) many))
 
-  -- nor can any unit that is taken not be enabled
-  pub open_of_causes : ((r : Refused) → ¬ (CausesOfEnable tree asked r)) → (unit : List ℕ) → ¬ (IsBarred tree asked unit)
+  -- where no unit is named that can't be enabled, each that is taken can
+  pub open_of_causes : ((r : Refused) → ¬ RefusesUnits tree verbs.Enable asked r) → (unit : List ℕ) → ¬ (IsBarred tree asked unit)
   open_of_causes none = by_least least_barred
     where
-      last : (r : Refused) → NamesLeast (IsBarred tree asked) (λ unit r. CannotEnable unit (load tree unit) r) r → CausesOfEnable tree asked r
-      last r h =
-          at_second (λ q unfit. none q (at_first unfit))
-          (at_second (λ q occupied. none q (at_second (λ x unfit. none x (at_first unfit)) (at_first occupied)))
-          (at_second (few_of_causes none) h))
-
       by_least : NoneOrLeast (IsBarred tree asked) → (unit : List ℕ) → ¬ (IsBarred tree asked unit)
       by_least (inl free) = free
-      by_least (inr found) = absurd (none found.1.has.refusal (last found.1.has.refusal (record { name = found.0; least = found.1; told = found.1.has.cause })))
+      by_least (inr found) = absurd (none found.1.has.refusal (takes_none (record { name = found.0; least = found.1; told = found.1.has.cause })))
 
   -- ---- each cause has one refusal
 
@@ -476,11 +472,14 @@ module _ (tree : Tree) (asked : List ℕ) where
   one_too_many : (r q : Refused) → HasTooMany tree asked r → HasTooMany tree asked q → r ≡ q
   one_too_many r q (too_many all many) (too_many other more) = refl
 
-  one_enable_refusal : (r q : Refused) → CausesOfEnable tree asked r → CausesOfEnable tree asked q → r ≡ q
-  one_enable_refusal =
+  one_links_refusal : (r q : Refused) → CausesOfLinks tree asked r → CausesOfLinks tree asked q → r ≡ q
+  one_links_refusal =
       one_first _ _ (one_named (IsUnfit tree asked) (λ path r. r ≡ bad_path path) (λ path r q h k. h ∙ sym k))
-      (one_first _ _ (one_named (IsOccupied tree asked) (λ path r. r ≡ exists_at path) (λ path r q h k. h ∙ sym k))
-      (one_first _ _ one_too_many (one_named (IsBarred tree asked) (λ unit r. CannotEnable unit (load tree unit) r) (λ unit. one_cannot unit (load tree unit)))))
+      (one_first _ _ (one_named (IsOccupied tree asked) (λ path r. r ≡ exists_at path) (λ path r q h k. h ∙ sym k)) one_too_many)
+
+  one_bars_refusal : (r q : Refused) → NamesLeast (IsBarred tree asked) (λ unit r. CannotEnable unit (load tree unit) r) r
+      → NamesLeast (IsBarred tree asked) (λ unit r. CannotEnable unit (load tree unit) r) q → r ≡ q
+  one_bars_refusal = one_named (IsBarred tree asked) (λ unit r. CannotEnable unit (load tree unit) r) (λ unit. one_cannot unit (load tree unit))
 
   -- ---- what disabling removes
 
@@ -607,29 +606,35 @@ one_install tree verb unit u v (disables {unit = x} {disabled = a} h) (disables 
 one_install tree verb unit u v (masks {unit = x} {changed = a} e) (masks {changed = b} f) = same_ok (put_link tree (unit_path Etc x) (codes "/dev/null")) a b e f
 one_install tree verb unit u v unmasks unmasks = refl
 
--- and has one refusal
-pub one_install_refusal : (tree : Tree) (verb : InstallVerb) (unit : List ℕ) (r q : Refused) → RefusesInstall tree verb unit r → RefusesInstall tree verb unit q → r ≡ q
-one_install_refusal tree verb unit r q (enables_none {unit = x} {r = a} h) (enables_none {r = b} k) = one_enable_refusal tree x a b h k
-one_install_refusal tree verb unit r q (masks_none {unit = x} {r = a} e) (masks_none {r = b} f) = same_err (put_link tree (unit_path Etc x) (codes "/dev/null")) a b e f
+-- and has one refusal for its links, and one for its units
+pub one_link_refusal : (tree : Tree) (verb : InstallVerb) (unit : List ℕ) (r q : Refused) → RefusesLinks tree verb unit r → RefusesLinks tree verb unit q → r ≡ q
+one_link_refusal tree verb unit r q (enables_none {unit = x} {r = a} h) (enables_none {r = b} k) = one_links_refusal tree x a b h k
+one_link_refusal tree verb unit r q (masks_none {unit = x} {r = a} e) (masks_none {r = b} f) = same_err (put_link tree (unit_path Etc x) (codes "/dev/null")) a b e f
 
--- it is refused, or makes a tree
+pub one_unit_refusal : (tree : Tree) (verb : InstallVerb) (unit : List ℕ) (r q : Refused) → RefusesUnits tree verb unit r → RefusesUnits tree verb unit q → r ≡ q
+one_unit_refusal tree verb unit r q (takes_none {unit = x} {r = a} h) (takes_none {r = b} k) = one_bars_refusal tree x a b h k
+
+pub one_install_refusal : (tree : Tree) (verb : InstallVerb) (unit : List ℕ) (r q : Refused) → RefusesInstall tree verb unit r → RefusesInstall tree verb unit q → r ≡ q
+one_install_refusal tree verb unit = one_first _ _ (one_link_refusal tree verb unit) (one_unit_refusal tree verb unit)
+
+-- it is refused for its links, or makes a tree
 abbrev Becomes : Tree → InstallVerb → List ℕ → Type 0
 Becomes tree verb unit =
-    ((r : Refused) × RefusesInstall tree verb unit r) ⊎ (((r : Refused) → ¬ (RefusesInstall tree verb unit r)) × ((u : Tree) × Installs tree verb unit u))
+    ((r : Refused) × RefusesLinks tree verb unit r) ⊎ (((r : Refused) → ¬ (RefusesLinks tree verb unit r)) × ((u : Tree) × Installs tree verb unit u))
 
-enable_becomes : (tree : Tree) (unit : List ℕ) → OneOrNone (CausesOfEnable tree unit) → Becomes tree verbs.Enable unit
+enable_becomes : (tree : Tree) (unit : List ℕ) → OneOrNone (CausesOfLinks tree unit) → Becomes tree verbs.Enable unit
 enable_becomes tree unit (inl found) = inl (found.0, enables_none found.1)
 enable_becomes tree unit (inr none) =
     let made = an_enabled tree unit (free_of_causes tree unit none) in
     inr (obeyed, (made.0, enables made.1))
   where
-    obeyed : (r : Refused) → ¬ (RefusesInstall tree verbs.Enable unit r)
+    obeyed : (r : Refused) → ¬ (RefusesLinks tree verbs.Enable unit r)
     obeyed r (enables_none h) = none r h
 
-disable_obeys : (tree : Tree) (unit : List ℕ) (r : Refused) → ¬ (RefusesInstall tree verbs.Disable unit r)
+disable_obeys : (tree : Tree) (unit : List ℕ) (r : Refused) → ¬ (RefusesLinks tree verbs.Disable unit r)
 disable_obeys tree unit r h = elim h [ ]
 
-unmask_obeys : (tree : Tree) (unit : List ℕ) (r : Refused) → ¬ (RefusesInstall tree verbs.Unmask unit r)
+unmask_obeys : (tree : Tree) (unit : List ℕ) (r : Refused) → ¬ (RefusesLinks tree verbs.Unmask unit r)
 unmask_obeys tree unit r h = elim h [ ]
 
 mask_becomes : (tree : Tree) (unit : List ℕ) (result : Result Tree Refused) → put_link tree (unit_path Etc unit) (codes "/dev/null") ≡ result → Becomes tree verbs.Mask unit
@@ -639,17 +644,51 @@ mask_becomes tree unit (Ok changed) e = inr (obeyed, (changed, masks e))
     isnt_refused : (result : Result Tree Refused) (r : Refused) → result ≡ Ok changed → ¬ (result ≡ Err r)
     isnt_refused result r e f = cc
 
-    obeyed : (r : Refused) → ¬ (RefusesInstall tree verbs.Mask unit r)
+    obeyed : (r : Refused) → ¬ (RefusesLinks tree verbs.Mask unit r)
     obeyed r (masks_none f) = isnt_refused (put_link tree (unit_path Etc unit) (codes "/dev/null")) r e f
 
--- each verb is refused, or makes a tree
-pub an_install : (tree : Tree) (verb : InstallVerb) (unit : List ℕ) → ((r : Refused) × RefusesInstall tree verb unit r) ⊎ (((r : Refused) → ¬ RefusesInstall tree verb unit r) × ((u : Tree) × Installs tree verb unit u))
-an_install tree verbs.Enable unit = enable_becomes tree unit (enabling_cause tree unit)
-an_install tree verbs.Disable unit =
+-- each verb is refused for its links, or makes a tree
+pub a_tree_installed : (tree : Tree) (verb : InstallVerb) (unit : List ℕ)
+    → ((r : Refused) × RefusesLinks tree verb unit r) ⊎ (((r : Refused) → ¬ RefusesLinks tree verb unit r) × ((u : Tree) × Installs tree verb unit u))
+a_tree_installed tree verbs.Enable unit = enable_becomes tree unit (links_cause tree unit)
+a_tree_installed tree verbs.Disable unit =
     let made = a_disabled tree unit in
     inr (disable_obeys tree unit, (made.0, disables made.1))
-an_install tree verbs.Mask unit = mask_becomes tree unit (put_link tree (unit_path Etc unit) (codes "/dev/null")) refl
-an_install tree verbs.Unmask unit = inr (unmask_obeys tree unit, (unmasked tree unit, unmasks))
+a_tree_installed tree verbs.Mask unit = mask_becomes tree unit (put_link tree (unit_path Etc unit) (codes "/dev/null")) refl
+a_tree_installed tree verbs.Unmask unit = inr (unmask_obeys tree unit, (unmasked tree unit, unmasks))
+
+-- and for its units, or not
+pub units_refused_or_not : (tree : Tree) (verb : InstallVerb) (unit : List ℕ) → OneOrNone (RefusesUnits tree verb unit)
+units_refused_or_not tree verbs.Enable unit = by_cause (bars_cause tree unit)
+  where
+    none_taken : ((r : Refused) → ¬ NamesLeast (IsBarred tree unit) (λ other r. CannotEnable other (load tree other) r) r) → (r : Refused)
+        → ¬ RefusesUnits tree verbs.Enable unit r
+    none_taken none r (takes_none h) = none r h
+
+    by_cause : OneOrNone (NamesLeast (IsBarred tree unit) (λ other r. CannotEnable other (load tree other) r)) → OneOrNone (RefusesUnits tree verbs.Enable unit)
+    by_cause (inl found) = inl (found.0, takes_none found.1)
+    by_cause (inr none) = inr (none_taken none)
+units_refused_or_not tree verbs.Disable unit = inr (λ r h. elim h [ ])
+units_refused_or_not tree verbs.Mask unit = inr (λ r h. elim h [ ])
+units_refused_or_not tree verbs.Unmask unit = inr (λ r h. elim h [ ])
+
+-- so each is refused, or makes a tree
+pub an_install : (tree : Tree) (verb : InstallVerb) (unit : List ℕ) → ((r : Refused) × RefusesInstall tree verb unit r) ⊎ (((r : Refused) → ¬ RefusesInstall tree verb unit r) × ((u : Tree) × Installs tree verb unit u))
+an_install tree verb unit = by_links (a_tree_installed tree verb unit)
+  where
+    neither : ((r : Refused) → ¬ RefusesLinks tree verb unit r) → ((r : Refused) → ¬ RefusesUnits tree verb unit r) → (r : Refused) → ¬ RefusesInstall tree verb unit r
+    neither none free r (at_first h) = none r h
+    neither none free r (at_second _ h) = free r h
+
+    by_units : ((r : Refused) → ¬ RefusesLinks tree verb unit r) → ((u : Tree) × Installs tree verb unit u) → OneOrNone (RefusesUnits tree verb unit)
+        → ((r : Refused) × RefusesInstall tree verb unit r) ⊎ (((r : Refused) → ¬ RefusesInstall tree verb unit r) × ((u : Tree) × Installs tree verb unit u))
+    by_units none made (inl found) = inl (found.0, at_second none found.1)
+    by_units none made (inr free) = inr (neither none free, made)
+
+    by_links : Becomes tree verb unit
+        → ((r : Refused) × RefusesInstall tree verb unit r) ⊎ (((r : Refused) → ¬ RefusesInstall tree verb unit r) × ((u : Tree) × Installs tree verb unit u))
+    by_links (inl found) = inl (found.0, at_first found.1)
+    by_links (inr made) = by_units made.0 made.1 (units_refused_or_not tree verb unit)
 
 -- ---- how a unit is enabled
 

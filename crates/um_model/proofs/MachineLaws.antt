@@ -4,7 +4,7 @@ use Rattle.std.proofs.lemmas.Option.{none-some, same_Some}
 use Rattle.std.specs.FinMap as map
 use Rattle.std.specs.FinMap.{slice_cmp-IsAntisymmetric, nat_cmp-IsAntisymmetric}
 use Rattle.std.specs.Cmp.Lexicographic.{nat_list_cmp_total}
-use Rattle.um_model.specs.Refusals.{Refused, FirstCause, at_first, at_second}
+use Rattle.um_model.specs.Refusals.{Refused, FirstCause, at_first, at_second, too_large}
 use Rattle.um_model.specs.Tree.{Tree, put_file, put_link, remove_at}
 use Rattle.um_model.specs.Least.{IsNamedBefore}
 use Rattle.um_model.specs.Service.{Action, ByUnit, state_of_unit}
@@ -12,7 +12,7 @@ use Rattle.um_model.specs.Jobs.{Job, IsReady, IsToldBefore, by_name, stop_first,
 use Rattle.um_model.specs.Plan.{IsPlan, CausesOfPlan, NamesCycle, units_of}
 use Rattle.um_model.specs.Timers.{Timers}
 use Rattle.um_model.specs.Transitions.{HasNumber}
-use Rattle.um_model.specs.Machine.{State, Command, PutFile, PutLink, Remove, DaemonReload, ForUnit, Cancel, ResetFailed, Install, Happening, ProcessEnded, ProcessExecuted, Tick, Booted, Event, Input, Reply, EnabledAs, Listed, Refusal, Query, IsReplyTo, shows, tells_activity, tells_failure, tells_files, tells_enabling, unit_listed, lists_units, lists_jobs, Becomes, alone, along, Carries, change_of, settings_in, around, FallsWith, AreByName, FallDown, all_told, told_next, Happens, happens, begins, begun, IsBefore, Settles, begins_next, IsProcessOf, AreDeadlines, end_of, Restarts, isnt_put, ComesDue, restarts, Fires, FiresOne, none_due, AwaitsReport, IsHeld, IsHeldOr, scene_at, IsCrowded, IsNotThere, IsMissing, HasNoPlan, HasNoneWaiting, CausesOfLoad, LoadsNone, active_asked, demand_of, unit_asked, Refuses, Changes, puts, links, removes, reloads, plans, demands_nothing, cancels, installs, units_reset, AreReset, all_reset, reset_next, Does, changes, resets, Follows, ends, reports, ticks, boots, HasNoEffect, is_over, isnt_awaited, is_idle, is_known, TakesEffect, obeys, meets, HasNoRoom, moment_of, Step, refused, crowded_out, idle, taken, reply_after, Run, goes}
+use Rattle.um_model.specs.Machine.{State, Command, PutFile, PutLink, Remove, DaemonReload, ForUnit, Cancel, ResetFailed, Install, Happening, ProcessEnded, ProcessExecuted, Tick, Booted, Event, Input, Reply, EnabledAs, Listed, Refusal, Query, IsReplyTo, shows, tells_activity, tells_failure, tells_files, tells_enabling, unit_listed, lists_units, lists_jobs, Becomes, alone, along, Carries, change_of, settings_in, around, FallsWith, AreByName, FallDown, all_told, told_next, Happens, happens, begins, begun, IsBefore, Settles, begins_next, IsProcessOf, AreDeadlines, end_of, Restarts, isnt_put, ComesDue, restarts, Fires, FiresOne, none_due, AwaitsReport, IsHeld, IsHeldOr, scene_at, IsCrowded, IsNotThere, IsMissing, PlansTooMany, by_name, by_jobs, HasNoPlan, HasNoneWaiting, CausesOfLoad, LoadsNone, active_asked, demand_of, unit_asked, Refuses, Changes, puts, links, removes, reloads, plans, demands_nothing, cancels, installs, units_reset, AreReset, all_reset, reset_next, Does, changes, resets, Follows, ends, reports, ticks, boots, HasNoEffect, is_over, isnt_awaited, is_idle, is_known, TakesEffect, obeys, meets, HasNoRoom, moment_of, Step, refused, crowded_out, idle, taken, reply_after, Run, goes}
 use Rattle.um_model.specs.Outcomes.{NamesACycle, AlikeBut, the_same, both_name, IsSameOutcome}
 use Rattle.um_model.specs.declared.commands.JobMode.{JobMode}
 use Rattle.um_model.specs.declared.commands.UnitVerb.{UnitVerb}
@@ -22,12 +22,13 @@ use Rattle.um_model.specs.declared.jobs.JobKind.{JobKind}
 use Rattle.um_model.specs.declared.jobs.JobKind.TheVariants.{Stop, Start}
 use Rattle.um_model.specs.declared.jobs.UnitJobs.{UnitJobs}
 use Rattle.um_model.specs.declared.service.End.{End}
+use Rattle.um_model.specs.declared.refusals.Limit.TheVariants.{Units}
 use Rattle.um_model.specs.declared.service.UnitState.{UnitState}
 use Rattle.um_model.specs.declared.transition.Change.{Change}
 use Rattle.um_model.specs.declared.transition.UnitEvent.{UnitEvent}
 use Rattle.um_model.specs.declared.transition.UnitEvent.TheVariants.{BoundStop, Executed, DeadlinePasses, Reset}
 use Rattle.um_model.proofs.AlongLaws.{one_along}
-use Rattle.um_model.proofs.InstallLaws.{one_install, one_install_refusal, one_enabling}
+use Rattle.um_model.proofs.InstallLaws.{one_install, one_link_refusal, one_unit_refusal, one_enabling}
 use Rattle.um_model.proofs.CausesLaws.{same_ok, same_err, one_first}
 use Rattle.um_model.proofs.LeastLaws.{one_least}
 use Rattle.um_model.proofs.PlannedLaws.{one_plan}
@@ -213,28 +214,31 @@ module _ (s : State) (verb : UnitVerb) (asked : List ℕ) where
       by_cause (inl is) = inl is
       by_cause (inr both) = inr (names_a_cycle _ after r both.0, names_a_cycle _ after q both.1)
 
-  -- the causes of a plan, and that too many units would be known with it
-  abbrev CausesWith : JobMode → Demand → ByUnit UnitJobs → Refused → Type 0
-  CausesWith mode demand after =
-      FirstCause (CausesOfPlan (scene_at s (unit_asked s asked)) (demand, unit_asked s asked) mode after) (IsCrowded s.loaded (IsHeld (record s { pending = after })))
+  abbrev Causes : JobMode → Demand → ByUnit UnitJobs → Refused → Type 0
+  Causes mode demand after = CausesOfPlan (scene_at s (unit_asked s asked)) (demand, unit_asked s asked) mode after
 
   refused_in_one_way : (mode : JobMode) → AreOneBut (HasNoPlan s verb asked mode)
   refused_in_one_way mode r q h k =
       let same = one_planned_map h.demand k.demand h.after k.after h.demanded k.demanded h.plan k.plan in
-      first_but _ _ (plan_in_one_way h.demand mode h.after) (one_crowded s.loaded (IsHeld (record s { pending = h.after }))) r q h.cause
-      (subst (λ x. CausesWith mode h.demand x q) (sym same.1) (subst (λ x. CausesWith mode x k.after q) (sym same.0) k.cause))
+      plan_in_one_way h.demand mode h.after r q h.cause
+      (subst (λ x. Causes mode h.demand x q) (sym same.1) (subst (λ x. Causes mode x k.after q) (sym same.0) k.cause))
+
+  too_many_told : (r : Refused) → PlansTooMany s verb asked r → r ≡ too_large Units
+  too_many_told r (by_name h) = h.refusal
+  too_many_told r (by_jobs demanded plan h) = h.refusal
 
 one_planned : (s : State) (verb : UnitVerb) (asked : List ℕ) (mode : JobMode) → AreOneBut (Refuses s (ForUnit verb asked mode))
 one_planned s verb asked mode =
-    first_but _ _ (one_crowded s.loaded (IsHeldOr s (unit_asked s asked)))
+    first_but (PlansTooMany s verb asked) _ (λ r q h k. inl (too_many_told s verb asked r h ∙ sym (too_many_told s verb asked q k)))
     (first_but (IsNotThere s verb asked) (HasNoPlan s verb asked mode) (λ r q h k. inl ((missing_there h).refusal ∙ sym (missing_there k).refusal)) (refused_in_one_way s verb asked mode))
 
 one_loaded : (s : State) (tree : Tree) → AreOneBut (CausesOfLoad s tree)
 one_loaded s tree = first_but _ _ (one_crowded tree (IsHeld s)) (one_cycle (IsBefore tree) s.pending)
 
-one_unloaded : (s : State) (verb : InstallVerb) (unit : List ℕ) → AreOneBut (LoadsNone s verb unit)
-one_unloaded s verb unit r q h k =
-    one_loaded s h.tree r q h.cause (subst (λ x. CausesOfLoad s x q) (one_install s.tree verb unit k.tree h.tree k.installs h.installs) k.cause)
+one_unloaded : (s : State) (verb : InstallVerb) (unit : List ℕ) (Cause : Tree → Refused → Type 0) → ((tree : Tree) → AreOneBut (Cause tree))
+    → AreOneBut (LoadsNone s verb unit Cause)
+one_unloaded s verb unit Cause one r q h k =
+    one h.tree r q h.cause (subst (λ x. Cause x q) (one_install s.tree verb unit k.tree h.tree k.installs h.installs) k.cause)
 
 one_cancelled : (s : State) (asked : List ℕ) (r q : Refused) → Refuses s (Cancel asked) r → Refuses s (Cancel asked) q → r ≡ q
 one_cancelled s asked =
@@ -251,7 +255,10 @@ one_refusal s (Cancel asked) r q h k = inl (one_cancelled s asked r q h k)
 one_refusal s (ResetFailed (Some asked)) r q h k = inl (h.refusal ∙ sym k.refusal)
 one_refusal s (ResetFailed None) r q h k = absurd h
 one_refusal s (Install verb unit) r q h k =
-    first_but _ _ (λ x y g l. inl (one_install_refusal s.tree verb unit x y g l)) (one_unloaded s verb unit) r q h k
+    first_but _ _ (λ x y g l. inl (one_link_refusal s.tree verb unit x y g l))
+    (first_but _ _ (one_unloaded s verb unit (λ tree. IsCrowded tree (IsHeld s)) (λ tree. one_crowded tree (IsHeld s)))
+    (first_but _ _ (λ x y g l. inl (one_unit_refusal s.tree verb unit x y g l))
+    (one_unloaded s verb unit (λ tree. NamesCycle (IsBefore tree) s.pending) (λ tree. one_cycle (IsBefore tree) s.pending)))) r q h k
 
 -- and changes the state in one way
 pub one_change : (s : State) (command : Command) (u v : State) → Changes s command u → Changes s command v → u ≡ v

@@ -3,9 +3,9 @@ use Rattle.std.proofs.Common.{ℕ, nat_lt, ◌≡◌, ◌⊎◌, inl, inr, ◌�
 use Rattle.std.specs.FinMap as map
 use Rattle.std.proofs.lemmas.Option.{none-some, same_Some}
 use Rattle.std.specs.Prelude.{cond}
-use Rattle.um_model.specs.Install.{HasTooMany, too_many, CannotEnable, isnt_found, is_masked, has_bad_setting, lacks_instance, RefusesInstall, enables_none, masks_none}
+use Rattle.um_model.specs.Install.{HasTooMany, too_many, CannotEnable, isnt_found, is_masked, has_bad_setting, lacks_instance, RefusesLinks, enables_none, masks_none, RefusesUnits, takes_none}
 use Rattle.um_model.specs.Machine as model
-use Rattle.um_model.specs.Machine.{State, Command, PutFile, PutLink, Remove, DaemonReload, ForUnit, Cancel, ResetFailed, Install, IsMissing, IsCrowded, CannotStart, HasNoPlan, CausesOfLoad, LoadsNone, Refuses, scene_at, unit_asked, IsNotThere, to_stop, to_try_restart}
+use Rattle.um_model.specs.Machine.{State, Command, PutFile, PutLink, Remove, DaemonReload, ForUnit, Cancel, ResetFailed, Install, IsMissing, IsCrowded, CannotStart, PlansTooMany, by_name, by_jobs, HasNoPlan, CausesOfLoad, LoadsNone, Refuses, scene_at, unit_asked, IsNotThere, to_stop, to_try_restart}
 use Rattle.um_model.specs.Refusals.{Refused, bad_path, exists_at, too_large, no_room, FirstCause, at_first, at_second, unless_refused}
 use Rattle.um_model.specs.Tree.{Tree, File, Link, path_parts, is_served, is_link, is_other_than_link, is_fit_target, is_full_for, text_limit, put_cause, put_file, link_cause, put_link, remove_cause, remove_at}
 use Rattle.um_model.specs.Units.{Loading}
@@ -98,28 +98,38 @@ load_of s tree r = by_either _ _ r (crowded_of tree _ r) (λ h. told _ r (inl (o
 
 plan_of : (s : State) (verb : UnitVerb) (asked : List ℕ) (mode : JobMode) (r : Refused) → HasNoPlan s verb asked mode r → IsOfCommand r
 plan_of s verb asked mode r h =
-    by_either _ _ r
-    (by_either _ _ r (λ barred. start_of _ _ r barred.told)
+    by_either _ _ r (λ barred. start_of _ _ r barred.told)
     (by_either _ _ r (λ clashes. told _ r (inl (omega arith)) clashes.told)
-    (by_either _ _ r (λ drops. told _ r (inl (omega arith)) drops.names.told) (λ circle. told _ r (inl (omega arith)) circle.refusal))))
-    (crowded_of s.loaded _ r) h.cause
+    (by_either _ _ r (λ drops. told _ r (inl (omega arith)) drops.names.told) (λ circle. told _ r (inl (omega arith)) circle.refusal))) h.cause
+
+too_many_of : (s : State) (verb : UnitVerb) (asked : List ℕ) (r : Refused) → PlansTooMany s verb asked r → IsOfCommand r
+too_many_of s verb asked r (by_name h) = crowded_of s.loaded _ r h
+too_many_of s verb asked r (by_jobs demanded plan h) = crowded_of s.loaded _ r h
 
 pub missing_there : {s : State} {verb : UnitVerb} {asked : List ℕ} {r : Refused} → IsNotThere s verb asked r → IsMissing s asked r
 missing_there (to_stop h) = h
 missing_there (to_try_restart h) = h
 
 unit_of : (s : State) (verb : UnitVerb) (asked : List ℕ) (mode : JobMode) (r : Refused) → Refuses s (ForUnit verb asked mode) r → IsOfCommand r
-unit_of s verb asked mode r = by_either _ _ r (crowded_of s.loaded _ r) (by_either _ _ r (λ h. missing_of s asked r (missing_there h)) (plan_of s verb asked mode r))
+unit_of s verb asked mode r = by_either _ _ r (too_many_of s verb asked r) (by_either _ _ r (λ h. missing_of s asked r (missing_there h)) (plan_of s verb asked mode r))
 
 cancel_of : (s : State) (asked : List ℕ) (r : Refused) → Refuses s (Cancel asked) r → IsOfCommand r
 cancel_of s asked r = by_either _ _ r (missing_of s asked r) (λ h. told _ r (inr refl) h.refusal)
 
-install_of : (tree : Tree) (verb : InstallVerb) (unit : List ℕ) (r : Refused) → RefusesInstall tree verb unit r → IsOfCommand r
-install_of tree _ unit r (enables_none causes) =
+links_of : (tree : Tree) (verb : InstallVerb) (unit : List ℕ) (r : Refused) → RefusesLinks tree verb unit r → IsOfCommand r
+links_of tree _ unit r (enables_none causes) =
     by_either _ _ r (λ unfit. told _ r (inl (omega arith)) unfit.told)
-    (by_either _ _ r (λ occupied. told _ r (inl (omega arith)) occupied.told)
-    (by_either _ _ r (many_of tree _ r) (λ barred. enable_of _ _ r barred.told))) causes
-install_of tree _ unit r (masks_none e) = link_of tree _ _ r e
+    (by_either _ _ r (λ occupied. told _ r (inl (omega arith)) occupied.told) (many_of tree _ r)) causes
+links_of tree _ unit r (masks_none e) = link_of tree _ _ r e
+
+units_of : (tree : Tree) (verb : InstallVerb) (unit : List ℕ) (r : Refused) → RefusesUnits tree verb unit r → IsOfCommand r
+units_of tree _ unit r (takes_none barred) = enable_of _ _ r barred.told
+
+install_of : (s : State) (verb : InstallVerb) (unit : List ℕ) (r : Refused) → Refuses s (Install verb unit) r → IsOfCommand r
+install_of s verb unit r =
+    by_either _ _ r (links_of s.tree verb unit r)
+    (by_either _ _ r (λ h. crowded_of h.tree _ r h.cause)
+    (by_either _ _ r (units_of s.tree verb unit r) (λ h. told _ r (inl (omega arith)) h.cause.refusal)))
 
 -- ---- all commands
 
@@ -132,7 +142,7 @@ refused_of_command s (ForUnit verb asked mode) r causes = unit_of s verb asked m
 refused_of_command s (Cancel asked) r causes = cancel_of s asked r causes
 refused_of_command s (ResetFailed (Some asked)) r missing = missing_of s asked r missing
 refused_of_command s (ResetFailed None) r none = absurd none
-refused_of_command s (Install verb unit) r causes = by_either _ _ r (install_of s.tree verb unit r) (λ h. load_of s h.tree r h.cause) causes
+refused_of_command s (Install verb unit) r causes = install_of s verb unit r causes
 
 -- nor is want of room
 pub no_room_of_command : IsOfCommand no_room

@@ -5,13 +5,13 @@ use Rattle.std.specs.FinMap as map
 use Rattle.um_model.specs.Least.{IsNamedBefore}
 use Rattle.um_model.specs.Refusals.{Refused, FirstCause, at_first, at_second, no_room, no_such_job, not_loaded}
 use Rattle.um_model.specs.Tree.{Tree, put_file, put_link, remove_at}
-use Rattle.um_model.specs.Install.{Installs, RefusesInstall}
+use Rattle.um_model.specs.Install.{Installs, RefusesLinks, RefusesUnits}
 use Rattle.um_model.specs.Units.{load, Loading, NotFound}
 use Rattle.um_model.specs.Service.{Action, ByUnit, state_of_unit}
-use Rattle.um_model.specs.Plan.{IsPlan, CausesOfPlan}
+use Rattle.um_model.specs.Plan.{IsPlan, CausesOfPlan, NamesCycle}
 use Rattle.um_model.specs.Ends.{waits_for_report, has_one_command}
 use Rattle.um_model.specs.Transitions.{HasNumber}
-use Rattle.um_model.specs.Machine.{State, Command, PutFile, PutLink, Remove, DaemonReload, ForUnit, Cancel, ResetFailed, Install, Happening, ProcessEnded, ProcessExecuted, Tick, Booted, Event, Commanded, Happened, Input, Reply, Done, Refusal, IsHeld, IsHeldOr, IsBefore, IsProcessOf, IsOver, end_of, settings_in, AwaitsReport, booted, Follows, ends, reports, ticks, boots, HasNoEffect, is_over, isnt_awaited, is_idle, is_known, active_asked, demand_of, jobs_asked, unit_asked, scene_at, IsCrowded, IsNotThere, to_stop, to_try_restart, IsMissing, HasNoPlan, HasNoneWaiting, CausesOfLoad, Refuses, Changes, puts, links, removes, reloads, plans, demands_nothing, cancels, installs, units_reset, Does, changes, resets, TakesEffect, obeys, meets, moment_of, HasNoRoom, Step, refused, crowded_out, idle, taken}
+use Rattle.um_model.specs.Machine.{State, Command, PutFile, PutLink, Remove, DaemonReload, ForUnit, Cancel, ResetFailed, Install, Happening, ProcessEnded, ProcessExecuted, Tick, Booted, Event, Commanded, Happened, Input, Reply, Done, Refusal, IsHeld, IsHeldOr, IsBefore, IsProcessOf, IsOver, end_of, settings_in, AwaitsReport, booted, Follows, ends, reports, ticks, boots, HasNoEffect, is_over, isnt_awaited, is_idle, is_known, active_asked, demand_of, jobs_asked, unit_asked, scene_at, IsCrowded, IsNotThere, to_stop, to_try_restart, IsMissing, PlansTooMany, by_name, by_jobs, HasNoPlan, HasNoneWaiting, CausesOfLoad, LoadsNone, Refuses, Changes, puts, links, removes, reloads, plans, demands_nothing, cancels, installs, units_reset, Does, changes, resets, TakesEffect, obeys, meets, moment_of, HasNoRoom, Step, refused, crowded_out, idle, taken}
 use Rattle.um_model.specs.declared.commands.JobMode.{JobMode}
 use Rattle.um_model.specs.declared.commands.UnitVerb.{UnitVerb}
 use Rattle.um_model.specs.declared.commands.UnitVerb.TheVariants as verbs
@@ -26,7 +26,7 @@ use Rattle.um_model.proofs.AmongLaws.{both_decided, decided_as, passes_or_not}
 use Rattle.um_model.proofs.CausesLaws.{OneOrNone, first_or_none}
 use Rattle.um_model.proofs.CrowdedLaws.{crowded_or_none, heavy_or_not}
 use Rattle.um_model.proofs.FallTotal.{HasOutcome, a_happening}
-use Rattle.um_model.proofs.InstallLaws.{an_install, one_install}
+use Rattle.um_model.proofs.InstallLaws.{a_tree_installed, one_install, units_refused_or_not}
 use Rattle.um_model.proofs.KeepsLaws.{fires_keeps, same_state, Keeps}
 use Rattle.um_model.proofs.LeastLaws.{IsDecided, a_least}
 use Rattle.um_model.proofs.MachineLaws.{one_process, tick_has_effect, end_has_effect, report_has_effect, boot_has_effect}
@@ -74,6 +74,12 @@ there_or_not s verb asked = by_missing verb (missing_or_not s asked)
         restarts : (r : Refused) → ¬ IsNotThere s verbs.Restart asked r
         restarts r h = absurd (let b : ⊥ = elim h [ ] in b)
 
+-- too many units are known with the jobs of the plan for what a command demands
+abbrev CrowdsByJobs : State → UnitVerb → List ℕ → Refused → Type 0
+CrowdsByJobs s verb asked r =
+    (demand : Demand) × (after : ByUnit UnitJobs) × (demand_of verb (active_asked s asked) ≡ Some demand)
+    × IsPlan (scene_at s (unit_asked s asked)) (demand, unit_asked s asked) after × IsCrowded s.loaded (IsHeld (record s { pending = after })) r
+
 -- the plan of what a command demands
 module _ (s : State) (verb : UnitVerb) (asked : List ℕ) (mode : JobMode) where
   -- where it demands nothing, no plan is refused
@@ -90,38 +96,79 @@ module _ (s : State) (verb : UnitVerb) (asked : List ℕ) (mode : JobMode) where
         by_scene : (units : List (List ℕ)) × IsFinite (scene_at s named) units → (after : ByUnit UnitJobs) × IsPlan (scene_at s named) (demand, named) after
         by_scene (units, finite) = a_plan (scene_at s named) units finite (demand, named)
 
-    -- the causes for which this plan is refused: its own, and that too many units would be known with it
-    abbrev CausesWith : Demand → ByUnit UnitJobs → Refused → Type 0
-    CausesWith d after = FirstCause (CausesOfPlan (scene_at s named) (d, named) mode after) (IsCrowded s.loaded (IsHeld (record s { pending = after })))
-
-    -- where nothing refuses this plan, no other is refused
-    none_refused : (after : ByUnit UnitJobs) → IsPlan (scene_at s named) (demand, named) after → ((r : Refused) → ¬ (CausesWith demand after r))
-        → (r : Refused) → ¬ (HasNoPlan s verb asked mode r)
-    none_refused after plan free r h =
-        let same = same_Some h.demand demand (sym h.demanded ∙ demanded) in
-        let other = subst (λ d. IsPlan (scene_at s named) (d, named) h.after) same h.plan in
-        let cause = subst (λ d. CausesWith d h.after r) same h.cause in
+    -- what holds of one plan for what is demanded, holds of each
+    of_this_plan : (Holds : Demand → ByUnit UnitJobs → Type 0) (after : ByUnit UnitJobs) → IsPlan (scene_at s named) (demand, named) after
+        → (d : Demand) (other : ByUnit UnitJobs) → demand_of verb (active_asked s asked) ≡ Some d → IsPlan (scene_at s named) (d, named) other
+        → Holds d other → Holds demand after
+    of_this_plan Holds after plan d other is planned holds =
+        let same = same_Some d demand (sym is ∙ demanded) in
         let finite = finite_scene s named in
-        free r (subst (λ p. CausesWith demand p r) (one_plan (scene_at s named) finite.0 finite.1 (demand, named) h.after after other plan) cause)
+        subst (Holds demand)
+        (one_plan (scene_at s named) finite.0 finite.1 (demand, named) other after (subst (λ e. IsPlan (scene_at s named) (e, named) other) same planned) plan)
+        (subst (λ e. Holds e other) same holds)
 
-    -- one of those causes is there, or none
-    plan_cause_or_none : (after : ByUnit UnitJobs) → OneOrNone (CausesWith demand after)
-    plan_cause_or_none after =
-        let finite = finite_scene s named in
-        let held = held_list (record s { pending = after }) in
-        first_or_none _ _ (cause_or_none (scene_at s named) finite.0 finite.1 (demand, named) mode after)
-        (crowded_or_none (IsHeld (record s { pending = after })) held.0 held.1 s.loaded)
+    -- too many units are known with the jobs of the plan, or not
+    jobs_crowd_or_not : OneOrNone (CrowdsByJobs s verb asked)
+    jobs_crowd_or_not = by_plan a_plan_made
+      where
+        none_by : (after : ByUnit UnitJobs) → IsPlan (scene_at s named) (demand, named) after → ((r : Refused) → ¬ IsCrowded s.loaded (IsHeld (record s { pending = after })) r)
+            → (r : Refused) → ¬ CrowdsByJobs s verb asked r
+        none_by after plan free r (d, other, is, planned, crowded) =
+            free r (of_this_plan (λ e jobs. IsCrowded s.loaded (IsHeld (record s { pending = jobs })) r) after plan d other is planned crowded)
+
+        by_test : (after : ByUnit UnitJobs) → IsPlan (scene_at s named) (demand, named) after → OneOrNone (IsCrowded s.loaded (IsHeld (record s { pending = after })))
+            → OneOrNone (CrowdsByJobs s verb asked)
+        by_test after plan (inl found) = inl (found.0, (demand, after, demanded, plan, found.1))
+        by_test after plan (inr free) = inr (none_by after plan free)
+
+        by_plan : (after : ByUnit UnitJobs) × IsPlan (scene_at s named) (demand, named) after → OneOrNone (CrowdsByJobs s verb asked)
+        by_plan (after, plan) =
+            let held = held_list (record s { pending = after }) in
+            by_test after plan (crowded_or_none (IsHeld (record s { pending = after })) held.0 held.1 s.loaded)
 
     plan_refused_or_not : OneOrNone (HasNoPlan s verb asked mode)
     plan_refused_or_not = by_plan a_plan_made
       where
-        by_refusal : (after : ByUnit UnitJobs) → IsPlan (scene_at s named) (demand, named) after → OneOrNone (CausesWith demand after)
-            → OneOrNone (HasNoPlan s verb asked mode)
-        by_refusal after plan (inl found) = inl (found.0, record { demand = demand; demanded = demanded; after = after; plan = plan; cause = found.1 })
-        by_refusal after plan (inr free) = inr (none_refused after plan free)
+        none_by : (after : ByUnit UnitJobs) → IsPlan (scene_at s named) (demand, named) after
+            → ((r : Refused) → ¬ CausesOfPlan (scene_at s named) (demand, named) mode after r) → (r : Refused) → ¬ HasNoPlan s verb asked mode r
+        none_by after plan free r h =
+            free r (of_this_plan (λ d jobs. CausesOfPlan (scene_at s named) (d, named) mode jobs r) after plan h.demand h.after h.demanded h.plan h.cause)
+
+        by_cause : (after : ByUnit UnitJobs) → IsPlan (scene_at s named) (demand, named) after
+            → OneOrNone (CausesOfPlan (scene_at s named) (demand, named) mode after) → OneOrNone (HasNoPlan s verb asked mode)
+        by_cause after plan (inl found) = inl (found.0, record { demand = demand; demanded = demanded; after = after; plan = plan; cause = found.1 })
+        by_cause after plan (inr free) = inr (none_by after plan free)
 
         by_plan : (after : ByUnit UnitJobs) × IsPlan (scene_at s named) (demand, named) after → OneOrNone (HasNoPlan s verb asked mode)
-        by_plan (after, plan) = by_refusal after plan (plan_cause_or_none after)
+        by_plan (after, plan) =
+            let finite = finite_scene s named in
+            by_cause after plan (cause_or_none (scene_at s named) finite.0 finite.1 (demand, named) mode after)
+
+  nothing_crowds : demand_of verb (active_asked s asked) ≡ None → (r : Refused) → ¬ CrowdsByJobs s verb asked r
+  nothing_crowds none r (demand, after, is, plan, crowded) = none-some demand (sym none ∙ is)
+
+  jobs_crowd_or_none : OneOrNone (CrowdsByJobs s verb asked)
+  jobs_crowd_or_none = by_demand (demand_of verb (active_asked s asked)) refl
+    where
+      by_demand : (o : Option Demand) → demand_of verb (active_asked s asked) ≡ o → OneOrNone (CrowdsByJobs s verb asked)
+      by_demand None e = inr (nothing_crowds e)
+      by_demand (Some demand) e = jobs_crowd_or_not demand e
+
+  -- too many units would be known, or not
+  too_many_or_none : OneOrNone (PlansTooMany s verb asked)
+  too_many_or_none =
+      let held = held_or_list s (unit_asked s asked) in
+      by_tests (crowded_or_none (IsHeldOr s (unit_asked s asked)) held.0 held.1 s.loaded) jobs_crowd_or_none
+    where
+      neither : ((r : Refused) → ¬ IsCrowded s.loaded (IsHeldOr s (unit_asked s asked)) r) → ((r : Refused) → ¬ CrowdsByJobs s verb asked r)
+          → (r : Refused) → ¬ PlansTooMany s verb asked r
+      neither few fit r (by_name h) = few r h
+      neither few fit r (by_jobs {demand = demand} {after = after} is plan h) = fit r (demand, after, is, plan, h)
+
+      by_tests : OneOrNone (IsCrowded s.loaded (IsHeldOr s (unit_asked s asked))) → OneOrNone (CrowdsByJobs s verb asked) → OneOrNone (PlansTooMany s verb asked)
+      by_tests (inl found) other = inl (found.0, by_name found.1)
+      by_tests (inr few) (inl (r, (demand, after, is, plan, crowded))) = inl (r, by_jobs is plan crowded)
+      by_tests (inr few) (inr fit) = inr (neither few fit)
 
   -- one cause refuses what is demanded, or none does
   plan_or_none : OneOrNone (HasNoPlan s verb asked mode)
@@ -143,9 +190,7 @@ module _ (s : State) (verb : UnitVerb) (asked : List ℕ) (mode : JobMode) where
 
   -- and so of all causes
   planned_or_not : OneOrNone (Refuses s (ForUnit verb asked mode))
-  planned_or_not =
-      let held = held_or_list s (unit_asked s asked) in
-      first_or_none _ _ (crowded_or_none (IsHeldOr s (unit_asked s asked)) held.0 held.1 s.loaded) (first_or_none _ _ (there_or_not s verb asked) plan_or_none)
+  planned_or_not = first_or_none _ _ too_many_or_none (first_or_none _ _ (there_or_not s verb asked) plan_or_none)
 
 -- ---- a command is refused or changes the state
 
@@ -212,23 +257,40 @@ cancel_becomes s asked (inr none) = inr (free, (_, cancels))
     free r h = none r h
 
 install_becomes : (s : State) (verb : InstallVerb) (unit : List ℕ) → Becomes s (Install verb unit)
-install_becomes s verb unit = by_tree (an_install s.tree verb unit)
+install_becomes s verb unit = by_tree (a_tree_installed s.tree verb unit)
   where
-    is_free : (tree : Tree) → Installs s.tree verb unit tree → ((r : Refused) → ¬ (RefusesInstall s.tree verb unit r)) → ((r : Refused) → ¬ (CausesOfLoad s tree r))
-        → (r : Refused) → ¬ (Refuses s (Install verb unit) r)
-    is_free tree made none free r (at_first h) = none r h
-    is_free tree made none free r (at_second _ h) =
-        free r (subst (λ t. CausesOfLoad s t r) (one_install s.tree verb unit h.tree tree h.installs made) h.cause)
+    -- a cause refuses the tree that is made, or none does
+    loads_or_none : (tree : Tree) → Installs s.tree verb unit tree → (Cause : Tree → Refused → Type 0) → OneOrNone (Cause tree) → OneOrNone (LoadsNone s verb unit Cause)
+    loads_or_none tree made Cause (inl found) = inl (found.0, record { tree = tree; installs = made; cause = found.1 })
+    loads_or_none tree made Cause (inr free) =
+        inr (λ r h. free r (subst (λ t. Cause t r) (one_install s.tree verb unit h.tree tree h.installs made) h.cause))
 
-    by_load : (tree : Tree) → Installs s.tree verb unit tree → ((r : Refused) → ¬ (RefusesInstall s.tree verb unit r)) → OneOrNone (CausesOfLoad s tree)
-        → Becomes s (Install verb unit)
-    by_load tree made none (inl found) = inl (found.0, (at_second none (record { tree = tree; installs = made; cause = found.1 })))
-    by_load tree made none (inr free) = inr (is_free tree made none free, (_, installs made))
+    later_or_none : (tree : Tree) → Installs s.tree verb unit tree
+        → OneOrNone (FirstCause (LoadsNone s verb unit (λ t. IsCrowded t (IsHeld s)))
+        (FirstCause (RefusesUnits s.tree verb unit) (LoadsNone s verb unit (λ t. NamesCycle (IsBefore t) s.pending))))
+    later_or_none tree made =
+        let held = held_list s in
+        first_or_none _ _ (loads_or_none tree made (λ t. IsCrowded t (IsHeld s)) (crowded_or_none (IsHeld s) held.0 held.1 tree))
+        (first_or_none _ _ (units_refused_or_not s.tree verb unit)
+        (loads_or_none tree made (λ t. NamesCycle (IsBefore t) s.pending) (cycle_or_no_refusal (IsBefore tree) (before_or_not tree) s.pending)))
 
-    by_tree : ((r : Refused) × RefusesInstall s.tree verb unit r) ⊎ (((r : Refused) → ¬ (RefusesInstall s.tree verb unit r)) × ((tree : Tree) × Installs s.tree verb unit tree))
+    is_free : ((r : Refused) → ¬ (RefusesLinks s.tree verb unit r))
+        → ((r : Refused) → ¬ FirstCause (LoadsNone s verb unit (λ t. IsCrowded t (IsHeld s)))
+        (FirstCause (RefusesUnits s.tree verb unit) (LoadsNone s verb unit (λ t. NamesCycle (IsBefore t) s.pending))) r) → (r : Refused)
+        → ¬ (Refuses s (Install verb unit) r)
+    is_free none free r (at_first h) = none r h
+    is_free none free r (at_second _ h) = free r h
+
+    by_later : ((r : Refused) → ¬ (RefusesLinks s.tree verb unit r)) → (tree : Tree) → Installs s.tree verb unit tree
+        → OneOrNone (FirstCause (LoadsNone s verb unit (λ t. IsCrowded t (IsHeld s)))
+        (FirstCause (RefusesUnits s.tree verb unit) (LoadsNone s verb unit (λ t. NamesCycle (IsBefore t) s.pending)))) → Becomes s (Install verb unit)
+    by_later none tree made (inl found) = inl (found.0, at_second none found.1)
+    by_later none tree made (inr free) = inr (is_free none free, (_, installs made))
+
+    by_tree : ((r : Refused) × RefusesLinks s.tree verb unit r) ⊎ (((r : Refused) → ¬ (RefusesLinks s.tree verb unit r)) × ((tree : Tree) × Installs s.tree verb unit tree))
         → Becomes s (Install verb unit)
     by_tree (inl found) = inl (found.0, (at_first found.1))
-    by_tree (inr made) = by_load made.1.0 made.1.1 made.0 (load_or_none s made.1.0)
+    by_tree (inr (none, (tree, made))) = by_later none tree made (later_or_none tree made)
 
 -- ---- a command is refused or obeyed
 

@@ -109,12 +109,11 @@ pub record IsBarred (tree : Tree) (asked unit : List ℕ) : Type 0 where
   pub refusal : Refused
   pub cause : CannotEnable unit (load tree unit) refusal
 
--- the causes in the order in which they are looked at; each tells of the least path, or the least unit, of which it holds
-abbrev pub CausesOfEnable : Tree → List ℕ → Refused → Type 0
-CausesOfEnable tree asked =
+-- why its links aren't made, in the order in which it is looked at; E12 and E11 tell of the least path of which they hold
+abbrev pub CausesOfLinks : Tree → List ℕ → Refused → Type 0
+CausesOfLinks tree asked =
     FirstCause (NamesLeast (IsUnfit tree asked) (λ path r. r ≡ bad_path path))
-    (FirstCause (NamesLeast (IsOccupied tree asked) (λ path r. r ≡ exists_at path))
-    (FirstCause (HasTooMany tree asked) (NamesLeast (IsBarred tree asked) (λ unit r. CannotEnable unit (load tree unit) r))))
+    (FirstCause (NamesLeast (IsOccupied tree asked) (λ path r. r ≡ exists_at path)) (HasTooMany tree asked))
 
 -- ---- disable
 
@@ -157,10 +156,19 @@ pub data Installs (tree : Tree) : InstallVerb → List ℕ → Tree → Type 0 w
   masks : {unit : List ℕ} {changed : Tree} → put_link tree (unit_path Etc unit) (codes "/dev/null") ≡ Ok changed → Installs tree verbs.Mask unit changed
   unmasks : {unit : List ℕ} → Installs tree verbs.Unmask unit (unmasked tree unit)
 
+-- why the verb is refused for the links that it makes, if it is
+pub data RefusesLinks (tree : Tree) : InstallVerb → List ℕ → Refused → Type 0 where
+  enables_none : {unit : List ℕ} {r : Refused} → CausesOfLinks tree unit r → RefusesLinks tree verbs.Enable unit r
+  masks_none : {unit : List ℕ} {r : Refused} → put_link tree (unit_path Etc unit) (codes "/dev/null") ≡ Err r → RefusesLinks tree verbs.Mask unit r
+
+-- and for the units that it takes: the least that can't be enabled refuses
+pub data RefusesUnits (tree : Tree) : InstallVerb → List ℕ → Refused → Type 0 where
+  takes_none : {unit : List ℕ} {r : Refused} → NamesLeast (IsBarred tree unit) (λ other r. CannotEnable other (load tree other) r) r
+      → RefusesUnits tree verbs.Enable unit r
+
 -- why the verb is refused, if it is
-pub data RefusesInstall (tree : Tree) : InstallVerb → List ℕ → Refused → Type 0 where
-  enables_none : {unit : List ℕ} {r : Refused} → CausesOfEnable tree unit r → RefusesInstall tree verbs.Enable unit r
-  masks_none : {unit : List ℕ} {r : Refused} → put_link tree (unit_path Etc unit) (codes "/dev/null") ≡ Err r → RefusesInstall tree verbs.Mask unit r
+abbrev pub RefusesInstall : Tree → InstallVerb → List ℕ → Refused → Type 0
+RefusesInstall tree verb unit = FirstCause (RefusesLinks tree verb unit) (RefusesUnits tree verb unit)
 
 -- the paths at which something stands in the one tree and nothing in the other, ascending
 abbrev pub paths_beyond : Tree → Tree → List (List ℕ)

@@ -30,6 +30,7 @@ pub mod Jobs
 pub mod Plan
 pub mod Weight
 pub mod Machine
+pub mod Standing
 pub mod Begun
 pub mod Finished
 pub mod Live

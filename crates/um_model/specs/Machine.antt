@@ -12,7 +12,7 @@ use Rattle.um_model.specs.Settings.{ServiceSettings, default_settings}
 use Rattle.um_model.specs.Resolution.{UnitFile, Resolution, AtMask, Nowhere, files_at, resolution_of}
 use Rattle.um_model.specs.Units.{LoadedUnit, Loading, Found, Masked, NotFound, BadSetting, load, unit_named, Warning}
 use Rattle.um_model.specs.Dependencies.{IsKnown, KnowsTooMany, CountsFor, Depends, Precedes, loadable_in}
-use Rattle.um_model.specs.Install.{Installs, RefusesInstall, paths_beyond, IsEnabledAs}
+use Rattle.um_model.specs.Install.{Installs, RefusesLinks, RefusesUnits, paths_beyond, IsEnabledAs}
 use Rattle.um_model.specs.Service.{ByUnit, AreTidyUnits, state_of_unit, with_unit, active_state_of, is_number, Action}
 use Rattle.um_model.specs.Ends.{waits_for_report, has_one_command}
 use Rattle.um_model.specs.Transitions.{transition, AreActions, HasNumber, spawned, is_going}
@@ -359,14 +359,20 @@ pub record IsCrowded (tree : Tree) (Extra : List ℕ → Type 0) (r : Refused) :
   pub many : KnowsTooMany tree Extra ⊎ KnowsTooMany (without_run tree) Extra
   pub refusal : r ≡ too_large Units
 
--- what is demanded has a plan, and that is refused, or more units would be known with its jobs than may be
+-- more units would be known than may be: with the one that is named, or with the jobs of the plan for what is demanded
+pub data PlansTooMany (s : State) (verb : UnitVerb) (asked : List ℕ) (r : Refused) : Type 0 where
+  by_name : IsCrowded s.loaded (IsHeldOr s (unit_asked s asked)) r → PlansTooMany s verb asked r
+  by_jobs : {demand : Demand} {after : ByUnit UnitJobs} → demand_of verb (active_asked s asked) ≡ Some demand
+      → IsPlan (scene_at s (unit_asked s asked)) (demand, unit_asked s asked) after → IsCrowded s.loaded (IsHeld (record s { pending = after })) r
+      → PlansTooMany s verb asked r
+
+-- what is demanded has a plan, and that is refused
 pub record HasNoPlan (s : State) (verb : UnitVerb) (asked : List ℕ) (mode : JobMode) (r : Refused) : Type 0 where
   pub demand : Demand
   pub demanded : demand_of verb (active_asked s asked) ≡ Some demand
   pub after : ByUnit UnitJobs
   pub plan : IsPlan (scene_at s (unit_asked s asked)) (demand, unit_asked s asked) after
-  pub cause : FirstCause (CausesOfPlan (scene_at s (unit_asked s asked)) (demand, unit_asked s asked) mode after)
-      (IsCrowded s.loaded (IsHeld (record s { pending = after }))) r
+  pub cause : CausesOfPlan (scene_at s (unit_asked s asked)) (demand, unit_asked s asked) mode after r
 
 -- Why the waiting jobs of a unit aren't dropped.
 
@@ -380,11 +386,11 @@ pub record HasNoneWaiting (s : State) (asked : List ℕ) (r : Refused) : Type 0 
 abbrev pub CausesOfLoad : State → Tree → Refused → Type 0
 CausesOfLoad s tree = FirstCause (IsCrowded tree (IsHeld s)) (NamesCycle (IsBefore tree) s.pending)
 
--- the tree that comes of enabling or its kin isn't loaded
-pub record LoadsNone (s : State) (verb : InstallVerb) (unit : List ℕ) (r : Refused) : Type 0 where
+-- for such a cause the tree isn't loaded that comes of enabling or its kin
+pub record LoadsNone (s : State) (verb : InstallVerb) (unit : List ℕ) (Cause : Tree → Refused → Type 0) (r : Refused) : Type 0 where
   pub tree : Tree
   pub installs : Installs s.tree verb unit tree
-  pub cause : CausesOfLoad s tree r
+  pub cause : Cause tree r
 
 -- a command is refused for the first of its causes that holds
 abbrev pub Refuses : State → Command → Refused → Type 0
@@ -392,12 +398,14 @@ Refuses s (PutFile path text) r = put_file s.tree path text ≡ Err r
 Refuses s (PutLink path target) r = put_link s.tree path target ≡ Err r
 Refuses s (Remove path) r = remove_at s.tree path ≡ Err r
 Refuses s DaemonReload r = CausesOfLoad s s.tree r
-Refuses s (ForUnit verb asked mode) r =
-    FirstCause (IsCrowded s.loaded (IsHeldOr s (unit_asked s asked))) (FirstCause (IsNotThere s verb asked) (HasNoPlan s verb asked mode)) r
+Refuses s (ForUnit verb asked mode) r = FirstCause (PlansTooMany s verb asked) (FirstCause (IsNotThere s verb asked) (HasNoPlan s verb asked mode)) r
 Refuses s (Cancel asked) r = FirstCause (IsMissing s asked) (HasNoneWaiting s asked) r
 Refuses s (ResetFailed (Some asked)) r = IsMissing s asked r
 Refuses s (ResetFailed None) r = ⊥
-Refuses s (Install verb unit) r = FirstCause (RefusesInstall s.tree verb unit) (LoadsNone s verb unit) r
+Refuses s (Install verb unit) r =
+    FirstCause (RefusesLinks s.tree verb unit)
+    (FirstCause (LoadsNone s verb unit (λ tree. IsCrowded tree (IsHeld s)))
+    (FirstCause (RefusesUnits s.tree verb unit) (LoadsNone s verb unit (λ tree. NamesCycle (IsBefore tree) s.pending)))) r
 
 -- the state with these pending jobs of the unit
 abbrev pub with_plan : State → List ℕ → UnitJobs → State

@@ -276,6 +276,7 @@ pub record IsStore (layout : Layout) (image : Image) (slot : Slot) (generation :
 
 -- Whichever image a crash leaves, it is of that store, and the log goes on from there: a sector that isn't read may have several candidates.
 -- The newest snapshot has one generation, and the log another, which is the same as long as no snapshot is under way.
-pub record GoesOn (layout : Layout) (past : Past) (slot : Slot) (newest : ℕ) (body : List ℕ) (records : List (List ℕ)) (generation number next : ℕ) : Type 0 where
+pub record GoesOn (layout : Layout) (past : Past) (slot : Slot) (newest : ℕ) (body : List ℕ) (records : List (List ℕ))
+    (generation number next : ℕ) : Type 0 where
   pub store : Images past (λ image. IsStore layout image slot newest body records)
   pub end : Images past (λ image. IsLogEnd layout generation image records number next)

@@ -1,13 +1,16 @@
 -- What an order of numbered nodes by pairs is: a numbering that ascends along every pair, or a cycle of pairs.
-use Rattle.std.specs.Prelude.{◌≡◌, ◌≢◌, ◌<◌, ◌≤◌, ℕ, List, [], ◌∷◌, length, slice_index, ⊤}
+use Rattle.std.specs.Prelude.{◌≡◌, ◌≢◌, ◌<◌, ◌≤◌, ℕ, suc, max, List, [], ◌∷◌, length, slice_index, ⊤}
 use Rattle.std.specs.List.{All, AllPairs, Contains}
 use Rattle.um_model.specs.Order.{IsCycle}
 
--- one of the pairs puts x before y, and both are nodes: a pair that names a number past the count of nodes says nothing
-pub record Precedes (nodes : ℕ) (pairs : List (ℕ × ℕ)) (x y : ℕ) : Type 0 where
-  pub given : Contains pairs (x, y)
-  pub first : x < nodes
-  pub second : y < nodes
+-- one of the pairs puts x before y
+abbrev pub Precedes : List (ℕ × ℕ) → ℕ → ℕ → Type 0
+Precedes pairs x y = Contains pairs (x, y)
+
+-- how many nodes there are with all that the pairs name: a pair may name a number past the last node, and then they go on to that one
+abbrev pub nodes_with : ℕ → List (ℕ × ℕ) → ℕ
+nodes_with nodes [] = nodes
+nodes_with nodes ((x, y) ∷ pairs) = max (suc (max x y)) (nodes_with nodes pairs)
 
 -- a number for each node, and they ascend wherever one node is before another
 pub record IsNumbering (before : ℕ → ℕ → Type 0) (nodes : ℕ) (numbers : List ℕ) : Type 0 where

@@ -4,13 +4,14 @@ use std::fs;
 use std::fs::{File, Files};
 use std::process::{Abort, Processes};
 use std::test::Fail;
+use std::time::Clock;
 use um_runner::{
     Claimant, Claiming, End, Folder, FolderFault, Job, Told, claim, pid_in, run, status_in,
 };
 
 /// Runs the words, of which the first are so many entries, under this number.
 fn runs(
-    rt: &(impl AllocGlobal + Files<File = File> + Processes + Abort),
+    rt: &(impl AllocGlobal + Files<File = File> + Processes + Clock + Abort),
     folder: &str,
     n: u64,
     count: usize,

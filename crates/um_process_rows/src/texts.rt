@@ -40,7 +40,8 @@ fn a_status_is_read_in_its_one_form(rt: HostRuntime) {
 
 /// Texts of a pid file, and the pids that they tell.
 const PIDS: &[(&[u8], Option<u32>)] = &[
-    (b"1\n", Some(1)),
+    (b"1\n", None),
+    (b"2\n", Some(2)),
     (b"4711\n", Some(4711)),
     (b"2147483647\n", Some(2147483647)),
     (b"0\n", None),

@@ -7,7 +7,7 @@ use Rattle.um_model.specs.Jobs.{JobShown, job_kind_text, job_state_text}
 use Rattle.um_model.specs.Machine.{UnitListed}
 use Rattle.um_model.specs.Replies.{texts_data}
 use Rattle.um_model.specs.Resolution.{UnitFile}
-use Rattle.um_model.specs.Service.{active_state_of, active_state_text, sub_state_text}
+use Rattle.um_model.specs.Service.{Action, SpawnProcess, SendSignal, active_state_of, active_state_text, sub_state_text}
 
 -- a file: its path and its text
 abbrev pub file_data : UnitFile → Data
@@ -24,3 +24,8 @@ unit_data u = texts_data (u.unit ∷ active_state_text (active_state_of u.sub) �
 -- a pending job: its unit, what it does, and how far it is
 abbrev pub job_data : JobShown → Data
 job_data j = texts_data (j.unit ∷ job_kind_text j.kind ∷ job_state_text j.state ∷ [])
+
+-- the words that an action tells
+abbrev pub words_told : Action → List (List ℕ)
+words_told (SpawnProcess number words environment) = words
+words_told (SendSignal number signal) = []

@@ -1,11 +1,18 @@
-ghost use Rattle.std.specs.Prelude.{◌≡◌, [], map, string_bytes, IfOk, length, unwrap_or, ◌≤◌};
+ghost use Rattle.std.specs.Prelude.{◌≡◌, [], map, string_bytes, false, IfOk, IsTrue, length, unwrap_or, ◌≤◌};
 ghost use Rattle.serde_json.specs.Data.{array};
+ghost use Rattle.std.specs.List.{flat_map};
 ghost use Rattle.serde_json.specs.View.{view, items_of};
+ghost use Rattle.serde_json.specs.Written.{compact_text};
+ghost use Rattle.um_model.specs.Machine.{Told};
+ghost use Rattle.um_model.specs.Refusals.{too_large};
+ghost use Rattle.um_model.specs.declared.refusals.Limit.TheVariants.{Reply as TooLong};
 ghost use Rattle.um_model.specs.Replies as model;
 ghost use Rattle.um_proto.specs.Written as written;
+ghost use Rattle.um_proto.specs.Written.{words_told};
 ghost use Rattle.um_resolve.specs.View.{file_of};
 ghost use Rattle.um_state.specs.View.{action_of, job_of, listed_of, shown_of, reply_of};
 ghost use Rattle.um_unit.specs.View.{warning_of};
+ghost use Rattle.um_words.specs.Rooms.{left};
 ghost use Rattle.um_wire.specs.Refusal.{refused_of};
 
 use serde_json::{Value, json};
@@ -15,9 +22,23 @@ use um_resolve::UnitFile;
 use um_state::{Action, JobShown, Reply, UnitListed, UnitShown};
 use um_unit::Warning;
 use um_wire::{Limit, Refusal};
+use um_words::Room;
 
 /// The longest text of a reply, in bytes.
 const REPLY_LIMIT: usize = 1 << 24;
+
+/// The room of a reply for the words of its actions: each has two quotes and a comma or a bracket beside it.
+fn room_of_words() -> Room
+    ensures total { result.total ≡ model.reply_limit }
+    ensures longest { result.longest ≡ result.total }
+    ensures beside { result.beside ≡ 3 }
+{
+    Room {
+        total: 1 << 24,
+        longest: 1 << 24,
+        beside: 3,
+    }
+}
 
 /// A list of texts.
 fn texts_value(alloc: Global, texts: &[String]) -> Result<Value, AllocError>
@@ -134,8 +155,8 @@ fn action_value(alloc: Global, action: &Action) -> Result<Value, AllocError>
     ensures { IfOk result (λ v. view v ≡ model.action_data (action_of action.now)) }
 {
     match action {
-        Action::Spawn { number, words, .. } => {
-            let words = texts_value(alloc, words.as_slice())?;
+        Action::Spawn { number, start } => {
+            let words = texts_value(alloc, start.words(alloc)?.as_slice())?;
             json!(in alloc; ["spawn", number.get(), words])
         }
         Action::Signal { number, signal } => {
@@ -243,6 +264,48 @@ fn reply_value(alloc: Global, reply: &Reply) -> Result<Value, AllocError>
     }
 }
 
+/// The room that the words of an action leave.
+fn room_after(alloc: Global, room: Room, action: &Action) -> Result<Option<Room>, AllocError>
+    ensures { IfOk result (λ free. free ≡ left room (words_told (action_of action.now))) }
+{
+    match action {
+        Action::Spawn { start, .. } => start.room_after_words(alloc, room),
+        Action::Signal { .. } => Ok(Some(room)),
+    }
+}
+
+/// The room that the words of these actions leave.
+fn room_after_all(alloc: Global, room: Room, actions: &[Action]) -> Result<Option<Room>, AllocError>
+    ensures { IfOk result (λ free. free ≡ left room (flat_map words_told (map action_of actions.now))) }
+{
+    let mut free = room;
+    for action in actions {
+        let Some(less) = room_after(alloc, free, action)? else {
+            return Ok(None);
+        };
+        free = less;
+    }
+    Ok(Some(free))
+}
+
+/// Whether the words of the starts alone make a reply too long that tells these actions. They are not put together.
+fn are_too_long(alloc: Global, actions: &[Action]) -> Result<bool, AllocError>
+    ensures { IfOk result (λ told. IsTrue told → model.is_told_whole (Told (map action_of actions.now)) ≡ false) }
+{
+    let free = room_after_all(alloc, room_of_words(), actions)?;
+    Ok(free.is_none())
+}
+
+/// Whether the reply is too long by what can be seen without writing it.
+fn is_too_long(alloc: Global, reply: &Reply) -> Result<bool, AllocError>
+    ensures { IfOk result (λ told. IsTrue told → model.is_told_whole (reply_of reply.now) ≡ false) }
+{
+    match reply {
+        Reply::Told(actions) => are_too_long(alloc, actions.as_slice()),
+        _other => Ok(false),
+    }
+}
+
 /// The text of a reply.
 #[derive(Debug, Drop)]
 pub struct ReplyText {
@@ -252,23 +315,36 @@ pub struct ReplyText {
     pub is_whole: bool,
 }
 
-/// The text of a reply; in place of one past 2^24 bytes that of the refusal `TooLarge` `reply`.
+/// In place of a reply whose text is too long.
+fn refused_text(alloc: Global) -> Result<ReplyText, AllocError>
+    ensures text { IfOk result (λ text. text.bytes.items ≡ compact_text (model.refused_data (too_large TooLong))) }
+    ensures whole { IfOk result (λ text. text.is_whole ≡ false) }
+{
+    let refusal = Refusal::TooLarge {
+        limit: Limit::Reply,
+    };
+    let bytes = refused_value(alloc, &refusal)?.to_vec(alloc)?;
+    Ok(ReplyText {
+        bytes,
+        is_whole: false,
+    })
+}
+
+/// The text of a reply; in place of one past 2^24 bytes that of the refusal `TooLarge` `reply`. Where the words of the actions that
+/// it tells are too long already, they are not put together.
 #[tactic(auto, unfolding(um_model::specs::Replies::reply_text))]
 pub fn write_reply(alloc: Global, reply: &Reply) -> Result<ReplyText, AllocError>
     ensures text { IfOk result (λ text. text.bytes.items ≡ model.reply_text (reply_of reply.now)) }
     ensures whole { IfOk result (λ text. text.is_whole ≡ model.is_told_whole (reply_of reply.now)) }
     ensures short { IfOk result (λ text. length text.bytes.items ≤ model.reply_limit) }
 {
+    let is_long = is_too_long(alloc, reply)?;
+    if is_long {
+        return refused_text(alloc);
+    }
     let text = reply_value(alloc, reply)?.to_vec(alloc)?;
     if text.len() > REPLY_LIMIT {
-        let refusal = Refusal::TooLarge {
-            limit: Limit::Reply,
-        };
-        let bytes = refused_value(alloc, &refusal)?.to_vec(alloc)?;
-        return Ok(ReplyText {
-            bytes,
-            is_whole: false,
-        });
+        return refused_text(alloc);
     }
     Ok(ReplyText {
         bytes: text,

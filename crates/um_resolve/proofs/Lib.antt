@@ -1,3 +1,4 @@
 pub mod ResolutionLemmas
 pub mod ByFileLemmas
+pub mod FolderLemmas
 pub mod LeadsLaws

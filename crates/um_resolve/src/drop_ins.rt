@@ -4,6 +4,7 @@ ghost use Rattle.std.specs.List.{flat_map};
 ghost use Rattle.std.specs.Option.{option_map_or};
 ghost use Rattle.um_model.specs.Resolution as model;
 ghost use Rattle.um_model.specs.Tree.{behind, layer_text};
+ghost use Rattle.um_tree.specs.Folder.{with_slash};
 ghost use Rattle.um_tree.specs.View.{entry_of};
 ghost use Rattle.um_resolve.specs.View.{added, by_file_of, drop_in_of, drop_ins_seen, first_kept, unit_file_of};
 
@@ -27,12 +28,21 @@ type ByFile<'t> = BTreeMap<String, DropIn<'t>>;
 
 /// A layer's folder of drop-ins of a unit.
 fn drop_in_folder(alloc: Global, unit: &str, layer: Layer) -> Result<String, AllocError>
-    ensures { IfOk result (λ folder. string_bytes folder ≡ layer_text layer ++ (unit.now ++ codes ".d/")) }
+    ensures { IfOk result (λ folder. with_slash (string_bytes folder) ≡ layer_text layer ++ (unit.now ++ codes ".d/")) }
 {
     let mut folder = String::from_str(alloc, layer.text())?;
     folder.push_str(unit)?;
-    folder.push_str(".d/")?;
+    folder.push_str(".d")?;
     Ok(folder)
+}
+
+/// The folder's path with the slash that stands before the names in it.
+fn front_of(alloc: Global, folder: &str) -> Result<String, AllocError>
+    ensures { IfOk result (λ front. string_bytes front ≡ with_slash folder.now) }
+{
+    let mut front = String::from_str(alloc, folder)?;
+    front.push_str("/")?;
+    Ok(front)
 }
 
 /// The name of the file in the folder, of a path there.
@@ -72,10 +82,11 @@ fn add_folder<'t>(
     tree: &'t Tree,
     folder: &str,
 ) -> Result<(), AllocError>
-    ensures { OnOk result (by_file_of by_file.new.entries ≡ added (by_file_of by_file.old.entries) (model.drop_ins_in tree.now folder.now)) }
+    ensures { OnOk result (by_file_of by_file.new.entries ≡ added (by_file_of by_file.old.entries) (model.drop_ins_in tree.now (with_slash folder.now))) }
 {
-    for (path, entry) in tree.entries() {
-        if let Some(drop_in) = drop_in_at(folder, path, entry) {
+    let front = front_of(alloc, folder)?;
+    for (path, entry) in tree.entries_in(folder)? {
+        if let Some(drop_in) = drop_in_at(front.as_str(), path, entry) {
             add(alloc, by_file, drop_in)?;
         }
     }

@@ -72,12 +72,10 @@ pub fn told(rt: &(impl AllocGlobal + Abort), actions: &[Action]) -> String {
     let mut told = String::new(rt.alloc());
     for action in actions {
         let asked = match action {
-            Action::Spawn {
-                number,
-                words,
-                environment,
-            } => {
+            Action::Spawn { number, start } => {
                 let number = number.get();
+                let words = start.words(rt.alloc()).expect(rt, "no memory");
+                let environment = start.environment(rt.alloc()).expect(rt, "no memory");
                 format!(in rt.alloc(); "spawn {number} {words:?} {environment:?};")
             }
             Action::Signal { number, signal } => {

@@ -153,13 +153,18 @@ fn a_state_has_room_up_to_the_size_of_its_store(rt: HostRuntime) {
     }
 }
 
-/// A request to put `lib/a.service`, which wants so many units that aren't there.
-fn put_wanting(rt: &(impl AllocGlobal + Abort), count: usize) -> String {
+/// A request to put `lib/a.service`, which wants so many units that aren't there, with this behind it.
+fn put_wanting_and(rt: &(impl AllocGlobal + Abort), count: usize, behind: &str) -> String {
     let names = names(rt, count);
     let request: Result<_, _> = format!(in rt.alloc();
-        r#"{{"verb":"put-file","path":"lib/a.service","text":"[Service]\nExecStart=/bin/sleep 9\n[Unit]\nWants={names}"}}"#
+        r#"{{"verb":"put-file","path":"lib/a.service","text":"[Service]\nExecStart=/bin/sleep 9\n[Unit]\nWants={names}{behind}"}}"#
     );
     request.expect(rt, "no memory")
+}
+
+/// A request to put `lib/a.service`, which wants so many units that aren't there.
+fn put_wanting(rt: &(impl AllocGlobal + Abort), count: usize) -> String {
+    put_wanting_and(rt, count, "")
 }
 
 #[test]
@@ -207,5 +212,45 @@ fn a_plan_makes_as_many_units_known_as_may_be(rt: HostRuntime) {
             (START_B, wanted),
         ];
         play(&rt, "a start", &steps);
+    }
+}
+
+const B_NEEDS_C_AND_CONFLICTS: &str =
+    r#"{"verb":"put-file","path":"run/b.service.d/c.conf","text":"[Unit]\nRequires=c.service\nConflicts=c.service\n"}"#;
+
+const B_CLASHES: &str = r#"{"detail":["b.service"],"error":8,"ok":false}"#;
+
+#[test]
+fn too_many_units_of_a_plan_are_told_before_its_clash(rt: HostRuntime) {
+    // as above; but b.service is started and stopped
+    for (count, wanted) in [(1_020, B_CLASHES), (1_021, TOO_MANY_UNITS)] {
+        let put = put_wanting(&rt, count);
+        let steps = [
+            (put.as_str(), DONE),
+            (PUT_B, DONE),
+            (MASK_A, DONE),
+            (B_NEEDS_C_AND_CONFLICTS, DONE),
+            (PUT_C, DONE),
+            (RELOAD, DONE),
+            (START_B, wanted),
+        ];
+        play(&rt, "a start", &steps);
+    }
+}
+
+/// What a service asks for that is to be enabled along with one that isn't there.
+const INSTALL: &str = r"\n[Install]\nWantedBy=w.target\nAlso=gone.service\n";
+
+const ENABLE_A: &str = r#"{"verb":"enable","unit":"a"}"#;
+
+const NOT_FOUND: &str = r#"{"detail":["gone.service"],"error":4,"ok":false}"#;
+
+#[test]
+fn too_many_units_of_a_tree_are_told_before_one_that_cannot_be_enabled(rt: HostRuntime) {
+    // with a.service, shutdown.target and w.target 1,024, and 1,025
+    for (count, wanted) in [(1_021, NOT_FOUND), (1_022, TOO_MANY_UNITS)] {
+        let put = put_wanting_and(&rt, count, INSTALL);
+        let steps = [(put.as_str(), DONE), (ENABLE_A, wanted)];
+        play(&rt, "an enabling", &steps);
     }
 }

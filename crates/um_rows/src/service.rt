@@ -1,6 +1,7 @@
 //! What follows for a unit from what happens to it.
 use crate::answers::{at, same, same_at, text, told};
 use std::process::Abort;
+use std::rc::Rc;
 use um_model::{End, SubState, UnitResult, UnitState};
 use um_service::{Around, NextNumber, Service, ServiceSettings, StartJob, UnitEvent, UnitKind};
 use um_words::Command;
@@ -118,7 +119,7 @@ const IS_BOUND: Step = Step {
 const STARTS_OF_EXEC: &[&[Step]] = &[&[IS_STARTED, IS_STOPPED], &[IS_STARTED, IS_BOUND]];
 
 /// The settings of `ExecStart=/bin/sleep 9` in a service of this kind.
-fn sleeps(rt: &(impl AllocGlobal + Abort), kind: UnitKind) -> ServiceSettings {
+fn sleeps(rt: &(impl AllocGlobal + Abort), kind: UnitKind) -> Rc<ServiceSettings> {
     let mut settings = ServiceSettings::new(rt.alloc(), kind);
     let words = vec![in rt.alloc(); text(rt, "/bin/sleep"), text(rt, "9")];
     let command = Command {
@@ -127,7 +128,7 @@ fn sleeps(rt: &(impl AllocGlobal + Abort), kind: UnitKind) -> ServiceSettings {
         substitutes: true,
     };
     settings.start.push(command).expect(rt, "no memory");
-    settings
+    Rc::new(rt.alloc(), settings).expect(rt, "no memory")
 }
 
 /// Asserts that this follows for the unit, which is loadable and no stop job of which waits, where this is the next process number;

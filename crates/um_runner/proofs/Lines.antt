@@ -50,14 +50,14 @@ line_of word text line digits (Some n) is ends number = is ∙ ap (λ l. word ++
 
 -- ---- pids
 
-no_pid : (text : List ℕ) (n : ℕ) → text ≡ pid_text n → n < 2 ^ 64 → (n ≡ 0) ⊎ (pid_limit ≤ n) → (m : ℕ) → IsPid text m → ⊥
+no_pid : (text : List ℕ) (n : ℕ) → text ≡ pid_text n → n < 2 ^ 64 → (n ≤ 1) ⊎ (pid_limit ≤ n) → (m : ℕ) → IsPid text m → ⊥
 no_pid text n is below never m told =
     let parts = pid_parts text m told in
     let same = number_behind [] m n (omega (arith, parts.2)) below (sym parts.0 ∙ is) in
-    elim never [ inl none ↦ omega (arith, same, none, parts.1) | inr big ↦ omega (arith, same, big, parts.2) ]
+    elim never [ inl low ↦ omega (arith, same, low, parts.1) | inr big ↦ omega (arith, same, big, parts.2) ]
 
 -- a text with the number of a pid
-pub pid_read : (text : List ℕ) (n : ℕ) (o : Option ℕ) → n < 2 ^ 64 → text ≡ pid_text n → MatchOption o ((n ≡ 0) ⊎ (pid_limit ≤ n)) (λ p. (p ≡ n) × (0 < n) × (n < pid_limit))
+pub pid_read : (text : List ℕ) (n : ℕ) (o : Option ℕ) → n < 2 ^ 64 → text ≡ pid_text n → MatchOption o ((n ≤ 1) ⊎ (pid_limit ≤ n)) (λ p. (p ≡ n) × (1 < n) × (n < pid_limit))
     → MatchOption o ((m : ℕ) → IsPid text m → ⊥) (IsPid text)
 pid_read text n None below is never = λ m told. no_pid text n is below never m told
 pid_read text n (Some p) below is can = subst (IsPid text) (sym can.0) (subst (λ t. IsPid t n) (sym is) (pid n can.1 can.2))

@@ -17,7 +17,7 @@ use Rattle.um_model.specs.declared.service.End.TheVariants.{Code, Signal, Lost}
 
 -- ---- pids
 
-pub pid_parts : (text : List ℕ) (n : ℕ) → IsPid text n → (text ≡ pid_text n) × (0 < n) × (n < pid_limit)
+pub pid_parts : (text : List ℕ) (n : ℕ) → IsPid text n → (text ≡ pid_text n) × (1 < n) × (n < pid_limit)
 pid_parts text n (pid _ some below) = (refl, some, below)
 
 -- a text tells one pid at most

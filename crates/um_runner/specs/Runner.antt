@@ -49,9 +49,9 @@ pid_text pid = decimal pid ++ codes "\n"
 abbrev pub pid_limit : ℕ
 pid_limit = 2 ^ 31
 
--- the text tells this pid
+-- the text tells this pid; that of the system's first process is none, and no signal goes there
 pub data IsPid : List ℕ → ℕ → Type 0 where
-  pid : (n : ℕ) → 0 < n → n < pid_limit → IsPid (pid_text n) n
+  pid : (n : ℕ) → 1 < n → n < pid_limit → IsPid (pid_text n) n
 
 -- the text for an end; an end that nobody can tell has nothing
 abbrev pub status_text : End → List ℕ

@@ -6,13 +6,16 @@ use crate::fault::FolderFault;
 use crate::paths::file_path;
 use crate::runner_file::RunnerFile;
 use std::alloc::Global;
-use std::fs::{File, Files};
-use std::io::{ErrorKind, Read};
+use std::fs::{File, Files, OpenFile, OpenOptions};
+use std::io::{ErrorKind, Read, Seek, SeekFrom, Write};
 use std::{fs, io};
 use um_model::ProcessNumber;
 
 /// So many bytes are read of a file: a few more than the longest text has.
 const LIMIT: usize = 16;
+
+/// As long as the longest text of a pid or an end.
+const ROOM: &str = "           \n";
 
 /// The beginning of a file: all of it, where it is shorter than `LIMIT`.
 #[derive(Clone, Copy, Debug)]
@@ -86,6 +89,77 @@ pub fn read_file<R: Files>(
     Ok(read_beginning(rt, path.as_str())?)
 }
 
+/// So often a draft is made anew that another one has made in the meantime.
+const TRIES: u32 = 8;
+
+/// Removes what stands at the path of a draft: a file, or a link and not what it leads to.
+fn remove_draft<R: Files>(rt: &R, path: &str) -> io::Result<()> {
+    match fs::remove_file(rt, path) {
+        Err(e) if e.kind() != ErrorKind::NotFound => Err(e),
+        Ok(()) | Err(_) => Ok(()),
+    }
+}
+
+/// Makes a draft, a new file in place of what stood there: never one that was there before, nor one that a link leads to.
+fn make_new<R: Files>(rt: &R, path: &str) -> io::Result<R::File> {
+    let mut how = OpenOptions::new();
+    how.write(true).create_new(true);
+    for _ in 0..TRIES {
+        remove_draft(rt, path)?;
+        match how.open(rt, path) {
+            Err(e) if e.kind() == ErrorKind::AlreadyExists => {}
+            answer => return answer,
+        }
+    }
+    Err(io::Error::from(ErrorKind::AlreadyExists))
+}
+
+/// Makes a draft with its text.
+fn make_draft<R: Files>(rt: &R, path: &str, text: &str) -> io::Result<()> {
+    make_new(rt, path)?.write_all(text.as_bytes())
+}
+
+/// Makes the draft of a file with room for the longest text, and gives it open: a disk that is full later doesn't refuse the file.
+///
+/// `NoMemory` where memory is wanting, before the folder is touched; `System` where the folder or its disk refuses the draft.
+pub fn reserve<R: Files>(
+    rt: &R,
+    alloc: Global,
+    folder: &str,
+    number: ProcessNumber,
+    draft: RunnerFile,
+) -> Result<R::File, FolderFault> {
+    let draft = file_path(alloc, folder, number, draft)?;
+    let mut file = make_new(rt, draft.as_str())?;
+    file.write_all(ROOM.as_bytes())?;
+    Ok(file)
+}
+
+/// Gives an open draft its text, in the room that it has.
+fn fill_room<F: Write + Seek + OpenFile>(draft: &mut F, text: &str) -> io::Result<()> {
+    draft.seek(SeekFrom::Start(0))?;
+    draft.write_all(text.as_bytes())?;
+    draft.set_len(text.len() as u64)
+}
+
+/// Gives a file its text, whole: by the draft that is open and has room for it, which is renamed. Where it fails, the file is as it was.
+pub fn replace_by<R: Files>(
+    rt: &R,
+    alloc: Global,
+    folder: &str,
+    number: ProcessNumber,
+    file: (RunnerFile, RunnerFile),
+    room: R::File,
+    text: &str,
+) -> Result<(), FolderFault> {
+    let (file, draft) = file;
+    let path = file_path(alloc, folder, number, file)?;
+    let draft = file_path(alloc, folder, number, draft)?;
+    let mut room = room;
+    fill_room(&mut room, text)?;
+    Ok(fs::rename(rt, draft.as_str(), path.as_str())?)
+}
+
 /// Gives a file its text, whole: by its draft, which is renamed. Where it fails, the file is as it was.
 pub fn replace_file<R: Files>(
     rt: &R,
@@ -98,7 +172,7 @@ pub fn replace_file<R: Files>(
     let (file, draft) = file;
     let path = file_path(alloc, folder, number, file)?;
     let draft = file_path(alloc, folder, number, draft)?;
-    fs::write(rt, draft.as_str(), text)?;
+    make_draft(rt, draft.as_str(), text)?;
     Ok(fs::rename(rt, draft.as_str(), path.as_str())?)
 }
 
@@ -115,7 +189,7 @@ pub fn create_file<R: Files>(
     let (file, draft) = file;
     let path = file_path(alloc, folder, number, file)?;
     let draft = file_path(alloc, folder, number, draft)?;
-    fs::write(rt, draft.as_str(), text)?;
+    make_draft(rt, draft.as_str(), text)?;
     let linked = fs::hard_link(rt, draft.as_str(), path.as_str());
     // A draft that is left costs a name in the folder and nothing else.
     let _left = fs::remove_file(rt, draft.as_str());

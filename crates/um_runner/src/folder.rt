@@ -1,7 +1,7 @@
 ghost use Rattle.std.specs.Prelude.{◌≡◌, [], false};
 
 use crate::fault::FolderFault;
-use crate::files::replace_file;
+use crate::files::{replace_by, replace_file, reserve};
 use crate::host::Host;
 use crate::job::Job;
 use crate::notes::{Claiming, claim};
@@ -9,18 +9,28 @@ use crate::runner_file::{Claimant, RunnerFile};
 use crate::texts::{pid_text, status_text};
 use std::alloc::Global;
 use std::fs::Files;
+use std::io::ErrorKind;
 use std::os::unix::process::ExitStatusExt;
 use std::process::{Child, ExitStatus, Processes};
+use std::time::{Clock, Duration};
+use std::{fs, thread};
 use um_model::{End, ProcessNumber};
+
+/// So many seconds after a status that was refused it is written again.
+const PAUSE: u64 = 1;
 
 /// A real folder, and a real process that is started for a number.
 #[derive(Drop)]
-pub struct Folder<'a, R: Files + Processes> {
+pub struct Folder<'a, R: Files + Processes + Clock> {
     rt: &'a R,
     alloc: Global,
     path: &'a str,
     number: ProcessNumber,
     child: Option<Child<R::Started>>,
+    /// The draft of the pid file, which has room for it.
+    pid_room: Option<R::File>,
+    /// That of the status file.
+    status_room: Option<R::File>,
 }
 
 /// How a process ended that was waited for.
@@ -34,7 +44,7 @@ fn end_of(status: ExitStatus) -> End {
     }
 }
 
-impl<'a, R: Files + Processes> Folder<'a, R> {
+impl<'a, R: Files + Processes + Clock> Folder<'a, R> {
     /// The folder at the path, with a number of which nothing is started.
     pub fn of(rt: &'a R, alloc: Global, path: &'a str, number: ProcessNumber) -> Folder<'a, R> {
         Folder {
@@ -43,23 +53,48 @@ impl<'a, R: Files + Processes> Folder<'a, R> {
             path,
             number,
             child: None,
+            pid_room: None,
+            status_room: None,
         }
     }
 
-    /// Gives a file of the number its text.
-    fn put(&self, file: RunnerFile, draft: RunnerFile, text: &str) -> Result<(), FolderFault> {
-        replace_file(
-            self.rt,
-            self.alloc,
-            self.path,
-            self.number,
-            (file, draft),
-            text,
-        )
+    /// Takes the room for a file on the folder's disk.
+    fn take_room(&self, draft: RunnerFile) -> Result<R::File, FolderFault> {
+        reserve(self.rt, self.alloc, self.path, self.number, draft)
+    }
+
+    /// Gives a file of the number its text, in the room that was taken for it where there is some.
+    fn put(
+        &self,
+        file: (RunnerFile, RunnerFile),
+        room: Option<R::File>,
+        text: &str,
+    ) -> Result<(), FolderFault> {
+        let (rt, alloc, path, number) = (self.rt, self.alloc, self.path, self.number);
+        match room {
+            Some(room) => replace_by(rt, alloc, path, number, file, room, text),
+            None => replace_file(rt, alloc, path, number, file, text),
+        }
+    }
+
+    /// Writes the status file once.
+    fn put_status(&mut self, end: End) -> Result<(), FolderFault> {
+        let text = status_text(self.alloc, end)?;
+        let room = self.status_room.take();
+        let file = (RunnerFile::Status, RunnerFile::StatusDraft);
+        self.put(file, room, text.as_str())
+    }
+
+    /// Whether there is no such folder any more.
+    fn is_gone(&self) -> bool {
+        match fs::symlink_metadata(self.rt, self.path) {
+            Err(e) => e.kind() == ErrorKind::NotFound,
+            Ok(_) => false,
+        }
     }
 }
 
-impl<'a, R: Files + Processes> Host for Folder<'a, R> {
+impl<'a, R: Files + Processes + Clock> Host for Folder<'a, R> {
     // No clause reads it, since nothing is claimed of what the folder holds and the process does.
     ghost past = { λ _. [] };
 
@@ -76,9 +111,12 @@ impl<'a, R: Files + Processes> Host for Folder<'a, R> {
         Ok(claiming == Claiming::New)
     }
 
-    /// A command that finds no memory can't be executed either.
+    /// A command that finds no memory can't be executed either, nor one for whose pid and status the disk has no room.
     fn start(&mut self, job: &Job<'_>) -> Option<u32> {
-        let child = job.command(self.alloc).ok()?.spawn(self.rt).ok()?;
+        let mut command = job.command(self.alloc).ok()?;
+        self.status_room = Some(self.take_room(RunnerFile::StatusDraft).ok()?);
+        self.pid_room = Some(self.take_room(RunnerFile::PidDraft).ok()?);
+        let child = command.spawn(self.rt).ok()?;
         let pid = child.id();
         self.child = Some(child);
         Some(pid)
@@ -86,7 +124,9 @@ impl<'a, R: Files + Processes> Host for Folder<'a, R> {
 
     fn write_pid(&mut self, pid: u32) -> Result<(), FolderFault> {
         let text = pid_text(self.alloc, pid)?;
-        self.put(RunnerFile::Pid, RunnerFile::PidDraft, text.as_str())
+        let room = self.pid_room.take();
+        let file = (RunnerFile::Pid, RunnerFile::PidDraft);
+        self.put(file, room, text.as_str())
     }
 
     fn wait(&mut self) -> End {
@@ -96,8 +136,16 @@ impl<'a, R: Files + Processes> Host for Folder<'a, R> {
         }
     }
 
+    /// Where the folder refuses it, it is written again each second, until it is written or the folder is gone.
     fn write_status(&mut self, end: End) -> Result<(), FolderFault> {
-        let text = status_text(self.alloc, end)?;
-        self.put(RunnerFile::Status, RunnerFile::StatusDraft, text.as_str())
+        let mut answer = self.put_status(end);
+        for _ in 0..u64::MAX {
+            if answer.is_ok() || self.is_gone() {
+                return answer;
+            }
+            thread::sleep(self.rt, Duration::from_secs(PAUSE));
+            answer = self.put_status(end);
+        }
+        answer
     }
 }

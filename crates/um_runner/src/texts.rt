@@ -75,11 +75,11 @@ fn killed(number: u64) -> Option<End>
     }
 }
 
-/// The pid of this number; None for 0, and from 2^31 on.
+/// The pid of this number; None for 0 and 1, and from 2^31 on.
 fn pid_of(number: u64) -> Option<u32>
-    ensures { MatchOption result ((number ≡ 0) ⊎ (runner.pid_limit ≤ number)) (λ pid. (pid ≡ number) × (0 < number) × (number < runner.pid_limit)) }
+    ensures { MatchOption result ((number ≤ 1) ⊎ (runner.pid_limit ≤ number)) (λ pid. (pid ≡ number) × (1 < number) × (number < runner.pid_limit)) }
 {
-    if number == 0 || number >= PID_LIMIT {
+    if number <= 1 || number >= PID_LIMIT {
         return None;
     }
     Some(number as u32)
@@ -97,8 +97,8 @@ pub fn read_claim(text: &[u8]) -> Claimant
 }
 
 #[tactic(auto, using(crate::proofs::Lines::pid_read, crate::proofs::Lines::no_pid_line))]
-/// The pid that the text tells: a number in decimal digits, without zeros in front, and LF. None for any other text, for 0, and
-/// from 2^31 on.
+/// The pid that the text tells: a number in decimal digits, without zeros in front, and LF. None for any other text, for 0 and 1, the
+/// system's first process, and from 2^31 on.
 pub fn read_pid(text: &[u8]) -> Option<u32>
     ensures { MatchOption result ((pid : ℕ) → runner.IsPid text.now pid → ⊥) (runner.IsPid text.now) }
 {

@@ -125,7 +125,8 @@ pub record Hears (r : Round) (said : List Event) (waits : List Waits) (x y : Ser
   pub forgets : ForgetsWhere r.is_owed r.pieces x.waits waits
 
 -- what came is offered: what was owed, or what an accept and the reads heard
-abbrev pub Gathers : (honest whole is_owed : Bool) → List Bool → (before pieces : List Piece) → List Event → List Event → List Waits → List Waits → Bool → Type 0
+abbrev pub Gathers : (honest whole is_owed : Bool) → List Bool → (before pieces : List Piece) → List Event → List Event → List Waits → List Waits → Bool
+    → Type 0
 Gathers honest whole true held before pieces old new waits left busy = (pieces ≡ before) × (new ≡ old) × (left ≡ waits) × (busy ≡ true)
 Gathers honest whole false held before pieces old new waits left busy =
     (which : List Bool) × OnlyOpen which pieces × NoneOfHeld held pieces × Logs honest whole old new (accepted which ∷ reads_below 64 which held pieces)

@@ -1,4 +1,6 @@
 -- The least deadline past a moment, as a scan of the units finds it.
+-- No manual page has this: it is the project's own (docs/DECISIONS.md, "Serving").
+-- The scan for the deadline that is slept for stands on this file.
 use Rattle.std.specs.Prelude.{ℕ, nat_le, Option, Some, None, if◌then◌else◌}
 
 -- the sooner one of a deadline so far and the next one

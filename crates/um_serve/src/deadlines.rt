@@ -30,7 +30,7 @@ fn sooner_past(
 
 /// The least deadline past a moment that a unit has; none where none has one.
 pub fn next_deadline(units: &Units, moment: Moment) -> Result<Option<Deadline>, AllocError>
-    ensures { IfOk result (λ next. MatchOption next (NoneAfter units.now moment) (IsNextAfter units.now moment)) }
+    ensures { IfOk result (λ next. MatchOption next (NoneAfter units.now.held moment) (IsNextAfter units.now.held moment)) }
 {
     let names = units.names()?;
     let mut next = None;

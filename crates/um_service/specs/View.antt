@@ -1,5 +1,5 @@
 -- What the code asks of processes as the definitions have it.
-use Rattle.std.specs.Prelude.{◌≡◌, ◌<◌, map, string_bytes}
+use Rattle.std.specs.Prelude.{◌≡◌, ◌<◌}
 use Rattle.um_model.specs.Moments.{process_limit}
 use Rattle.um_model.specs.Service as service
 use Rattle.um_model.specs.Transitions.{spawned}
@@ -13,5 +13,5 @@ abbrev pub HasRoom : Around → Order → Type 0
 HasRoom c o = spawned o ≡ 1 → c.next < process_limit
 
 abbrev pub action_of : Action → service.Action
-action_of (action.Spawn number words environment) = service.SpawnProcess number (map string_bytes words.items) (map string_bytes environment.items)
+action_of (action.Spawn number start) = service.SpawnProcess number start.words start.environment
 action_of (action.Signal number signal) = service.SendSignal number signal

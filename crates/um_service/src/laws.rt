@@ -1,13 +1,16 @@
 //! What the service table says of all units together, as functions that do nothing.
 
-ghost use Rattle.std.specs.Prelude.{◌≡◌, ◌+◌, ◌^◌, ◌≤◌, ◌⊎◌, ℕ, List};
+ghost use Rattle.std.specs.Prelude.{◌≡◌, ◌↔◌, ◌+◌, ◌^◌, ◌≤◌, ◌⊎◌, ℕ, List, Option};
+ghost use Rattle.um_model.specs.Commands.{Command};
 ghost use Rattle.um_model.specs.Service.{Action};
 ghost use Rattle.um_model.specs.Settings.{ServiceSettings};
-ghost use Rattle.um_model.specs.Transitions.{HasItsProcess, transition, spawned, AreActions, HasNumber};
+ghost use Rattle.um_model.specs.Substitution.{Variable};
+ghost use Rattle.um_model.specs.Transitions.{HasItsProcess, transition, spawned, AreActions, AreStarted, HasNumber};
 ghost use Rattle.um_model.specs.declared.service.UnitState.{UnitState};
 ghost use Rattle.um_model.specs.declared.transition.Around.{Around};
 ghost use Rattle.um_model.specs.declared.transition.Order.{Order};
 ghost use Rattle.um_model.specs.declared.transition.UnitEvent.{UnitEvent};
+ghost use Rattle.um_service.specs.Started.{started_words};
 
 /// Whatever happens to a unit that has its live process, it has one after it: a unit that starts or runs its main process,
 /// one that its `ExecStop=` commands stop a control process, and one that is told to end one of them.
@@ -30,4 +33,9 @@ pub fn the_next_number_stays_small()
 /// What is asked of a unit's processes is one list of actions at most.
 pub fn an_order_has_one_list_of_actions()
     ensures { (s : ServiceSettings) (around : Around) (unit : UnitState) (order : Order) (a b : List Action) → AreActions s around unit order a → AreActions s around unit order b → a ≡ b }
+{}
+
+/// What the function of the definitions finds for a command and an environment are the words that it is started with, and nothing else.
+pub fn what_a_command_is_started_with_is_found()
+    ensures { (environment : List Variable) (command : Option Command) (words : List (List ℕ)) → (started_words environment command ≡ words) ↔ AreStarted environment command words }
 {}

@@ -10,6 +10,7 @@ use crate::actions::{Action, actions_of, number_of};
 use crate::table::transition;
 use std::alloc::{AllocError, Global};
 use std::marker::Model;
+use std::rc::Rc;
 use um_model::{Around, NextNumber, Order, StartJob, UnitEvent, UnitState};
 use um_unit::ServiceSettings;
 
@@ -73,21 +74,22 @@ impl Service {
 
     /// Something happens to the unit, which has these settings: it changes by the first row of the service table that fits
     /// (systemd.service(5)), and what the row asks of its processes is told. A command is started under the next process
-    /// number, with its words and the environment as they are then; a signal goes to each live process, the main one first.
+    /// number, with its words and the environment as they are then, for which the settings are shared; a signal goes to each live
+    /// process, the main one first.
     /// Refused only for want of memory, and then the unit is as before.
     pub fn on(
         &mut self,
         alloc: Global,
         event: UnitEvent,
-        settings: &ServiceSettings,
+        settings: &Rc<ServiceSettings>,
         around: Around,
     ) -> Result<Actions, AllocError>
-        ensures unit { OnOk result (self.new ≡ (transition (service_settings_of settings.now) around self.old event).unit) }
-        ensures actions { IfOk result (λ r. let after = transition (service_settings_of settings.now) around self.old event in
-            AreActions (service_settings_of settings.now) around after.unit after.order (map action_of r.actions.items)) }
-        ensures start { IfOk result (λ r. r.start ≡ (transition (service_settings_of settings.now) around self.old event).start) }
-        ensures stop { IfOk result (λ r. r.stop_ends ≡ (transition (service_settings_of settings.now) around self.old event).stop_ends) }
-        ensures next { IfOk result (λ r. r.next ≡ around.next + spawned (transition (service_settings_of settings.now) around self.old event).order) }
+        ensures unit { OnOk result (self.new ≡ (transition (service_settings_of settings.now.value) around self.old event).unit) }
+        ensures actions { IfOk result (λ r. let after = transition (service_settings_of settings.now.value) around self.old event in
+            AreActions (service_settings_of settings.now.value) around after.unit after.order (map action_of r.actions.items)) }
+        ensures start { IfOk result (λ r. r.start ≡ (transition (service_settings_of settings.now.value) around self.old event).start) }
+        ensures stop { IfOk result (λ r. r.stop_ends ≡ (transition (service_settings_of settings.now.value) around self.old event).stop_ends) }
+        ensures next { IfOk result (λ r. r.next ≡ around.next + spawned (transition (service_settings_of settings.now.value) around self.old event).order) }
         ensures small { IfOk result (λ r. around.next ≤ 2 ^ 63 → r.next ≤ 2 ^ 63) }
         ensures held { HasItsProcess self.old → HasItsProcess self.new }
         ensures err { OnErr result (self.new ≡ self.old) }

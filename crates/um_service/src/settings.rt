@@ -1,9 +1,9 @@
 //! The commands of a unit's settings.
 
-ghost use Rattle.std.specs.Prelude.{◌≡◌, ◌+◌, if◌then◌else◌, Some, None};
+ghost use Rattle.std.specs.Prelude.{◌≡◌, ◌+◌, if◌then◌else◌, Some, None, option_map, slice_get};
 ghost use Rattle.um_model.specs.Settings.{commands_in, has_place, has_dash};
 ghost use Rattle.um_unit.specs.ServiceView.{service_settings_of};
-ghost use Rattle.um_words.specs.Commands.{commands_seen};
+ghost use Rattle.um_words.specs.Commands.{command_seen, commands_seen};
 
 use um_model::CommandList;
 use um_unit::ServiceSettings;
@@ -17,6 +17,13 @@ pub fn commands_in(settings: &ServiceSettings, which: CommandList) -> &[Command]
         CommandList::OfStart => settings.start.as_slice(),
         CommandList::OfStop => settings.stop.as_slice(),
     }
+}
+
+/// The command at this place of one of the unit's lists.
+pub fn command_at(settings: &ServiceSettings, which: CommandList, index: u32) -> Option<&Command>
+    ensures { option_map (λ c. command_seen c.now) result ≡ slice_get (commands_in (service_settings_of settings.now) which) index }
+{
+    commands_in(settings, which).get(index as usize)
 }
 
 /// Whether the list has a command at this place.

@@ -9,6 +9,8 @@ use Rattle.std.proofs.lemmas.Map.Views.{list_any-from_Contains}
 use Rattle.um_model.proofs.AmongLaws.{contains_among}
 use Rattle.um_model.proofs.TimersLaws.{among_keys}
 use Rattle.um_model.specs.Service.{ByUnit}
+use Rattle.um_model.specs.Standing.{Table}
+use Rattle.um_state.specs.Held.{table_of}
 
 some_there : {A : Type 0} (o : Option A) → o ≢ None → is_some o ≡ true
 some_there None h = absurd (h refl)
@@ -34,3 +36,7 @@ keys_held m n unit = (
     | inr other ↦ Contains-append_right (map.keys m) (map.keys n) unit (there_key n unit other)
   ],
 )
+
+-- a table holds what it was made of
+pub same_held : {A : Type 0} {held : ByUnit A} {table : Table A} → table_of held ≡ table → held ≡ table.held
+same_held e = ap (λ t. t.held) e

@@ -1,5 +1,6 @@
 pub mod DueLaws
 pub mod Distinct
+pub mod FindingLaws
 pub mod Fronts
 pub mod HeldLaws
 pub mod InputArms

@@ -1,5 +1,7 @@
 pub mod Arms
 pub mod Due
+pub mod Finding
+pub mod Held
 pub mod Short
 pub mod Shown
 pub mod View

@@ -1,6 +1,7 @@
 -- Inputs, replies, actions and states of the code as those of the definitions.
 use Rattle.std.specs.Prelude.{map, string_bytes}
 use Rattle.um_model.specs.Machine as model
+use Rattle.um_model.specs.Standing.{Standing}
 use Rattle.um_resolve.specs.View.{file_of}
 use Rattle.um_unit.specs.View.{warning_of}
 use Rattle.um_wire.specs.Refusal.{refused_of}
@@ -18,7 +19,6 @@ pub use Rattle.um_state.specs.Shown.{job_of, listed_of}
 use Rattle.um_state.specs.declared.reply.UnitShown.{UnitShown}
 use Rattle.um_state.specs.declared.reply.Reply.{Reply}
 use Rattle.um_state.specs.declared.reply.Reply.TheVariants as reply
-use Rattle.um_state.specs.declared.state.State.{State}
 
 abbrev pub command_of : Command → model.Command
 command_of (command.PutFile path text) = model.PutFile (string_bytes path) (string_bytes text)
@@ -73,13 +73,5 @@ reply_of (reply.Jobs jobs) = model.Jobs (map job_of jobs.items)
 reply_of (reply.Told actions) = model.Told (map action_of actions.items)
 reply_of (reply.Refused r) = model.Refusal (refused_of r)
 
-abbrev pub state_of : State → model.State
-state_of s = record {
-  tree = s.tree;
-  loaded = s.loaded;
-  boot = s.boot;
-  clock = s.clock;
-  next = s.next;
-  units = s.units;
-  pending = s.pending;
-}
+abbrev pub state_of : Standing → model.State
+state_of s = s.state

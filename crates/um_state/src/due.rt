@@ -18,7 +18,7 @@ fn is_later(moment: Moment, deadline: Option<Deadline>) -> bool
 impl Units {
     /// Whether the deadline of each unit that is held is later than the moment.
     fn are_later(&self, moment: Moment) -> bool
-        ensures { result ≡ are_later moment self.now }
+        ensures { result ≡ are_later moment self.now.held }
     {
         for (_, unit) in self.entries.iter() {
             if !is_later(moment, unit.deadline) {
@@ -30,7 +30,7 @@ impl Units {
 
     /// Whether no deadline of any unit is due at the moment: each is later. It takes no memory.
     pub fn none_due(&self, moment: Moment) -> bool
-        ensures { IsTrue result ↔ NoneDue moment self.now }
+        ensures { IsTrue result ↔ NoneDue moment self.now.held }
     {
         self.are_later(moment)
     }

@@ -91,7 +91,7 @@ fn with_job(kind: JobKind, state: JobState, held: UnitJobs) -> UnitJobs
 
 /// The jobs of a list, by unit.
 fn pending_of(alloc: Global, jobs: Vec<JobShown>) -> Result<Pending, AllocError>
-    ensures { IfOk result (λ pending. pending ≡ pending_of (map job_of jobs.items)) }
+    ensures { IfOk result (λ pending. pending.held ≡ pending_of (map job_of jobs.items)) }
 {
     let mut rest = jobs;
     let mut pending = Pending::new(alloc);
@@ -105,7 +105,7 @@ fn pending_of(alloc: Global, jobs: Vec<JobShown>) -> Result<Pending, AllocError>
 impl Canon for Pending {
     ghost Value = { ByUnit jobs.UnitJobs };
 
-    ghost value = { λ pending. pending };
+    ghost value = { λ pending. pending.held };
 
     ghost fits = { FitPending };
 

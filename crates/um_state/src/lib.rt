@@ -3,6 +3,7 @@
 
 mod boot;
 mod due;
+mod finder;
 mod fitting;
 mod input;
 mod input_bytes;
@@ -25,5 +26,5 @@ pub use laws::{
 };
 pub use reply::{JobShown, Reply, UnitListed, UnitShown};
 pub use state::State;
-pub use um_service::Action;
+pub use um_service::{Action, Start};
 pub use units::{Pending, Units};

@@ -1,14 +1,19 @@
 ghost use Rattle.std.specs.Prelude.{◌≡◌, ◌↔◌, ℕ, List, Contains, string_bytes, IsTrue, IfOk, OnOk, OnErr, IfErr, Ok, Err};
+ghost use Rattle.std.specs.Coded.{codes};
+ghost use Rattle.std.specs.FinMap as maps;
 ghost use Rattle.um_model.specs.Machine.{IsHeld, booted, empty_state};
 ghost use Rattle.um_model.specs.Service.{with_unit};
+ghost use Rattle.um_model.specs.Standing.{Standing};
 ghost use Rattle.um_model.specs.Jobs.{with_jobs};
 ghost use Rattle.um_model.specs.Tree.{put_file, put_link, remove_at};
+ghost use Rattle.um_tree.specs.Code.{tree_code};
 ghost use Rattle.um_wire.specs.Refusal.{refused_of};
 ghost use Rattle.um_wire.specs.declared.refusal.Refusal.TheVariants.{NoMemory};
 
 use crate::boot::BootId;
 use crate::units::{Pending, Units};
 use std::alloc::{AllocError, Global};
+use std::marker::Model;
 use um_model::{Moment, NextNumber, UnitJobs, UnitState};
 use um_name::UnitName;
 use um_tree::Tree;
@@ -24,6 +29,25 @@ pub struct State {
     pub(crate) next: NextNumber,
     pub(crate) units: Units,
     pub(crate) pending: Pending,
+}
+
+impl Model for State {
+    ghost Value = { Standing };
+
+    ghost coded = { Prim.hlevel (codes, maps.code, tree_code) };
+
+    ghost view = { λ s. record {
+      state = record {
+        tree = s.tree;
+        loaded = s.loaded;
+        boot = s.boot;
+        clock = s.clock;
+        next = s.next;
+        units = s.units.held;
+        pending = s.pending.held;
+      };
+      names = s.units.names;
+    } };
 }
 
 impl State {
@@ -81,14 +105,14 @@ impl State {
 
     /// How the units stand.
     pub fn units(&self) -> &Units
-        ensures { result.now ≡ (state_of self.now).units }
+        ensures { result.now.held ≡ (state_of self.now).units }
     {
         &self.units
     }
 
     /// The pending jobs.
     pub fn pending(&self) -> &Pending
-        ensures { result.now ≡ (state_of self.now).pending }
+        ensures { result.now.held ≡ (state_of self.now).pending }
     {
         &self.pending
     }
@@ -177,7 +201,7 @@ impl State {
 
     /// Sets the pending jobs, in the place of those that were.
     pub fn set_pending(&mut self, pending: Pending)
-        ensures { state_of self.new ≡ record (state_of self.old) { pending = pending } }
+        ensures { state_of self.new ≡ record (state_of self.old) { pending = pending.held } }
     {
         self.pending = pending;
     }

@@ -8,6 +8,7 @@ ghost use Rattle.um_model.specs.StateSpellings.{FitUnits, are_distinct, are_know
 ghost use Rattle.um_model.proofs.StateSpellingsLaws.{canonical_units};
 ghost use Rattle.um_model.specs.declared.service.UnitState as unit;
 
+use crate::finder::Finder;
 use crate::units::Units;
 use std::alloc::{AllocError, Global};
 use std::collections::{BTreeMap, BTreeSet};
@@ -30,7 +31,7 @@ fn are_known(entries: &BTreeMap<UnitName, UnitState>) -> bool
 impl Canon for Units {
     ghost Value = { ByUnit unit.UnitState };
 
-    ghost value = { λ units. units };
+    ghost value = { λ units. units.held };
 
     ghost fits = { FitUnits };
 
@@ -50,7 +51,15 @@ impl Canon for Units {
         if !are_known(&entries) {
             return Ok(None);
         }
-        Ok(Some((Units { alloc, entries }, n)))
+        let finder = Finder::of(alloc, &entries)?;
+        Ok(Some((
+            Units {
+                alloc,
+                entries,
+                finder,
+            },
+            n,
+        )))
     }
 
     ghost canonical = { canonical_units };
@@ -76,6 +85,19 @@ fn push_number(told: &mut Vec<u64>, process: Option<ProcessNumber>) -> Result<()
     Ok(())
 }
 
+/// Adds the process, if it is there, behind the others.
+fn push_process(
+    told: &mut Vec<ProcessNumber>,
+    process: Option<ProcessNumber>,
+) -> Result<(), AllocError>
+    ensures { OnOk result (told.new.items ≡ told.old.items ++ option_to_list process) }
+{
+    if let Some(process) = process {
+        told.push(process)?;
+    }
+    Ok(())
+}
+
 /// Whether no number stands twice.
 pub(crate) fn are_distinct(alloc: Global, numbers: &[u64]) -> Result<bool, AllocError>
     ensures { IfOk result (λ distinct. distinct ≡ are_distinct numbers.now) }
@@ -94,7 +116,7 @@ pub(crate) fn are_distinct(alloc: Global, numbers: &[u64]) -> Result<bool, Alloc
 impl Units {
     /// Whether no window began after the clock. It takes no memory.
     pub(crate) fn have_begun(&self, clock: Moment) -> bool
-        ensures { result ≡ have_begun clock self.now }
+        ensures { result ≡ have_begun clock self.now.held }
     {
         for (_, unit) in self.entries.iter() {
             if !has_begun(clock, unit.window) {
@@ -104,9 +126,21 @@ impl Units {
         true
     }
 
+    /// The numbers of the live processes, unit by unit.
+    pub fn processes(&self) -> Result<Vec<ProcessNumber>, AllocError>
+        ensures { IfOk result (λ numbers. numbers.items ≡ numbers_in self.now.held) }
+    {
+        let mut numbers = Vec::new(self.alloc);
+        for (_, unit) in self.entries.iter() {
+            push_process(&mut numbers, unit.main)?;
+            push_process(&mut numbers, unit.control)?;
+        }
+        Ok(numbers)
+    }
+
     /// The numbers of the live processes.
     pub(crate) fn live_numbers(&self) -> Result<Vec<u64>, AllocError>
-        ensures { IfOk result (λ numbers. numbers.items ≡ numbers_in self.now) }
+        ensures { IfOk result (λ numbers. numbers.items ≡ numbers_in self.now.held) }
     {
         let mut numbers = Vec::new(self.alloc);
         for (_, unit) in self.entries.iter() {

@@ -5,11 +5,15 @@ ghost use Rattle.std.specs.FinMap as maps;
 ghost use Rattle.std.specs.Ordering.{nat_cmp};
 ghost use Rattle.um_model.specs.Jobs.{AreTidyJobs, job_shown, jobs_shown_of, jobs_shown, jobs_of_unit, with_jobs};
 ghost use Rattle.um_model.specs.Machine.{IsOver, IsProcessOf, AreDeadlines};
-ghost use Rattle.um_model.specs.Service.{ByUnit, AreTidyUnits, state_of_unit, with_unit};
+ghost use Rattle.um_model.specs.Service.{AreTidyUnits, state_of_unit, with_unit};
+ghost use Rattle.um_model.specs.Standing.{Table};
 ghost use Rattle.um_model.specs.declared.jobs.UnitJobs as jobs;
 ghost use Rattle.um_model.specs.declared.service.UnitState as unit;
+ghost use Rattle.um_state.specs.Finding.{Finds};
+ghost use Rattle.um_state.specs.Held.{table_of};
 ghost use Rattle.um_state.specs.Shown.{job_of};
 
+use crate::finder::{Finder, state_in};
 use crate::reply::JobShown;
 use std::alloc::{AllocError, Global};
 use std::collections::BTreeMap;
@@ -31,19 +35,57 @@ fn push_keys<V>(
     Ok(())
 }
 
+/// Puts in how the unit stands; a dead one of which nothing is known isn't held. Where memory is refused, all is as before.
+fn hold(
+    entries: &mut BTreeMap<UnitName, UnitState>,
+    unit: &UnitName,
+    state: &UnitState,
+) -> Result<(), AllocError>
+    ensures ok { OnOk result (maps.from_entries {R = slice_cmp nat_cmp} entries.new.entries ≡ with_unit (maps.from_entries entries.old.entries) unit.now state.now) }
+    ensures err { OnErr result (maps.from_entries {R = slice_cmp nat_cmp} entries.new.entries ≡ maps.from_entries entries.old.entries) }
+{
+    if state.holds_nothing() {
+        entries.remove(unit);
+    } else {
+        entries.insert(unit.copy()?, *state)?;
+    }
+    Ok(())
+}
+
+/// Puts in how the unit stands, so that it is found by the numbers of its processes. Where memory is refused, all is as before.
+fn put(
+    entries: &mut BTreeMap<UnitName, UnitState>,
+    finder: &mut Finder,
+    unit: &UnitName,
+    state: UnitState,
+) -> Result<(), AllocError>
+    requires { Finds (maps.from_entries entries.old.entries) finder.old }
+    ensures ok { OnOk result (maps.from_entries {R = slice_cmp nat_cmp} entries.new.entries ≡ with_unit (maps.from_entries entries.old.entries) unit.now state) }
+    ensures err { OnErr result (maps.from_entries {R = slice_cmp nat_cmp} entries.new.entries ≡ maps.from_entries entries.old.entries) }
+    ensures finds { Finds (maps.from_entries entries.new.entries) finder.new }
+{
+    let before = state_in(entries, unit);
+    finder.note(entries, unit, &state)?;
+    hold(entries, unit, &state)?;
+    finder.leave(entries, &before);
+    Ok(())
+}
+
 /// What the state holds of units, by name: those that differ from a dead unit of which nothing is known.
 #[derive(Drop)]
 pub struct Units {
     pub(crate) alloc: Global,
     pub(crate) entries: BTreeMap<UnitName, UnitState>,
+    pub(crate) finder: Finder,
+    ghost finds: { Finds (maps.from_entries entries.entries) finder },
 }
 
 impl Model for Units {
-    ghost Value = { ByUnit unit.UnitState };
+    ghost Value = { Table unit.UnitState };
 
     ghost coded = { Prim.hlevel (codes, maps.code) };
 
-    ghost view = { λ u. maps.from_entries u.entries.entries };
+    ghost view = { λ u. table_of (maps.from_entries u.entries.entries) };
 
     ghost invariant = { λ u. AreTidyUnits (maps.from_entries u.entries.entries) };
 }
@@ -51,18 +93,19 @@ impl Model for Units {
 impl Units {
     /// Nothing of any unit. It takes no memory.
     pub fn new(alloc: Global) -> Units
-        ensures { result ≡ maps.empty }
+        ensures { result.held ≡ maps.empty }
     {
         Units {
             alloc,
             entries: BTreeMap::new(alloc),
+            finder: Finder::new(alloc),
         }
     }
 
     /// How the unit stands. It takes no memory.
     pub fn get(&self, unit: &UnitName) -> UnitState
-        ensures state { result ≡ state_of_unit self.now unit.now }
-        ensures tidy { AreTidyUnits self.now }
+        ensures state { result ≡ state_of_unit self.now.held unit.now }
+        ensures tidy { AreTidyUnits self.now.held }
     {
         match self.entries.get(unit) {
             Some(state) => *state,
@@ -72,21 +115,21 @@ impl Units {
 
     /// Whether the state holds anything of the unit. It takes no memory.
     pub fn holds(&self, unit: &UnitName) -> bool
-        ensures { result ≡ is_some (maps.get self.now unit.now) }
+        ensures { result ≡ is_some (maps.get self.now.held unit.now) }
     {
         self.entries.contains_key(unit)
     }
 
     /// Adds the names of the units of which it holds anything behind the others.
     pub(crate) fn push_names(&self, names: &mut Vec<UnitName>) -> Result<(), AllocError>
-        ensures { OnOk result (names.new.items ≡ names.old.items ++ maps.keys self.now) }
+        ensures { OnOk result (names.new.items ≡ names.old.items ++ maps.keys self.now.held) }
     {
         push_keys(names, &self.entries)
     }
 
     /// The units of which it holds anything, by name.
     pub fn names(&self) -> Result<Vec<UnitName>, AllocError>
-        ensures { IfOk result (λ names. names.items ≡ maps.keys self.now) }
+        ensures { IfOk result (λ names. names.items ≡ maps.keys self.now.held) }
     {
         let mut names = Vec::new(self.alloc);
         self.push_names(&mut names)?;
@@ -95,20 +138,16 @@ impl Units {
 
     /// Sets how the unit stands; a dead one of which nothing is known isn't held. Where memory is refused, all is as before.
     pub fn set(&mut self, unit: &UnitName, state: UnitState) -> Result<(), AllocError>
-        ensures ok { OnOk result (self.new ≡ with_unit self.old unit.now state) }
+        ensures ok { OnOk result (self.new.held ≡ with_unit self.old.held unit.now state) }
         ensures err { OnErr result (self.new ≡ self.old) }
     {
-        if state.holds_nothing() {
-            self.entries.remove(unit);
-        } else {
-            self.entries.insert(unit.copy()?, state)?;
-        }
+        put(&mut self.entries, &mut self.finder, unit, state)?;
         Ok(())
     }
 
-    /// The unit of the live process with this number; of several the one with the least name. It takes no memory.
-    pub fn process(&self, number: u64) -> Option<&UnitName>
-        ensures { MatchOption result (IsOver self.now number) (λ unit. IsProcessOf self.now number unit.now) }
+    /// The first unit by name that has the number.
+    fn first_with(&self, number: u64) -> Option<&UnitName>
+        ensures { MatchOption result (IsOver self.now.held number) (λ unit. IsProcessOf self.now.held number unit.now) }
     {
         for (unit, state) in self.entries.iter() {
             if state.has_number(number) {
@@ -118,9 +157,22 @@ impl Units {
         None
     }
 
+    /// The unit of the live process with this number; of several the one with the least name. It takes no memory.
+    pub fn process(&self, number: u64) -> Option<&UnitName>
+        ensures { MatchOption result (IsOver self.now.held number) (λ unit. IsProcessOf self.now.held number unit.now) }
+    {
+        if self.finder.is_shared {
+            return self.first_with(number);
+        }
+        match self.finder.names.get(&number) {
+            Some(unit) if state_in(&self.entries, unit).has_number(number) => Some(unit),
+            Some(_) | None => None,
+        }
+    }
+
     /// The deadlines of the units.
     pub fn deadlines(&self) -> Result<Timers, AllocError>
-        ensures { IfOk result (λ timers. AreDeadlines self.now timers) }
+        ensures { IfOk result (λ timers. AreDeadlines self.now.held timers) }
     {
         let mut timers = Timers::new(self.alloc);
         for (unit, state) in self.entries.iter() {
@@ -133,7 +185,7 @@ impl Units {
 
     /// Whether the other holds the same of each unit. It takes no memory.
     pub fn is_same(&self, other: &Units) -> bool
-        ensures { IsTrue result ↔ (self.now ≡ other.now) }
+        ensures { IsTrue result ↔ (self.now.held ≡ other.now.held) }
     {
         self.entries.len() == other.entries.len() && self.entries == other.entries
     }
@@ -142,9 +194,11 @@ impl Units {
     pub fn copy(&self) -> Result<Units, AllocError>
         ensures { IfOk result (λ u. u ≡ self.now) }
     {
+        let entries = copy_by_name(self.alloc, &self.entries)?;
         Ok(Units {
             alloc: self.alloc,
-            entries: copy_by_name(self.alloc, &self.entries)?,
+            finder: Finder::of(self.alloc, &entries)?,
+            entries,
         })
     }
 }
@@ -182,11 +236,11 @@ pub struct Pending {
 }
 
 impl Model for Pending {
-    ghost Value = { ByUnit jobs.UnitJobs };
+    ghost Value = { Table jobs.UnitJobs };
 
     ghost coded = { Prim.hlevel (codes, maps.code) };
 
-    ghost view = { λ p. maps.from_entries p.entries.entries };
+    ghost view = { λ p. table_of (maps.from_entries p.entries.entries) };
 
     ghost invariant = { λ p. AreTidyJobs (maps.from_entries p.entries.entries) };
 }
@@ -194,7 +248,7 @@ impl Model for Pending {
 impl Pending {
     /// No job. It takes no memory.
     pub fn new(alloc: Global) -> Pending
-        ensures { result ≡ maps.empty }
+        ensures { result.held ≡ maps.empty }
     {
         Pending {
             alloc,
@@ -204,8 +258,8 @@ impl Pending {
 
     /// The pending jobs of the unit. It takes no memory.
     pub fn get(&self, unit: &UnitName) -> UnitJobs
-        ensures jobs { result ≡ jobs_of_unit self.now unit.now }
-        ensures tidy { AreTidyJobs self.now }
+        ensures jobs { result ≡ jobs_of_unit self.now.held unit.now }
+        ensures tidy { AreTidyJobs self.now.held }
     {
         match self.entries.get(unit) {
             Some(jobs) => *jobs,
@@ -215,21 +269,21 @@ impl Pending {
 
     /// Whether a job of the unit is pending. It takes no memory.
     pub fn holds(&self, unit: &UnitName) -> bool
-        ensures { result ≡ is_some (maps.get self.now unit.now) }
+        ensures { result ≡ is_some (maps.get self.now.held unit.now) }
     {
         self.entries.contains_key(unit)
     }
 
     /// Adds the names of the units of which a job is pending behind the others.
     pub(crate) fn push_names(&self, names: &mut Vec<UnitName>) -> Result<(), AllocError>
-        ensures { OnOk result (names.new.items ≡ names.old.items ++ maps.keys self.now) }
+        ensures { OnOk result (names.new.items ≡ names.old.items ++ maps.keys self.now.held) }
     {
         push_keys(names, &self.entries)
     }
 
     /// Sets the pending jobs of the unit. Where memory is refused, all is as before.
     pub fn set(&mut self, unit: &UnitName, jobs: UnitJobs) -> Result<(), AllocError>
-        ensures ok { OnOk result (self.new ≡ with_jobs self.old unit.now jobs) }
+        ensures ok { OnOk result (self.new.held ≡ with_jobs self.old.held unit.now jobs) }
         ensures err { OnErr result (self.new ≡ self.old) }
     {
         if jobs.has_job() {
@@ -242,7 +296,7 @@ impl Pending {
 
     /// The pending jobs as they are told: in the order of the names of their units, of one unit the stop job first.
     pub fn shown(&self) -> Result<Vec<JobShown>, AllocError>
-        ensures { IfOk result (λ shown. map job_of shown.items ≡ jobs_shown self.now) }
+        ensures { IfOk result (λ shown. map job_of shown.items ≡ jobs_shown self.now.held) }
     {
         let mut shown = Vec::new(self.alloc);
         for (unit, jobs) in self.entries.iter() {
@@ -253,7 +307,7 @@ impl Pending {
 
     /// Whether the other holds the same jobs. It takes no memory.
     pub fn is_same(&self, other: &Pending) -> bool
-        ensures { IsTrue result ↔ (self.now ≡ other.now) }
+        ensures { IsTrue result ↔ (self.now.held ≡ other.now.held) }
     {
         self.entries.len() == other.entries.len() && self.entries == other.entries
     }

@@ -16,7 +16,7 @@ pub fn one_reading()
     ensures { (text : List ℕ) (a b : List Placed) → IsReading text a → IsReading text b → a ≡ b }
 {}
 
-/// The reading is what the functions of the same file compute.
+/// The reading is what the functions of the definitions compute.
 pub fn reading_is_computed()
     ensures { (text : List ℕ) (reading : List Placed) → IsReading text reading ↔ (reading ≡ reading_of text) }
 {}

@@ -1,7 +1,7 @@
 //! Words, commands and the variables in them.
 use crate::answers::{Wanted, commands_of, list, same_at, variables_of};
 use std::process::Abort;
-use um_words::{Command, commands, is_executable_word, names, substitute, words};
+use um_words::{Command, Room, commands, is_executable_word, names, room_after, substitute, words};
 
 /// A text, and the words or names in it; None where it can't be read.
 struct Parted {
@@ -213,6 +213,80 @@ fn variables_stand_for_their_values(rt: HostRuntime) {
         let words = read.expect(&rt, "no memory").expect(&rt, "no words");
         let got: Result<_, _> = substitute(rt.alloc(), &words, &environment);
         is_parted(&rt, Some(got.expect(&rt, "no memory")), row);
+    }
+}
+
+/// A text whose words are put into a room for so many bytes together and in each, one byte behind each, with the variables of that
+/// environment; and how many bytes of the room are left then.
+struct Counted {
+    text: &'static str,
+    total: u32,
+    longest: u32,
+    wanted: Option<u32>,
+}
+
+const COUNTED: &[Counted] = &[
+    // 10 and 4 and 2 and 2 and 6 and 2 and 2
+    Counted {
+        text: "/bin/echo \"a b\" $X ${X}c $$ \\x41",
+        total: 28,
+        longest: 10,
+        wanted: Some(0),
+    },
+    Counted {
+        text: "/bin/echo \"a b\" $X ${X}c $$ \\x41",
+        total: 27,
+        longest: 10,
+        wanted: None,
+    },
+    Counted {
+        text: "/bin/echo \"a b\" $X ${X}c $$ \\x41",
+        total: 28,
+        longest: 9,
+        wanted: None,
+    },
+    // 5 and 8 and 4: quotes take no room
+    Counted {
+        text: "echo $Y",
+        total: 100,
+        longest: 8,
+        wanted: Some(83),
+    },
+    Counted {
+        text: "echo $Y",
+        total: 100,
+        longest: 7,
+        wanted: None,
+    },
+    // an empty word takes the byte behind it, and a value without words none
+    Counted {
+        text: "echo $UNSET ${UNSET}",
+        total: 100,
+        longest: 5,
+        wanted: Some(94),
+    },
+    Counted {
+        text: "",
+        total: 0,
+        longest: 0,
+        wanted: Some(0),
+    },
+];
+
+#[test]
+fn the_room_of_words_is_counted_with_their_variables(rt: HostRuntime) {
+    let environment = variables_of(&rt, VARIABLES);
+    for row in COUNTED {
+        let read: Result<_, _> = words(rt.alloc(), row.text);
+        let words = read.expect(&rt, "no memory").expect(&rt, "no words");
+        let room = Room {
+            total: row.total,
+            longest: row.longest,
+            beside: 1,
+        };
+        let left: Result<_, _> = room_after(rt.alloc(), room, &words, &environment);
+        let left = left.expect(&rt, "no memory");
+        same_at(&rt, left.map(|left| left.total), row.wanted, row.text);
     }
 }
 

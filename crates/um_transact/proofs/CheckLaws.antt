@@ -1,5 +1,5 @@
 -- The checks of one unit, and the plan, one unit after another.
-use Rattle.std.proofs.Common.{◌≡◌, ◌∙◌, ◌+◌, ◌<◌, ℕ, true, false, List, [], ◌∷◌, ◌++◌, length, None, Result, Ok, Err, IfErr, unwrap_or, slice_get, codes, sym, ap, subst, inl, inr, is_some, arith}
+use Rattle.std.proofs.Common.{◌≡◌, ◌≢◌, ◌∙◌, ◌+◌, ◌<◌, ℕ, true, false, List, [], ◌∷◌, ◌++◌, length, None, Result, Ok, Err, IfErr, unwrap_or, slice_get, codes, sym, ap, subst, inl, inr, is_some, arith}
 use Rattle.std.proofs.lemmas.Bool.{cases_lt}
 use Rattle.std.specs.Result.{IsErrAnd}
 use Rattle.std.proofs.lemmas.List.{get_or_append_left, get_or_push}
@@ -15,7 +15,9 @@ use Rattle.um_model.specs.declared.jobs.UnitJobs.{UnitJobs}
 use Rattle.um_unit.specs.View.{loading_of}
 use Rattle.um_unit.specs.declared.loaded.Loading.TheVariants as loading
 use Rattle.um_wire.specs.Gives.{RefusesBy}
+use Rattle.um_wire.specs.Refusal.{refused_of}
 use Rattle.um_wire.specs.declared.refusal.Refusal.{Refusal}
+use Rattle.um_wire.specs.declared.refusal.Refusal.TheVariants.{NoMemory}
 use Rattle.um_graph.specs.Graph.{GraphView}
 use Rattle.um_transact.specs.Checks.{BarsBy, CannotStartBy, is_started}
 use Rattle.um_jobs.specs.Named.{jobs_at}
@@ -54,6 +56,12 @@ bars_by g marks u (Err e) s h = λ differs. record { started = s; cause = h diff
 pub err_is : {X : Type 0} (P : Refusal → Type 0) (result : Result X Refusal) (e : Refusal) → IsErrAnd result (λ f. f ≡ e) → P e → IfErr result P
 err_is P (Ok done) e h p = absurd h
 err_is P (Err f) e h p = subst P (sym h) p
+
+-- a call that hands on the refusal of another is refused for its cause
+pub refuses_on : {X : Type 0} (Cause : Refused → Type 0) (result : Result X Refusal) (e : Refusal) → IsErrAnd result (λ f. f ≡ e) → (e ≢ NoMemory → Cause (refused_of e))
+    → RefusesBy Cause result
+refuses_on Cause (Ok done) e h cause = absurd h
+refuses_on Cause (Err f) e h cause = subst (λ (r : Refusal). r ≢ NoMemory → Cause (refused_of r)) (sym h) cause
 
 -- ---- the plan
 pub planned_more : (f : ℕ → UnitJobs) (plan new : List UnitJobs) (n : ℕ) (j : UnitJobs) → length plan ≡ n → new ≡ plan ++ j ∷ [] → j ≡ f n → ((u : ℕ) → u < n → jobs_at plan u ≡ f u) → (u : ℕ) → u < n + 1 → jobs_at new u ≡ f u

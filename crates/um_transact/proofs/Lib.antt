@@ -8,4 +8,5 @@ pub mod MirrorLaws
 pub mod SceneLaws
 pub mod MarkedLaws
 pub mod OutcomeLaws
+pub mod PlanLaws
 pub mod TreeLaws

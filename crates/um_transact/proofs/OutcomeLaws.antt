@@ -17,12 +17,12 @@ use Rattle.um_graph.specs.Kinds.{before_bit}
 use Rattle.um_transact.specs.Checks.{BarsBy, ClashesBy, DropsBy, RefusesFirst, is_started, planned_at}
 use Rattle.um_jobs.specs.Named.{jobs_at, jobs_by}
 use Rattle.um_graph.specs.Named.{name_at, Joins}
-use Rattle.um_transact.specs.Scene.{IsAccepted, IsRefused, scene_of}
+use Rattle.um_transact.specs.Scene.{scene_of}
 use Rattle.um_transact.specs.Situation.{IsDemandedBy}
 use Rattle.um_transact.specs.Walk.{Demanded, IsMarked, marks_at}
 use Rattle.um_transact.specs.declared.walk.Marks.{Marks}
 use Rattle.um_jobs.proofs.DropLaws.{dropped_told, none_dropped, told_dropped}
-use Rattle.um_transact.proofs.MarkedLaws.{cannot_named, is_plan, marked_named, named_cannot, named_marked, named_started, started_named}
+use Rattle.um_transact.proofs.MarkedLaws.{cannot_named, marked_named, named_cannot, named_marked, named_started, started_named}
 use Rattle.um_graph.proofs.NamedLaws.{among_or_apart, name_got, name_is, named_before, names_once}
 use Rattle.um_jobs.proofs.NamedLaws.{jobs_by_at, jobs_by_none}
 
@@ -158,23 +158,25 @@ module _ (g : GraphView) (is : IsGraph g) (activity : List ActiveState) (pending
   Causes = CausesOfPlan (scene_of g activity pending) (demand, name unit) mode (jobs_by g.names plan)
 
   module _ (asked : List ℕ) (number : IsNumberOf g unit asked) where
-    refused_for : (r : Refused) → Causes r → IsRefused (scene_of g activity pending) (demand, asked) mode r
-    refused_for r c = subst (λ x. IsRefused (scene_of g activity pending) (demand, x) mode r) (name_is g.names unit asked number)
-        (record { after = jobs_by g.names plan; plan = is_plan g is activity pending demand unit known marks marked plan each; cause = c })
+    abbrev Asked : Refused → Type 0
+    Asked = CausesOfPlan (scene_of g activity pending) (demand, asked) mode (jobs_by g.names plan)
 
-    pub refused_bars : (r : Refused) → RefusesFirst (BarsBy g marks) (length g.names) r → IsRefused (scene_of g activity pending) (demand, asked) mode r
+    refused_for : (r : Refused) → Causes r → Asked r
+    refused_for r c = subst (λ x. CausesOfPlan (scene_of g activity pending) (demand, x) mode (jobs_by g.names plan) r) (name_is g.names unit asked number) c
+
+    pub refused_bars : (r : Refused) → RefusesFirst (BarsBy g marks) (length g.names) r → Asked r
     refused_bars r f = refused_for r (at_first (bars_named r f))
 
     module _ (able : None (BarsBy g marks)) where
-      pub refused_clashes : (r : Refused) → RefusesFirst (ClashesBy g marks) (length g.names) r → IsRefused (scene_of g activity pending) (demand, asked) mode r
+      pub refused_clashes : (r : Refused) → RefusesFirst (ClashesBy g marks) (length g.names) r → Asked r
       refused_clashes r f = refused_for r (at_second (no_bars able) (at_first (clashes_named r f)))
 
       module _ (apart : None (ClashesBy g marks)) where
-        pub refused_drops : (r : Refused) → RefusesFirst (DropsBy g mode pending plan) (length g.names) r → IsRefused (scene_of g activity pending) (demand, asked) mode r
+        pub refused_drops : (r : Refused) → RefusesFirst (DropsBy g mode pending plan) (length g.names) r → Asked r
         refused_drops r f = refused_for r (at_second (no_bars able) (at_second (no_clashes apart) (at_first (drops_named r f))))
 
         module _ (keeps : None (DropsBy g mode pending plan)) where
-          pub refused_cycle : (r : Refused) → NamesCycle (Joins g before_bit) (jobs_by g.names plan) r → IsRefused (scene_of g activity pending) (demand, asked) mode r
+          pub refused_cycle : (r : Refused) → NamesCycle (Joins g before_bit) (jobs_by g.names plan) r → Asked r
           refused_cycle r n = refused_for r (at_second (no_bars able) (at_second (no_clashes apart) (at_second (no_drops keeps) n)))
 
           module _ (free : (cycle : List Job) → ¬ IsCycle (ComesBefore (Joins g before_bit) (jobs_by g.names plan)) cycle) where
@@ -190,6 +192,6 @@ module _ (g : GraphView) (is : IsGraph g) (activity : List ActiveState) (pending
             unrefused r (at_first b) = no_bars able r b
             unrefused r (at_second none n) = later_unrefused r n
 
-            pub accepted : IsAccepted (scene_of g activity pending) (demand, asked) mode (jobs_by g.names plan)
-            accepted = subst (λ x. IsAccepted (scene_of g activity pending) (demand, x) mode (jobs_by g.names plan)) (name_is g.names unit asked number)
-                (record { plan = is_plan g is activity pending demand unit known marks marked plan each; unrefused = unrefused; free = free })
+            pub accepted : (r : Refused) → ¬ Asked r
+            accepted r c =
+                unrefused r (subst (λ x. CausesOfPlan (scene_of g activity pending) (demand, x) mode (jobs_by g.names plan) r) (sym (name_is g.names unit asked number)) c)

@@ -187,10 +187,10 @@ units_mapped : (names : List (List ℕ)) (c : List ℕ) → units_of (map (job_a
 units_mapped names [] = refl
 units_mapped names (k ∷ c) = λ i. name_at names (unit_of_node k i) ∷ units_mapped names c i
 
-leads_inside : (nodes : ℕ) (pairs : List (ℕ × ℕ)) (x : ℕ) (zs : List ℕ) (y : ℕ) → LeadsTo (Precedes nodes pairs) x zs y → (q : ℕ) → Contains zs q → q < nodes
-leads_inside nodes pairs x [] y h q (k, l, e) = absurd (omega arith)
-leads_inside nodes pairs x (z ∷ zs) y h q (zero, l, e) = subst (λ n. n < nodes) e h.0.second
-leads_inside nodes pairs x (z ∷ zs) y h q (suc k, l, e) = leads_inside nodes pairs z zs y h.1 q (k, omega arith, e)
+leads_inside : (nodes : ℕ) (pairs : List (ℕ × ℕ)) (inside : (x y : ℕ) → Precedes pairs x y → y < nodes) (x : ℕ) (zs : List ℕ) (y : ℕ) → LeadsTo (Precedes pairs) x zs y → (q : ℕ) → Contains zs q → q < nodes
+leads_inside nodes pairs inside x [] y h q (k, l, e) = absurd (omega arith)
+leads_inside nodes pairs inside x (z ∷ zs) y h q (zero, l, e) = subst (λ n. n < nodes) e (inside x z h.0)
+leads_inside nodes pairs inside x (z ∷ zs) y h q (suc k, l, e) = leads_inside nodes pairs inside z zs y h.1 q (k, omega arith, e)
 
 module _ (g : GraphView) (is : IsGraph g) (plan : List UnitJobs) where
   abbrev after : ByUnit UnitJobs
@@ -210,7 +210,7 @@ module _ (g : GraphView) (is : IsGraph g) (plan : List UnitJobs) where
 
   -- a pair stands for two jobs of which one is before the other
   abbrev StandsFor : ℕ × ℕ → Type 0
-  StandsFor e = (m : Node) × (n : Node) × ((number_of m, number_of n) ≡ e) × Before (job_named g.names m) (job_named g.names n)
+  StandsFor e = (m : Node) × (n : Node) × ((number_of m, number_of n) ≡ e) × Before (job_named g.names m) (job_named g.names n) × Inside n
 
   pair_stands : (m n : Node) (e : ℕ × ℕ) → Inside m → Inside n → GoesBefore IsBefore (job_named g.names m) (job_named g.names n) → Contains (pair_of plan m n) e → StandsFor e
   pair_stands m n e h k b c =
@@ -223,6 +223,7 @@ module _ (g : GraphView) (is : IsGraph g) (plan : List UnitJobs) where
           waits = held n k ∙ waiting_is (job_of n.0 (jobs_at plan n.1)) p.1;
           goes = b;
         },
+        k,
       )
 
   pair_has : (m n : Node) → Inside m → Inside n → Before (job_named g.names m) (job_named g.names n) → Contains (pair_of plan m n) (number_of m, number_of n)
@@ -335,50 +336,55 @@ module _ (g : GraphView) (is : IsGraph g) (plan : List UnitJobs) where
   place_named : (m : Node) → Inside m → place_of g.names (job_named g.names m) ≡ number_of m
   place_named m h = ap (λ u. number_of (m.0, u)) (place_by_is (name_at g.names m.1) (among_or_apart g.names (name_at g.names m.1)) m.1 h refl)
 
-  module _ (nodes : ℕ) (pairs : List (ℕ × ℕ)) (twice : nodes ≡ length g.names * 2) (a : ArePairs g.rows plan (length g.names) pairs) where
-    to_numbers : (j k : Job) → Before j k → Precedes nodes pairs (place_of g.names j) (place_of g.names k)
+  module _ (pairs : List (ℕ × ℕ)) (a : ArePairs g.rows plan (length g.names) pairs) where
+    to_numbers : (j k : Job) → Before j k → Precedes pairs (place_of g.names j) (place_of g.names k)
     to_numbers j k b =
         let p = paired j k b.goes (known_of j b.pends) in
         let m = p.0 in
         let n = p.1 in
         let here : Before (job_named g.names m) (job_named g.names n) = subst (λ i. Before i (job_named g.names n)) (sym p.2) (subst (λ i. Before j i) (sym p.3) b) in
         let f = p.6 (pair_has m n p.4 p.5 here) in
-        let x = number_within m (length g.names) p.4 in
-        let y = number_within n (length g.names) p.5 in
-        let told : Precedes nodes pairs (number_of m) (number_of n) =
-        record { given = (a (number_of m, number_of n)).1 f.0 f.1 f.2; first = omega (arith, x); second = omega (arith, y) } in
+        let told : Precedes pairs (number_of m) (number_of n) = (a (number_of m, number_of n)).1 f.0 f.1 f.2 in
         let s : number_of m ≡ place_of g.names j = sym (place_named m p.4) ∙ ap (place_of g.names) p.2 in
         let t : number_of n ≡ place_of g.names k = sym (place_named n p.5) ∙ ap (place_of g.names) p.3 in
-        subst (λ i. Precedes nodes pairs i (place_of g.names k)) s (subst (λ i. Precedes nodes pairs (number_of m) i) t told)
+        subst (λ i. Precedes pairs i (place_of g.names k)) s (subst (λ i. Precedes pairs (number_of m) i) t told)
 
-    to_jobs : (x y : ℕ) → Precedes nodes pairs x y → Before (job_at g.names x) (job_at g.names y)
+    -- both numbers of a pair are those of jobs
+    inside : (x y : ℕ) → Precedes pairs x y → y < length g.names * 2
+    inside x y p =
+        let r = (a (x, y)).0 p in
+        let s = row_stands r.0 (x, y) r.1 r.2 in
+        let at : number_of s.1 ≡ y = ap (λ (e : ℕ × ℕ). e.1) s.2 in
+        omega (arith, at, number_within s.1 (length g.names) s.4)
+
+    to_jobs : (x y : ℕ) → Precedes pairs x y → Before (job_at g.names x) (job_at g.names y)
     to_jobs x y p =
-        let r = (a (x, y)).0 p.given in
+        let r = (a (x, y)).0 p in
         let s = row_stands r.0 (x, y) r.1 r.2 in
         let m : node_at x ≡ s.0 = ap node_at (sym (ap (λ (e : ℕ × ℕ). e.0) s.2)) ∙ node_back s.0 in
         let k : node_at y ≡ s.1 = ap node_at (sym (ap (λ (e : ℕ × ℕ). e.1) s.2)) ∙ node_back s.1 in
         subst (λ j. Before (job_named g.names j) (job_at g.names y)) (sym m) (subst (λ j. Before (job_named g.names s.0) (job_named g.names j)) (sym k) s.3)
 
     -- jobs that can be numbered have no cycle
-    pub numbered : (numbers : List ℕ) → IsNumbering (Precedes nodes pairs) nodes numbers → (cycle : List Job) → ¬ IsCycle Before cycle
-    numbered numbers i cycle h =
-        no_cycle (slice_index numbers) (Precedes nodes pairs) i.ascends (map (place_of g.names) cycle) (cycle_mapped Before (Precedes nodes pairs) (place_of g.names) to_numbers cycle h)
+    pub numbered : (nodes : ℕ) (numbers : List ℕ) → IsNumbering (Precedes pairs) nodes numbers → (cycle : List Job) → ¬ IsCycle Before cycle
+    numbered nodes numbers i cycle h =
+        no_cycle (slice_index numbers) (Precedes pairs) i.ascends (map (place_of g.names) cycle) (cycle_mapped Before (Precedes pairs) (place_of g.names) to_numbers cycle h)
 
-    least_first : (c : List ℕ) → IsCycle (Precedes nodes pairs) c → numbers.BeginsWithLeast c → BeginsWithLeast (map (λ k. name_at g.names (k / 2)) c)
+    least_first : (c : List ℕ) → IsCycle (Precedes pairs) c → numbers.BeginsWithLeast c → BeginsWithLeast (map (λ k. name_at g.names (k / 2)) c)
     least_first [] h l = l
     least_first (x ∷ xs) h l =
         All-map (λ y. ¬ IsNamedBefore y (name_at g.names (x / 2))) (λ k. name_at g.names (k / 2)) xs
         (λ k d i.
         let q = get_or xs k d in
-        let inside = leads_inside nodes pairs x xs x h q (Contains-get_or xs k d i) in
+        let within = leads_inside (length g.names * 2) pairs inside x xs x h q (Contains-get_or xs k d i) in
         let more = l k d i in
-        not_before g.names is.sorted (x / 2) (q / 2) (omega (arith, more)) (omega (arith, inside)))
+        not_before g.names is.sorted (x / 2) (q / 2) (omega (arith, more)) (omega (arith, within)))
 
     -- a cycle of numbers is one of jobs
-    pub cycle_named : (c : List ℕ) (units : List (List ℕ)) (r : Refused) → IsLeastFirstCycle (Precedes nodes pairs) c → units ≡ map (λ k. name_at g.names (k / 2)) c → r ≡ ordering_cycle units → NamesCycle IsBefore after r
+    pub cycle_named : (c : List ℕ) (units : List (List ℕ)) (r : Refused) → IsLeastFirstCycle (Precedes pairs) c → units ≡ map (λ k. name_at g.names (k / 2)) c → r ≡ ordering_cycle units → NamesCycle IsBefore after r
     cycle_named c units r l e f = record {
       cycle = map (job_at g.names) c;
-      closed = cycle_mapped (Precedes nodes pairs) Before (job_at g.names) to_jobs c l.closed;
+      closed = cycle_mapped (Precedes pairs) Before (job_at g.names) to_jobs c l.closed;
       least = subst BeginsWithLeast (sym (units_mapped g.names c)) (least_first c l.closed l.least);
       refusal = f ∙ ap ordering_cycle (e ∙ sym (units_mapped g.names c));
     }

@@ -1,4 +1,4 @@
--- The scene of a tree's graph is alike that of the tree; so what is accepted or refused in the one is so in the other.
+-- The scene of a tree's graph is alike that of the tree.
 use Rattle.std.proofs.Common.{◌≡◌, ◌↔◌, ◌∙◌, ℕ, List, Some, option_map, get_or, sym, ap, subst, inl, inr, ⊎_elim, arith}
 use Rattle.std.proofs.lemmas.Option.{same_Some, slice_get-get_or}
 use Rattle.um_model.specs.Dependencies.{Depends, IsKnown, Orders, Precedes, declared, pulled_in, ending, ends, owner, other, earlier, later, loadable_in, loadable_of}
@@ -14,9 +14,7 @@ use Rattle.um_model.specs.declared.dependencies.DependencyKind.{DependencyKind}
 use Rattle.um_model.specs.declared.dependencies.DependencyKind.TheVariants.{Wants, Requires}
 use Rattle.um_model.specs.declared.jobs.UnitJobs.{UnitJobs}
 use Rattle.um_model.specs.declared.service.ActiveState.{ActiveState}
-use Rattle.um_model.proofs.PlanLaws.{AreAlike, alike_back, causes_same, free_same, plan_same}
-use Rattle.um_model.specs.declared.commands.JobMode.{JobMode}
-use Rattle.um_model.specs.declared.dependencies.Demand.{Demand}
+use Rattle.um_model.proofs.PlanLaws.{AreAlike}
 use Rattle.um_unit.specs.View.{loading_of}
 use Rattle.um_unit.specs.declared.loaded.Loading.{Loading}
 use Rattle.um_unit.specs.declared.loaded.Loading.TheVariants.{NotFound}
@@ -24,7 +22,7 @@ use Rattle.um_graph.specs.Graph.{GraphView, IsGraph, IsGraphOf, IsNumberOf}
 use Rattle.um_graph.specs.Kinds.{bit_of, before_bit}
 use Rattle.um_jobs.specs.Named.{jobs_at, jobs_by}
 use Rattle.um_graph.specs.Named.{Joins, item_for}
-use Rattle.um_transact.specs.Scene.{IsAccepted, IsFound, IsRefused, scene_of}
+use Rattle.um_transact.specs.Scene.{IsFound, scene_of}
 use Rattle.um_transact.specs.Scene as scenes
 use Rattle.um_transact.specs.Walk.{activity_at}
 use Rattle.um_model.specs.declared.service.ActiveState.TheVariants.{Inactive}
@@ -119,15 +117,3 @@ module _ (tree : Tree) (Extra : List ℕ → Type 0) (g : GraphView) (is : IsGra
         | inr apart ↦ jobs_by_none g.names pending x apart ∙ sym (none x (λ i n. apart i (got_within g.names i x n) (name_is g.names i x n)))
       ];
     }
-
--- what is accepted or refused in one scene is so in one that is alike
-module _ (Known : List ℕ → Type 0) (root : Demand × List ℕ) (known : Known root.1) (s t : Scene) (a : AreAlike Known s t) (mode : JobMode) where
-  pub accepted_alike : (after : ByUnit UnitJobs) → IsAccepted s root mode after → IsAccepted t root mode after
-  accepted_alike after h = record {
-    plan = plan_same Known root known s t a after h.plan;
-    unrefused = λ r c. h.unrefused r (causes_same Known root known t s (alike_back Known s t a) mode after r c);
-    free = free_same Known root known s t a after h.free;
-  }
-
-  pub refused_alike : (r : Refused) → IsRefused s root mode r → IsRefused t root mode r
-  refused_alike r h = record { after = h.after; plan = plan_same Known root known s t a h.after h.plan; cause = causes_same Known root known s t a mode h.after r h.cause }

@@ -3,3 +3,4 @@ pub mod Situation
 pub mod Order
 pub mod Checks
 pub mod Scene
+pub mod Transaction

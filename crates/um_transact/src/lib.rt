@@ -10,5 +10,5 @@ mod refusals;
 mod walk;
 
 pub use order::check_pending;
-pub use plan::{Plan, build};
+pub use plan::{Plan, Transaction, build};
 pub use refusals::{check_start, job_conflict};

@@ -147,11 +147,8 @@ pub fn check_pending(alloc: Global, graph: &Graph, pending: &[UnitJobs]) -> Resu
     ensures orders { OrdersBy (Joins graph.now before_bit) (jobs_by graph.now.names pending.now) result }
     ensures refuses { RefusesBy (NamesCycle (Joins graph.now before_bit) (jobs_by graph.now.names pending.now)) result }
 {
-    let Some(nodes) = graph.len().checked_mul(2) else {
-        return Err(Refusal::NoMemory);
-    };
     let pairs = pairs(alloc, graph, pending)?;
-    match check(alloc, nodes, &pairs)? {
+    match check(alloc, graph.len() * 2, &pairs)? {
         Order::Numbering(_) => Ok(()),
         Order::Cycle(cycle) => Err(Refusal::OrderingCycle {
             units: units_of(alloc, graph, &cycle)?,

@@ -1,13 +1,19 @@
 //! The plan of a transaction, or the first refusal that holds.
 
-ghost use Rattle.std.specs.Prelude.{◌≡◌, ◌≢◌, ◌≤◌, ◌<◌, ℕ, List, IfOk, IfErr, length, vec_len};
+ghost use Rattle.std.specs.Prelude.{◌≡◌, ◌≢◌, ◌≤◌, ◌<◌, ◌↔◌, [], ℕ, List, IfOk, IfErr, length, vec_len};
 ghost use Rattle.um_graph.specs.Graph.{IsGraph, IsNumberOf};
+ghost use Rattle.um_model.specs.Plan.{CausesOfPlan, IsPlan};
+ghost use Rattle.um_model.specs.declared.dependencies.Demand.{Demand};
 ghost use Rattle.um_model.specs.declared.jobs.UnitJobs.{UnitJobs};
+ghost use Rattle.um_model.specs.declared.service.ActiveState.{ActiveState};
 ghost use Rattle.um_transact.specs.Checks as checks;
 ghost use Rattle.um_transact.specs.Checks.{planned_at};
 ghost use Rattle.um_jobs.specs.Named.{jobs_at, jobs_by};
 ghost use Rattle.um_transact.specs.Scene.{IsAccepted, IsRefused, scene_of};
-ghost use Rattle.um_transact.specs.Walk.{activity_at};
+ghost use Rattle.um_transact.specs.Situation.{IsDemandedBy};
+ghost use Rattle.um_transact.specs.Transaction.{IsMade, TransactionView, scene_in, transaction};
+ghost use Rattle.um_transact.specs.Walk.{Demanded, IsMarked, activity_at};
+ghost use Rattle.um_wire.specs.Gives.{RefusesBy};
 ghost use Rattle.um_wire.specs.Refusal.{refused_of};
 ghost use Rattle.um_wire.specs.declared.refusal.Refusal.TheVariants.{NoMemory};
 
@@ -106,6 +112,138 @@ fn planned(
     Ok(plan)
 }
 
+/// What the demand on the unit with this number brings, marked unit by unit; nothing where that is past the last unit.
+fn marks_for(
+    alloc: Global,
+    graph: &Graph,
+    activity: &[ActiveState],
+    root: (Demand, usize),
+) -> Result<Vec<Marks>, AllocError>
+    ensures graph { IsGraph graph.now }
+    ensures marks { root.1 < length graph.now.names
+        → IfOk result (λ marks. (q : Demanded) → IsMarked marks.items q ↔ IsDemandedBy graph.now activity.now root q) }
+    ensures past { length graph.now.names ≤ root.1 → IfOk result (λ marks. marks.items ≡ []) }
+{
+    if root.1 >= graph.len() {
+        return Ok(Vec::new(alloc));
+    }
+    demanded(alloc, graph, activity, root)
+}
+
+/// Refuses the plan for the first cause that holds, by the marks of what is demanded.
+fn check_plan(
+    alloc: Global,
+    graph: &Graph,
+    marks: &[Marks],
+    mode: JobMode,
+    pending: &[UnitJobs],
+    plan: &[UnitJobs],
+) -> Result<(), Refusal>
+    ensures { (activity : List ActiveState) (root : Demand × ℕ) (name : List ℕ) → IsMade marks.now (transaction graph.now activity pending.now root plan.now)
+        → IsNumberOf graph.now root.1 name
+        → RefusesBy (CausesOfPlan (scene_of graph.now activity pending.now) (root.0, name) mode (jobs_by graph.now.names plan.now)) result }
+{
+    check_bars(alloc, graph, marks)?;
+    check_clashes(alloc, graph, marks)?;
+    check_drops(alloc, graph, mode, pending, plan)?;
+    check_pending(alloc, graph, plan)?;
+    Ok(())
+}
+
+/// What a demand on one unit of a graph makes of the pending jobs, before anything refuses it (systemctl(1), `start`, `stop`,
+/// `restart`).
+#[derive(Drop)]
+pub struct Transaction<'t> {
+    graph: &'t Graph,
+    activity: &'t [ActiveState],
+    pending: &'t [UnitJobs],
+    root: (Demand, usize),
+    marks: Vec<Marks>,
+    plan: Plan,
+}
+
+impl<'t> Model for Transaction<'t> {
+    ghost Value = { TransactionView };
+
+    ghost view = { λ t. transaction t.graph.now t.activity.now t.pending.now t.root t.plan };
+
+    ghost invariant = { λ t. IsMade t.marks.items (transaction t.graph.now t.activity.now t.pending.now t.root t.plan) };
+}
+
+impl<'t> Transaction<'t> {
+    /// The transaction for the demand on the unit with this number. How active each unit is and its pending jobs are told by
+    /// number; a unit past their ends is inactive, or has none. A demand on a unit past the last of the graph demands nothing: the
+    /// plan is the pending jobs.
+    pub fn of(
+        alloc: Global,
+        graph: &'t Graph,
+        activity: &'t [ActiveState],
+        pending: &'t [UnitJobs],
+        demand: Demand,
+        unit: usize,
+    ) -> Result<Transaction<'t>, AllocError>
+        ensures graph { IfOk result (λ t. t.graph ≡ graph.now) }
+        ensures activity { IfOk result (λ t. t.activity ≡ activity.now) }
+        ensures pending { IfOk result (λ t. t.pending ≡ pending.now) }
+        ensures root { IfOk result (λ t. t.root ≡ (demand, unit)) }
+    {
+        let root = (demand, unit);
+        let marks = marks_for(alloc, graph, activity, root)?;
+        let jobs = planned(alloc, &marks, activity, pending, graph.len())?;
+        Ok(Transaction {
+            graph,
+            activity,
+            pending,
+            root,
+            marks,
+            plan: Plan { jobs },
+        })
+    }
+
+    /// The pending jobs after it.
+    pub fn plan(&self) -> &Plan
+        ensures plan { result.now ≡ self.now.plan }
+        ensures long { length self.now.plan ≡ length self.now.graph.names }
+        ensures planned { (name : List ℕ) → IsNumberOf self.now.graph self.now.root.1 name
+            → IsPlan (scene_in self.now) (self.now.root.0, name) (jobs_by self.now.graph.names self.now.plan) }
+    {
+        &self.plan
+    }
+
+    /// The same by itself.
+    pub fn into_plan(self) -> Plan
+        ensures plan { result ≡ self.entry.plan }
+        ensures long { length self.entry.plan ≡ length self.entry.graph.names }
+        ensures planned { (name : List ℕ) → IsNumberOf self.entry.graph self.entry.root.1 name
+            → IsPlan (scene_in self.entry) (self.entry.root.0, name) (jobs_by self.entry.graph.names self.entry.plan) }
+        ensures past { length self.entry.graph.names ≤ self.entry.root.1 → (u : ℕ) → u < length self.entry.graph.names → jobs_at self.entry.plan u ≡ jobs_at self.entry.pending u }
+    {
+        self.plan
+    }
+
+    /// Refuses the transaction in this mode (systemctl(1), `--job-mode=`) for the first cause that holds: E4 to E6 of the least unit
+    /// that would be started and can't be; E8 of the least unit that would be started and stopped; in mode fail E10 of the least
+    /// unit of which a pending job would be dropped; E9 with the units of a circle in which pending jobs would wait for one another,
+    /// the least first. Want of memory is E15.
+    pub fn check(&self, alloc: Global, mode: JobMode) -> Result<(), Refusal>
+        ensures causes { (name : List ℕ) → IsNumberOf self.now.graph self.now.root.1 name
+            → RefusesBy (CausesOfPlan (scene_in self.now) (self.now.root.0, name) mode (jobs_by self.now.graph.names self.now.plan)) result }
+        ensures whole { length self.now.graph.names ≤ self.now.root.1 → IfErr result (λ e. e ≡ NoMemory) }
+    {
+        if self.root.1 >= self.graph.len() {
+            return Ok(());
+        }
+        check_plan(
+            alloc,
+            self.graph,
+            &self.marks,
+            mode,
+            self.pending,
+            &self.plan.jobs,
+        )
+    }
+}
+
 /// What becomes of the pending jobs by the demand on the unit with this number, in this mode (systemctl(1), `start`, `stop`,
 /// `restart`, `--job-mode=`), or the first refusal that holds: E4 to E6 of the least unit that would be started and can't be; E8
 /// of the least unit that would be started and stopped; in mode fail E10 of the least unit of which a pending job would be
@@ -130,15 +268,7 @@ pub fn build(
     ensures past { length graph.now.names ≤ unit → IfOk result (λ plan. (u : ℕ) → u < length graph.now.names → jobs_at plan u ≡ jobs_at pending.now u) }
     ensures whole { length graph.now.names ≤ unit → IfErr result (λ e. e ≡ NoMemory) }
 {
-    if unit >= graph.len() {
-        let jobs = planned(alloc, &[], activity, pending, graph.len())?;
-        return Ok(Plan { jobs });
-    }
-    let marks = demanded(alloc, graph, activity, (demand, unit))?;
-    let jobs = planned(alloc, &marks, activity, pending, graph.len())?;
-    check_bars(alloc, graph, &marks)?;
-    check_clashes(alloc, graph, &marks)?;
-    check_drops(alloc, graph, mode, pending, &jobs)?;
-    check_pending(alloc, graph, &jobs)?;
-    Ok(Plan { jobs })
+    let transaction = Transaction::of(alloc, graph, activity, pending, demand, unit)?;
+    transaction.check(alloc, mode)?;
+    Ok(transaction.into_plan())
 }

@@ -1,3 +1,4 @@
 pub mod Fits
+pub mod Folders
 pub mod TextMaps
 pub mod Trees

@@ -103,7 +103,7 @@ module _ {A V X : Type 0} (f : V → X) where
   each_kept true e xs ys h = ap (λ t. text_and_value e ∷ t) h
   each_kept false e xs ys h = h
 
-  filter-each : (p : List ℕ → Bool) (es : List (String A × V)) → each text_and_value (filter (λ e. p (string_bytes e.0)) es) ≡ filter (λ e. p e.0) (each text_and_value es)
+  pub filter-each : (p : List ℕ → Bool) (es : List (String A × V)) → each text_and_value (filter (λ e. p (string_bytes e.0)) es) ≡ filter (λ e. p e.0) (each text_and_value es)
   filter-each p [] = refl
   filter-each p (e ∷ es) = each_kept (p (string_bytes e.0)) e _ _ (filter-each p es)
 

@@ -1,3 +1,4 @@
 pub mod Place
 pub mod View
 pub mod Code
+pub mod Folder

@@ -1,4 +1,4 @@
-ghost use Rattle.std.specs.Prelude.{◌≡◌, ◌≤◌, ◌^◌, Some, Ok, Err, IfErr, IfOk, IsOk, IsTrue, OnErr, OnOk, option_map};
+ghost use Rattle.std.specs.Prelude.{◌≡◌, ◌≤◌, ◌^◌, ◌++◌, string_bytes, Some, Ok, Err, IfErr, IfOk, IsOk, IsTrue, OnErr, OnOk, option_map};
 ghost use Rattle.std.specs.FinMap as map;
 ghost use Rattle.std.specs.Map.Iter.{ShowsInOrder};
 ghost use Rattle.um_model.proofs.TreeLaws.{has_run};
@@ -7,6 +7,7 @@ ghost use Rattle.um_model.specs.Refusals as told;
 ghost use Rattle.um_model.specs.Weight.{entry_weight, tree_weight};
 ghost use Rattle.um_model.specs.declared.refusals.Limit as limits;
 ghost use Rattle.um_tree.specs.Code.{tree_code};
+ghost use Rattle.um_tree.specs.Folder.{entries_in};
 ghost use Rattle.um_tree.specs.View.{entry_of, path_with_entry, refused_by, stored_entry, tree_of};
 ghost use Rattle.um_wire.specs.Refusal.{refused_of};
 ghost use Rattle.um_wire.specs.declared.refusal.Refusal.TheVariants.{NoMemory, TooLarge};
@@ -14,6 +15,7 @@ ghost use Rattle.um_wire.specs.declared.refusal.Refusal.TheVariants.{NoMemory, T
 use crate::cause::Cause;
 use crate::entries::Entries;
 use crate::entry::{Entry, Stored};
+use crate::folder::FolderEntries;
 use crate::path::{ServedPath, is_fit_target};
 use crate::text::behind;
 use std::alloc::{AllocError, Global};
@@ -31,6 +33,15 @@ pub(crate) const ENTRY_LIMIT: usize = 4_096;
 
 /// An entry weighs so many bytes beside its path and its text or target.
 const ENTRY_WEIGHT: u64 = 32;
+
+/// One text after the other.
+fn joined(alloc: Global, text: &str, end: &str) -> Result<String, AllocError>
+    ensures { IfOk result (λ joined. string_bytes joined ≡ text.now ++ end.now) }
+{
+    let mut joined = String::from_str(alloc, text)?;
+    joined.push_str(end)?;
+    Ok(joined)
+}
 
 /// A finite map from served paths to files and links (systemd.unit(5), "Unit File Load Path").
 #[derive(Drop)]
@@ -79,6 +90,20 @@ impl Tree {
         ensures tree { model.IsTree self.now }
     {
         Entries::of(self.entries.iter())
+    }
+
+    /// The entries in a folder with their paths, in ascending order of the paths by bytes: those whose path begins with the folder's and a
+    /// slash. The others cost nothing.
+    pub fn entries_in(&self, folder: &str) -> Result<FolderEntries<'_>, AllocError>
+        ensures entries { IfOk result (λ found. found ≡ entries_in folder.now self.now) }
+
+        // The iterator gives them in this order.
+        ensures runs { ShowsInOrder path_with_entry }
+    {
+        // the sign after the slash is the digit zero: what lies between has the slash there
+        let first = joined(self.alloc, folder, "/")?;
+        let end = joined(self.alloc, folder, "0")?;
+        Ok(FolderEntries::of(self.entries.range(&first..&end)))
     }
 
     /// The number of entries.

@@ -47,7 +47,7 @@ abbrev pub settings_of : Settings → model.Settings
 settings_of s = record {
   description = string_bytes s.description;
   dependencies = dependencies_of s.dependencies;
-  service = service_settings_of s.service;
+  service = service_settings_of s.service.value;
   install = install_of s.install;
 }
 

@@ -14,6 +14,7 @@ use crate::readings::NameUse;
 use crate::service_settings::ServiceSettings;
 use crate::singles::{Count, Delay, Instance, Policy, Text, Truth, TypeSaid, last_read, type_of};
 use std::alloc::{AllocError, Global};
+use std::rc::Rc;
 use um_model::{RestartPolicy, Span, Suffix, UnitKind};
 use um_name::UnitName;
 use um_words::Command;
@@ -61,8 +62,9 @@ pub struct Settings {
     pub description: String,
     /// What other units it names.
     pub dependencies: Dependencies,
-    /// What it says of its processes, its restarts and its start limit; of these a target has the limit alone.
-    pub service: ServiceSettings,
+    /// What it says of its processes, its restarts and its start limit; of these a target has the limit alone. Orders to start its
+    /// commands share it.
+    pub service: Rc<ServiceSettings>,
     /// What enabling it makes.
     pub install: InstallSettings,
 }
@@ -270,7 +272,7 @@ pub fn settings_of(
             String::new(alloc),
         )?,
         dependencies: dependencies_of(alloc, unit, assigned)?,
-        service: service_settings_of(alloc, unit, assigned)?,
+        service: Rc::new(alloc, service_settings_of(alloc, unit, assigned)?)?,
         install: install_settings_of(alloc, unit, assigned)?,
     })
 }

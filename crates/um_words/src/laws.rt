@@ -11,6 +11,7 @@ ghost use Rattle.um_model.proofs.WordSteps.{read};
 ghost use Rattle.um_model.specs.Commands.{Command, commands_read};
 ghost use Rattle.um_model.proofs.WordsLaws.{AreCommands, AreWords, InWord};
 ghost use Rattle.um_model.specs.Substitution.{Variable, AreSubstituted};
+ghost use Rattle.um_words.specs.Substituted.{substituted};
 
 /// By the rules of a setting, of a value and of a list of names, a text reads as one list of words at most.
 pub fn words_have_one_reading()
@@ -44,4 +45,9 @@ pub fn a_word_is_found_as_it_is_spelled()
 /// With these variables the words of a command become one list of words at most.
 pub fn a_substitution_has_one_result()
     ensures { (environment : List Variable) (words a b : List (List ℕ)) → AreSubstituted environment words a → AreSubstituted environment words b → a ≡ b }
+{}
+
+/// What the function of the definitions finds for the words of a command with its variables is what they become, and nothing else.
+pub fn a_substitution_is_found()
+    ensures { (environment : List Variable) (words out : List (List ℕ)) → (substituted environment words ≡ out) ↔ AreSubstituted environment words out }
 {}

@@ -38,7 +38,11 @@ pub fn spelled<'a>(
 
 /// The words of a text by these rules; None where the text can't be read.
 #[tactic(auto, unfolding(um_model::specs::Words::words_of))]
-fn words_by(alloc: Global, rules: WordRules, text: &str) -> Result<Option<Vec<String>>, AllocError>
+pub(crate) fn words_by(
+    alloc: Global,
+    rules: WordRules,
+    text: &str,
+) -> Result<Option<Vec<String>>, AllocError>
     ensures { IfOk result (λ r. option_map (λ words. map string_bytes words.items) r ≡ words_of rules text.now) }
 {
     let Some(spelled) = spelled(alloc, rules, text)? else {

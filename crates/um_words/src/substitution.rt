@@ -1,21 +1,22 @@
 //! Variables in the words of a command, as the command starts.
 
-ghost use Rattle.std.specs.Prelude.{◌≡◌, ◌≤◌, ◌+◌, ◌-◌, ◌++◌, ℕ, List, IfOk, OnOk, length, drop, map, string_bytes};
+ghost use Rattle.std.specs.Prelude.{◌≡◌, ◌≤◌, ◌+◌, ◌-◌, ◌++◌, List, IfOk, OnOk, length, drop, map, string_bytes};
 ghost use Rattle.um_model.specs.Pieces.{Gives};
 ghost use Rattle.um_model.proofs.PiecesLaws.{StandsForText};
-ghost use Rattle.um_model.proofs.WordsLaws.{AreWords};
-ghost use Rattle.um_model.specs.declared.words.WordRules.TheVariants.{Plain};
-ghost use Rattle.um_model.specs.Substitution.{dollar_front, piece_front, Becomes, AreSubstituted};
+ghost use Rattle.um_model.specs.Substitution.{dollar_front, piece_front, AreSubstituted};
+ghost use Rattle.um_model.specs.Substitution as pure;
 ghost use Rattle.um_words.specs.Environment.{variables_of};
+ghost use Rattle.um_words.specs.Substituted.{becomes};
+ghost use Rattle.um_words.specs.Values.{Holds};
 
-use crate::splitting::spelled;
-use crate::variables::{Variable, braced_name, value_of, whole_name};
+use crate::values::Values;
+use crate::variables::{Variable, braced_name, whole_name};
 use std::alloc::{AllocError, Global};
-use um_model::WordRules;
 
 /// What a `$` stands for, by what follows it, and what is left behind.
-fn piece<'a>(environment: &'a [Variable], behind: &'a str) -> (&'a str, &'a str)
-    ensures front { dollar_front (variables_of environment.now) behind.now ≡ Gives result.0.now (length behind.now - length result.1.now + 1) }
+pub(crate) fn piece<'a>(values: &'a Values, behind: &'a str) -> (&'a str, &'a str)
+    ensures front { (environment : List pure.Variable) → Holds environment values.now
+        → dollar_front environment behind.now ≡ Gives result.0.now (length behind.now - length result.1.now + 1) }
     ensures rest { result.1.now ≡ drop (length behind.now - length result.1.now) behind.now }
     ensures within { length result.1.now ≤ length behind.now }
 {
@@ -23,19 +24,20 @@ fn piece<'a>(environment: &'a [Variable], behind: &'a str) -> (&'a str, &'a str)
         return ("$", rest);
     }
     match braced_name(behind) {
-        Some((name, rest)) => (value_of(environment, name), rest),
+        Some((name, rest)) => (values.text(name), rest),
         None => ("$", behind),
     }
 }
 
 /// The word with each `${NAME}` filled in.
-fn filled(alloc: Global, environment: &[Variable], word: &str) -> Result<String, AllocError>
-    ensures { IfOk result (λ text. StandsForText (piece_front (variables_of environment.now)) word.now (string_bytes text)) }
+fn filled<'a>(alloc: Global, values: &'a Values, word: &'a str) -> Result<String, AllocError>
+    ensures { IfOk result (λ text. (environment : List pure.Variable) → Holds environment values.now
+        → StandsForText (piece_front environment) word.now (string_bytes text)) }
 {
     let mut text = String::new(alloc);
     let mut rest = word;
     while let Some((before, behind)) = rest.split_once('$') {
-        let (value, after) = piece(environment, behind);
+        let (value, after) = piece(values, behind);
         text.push_str(before)?;
         text.push_str(value)?;
         rest = after;
@@ -44,15 +46,12 @@ fn filled(alloc: Global, environment: &[Variable], word: &str) -> Result<String,
     Ok(text)
 }
 
-/// Adds the words of a value.
-fn push_words(alloc: Global, value: &str, words: &mut Vec<String>) -> Result<(), AllocError>
-    ensures { OnOk result ((more : List (List ℕ)) × AreWords Plain value.now more × (map string_bytes words.new.items ≡ map string_bytes words.old.items ++ more)) }
+/// Adds these words.
+fn push_all(words: &mut Vec<String>, more: &[String]) -> Result<(), AllocError>
+    ensures { OnOk result (map string_bytes words.new.items ≡ map string_bytes words.old.items ++ map string_bytes more.now) }
 {
-    let Some(spelled) = spelled(alloc, WordRules::Plain, value)? else {
-        unreachable!()
-    };
-    for word in spelled {
-        words.push(word.value)?;
+    for word in more {
+        words.push(word.clone()?)?;
     }
     Ok(())
 }
@@ -60,17 +59,17 @@ fn push_words(alloc: Global, value: &str, words: &mut Vec<String>) -> Result<(),
 /// Adds what a word becomes.
 fn push_substituted(
     alloc: Global,
-    environment: &[Variable],
+    values: &Values,
     word: &str,
     words: &mut Vec<String>,
 ) -> Result<(), AllocError>
-    ensures { OnOk result ((more : List (List ℕ)) × Becomes (variables_of environment.now) word.now more × (map string_bytes words.new.items ≡ map string_bytes words.old.items ++ more)) }
+    ensures { OnOk result ((environment : List pure.Variable) → Holds environment values.now
+        → map string_bytes words.new.items ≡ map string_bytes words.old.items ++ becomes environment word.now) }
 {
-    let Some(name) = whole_name(word) else {
-        words.push(filled(alloc, environment, word)?)?;
-        return Ok(());
-    };
-    push_words(alloc, value_of(environment, name), words)?;
+    match whole_name(word) {
+        Some(name) => push_all(words, values.words(name))?,
+        None => words.push(filled(alloc, values, word)?)?,
+    }
     Ok(())
 }
 
@@ -90,9 +89,10 @@ pub fn substitute(
     let Some((first, others)) = words.split_first() else {
         return Ok(substituted);
     };
+    let values = Values::of(alloc, environment)?;
     substituted.push(first.clone()?)?;
     for word in others {
-        push_substituted(alloc, environment, word, &mut substituted)?;
+        push_substituted(alloc, &values, word, &mut substituted)?;
     }
     Ok(substituted)
 }

@@ -86,20 +86,3 @@ pub fn braced_name(text: &str) -> Option<(&str, &str)>
         None
     }
 }
-
-/// The last variable of this name.
-fn last_of<'a>(environment: &'a [Variable], name: &str) -> Option<&'a Variable>
-    ensures { option_copied result ≡ find (λ v. bytes_eq (string_bytes v.name) name.now) (reverse environment.now) }
-{
-    environment.iter().rev().find(|v| v.name.as_str() == name)
-}
-
-/// The value of the last variable of this name, or the empty text where there is none.
-pub fn value_of<'a>(environment: &'a [Variable], name: &str) -> &'a str
-    ensures { result.now ≡ value_of (variables_of environment.now) name.now }
-{
-    match last_of(environment, name) {
-        Some(variable) => variable.value.as_str(),
-        None => "",
-    }
-}

@@ -35,7 +35,7 @@ fn serve_memory<R: Input + Print>(rt: &R, alloc: Global) -> Result<u8, Fault> {
 }
 
 /// Runs a command for the manager.
-fn run_runner<R: Files + Processes + Eprint>(
+fn run_runner<R: Files + Processes + Clock + Eprint>(
     rt: &R,
     alloc: Global,
     line: &RunnerLine<'_>,

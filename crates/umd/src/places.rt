@@ -7,11 +7,19 @@ use std::fs::{File, Files};
 use std::net::Net;
 use std::path::Path;
 use std::process::Processes;
-use std::time::Clock;
+use std::thread;
+use std::time::{Clock, Duration};
 use um_children::RunnerDir;
 use um_filedisk::{DirectoryLock, FileDisk, FileFault, is_same_place};
 use um_gate::look_at_socket;
 use um_line::ServeLine;
+
+/// A lock that another has is asked for so many times in all. A manager that was killed while it started a process leaves its locks, for a
+/// moment, to what was to become that process.
+const TRIES: u32 = 10;
+
+/// The tries come so many milliseconds apart.
+const APART: u64 = 20;
 
 /// A place, by the word that tells it.
 #[derive(Clone, Copy)]
@@ -74,13 +82,46 @@ fn are_three<R: Files, E: Eprint>(rt: &R, lines: &E, line: &ServeLine<'_>) -> Re
     are_apart(rt, lines, socket, folder)
 }
 
+/// Waits until the next try.
+fn wait<R: Clock>(rt: &R) {
+    thread::sleep(rt, Duration::from_millis(APART));
+}
+
+/// Opens the store's file and locks it; where another has its lock it is tried again.
+fn open_disk<'a, R: Files<File = File> + Clock>(
+    rt: &'a R,
+    path: &'a str,
+) -> Result<FileDisk<'a, R>, FileFault> {
+    for _ in 1..TRIES {
+        match FileDisk::open(rt, path) {
+            Err(FileFault::InUse) => wait(rt),
+            opened => return opened,
+        }
+    }
+    FileDisk::open(rt, path)
+}
+
+/// Takes the folder's lock; where another has it, it is tried again.
+fn take_lock<R: Files<File = File> + Clock>(
+    rt: &R,
+    path: &str,
+) -> Result<DirectoryLock, FileFault> {
+    for _ in 1..TRIES {
+        match DirectoryLock::take(rt, path) {
+            Err(FileFault::InUse) => wait(rt),
+            taken => return taken,
+        }
+    }
+    DirectoryLock::take(rt, path)
+}
+
 /// Locks the folder of processes, so that no second manager has it.
-fn lock_folder<R: Files<File = File>, E: Eprint>(
+fn lock_folder<R: Files<File = File> + Clock, E: Eprint>(
     rt: &R,
     lines: &E,
     path: &str,
 ) -> Result<DirectoryLock, u8> {
-    match DirectoryLock::take(rt, path) {
+    match take_lock(rt, path) {
         Ok(lock) => Ok(lock),
         Err(FileFault::InUse) => Err(lacks(lines, path, &"another manager has this folder")),
         Err(fault) => Err(lacks(lines, path, &fault)),
@@ -100,7 +141,7 @@ where
     E: Eprint,
 {
     are_three(rt, lines, line)?;
-    let disk = match FileDisk::open(rt, line.file) {
+    let disk = match open_disk(rt, line.file) {
         Ok(disk) => disk,
         Err(fault) => return Err(lacks(lines, line.file, &fault)),
     };

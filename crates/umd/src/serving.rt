@@ -4,7 +4,7 @@ use crate::lines::Lines;
 use crate::messages::{DEVICE, REFUSED, tell_ending};
 use crate::places::{Taken, lacks, take_places};
 use crate::telling::{News, Tally, Telling};
-use std::alloc::Global;
+use std::alloc::{AllocError, Global};
 use std::fs::{File, Files};
 use std::net::Net;
 use std::process::Processes;
@@ -14,7 +14,7 @@ use um_gate::{Moments, SocketGate, SystemMoments, system_moment};
 use um_keeper::OpenedStore;
 use um_line::ServeLine;
 use um_manager::Manager;
-use um_model::Deadline;
+use um_model::{Deadline, Moment};
 use um_sector::Disk;
 use um_serve::{Pace, Rounds, serve};
 use um_state::BootId;
@@ -22,6 +22,14 @@ use um_wire::Refusal;
 
 /// Behind a sleep of so many parts, of 40 ms at most while a process is live, comes a round in any case.
 const PARTS: u32 = 25;
+
+/// A block of so many bytes is taken, and given back, before anything is served. From then on the system's allocator keeps twice as much that is
+/// free; before, it would give back what is past 128 KiB behind each turn, and take it anew in the next.
+const BLOCK: usize = 1 << 19;
+
+fn take_block(alloc: Global) {
+    let _block: Result<Vec<u8>, AllocError> = Vec::with_capacity(alloc, BLOCK);
+}
 
 /// Why nothing is served any more, as a line on standard error, and the exit status.
 #[derive(Clone, Copy)]
@@ -135,11 +143,42 @@ impl<'a, R: Clock> Loop<'a, R> {
     }
 }
 
+/// What the rounds stand on, with the socket, where moments are no earlier than the least. Only behind the opening of the store: one that can't
+/// be opened takes no socket.
+fn open_loop<'a, R: Files + Net + Clock, E: Eprint>(
+    system: &'a R,
+    alloc: Global,
+    rt: &E,
+    line: &ServeLine<'_>,
+    least: Moment,
+) -> Result<Loop<'a, R>, End> {
+    let Ok(rounds) = Rounds::new(alloc) else {
+        return Err(ends(rt, Refusal::NoMemory));
+    };
+    let gate = match SocketGate::open(system, alloc, line.socket) {
+        Ok(gate) => gate,
+        Err(fault) => {
+            return Err(End {
+                status: lacks(rt, line.socket, &fault),
+            });
+        }
+    };
+    Ok(Loop {
+        gate,
+        clock: SystemMoments::starting(system, least),
+        rounds,
+        pace: Pace::new(),
+        deadline: None,
+        is_stale: true,
+    })
+}
+
 /// Opens the manager and serves it, until it fails.
 fn serve_over<R>(system: &R, alloc: Global, line: &ServeLine<'_>) -> Result<u8, End>
 where
     R: Files<File = File> + Net + Processes + Clock + Eprint,
 {
+    take_block(alloc);
     let lines = Lines::new(system, alloc);
     let rt = &lines;
     let boot = match boot_id(alloc, line.boot) {
@@ -160,29 +199,13 @@ where
         Ok(manager) => manager,
         Err((refusal, _, _)) => return Err(ends(rt, refusal)),
     };
+    if manager.children().is_foreign() {
+        return Err(End { status: REFUSED });
+    }
     tell_opened(rt, manager.opened());
     let (adopted, lost) = (manager.adopted(), tally.absent());
     let _unheard = eprintln!(rt; "umd: {adopted} processes adopted, of which {lost} are lost");
-    let Ok(rounds) = Rounds::new(alloc) else {
-        return Err(ends(rt, Refusal::NoMemory));
-    };
-    // only now: a store that can't be opened takes no socket
-    let gate = match SocketGate::open(system, alloc, line.socket) {
-        Ok(gate) => gate,
-        Err(fault) => {
-            return Err(End {
-                status: lacks(rt, line.socket, &fault),
-            });
-        }
-    };
-    let mut state = Loop {
-        gate,
-        clock: SystemMoments::starting(system, manager.state().clock()),
-        rounds,
-        pace: Pace::new(),
-        deadline: None,
-        is_stale: true,
-    };
+    let mut state = open_loop(system, alloc, rt, line, manager.state().clock())?;
     for _ in 0..u64::MAX {
         if let Err(refusal) = state.step(&mut manager, &tally) {
             return Err(ends(rt, refusal));

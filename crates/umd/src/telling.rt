@@ -6,7 +6,9 @@ use std::cell::Cell;
 use std::fs::Files;
 use std::process::Processes;
 use std::time::Clock;
-use um_children::{ChildFault, Children, Fate, ProcessNumber, RunnerDir, Signal};
+use um_children::{
+    Cause, ChildFault, Children, Fate, NextNumber, ProcessNumber, RunnerDir, Signal,
+};
 use um_keeper::SpawnOrder;
 
 /// What was seen of the children since it was looked at last.
@@ -72,15 +74,17 @@ impl Tally {
     }
 }
 
-/// Children that tell on standard error which start or signal failed, and note what they see.
+/// Children that tell on standard error which start or signal failed and what else an operator needs, and note what they see.
 #[derive(Drop)]
-pub struct Telling<'a, C: Children, R: Eprint> {
+pub struct Telling<'a, C: Children + Seen, R: Eprint> {
     children: C,
     rt: &'a R,
     tally: &'a Tally,
+    /// That the folder is gone was told, and it hasn't been seen since.
+    is_gone: bool,
 }
 
-impl<'a, C: Children, R: Eprint> Telling<'a, C, R> {
+impl<'a, C: Children + Seen, R: Eprint> Telling<'a, C, R> {
     /// These children.
     pub fn new(children: C, rt: &'a R, tally: &'a Tally) -> Telling<'a, C, R>
         ensures { result.children ≡ children }
@@ -89,7 +93,121 @@ impl<'a, C: Children, R: Eprint> Telling<'a, C, R> {
             children,
             rt,
             tally,
+            is_gone: false,
         }
+    }
+
+    /// Says that something couldn't be done for a process, and why. Where standard error fails too, nobody hears it, here and below.
+    fn tell(&self, deed: &str, number: ProcessNumber, answer: &Result<(), ChildFault>) {
+        let Err(fault) = answer else {
+            return;
+        };
+        let number = number.get();
+        let _unheard = match self.children.trouble() {
+            Some((place, cause)) if *fault == ChildFault::Device => {
+                eprintln!(self.rt; "umd: {deed} process {number}: {fault}: {place}: {cause}")
+            }
+            _ => eprintln!(self.rt; "umd: {deed} process {number}: {fault}"),
+        };
+    }
+
+    /// Says that nobody has claimed a process that was started, once.
+    fn tell_silent(&self) {
+        if let Some(number) = self.children.silent() {
+            let (number, folder) = (number.get(), self.children.folder());
+            let _unheard = eprintln!(self.rt;
+                "umd: process {number}: for 10 s no runner has claimed it in {folder}"
+            );
+        }
+    }
+
+    /// Says that the folder is gone, once until it stands again.
+    fn tell_gone(&mut self)
+        ensures { self.new.children ≡ self.old.children }
+    {
+        let is_gone = self.children.is_gone();
+        if is_gone && !self.is_gone {
+            let folder = self.children.folder();
+            let _unheard = eprintln!(self.rt;
+                "umd: {folder}: it is gone: until it stands again nothing starts, and no end is told"
+            );
+        }
+        self.is_gone = is_gone;
+    }
+
+    /// Says what was found as the folder was looked through.
+    fn tell_found(&self) {
+        if !self.children.has_runner() {
+            let runner = self.children.program();
+            let _unheard = eprintln!(self.rt; "umd: {runner}: the runner can't be executed");
+        }
+        let unmanaged = self.children.unmanaged();
+        if unmanaged > 0 {
+            let _unheard = eprintln!(self.rt;
+                "umd: {unmanaged} processes of an earlier boot still run and are no longer managed"
+            );
+        }
+    }
+}
+
+/// Children of which more can be seen than what they answer.
+pub trait Seen {
+    /// What failed in the last call that failed, and where.
+    fn trouble(&self) -> Option<(&str, &Cause)>;
+
+    /// The folder of their files.
+    fn folder(&self) -> &str;
+
+    /// The path of the runner's program.
+    fn program(&self) -> &str;
+
+    /// Whether the runner's program can be executed.
+    fn has_runner(&self) -> bool;
+
+    /// Whether the folder is gone.
+    fn is_gone(&self) -> bool;
+
+    /// The number whose fate was asked last, where nobody has claimed it for too long and it is to be told now.
+    fn silent(&self) -> Option<ProcessNumber>;
+
+    /// How many processes run that nobody manages any more.
+    fn unmanaged(&self) -> u64;
+
+    /// The greatest number of which files stand there although it was never started.
+    fn foreign(&self) -> Option<ProcessNumber>;
+}
+
+impl<'a, R: Files + Processes + Clock> Seen for RunnerDir<'a, R> {
+    fn trouble(&self) -> Option<(&str, &Cause)> {
+        self.trouble()
+    }
+
+    fn folder(&self) -> &str {
+        self.folder()
+    }
+
+    fn program(&self) -> &str {
+        self.program()
+    }
+
+    fn has_runner(&self) -> bool {
+        self.has_runner()
+    }
+
+    fn is_gone(&self) -> bool {
+        self.is_gone()
+    }
+
+    fn silent(&self) -> Option<ProcessNumber> {
+        self.silent()
+    }
+
+    fn unmanaged(&self) -> u64 {
+        self.unmanaged()
+    }
+
+    fn foreign(&self) -> Option<ProcessNumber> {
+        self.foreign()
     }
 }
 
@@ -105,15 +223,21 @@ impl<'a, 'b, R: Files + Processes + Clock, E: Eprint> News for Telling<'a, Runne
     }
 }
 
-/// Says that something couldn't be done for a process. Where standard error fails too, nobody hears it.
-fn tell<R: Eprint>(rt: &R, deed: &str, number: ProcessNumber, answer: &Result<(), ChildFault>) {
-    if let Err(fault) = answer {
-        let number = number.get();
-        let _unheard = eprintln!(rt; "umd: {deed} process {number}: {fault}");
+impl<'a, 'b, R: Files + Processes + Clock, E: Eprint> Telling<'a, RunnerDir<'b, R>, E> {
+    /// Says that the folder is another store's, where it is. Nothing was done in it then, and nothing will be.
+    pub fn is_foreign(&self) -> bool {
+        let Some(number) = self.children.foreign() else {
+            return false;
+        };
+        let (number, folder) = (number.get(), self.children.folder());
+        let _unheard = eprintln!(self.rt;
+            "umd: {folder}: it is another store's: it has files of process {number}, which this store never started"
+        );
+        true
     }
 }
 
-impl<'a, C: Children, R: Eprint> Children for Telling<'a, C, R> {
+impl<'a, C: Children + Seen, R: Eprint> Children for Telling<'a, C, R> {
     ghost past = { λ t. C.past t.children };
 
     ghost whole = { λ t. C.whole t.children };
@@ -128,20 +252,22 @@ impl<'a, C: Children, R: Eprint> Children for Telling<'a, C, R> {
         let number = order.number();
         let answer = self.children.spawn(order);
         self.tally.note_start();
-        tell(self.rt, "starting", number, &answer);
+        self.tell("starting", number, &answer);
         answer
     }
 
     fn signal(&mut self, number: ProcessNumber, signal: Signal) -> Result<(), ChildFault> {
         let answer = self.children.signal(number, signal);
         self.tally.note_turn();
-        tell(self.rt, "signalling", number, &answer);
+        self.tell("signalling", number, &answer);
         answer
     }
 
     fn fate(&mut self, number: ProcessNumber, claim: bool) -> Result<Fate, ChildFault> {
         let answer = self.children.fate(number, claim);
         self.tally.note_fate(&answer);
+        self.tell_silent();
+        self.tell_gone();
         answer
     }
 
@@ -149,7 +275,13 @@ impl<'a, C: Children, R: Eprint> Children for Telling<'a, C, R> {
         self.children.forget(number)
     }
 
-    fn forget_others(&mut self, live: &[ProcessNumber]) -> Result<(), ChildFault> {
-        self.children.forget_others(live)
+    fn forget_others(
+        &mut self,
+        live: &[ProcessNumber],
+        next: NextNumber,
+    ) -> Result<(), ChildFault> {
+        let answer = self.children.forget_others(live, next);
+        self.tell_found();
+        answer
     }
 }

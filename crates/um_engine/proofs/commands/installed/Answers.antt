@@ -1,45 +1,86 @@
-use Rattle.std.proofs.Common.{◌≢◌, rules, refl, subst}
-use Rattle.um_model.specs.Install.{Installs, RefusesInstall}
+use Rattle.std.proofs.Common.{◌≡◌, refl, ap, subst}
+use Rattle.um_model.specs.Install.{Installs, RefusesLinks, RefusesUnits}
 use Rattle.um_model.specs.Machine as model
+use Rattle.um_model.specs.Machine.{IsCrowded, IsHeld}
 use Rattle.um_model.specs.Refusals.{Refused}
 use Rattle.um_state.specs.View.{state_of}
 use Rattle.um_wire.specs.Refusal.{refused_of}
-use Rattle.um_wire.specs.declared.refusal.Refusal.TheVariants.{NoMemory}
-use Rattle.um_engine.proofs.Causes.{by_install, by_tree_of_install, free_to_install, installs_to}
+use Rattle.um_engine.specs.Known.{KnownView, KnowsFor}
+use Rattle.um_engine.proofs.Causes.{by_links, by_crowd_of_install, by_units, by_circle, free_to_install, installs_to}
+use Rattle.um_engine.proofs.KnownLaws.{knows_made}
+use Rattle.um_engine.proofs.PlannedLaws.{refuses_on}
 use Rattle.um_engine.proofs.commands.installed.Goals as goal
 
 pub returns-in_err-tree-clause-refused : goal.returns-in_err-tree-clause-refused
 returns-in_err-tree-clause-refused c =
     let s = state_of c.args.state.now in
-    let step : c.in_err-tree.field-0.0 ≢ NoMemory → model.Refuses s (model.Install c.args.verb c.args.unit.now) (refused_of c.in_err-tree.field-0.0) =
-    λ differs.
-    by_install s c.args.verb c.args.unit.now _
-    (subst (λ t. RefusesInstall t c.args.verb c.args.unit.now (refused_of c.in_err-tree.field-0.0)) c.tree.ensures (c.in_err-tree.ensures.refused differs)) in
-    search (rules, step)
+    let e = c.in_err-tree.field-0.0 in
+    refuses_on (model.Refuses s (model.Install c.args.verb c.args.unit.now)) c.from_residual.result e c.from_residual.ensures.1
+    (λ differs. by_links s c.args.verb c.args.unit.now (refused_of e)
+    (subst (λ t. RefusesLinks t c.args.verb c.args.unit.now (refused_of e)) c.tree.ensures (c.in_err-tree.ensures.refused differs)))
 
-pub returns-in_err-with_tree-clause-refused : goal.returns-in_err-with_tree-clause-refused
-returns-in_err-with_tree-clause-refused c =
+pub returns-in_err-known-clause-refused : goal.returns-in_err-known-clause-refused
+returns-in_err-known-clause-refused c =
     let s = state_of c.args.state.now in
-    let told = c.in_ok-tree.ensures.installed in
-    let made : Installs s.tree c.args.verb c.args.unit.now c.in_ok-tree.field-0.tree = search (rules, told, c.in_ok-tree.tree-is, c.tree.ensures) in
-    let free : (r : Refused) → ¬ RefusesInstall s.tree c.args.verb c.args.unit.now r =
-    subst (λ t. (r : Refused) → ¬ RefusesInstall t c.args.verb c.args.unit.now r) c.tree.ensures c.in_ok-tree.ensures.refused in
-    let step : c.in_err-with_tree.field-0.0 ≢ NoMemory → model.Refuses s (model.Install c.args.verb c.args.unit.now) (refused_of c.in_err-with_tree.field-0.0) =
-    λ differs. by_tree_of_install s c.args.verb c.args.unit.now c.in_ok-tree.field-0.tree made free _ (c.in_err-with_tree.ensures.refused differs) in
-    search (rules, step)
+    let tree = c.in_ok-tree.field-0.tree in
+    let made : Installs s.tree c.args.verb c.args.unit.now tree = subst (λ t. Installs t c.args.verb c.args.unit.now tree) c.tree.ensures c.in_ok-tree.ensures.installed in
+    let linked : (q : Refused) → ¬ RefusesLinks s.tree c.args.verb c.args.unit.now q =
+    subst (λ t. (q : Refused) → ¬ RefusesLinks t c.args.verb c.args.unit.now q) c.tree.ensures c.in_ok-tree.ensures.refused in
+    let e = c.in_err-known.field-0.0 in
+    refuses_on (model.Refuses s (model.Install c.args.verb c.args.unit.now)) c.from_residual-in_err-known.result e c.from_residual-in_err-known.ensures.1
+    (λ differs. let full = c.in_err-known.ensures.refused differs in
+    by_crowd_of_install s c.args.verb c.args.unit.now tree made linked (refused_of e) (record { many = full.1; refusal = ap refused_of full.0 }))
+
+pub returns-in_err-check_units-clause-refused : goal.returns-in_err-check_units-clause-refused
+returns-in_err-check_units-clause-refused c =
+    let s = state_of c.args.state.now in
+    let tree = c.in_ok-tree.field-0.tree in
+    let made : Installs s.tree c.args.verb c.args.unit.now tree = subst (λ t. Installs t c.args.verb c.args.unit.now tree) c.tree.ensures c.in_ok-tree.ensures.installed in
+    let linked : (q : Refused) → ¬ RefusesLinks s.tree c.args.verb c.args.unit.now q =
+    subst (λ t. (q : Refused) → ¬ RefusesLinks t c.args.verb c.args.unit.now q) c.tree.ensures c.in_ok-tree.ensures.refused in
+    let few : (q : Refused) → ¬ IsCrowded tree (IsHeld s) q = λ q h. c.in_ok-known.ensures.few h.many in
+    let e = c.in_err-check_units.field-0.0 in
+    refuses_on (model.Refuses s (model.Install c.args.verb c.args.unit.now)) c.from_residual-in_err-check_units.result e c.from_residual-in_err-check_units.ensures.1
+    (λ differs. by_units s c.args.verb c.args.unit.now tree made linked few (refused_of e)
+    (subst (λ t. RefusesUnits t c.args.verb c.args.unit.now (refused_of e)) c.tree-3.ensures (c.in_err-check_units.ensures differs)))
+
+pub returns-in_err-check_order-clause-refused : goal.returns-in_err-check_order-clause-refused
+returns-in_err-check_order-clause-refused c =
+    let s = state_of c.args.state.now in
+    let tree = c.in_ok-tree.field-0.tree in
+    let made : Installs s.tree c.args.verb c.args.unit.now tree = subst (λ t. Installs t c.args.verb c.args.unit.now tree) c.tree.ensures c.in_ok-tree.ensures.installed in
+    let linked : (q : Refused) → ¬ RefusesLinks s.tree c.args.verb c.args.unit.now q =
+    subst (λ t. (q : Refused) → ¬ RefusesLinks t c.args.verb c.args.unit.now q) c.tree.ensures c.in_ok-tree.ensures.refused in
+    let few : (q : Refused) → ¬ IsCrowded tree (IsHeld s) q = λ q h. c.in_ok-known.ensures.few h.many in
+    let able : (q : Refused) → ¬ RefusesUnits s.tree c.args.verb c.args.unit.now q =
+    subst (λ t. (q : Refused) → ¬ RefusesUnits t c.args.verb c.args.unit.now q) c.tree-3.ensures c.in_ok-check_units.ensures in
+    let k : KnownView = c.in_ok-known.known in
+    let knows : KnowsFor k (record s { loaded = tree }) = knows_made k s tree c.in_ok-known.ensures.made c.in_ok-known.ensures.lasting c.in_ok-known.ensures.extra in
+    let e = c.in_err-check_order.field-0.0 in
+    refuses_on (model.Refuses s (model.Install c.args.verb c.args.unit.now)) c.from_residual-in_err-check_order.result e c.from_residual-in_err-check_order.ensures.1
+    (λ differs. by_circle s c.args.verb c.args.unit.now tree made linked few able (refused_of e) (c.in_err-check_order.ensures tree knows differs))
+
+pub with_tree-requires : goal.with_tree-requires
+with_tree-requires c =
+    knows_made c.in_ok-known.known (state_of c.args.state.now) c.in_ok-tree.field-0.tree c.in_ok-known.ensures.made c.in_ok-known.ensures.lasting c.in_ok-known.ensures.extra
 
 pub returns-clause-changed : goal.returns-clause-changed
 returns-clause-changed c =
     let s = state_of c.args.state.now in
-    let told = c.in_ok-tree.ensures.installed in
-    let made : Installs s.tree c.args.verb c.args.unit.now c.in_ok-tree.field-0.tree = search (rules, told, c.in_ok-tree.tree-is, c.tree.ensures) in
-    installs_to s s c.in_ok-with_tree.field-0.state c.args.verb c.args.unit.now c.in_ok-tree.field-0.tree refl made c.in_ok-with_tree.ensures.changed
+    let tree = c.in_ok-tree.field-0.tree in
+    installs_to s s c.in_ok-with_tree.field-0.state c.args.verb c.args.unit.now tree refl
+    (subst (λ t. Installs t c.args.verb c.args.unit.now tree) c.tree.ensures c.in_ok-tree.ensures.installed) c.in_ok-with_tree.ensures
 
 pub returns-clause-refused : goal.returns-clause-refused
 returns-clause-refused c =
     let s = state_of c.args.state.now in
-    let told = c.in_ok-tree.ensures.installed in
-    let made : Installs s.tree c.args.verb c.args.unit.now c.in_ok-tree.field-0.tree = search (rules, told, c.in_ok-tree.tree-is, c.tree.ensures) in
-    let free : (r : Refused) → ¬ RefusesInstall s.tree c.args.verb c.args.unit.now r =
-    subst (λ t. (r : Refused) → ¬ RefusesInstall t c.args.verb c.args.unit.now r) c.tree.ensures c.in_ok-tree.ensures.refused in
-    free_to_install s c.args.verb c.args.unit.now c.in_ok-tree.field-0.tree made free c.in_ok-with_tree.ensures.refused
+    let tree = c.in_ok-tree.field-0.tree in
+    let made : Installs s.tree c.args.verb c.args.unit.now tree = subst (λ t. Installs t c.args.verb c.args.unit.now tree) c.tree.ensures c.in_ok-tree.ensures.installed in
+    let linked : (q : Refused) → ¬ RefusesLinks s.tree c.args.verb c.args.unit.now q =
+    subst (λ t. (q : Refused) → ¬ RefusesLinks t c.args.verb c.args.unit.now q) c.tree.ensures c.in_ok-tree.ensures.refused in
+    let few : (q : Refused) → ¬ IsCrowded tree (IsHeld s) q = λ q h. c.in_ok-known.ensures.few h.many in
+    let able : (q : Refused) → ¬ RefusesUnits s.tree c.args.verb c.args.unit.now q =
+    subst (λ t. (q : Refused) → ¬ RefusesUnits t c.args.verb c.args.unit.now q) c.tree-3.ensures c.in_ok-check_units.ensures in
+    let k : KnownView = c.in_ok-known.known in
+    let knows : KnowsFor k (record s { loaded = tree }) = knows_made k s tree c.in_ok-known.ensures.made c.in_ok-known.ensures.lasting c.in_ok-known.ensures.extra in
+    free_to_install s c.args.verb c.args.unit.now tree made linked few able (c.in_ok-check_order.ensures tree knows)

@@ -1,6 +1,10 @@
+use Rattle.std.proofs.Common.{sym, subst}
 use Rattle.um_state.specs.View.{state_of}
-use Rattle.um_model.proofs.FewLaws.{no_more_few}
+use Rattle.um_engine.specs.Known.{KnownView, KnowsFor}
+use Rattle.um_engine.proofs.KnownLaws.{knows_less}
 use Rattle.um_engine.proofs.commands.kept.Goals as goal
 
-pub with-requires-clause-few : goal.with-requires-clause-few
-with-requires-clause-few c = no_more_few c.args.served.now.state (state_of c.args.state) c.requires c.share_known.ensures.few
+pub with-requires : goal.with-requires
+with-requires c =
+    subst (λ (k : KnownView). KnowsFor k (state_of c.args.state)) (sym c.in_ok-share_known.ensures.known)
+    (knows_less c.args.served.now.known c.args.served.now.state (state_of c.args.state) c.share_known.ensures.knows c.requires)

@@ -5,7 +5,8 @@ use Rattle.um_state.specs.View.{state_of}
 use Rattle.um_wire.specs.Refusal.{refused_of}
 use Rattle.um_wire.specs.declared.refusal.Refusal.TheVariants.{NoMemory}
 use Rattle.um_engine.proofs.Causes.{free_to_reload, reloads_to}
-use Rattle.um_engine.proofs.KnownLaws.{few_reloaded}
+use Rattle.um_engine.specs.Known.{KnownView, KnowsFor}
+use Rattle.um_engine.proofs.KnownLaws.{knows_loaded}
 use Rattle.um_engine.proofs.commands.reloaded.Goals as goal
 
 pub returns-in_err-known-clause-refused : goal.returns-in_err-known-clause-refused
@@ -15,11 +16,13 @@ returns-in_err-known-clause-refused c =
     λ differs. (subst (λ t. model.CausesOfLoad s t (refused_of c.in_err-known.field-0.0)) c.tree.ensures (c.in_err-known.ensures.refused differs)) in
     search (rules, step)
 
-pub with-requires-clause-few : goal.with-requires-clause-few
-with-requires-clause-few c =
+pub with-requires : goal.with-requires
+with-requires c =
     let s = state_of c.args.state.now in
-    few_reloaded s (state_of c.reload.new.self) (subst (λ t. (r : Refused) → ¬ model.CausesOfLoad s t r) c.tree.ensures c.in_ok-known.ensures.refused)
-    (c.in_ok-reload.ensures.ok ∙ ap (λ (x : model.State). record x { loaded = x.tree }) c.in_ok-changed.ensures)
+    let k : KnownView = c.in_ok-known.known in
+    subst (λ (x : KnownView). KnowsFor x (state_of c.reload.new.self)) (sym c.in_ok-known-2.ensures.ok)
+    (knows_loaded k s (state_of c.reload.new.self) s.tree s.tree (subst (λ t. KnowsFor k (record s { loaded = t })) c.tree.ensures c.in_ok-known.ensures.knows)
+    (c.in_ok-reload.ensures.ok ∙ ap (λ (x : model.State). record x { loaded = x.tree }) c.in_ok-changed.ensures))
 
 pub returns-clause-changed : goal.returns-clause-changed
 returns-clause-changed c =

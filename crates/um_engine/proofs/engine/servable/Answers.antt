@@ -1,25 +1,18 @@
-use Rattle.std.proofs.Common.{◌≢◌, Contains, sym, subst, rules}
-use Rattle.um_model.specs.Machine.{IsCrowded, IsHeld}
-use Rattle.um_model.specs.Refusals.{at_first}
+use Rattle.std.proofs.Common.{◌≢◌, sym, subst, rules}
 use Rattle.um_model.specs.Servable.{IsServable}
 use Rattle.um_state.specs.View.{state_of}
 use Rattle.um_wire.specs.declared.refusal.Refusal.TheVariants.{NoMemory}
-use Rattle.um_engine.specs.Known.{IsGraphFor, KnownView, KnowsFor}
+use Rattle.um_engine.specs.Known.{KnownView, KnowsFor}
+use Rattle.um_engine.proofs.KnownLaws.{knows_of}
 use Rattle.um_engine.proofs.OnlyLaws.{served_servable, load_unservable, heavy_unservable, unservable_is}
 use Rattle.um_engine.proofs.engine.servable.Goals as goal
 
-pub with-served-requires-clause-knows : goal.with-served-requires-clause-knows
-with-served-requires-clause-knows c =
+pub with-served-requires : goal.with-served-requires
+with-served-requires c =
     let s = state_of c.args.state in
     let known = c.in_ok-known.known in
-    let made = subst (λ tree. IsGraphFor tree (Contains known.extra) known.graph) c.loaded.ensures c.in_ok-known.ensures.made in
-    let knows : KnowsFor known s = record { made = made; held = c.in_ok-known.ensures.held } in
-    subst (λ (k : KnownView). KnowsFor k s) (sym c.in_ok-known-2.ensures.ok) knows
-
-pub with-served-requires-clause-few : goal.with-served-requires-clause-few
-with-served-requires-clause-few c =
-    let s = state_of c.args.state in
-    λ r crowded. c.in_ok-known.ensures.refused r (at_first (subst (λ tree. IsCrowded tree (IsHeld s) r) (sym c.loaded.ensures) crowded))
+    subst (λ (k : KnownView). KnowsFor k s) (sym c.in_ok-known-2.ensures.ok)
+    (knows_of known s c.loaded.result.now c.loaded.ensures c.in_ok-known.ensures.knows)
 
 pub returns-in_err-known-clause-refused : goal.returns-in_err-known-clause-refused
 returns-in_err-known-clause-refused c =

@@ -1,9 +1,9 @@
 use Rattle.std.proofs.Common.{◌∙◌, sym, ap, subst}
 use Rattle.um_model.specs.Machine as model
 use Rattle.um_model.specs.Machine.{State}
-use Rattle.um_model.proofs.FewLaws.{booted_few}
 use Rattle.um_state.specs.View.{state_of}
 use Rattle.um_wire.specs.Refusal.{refused_of}
+use Rattle.um_engine.proofs.KnownLaws.{few_booted}
 use Rattle.um_engine.proofs.Ticks.{boot_follows, boot_is_known, same_boot, other_boot}
 use Rattle.um_engine.proofs.happenings.after_boot.Goals as goal
 
@@ -26,5 +26,5 @@ want_of_memory-requires c = λ differs.
     let s = c.args.served.now.state in
     let same = c.in_ok-after.ensures ∙ c.state-state.ensures.state in
     let is = c.begin_boot.ensures ∙ ap (model.booted c.in_ok-copy.field-0) same in
-    booted_few c.in_ok-copy.field-0 s c.state-state.ensures.few (refused_of c.in-Err.refusal)
+    few_booted c.args.served.now.known s c.in_ok-copy.field-0 c.state-state.ensures.knows (refused_of c.in-Err.refusal)
     (subst (λ (x : State). model.IsCrowded x.loaded (model.IsHeld x) (refused_of c.in-Err.refusal)) is (c.in-Err.ensures.refused differs))

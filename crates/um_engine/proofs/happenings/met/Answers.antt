@@ -1,7 +1,7 @@
 use Rattle.std.proofs.Common.{◌≡◌, ℕ, List, map, rules}
 use Rattle.um_model.specs.Machine as model
 use Rattle.um_state.specs.View.{action_of, happening_of, state_of}
-use Rattle.um_engine.proofs.Stepped.{known_met, few_met, met_by}
+use Rattle.um_engine.proofs.Stepped.{known_met, met_by}
 use Rattle.um_engine.proofs.happenings.met.Goals as goal
 
 pub with_known-requires : goal.with_known-requires
@@ -9,12 +9,8 @@ with_known-requires c =
     let served = c.args.served.now in
     let shown : c.graph-graph.result.now ≡ served.known.graph = search rules in
     let isnt : (boot : List ℕ) → ¬ (happening_of c.args.happening.now ≡ model.Booted boot) = search rules in
-    record {
-      knows = known_met served.known c.graph-graph.result.now c.args.moment served.state (state_of c.state.result.now) (happening_of c.args.happening.now) c.in_ok-after.after
-          (map action_of c.in_ok-after.actions.items) c.state.ensures.knows c.state.ensures.state shown isnt c.in_ok-after.ensures.met;
-      few = few_met served.known c.graph-graph.result.now c.args.moment served.state (state_of c.state.result.now) (happening_of c.args.happening.now) c.in_ok-after.after
-          (map action_of c.in_ok-after.actions.items) c.state.ensures.knows c.state.ensures.state shown isnt c.in_ok-after.ensures.met c.state.ensures.few;
-    }
+    known_met served.known c.graph-graph.result.now c.args.moment served.state (state_of c.state.result.now) (happening_of c.args.happening.now) c.in_ok-after.after
+    (map action_of c.in_ok-after.actions.items) c.state.ensures.knows c.state.ensures.state shown isnt c.in_ok-after.ensures.met
 
 pub returns : goal.returns
 returns c =

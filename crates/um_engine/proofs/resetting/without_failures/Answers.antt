@@ -1,23 +1,16 @@
 use Rattle.std.proofs.Common.{◌≡◌, ◌∙◌, ap, map, rules, subst, sym}
 use Rattle.um_state.specs.View.{state_of, action_of}
 use Rattle.um_engine.specs.Known.{KnownView, KnowsFor}
-use Rattle.um_engine.proofs.ResetLaws.{does_reset, few_reset, known_reset, reset_here}
+use Rattle.um_engine.proofs.ResetLaws.{does_reset, known_reset, reset_here}
 use Rattle.um_engine.proofs.resetting.without_failures.Goals as goal
 
-pub with-requires-clause-knows : goal.with-requires-clause-knows
-with-requires-clause-knows c =
+pub with-requires : goal.with-requires
+with-requires c =
     let same = c.in_ok-state.ensures ∙ c.state.ensures.state in
     let shown : c.graph-graph.result.now ≡ c.args.served.now.known.graph = search rules in
-    subst (λ (k : KnownView). KnowsFor k (state_of c.reset_all.new.state)) (sym c.in_ok-share_known.ensures.known)
+    subst (λ (k : KnownView). KnowsFor k (state_of c.reset_all.new.state)) (sym c.in_ok-known.ensures.known)
     (known_reset c.args.served.now.known c.graph-graph.result.now c.args.moment c.deref.result.now c.args.served.now.state (state_of c.in_ok-state.state) (state_of c.reset_all.new.state)
     (map action_of c.new-actions.result.items) (map action_of c.reset_all.new.actions.items) c.state.ensures.knows same shown (ap (map action_of) c.new-actions.ensures.items) c.in_ok-reset_all.ensures)
-
-pub with-requires-clause-few : goal.with-requires-clause-few
-with-requires-clause-few c =
-    let same = c.in_ok-state.ensures ∙ c.state.ensures.state in
-    let shown : c.graph-graph.result.now ≡ c.args.served.now.known.graph = search rules in
-    few_reset c.args.served.now.known c.graph-graph.result.now c.args.moment c.deref.result.now c.args.served.now.state (state_of c.in_ok-state.state) (state_of c.reset_all.new.state)
-    (map action_of c.new-actions.result.items) (map action_of c.reset_all.new.actions.items) c.state.ensures.knows same shown (ap (map action_of) c.new-actions.ensures.items) c.in_ok-reset_all.ensures c.state.ensures.few
 
 pub returns-clause-does : goal.returns-clause-does
 returns-clause-does c =

@@ -1,7 +1,6 @@
 use Rattle.std.proofs.Common.{map}
 use Rattle.um_falling.proofs.AlongLaws.{known_by}
-use Rattle.um_falling.proofs.Carried.{kept_then}
-use Rattle.um_engine.proofs.ReadyLaws.{begun_drops, begun_keeps, serves_begun}
+use Rattle.um_engine.proofs.ReadyLaws.{begun_drops, serves_begun}
 use Rattle.um_engine.proofs.Steps.{settled, settles_more}
 use Rattle.um_model.specs.Jobs.{Job}
 use Rattle.um_state.specs.View.{state_of, action_of}
@@ -13,7 +12,7 @@ jobs-smaller c =
     let waits = rw c.in-Some.is at c.in_ok-next.ensures.waits in
     let number = rw c.in-Some.is at c.in_ok-next.ensures.number in
     begun_drops c.args.graph.now (state_of c.jobs.state) (state_of c.begin_job.new.state) (state_of c.happen.new.state) job (waits (state_of c.jobs.state) c.jobs.invariant.tells)
-    (known_by c.args.graph.now c.in-Some.next.unit c.in-Some.next.name number) c.in_ok-begin_job.ensures c.in_ok-spreads.ensures.waits
+    (known_by c.args.graph.now c.in-Some.next.unit c.in-Some.next.name number) (c.in_ok-begin_job.ensures.begun c.args.graph.now c.jobs.invariant.tells number) c.in_ok-spreads.ensures.waits
 
 pub jobs-preserved : goal.jobs-preserved
 jobs-preserved c =
@@ -21,15 +20,15 @@ jobs-preserved c =
     let next = rw c.in-Some.is at c.in_ok-next.ensures.next in
     let number = rw c.in-Some.is at c.in_ok-next.ensures.number in
     let known = known_by c.args.graph.now c.in-Some.next.unit c.in-Some.next.name number in
+    let begins = c.in_ok-begin_job.ensures.begun c.args.graph.now c.jobs.invariant.tells number in
     record {
-      tells = c.in_ok-tell_anew.ensures (state_of c.jobs.state) c.jobs.invariant.tells number
-          (λ none. kept_then c.in-Some.next.name (state_of c.jobs.state) (state_of c.begin_job.new.state) (state_of c.happen.new.state)
-          (begun_keeps (state_of c.jobs.state) (state_of c.begin_job.new.state) job c.in_ok-begin_job.ensures) (c.in_ok-spreads.ensures.others none));
+      tells = c.in_ok-tell_anew.ensures (state_of c.begin_job.new.state) (c.in_ok-begin_job.ensures.tells c.args.graph.now c.jobs.invariant.tells number) number
+          (λ none. (c.in_ok-spreads.ensures.others none, c.in_ok-spreads.ensures.ends none));
       whole = λ serves.
           let (whole, serves_now) = c.jobs.invariant.whole serves in
-          let begun = serves_begun c.args.graph.now (state_of c.jobs.state) (state_of c.begin_job.new.state) job serves_now known c.in_ok-begin_job.ensures in
+          let begun = serves_begun c.args.graph.now (state_of c.jobs.state) (state_of c.begin_job.new.state) job serves_now known begins in
           let (carries, serves_on) = c.in_ok-spreads.ensures.happens begun known in
-          let carried = rw (c.begins-event.ensures, c.in_ok-begin_job.ensures) at carries in (
+          let carried = rw (c.begins-event.ensures, begins) at carries in (
             λ v after later.
                 whole v after
                 (settles_more c.args.moment (state_of c.jobs.state) (state_of c.happen.new.state) v (map action_of c.jobs.actions.items) (map action_of c.happen.new.actions.items) after

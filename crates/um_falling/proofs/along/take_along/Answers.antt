@@ -31,7 +31,7 @@ units-preserved c =
       going = λ serves known tidy_jobs tidy_units.
           goes_on c.args.graph.now (state_of c.args.state.now) c.args.failed.now serves (state_of c.units.state) c.units.list.items c.pop.new.self.items c.in-Some.unit after
           (c.units.invariant.going serves known tidy_jobs tidy_units) c.in-Some.ensures.items c.in_ok-take_all.ensures;
-      waits = waits_on c.args.graph.now row row before after c.args.state.now.pending c.in_ok-take_all.ensures c.units.invariant.waits;
+      waits = waits_on c.args.graph.now row row before after (state_of c.args.state.now).pending c.in_ok-take_all.ensures c.units.invariant.waits;
       subs = subs_on c.args.graph.now row row before after (state_of c.args.state.now) c.in_ok-take_all.ensures c.units.invariant.subs;
     }
 

@@ -11,9 +11,9 @@ use Rattle.um_falling.proofs.along.take_along.Given as goal
 
 abbrev pub invariant-units : goal.invariant-units
 invariant-units l = record {
-  going : Serves l.graph (state_of l.initial.state) → Contains l.graph.names l.failed → AreTidyJobs l.initial.state.pending → AreTidyUnits l.initial.state.units
+  going : Serves l.graph (state_of l.initial.state) → Contains l.graph.names l.failed → AreTidyJobs (state_of l.initial.state).pending → AreTidyUnits (state_of l.initial.state).units
       → IsGoing l.graph (state_of l.initial.state) l.failed (state_of l.state) l.list.items;
-  waits : NoMoreWait l.state.pending l.initial.state.pending;
+  waits : NoMoreWait (state_of l.state).pending (state_of l.initial.state).pending;
   subs : KeepsSubs (state_of l.initial.state) (state_of l.state);
 }
 

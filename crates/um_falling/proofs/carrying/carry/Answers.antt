@@ -26,3 +26,6 @@ returns-in_ok-take_along-clause-others c = λ none. absurd (true≢false (sym c.
 pub returns-in_ok-take_along-clause-stops : goal.returns-in_ok-take_along-clause-stops
 returns-in_ok-take_along-clause-stops c = λ is.
     stops_then c.args.unit.now (state_of c.args.state.now) (state_of c.change.new.state) (state_of c.take_along.new.state) (c.in_ok-fails.ensures.stops is) c.in_ok-take_along.ensures.subs
+
+pub returns-in_ok-take_along-clause-ends : goal.returns-in_ok-take_along-clause-ends
+returns-in_ok-take_along-clause-ends c = λ none. absurd (true≢false (sym c.if-fails.true ∙ none))

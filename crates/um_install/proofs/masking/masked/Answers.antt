@@ -1,5 +1,5 @@
 use Rattle.std.proofs.Common.{◌≢◌, codes, option_map, ap, sym, ◌∙◌, rules}
-use Rattle.um_model.specs.Install.{RefusesInstall}
+use Rattle.um_model.specs.Install.{RefusesLinks}
 use Rattle.um_model.specs.Tree.{put_link}
 use Rattle.um_model.specs.declared.install.InstallVerb.TheVariants as verbs
 use Rattle.um_tree.specs.View.{refused_by}
@@ -16,7 +16,7 @@ returns-in-Some-clause-refused c = λ differs.
 
 pub returns-in_err-link-clause-refused : goal.returns-in_err-link-clause-refused
 returns-in_err-link-clause-refused c =
-    let step : c.in_err-link.field-0.0 ≢ NoMemory → RefusesInstall c.args.tree.now verbs.Mask c.args.unit.now (refused_of c.in_err-link.field-0.0) =
+    let step : c.in_err-link.field-0.0 ≢ NoMemory → RefusesLinks c.args.tree.now verbs.Mask c.args.unit.now (refused_of c.in_err-link.field-0.0) =
     λ differs.
     masks_none_to c.args.tree.now c.args.unit.now c.as_str-2.result.now (refused_of c.in_err-link.field-0.0) (c.as_str-2.ensures.value ∙ c.in_ok-path.ensures)
     (ap (λ t. put_link t c.as_str-2.result.now (codes "/dev/null")) (sym c.in_ok-changed.ensures) ∙ c.in_err-link.ensures.refused differs) in

@@ -11,13 +11,13 @@ use Rattle.um_manager.proofs.orders.carry_all.Goals as goal
 pub returns-clause-carries : goal.returns-clause-carries
 returns-clause-carries g c =
     let e : into_iter_items c.loop-answer.rest ≡ [] = nil_of _ (search (rules, c.loop-answer.rest.rest.ok)) in
-    c.loop-answer.invariant.done _ _ _ (λ x. x) (λ h w. subst (λ xs. Grew c.args.units.now (g.C.Children.past c.loop-answer.children) (g.C.Children.past c.loop-answer.children) c.loop-answer.marks c.loop-answer.marks (all_asked xs)) (sym e) (grew_none c.args.units.now (g.C.Children.past c.loop-answer.children) c.loop-answer.marks))
+    c.loop-answer.invariant.done _ _ _ (λ x. x) (λ h w. subst (λ xs. Grew c.args.units.now.held (g.C.Children.past c.loop-answer.children) (g.C.Children.past c.loop-answer.children) c.loop-answer.marks c.loop-answer.marks (all_asked xs)) (sym e) (grew_none c.args.units.now.held (g.C.Children.past c.loop-answer.children) c.loop-answer.marks))
 
 pub loop-answer-preserved : goal.loop-answer-preserved
 loop-answer-preserved g c =
     let e : into_iter_items c.loop-answer.rest ≡ c.in-Some.answer ∷ into_iter_items c.next.new.self = search rules in
     record {
-      done = λ past marks b w h. c.loop-answer.invariant.done past marks b (λ t. c.carry_one-reply.ensures.whole (w t)) (λ ho wh. subst (λ xs. Grew c.args.units.now (g.C.Children.past c.loop-answer.children) past c.loop-answer.marks marks (all_asked xs)) (sym e)
+      done = λ past marks b w h. c.loop-answer.invariant.done past marks b (λ t. c.carry_one-reply.ensures.whole (w t)) (λ ho wh. subst (λ xs. Grew c.args.units.now.held (g.C.Children.past c.loop-answer.children) past c.loop-answer.marks marks (all_asked xs)) (sym e)
           (grew_more _ _ _ _ _ _ _ _ _ (c.carry_one-reply.ensures.carries ho (w wh)) (h (subst IsTrue (sym c.carry_one-reply.ensures.honest) ho) wh)));
       whole = search rules;
       honest = search rules;

@@ -12,7 +12,7 @@ decreases-loop-answer g l = into_iter_len l.rest
 
 abbrev pub invariant-loop-answer : goal.invariant-loop-answer
 invariant-loop-answer g l = record {
-  done : (past : List Call) (marks : List ℕ) (b : Bool) → (IsTrue b → IsTrue (g.C.Children.whole l.children)) → Carries (g.C.Children.honest l.children) b l.units (g.C.Children.past l.children) past l.marks marks (all_asked (into_iter_items l.rest)) → Carries (g.C.Children.honest l.initial.children) b l.units (g.C.Children.past l.initial.children) past l.initial.marks marks (all_asked l.fn.answers.items);
+  done : (past : List Call) (marks : List ℕ) (b : Bool) → (IsTrue b → IsTrue (g.C.Children.whole l.children)) → Carries (g.C.Children.honest l.children) b l.units.held (g.C.Children.past l.children) past l.marks marks (all_asked (into_iter_items l.rest)) → Carries (g.C.Children.honest l.initial.children) b l.units.held (g.C.Children.past l.initial.children) past l.initial.marks marks (all_asked l.fn.answers.items);
   whole : IsTrue (g.C.Children.whole l.children) → IsTrue (g.C.Children.whole l.initial.children);
   honest : g.C.Children.honest l.children ≡ g.C.Children.honest l.initial.children;
   replies : map reply_of l.replies.items ++ map reply_in (into_iter_items l.rest) ≡ map reply_of l.initial.replies.items ++ map reply_in l.fn.answers.items;

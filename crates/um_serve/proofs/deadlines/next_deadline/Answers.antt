@@ -12,7 +12,7 @@ loop-unit-init c = record { kept = search rules; found = λ d is. absurd (none-s
 
 pub loop-unit-preserved : goal.loop-unit-preserved
 loop-unit-preserved c =
-    let units = c.args.units.now in
+    let units = c.args.units.now.held in
     let moment = c.args.moment in
     let names = c.deref-unit-items.result.now in
     let i = c.loop-unit.unit-index in
@@ -29,7 +29,7 @@ loop-unit-preserved c =
 
 pub returns : goal.returns
 returns c =
-    let units = c.args.units.now in
+    let units = c.args.units.now.held in
     let names = c.deref-unit-items.result.now in
     let end : length names ≤ c.loop-unit.unit-index = search rules in
     let keys : names ≡ map.keys units = c.deref-unit-items.ensures.value ∙ c.in_ok-names.ensures in

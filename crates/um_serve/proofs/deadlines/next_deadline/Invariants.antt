@@ -5,6 +5,6 @@ use Rattle.um_serve.proofs.deadlines.next_deadline.Given as goal
 
 abbrev pub invariant-loop-unit : goal.invariant-loop-unit
 invariant-loop-unit l = record {
-  kept : list_all (λ unit. is_kept l.moment l.next (of_unit l.units unit)) (take l.unit-index l.unit-items) ≡ true;
-  found : IsFound l.units l.moment l.next;
+  kept : list_all (λ unit. is_kept l.moment l.next (of_unit l.units.held unit)) (take l.unit-index l.unit-items) ≡ true;
+  found : IsFound l.units.held l.moment l.next;
 }

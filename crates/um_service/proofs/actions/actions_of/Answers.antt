@@ -13,5 +13,5 @@ returns-in-Spawn c = rw c.in-Spawn.is (c.spawn.ensures c.args.unit.now)
 pub returns-in-Signal : goal.returns-in-Signal
 returns-in-Signal c =
     rw c.in-Signal.is (IfOk-weaker c.signals.result _ _
-    (λ actions all. subst (AreActions (service_settings_of c.args.settings.now) c.args.around.now c.args.unit.now _) (sym all) (signals c.in-Signal.signal))
+    (λ actions all. subst (AreActions (service_settings_of c.args.settings.now.value) c.args.around.now c.args.unit.now _) (sym all) (signals c.in-Signal.signal))
     c.signals.ensures)

@@ -11,7 +11,7 @@ loop-job-init c = ap (with_list (map job_of c.args.jobs.items)) c.new-pending.en
 pub loop-job-preserved : goal.loop-job-preserved
 loop-job-preserved c =
     let j = job_of c.in-Some.job in
-    let pending = c.loop-job.pending in
+    let pending = c.loop-job.pending.held in
     let left = c.pop.new.self.items in
     let told = ap (map job_of) c.in-Some.ensures.items ∙ map_push job_of left c.in-Some.job in
     let put = c.in_ok-set.ensures.ok ∙ (ap (with_jobs pending j.unit) (c.with_job.ensures ∙ ap (with_job j.kind j.state) c.get-held.ensures.jobs) ∙ set_is j pending) in

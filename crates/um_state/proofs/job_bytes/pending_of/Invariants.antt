@@ -6,7 +6,7 @@ use Rattle.um_state.proofs.job_bytes.pending_of.Given as goal
 
 -- the jobs that are left, put beside those that are there, are all
 abbrev pub invariant-loop-job : goal.invariant-loop-job
-invariant-loop-job l = with_list (map job_of l.rest.items) l.pending ≡ pending_of (map job_of l.fn.jobs.items)
+invariant-loop-job l = with_list (map job_of l.rest.items) l.pending.held ≡ pending_of (map job_of l.fn.jobs.items)
 
 abbrev pub decreases-loop-job : goal.decreases-loop-job
 decreases-loop-job l = length l.rest.items

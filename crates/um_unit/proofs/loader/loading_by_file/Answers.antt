@@ -8,7 +8,7 @@ pub returns : goal.returns
 returns c =
     let sources = map source_of c.args.sources.now in
     let sets = rw c.as_slice.ensures.value at c.in_ok-settings.ensures in
-    let reason = rw c.as_slice-2.ensures.value at c.in_ok-reason.ensures in
+    let reason = rw (c.as_slice-2.ensures.value, c.deref.ensures) at c.in_ok-reason.ensures in
     found_by_file c.args.unit.now c.args.path.now sources
     (ap (option_map string_bytes) (sym c.in_default.is) ∙ reason_is c.args.unit.now sources {settings = settings_of c.in_ok-settings.settings} c.suffix.ensures c.suffix-2.ensures c.in_ok-assigned.ensures sets reason)
     (unit_is c.args.unit.now sources c.in_ok-copy-2.ensures (ap Some c.in_ok-from_str.ensures.ok) c.suffix.ensures c.in_ok-assigned.ensures sets c.in_ok-warnings_of.ensures)

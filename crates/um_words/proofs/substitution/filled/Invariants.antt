@@ -1,17 +1,17 @@
-use Rattle.std.proofs.Common.{◌≡◌, length}
+use Rattle.std.proofs.Common.{◌≡◌, List, length}
 use denote.Text.{Utf8}
 use denote.Shadow.{shadow}
 use Rattle.std.specs.Prelude.{string_bytes}
-use Rattle.um_model.specs.Substitution.{piece_front}
+use Rattle.um_model.specs.Substitution.{Variable, piece_front}
 use Rattle.um_model.proofs.PiecesLaws.{prefixed, reading}
-use Rattle.um_words.specs.Environment.{variables_of}
+use Rattle.um_words.specs.Values.{Holds}
 use Rattle.um_words.proofs.substitution.filled.Given as goal
 
 -- what is done, and then what the rest stands for, is what the word stands for
 abbrev pub invariant-loop-before : goal.invariant-loop-before
 invariant-loop-before l = record {
   utf8 : shadow (Utf8 l.rest);
-  told : prefixed (string_bytes l.text) (reading (piece_front (variables_of l.environment)) l.rest) ≡ reading (piece_front (variables_of l.environment)) l.word;
+  told : (environment : List Variable) → Holds environment l.values → prefixed (string_bytes l.text) (reading (piece_front environment) l.rest) ≡ reading (piece_front environment) l.word;
 }
 
 abbrev pub decreases-loop-before : goal.decreases-loop-before

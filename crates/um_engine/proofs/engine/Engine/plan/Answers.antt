@@ -3,6 +3,7 @@ use Rattle.um_model.specs.Machine as model
 use Rattle.um_state.specs.View.{input_of, action_of, command_of, happening_of}
 use Rattle.um_wire.specs.Refusal.{refused_of}
 use Rattle.um_wire.specs.declared.refusal.Refusal.TheVariants.{NoMemory}
+use Rattle.um_engine.specs.Engine.{standing_in}
 use Rattle.um_engine.specs.OfStore.{is_of_store}
 use Rattle.um_engine.proofs.AcceptedLaws.{never_refused}
 use Rattle.um_engine.proofs.OnlyLaws.{declined_of_no_store}
@@ -37,7 +38,7 @@ returns-in_ok-settled-in-Commanded-clause-ok c =
     taken_step c.args.self.now.size c.args.self.now.served.state (input_of c.args.input.now) c.or_later-moment.result (model.Commanded (command_of c.in-Commanded.command)) _ _
     (map action_of c.in_ok-settled-in-Commanded.settled.actions.items) c.in_ok-settled-in-Commanded.settled.served.state _ event moment
     c.in_ok-settled-in-Commanded.ensures.taken c.in_ok-settled-in-Commanded.ensures.room (c.at.ensures.reply ∙ c.in_ok-settled-in-Commanded.ensures.reply) c.at.ensures.actions
-    (c.at.ensures.state c.args.self.now.served.state)
+    (c.at.ensures.state (standing_in c.args.self.now))
 
 pub returns-in_ok-settled-in-Commanded-clause-effect : goal.returns-in_ok-settled-in-Commanded-clause-effect
 returns-in_ok-settled-in-Commanded-clause-effect c =
@@ -55,7 +56,7 @@ returns-in_ok-served-in-Happened-clause-ok c =
     let moment = rw (clock, c.moment.ensures) at c.or_later-moment.ensures in
     met_step c.args.self.now.size c.args.self.now.served.state (input_of c.args.input.now) c.or_later-moment.result (happening_of c.in-Happened.happening) _ _
     (map action_of c.in_ok-served-in-Happened.actions.items) c.in_ok-served-in-Happened.served _ event moment
-    c.in_ok-served-in-Happened.ensures c.at-in-Happened.ensures.reply c.at-in-Happened.ensures.actions (c.at-in-Happened.ensures.state c.args.self.now.served.state)
+    c.in_ok-served-in-Happened.ensures c.at-in-Happened.ensures.reply c.at-in-Happened.ensures.actions (c.at-in-Happened.ensures.state (standing_in c.args.self.now))
 
 pub returns-in_ok-served-in-Happened-clause-effect : goal.returns-in_ok-served-in-Happened-clause-effect
 returns-in_ok-served-in-Happened-clause-effect c =
@@ -69,7 +70,7 @@ pub returns-in_ok-served-in-Happened-clause-nothing : goal.returns-in_ok-served-
 returns-in_ok-served-in-Happened-clause-nothing c =
     met_nothing c.or_later-moment.result c.args.self.now.served.state (happening_of c.in-Happened.happening) c.in_ok-served-in-Happened.served _
     (map action_of c.in_ok-served-in-Happened.actions.items) _ _ c.at-in-Happened.ensures.effect c.in_ok-served-in-Happened.ensures c.at-in-Happened.ensures.actions
-    (c.at-in-Happened.ensures.state c.args.self.now.served.state)
+    (c.at-in-Happened.ensures.state (standing_in c.args.self.now))
 
 pub returns-in_ok-settled-in-Commanded-clause-accepted : goal.returns-in_ok-settled-in-Commanded-clause-accepted
 returns-in_ok-settled-in-Commanded-clause-accepted c = λ r e.

@@ -1,8 +1,10 @@
-use Rattle.std.proofs.Common.{◌≡◌, ◌↔◌, ℕ, List, Contains, option_copied, rules, sym, subst}
+use Rattle.std.proofs.Common.{◌≡◌, ◌↔◌, ℕ, List, Contains, Option, option_copied, option_map, rules, sym, subst}
 use Rattle.um_state.specs.View.{state_of}
 use Rattle.um_wire.specs.declared.refusal.Refusal.TheVariants as refusals
 use Rattle.um_model.specs.declared.refusals.Limit.TheVariants as limits
-use Rattle.um_engine.specs.Known.{IsFull, IsGraphFor, IsHeldWith}
+use Rattle.um_graph.specs.Graph.{IsGraphOf}
+use Rattle.um_engine.specs.Known.{AreLasting, IsFull, IsGraphFor, IsHeldWith}
+use Rattle.um_engine.proofs.KnownLaws.{lasting_known}
 use Rattle.um_engine.proofs.SameUnitsLaws.{full_by}
 use Rattle.um_engine.proofs.known.Known.of.Goals as goal
 
@@ -25,3 +27,10 @@ returns-clause-few c full =
     let same : (x : List ℕ) → Held x ↔ Contains c.as_slice.result.now x =
     λ x. let h = subst (λ xs. Contains xs x ↔ Held x) (sym c.as_slice.ensures.value) (c.in_ok-extra.ensures x) in (h.1, h.0) in
     c.in_ok-graph.ensures.few (full_by c.args.tree.now Held (Contains c.as_slice.result.now) same full)
+
+pub returns-clause-lasting : goal.returns-clause-lasting
+returns-clause-lasting c =
+    let lasting : Option (List (List ℕ)) = option_map (λ names. names.items) c.in_ok-lasting.lasting in
+    lasting_known c.args.tree.now c.in_ok-extra.extra.items c.in_ok-graph.graph lasting
+    (subst (λ xs. IsGraphOf c.args.tree.now (Contains xs) c.in_ok-graph.graph) c.as_slice.ensures.value c.in_ok-graph.ensures.graph)
+    (subst (λ xs. AreLasting c.args.tree.now xs lasting) c.as_slice-2.ensures.value c.in_ok-lasting.ensures)

@@ -6,23 +6,23 @@ use Rattle.um_graph.proofs.CountLaws.{knows}
 use Rattle.um_graph.proofs.KnownLaws.{left_out, left_out_as}
 use Rattle.um_graph.proofs.known.Known.all.Goals as goal
 
-pub returns-in_default-clause-whole : goal.returns-in_default-clause-whole
-returns-in_default-clause-whole c =
-    left_out_as c.args.tree.now c.args.extra.now c.loop.known.loaded c.next.new.self.loaded c.loop.known.left.items [] c.loop.known.told.items c.next.new.self.told.items
-    c.in_default.ensures.loaded (ap (λ v. v.items) c.in_default.ensures.told) c.in_default.ensures.none c.loop.invariant.whole
+pub returns-clause-whole : goal.returns-clause-whole
+returns-clause-whole c =
+    left_out_as c.args.tree.now c.args.extra.now c.loop-name.known.loaded c.next.new.self.loaded c.loop-name.known.left.items [] c.loop-name.known.told.items c.next.new.self.told.items
+    c.in_default.ensures.loaded (ap (λ v. v.items) c.in_default.ensures.told) c.in_default.ensures.none c.loop-name.invariant.whole
 
-pub returns-in_default-clause-count : goal.returns-in_default-clause-count
-returns-in_default-clause-count c =
+pub returns-clause-count : goal.returns-clause-count
+returns-clause-count c =
     subst (λ (m : Loaded). KnowsSoMany c.args.tree.now (Contains c.args.extra.now) (btree_map_len m)) (sym c.in_default.ensures.loaded)
-    (knows c.args.tree.now c.args.extra.now c.loop.known.loaded c.loop.known.told.items
-    (left_out c.args.tree.now c.args.extra.now c.loop.known.loaded c.loop.known.left.items [] c.loop.known.told.items c.in_default.ensures.none c.loop.invariant.whole) c.loop.invariant.ordered)
+    (knows c.args.tree.now c.args.extra.now c.loop-name.known.loaded c.loop-name.known.told.items
+    (left_out c.args.tree.now c.args.extra.now c.loop-name.known.loaded c.loop-name.known.left.items [] c.loop-name.known.told.items c.in_default.ensures.none c.loop-name.invariant.whole) c.loop-name.invariant.ordered)
 
-pub loop-preserved : goal.loop-preserved
-loop-preserved c =
+pub loop-name-preserved : goal.loop-name-preserved
+loop-name-preserved c =
     let name = c.in-Some.name in
     record {
-      whole = c.in_ok-follow.ensures.whole c.args.extra.now (left_out_as c.args.tree.now c.args.extra.now c.loop.known.loaded c.next.new.self.loaded c.loop.known.left.items
-          (c.next.new.self.left.items ++ name ∷ []) c.loop.known.told.items c.next.new.self.told.items
-          c.in-Some.ensures.loaded (ap (λ v. v.items) c.in-Some.ensures.told) c.in-Some.ensures.found c.loop.invariant.whole);
+      whole = c.in_ok-follow.ensures.whole c.args.extra.now (left_out_as c.args.tree.now c.args.extra.now c.loop-name.known.loaded c.next.new.self.loaded c.loop-name.known.left.items
+          (c.next.new.self.left.items ++ name ∷ []) c.loop-name.known.told.items c.next.new.self.told.items
+          c.in-Some.ensures.loaded (ap (λ v. v.items) c.in-Some.ensures.told) c.in-Some.ensures.found c.loop-name.invariant.whole);
       ordered = c.in_ok-follow.ensures.ordered;
     }

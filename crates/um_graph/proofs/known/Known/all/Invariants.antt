@@ -1,11 +1,16 @@
-use Rattle.std.specs.BTreeMap.{IsOrdered}
+use Rattle.std.proofs.Common.{◌-◌, ◌^◌}
+use Rattle.std.specs.BTreeMap.{IsOrdered, btree_map_len}
 use Rattle.std.specs.Cmp.Lexicographic.{slice_cmp}
 use Rattle.std.specs.Ordering.{nat_cmp}
 use Rattle.um_graph.specs.Known.{IsUnderWay}
 use Rattle.um_graph.proofs.known.Known.all.Given as goal
 
-abbrev pub invariant-loop : goal.invariant-loop
-invariant-loop l = record {
+abbrev pub invariant-loop-name : goal.invariant-loop-name
+invariant-loop-name l = record {
   whole : IsUnderWay l.tree l.extra l.known.loaded l.known.left.items l.known.told.items;
   ordered : IsOrdered (slice_cmp nat_cmp) l.known.loaded;
 }
+
+-- how many more names a machine could count
+abbrev pub decreases-loop-name : goal.decreases-loop-name
+decreases-loop-name l = 2 ^ 64 - btree_map_len l.known.loaded

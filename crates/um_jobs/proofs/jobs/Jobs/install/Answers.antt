@@ -11,6 +11,7 @@ loop-unit-preserved c =
       each = put_more c.args.plan.now js c.loop-unit.unit c.jobs_of.result c.loop-unit.invariant.each (omega (arith, c.loop-unit.invariant.long)) c.jobs_of.ensures;
       long = length-set js c.loop-unit.unit c.jobs_of.result ∙ c.loop-unit.invariant.long;
       held = c.loop-unit.invariant.held;
+      graph = c.loop-unit.invariant.graph;
     }
 
 pub returns-clause-whole : goal.returns-clause-whole

@@ -6,12 +6,12 @@ pub invariant_of-self : goal.invariant_of-self
 invariant_of-self g c =
     record {
       same = c.append.ensures.of.1 ∙ c.args.self.now.same;
-      holds = held_at (held_after c.args.self.now.holds c.requires.has_bytes c.requires.step.step) c.append.ensures.of.0 c.commit-reply.ensures.size c.commit-reply.ensures.state;
+      holds = held_at (held_after c.args.self.now.holds c.requires.has_bytes c.requires.step.step) c.append.ensures.of.0 c.commit-reply.ensures.size (ap (λ s. s.state) c.commit-reply.ensures.state);
       kept = λ f h.
           let old = sym c.append.ensures.honest ∙ h in
           keeps_for (kept_recorded c.args.self.now.holds (c.args.self.now.kept f old) c.requires.has_bytes c.requires.step.step c.args.self.now.same c.requires.bytes
           (c.append.ensures.ok (c.in-Ok-true.is ∙ ap Ok c.in-Ok-true.field-0-test) old) (g.met.D.Disk.seen_is_image c.append.new.disk h) c.append.ensures.of.0 c.append.ensures.of.1)
-          c.append.ensures.size c.commit-reply.ensures.state;
+          c.append.ensures.size (ap (λ s. s.state) c.commit-reply.ensures.state);
     }
 
 pub returns-in-Ok-true-clause-during : goal.returns-in-Ok-true-clause-during

@@ -20,7 +20,7 @@ returns-in_err-make_room-clause-during g c h = room_begun (input_of c.args.input
 
 pub returns-clause-during : goal.returns-clause-during
 returns-clause-during g c h = room_and_record (input_of c.args.input.now ∷ []) (c.make_room.ensures.during h) (c.append.ensures.during (c.make_room.ensures.honest ∙ h))
-    c.make_room.ensures.place.layout c.make_room.ensures.state
+    c.make_room.ensures.place.layout (ap (λ s. s.state) c.make_room.ensures.state)
 
 pub returns-in_err-bytes-clause-kept : goal.returns-in_err-bytes-clause-kept
 returns-in_err-bytes-clause-kept g c = if_err_all c.from_residual.result _ (λ e. inr (λ h. still (c.args.self.now.kept c.requires.working h)))

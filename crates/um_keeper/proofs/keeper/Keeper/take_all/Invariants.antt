@@ -5,7 +5,7 @@ use Rattle.um_model.specs.Lives.{HasInOrder}
 use Rattle.um_model.specs.Machine as model
 use Rattle.um_state.specs.View.{input_of}
 use Rattle.um_keeper.specs.Answering.{Answer, AreAnswered, taken, IsIdle, NeedNoRecord, IsSpentIn, most_calls, state_before_all}
-use Rattle.um_keeper.specs.Keepers.{disk_in, state_in, size_in, layout_in, generation_in, has_failed, opened_in}
+use Rattle.um_keeper.specs.Keepers.{disk_in, standing_in, state_in, size_in, layout_in, generation_in, has_failed, opened_in}
 use Rattle.um_keeper.specs.Keeping.{IsBegun}
 use Rattle.um_keeper.proofs.keeper.Keeper.take_all.Given as goal
 
@@ -25,7 +25,7 @@ invariant-loop-input g l =
           → (IsTrue (D.honest (disk_in l.self)) → During (D.past (disk_in l.self)) new (IsBegun (layout_in l.self) (state_in l.self) some))
           → IsTrue (D.honest (disk_in first))
           → (more : List model.Input) × HasInOrder more all × During (D.past (disk_in first)) new (IsBegun (layout_in first) (state_in first) more);
-      back : state_before_all l.backs.items (state_in l.self) ≡ state_before_all l.fn.backs.items (state_in first);
+      back : state_before_all l.backs.items (standing_in l.self) ≡ state_before_all l.fn.backs.items (standing_in first);
       idle : AllByRecursion (IsIdle (state_in first)) all
           → (disk_in l.self ≡ disk_in first) × (state_in l.self ≡ state_in first) × AllByRecursion (IsIdle (state_in first)) left;
       unrecorded : (rest : List Answer) → NeedNoRecord (state_in first) all (l.answers.items ++ rest)

@@ -2,7 +2,7 @@ use Rattle.std.proofs.Common.{◌∙◌, [], ◌∷◌, Err, sym, ap, subst}
 use Rattle.std.proofs.lemmas.Bool.{false≢true}
 use Rattle.um_state.specs.View.{input_of}
 use Rattle.um_keeper.specs.Answering.{Answered, accepted, state_before_all}
-use Rattle.um_keeper.specs.Keepers.{state_in, size_in}
+use Rattle.um_keeper.specs.Keepers.{standing_in, state_in, size_in}
 use Rattle.um_keeper.proofs.Batching.{answered_refused, back_append}
 use Rattle.um_keeper.proofs.Kept.{calls_at_most, room_begun}
 use Rattle.um_keeper.proofs.Results.{the_other}
@@ -17,7 +17,7 @@ returns-in-Ok-clause-ok g c = accepted c.in-Ok.ensures.ok c.in-Ok.ensures.accept
 pub returns-in-Ok-clause-back : goal.returns-in-Ok-clause-back
 returns-in-Ok-clause-back g c =
     let before = c.args.backs.now.items in
-    let after = state_in c.take_step.new.self in
+    let after = standing_in c.take_step.new.self in
     ap (λ l. state_before_all l after) c.keep.ensures.items ∙ back_append before (_ ∷ []) after ∙ ap (state_before_all before) c.in-Ok.ensures.back
 
 pub returns-in-Ok-clause-calls : goal.returns-in-Ok-clause-calls
@@ -26,7 +26,7 @@ returns-in-Ok-clause-calls g c = calls_at_most c.args.self.now.holds _ _ _ c.tak
 pub returns-else-self-clause-ok : goal.returns-else-self-clause-ok
 returns-else-self-clause-ok g c =
     let first = c.args.self.now in
-    subst (Answered (size_in first) (state_in first) (input_of c.args.input.now) (Err c.in-Err.refusal)) (sym c.in-Err.ensures.state)
+    subst (Answered (size_in first) (state_in first) (input_of c.args.input.now) (Err c.in-Err.refusal)) (sym (ap (λ s. s.state) c.in-Err.ensures.state))
     (answered_refused c.in-Err.refusal (λ d. false≢true (sym c.if-self.false ∙ c.take_step.ensures.failed.1 (c.in-Err.is ∙ ap Err d))) c.in-Err.ensures.refused)
 
 pub returns-else-self-clause-during : goal.returns-else-self-clause-during

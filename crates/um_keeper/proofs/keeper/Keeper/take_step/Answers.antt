@@ -1,4 +1,5 @@
-use Rattle.std.proofs.Common.{◌∙◌, [], ◌∷◌, inr, sym}
+use Rattle.std.proofs.Common.{◌∙◌, [], ◌∷◌, inr, sym, ap}
+use Rattle.um_model.specs.Standing.{Standing}
 use Rattle.um_state.specs.View.{input_of}
 use Rattle.um_keeper.proofs.Results.{if_err_all}
 use Rattle.um_keeper.proofs.Kept.{still, not_begun, stores, stores_at, stores_for, if_ok, new_numbers}
@@ -11,7 +12,7 @@ pub returns-in_err-next-clause-stored : goal.returns-in_err-next-clause-stored
 returns-in_err-next-clause-stored g c f h = stores (c.args.self.now.kept f h)
 
 pub returns-then-has_effect-clause-order : goal.returns-then-has_effect-clause-order
-returns-then-has_effect-clause-order g c = if_ok c.record.result (λ receipt is. new_numbers c.in_ok-next.ensures.ok is.1 is.2) c.record.ensures.ok
+returns-then-has_effect-clause-order g c = if_ok c.record.result (λ receipt is. new_numbers c.in_ok-next.ensures.ok is.1 (ap (λ (x : Standing). x.state) is.2)) c.record.ensures.ok
 
 pub returns-then-has_effect-clause-stored : goal.returns-then-has_effect-clause-stored
 returns-then-has_effect-clause-stored g c f h = stores_at (c.record.new.self.kept f (c.record.ensures.honest ∙ h)) c.record.ensures.place.layout
@@ -20,7 +21,7 @@ pub returns-clause-during : goal.returns-clause-during
 returns-clause-during g c h = not_begun (input_of c.args.input.now ∷ []) (c.args.self.now.kept c.requires.working h)
 
 pub returns-clause-stored : goal.returns-clause-stored
-returns-clause-stored g c f h = stores_for (c.args.self.now.kept f h) (c.commit-reply.ensures.state ∙ (c.in_ok-next.ensures.nothing (sym c.has_effect.ensures ∙ c.if-has_effect.false)).0)
+returns-clause-stored g c f h = stores_for (c.args.self.now.kept f h) (ap (λ s. s.state) c.commit-reply.ensures.state ∙ (c.in_ok-next.ensures.nothing (sym c.has_effect.ensures ∙ c.if-has_effect.false)).0)
 
 pub returns-in_err-next-clause-kept : goal.returns-in_err-next-clause-kept
 returns-in_err-next-clause-kept g c = if_err_all c.from_residual.result _ (λ e. inr (λ h. still (c.args.self.now.kept c.requires.working h)))

@@ -22,7 +22,7 @@ returns-clause-read c =
     let known : are_known units ≡ true = search rules in
     units_here bytes units (drop c.in-Some.n bytes) (read ∙ ap (λ m. Some (m, drop c.in-Some.n bytes)) (same_map c.in-Some.entries.entries)) known
 
-pub invariant_of-result : goal.invariant_of-result
-invariant_of-result c =
+pub invariant_of-result-2 : goal.invariant_of-result-2
+invariant_of-result-2 c =
     let is : are_known (seen c.in-Some.entries) ≡ true = search rules in
     known_is_tidy (seen c.in-Some.entries) is

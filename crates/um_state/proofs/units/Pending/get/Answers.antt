@@ -1,16 +1,17 @@
 use Rattle.std.proofs.Common.{ap, unwrap_or, subst}
 use Rattle.um_model.proofs.NameMaps.{get_seen}
 use Rattle.um_model.specs.Jobs.{AreTidyJobs, no_jobs}
+use Rattle.um_state.proofs.HeldLaws.{same_held}
 use Rattle.um_state.proofs.units.Pending.get.Goals as goal
 
 pub returns-in-Some : goal.returns-in-Some
 returns-in-Some c = record {
-  jobs = rw (← c.self.view_is, get_seen c.self.inside.entries c.args.unit.now) (ap (λ o. unwrap_or o no_jobs) c.in-Some.ensures.value);
-  tidy = subst AreTidyJobs c.self.view_is c.self.invariant;
+  jobs = rw (← same_held c.self.view_is, get_seen c.self.inside.entries c.args.unit.now) (ap (λ o. unwrap_or o no_jobs) c.in-Some.ensures.value);
+  tidy = subst AreTidyJobs (same_held c.self.view_is) c.self.invariant;
 }
 
 pub returns-in-None : goal.returns-in-None
 returns-in-None c = record {
-  jobs = rw (← c.self.view_is, get_seen c.self.inside.entries c.args.unit.now) (ap (λ o. unwrap_or o no_jobs) c.in-None.ensures.value);
-  tidy = subst AreTidyJobs c.self.view_is c.self.invariant;
+  jobs = rw (← same_held c.self.view_is, get_seen c.self.inside.entries c.args.unit.now) (ap (λ o. unwrap_or o no_jobs) c.in-None.ensures.value);
+  tidy = subst AreTidyJobs (same_held c.self.view_is) c.self.invariant;
 }

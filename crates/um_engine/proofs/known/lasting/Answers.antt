@@ -1,0 +1,8 @@
+use Rattle.std.proofs.Common.{◌≡◌, false, rules}
+use Rattle.um_model.proofs.TreeLaws.{without_run_same, has_run}
+use Rattle.um_engine.proofs.known.lasting.Goals as goal
+
+pub returns-then-not-has_run : goal.returns-then-not-has_run
+returns-then-not-has_run c =
+    let none : has_run c.args.tree.now ≡ false = search rules in
+    without_run_same c.args.tree.now none

@@ -1,0 +1,101 @@
+//! The pending jobs of a state by the numbers of a graph's units, with what of them counts as deactivating, and again by their names.
+
+ghost use Rattle.std.specs.Prelude.{◌≡◌, ℕ, List, IfOk, OnOk, length};
+ghost use Rattle.um_engine.specs.Filled.{Tells, deactivates, is_deactivating};
+ghost use Rattle.um_engine.specs.Planned.{ArePending};
+ghost use Rattle.um_graph.specs.Graph.{IsGraph, IsNumberOf};
+ghost use Rattle.um_jobs.specs.Named.{jobs_at, jobs_by};
+ghost use Rattle.um_model.specs.Jobs.{jobs_of_unit, with_jobs};
+ghost use Rattle.um_model.specs.Service.{active_state_of};
+ghost use Rattle.um_state.specs.View.{state_of};
+
+use std::alloc::{AllocError, Global};
+use um_graph::Graph;
+use um_jobs::Jobs;
+use um_model::{ActiveState, UnitJobs, UnitState};
+use um_state::{Pending, State};
+
+/// The pending jobs of the unit with this number.
+fn jobs_of(graph: &Graph, state: &State, unit: usize) -> UnitJobs
+    ensures { (x : List ℕ) → IsNumberOf graph.now unit x → result ≡ jobs_of_unit (state_of state.now).pending x }
+{
+    match graph.name(unit) {
+        Some(name) => state.pending().get(name),
+        None => UnitJobs::NONE,
+    }
+}
+
+/// The pending jobs of each unit of the graph, by number.
+pub fn pending_by_number(
+    alloc: Global,
+    graph: &Graph,
+    state: &State,
+) -> Result<Vec<UnitJobs>, AllocError>
+    ensures graph { IsGraph graph.now }
+    ensures len { IfOk result (λ pending. length pending.items ≡ length graph.now.names) }
+    ensures each { IfOk result (λ pending. ArePending graph.now (state_of state.now) pending.items) }
+{
+    let mut pending = Vec::new(alloc);
+    for unit in 0..graph.len() {
+        pending.push(jobs_of(graph, state, unit))?;
+    }
+    Ok(pending)
+}
+
+/// Whether a unit that stands so counts as deactivating.
+pub fn is_deactivating(stands: UnitState) -> bool
+    ensures { result ≡ is_deactivating (active_state_of stands.sub) }
+{
+    matches!(stands.sub.active_state(), ActiveState::Deactivating)
+}
+
+/// Whether the unit with this number counts as deactivating.
+fn deactivates(graph: &Graph, state: &State, unit: usize) -> bool
+    ensures { (x : List ℕ) → IsNumberOf graph.now unit x → result ≡ deactivates (state_of state.now) x }
+{
+    match graph.name(unit) {
+        Some(name) => is_deactivating(state.units().get(name)),
+        None => false,
+    }
+}
+
+/// The pending jobs of the graph's units by their numbers, and which of the units count as deactivating.
+pub fn jobs_in<'g>(alloc: Global, graph: &'g Graph, state: &State) -> Result<Jobs<'g>, AllocError>
+    ensures { IfOk result (λ jobs. Tells graph.now (state_of state.now) jobs) }
+{
+    let pending = pending_by_number(alloc, graph, state)?;
+    let mut jobs = Jobs::of(alloc, graph, &pending)?;
+    for unit in 0..graph.len() {
+        jobs.hold(unit, deactivates(graph, state, unit));
+    }
+    Ok(jobs)
+}
+
+/// Puts the jobs of the unit with this number under its name.
+fn put_jobs(
+    pending: &mut Pending,
+    graph: &Graph,
+    jobs: &Jobs<'_>,
+    unit: usize,
+) -> Result<(), AllocError>
+    ensures { OnOk result ((x : List ℕ) → IsNumberOf graph.now unit x → pending.new.held ≡ with_jobs pending.old.held x (jobs_at jobs.now.units unit)) }
+{
+    match graph.name(unit) {
+        Some(name) => pending.set(name, jobs.get(unit)),
+        None => Ok(()),
+    }
+}
+
+/// The pending jobs by the names of the units.
+pub fn jobs_named(alloc: Global, graph: &Graph, jobs: &Jobs<'_>) -> Result<Pending, AllocError>
+    requires { length jobs.now.units ≡ length graph.now.names }
+    ensures { IfOk result (λ pending. pending.held ≡ jobs_by graph.now.names jobs.now.units) }
+{
+    let mut pending = Pending::new(alloc);
+    let mut unit = graph.len();
+    while unit > 0 {
+        unit -= 1;
+        put_jobs(&mut pending, graph, jobs, unit)?;
+    }
+    Ok(pending)
+}

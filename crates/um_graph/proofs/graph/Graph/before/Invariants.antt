@@ -1,0 +1,6 @@
+use Rattle.um_graph.specs.Graph.{row_of}
+use Rattle.um_graph.specs.Listed.{AreOf, order_in}
+use Rattle.um_graph.proofs.graph.Graph.before.Given as goal
+
+abbrev pub invariant-loop-unit : goal.invariant-loop-unit
+invariant-loop-unit l = AreOf (λ x. order_in x (row_of l.self.rows x)) l.unit l.pairs.items

@@ -1,0 +1,16 @@
+-- What is held of units as a table with the names that may have a number, and a state with those names.
+-- Follows no manual page: numbers of names are this project's own.
+-- The views of units, of pending jobs, of states and of engines stand on this file.
+use Rattle.std.specs.Prelude.{ℕ, List}
+use Rattle.um_model.specs.Machine.{State}
+use Rattle.um_model.specs.Service.{ByUnit}
+
+-- the names that stand in it, also those of which nothing is held; and what is held, by name
+pub record Table (A : Type 0) : Type 0 where
+  pub names : List (List ℕ)
+  pub held : ByUnit A
+
+-- a state, and the names that stand in its tables
+pub record Standing : Type 0 where
+  pub state : State
+  pub names : List (List ℕ)

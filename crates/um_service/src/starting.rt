@@ -1,0 +1,189 @@
+//! A command that is to be started.
+
+ghost use Rattle.std.specs.Prelude.{◌≡◌, IfOk, map, option_map, string_bytes};
+ghost use Rattle.um_service.specs.Started.{Started, arguments, is_too_long, started_at, started_words};
+ghost use Rattle.um_service.specs.Variables.{variable_text};
+ghost use Rattle.um_unit.specs.ServiceView.{service_settings_of};
+ghost use Rattle.um_words.specs.Commands.{command_seen};
+ghost use Rattle.um_words.specs.Environment.{variable_of, variables_of};
+ghost use Rattle.um_words.specs.Rooms.{left};
+
+use crate::settings::command_at;
+use std::alloc::{AllocError, Global};
+use std::marker::Model;
+use std::rc::Rc;
+use um_model::CommandList;
+use um_unit::ServiceSettings;
+use um_words::{Command, Room, Variable, room_after, substitute};
+
+/// What execve(2) takes of words and environment: two MiB in all, and 128 KiB in one, a zero byte behind each.
+fn arguments() -> Room
+    ensures { result ≡ arguments }
+{
+    Room {
+        total: 2_097_152,
+        longest: 131_072,
+        beside: 1,
+    }
+}
+
+/// A command of a unit that is to be started, as it is set: the settings are shared, and its words are put together only where they
+/// are read.
+#[derive(Debug, Drop)]
+pub struct Start {
+    settings: Rc<ServiceSettings>,
+    which: CommandList,
+    index: u32,
+}
+
+impl Model for Start {
+    ghost Value = { Started };
+
+    ghost view = { λ s. started_at (service_settings_of s.settings.value) s.which s.index };
+}
+
+/// The words again.
+fn copied(alloc: Global, words: &[String]) -> Result<Vec<String>, AllocError>
+    ensures { IfOk result (λ copies. map string_bytes copies.items ≡ map string_bytes words.now) }
+{
+    let mut copies = Vec::new(alloc);
+    for word in words {
+        copies.push(word.clone()?)?;
+    }
+    Ok(copies)
+}
+
+/// The words that the command is started with: its variables stand for their values, unless it is written with `:`.
+fn words_of(
+    alloc: Global,
+    command: Option<&Command>,
+    environment: &[Variable],
+) -> Result<Vec<String>, AllocError>
+    ensures { IfOk result (λ words. map string_bytes words.items ≡ started_words (variables_of environment.now) (option_map (λ c. command_seen c.now) command.entry)) }
+{
+    let Some(command) = command else {
+        return Ok(Vec::new(alloc));
+    };
+    if command.substitutes {
+        substitute(alloc, command.words.as_slice(), environment)
+    } else {
+        copied(alloc, command.words.as_slice())
+    }
+}
+
+/// The room that the words leave with which the command is started.
+fn room_after_words(
+    alloc: Global,
+    room: Room,
+    command: Option<&Command>,
+    environment: &[Variable],
+) -> Result<Option<Room>, AllocError>
+    ensures { IfOk result (λ free. free ≡ left room (started_words (variables_of environment.now) (option_map (λ c. command_seen c.now) command.entry))) }
+{
+    let Some(command) = command else {
+        return Ok(Some(room));
+    };
+    if command.substitutes {
+        room_after(alloc, room, command.words.as_slice(), environment)
+    } else {
+        Ok(room.after_texts(command.words.as_slice()))
+    }
+}
+
+/// The variable as a process is given it: `NAME=value`.
+fn variable_text(alloc: Global, variable: &Variable) -> Result<String, AllocError>
+    ensures { IfOk result (λ text. string_bytes text ≡ variable_text (variable_of variable.now)) }
+{
+    let mut text = variable.name.clone()?;
+    text.push_str("=")?;
+    text.push_str(variable.value.as_str())?;
+    Ok(text)
+}
+
+/// The environment as a process is given it.
+fn environment_texts(alloc: Global, environment: &[Variable]) -> Result<Vec<String>, AllocError>
+    ensures { IfOk result (λ texts. map string_bytes texts.items ≡ map variable_text (variables_of environment.now)) }
+{
+    let mut texts = Vec::new(alloc);
+    for variable in environment {
+        texts.push(variable_text(alloc, variable)?)?;
+    }
+    Ok(texts)
+}
+
+/// The room that the environment leaves.
+fn room_after_environment(room: Room, environment: &[Variable]) -> Option<Room>
+    ensures { result ≡ left room (map variable_text (variables_of environment.now)) }
+{
+    let mut free = room;
+    for variable in environment {
+        let length = variable.name.len().saturating_add(1);
+        free = free.after(length.saturating_add(variable.value.len()))?;
+    }
+    Some(free)
+}
+
+impl Start {
+    /// The command at this place of the list.
+    pub(crate) fn new(
+        settings: &Rc<ServiceSettings>,
+        which: CommandList,
+        index: u32,
+    ) -> Result<Start, AllocError>
+        ensures { IfOk result (λ start. start ≡ started_at (service_settings_of settings.now.value) which index) }
+    {
+        let settings = settings.clone()?;
+        Ok(Start {
+            settings,
+            which,
+            index,
+        })
+    }
+
+    /// The same again, which shares the settings.
+    pub fn share(&self) -> Result<Start, AllocError>
+        ensures { IfOk result (λ start. start ≡ self.now) }
+    {
+        Start::new(&self.settings, self.which, self.index)
+    }
+
+    /// The program and its arguments, put together. Refused only for want of memory.
+    pub fn words(&self, alloc: Global) -> Result<Vec<String>, AllocError>
+        ensures { IfOk result (λ words. map string_bytes words.items ≡ self.now.words) }
+    {
+        let command = command_at(&self.settings, self.which, self.index);
+        words_of(alloc, command, self.settings.environment.as_slice())
+    }
+
+    /// The environment, `NAME=value` each. Refused only for want of memory.
+    pub fn environment(&self, alloc: Global) -> Result<Vec<String>, AllocError>
+        ensures { IfOk result (λ texts. map string_bytes texts.items ≡ self.now.environment) }
+    {
+        environment_texts(alloc, self.settings.environment.as_slice())
+    }
+
+    /// The room that the words leave, where they fit. They are not put together: memory is taken for the words of the variables' values
+    /// alone. Refused only for want of it.
+    pub fn room_after_words(&self, alloc: Global, room: Room) -> Result<Option<Room>, AllocError>
+        ensures { IfOk result (λ free. free ≡ left room self.now.words) }
+    {
+        room_after_words(
+            alloc,
+            room,
+            command_at(&self.settings, self.which, self.index),
+            self.settings.environment.as_slice(),
+        )
+    }
+
+    /// Whether the words and the environment are longer than execve(2) takes: past two MiB (2,097,152 bytes) in all, or 128 KiB
+    /// (131,072 bytes) in one, each with the zero byte behind it. Nothing is put together. Refused only for want of memory.
+    pub fn is_too_long(&self, alloc: Global) -> Result<bool, AllocError>
+        ensures { IfOk result (λ told. told ≡ is_too_long self.now.words self.now.environment) }
+    {
+        let Some(room) = self.room_after_words(alloc, arguments())? else {
+            return Ok(true);
+        };
+        let free = room_after_environment(room, self.settings.environment.as_slice());
+        Ok(free.is_none())
+    }
+}

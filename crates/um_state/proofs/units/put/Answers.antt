@@ -1,0 +1,13 @@
+use Rattle.std.proofs.Common.{sym, subst}
+use Rattle.um_model.proofs.NameMaps.{seen}
+use Rattle.um_state.proofs.FindingLaws.{finds_put}
+use Rattle.um_state.specs.Finding.{Finds}
+use Rattle.um_state.proofs.units.put.Goals as goal
+
+pub leave-requires : goal.leave-requires
+leave-requires c =
+    subst (λ units. Finds units c.note.new.self) (sym c.in_ok-hold.ensures.ok)
+    (finds_put (seen c.args.entries.now) c.note.new.self c.args.unit.now c.args.state c.note.ensures.finds c.in_ok-note.ensures.told)
+
+pub returns-in_err-hold-clause-finds : goal.returns-in_err-hold-clause-finds
+returns-in_err-hold-clause-finds c = subst (λ units. Finds units c.note.new.self) (sym c.in_err-hold.ensures.err) c.note.ensures.finds
