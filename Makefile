@@ -10,7 +10,7 @@
 # make ctl-rows: plays the rows of the command line against the proved program: create and ctl, their faults, statuses, help and what is printed.
 # make memory-rows: lets each single allocation of a manager in memory fail in turn, and asserts that nothing changes (it needs cc).
 # make bench: measures the proved program, and the writing and reading of states (um_bench); the figures that a document calls
-# measured come from it.
+# measured come from it. It ends with an error where a wanted ratio isn't met, as that of live services isn't (docs/DECISIONS.md, "Serving").
 .PHONY: run umd unproved test edits bench runner-rows serve-rows ctl-rows memory-rows
 run:
 	@sh tools/show
@@ -42,8 +42,8 @@ edits:
 bench: umd
 	@cd crates/um_bench && rt run >/dev/null
 	@bench/run crates/umd/out/umd
-	@bench/serve crates/umd/out/umd
 	@bench/bytes crates/um_bench/out/um_bench
+	@bench/serve crates/umd/out/umd
 
 runner-rows: umd
 	@tools/runner-rows crates/umd/out/umd
