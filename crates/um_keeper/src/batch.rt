@@ -149,7 +149,7 @@ impl<D: Disk> Keeper<D> {
     }
 
     /// Takes a list of inputs one behind the other, each with its own record and sync, and answers each of them: by its receipt, by its
-    /// step's refusal (E1 to E14), or, with none of the others touched, by E15, or by E20 where its record has no room and the
+    /// step's refusal (E4 to E14, E21), or, with none of the others touched, by E15, or by E20 where its record has no room and the
     /// generation is the last.
     ///
     /// Each image of each moment meanwhile is a store of the state after a beginning of the inputs that were taken, and behind it of all

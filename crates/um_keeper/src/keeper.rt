@@ -303,7 +303,7 @@ impl<D: Disk> Keeper<D> {
 
     /// Takes a step: plans it, records it and syncs, and only then answers.
     ///
-    /// Each image of each moment meanwhile is a store of the state before, or of that with the input. The step's refusals (E1 to E14),
+    /// Each image of each moment meanwhile is a store of the state before, or of that with the input. The step's refusals (E4 to E14, E21),
     /// with nothing written; E17 where an earlier call answered E16; E20 where the record has no room and the generation is the last,
     /// with nothing written; E15 and E16, after which the state is that from before.
     pub fn submit(&mut self, input: &Input) -> Result<Receipt, Refusal>
