@@ -24,8 +24,8 @@ use um_runner::{Claimant, RunnerFile, Told, claim, file_path, pid_in, read_claim
 
 /// Processes through runners: each is started by a runner of its own, which outlives the manager and tells of it by files in a folder.
 ///
-/// What files and processes do no contract can say. So `honest` isn't claimed of it, and of the clauses of `Children` those on counts
-/// and claims alone say something here: that a runner does what its files tell is a premise of what is proved above.
+/// What files and processes do no contract can say. So `honest` isn't claimed of it, and of the clauses of `Children` those on counts,
+/// claims and the bound of a start alone say something here: that a runner does what its files tell is a premise of what is proved above.
 ///
 /// Fates are asked in rounds, each in ascending order: a number that isn't above the last one begins a round, and the folder is looked
 /// at once a round. Where nothing came, a fate costs no call of the system but once a second; and `has_news` tells whether a round is worth its while.
