@@ -9,7 +9,8 @@ use Rattle.um_model.specs.Machine.{State, IsHeld, IsHeldOr, IsTooHeavy, booted, 
 use Rattle.um_model.specs.Reached.{first}
 use Rattle.um_model.specs.Tree.{Tree, without_run}
 use Rattle.um_model.specs.Weight.{weight_of}
-use Rattle.um_model.proofs.FewLaws.{booted_none, cancel_no_more, HoldsNoMore}
+use Rattle.um_model.proofs.FewLaws.{booted_none, cancel_no_more}
+use Rattle.um_model.specs.Live.{HoldsNoMore}
 use Rattle.um_model.proofs.KnownLaws.{more_known}
 use Rattle.um_model.proofs.SceneLaws.{one_count}
 use Rattle.um_model.proofs.TreeLaws.{without_run_twice}

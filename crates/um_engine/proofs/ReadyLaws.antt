@@ -17,7 +17,7 @@ use Rattle.um_model.specs.declared.service.ActiveState.{ActiveState}
 use Rattle.um_model.specs.declared.service.ActiveState.TheVariants.{Deactivating}
 use Rattle.um_model.proofs.TimersLaws.{same_name}
 use Rattle.um_model.proofs.UnitLaws.{jobs_apart, jobs_here}
-use Rattle.um_model.proofs.WaitingLaws.{NoMoreWait, has_waiting, waits, waits_in}
+use Rattle.um_model.specs.Waiting.{NoMoreWait, has_waiting, waits, waits_in}
 use Rattle.um_model.proofs.Forms.{with_running}
 use Rattle.um_graph.specs.Graph.{GraphView, IsGraph, IsNumberOf}
 use Rattle.um_graph.specs.Kinds.{before_bit}

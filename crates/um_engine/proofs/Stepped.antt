@@ -11,7 +11,8 @@ use Rattle.um_model.specs.Standing.{Standing}
 use Rattle.um_model.specs.Service.{Action, state_of_unit}
 use Rattle.um_model.specs.declared.transition.UnitEvent.TheVariants.{Executed}
 use Rattle.um_model.proofs.KeepsLaws.{settles_keeps}
-use Rattle.um_model.proofs.FewLaws.{fires_no_more, happened_no_more, number_held, settles_no_more, HoldsNoMore}
+use Rattle.um_model.proofs.FewLaws.{fires_no_more, happened_no_more, number_held, settles_no_more}
+use Rattle.um_model.specs.Live.{HoldsNoMore}
 use Rattle.um_graph.specs.Graph.{GraphView}
 use Rattle.um_state.specs.View.{state_of}
 use Rattle.um_wire.specs.Refusal.{refused_of}

@@ -5,7 +5,7 @@ ghost use Rattle.std.specs.List.{list_any};
 ghost use Rattle.um_graph.specs.Graph.{row_of};
 ghost use Rattle.um_jobs.specs.Jobs as told;
 ghost use Rattle.um_jobs.specs.Jobs.{IsReadyIn, JobsView, held_at, job_named, with_held_at, with_jobs_at, without_job};
-ghost use Rattle.um_model.proofs.WaitingLaws.{has_waiting};
+ghost use Rattle.um_model.specs.Waiting.{has_waiting};
 ghost use Rattle.um_jobs.specs.Named.{jobs_at};
 ghost use Rattle.um_jobs.specs.Ready as rows;
 ghost use Rattle.um_jobs.specs.Ready.{ready_kind};

@@ -1,7 +1,7 @@
 ghost use Rattle.std.specs.Prelude.{◌≡◌, ◌≤◌, ◌^◌, ◌++◌, string_bytes, Some, Ok, Err, IfErr, IfOk, IsOk, IsTrue, OnErr, OnOk, option_map};
 ghost use Rattle.std.specs.FinMap as map;
 ghost use Rattle.std.specs.Map.Iter.{ShowsInOrder};
-ghost use Rattle.um_model.proofs.TreeLaws.{has_run};
+ghost use Rattle.um_model.specs.Tree.{has_run};
 ghost use Rattle.um_model.specs.Tree as model;
 ghost use Rattle.um_model.specs.Refusals as told;
 ghost use Rattle.um_model.specs.Weight.{entry_weight, tree_weight};
