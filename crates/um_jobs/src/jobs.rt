@@ -23,7 +23,7 @@ use std::marker::Model;
 use um_graph::{Graph, Neighbour};
 use um_model::{JobKind, JobState, UnitJobs};
 use um_name::UnitName;
-use um_wire::Refusal;
+use um_wire::{Refusal, no_such_job};
 
 /// The pending jobs of the units of a graph by their numbers, and which units count as deactivating. A number past the last unit
 /// is that of a unit without jobs, and nothing changes it.
@@ -160,7 +160,7 @@ impl Jobs<'_> {
     {
         let jobs = self.get(unit);
         if !has_waiting(jobs) {
-            return Err(no_such_job(alloc, name));
+            return Err(no_such_job(alloc, name.as_str())?);
         }
         self.set(unit, without_waiting(jobs));
         Ok(())
@@ -293,14 +293,4 @@ fn has_waiting(jobs: UnitJobs) -> bool
     ensures { result ≡ has_waiting jobs }
 {
     is_waiting(jobs.stop) || is_waiting(jobs.start)
-}
-
-/// E21 with the unit, or want of memory for its text.
-fn no_such_job(alloc: Global, unit: &UnitName) -> Refusal
-    ensures { ¬ (result ≡ NoMemory) → refused_of result ≡ refused.no_such_job unit.now }
-{
-    match String::from_str(alloc, unit.as_str()) {
-        Ok(unit) => Refusal::NoSuchJob { unit },
-        Err(_) => Refusal::NoMemory,
-    }
 }
