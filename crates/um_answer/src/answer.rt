@@ -84,7 +84,8 @@ fn show(alloc: Global, state: &State, asked: &UnitName) -> Result<Reply, AllocEr
 {
     let loading = load(alloc, state.loaded(), asked)?;
     let stands = state.units().get(name_in(asked, &loading));
-    Ok(Reply::Shown(shown(alloc, asked, loading, stands)?))
+    let shown = shown(alloc, asked, loading, stands)?;
+    Ok(Reply::Shown(Box::new(alloc, shown)?))
 }
 
 /// The active state of that unit.

@@ -365,15 +365,26 @@ impl<'a, R: Files + Processes + Clock> RunnerDir<'a, R> {
         }
     }
 
+    /// Whether a number of which so much is known runs, as it did when it was looked at last: no signal waits for its pid, and nothing may have
+    /// come since its files were read. So it is with most, and nothing is to be done for them.
+    fn runs_on(&self, known: Known) -> bool {
+        known.is_settled()
+            && known.changes == Some(self.watch.changes())
+            && self.foreign.is_none()
+    }
+
     fn find(&mut self, number: ProcessNumber, claim: bool) -> Result<Fate, Trouble>
         ensures claim { claim ≡ false → IfOk result (λ fate. is_absent fate ≡ false) }
         ensures failures { self.new.failures ≡ self.old.failures }
         ensures restless { self.new.is_restless ≡ false → result ≡ Ok Fate.Executed }
     {
         self.begin(number);
-        let was_restless = mem::replace(&mut self.is_restless, true);
         self.silent = None;
         let before = self.known(number);
+        if self.runs_on(before) {
+            return Ok(Fate::Executed);
+        }
+        let was_restless = mem::replace(&mut self.is_restless, true);
         let known = self.learn(number, before, claim)?;
         self.heed(number, known.standing);
         // where there is no memory for it the files are read again

@@ -97,6 +97,10 @@ impl<D: Disk> Keeper<D> {
         ensures size { D.size (disk_in self.new) ≡ D.size (disk_in self.old) }
         ensures honest { D.honest (disk_in self.new) ≡ D.honest (disk_in self.old) }
     {
+        // most inputs are reports that processes run on, of which nothing is planned, and to which no way leads back
+        if self.engine.is_idle(input) {
+            return Ok(Ok(Receipt::done(self.alloc)));
+        }
         match self.take_step(input) {
             Ok((receipt, back)) => {
                 keep(backs, back);

@@ -78,8 +78,8 @@ struct Loop<'a, R> {
     pace: Pace,
     /// The deadline that is slept for, as it was looked up last.
     deadline: Option<Deadline>,
-    /// There may be another deadline to sleep for since then.
-    is_stale: bool,
+    /// Where the clock of the state stood then. It moves with whatever changes the state, and with it the deadlines.
+    looked: Option<Moment>,
 }
 
 impl<'a, R: Clock> Loop<'a, R> {
@@ -116,13 +116,13 @@ impl<'a, R: Clock> Loop<'a, R> {
         if tally.has_turned() {
             self.pace.begin();
         }
-        self.is_stale |= tally.has_turned() || self.rounds.was_busy();
         if self.rounds.was_busy() {
             return Ok(());
         }
-        if self.is_stale || self.is_due() {
+        let clock = Some(manager.state().clock());
+        if self.looked != clock || self.is_due() {
             self.deadline = self.rounds.deadline(manager)?;
-            self.is_stale = false;
+            self.looked = clock;
         }
         if tally.is_live() && manager.children().has_news() {
             self.pace.hasten();
@@ -169,7 +169,7 @@ fn open_loop<'a, R: Files + Net + Clock, E: Eprint>(
         rounds,
         pace: Pace::new(),
         deadline: None,
-        is_stale: true,
+        looked: None,
     })
 }
 

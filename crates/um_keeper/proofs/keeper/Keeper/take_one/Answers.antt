@@ -3,8 +3,8 @@ use Rattle.std.proofs.lemmas.Bool.{false≢true}
 use Rattle.um_state.specs.View.{input_of}
 use Rattle.um_keeper.specs.Answering.{Answered, accepted, state_before_all}
 use Rattle.um_keeper.specs.Keepers.{standing_in, state_in, size_in}
-use Rattle.um_keeper.proofs.Batching.{answered_refused, back_append}
-use Rattle.um_keeper.proofs.Kept.{calls_at_most, room_begun}
+use Rattle.um_keeper.proofs.Batching.{answered_refused, back_append, done_answered}
+use Rattle.um_keeper.proofs.Kept.{calls_at_most, not_begun, room_begun}
 use Rattle.um_keeper.proofs.Results.{the_other}
 use Rattle.um_keeper.proofs.keeper.Keeper.take_one.Goals as goal
 
@@ -35,3 +35,9 @@ returns-else-self-clause-during g c h =
 
 pub returns-else-self-clause-calls : goal.returns-else-self-clause-calls
 returns-else-self-clause-calls g c = calls_at_most c.args.self.now.holds _ _ _ c.take_step.ensures.most_calls
+
+pub returns-then-is_idle-clause-ok : goal.returns-then-is_idle-clause-ok
+returns-then-is_idle-clause-ok g c = done_answered c.done.result c.done.ensures.reply c.done.ensures.actions (c.is_idle.ensures.step c.if-is_idle.true)
+
+pub returns-then-is_idle-clause-during : goal.returns-then-is_idle-clause-during
+returns-then-is_idle-clause-during g c h = not_begun (input_of c.args.input.now ∷ []) (c.args.self.now.kept c.requires.working h)
