@@ -13,11 +13,11 @@ ghost use Rattle.um_model.specs.Jobs as model;
 ghost use Rattle.um_model.specs.Jobs.{IsToldBefore, Job, no_jobs};
 ghost use Rattle.um_model.specs.Least.{IsLeast};
 ghost use Rattle.um_model.specs.Refusals as refused;
-ghost use Rattle.um_model.specs.declared.jobs.JobState.TheVariants.{Running};
+ghost use Rattle.um_model.specs.declared.jobs.JobState.TheVariants.{Running, Waiting};
 ghost use Rattle.um_wire.specs.Refusal.{refused_of};
 ghost use Rattle.um_wire.specs.declared.refusal.Refusal.TheVariants.{NoMemory};
 
-use crate::table::{is_waiting, jobs_of, with_running};
+use crate::table::{is_waiting, jobs_of, with_job};
 use std::alloc::{AllocError, Global};
 use std::marker::Model;
 use um_graph::{Graph, Neighbour};
@@ -137,11 +137,18 @@ impl Jobs<'_> {
         }
     }
 
+    /// A job of this kind of the unit is pending and waits from now on.
+    pub fn put(&mut self, unit: usize, kind: JobKind)
+        ensures { self.new ≡ with_jobs_at self.old unit (model.with_job kind Waiting (jobs_at self.old.units unit)) }
+    {
+        self.set(unit, with_job(kind, JobState::Waiting, self.get(unit)));
+    }
+
     /// That job of the unit runs from now on.
     pub fn begin(&mut self, unit: usize, kind: JobKind)
         ensures { self.new ≡ with_jobs_at self.old unit (model.with_job kind Running (jobs_at self.old.units unit)) }
     {
-        self.set(unit, with_running(kind, self.get(unit)));
+        self.set(unit, with_job(kind, JobState::Running, self.get(unit)));
     }
 
     /// That job of the unit is over.
