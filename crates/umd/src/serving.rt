@@ -78,7 +78,7 @@ struct Loop<'a, R> {
     pace: Pace,
     /// The deadline that is slept for, as it was looked up last.
     deadline: Option<Deadline>,
-    /// Where the clock of the state stood then. It moves with whatever changes the state, and with it the deadlines.
+    /// Where the clock of the state stood then.
     looked: Option<Moment>,
 }
 
@@ -100,6 +100,12 @@ impl<'a, R: Clock> Loop<'a, R> {
         self.rest(manager, tally)
     }
 
+    /// Whether the state may have changed since the deadline was looked up: its clock, which stands so, moves with whatever changes it, unless
+    /// that comes twice at one moment.
+    fn is_stale(&mut self, clock: Moment) -> bool {
+        self.looked != Some(clock) || self.clock.moment().micros() <= clock.micros()
+    }
+
     /// Whether the deadline that is slept for has come.
     fn is_due(&mut self) -> bool {
         let now = self.clock.moment();
@@ -119,10 +125,10 @@ impl<'a, R: Clock> Loop<'a, R> {
         if self.rounds.was_busy() {
             return Ok(());
         }
-        let clock = Some(manager.state().clock());
-        if self.looked != clock || self.is_due() {
+        let clock = manager.state().clock();
+        if self.is_stale(clock) || self.is_due() {
             self.deadline = self.rounds.deadline(manager)?;
-            self.looked = clock;
+            self.looked = Some(clock);
         }
         if tally.is_live() && manager.children().has_news() {
             self.pace.hasten();
