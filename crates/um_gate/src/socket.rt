@@ -45,8 +45,6 @@ pub struct SocketGate {
     listener: UnixListener,
     /// The last accept took a client: another one may wait behind it, of which no event tells any more.
     has_accepted: bool,
-    /// A read since the last accept took as much as it might: more may stand behind it, of which no event tells any more.
-    has_more: bool,
     places: Vec<Place>,
     /// Where a read puts its bytes first.
     buffer: Vec<u8>,
@@ -212,7 +210,6 @@ impl SocketGate {
             events,
             listener,
             has_accepted: false,
-            has_more: false,
             places,
             buffer,
         })
@@ -229,12 +226,6 @@ impl SocketGate {
             // where the system refuses to wait, a look tells what is there
             Err(_) => true,
         }
-    }
-
-    /// Whether bytes may stand at a connection of which `wait` tells no more: a read since the last accept took as many as it might, or none of a
-    /// client that is held back.
-    pub fn has_more(&self) -> bool {
-        self.has_more
     }
 
     /// The next client, if one waits.
@@ -302,27 +293,6 @@ fn fill(place: &mut Place, buffer: &mut [u8], most: usize, bytes: &mut Vec<u8>) 
     }
 }
 
-/// Puts what is there of the place with this number into the vector, and tells whether it is open still.
-fn fill_at(
-    places: &mut Vec<Place>,
-    number: usize,
-    buffer: &mut [u8],
-    most: usize,
-    bytes: &mut Vec<u8>,
-) -> bool
-    requires empty { bytes.old.items ≡ [] }
-    requires few { most ≤ MOST_BYTES }
-    requires room { most ≤ vec_capacity bytes.old }
-    requires full { length buffer.old ≡ MOST_BYTES }
-    ensures bound { length bytes.new.items ≤ most }
-    ensures full { length buffer.new ≡ MOST_BYTES }
-{
-    match places.get_mut(number) {
-        Some(place) => fill(place, buffer, most, bytes),
-        None => false,
-    }
-}
-
 /// How many of the bytes a place takes.
 fn write_place(place: &mut Place, bytes: &[u8]) -> usize
     ensures { result ≤ length bytes.now }
@@ -351,7 +321,6 @@ impl Gate for SocketGate {
     fn accept(&mut self) -> Open {
         let client = self.next_client();
         self.has_accepted = client.is_some();
-        self.has_more = false;
         if let Some(stream) = client {
             self.take_client(stream);
         }
@@ -359,10 +328,10 @@ impl Gate for SocketGate {
     }
 
     fn read(&mut self, number: usize, most: usize, bytes: &mut Vec<u8>) -> bool {
-        let buffer = self.buffer.as_mut_slice();
-        let is_open = fill_at(&mut self.places, number, buffer, most, bytes);
-        self.has_more |= bytes.len() == most;
-        is_open
+        match self.places.get_mut(number) {
+            Some(place) => fill(place, self.buffer.as_mut_slice(), most, bytes),
+            None => false,
+        }
     }
 
     fn write(&mut self, number: usize, bytes: &[u8]) -> usize {

@@ -13,7 +13,7 @@ use um_children::Children;
 use um_gate::{Moments, SocketGate, SystemMoments, system_moment};
 use um_keeper::OpenedStore;
 use um_line::ServeLine;
-use um_manager::{CONNECTIONS, Connection, Manager};
+use um_manager::Manager;
 use um_model::{Deadline, Moment};
 use um_sector::Disk;
 use um_serve::{Pace, Rounds, serve};
@@ -69,18 +69,6 @@ fn boot_id(alloc: Global, boot: &str) -> Result<BootId, Refusal> {
     }
 }
 
-/// Whether a whole frame of any client is held.
-fn holds_frame<D: Disk, C: Children>(manager: &Manager<D, C>) -> bool {
-    for number in 0..CONNECTIONS {
-        if let Some(connection) = Connection::new(number) {
-            if manager.holds_frame(connection) {
-                return true;
-            }
-        }
-    }
-    false
-}
-
 /// What goes from one round to the next in the program.
 #[derive(Drop)]
 struct Loop<'a, R> {
@@ -119,16 +107,7 @@ impl<'a, R: Clock> Loop<'a, R> {
             .is_some_and(|deadline| deadline.micros() <= now.micros())
     }
 
-    /// Whether there is more to do behind a round in which something came, of which nothing would tell: bytes or frames that weren't taken, or
-    /// processes that a changed state may be told of at once.
-    fn has_more<D: Disk, C: Children>(&self, manager: &Manager<D, C>, tally: &Tally) -> bool {
-        self.looked != Some(manager.state().clock())
-            || tally.has_turned()
-            || self.gate.has_more()
-            || holds_frame(manager)
-    }
-
-    /// Sleeps until there is something to do, unless another round has more to do at once. E15 where the deadlines find no memory.
+    /// Sleeps until there is something to do, unless another round may have more to do at once. E15 where the deadlines find no memory.
     fn rest<D: Disk, C: Children + News>(
         &mut self,
         manager: &Manager<D, C>,
@@ -137,7 +116,7 @@ impl<'a, R: Clock> Loop<'a, R> {
         if tally.has_turned() {
             self.pace.begin();
         }
-        if self.rounds.was_busy() && self.has_more(manager, tally) {
+        if self.rounds.was_busy() {
             return Ok(());
         }
         let clock = Some(manager.state().clock());
