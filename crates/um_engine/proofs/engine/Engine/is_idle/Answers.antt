@@ -1,4 +1,4 @@
-use Rattle.std.proofs.Common.{◌≡◌, sym, ap, subst}
+use Rattle.std.proofs.Common.{sym, subst}
 use Rattle.um_model.specs.Machine as model
 use Rattle.um_state.specs.View.{input_of, happening_of}
 use Rattle.um_engine.proofs.Stepped.{idle_done, idle_lacks}
