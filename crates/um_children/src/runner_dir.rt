@@ -368,9 +368,7 @@ impl<'a, R: Files + Processes + Clock> RunnerDir<'a, R> {
     /// Whether a number of which so much is known runs, as it did when it was looked at last: no signal waits for its pid, and nothing may have
     /// come since its files were read. So it is with most, and nothing is to be done for them.
     fn runs_on(&self, known: Known) -> bool {
-        known.is_settled()
-            && known.changes == Some(self.watch.changes())
-            && self.foreign.is_none()
+        known.is_settled() && known.changes == Some(self.watch.changes()) && self.foreign.is_none()
     }
 
     fn find(&mut self, number: ProcessNumber, claim: bool) -> Result<Fate, Trouble>
