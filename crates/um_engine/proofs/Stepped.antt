@@ -1,8 +1,7 @@
 -- A step, by what is planned of it.
 use Rattle.um_falling.specs.Carrying.{Adds}
-use Rattle.um_falling.specs.Carrying.{Adds}
 use Rattle.std.proofs.Common.{◌≡◌, ◌≢◌, ◌∙◌, ◌↔◌, ℕ, Bool, true, false, true≢false, List, [], Option, Some, None, is_some, refl, sym, ap, subst, inl}
-use Rattle.std.specs.Prelude.{IfSome, option_map}
+use Rattle.std.specs.Prelude.{IfErr, IfSome, IsErrAnd, Result, Ok, Err, absurd, option_map}
 use Rattle.std.proofs.lemmas.Option.{none-some, same_Some}
 use Rattle.um_model.specs.Machine as model
 use Rattle.um_model.specs.Machine.{State, Command, Happening, Booted, Event, Commanded, Happened, Follows, ends, reports, ticks, boots, end_of, obeys, Changes, Does, changes, Input, Reply, Done, Refuses, HasNoEffect, IsTooHeavy, TakesEffect, meets, Step, refused, crowded_out, HasNoRoom, idle, taken, reply_after, moment_of}
@@ -162,6 +161,12 @@ pub declined_for_room : (size t : ℕ) (s u : State) (command : Command) (action
     → (e ≢ NoMemory → (refused_of e ≡ no_room) × IsTooHeavy size u) → e ≢ NoMemory → Declines size t s command (refused_of e)
 declined_for_room size t s u command actions e takes heavy differs =
     let (is, h) = heavy differs in subst (Declines size t s command) (sym is) (for_room takes h)
+
+-- a refusal that is handed on is declined as the one that it is
+pub declined_is : {X : Type 0} (size t : ℕ) (s : State) (command : Command) (result : Result X Refusal) (e : Refusal) → IsErrAnd result (λ f. f ≡ e)
+    → (e ≢ NoMemory → Declines size t s command (refused_of e)) → IfErr result (λ f. f ≢ NoMemory → Declines size t s command (refused_of f))
+declined_is size t s command (Ok done) e h step = absurd h
+declined_is size t s command (Err f) e h step = subst (λ g. g ≢ NoMemory → Declines size t s command (refused_of g)) (sym h) step
 
 -- jobs that begin leave the tree in hand, and with it what is answered
 pub same_answer : (t : ℕ) (event : Event) (s u v : State) (first all : List Action) (reply : Reply) → reply ≡ reply_after event s.tree u.tree

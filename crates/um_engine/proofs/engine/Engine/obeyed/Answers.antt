@@ -4,8 +4,7 @@ use Rattle.um_state.specs.View.{action_of, command_of, reply_of}
 use Rattle.um_wire.specs.Refusal.{refused_of}
 use Rattle.um_wire.specs.declared.refusal.Refusal.TheVariants.{NoMemory}
 use Rattle.um_engine.specs.Planned.{Declines}
-use Rattle.um_engine.proofs.Stepped.{obeyed_so, declined_for_cause, declined_for_room, same_answer}
-use Rattle.um_engine.proofs.PlannedLaws.{refuses_on}
+use Rattle.um_engine.proofs.Stepped.{obeyed_so, declined_for_cause, declined_for_room, declined_is, same_answer}
 use Rattle.um_engine.proofs.engine.Engine.obeyed.Goals as goal
 
 pub returns-in_err-outcome-clause-refused : goal.returns-in_err-outcome-clause-refused
@@ -24,7 +23,7 @@ returns-in_err-check_room-clause-refused c =
     → Declines c.args.self.now.size c.args.moment s (command_of c.args.command.now) (refused_of c.in_err-check_room.field-0.0) =
     declined_for_room c.args.self.now.size c.args.moment s v (command_of c.args.command.now) (map action_of c.in_ok-served.actions.items) c.in_err-check_room.field-0.0 takes
     c.in_err-check_room.ensures.refused in
-    refuses_on (Declines c.args.self.now.size c.args.moment s (command_of c.args.command.now)) c.from_residual-in_err-check_room.result
+    declined_is c.args.self.now.size c.args.moment s (command_of c.args.command.now) c.from_residual-in_err-check_room.result
     c.in_err-check_room.field-0.0 c.from_residual-in_err-check_room.ensures.1 step
 
 pub returns-clause-taken : goal.returns-clause-taken
