@@ -1,4 +1,6 @@
 -- Parts of the definitions of files and their values, by names that laws and code use.
+-- Follows the manual pages of the definitions that they are parts of.
+-- The contracts of um_text to um_unit stand on this file.
 use Rattle.std.specs.Prelude.{ℕ, ◌*◌, ◌+◌, ◌-◌, ◌^◌, ◌&&◌, ◌||◌, Bool, true, false, not, List, [], ◌∷◌, ◌++◌, length, drop, reverse, take_while, fold, filter, filter_map, slice_index, map, bytes_eq, nat_lt, Option, None, Some, option_map, unwrap_or, Result, if◌then◌else◌, ◌==◌}
 use Rattle.std.specs.Char.{digit_value}
 use Rattle.std.specs.Ffi.{without_last}

@@ -211,6 +211,7 @@ pub record IsEnabledAs (tree : Tree) (asked : List ℕ) (answer : Enabling) : Ty
   pub decides : Decides linked ((path : List ℕ) × IsUnlinked tree asked path)
   pub fits : answer ≡ enabling_of asked (load tree asked) linked
 
+-- the layer is that of the administrator
 abbrev pub is_etc : Layer → Bool
 is_etc Etc = true
 is_etc other = false

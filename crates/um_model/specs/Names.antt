@@ -159,6 +159,7 @@ abbrev pub is_target_type : Option Suffix → Bool
 is_target_type (Some Target) = true
 is_target_type other = false
 
+-- the unit of this name is a target
 abbrev pub is_target : List ℕ → Bool
 is_target unit = is_target_type (suffix_of unit)
 

@@ -1,4 +1,6 @@
--- What the texts of values spell, told as relations; at most one meaning each is a law.
+-- What the texts of values spell, told as relations that have one meaning at most.
+-- Follows systemd.syntax(7), systemd.time(7) and systemd.service(5), "SuccessExitStatus=".
+-- The laws of um_value, and its contracts on time spans, stand on this file.
 use Rattle.std.specs.Prelude.{nat_le, ℕ, Option, Some, None, Bool, List, is_some, ◌≡◌, true, ◌≤◌, sum, false, codes, ◌<◌, ◌*◌, length, if◌then◌else◌}
 use Rattle.um_model.specs.Moments.{span_limit}
 use Rattle.um_model.specs.Values.{exit_of, is_end, words_for, decimal, is_decimal, time_front}

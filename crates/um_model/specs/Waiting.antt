@@ -1,4 +1,6 @@
 -- How many jobs of a unit wait, and that no more wait than before.
+-- Follows systemctl(1), "list-jobs".
+-- The cancelling of jobs, and what falls with a unit, stand on this file.
 use Rattle.std.specs.Prelude.{ℕ, Option, Some, ◌+◌, Bool, ◌||◌, ◌≤◌, List}
 use Rattle.um_model.specs.declared.jobs.JobState.{JobState}
 use Rattle.um_model.specs.declared.jobs.JobState.TheVariants.{Waiting}
@@ -7,6 +9,7 @@ use Rattle.um_model.specs.Machine.{is_waiting}
 use Rattle.um_model.specs.Jobs.{jobs_of_unit}
 use Rattle.um_model.specs.Service.{ByUnit}
 
+-- one job of a kind waits, or none
 abbrev pub waits : Option JobState → ℕ
 waits (Some Waiting) = 1
 waits other = 0
