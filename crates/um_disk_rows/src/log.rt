@@ -23,7 +23,7 @@ fn append<D: Disk>(
     records: &[&[u8]],
 ) {
     for record in records {
-        let fits = log.append(rt.alloc(), disk, record).expect(rt, "no record");
+        let fits = log.append(disk, record).expect(rt, "no record");
         same(rt, fits, true);
     }
 }
@@ -75,7 +75,7 @@ fn a_torn_record_is_absent(rt: HostRuntime) {
     let (disk, mut log) = empty(&rt);
     // the third call, the sync, fails
     let mut disk = Fuse::new(disk, 3);
-    let failed = log.append(rt.alloc(), &mut disk, &[9; 481]);
+    let failed = log.append(&mut disk, &[9; 481]);
     is_refused(&rt, failed, "E16 Device");
     let disk = disk.into_inner();
     same(&rt, (log.next, log.number), (START, 0));
@@ -106,16 +106,16 @@ fn each_call_makes_so_many_disk_calls(rt: HostRuntime) {
     same(&rt, disk.calls(), 2);
     append(&rt, &mut disk, &mut log, &[&[6; 481]]);
     same(&rt, disk.calls(), 5);
-    // of each record its first sector and its parts; behind them one sector
+    // of each record its parts; behind them one sector
     let wanted = [(START, 480), (START + 1, 481)];
     has_records(&rt, &mut disk, &log, &wanted, "the end");
-    same(&rt, disk.calls(), 11);
+    same(&rt, disk.calls(), 9);
 }
 
 /// Asserts that this record doesn't fit, and that nothing is written.
 fn does_not_fit(rt: &(impl AllocGlobal + Abort), disk: &mut MemDisk, log: &mut Log, record: &[u8]) {
     let before = (log.next, log.number, disk.syncs());
-    let fits = log.append(rt.alloc(), disk, record).expect(rt, "refused");
+    let fits = log.append(disk, record).expect(rt, "refused");
     same(rt, fits, false);
     same(rt, (log.next, log.number, disk.syncs()), before);
     let unsynced = disk.unsynced(rt.alloc()).expect(rt, "no memory");

@@ -3,9 +3,7 @@ use crate::answers::{change, filled, is_refused, same, same_at, sector_at};
 use std::fmt::Debug;
 use std::process::Abort;
 use um_sector::{Disk, Fuse, MemDisk};
-use um_slot::{
-    Body, Home, Layout, Slot, newest, read_superblock, superblock, write_first, write_other,
-};
+use um_slot::{Home, Layout, Slot, newest, read_superblock, superblock, write_first, write_other};
 
 /// Slots of 64 sectors, a log of 512.
 fn small(rt: &impl Abort) -> Layout {
@@ -43,8 +41,7 @@ fn empty(rt: &(impl AllocGlobal + Abort)) -> MemDisk {
 fn first(rt: &(impl AllocGlobal + Abort)) -> MemDisk {
     let mut disk = empty(rt);
     let bytes = vec![in rt.alloc(); 7u8; 37].expect(rt, "no memory");
-    let body = Body::new(rt.alloc(), bytes).expect(rt, "no memory");
-    let written = write_first(&mut disk, small(rt), &body).expect(rt, "refused");
+    let written = write_first(&mut disk, small(rt), &bytes).expect(rt, "refused");
     same(rt, written, Some(A1));
     disk
 }
@@ -137,7 +134,7 @@ const CRASHES: &[(u64, [usize; 2], Stored)] = &[
 fn a_crash_leaves_the_snapshot_before_or_the_new_one(rt: HostRuntime) {
     for (fails, picks, wanted) in CRASHES {
         let mut disk = Fuse::new(first(&rt), *fails);
-        let written = write_other(rt.alloc(), &mut disk, small(&rt), A1, &[8; 513]);
+        let written = write_other(&mut disk, small(&rt), A1, &[8; 513]);
         is_refused(&rt, written, "E16 Device");
         let disk = disk.into_inner();
         let mut left = disk.crash(rt.alloc(), picks).expect(&rt, "no memory");
@@ -149,7 +146,7 @@ fn a_crash_leaves_the_snapshot_before_or_the_new_one(rt: HostRuntime) {
 fn a_header_whose_write_failed_may_count(rt: HostRuntime) {
     for (pick, wanted) in &[(0, OLD), (1, NEW)] {
         let mut disk = Fuse::making(first(&rt), 4);
-        let written = write_other(rt.alloc(), &mut disk, small(&rt), A1, &[8; 513]);
+        let written = write_other(&mut disk, small(&rt), A1, &[8; 513]);
         is_refused(&rt, written, "E16 Device");
         let disk = disk.into_inner();
         let mut left = disk.crash(rt.alloc(), &[*pick]).expect(&rt, "no memory");
@@ -167,8 +164,7 @@ fn what_is_not_as_it_is_written_is_no_header(rt: HostRuntime) {
     has_none(&rt, &mut disk);
     // a first body that is too long is not written
     let long = vec![in rt.alloc(); 8u8; 32_257].expect(&rt, "no memory");
-    let body = Body::new(rt.alloc(), long).expect(&rt, "no memory");
-    let written = write_first(&mut disk, small(&rt), &body);
+    let written = write_first(&mut disk, small(&rt), &long);
     same(&rt, written.expect(&rt, "refused"), None);
     same(&rt, disk.syncs(), 0);
     has_none(&rt, &mut disk);
@@ -200,7 +196,7 @@ fn a_body_has_up_to_32_256_bytes_and_none_stands_behind_the_last_generation(rt: 
     for (size, before, wanted, snapshot, syncs) in BODIES {
         let body = vec![in rt.alloc(); 8u8; *size].expect(&rt, "no memory");
         let mut disk = first(&rt);
-        let written = write_other(rt.alloc(), &mut disk, small(&rt), *before, &body);
+        let written = write_other(&mut disk, small(&rt), *before, &body);
         match wanted {
             Ok(home) => same(&rt, written.expect(&rt, "refused"), *home),
             Err(why) => is_refused(&rt, written, why),
@@ -214,7 +210,7 @@ fn a_body_has_up_to_32_256_bytes_and_none_stands_behind_the_last_generation(rt: 
 fn each_call_makes_so_many_disk_calls_and_of_equal_generations_slot_a_counts(rt: HostRuntime) {
     let mut disk = Fuse::new(first(&rt), 0);
     // a body of two sectors, its sync, the header, its sync
-    let written = write_other(rt.alloc(), &mut disk, small(&rt), A1, &[8; 513]);
+    let written = write_other(&mut disk, small(&rt), A1, &[8; 513]);
     same(&rt, written.expect(&rt, "refused"), Some(B2));
     same(&rt, disk.calls(), 5);
     // two headers and the body
@@ -231,7 +227,7 @@ fn each_call_makes_so_many_disk_calls_and_of_equal_generations_slot_a_counts(rt:
 fn a_snapshot_is_written_over_a_log_that_is_not_synced(rt: HostRuntime) {
     let mut disk = first(&rt);
     disk.write(200, &filled(&[7])).expect(&rt, "not written");
-    let written = write_other(rt.alloc(), &mut disk, small(&rt), A1, &[8; 513]);
+    let written = write_other(&mut disk, small(&rt), A1, &[8; 513]);
     same(&rt, written.expect(&rt, "refused"), Some(B2));
     let unsynced = disk.unsynced(rt.alloc()).expect(&rt, "no memory");
     same(&rt, unsynced, Vec::new(rt.alloc()));

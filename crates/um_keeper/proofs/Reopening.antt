@@ -29,7 +29,7 @@ use Rattle.um_sector.specs.Refused.{IsLost}
 use Rattle.um_wire.specs.declared.refusal.Refusal.{Refusal}
 use Rattle.um_wire.specs.declared.refusal.Refusal.TheVariants.{Damaged, Device, NotFormatted, GenerationsSpent, OtherLayout}
 use Rattle.um_keeper.specs.Keeping.{Keeps}
-use Rattle.um_keeper.specs.Opening.{HasLayout, IsStart, Replays, no_more, and_then, IsNoInput, here, later, IsUnread, no_sector, no_store, other_format, no_layout, no_header, no_state, no_input, IsSpent, IsUntaken, unread, spent, IsNextOf, IsTakenUp, IsRead, IsSomeStore, IsStill, IsAsBefore, StaysFor, StaysForOne, IsUnwritten}
+use Rattle.um_keeper.specs.Opening.{HasLayout, IsStart, Replays, no_more, and_then, IsNoInput, here, later, IsUnread, no_sector, no_store, other_format, no_layout, no_header, no_state, no_input, IsSpent, IsUntaken, unread, spent, IsNextOf, IsTakenUp, IsBehind, IsRead, IsSomeStore, IsStill, IsAsBefore, StaysFor, StaysForOne, IsUnwritten}
 
 -- ---- sector 0
 
@@ -283,27 +283,6 @@ pub header_unread : (count : ℕ) (old new : Past) (layout : Layout) (e : Refusa
 header_unread count old new layout e has same is none =
     subst (IsUnread count (seen old)) (sym is) (no_header has ((newest_none layout (seen old)).1 (subst (λ (p : Past). sectors.HasNoHeader layout (seen p)) same none)))
 
--- the records of such a disk
-pub records_there : (old new : Past) (layout : Layout) (generation : ℕ) (records : List (List ℕ)) → new ≡ old → sectors.HasRecords layout generation (seen new) records
-    → records_of layout generation (seen old) ≡ records
-records_there old new layout generation records same are =
-    only_records layout generation (seen old) records (subst (λ (p : Past). sectors.HasRecords layout generation (seen p) records) same are)
-
-pub record_no_device : {places : List (ℕ × List ℕ)} {e : Refusal} → IsNoInput places e → ¬ (e ≡ Device)
-record_no_device (here is) same = absurd (cc)
-record_no_device (later is more) same = record_no_device more same
-
--- what was read of such a disk
-pub read_there : (layout : Layout) (image : Image) (slot : Slot) (generation count : ℕ) (body : List ℕ) (records : List (List ℕ))
-    → sectors.newest_of layout image ≡ Some (record { slot = slot; generation = generation; body = body }) → records_of layout generation image ≡ records
-    → count ≡ length records → IsRead layout image (record { generation = generation; records = count })
-read_there layout image slot generation count body records newest are counted = record {
-  newest = record { slot = slot; generation = generation; body = body };
-  is_newest = newest;
-  generation_is = refl;
-  records_are = counted ∙ ap (λ l. length l) (sym are);
-}
-
 -- ---- a value that has all the bytes
 
 nothing_whole : {V : Type 0} (o : Option (V × List ℕ)) (v : V) → nothing_left o ≡ Some v → o ≡ Some (v, [])
@@ -415,6 +394,14 @@ a_taken_read count layout image slot generation greatest s e t top early (spent 
     let (inputs, comes) = taken_comes t in
     let last = store_spent count layout image t.has.room slot generation t.body t.start s inputs t.has.first t.newest comes greatest top is in
     omega (arith, last, early)
+
+-- the greatest generation of a disk that reads left as it was
+pub greatest_of : (layout l : Layout) (generation n number next greatest : ℕ) (new old : Past) → l ≡ layout → n ≡ generation → new ≡ old → IsBehind layout generation (seen old) number next
+    → (IsBehind l n (seen new) number next → IsGreatest l (seen new) n greatest) → IsGreatest layout (seen new) generation greatest
+greatest_of layout l generation n number next greatest new old on of same behind top =
+    subst (λ (z : Layout). IsGreatest z (seen new) generation greatest) on (subst (λ m. IsGreatest l (seen new) m greatest) of
+    (top (subst (λ (z : Layout). IsBehind z n (seen new) number next) (sym on) (subst (λ m. IsBehind layout m (seen new) number next) (sym of)
+    (subst (λ p. IsBehind layout generation (seen p) number next) (sym same) behind)))))
 
 -- the state that was taken up, one generation behind the greatest
 pub next_of : (count : ℕ) (image : Image) (from layout : Layout) (before slot : Slot) (earlier greatest generation : ℕ) (s t : State) → t ≡ s → layout ≡ from → slot ≡ other before

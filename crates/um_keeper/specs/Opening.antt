@@ -10,7 +10,7 @@ use Rattle.um_model.specs.Servable.{IsServable}
 use Rattle.um_model.specs.Service.{Action}
 use Rattle.um_model.specs.Stands.{StandsFor, IsStoreOf}
 use Rattle.um_model.specs.StateSpellings.{state_at, FitState}
-use Rattle.um_model.specs.Store.{store_name, store_format, superblock, slot_start, body_limit, log_start, store_sectors, Newest, newest_of, records_of, placed}
+use Rattle.um_model.specs.Store.{store_name, store_format, superblock, slot_start, body_limit, log_start, store_sectors, Newest, newest_of, records_of, sectors_of, placed}
 use Rattle.um_model.specs.Store as sectors
 use Rattle.um_model.specs.declared.layout.Layout.{Layout}
 use Rattle.um_model.specs.declared.layout.Slot.{Slot}
@@ -58,6 +58,11 @@ pub data IsUnread (count : ℕ) (image : Image) : Refusal → Type 0 where
       → ((s : State) → ¬ IsStart layout n.body s) → IsUnread count image (Damaged (slot_start layout n.slot + 1))
   no_input : {layout : Layout} {n : Newest} {s : State} {e : Refusal} → HasLayout count image layout → newest_of layout image ≡ Some n → IsStart layout n.body s
       → IsNoInput (placed (log_start layout n.generation) (records_of layout n.generation image)) e → IsUnread count image e
+
+-- all records of the generation lie before this number and this place
+pub record IsBehind (layout : Layout) (generation : ℕ) (image : Image) (number next : ℕ) : Type 0 where
+  pub count : number ≡ length (records_of layout generation image)
+  pub place : next ≡ log_start layout generation + sectors_of (records_of layout generation image)
 
 -- What a read gives is taken up: a store of this layout on the disk, whose newest snapshot and its records come to the state.
 pub record IsTakenUp (count : ℕ) (image : Image) (layout : Layout) (slot : Slot) (generation : ℕ) (s : State) : Type 0 where

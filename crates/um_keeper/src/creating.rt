@@ -12,7 +12,7 @@ use crate::keeper::state_bytes;
 use std::alloc::Global;
 use um_model::{Layout, SECTOR_BYTES, Slot};
 use um_sector::{Disk, Fault, Sector, write_blank, write_run_synced};
-use um_slot::{Body, superblock, write_first};
+use um_slot::{superblock, write_first};
 use um_state::State;
 use um_wire::Refusal;
 
@@ -46,7 +46,7 @@ fn wipe<D: Disk>(disk: &mut D, layout: Layout) -> Result<(), Fault>
 }
 
 /// Writes the store of the empty state, whose bytes the body has.
-fn lay<D: Disk>(disk: &mut D, layout: Layout, body: &Body) -> Result<(), Refusal>
+fn lay<D: Disk>(disk: &mut D, layout: Layout, body: &[u8]) -> Result<(), Refusal>
     requires empty { body.now ≡ state_spelling empty_state }
     ensures during { IsTrue (D.honest disk.old) → WhileCreated layout (D.past disk.old) (D.past disk.new) }
     ensures ok { OnOk result (IsTrue (D.honest disk.old) → Images (D.past disk.new) (IsEmptyStore layout)) }
@@ -81,7 +81,6 @@ pub fn create<D: Disk>(alloc: Global, disk: &mut D, layout: Layout) -> Result<()
     ensures honest { D.honest disk.new ≡ D.honest disk.old }
 {
     // All that takes memory comes before the first write.
-    let bytes = state_bytes(alloc, &State::empty(alloc))?;
-    let body = Body::new(alloc, bytes)?;
+    let body = state_bytes(alloc, &State::empty(alloc))?;
     lay(disk, layout, &body)
 }

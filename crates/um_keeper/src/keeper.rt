@@ -160,13 +160,7 @@ impl<D: Disk> Keeper<D> {
             return Err(Refusal::GenerationsSpent);
         }
         let body = state_bytes(self.alloc, self.engine.state())?;
-        match write_other(
-            self.alloc,
-            &mut self.disk,
-            self.log.layout,
-            self.home,
-            &body,
-        ) {
+        match write_other(&mut self.disk, self.log.layout, self.home, &body) {
             Ok(Some(home)) => {
                 self.home = home;
                 self.log = Log::new(self.log.layout, home.generation);
@@ -231,7 +225,7 @@ impl<D: Disk> Keeper<D> {
         ensures size { D.size (disk_in self.new) ≡ D.size (disk_in self.old) }
         ensures honest { D.honest (disk_in self.new) ≡ D.honest (disk_in self.old) }
     {
-        match self.log.append(self.alloc, &mut self.disk, bytes) {
+        match self.log.append(&mut self.disk, bytes) {
             Ok(true) => {
                 let (reply, actions, back) = self.engine.commit(next);
                 Ok((Receipt::new(reply, actions), back))

@@ -3,9 +3,8 @@ ghost use Rattle.std.specs.Option.{option_map};
 ghost use Rattle.um_engine.specs.Engine.{state_in, size_in};
 ghost use Rattle.um_keeper.specs.Keeping.{Keeps};
 ghost use Rattle.um_keeper.specs.Opening.{HasLayout, IsStart, Leads, Replays, IsNoInput, IsUnread, IsUntaken, IsTakenUp, IsNextOf, IsRead, IsKept, IsSomeStore, IsAsBefore};
-ghost use Rattle.um_keeper.specs.Opening.{IsStill, StaysFor, StaysForOne, IsUnwritten};
+ghost use Rattle.um_keeper.specs.Opening.{IsBehind, IsStill, StaysFor, StaysForOne, IsUnwritten};
 ghost use Rattle.um_log.specs.Greatest.{IsGreatest};
-ghost use Rattle.um_log.specs.Reading.{bytes_of, places_of};
 ghost use Rattle.um_model.specs.Bytes.{nothing_left};
 ghost use Rattle.um_model.specs.Disk.{Image, seen, Images, IsSettled, During};
 ghost use Rattle.um_model.specs.Disk.{one_more};
@@ -13,7 +12,7 @@ ghost use Rattle.um_model.specs.InputSpellings.{input_at, FitInput};
 ghost use Rattle.um_model.specs.Machine as model;
 ghost use Rattle.um_model.specs.Servable.{IsServable};
 ghost use Rattle.um_model.specs.StateSpellings.{state_at, FitState};
-ghost use Rattle.um_model.specs.Store.{body_limit, store_sectors, other, log_start};
+ghost use Rattle.um_model.specs.Store.{body_limit, store_sectors, other, log_start, placed, records_of};
 ghost use Rattle.um_model.specs.Stands.{StandsFor, IsStoreOf};
 ghost use Rattle.um_model.specs.declared.layout.Layout as declared;
 ghost use Rattle.um_model.specs.declared.layout.Slot as declared_slot;
@@ -24,7 +23,7 @@ ghost use Rattle.um_state.specs.View.{state_of, input_of};
 use crate::keeper::{Keeper, OpenedStore};
 use std::alloc::{AllocError, Global};
 use um_engine::Engine;
-use um_log::{Log, Record, greatest_generation, scan};
+use um_log::Log;
 use um_model::Layout;
 use um_sector::{Disk, SECTOR_BYTES, Sector};
 use um_slot::{Home, newest, read_superblock, write_other};
@@ -32,13 +31,13 @@ use um_state::{Input, State};
 use um_wire::{Refusal, read_whole};
 
 /// What was taken up of a disk: the layout of its store, where the newest snapshot stands, the engine in the state that the store stands for,
-/// and how many records were replayed to it.
+/// and the log behind the records that were replayed to it.
 #[derive(Drop)]
 struct Found {
     layout: Layout,
     home: Home,
     engine: Engine,
-    records: usize,
+    log: Log,
 }
 
 /// What a keeper needs beside its disk.
@@ -132,20 +131,34 @@ fn retake(engine: &mut Engine, input: &Input) -> Result<(), AllocError>
     Ok(())
 }
 
-/// Takes the steps of the inputs that records spell, one behind the other.
+/// Takes the steps of the inputs that the records of a log spell, one behind the other, each as it is read.
 ///
-/// E18 with the first sector of the first record that spells none; E15.
-fn replay(alloc: Global, engine: &mut Engine, records: &[Record]) -> Result<(), Refusal>
+/// E18 with the first sector of the first record that spells none; E15; E16 where a read fails.
+fn replay<D: Disk>(
+    alloc: Global,
+    disk: &mut D,
+    engine: &mut Engine,
+    log: &mut Log,
+) -> Result<(), Refusal>
     requires kept { IsServable (size_in engine.old) (state_in engine.old) × FitState (state_in engine.old) }
-    ensures ok { OnOk result (Replays (size_in engine.old) (bytes_of records.now) (state_in engine.old) (state_in engine.new)) }
+    requires anew { (log.old.number ≡ 0) × (log.old.next ≡ log_start log.old.layout log.old.generation) }
+    ensures ok { OnOk result (IsTrue (D.honest disk.old) → Replays (size_in engine.old) (records_of log.old.layout log.old.generation (seen (D.past disk.old)))
+        (state_in engine.old) (state_in engine.new)) }
+    ensures all { OnOk result (IsTrue (D.honest disk.old) → IsBehind log.old.layout log.old.generation (seen (D.past disk.old)) log.new.number log.new.next) }
     ensures kept { OnOk result (IsServable (size_in engine.new) (state_in engine.new) × FitState (state_in engine.new)) }
-    ensures err { IfErr result (λ e. (e ≡ Refusal.NoMemory) ⊎ IsNoInput (places_of records.now) e) }
+    ensures err { IfErr result (λ e. IsLost e ⊎ (IsTrue (D.honest disk.old)
+        → IsNoInput (placed (log_start log.old.layout log.old.generation) (records_of log.old.layout log.old.generation (seen (D.past disk.old)))) e)) }
     ensures size { size_in engine.new ≡ size_in engine.old }
+    ensures of { (log.new.layout ≡ log.old.layout) × (log.new.generation ≡ log.old.generation) }
+    ensures past { IsTrue (D.honest disk.old) → D.past disk.new ≡ D.past disk.old }
+    ensures failures { CountsDevice result (D.failures disk.old) (D.failures disk.new) }
+    ensures disk_size { D.size disk.new ≡ D.size disk.old }
+    ensures honest { D.honest disk.new ≡ D.honest disk.old }
 {
-    for record in records {
-        let Some(input) = read_input(alloc, &record.bytes)? else {
+    while let Some(found) = log.read_next(alloc, disk)? {
+        let Some(input) = read_input(alloc, &found.bytes)? else {
             return Err(Refusal::Damaged {
-                sector: record.first as u64,
+                sector: found.first as u64,
             });
         };
         retake(engine, &input)?;
@@ -158,9 +171,11 @@ fn take_up<D: Disk>(alloc: Global, disk: &mut D) -> Result<Found, Refusal>
     ensures found { IfOk result (λ f. IsTrue (D.honest disk.old)
         → IsTakenUp (D.size disk.old) (seen (D.past disk.old)) f.layout f.home.slot f.home.generation (state_in f.engine)) }
     ensures read { IfOk result (λ f. IsTrue (D.honest disk.old)
-        → IsRead f.layout (seen (D.past disk.old)) (record { generation = f.home.generation; records = f.records })) }
+        → IsRead f.layout (seen (D.past disk.old)) (record { generation = f.home.generation; records = f.log.number })) }
     ensures kept { IfOk result (λ f. IsKept f.layout (size_in f.engine) (state_in f.engine)) }
     ensures room { IfOk result (λ f. store_sectors f.layout ≤ D.size disk.old) }
+    ensures of { IfOk result (λ f. (f.log.layout ≡ f.layout) × (f.log.generation ≡ f.home.generation)) }
+    ensures behind { IfOk result (λ f. IsTrue (D.honest disk.old) → IsBehind f.layout f.home.generation (seen (D.past disk.old)) f.log.number f.log.next) }
     ensures err { IfErr result (λ e. IsLost e ⊎ (IsTrue (D.honest disk.old) → IsUnread (D.size disk.old) (seen (D.past disk.old)) e)) }
     ensures past { IsTrue (D.honest disk.old) → D.past disk.new ≡ D.past disk.old }
     ensures failures { CountsDevice result (D.failures disk.old) (D.failures disk.new) }
@@ -174,28 +189,30 @@ fn take_up<D: Disk>(alloc: Global, disk: &mut D) -> Result<Found, Refusal>
         let sector = layout.slot_start(home.slot) as u64 + 1;
         return Err(Refusal::Damaged { sector });
     };
-    let records = scan(alloc, disk, layout, home.generation)?;
-    replay(alloc, &mut engine, &records)?;
+    let mut log = Log::new(layout, home.generation);
+    replay(alloc, disk, &mut engine, &mut log)?;
     Ok(Found {
         layout,
         home,
         engine,
-        records: records.len(),
+        log,
     })
 }
 
 /// The greatest generation that stands on the disk of a store, which isn't the last there is: E20 where it is.
-fn greatest_but_last<D: Disk>(disk: &mut D, layout: Layout, newest: u64) -> Result<u64, Refusal>
-    ensures greatest { IfOk result (λ n. IsTrue (D.honest disk.old) → IsGreatest layout (seen (D.past disk.old)) newest n) }
+fn greatest_but_last<D: Disk>(disk: &mut D, log: &Log) -> Result<u64, Refusal>
+    ensures greatest { IfOk result (λ n. IsTrue (D.honest disk.old) → IsBehind log.now.layout log.now.generation (seen (D.past disk.old)) log.now.number log.now.next
+        → IsGreatest log.now.layout (seen (D.past disk.old)) log.now.generation n) }
     ensures early { IfOk result (λ n. n < 2 ^ 64 - 1) }
     ensures err { IfErr result (λ e. (e ≡ Refusal.Device) ⊎ ((e ≡ Refusal.GenerationsSpent)
-        × (IsTrue (D.honest disk.old) → IsGreatest layout (seen (D.past disk.old)) newest (2 ^ 64 - 1)))) }
+        × (IsTrue (D.honest disk.old) → IsBehind log.now.layout log.now.generation (seen (D.past disk.old)) log.now.number log.now.next
+        → IsGreatest log.now.layout (seen (D.past disk.old)) log.now.generation (2 ^ 64 - 1)))) }
     ensures past { IsTrue (D.honest disk.old) → D.past disk.new ≡ D.past disk.old }
     ensures failures { CountsDevice result (D.failures disk.old) (D.failures disk.new) }
     ensures size { D.size disk.new ≡ D.size disk.old }
     ensures honest { D.honest disk.new ≡ D.honest disk.old }
 {
-    let greatest = greatest_generation(disk, layout, newest)?;
+    let greatest = log.greatest_generation(disk)?;
     if greatest == u64::MAX {
         return Err(Refusal::GenerationsSpent);
     }
@@ -217,7 +234,7 @@ fn renew<D: Disk>(alloc: Global, disk: &mut D, found: Found, greatest: u64) -> R
         → Keeps (D.past disk.new) (D.size disk.new) held.log.layout held.home.slot held.home.generation held.log.number held.log.next (state_in held.engine)) }
     ensures held { IfOk result (λ held. (state_in held.engine ≡ state_in found.engine) × (size_in held.engine ≡ size_in found.engine)
         × (held.log.layout ≡ found.layout) × (held.home.slot ≡ other found.home.slot) × (held.home.generation ≡ greatest + 1) × (held.log.generation ≡ held.home.generation) × (held.log.number ≡ 0)
-        × (held.opened ≡ record { generation = found.home.generation; records = found.records })) }
+        × (held.opened ≡ record { generation = found.home.generation; records = found.log.number })) }
     ensures failures { CountsDevice result (D.failures disk.old) (D.failures disk.new) }
     ensures err { IfErr result IsLost }
     ensures size { D.size disk.new ≡ D.size disk.old }
@@ -229,7 +246,7 @@ fn renew<D: Disk>(alloc: Global, disk: &mut D, found: Found, greatest: u64) -> R
         slot: found.home.slot,
         generation: greatest,
     };
-    let Some(home) = write_other(alloc, disk, found.layout, last, &body)? else {
+    let Some(home) = write_other(disk, found.layout, last, &body)? else {
         unreachable!();
     };
     Ok(Held {
@@ -238,7 +255,7 @@ fn renew<D: Disk>(alloc: Global, disk: &mut D, found: Found, greatest: u64) -> R
         log: Log::new(found.layout, home.generation),
         opened: OpenedStore {
             generation: found.home.generation,
-            records: found.records,
+            records: found.log.number as usize,
         },
     })
 }
@@ -262,7 +279,7 @@ pub(crate) fn recover<D: Disk>(alloc: Global, disk: &mut D) -> Result<Held, Refu
 {
     disk.sync()?;
     let found = take_up(alloc, disk)?;
-    let greatest = greatest_but_last(disk, found.layout, found.home.generation)?;
+    let greatest = greatest_but_last(disk, &found.log)?;
     renew(alloc, disk, found, greatest)
 }
 

@@ -1,6 +1,6 @@
 -- What the greatest generation is that stands on the disk of a store: that of its newest snapshot, or one that a sector of the log tells.
 -- No manual page has it: it is the project's own format (docs/FORMATS.md, "The store on its disk").
--- um_log's `greatest_generation` and the opening of a store stand on this file.
+-- `Log::greatest_generation` and the opening of a store stand on this file.
 use Rattle.std.specs.Prelude.{◌≡◌, ◌⊎◌, ◌+◌, ◌<◌, ◌≤◌, ℕ}
 use Rattle.um_model.specs.Disk.{Image}
 use Rattle.um_model.specs.declared.layout.Layout.{Layout}

@@ -8,7 +8,6 @@ mod read;
 mod sectors;
 mod write;
 
-pub use greatest::greatest_generation;
 pub use laws::{
     records_are_told, records_have_one_reading, unread_sectors_of_the_log_do_not_count,
 };

@@ -1,7 +1,8 @@
 -- What a slot and the store are while a snapshot is written into it, and behind that.
 -- No manual page has it: it is the project's own format (docs/FORMATS.md, "The store on its disk").
 -- The writing of slots and the keeper stand on this file.
-use Rattle.std.specs.Prelude.{◌≡◌, ◌⊎◌, ◌+◌, ◌*◌, ◌<◌, ◌≤◌, ℕ, List, [], length, take, drop}
+use Rattle.std.specs.Prelude.{◌≡◌, ◌⊎◌, ◌+◌, ◌*◌, ◌<◌, ◌≤◌, ℕ, List, [], length, map, take, drop}
+use Rattle.std.specs.List.{range_with_len}
 use Rattle.um_model.specs.Disk.{Sector, Image, Past, IsImage}
 use Rattle.um_model.specs.Store.{sector_bytes, filled, superblock, slot_start, other, log_start, header_sector, sector_count, records_of, IsNewest, IsFree, IsStore}
 use Rattle.um_model.specs.declared.layout.Layout.{Layout}
@@ -10,6 +11,10 @@ use Rattle.um_model.specs.declared.layout.Slot.{Slot}
 -- a body's sectors as they are written, each by its place
 abbrev pub body_sector : List ℕ → ℕ → Sector
 body_sector body i = filled (take sector_bytes (drop (sector_bytes * i) body))
+
+-- all of them, in their order
+abbrev pub body_run : List ℕ → List Sector
+body_run body = map (body_sector body) (range_with_len 0 (sector_count (length body)))
 
 -- a body and its header stand in a slot, as they are written
 pub record IsSnapshot (layout : Layout) (image : Image) (slot : Slot) (generation : ℕ) (body : List ℕ) : Type 0 where

@@ -5,7 +5,7 @@ use Rattle.um_model.proofs.DiskLaws.{settled_after_sync}
 use Rattle.um_log.specs.Greatest.{IsGreatest}
 use Rattle.um_keeper.specs.Opening.{IsUnread, IsUntaken, unread, spent, IsTakenUp, IsRead, StaysFor}
 use Rattle.um_keeper.proofs.Results.{err_same, if_ok_from, if_err_from, if_err_all, or_more}
-use Rattle.um_keeper.proofs.Reopening.{sync_unwritten, stays_of, next_of}
+use Rattle.um_keeper.proofs.Reopening.{sync_unwritten, stays_of, next_of, greatest_of}
 use Rattle.um_keeper.proofs.opening.recover.Goals as goal
 
 -- ---- refusals before anything is written
@@ -51,7 +51,8 @@ returns-in_err-greatest-clause-err g c =
       taken =
           subst (λ n. IsTakenUp n (seen p0) found.layout found.home.slot found.home.generation (state_in found.engine)) c.sync.ensures.size
           (subst (λ p. IsTakenUp (g.D.Disk.size c.sync.new.self) (seen p) found.layout found.home.slot found.home.generation (state_in found.engine)) synced_it (c.in_ok-found.ensures.found h1));
-      last = subst (λ p. IsGreatest found.layout (seen p) found.home.generation (2 ^ 64 - 1)) (c.take_up.ensures.past h1 ∙ synced_it) (last.1 (c.take_up.ensures.honest ∙ h1));
+      last = subst (λ p. IsGreatest found.layout (seen p) found.home.generation (2 ^ 64 - 1)) (c.take_up.ensures.past h1 ∙ synced_it) (greatest_of found.layout found.log.layout found.home.generation found.log.generation found.log.number found.log.next (2 ^ 64 - 1) (g.D.Disk.past c.take_up.new.disk) (g.D.Disk.past c.sync.new.self)
+          c.in_ok-found.ensures.of.0 c.in_ok-found.ensures.of.1 (c.take_up.ensures.past h1) (c.in_ok-found.ensures.behind h1) (last.1 (c.take_up.ensures.honest ∙ h1)));
     }))))
     c.in_err-greatest.ensures.err)
 
@@ -73,7 +74,8 @@ returns-clause-stays g c =
     (stays_of (g.D.Disk.size c.greatest_but_last.new.disk) found.layout found.home.slot found.home.generation greatest (state_in found.engine) p0 (g.D.Disk.past c.greatest_but_last.new.disk) (g.D.Disk.past c.renew.new.disk) same
     (subst (λ n. IsTakenUp n (seen p0) found.layout found.home.slot found.home.generation (state_in found.engine)) (sym (c.greatest_but_last.ensures.size ∙ c.take_up.ensures.size))
     (subst (λ p. IsTakenUp (g.D.Disk.size c.sync.new.self) (seen p) found.layout found.home.slot found.home.generation (state_in found.engine)) synced_it (c.in_ok-found.ensures.found h1)))
-    (subst (λ p. IsGreatest found.layout (seen p) found.home.generation greatest) (c.take_up.ensures.past h1 ∙ synced_it) (c.in_ok-greatest.ensures.greatest h2))
+    (subst (λ p. IsGreatest found.layout (seen p) found.home.generation greatest) (c.take_up.ensures.past h1 ∙ synced_it) (greatest_of found.layout found.log.layout found.home.generation found.log.generation found.log.number found.log.next greatest (g.D.Disk.past c.take_up.new.disk) (g.D.Disk.past c.sync.new.self)
+    c.in_ok-found.ensures.of.0 c.in_ok-found.ensures.of.1 (c.take_up.ensures.past h1) (c.in_ok-found.ensures.behind h1) (c.in_ok-greatest.ensures.greatest h2)))
     (c.renew.ensures.during (c.greatest_but_last.ensures.honest ∙ h2)))))
     c.renew.ensures.held
 
@@ -97,7 +99,8 @@ returns-clause-unwritten g c =
             stays_of (g.D.Disk.size c.greatest_but_last.new.disk) found.layout found.home.slot found.home.generation greatest (state_in found.engine) p0 (g.D.Disk.past c.greatest_but_last.new.disk) (g.D.Disk.past c.renew.new.disk) same
             (subst (λ n. IsTakenUp n (seen p0) found.layout found.home.slot found.home.generation (state_in found.engine)) (sym (c.greatest_but_last.ensures.size ∙ c.take_up.ensures.size))
             (subst (λ p. IsTakenUp (g.D.Disk.size c.sync.new.self) (seen p) found.layout found.home.slot found.home.generation (state_in found.engine)) synced_it (c.in_ok-found.ensures.found h1)))
-            (subst (λ p. IsGreatest found.layout (seen p) found.home.generation greatest) (c.take_up.ensures.past h1 ∙ synced_it) (c.in_ok-greatest.ensures.greatest h2))
+            (subst (λ p. IsGreatest found.layout (seen p) found.home.generation greatest) (c.take_up.ensures.past h1 ∙ synced_it) (greatest_of found.layout found.log.layout found.home.generation found.log.generation found.log.number found.log.next greatest (g.D.Disk.past c.take_up.new.disk) (g.D.Disk.past c.sync.new.self)
+            c.in_ok-found.ensures.of.0 c.in_ok-found.ensures.of.1 (c.take_up.ensures.past h1) (c.in_ok-found.ensures.behind h1) (c.in_ok-greatest.ensures.greatest h2)))
             (c.renew.ensures.during (c.greatest_but_last.ensures.honest ∙ h2));
       },
     ))
@@ -118,7 +121,8 @@ returns-clause-ok g c =
     (subst (λ n. IsTakenUp n (seen (g.D.Disk.past c.greatest_but_last.new.disk)) found.layout found.home.slot found.home.generation (state_in found.engine)) (sym (c.greatest_but_last.ensures.size ∙ c.take_up.ensures.size))
     (subst (λ p. IsTakenUp (g.D.Disk.size c.sync.new.self) (seen p) found.layout found.home.slot found.home.generation (state_in found.engine))
     (sym (c.greatest_but_last.ensures.past h2 ∙ c.take_up.ensures.past h1)) (c.in_ok-found.ensures.found h1)))
-    (subst (λ p. IsGreatest found.layout (seen p) found.home.generation greatest) (sym (c.greatest_but_last.ensures.past h2)) (c.in_ok-greatest.ensures.greatest h2)))
+    (subst (λ p. IsGreatest found.layout (seen p) found.home.generation greatest) (sym (c.greatest_but_last.ensures.past h2)) (greatest_of found.layout found.log.layout found.home.generation found.log.generation found.log.number found.log.next greatest (g.D.Disk.past c.take_up.new.disk) (g.D.Disk.past c.sync.new.self)
+    c.in_ok-found.ensures.of.0 c.in_ok-found.ensures.of.1 (c.take_up.ensures.past h1) (c.in_ok-found.ensures.behind h1) (c.in_ok-greatest.ensures.greatest h2))))
     c.renew.ensures.ok
 
 pub returns-clause-taken : goal.returns-clause-taken
@@ -133,7 +137,8 @@ returns-clause-taken g c =
     let synced_it : g.D.Disk.past c.sync.new.self ≡ after synced p0 = c.in_ok-sync.ensures.past h in
     next_of (g.D.Disk.size c.args.disk.now) (seen p0) found.layout held.log.layout found.home.slot held.home.slot found.home.generation greatest held.home.generation (state_in found.engine) (state_in held.engine)
     facts.0 facts.2 facts.3 facts.4
-    (subst (λ p. IsGreatest found.layout (seen p) found.home.generation greatest) (c.take_up.ensures.past h1 ∙ synced_it) (c.in_ok-greatest.ensures.greatest h2))
+    (subst (λ p. IsGreatest found.layout (seen p) found.home.generation greatest) (c.take_up.ensures.past h1 ∙ synced_it) (greatest_of found.layout found.log.layout found.home.generation found.log.generation found.log.number found.log.next greatest (g.D.Disk.past c.take_up.new.disk) (g.D.Disk.past c.sync.new.self)
+    c.in_ok-found.ensures.of.0 c.in_ok-found.ensures.of.1 (c.take_up.ensures.past h1) (c.in_ok-found.ensures.behind h1) (c.in_ok-greatest.ensures.greatest h2)))
     (subst (λ n. IsTakenUp n (seen p0) found.layout found.home.slot found.home.generation (state_in found.engine)) c.sync.ensures.size
     (subst (λ p. IsTakenUp (g.D.Disk.size c.sync.new.self) (seen p) found.layout found.home.slot found.home.generation (state_in found.engine)) synced_it (c.in_ok-found.ensures.found h1))))
     c.renew.ensures.held
@@ -148,5 +153,5 @@ returns-clause-opened g c =
     let synced_it : g.D.Disk.past c.sync.new.self ≡ after synced p0 = c.in_ok-sync.ensures.past h in
     subst (λ l. IsRead l (seen p0) held.opened) (sym facts.2)
     (subst (IsRead found.layout (seen p0)) (sym facts.7)
-    (subst (λ p. IsRead found.layout (seen p) (record { generation = found.home.generation; records = found.records })) synced_it (c.in_ok-found.ensures.read h1))))
+    (subst (λ p. IsRead found.layout (seen p) (record { generation = found.home.generation; records = found.log.number })) synced_it (c.in_ok-found.ensures.read h1))))
     c.renew.ensures.held

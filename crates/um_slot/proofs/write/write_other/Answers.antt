@@ -13,9 +13,6 @@ returns-then-home-eq18446744073709551615-clause-during g c h before stores = bef
 pub returns-then-body-body_limit-clause-during : goal.returns-then-body-body_limit-clause-during
 returns-then-body-body_limit-clause-during g c h before stores = before_other (g.D.Disk.past c.args.disk.now) stores c.args.body.now
 
-pub returns-in_err-run-clause-during : goal.returns-in_err-run-clause-during
-returns-in_err-run-clause-during g c h before stores = before_other (g.D.Disk.past c.args.disk.now) stores c.args.body.now
-
 pub returns-in_err-write_slot-clause-during : goal.returns-in_err-write_slot-clause-during
 returns-in_err-write_slot-clause-during g c h before stores =
     let old = g.D.Disk.past c.args.disk.now in
@@ -47,9 +44,6 @@ returns-then-home-eq18446744073709551615-clause-during_newest g c h newest befor
 
 pub returns-then-body-body_limit-clause-during_newest : goal.returns-then-body-body_limit-clause-during_newest
 returns-then-body-body_limit-clause-during_newest g c h newest before above all = before_newest (g.D.Disk.past c.args.disk.now) above all c.args.body.now
-
-pub returns-in_err-run-clause-during_newest : goal.returns-in_err-run-clause-during_newest
-returns-in_err-run-clause-during_newest g c h newest before above all = before_newest (g.D.Disk.past c.args.disk.now) above all c.args.body.now
 
 pub returns-in_err-write_slot-clause-during_newest : goal.returns-in_err-write_slot-clause-during_newest
 returns-in_err-write_slot-clause-during_newest g c h newest before above all =
