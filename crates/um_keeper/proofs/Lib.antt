@@ -3,5 +3,6 @@ pub mod Kept
 mod Reopening
 mod Repeating
 mod Results
+mod Spent
 mod Wiping
 mod Meanwhile

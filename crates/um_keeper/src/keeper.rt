@@ -1,4 +1,4 @@
-ghost use Rattle.std.specs.Prelude.{◌≡◌, ◌≢◌, ◌⊎◌, ◌↔◌, ◌+◌, ◌-◌, ◌^◌, ◌<◌, ◌≤◌, ◌∷◌, [], true, false, length, Err, Some, IfOk, IfErr, OnOk, OnErr, IsTrue};
+ghost use Rattle.std.specs.Prelude.{◌≡◌, ◌≢◌, ◌⊎◌, ◌↔◌, ◌+◌, ◌-◌, ◌^◌, ◌<◌, ◌≤◌, ◌∷◌, [], ℕ, true, false, length, Err, Some, IfOk, IfErr, OnOk, OnErr, IsTrue};
 ghost use Rattle.std.proofs.Props.{props};
 ghost use Rattle.std.specs.Coded.{codes};
 ghost use Rattle.std.specs.FinMap as maps;
@@ -16,7 +16,7 @@ ghost use Rattle.um_model.specs.Numbers.{AreNew, started_numbers};
 ghost use Rattle.um_model.specs.Refusals.{Refused};
 ghost use Rattle.um_model.specs.StateSpellings.{state_spelling};
 ghost use Rattle.um_model.specs.Stands.{contents_of, IsStoreOf};
-ghost use Rattle.um_model.specs.Store.{other, log_start};
+ghost use Rattle.um_model.specs.Store.{other, log_start, part_count};
 ghost use Rattle.um_sector.specs.Refused.{CountsDevice, IsLost};
 ghost use Rattle.um_state.specs.View.{state_of, input_of, query_of, reply_of};
 ghost use Rattle.um_tree.specs.Code.{tree_code};
@@ -89,13 +89,20 @@ fn noted(failed: &mut bool, refusal: Refusal) -> Refusal
 }
 
 impl<D: Disk> Keeper<D> {
-    ghost use Rattle.um_keeper.specs.Keepers.{disk_in, standing_in, state_in, size_in, layout_in, slot_in, generation_in, number_in, next_in, has_failed, opened_in, IsSamePlace, HasNoRoom, IsPlanned};
+    ghost use Rattle.um_keeper.specs.Keepers.{disk_in, standing_in, state_in, size_in, layout_in, slot_in, generation_in, number_in, next_in, has_failed, opened_in, IsSamePlace, HasNoRoom, IsFreeFrom, IsPlanned};
 
     /// What was read of the store when it was opened.
     pub fn opened(&self) -> OpenedStore
         ensures { result ≡ opened_in self.now }
     {
         self.opened
+    }
+
+    /// Whether an earlier call answered E16, so that the store is to be opened again.
+    pub fn has_failed(&self) -> bool
+        ensures { result ≡ has_failed self.now }
+    {
+        self.failed
     }
 
     /// The state.
@@ -177,6 +184,7 @@ impl<D: Disk> Keeper<D> {
         ensures during { IsTrue (D.honest (disk_in self.old))
             → During (D.past (disk_in self.old)) (D.past (disk_in self.new)) (λ image. IsStoreOf (layout_in self.old) image (state_in self.old)) }
         ensures fits { OnOk result (Fits (layout_in self.new) (generation_in self.new) (next_in self.new) bytes) }
+        ensures free { (from : ℕ) → IsFreeFrom self.old from → IsFreeFrom self.new from }
         ensures state { standing_in self.new ≡ standing_in self.old }
         ensures place { IsSamePlace self.old self.new }
         ensures grows { generation_in self.old ≤ generation_in self.new }
@@ -215,6 +223,9 @@ impl<D: Disk> Keeper<D> {
         ensures state { OnErr result (standing_in self.new ≡ standing_in self.old) }
         ensures place { IsSamePlace self.old self.new }
         ensures grows { generation_in self.old ≤ generation_in self.new }
+        ensures filled { OnOk result ((from : ℕ) → IsFreeFrom self.old from
+            → IsFreeFrom self.new (from + part_count (length (input_spelling (input_of input.now))))) }
+        ensures free { OnErr result ((from : ℕ) → IsFreeFrom self.old from → IsFreeFrom self.new from) }
         ensures refused { IfErr result IsLost }
         ensures unwritten { IfErr result (λ e. (e ≡ Refusal.Device) ⊎ (disk_in self.new ≡ disk_in self.old)) }
         ensures device { CountsDevice result (D.failures (disk_in self.old)) (D.failures (disk_in self.new)) }
@@ -246,6 +257,9 @@ impl<D: Disk> Keeper<D> {
             → During (D.past (disk_in self.old)) (D.past (disk_in self.new)) (λ image. IsStoreOf (layout_in self.old) image (state_in self.old)))) }
         ensures place { IsSamePlace self.old self.new }
         ensures grows { generation_in self.old ≤ generation_in self.new }
+        ensures filled { OnOk result ((from : ℕ) → IsFreeFrom self.old from
+            → IsFreeFrom self.new (from + part_count (length (input_spelling (input_of input.now))))) }
+        ensures free { OnErr result ((from : ℕ) → IsFreeFrom self.old from → IsFreeFrom self.new from) }
         ensures refused { IfErr result (λ e. IsLost e ⊎ (e ≡ Refusal.GenerationsSpent)) }
         ensures device { CountsDevice result (D.failures (disk_in self.old)) (D.failures (disk_in self.new)) }
         ensures failed { (has_failed self.new ≡ true) ↔ (result ≡ Err Refusal.Device) }
@@ -277,6 +291,9 @@ impl<D: Disk> Keeper<D> {
             → During (D.past (disk_in self.old)) (D.past (disk_in self.new)) (λ image. IsStoreOf (layout_in self.old) image (state_in self.old)))) }
         ensures place { IsSamePlace self.old self.new }
         ensures grows { generation_in self.old ≤ generation_in self.new }
+        ensures filled { OnOk result ((from : ℕ) → IsFreeFrom self.old from
+            → IsFreeFrom self.new (from + part_count (length (input_spelling (input_of input.now))))) }
+        ensures free { OnErr result ((from : ℕ) → IsFreeFrom self.old from → IsFreeFrom self.new from) }
         ensures refused { IfErr result (λ e. IsLost e ⊎ (e ≡ Refusal.GenerationsSpent) ⊎ ((is_of_store e ≡ false)
             × Step (size_in self.old) (state_in self.old) (input_of input.now) (model.Refusal (refused_of e)) [] (state_in self.old))) }
         ensures unwritten { IfErr result (λ e. IsLost e ⊎ (disk_in self.new ≡ disk_in self.old)) }

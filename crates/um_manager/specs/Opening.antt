@@ -24,7 +24,7 @@ use Rattle.um_fates.specs.Fates.{AreTalesOf, inputs_of_tale, lost, happens_at}
 use Rattle.um_fates.specs.Live.{has, is_live, AreLive, HasFewLive, AreIn}
 use Rattle.um_manager.specs.Orders.{signals}
 use Rattle.um_manager.specs.Places.{Place}
-use Rattle.um_manager.specs.Turns.{Now, Answers, Leaves, Holds}
+use Rattle.um_manager.specs.Turns.{Now, Answers, Tells, Leaves, Holds}
 
 -- the inputs of adoption: those of the fates told, where a number that is absent is lost
 abbrev pub adoptions : ℕ → List Tale → List Input
@@ -44,7 +44,8 @@ pub record Adopted (place : Place) (store : Result Unit Refusal) (moment : ℕ) 
   pub of_live : AreTalesOf (λ n. true) live told
   pub tales_are : tales b.past ≡ tales a.past ++ told
   pub answers : List Answer
-  pub answered : Answers place.size store a.state (adoptions moment told) answers b.state
+  pub answered : Answers place a.state (adoptions moment told) answers b.state
+  pub tells : Tells store place.size a.state (adoptions moment told) answers b.state
   pub order : AreNew a.state.next b.state.next (started_numbers (all_asked answers))
   pub termed : List ℕ
   pub are_termed : AreIn b.state.units StopSigterm live termed
@@ -54,7 +55,7 @@ pub record Adopted (place : Place) (store : Result Unit Refusal) (moment : ℕ) 
   pub refusals : List ℕ
   pub refusals_are : refused b.past ≡ refused a.past ++ refusals
   pub marks_are : HasFewLive b.state.units → (n : ℕ) → is_live b.state.units n ≡ true → has n b.marks ≡ (has n live || has n refusals)
-  pub left : IsTrue place.trusted → Leaves place store a.state (adoptions moment told) answers a.disk b.disk
+  pub left : IsTrue place.trusted → Leaves place a.state (adoptions moment told) answers a.disk b.disk
   pub stored : IsTrue place.trusted → store ≡ Ok tt → Holds place b.state b.disk
 
 abbrev pub Adopts : Place → Result Unit Refusal → Bool → Bool → ℕ → Now → Now → Type 0

@@ -29,5 +29,5 @@ pub fn what_a_crash_leaves()
     ensures { (place : Place) (steps : List Step) (a b c : Now) (turns : AllTurned place steps a b) (store : Result Unit Refusal) (moment : ℕ)
         (pieces : List Piece)
         → place.size ≡ body_limit place.layout → IsTrue place.trusted → (next : Turned place store moment pieces b c)
-        → During b.disk c.disk (IsLeft place.layout a.state (all_offers turns) (offered_in next)) }
+        → During b.disk c.disk (IsLeft place.layout a.state (all_offers turns) (offered_in next) next.answers) }
 {}

@@ -1,17 +1,19 @@
-use Rattle.std.proofs.Common.{◌∙◌, []}
-use Rattle.um_keeper.proofs.Batching.{none_had, numbers_asked}
-use Rattle.um_keeper.proofs.Kept.{not_begun, stores, stores_at}
-use Rattle.um_keeper.proofs.Results.{err_from}
+use Rattle.std.proofs.Common.{◌≡◌, ◌∙◌, [], ◌∷◌, ◌++◌, ◌-◌, append-nil, length, map, true, inl, inr, refl, sym, ap, subst, absurd, rules}
+use Rattle.std.proofs.lemmas.Bool.{true≢false}
+use Rattle.std.proofs.lemmas.List.{length-map}
+use Rattle.um_engine.specs.declared.engine.Back.{Back}
+use Rattle.um_model.specs.Disk.{During}
+use Rattle.um_state.specs.View.{input_of}
+use Rattle.um_keeper.specs.Answering.{AreSpentAt, state_before_all}
+use Rattle.um_keeper.specs.Keepers.{disk_in, standing_in, state_in, size_in, layout_in, generation_in}
+use Rattle.um_keeper.specs.Keeping.{IsBegun}
+use Rattle.um_keeper.proofs.Batching.{numbers_asked, denied_new, no_fault, fell_back, fell_told, fell_during, fell_unrecorded}
+use Rattle.um_keeper.proofs.Kept.{stores, stores_at}
+use Rattle.um_keeper.proofs.Spent.{spent_denied}
 use Rattle.um_keeper.proofs.keeper.Keeper.submit_all.Goals as goal
-
-pub returns-in_err-backs-clause-lost : goal.returns-in_err-backs-clause-lost
-returns-in_err-backs-clause-lost g c = err_from c.from_residual.result (λ f h. ([], none_had _, not_begun [] (c.args.self.now.kept f h)))
 
 pub returns-in_err-backs-clause-stored : goal.returns-in_err-backs-clause-stored
 returns-in_err-backs-clause-stored g c f h = stores (c.args.self.now.kept f h)
-
-pub returns-in_err-answers-clause-lost : goal.returns-in_err-answers-clause-lost
-returns-in_err-answers-clause-lost g c = err_from c.from_residual-in_err-answers.result (λ f h. ([], none_had _, not_begun [] (c.args.self.now.kept f h)))
 
 pub returns-in_err-answers-clause-stored : goal.returns-in_err-answers-clause-stored
 returns-in_err-answers-clause-stored g c f h = stores (c.args.self.now.kept f h)

@@ -1,11 +1,12 @@
 use Rattle.std.proofs.Common.{◌∙◌, [], ◌∷◌, Err, sym, ap, subst}
 use Rattle.std.proofs.lemmas.Bool.{false≢true}
 use Rattle.um_state.specs.View.{input_of}
-use Rattle.um_keeper.specs.Answering.{Answered, accepted, state_before_all}
+use Rattle.um_keeper.specs.Answering.{Answered, accepted, sectors_for, state_before_all}
 use Rattle.um_keeper.specs.Keepers.{standing_in, state_in, size_in}
 use Rattle.um_keeper.proofs.Batching.{answered_refused, back_append}
 use Rattle.um_keeper.proofs.Kept.{calls_at_most, room_begun}
 use Rattle.um_keeper.proofs.Results.{the_other}
+use Rattle.um_keeper.proofs.Spent.{free_refused}
 use Rattle.um_keeper.proofs.keeper.Keeper.take_one.Goals as goal
 
 pub returns-then-self-clause-calls : goal.returns-then-self-clause-calls
@@ -35,3 +36,9 @@ returns-else-self-clause-during g c h =
 
 pub returns-else-self-clause-calls : goal.returns-else-self-clause-calls
 returns-else-self-clause-calls g c = calls_at_most c.args.self.now.holds _ _ _ c.take_step.ensures.most_calls
+
+pub returns-in-Ok-clause-free : goal.returns-in-Ok-clause-free
+returns-in-Ok-clause-free g c = c.in-Ok.ensures.filled
+
+pub returns-else-self-clause-free : goal.returns-else-self-clause-free
+returns-else-self-clause-free g c from free = free_refused (sectors_for (Err c.in-Err.refusal) (input_of c.args.input.now)) c.in-Err.ensures.free free
