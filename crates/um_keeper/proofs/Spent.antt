@@ -26,6 +26,13 @@ free_further n layout generation next free = record {
   behind = λ last. omega (arith, next, free.behind (sym generation ∙ last));
 }
 
+-- where the log is as before
+pub free_still : {D : Type 0} {g : _} {k l : Keeper D g} {from : ℕ} → layout_in l ≡ layout_in k → generation_in l ≡ generation_in k → next_in l ≡ next_in k → IsFreeFrom k from → IsFreeFrom l from
+free_still layout generation next free = record {
+  start = omega (arith, free.start, ap (λ (z : Layout). log_start z 0) layout);
+  behind = λ last. omega (arith, next, free.behind (sym generation ∙ last));
+}
+
 -- behind a snapshot, or where none was made
 pub free_room : {D : Type 0} {g : _} {k l : Keeper D g} {from : ℕ} {T : Type 0} (result : Result T Refusal) → layout_in l ≡ layout_in k
     → OnOk result (next_in l ≡ log_start (layout_in k) (generation_in l)) → OnErr result ((generation_in l ≡ generation_in k) × (next_in l ≡ next_in k)) → IsFreeFrom k from → IsFreeFrom l from

@@ -196,7 +196,7 @@ returns-in_err-answer-clause-unwritten g c =
     err_from c.from_residual.result (λ rest none.
     let (d, s, here) = at.invariant.unrecorded (Err Device ∷ rest) none in
     let (one, others) = unrecorded_left (state_in c.args.self.now) (Err Device) rest left here in
-    let idle = elim one [ inl idle ↦ idle | inr refusal ↦ absurd (refusal.0 refl) ] in
+    let idle : IsIdle (state_in c.args.self.now) input = elim one [ inl idle ↦ idle | inr refusal ↦ absurd (refusal.0 refl) ] in
     (c.take_one.ensures.idle (subst (λ z. IsIdle z input) (sym s) idle)).0 ∙ d)
 
 pub returns-in_err-answer-clause-spent : goal.returns-in_err-answer-clause-spent
