@@ -18,31 +18,11 @@ use Rattle.um_wire.specs.declared.refusal.Refusal.TheVariants.{Device, Generatio
 free_more : {D : Type 0} {g : _} {k : Keeper D g} {from : ℕ} (n : ℕ) → IsFreeFrom k from → IsFreeFrom k (from + n)
 free_more n free = record { start = omega (arith, free.start); behind = λ last. omega (arith, free.behind last) }
 
--- behind a record of so many sectors
-pub free_further : {D : Type 0} {g : _} {k l : Keeper D g} {from : ℕ} (n : ℕ) → layout_in l ≡ layout_in k → generation_in l ≡ generation_in k → next_in l ≤ next_in k + n → IsFreeFrom k from
-    → IsFreeFrom l (from + n)
-free_further n layout generation next free = record {
-  start = omega (arith, free.start, ap (λ (z : Layout). log_start z 0) layout);
-  behind = λ last. omega (arith, next, free.behind (sym generation ∙ last));
-}
-
 -- where the log is as before
 pub free_still : {D : Type 0} {g : _} {k l : Keeper D g} {from : ℕ} → layout_in l ≡ layout_in k → generation_in l ≡ generation_in k → next_in l ≡ next_in k → IsFreeFrom k from → IsFreeFrom l from
 free_still layout generation next free = record {
   start = omega (arith, free.start, ap (λ (z : Layout). log_start z 0) layout);
   behind = λ last. omega (arith, next, free.behind (sym generation ∙ last));
-}
-
--- behind a snapshot, or where none was made
-pub free_room : {D : Type 0} {g : _} {k l : Keeper D g} {from : ℕ} {T : Type 0} (result : Result T Refusal) → layout_in l ≡ layout_in k
-    → OnOk result (next_in l ≡ log_start (layout_in k) (generation_in l)) → OnErr result ((generation_in l ≡ generation_in k) × (next_in l ≡ next_in k)) → IsFreeFrom k from → IsFreeFrom l from
-free_room (Ok done) layout ok err free = record {
-  start = omega (arith, free.start, ap (λ (z : Layout). log_start z 0) layout);
-  behind = λ last. omega (arith, free.start, ok);
-}
-free_room (Err e) layout ok err free = record {
-  start = omega (arith, free.start, ap (λ (z : Layout). log_start z 0) layout);
-  behind = λ last. omega (arith, err.1, free.behind (sym err.0 ∙ last));
 }
 
 -- whatever the answer is, where no record was written

@@ -113,7 +113,10 @@ fn a_list_is_answered_in_its_order(rt: HostRuntime) {
 /// Lists of which two inputs are to be recorded, and what their inputs are answered where the second record's sync fails: E16, but for
 /// one that is refused for another cause before it. Behind it none is judged.
 const FAULTY: &[(&[Coming], &str)] = &[
-    (&[Coming::Put(A), Coming::Put(B)], "E16 Device; E16 Device; "),
+    (
+        &[Coming::Put(A), Coming::Put(B)],
+        "E16 Device; E16 Device; ",
+    ),
     (
         &[Coming::Put(A), Coming::Start("b.service"), Coming::Put(B)],
         "E16 Device; E4 NotFound b.service; E16 Device; ",

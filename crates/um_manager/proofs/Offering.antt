@@ -222,9 +222,9 @@ tells_of size s t inputs answers failed result reports taken told = record {
 pub failed_answered : {o : Bool} (n : Bool) (result : Result Unit declared.Refusal) → result ≡ (if n then Err refusal.Device else Ok tt) → ¬ (o ≡ true) → ((n ≡ true) ↔ ((o ≡ true) ⊎ (result ≡ Err refusal.Device)))
 failed_answered n result told worked =
     let reports = reports_of n result told in (
-  (λ is. inr (reports.is_bad is)),
-  (λ either. elim either [ inl was ↦ absurd (worked was) | inr device ↦ (reports.bad refusal.Device device).1 ]),
-)
+      (λ is. inr (reports.is_bad is)),
+      (λ either. elim either [ inl was ↦ absurd (worked was) | inr device ↦ (reports.bad refusal.Device device).1 ]),
+    )
 
 pub submitted_all : (place : Place) (s t : State) (inputs : List Input) (answers : List Answer) (failed : Bool) (result : Result Unit declared.Refusal) (old new : List Call) (marks marked : List ℕ) (d e : Past)
     (replies : List Reply) (h w : Bool) → result ≡ (if failed then Err refusal.Device else Ok tt)
@@ -235,15 +235,15 @@ pub submitted_all : (place : Place) (s t : State) (inputs : List Input) (answers
     → Submits place result inputs replies h w (now s old marks [] d) (now t new marked [] e)
 submitted_all place s t inputs answers failed result old new marks marked d e replies h w reported taken back told order is grew leaves holds =
     let reports = reports_of failed result reported in (
-  (λ x. absurd (memory_not_device (reports.bad refusal.NoMemory x).0)),
-  record {
-    answers = answers;
-    answered = answers_of place s t inputs answers failed taken back;
-    tells = tells_of place.size s t inputs answers failed result reports taken told;
-    order = order;
-    replies_are = is;
-    grew = grew;
-    left = leaves;
-    stored = λ y ok. holds y (reports.good ok);
-  },
-)
+      (λ x. absurd (memory_not_device (reports.bad refusal.NoMemory x).0)),
+      record {
+        answers = answers;
+        answered = answers_of place s t inputs answers failed taken back;
+        tells = tells_of place.size s t inputs answers failed result reports taken told;
+        order = order;
+        replies_are = is;
+        grew = grew;
+        left = leaves;
+        stored = λ y ok. holds y (reports.good ok);
+      },
+    )

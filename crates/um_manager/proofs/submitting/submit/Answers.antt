@@ -1,4 +1,4 @@
-use Rattle.std.proofs.Common.{◌≡◌, ◌∙◌, ◌++◌, length, map, replicate,  ap, sym, subst, rules}
+use Rattle.std.proofs.Common.{◌≡◌, ◌∙◌, ◌++◌, length, map, replicate, ap, sym, subst, rules}
 use Rattle.std.proofs.lemmas.List.{length-map}
 use Rattle.um_model.specs.Machine.{Refusal}
 use Rattle.um_keeper.specs.Answering.{all_asked}

@@ -105,8 +105,7 @@ loop-input-preserved g c =
           let same : (disk_in c.take_one.new.self ≡ disk_in at.self) × (state_in c.take_one.new.self ≡ state_in at.self) = elim one [ inl idle ↦ c.take_one.ensures.idle (subst (λ z. IsIdle z input) (sym s) idle) | inr refusal ↦ told.unrecorded refusal ] in
           (same.0 ∙ d, same.1 ∙ s, others);
       spent = λ from free.
-          let (here, is_free, so_far) = inv.spent from free in
-          (
+          let (here, is_free, so_far) = inv.spent from free in (
             here + sectors_for answer input,
             told.free here is_free,
             λ generation high rest behind.
