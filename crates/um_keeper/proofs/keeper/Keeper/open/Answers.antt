@@ -1,7 +1,7 @@
 use Rattle.um_engine.specs.Engine.{state_in}
 use Rattle.um_keeper.proofs.Kept.{stores}
 use Rattle.um_keeper.proofs.Reopening.{stays_before, refused_before}
-use Rattle.um_keeper.proofs.opening.Keeper.open.Goals as goal
+use Rattle.um_keeper.proofs.keeper.Keeper.open.Goals as goal
 
 pub returns-in-Ok-clause-during : goal.returns-in-Ok-clause-during
 returns-in-Ok-clause-during g c h layout all =
