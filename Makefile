@@ -10,7 +10,7 @@
 # make ctl-rows: plays the rows of the command line against the proved program: create and ctl, their faults, statuses, help and what is printed.
 # make memory-rows: lets each single allocation of a manager in memory fail in turn, and asserts that nothing changes (it needs cc).
 # make bench: measures the proved program, and the writing and reading of states (um_bench); the figures that a document calls
-# measured come from it. It ends with an error where a wanted ratio isn't met, as that of live services isn't (docs/DECISIONS.md, "Serving").
+# measured come from it. It ends with an error where a wanted ratio isn't met, that of queries while services run (docs/DECISIONS.md, "Serving").
 .PHONY: run umd unproved test edits bench runner-rows serve-rows ctl-rows memory-rows
 run:
 	@sh tools/show

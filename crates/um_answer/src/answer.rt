@@ -11,7 +11,7 @@ ghost use Rattle.um_unit.specs.View.{loading_of, unit_of};
 ghost use Rattle.um_answer.specs.Shown.{shown_of_loaded};
 
 use crate::listing::list_units;
-use crate::names::{name_in, text_of};
+use crate::names::name_in;
 use std::alloc::{AllocError, Global};
 use um_install::is_enabled;
 use um_model::{LoadState, UnitState};
@@ -20,7 +20,7 @@ use um_resolve::{Files, files_of};
 use um_state::{Query, Reply, State, UnitShown};
 use um_tree::Tree;
 use um_unit::{LoadedUnit, Loading, load};
-use um_wire::Refusal;
+use um_wire::{masked, not_found};
 
 /// A unit that isn't loaded is shown with no description and no warning.
 fn shown_without_settings(
@@ -32,7 +32,7 @@ fn shown_without_settings(
     ensures { IfOk result (λ u. shown_view u ≡ model.shown_without_settings unit.now load state) }
 {
     Ok(UnitShown {
-        id: text_of(alloc, unit)?,
+        id: unit.text()?,
         load,
         description: String::new(alloc),
         warnings: Vec::new(alloc),
@@ -84,7 +84,8 @@ fn show(alloc: Global, state: &State, asked: &UnitName) -> Result<Reply, AllocEr
 {
     let loading = load(alloc, state.loaded(), asked)?;
     let stands = state.units().get(name_in(asked, &loading));
-    Ok(Reply::Shown(shown(alloc, asked, loading, stands)?))
+    let shown = shown(alloc, asked, loading, stands)?;
+    Ok(Reply::Shown(Box::new(alloc, shown)?))
 }
 
 /// The active state of that unit.
@@ -103,14 +104,8 @@ fn cat(alloc: Global, tree: &Tree, asked: &UnitName) -> Result<Reply, AllocError
 {
     match files_of(alloc, tree, asked)? {
         Files::Found(files) => Ok(Reply::Files(files)),
-        Files::Masked { unit } => {
-            let unit = text_of(alloc, &unit)?;
-            Ok(Reply::Refused(Refusal::Masked { unit }))
-        }
-        Files::NotFound => {
-            let unit = text_of(alloc, asked)?;
-            Ok(Reply::Refused(Refusal::NotFound { unit }))
-        }
+        Files::Masked { unit } => Ok(Reply::Refused(masked(alloc, unit.as_str())?)),
+        Files::NotFound => Ok(Reply::Refused(not_found(alloc, asked.as_str())?)),
     }
 }
 

@@ -8,4 +8,4 @@ mod names;
 
 pub use answer::reply_to;
 pub use missing::check_missing;
-pub use names::{Asked, text_of};
+pub use names::Asked;

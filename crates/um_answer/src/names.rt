@@ -1,6 +1,6 @@
 //! The name that counts for the one that was asked for.
 
-ghost use Rattle.std.specs.Prelude.{◌≡◌, string_bytes, IfOk, Contains};
+ghost use Rattle.std.specs.Prelude.{◌≡◌, IfOk, Contains};
 ghost use Rattle.um_answer.specs.Loaded.{Loads, is_found};
 ghost use Rattle.um_model.specs.Units.{load as load_in, name_in, unit_named};
 ghost use Rattle.um_unit.specs.View.{loading_of};
@@ -10,13 +10,6 @@ use um_graph::Graph;
 use um_name::UnitName;
 use um_tree::Tree;
 use um_unit::{LoadedUnit, Loading, load};
-
-/// The text of a name.
-pub fn text_of(alloc: Global, unit: &UnitName) -> Result<String, AllocError>
-    ensures { IfOk result (λ s. string_bytes s ≡ unit.now) }
-{
-    Ok(String::from_str(alloc, unit.as_str())?)
-}
 
 /// The name that counts, by what was found: the last one to which the name that was asked for leads, or that name itself where it
 /// leads nowhere.

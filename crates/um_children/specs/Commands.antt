@@ -1,5 +1,5 @@
 -- The command lines by which the manager looks for its runner, starts one, and signals a process.
--- Follows sh(1) and kill(1); the runner's own words are the project's (docs/FORMATS.md, "The runner").
+-- Follows sh(1) and kill(1); the runner's own words are the project's (docs/FORMATS.md, "The program").
 -- Children through runners stand on this file.
 use Rattle.std.specs.Prelude.{◌≡◌, ◌∷◌, ◌++◌, List, ℕ, length, map, codes, decimal}
 use Rattle.std.specs.Borrow.{Bor}

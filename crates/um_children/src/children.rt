@@ -11,7 +11,7 @@ use um_model::{Fate, NextNumber, ProcessNumber, Signal};
 /// The processes of a manager, each under its number. What they do is told by one history of calls.
 ///
 /// The clauses on the history stand under `honest`, and under `whole`, since children that keep their history may find no memory for a
-/// call. Those on counts always stand. A call that isn't done answers `NoMemory` where a growth was refused, `TooLong` where no process can
+/// call. The others always stand. A call that isn't done answers `NoMemory` where a growth was refused, `TooLong` where no process can
 /// be started with so much, and `Device` where the children failed: then, and only then, the count of failures rises by one, up to the
 /// last value of a `u64`.
 pub trait Children {

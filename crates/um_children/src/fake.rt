@@ -14,7 +14,7 @@ use std::alloc::{AllocError, Global};
 use um_keeper::SpawnOrder;
 use um_model::{End, Fate, NextNumber, ProcessNumber, Signal};
 
-/// Children in memory, for tests and for `memory`. They are honest, and keep each call.
+/// Children in memory, for tests. They are honest, and keep each call.
 ///
 /// A number that was started is executed until `ends` tells its end; another one is starting, or absent under a claim. A call that
 /// finds no memory for its note fails.

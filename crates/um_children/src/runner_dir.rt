@@ -24,8 +24,8 @@ use um_runner::{Claimant, RunnerFile, Told, claim, file_path, pid_in, read_claim
 
 /// Processes through runners: each is started by a runner of its own, which outlives the manager and tells of it by files in a folder.
 ///
-/// What files and processes do no contract can say. So `honest` isn't claimed of it, and of the clauses of `Children` those on counts
-/// and claims alone say something here: that a runner does what its files tell is a premise of what is proved above.
+/// What files and processes do no contract can say. So `honest` isn't claimed of it, and of the clauses of `Children` those on counts,
+/// claims and the bound of a start alone say something here: that a runner does what its files tell is a premise of what is proved above.
 ///
 /// Fates are asked in rounds, each in ascending order: a number that isn't above the last one begins a round, and the folder is looked
 /// at once a round. Where nothing came, a fate costs no call of the system but once a second; and `has_news` tells whether a round is worth its while.
@@ -365,15 +365,26 @@ impl<'a, R: Files + Processes + Clock> RunnerDir<'a, R> {
         }
     }
 
+    /// Whether a number of which so much is known runs, as it did when it was looked at last: no signal waits for its pid, and nothing may have
+    /// come since its files were read. So it is with most, and nothing is to be done for them.
+    fn runs_on(&self, known: Known) -> bool {
+        known.is_settled()
+            && known.changes == Some(self.watch.changes())
+            && self.foreign.is_none()
+    }
+
     fn find(&mut self, number: ProcessNumber, claim: bool) -> Result<Fate, Trouble>
         ensures claim { claim ≡ false → IfOk result (λ fate. is_absent fate ≡ false) }
         ensures failures { self.new.failures ≡ self.old.failures }
         ensures restless { self.new.is_restless ≡ false → result ≡ Ok Fate.Executed }
     {
         self.begin(number);
-        let was_restless = mem::replace(&mut self.is_restless, true);
         self.silent = None;
         let before = self.known(number);
+        if self.runs_on(before) {
+            return Ok(Fate::Executed);
+        }
+        let was_restless = mem::replace(&mut self.is_restless, true);
         let known = self.learn(number, before, claim)?;
         self.heed(number, known.standing);
         // where there is no memory for it the files are read again

@@ -2,7 +2,7 @@
 
 use std::time::Instant;
 
-/// So many seconds a runner takes at most to claim its number, and far less where all is well.
+/// So many seconds are waited for the claim of a runner, which takes far less where all is well, until it is told that there is none.
 const PATIENCE: u64 = 10;
 
 /// That nobody has claimed a number.

@@ -1,8 +1,11 @@
 //! The numbers and names of refusals, and how they print.
 use crate::answers::{same, same_at, text};
-use std::alloc::AllocError;
+use std::alloc::{AllocError, Global};
 use std::process::Abort;
-use um_wire::{Limit, Refusal, Texts};
+use um_wire::{
+    Limit, Refusal, Texts, bad_name, bad_path, bad_setting, clash, exists_at, job_conflict, masked,
+    no_such_job, not_found, not_loaded, unknown_verb,
+};
 
 /// A refusal, by its number and its texts: the name and the printed text.
 const ROWS: &[(u64, [&str; 2], &str, &str)] = &[
@@ -56,30 +59,40 @@ const ROWS: &[(u64, [&str; 2], &str, &str)] = &[
     (22, ["", ""], "OtherLayout", "E22 OtherLayout"),
 ];
 
+/// A refusal with a text, by its number; none where it tells none.
+fn with_text(alloc: Global, number: u64, texts: [&str; 2]) -> Option<Result<Refusal, AllocError>> {
+    let [first, second] = texts;
+    match number {
+        2 => Some(unknown_verb(alloc, first)),
+        3 => Some(bad_name(alloc, first)),
+        4 => Some(not_found(alloc, first)),
+        5 => Some(masked(alloc, first)),
+        6 => Some(bad_setting(alloc, first, second)),
+        7 => Some(not_loaded(alloc, first)),
+        8 => Some(clash(alloc, first)),
+        10 => Some(job_conflict(alloc, first)),
+        11 => Some(exists_at(alloc, first)),
+        12 => Some(bad_path(alloc, first)),
+        21 => Some(no_such_job(alloc, first)),
+        _ => None,
+    }
+}
+
 /// The refusal of this number with these texts.
 fn refusal(rt: &(impl AllocGlobal + Abort), number: u64, texts: [&str; 2]) -> Refusal {
-    let first = text(rt, texts[0]);
-    let second = text(rt, texts[1]);
+    if let Some(made) = with_text(rt.alloc(), number, texts) {
+        return made.expect(rt, "no memory");
+    }
     match number {
         1 => Refusal::BadRequest,
-        2 => Refusal::UnknownVerb { verb: first },
-        3 => Refusal::BadName { text: first },
-        4 => Refusal::NotFound { unit: first },
-        5 => Refusal::Masked { unit: first },
-        6 => Refusal::BadSetting {
-            unit: first,
-            reason: second,
-        },
-        7 => Refusal::NotLoaded { unit: first },
-        8 => Refusal::Clash { unit: first },
         9 => Refusal::OrderingCycle {
             units: Texts {
-                items: vec![in rt.alloc(); first, second].expect(rt, "no memory"),
+                items: vec![in rt.alloc(); text(rt, texts[0]), text(rt, texts[1])].expect(
+                    rt,
+                    "no memory",
+                ),
             },
         },
-        10 => Refusal::JobConflict { unit: first },
-        11 => Refusal::Exists { path: first },
-        12 => Refusal::BadPath { path: first },
         13 => Refusal::TooLarge {
             limit: Limit::Frame,
         },
@@ -90,7 +103,6 @@ fn refusal(rt: &(impl AllocGlobal + Abort), number: u64, texts: [&str; 2]) -> Re
         18 => Refusal::Damaged { sector: 129 },
         19 => Refusal::NotFormatted,
         20 => Refusal::GenerationsSpent,
-        21 => Refusal::NoSuchJob { unit: first },
         _ => Refusal::OtherLayout,
     }
 }

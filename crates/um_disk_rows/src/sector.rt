@@ -110,6 +110,24 @@ fn a_fuse_fails_one_call_and_goes_on(rt: HostRuntime) {
 }
 
 #[test]
+fn a_fuse_makes_the_write_that_it_fails(rt: HostRuntime) {
+    let mut disk = Fuse::making(empty(&rt), 3);
+    put(&rt, &mut disk, &[(0, 1)]);
+    disk.sync().expect(&rt, "not synced");
+    fails(&rt, disk.write(0, &[2; 512]));
+    same(&rt, disk.calls(), 3);
+    ends(&rt, &mut disk, [2, 0, 0], "behind the failure");
+    let disk = disk.into_inner();
+    is_unsynced(&rt, &disk, &[(0, 2)]);
+    leaves(&rt, &disk, &[0], [1, 0, 0]);
+    leaves(&rt, &disk, &[1], [2, 0, 0]);
+    // a sync that it fails isn't made
+    let mut disk = Fuse::making(empty(&rt), 1);
+    fails(&rt, disk.sync());
+    same(&rt, disk.into_inner().syncs(), 0);
+}
+
+#[test]
 fn runs_stand_in_their_places(rt: HostRuntime) {
     let mut disk = empty(&rt);
     let run: [Sector; 2] = [[6; 512], [7; 512]];

@@ -145,6 +145,18 @@ fn a_crash_leaves_the_snapshot_before_or_the_new_one(rt: HostRuntime) {
     }
 }
 
+#[test]
+fn a_header_whose_write_failed_may_count(rt: HostRuntime) {
+    for (pick, wanted) in &[(0, OLD), (1, NEW)] {
+        let mut disk = Fuse::making(first(&rt), 4);
+        let written = write_other(rt.alloc(), &mut disk, small(&rt), A1, &[8; 513]);
+        is_refused(&rt, written, "E16 Device");
+        let disk = disk.into_inner();
+        let mut left = disk.crash(rt.alloc(), &[*pick]).expect(&rt, "no memory");
+        stores(&rt, &mut left, *wanted, *pick);
+    }
+}
+
 /// Bytes of the first header, and another value of each, with which it is none: an unused byte twice, a length of 65,573 past the
 /// slot, generation 0, the name.
 const NO_HEADERS: &[(usize, u8)] = &[(24, 1), (511, 1), (21, 1), (15, 0), (7, 0)];

@@ -15,7 +15,8 @@ use Rattle.um_model.specs.declared.commands.UnitVerb.TheVariants as verbs
 use Rattle.um_model.specs.declared.install.InstallVerb.{InstallVerb}
 use Rattle.um_model.specs.declared.jobs.UnitJobs.{UnitJobs}
 use Rattle.um_model.proofs.InstallLaws.{one_install}
-use Rattle.um_model.proofs.WaitingLaws.{has_waiting, none_told, none_waiting}
+use Rattle.um_model.proofs.WaitingLaws.{none_told, none_waiting}
+use Rattle.um_model.specs.Waiting.{has_waiting}
 use Rattle.um_engine.specs.Planned.{HasPlan}
 use Rattle.um_model.specs.Plan.{IsPlan, CausesOfPlan, NamesCycle}
 use Rattle.um_model.specs.declared.dependencies.Demand.{Demand}

@@ -1,5 +1,5 @@
 -- What is known for a state, by what the tests of it tell.
-use Rattle.std.proofs.Common.{◌≡◌, ◌⊎◌, ◌↔◌, ◌∙◌, ◌<◌, ◌≤◌, ℕ, List, Contains, Option, Some, None, Result, Ok, Err, is_some, Bool, true, false, true≢false, refl, sym, ap, subst, inl, inr, arith}
+use Rattle.std.proofs.Common.{◌≡◌, ◌⊎◌, ◌↔◌, ◌∙◌, ◌<◌, ◌≤◌, ℕ, List, Contains, Option, Some, None, Result, Ok, Err, is_some, Bool, true, true≢false, refl, sym, ap, subst, inl, inr, arith}
 use Rattle.std.specs.Prelude.{IfOk, MatchOption, slice_get, unwrap_or}
 use Rattle.std.proofs.lemmas.Option.{get_or_from_slice_get}
 use Rattle.um_graph.proofs.NamedLaws.{got_within}
@@ -9,7 +9,8 @@ use Rattle.um_model.specs.Machine.{State, IsHeld, IsHeldOr, IsTooHeavy, booted, 
 use Rattle.um_model.specs.Reached.{first}
 use Rattle.um_model.specs.Tree.{Tree, without_run}
 use Rattle.um_model.specs.Weight.{weight_of}
-use Rattle.um_model.proofs.FewLaws.{booted_none, cancel_no_more, HoldsNoMore}
+use Rattle.um_model.proofs.FewLaws.{booted_none, cancel_no_more}
+use Rattle.um_model.specs.Live.{HoldsNoMore}
 use Rattle.um_model.proofs.KnownLaws.{more_known}
 use Rattle.um_model.proofs.SceneLaws.{one_count}
 use Rattle.um_model.proofs.TreeLaws.{without_run_twice}

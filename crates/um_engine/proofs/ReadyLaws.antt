@@ -5,19 +5,20 @@ use Rattle.std.proofs.lemmas.Grind.{get_or-set_at}
 use Rattle.std.proofs.lemmas.List.{get_or-set_other, get_or_past, length-replicate, length-set}
 use Rattle.std.proofs.lemmas.Option.{none-some, same_Some}
 use Rattle.std.specs.FinMap as map
-use Rattle.um_model.specs.Jobs.{Job, BeginsNext, ComesBefore, GoesBefore, IsReady, IsToldBefore, cancelled, job_of, jobs_of_unit, no_jobs, with_jobs, of_one_unit, starts, state_of_job, stops, stops_then_starts, stops_then_starts_before}
+use Rattle.um_model.specs.Jobs.{Job, BeginsNext, ComesBefore, GoesBefore, IsReady, IsToldBefore, cancelled, job_of, jobs_of_unit, no_jobs, with_job, with_jobs, of_one_unit, starts, state_of_job, stops, stops_then_starts, stops_then_starts_before}
 use Rattle.um_model.specs.Least.{IsLeast}
 use Rattle.um_model.specs.Machine.{State, IsBefore, IsHeld, IsStill, begun}
 use Rattle.um_model.specs.Service.{active_state_of, state_of_unit}
 use Rattle.um_model.specs.declared.jobs.JobKind.{JobKind}
 use Rattle.um_model.specs.declared.jobs.JobKind.TheVariants.{Stop, Start}
+use Rattle.um_model.specs.declared.jobs.JobState.{JobState}
 use Rattle.um_model.specs.declared.jobs.JobState.TheVariants.{Waiting}
 use Rattle.um_model.specs.declared.jobs.UnitJobs.{UnitJobs}
 use Rattle.um_model.specs.declared.service.ActiveState.{ActiveState}
 use Rattle.um_model.specs.declared.service.ActiveState.TheVariants.{Deactivating}
 use Rattle.um_model.proofs.TimersLaws.{same_name}
 use Rattle.um_model.proofs.UnitLaws.{jobs_apart, jobs_here}
-use Rattle.um_model.proofs.WaitingLaws.{NoMoreWait, has_waiting, waits, waits_in}
+use Rattle.um_model.specs.Waiting.{NoMoreWait, has_waiting, waits, waits_in}
 use Rattle.um_model.proofs.Forms.{with_running}
 use Rattle.um_graph.specs.Graph.{GraphView, IsGraph, IsNumberOf}
 use Rattle.um_graph.specs.Kinds.{before_bit}
@@ -243,25 +244,25 @@ serves_begun g s b j serves known is = subst (Serves g) (sym is) (record { extra
         before (inl h) apart = inl h
         before (inr h) apart = inr (λ e. h (pending_apart s.pending j.unit (with_running j.kind (jobs_of_unit s.pending j.unit)) x apart ∙ e))
 
--- where a job of a unit begins by its number and its name, the state is as it is begun, and is told by number
-module _ (g : GraphView) (s b : State) (v w : JobsView) (n : ℕ) (name : List ℕ) (kind : JobKind) (tells : Tells g s v) (number : IsNumberOf g n name)
-    (by_number : w ≡ with_jobs_at v n (with_running kind (jobs_at v.units n))) (by_name : b ≡ record s { pending = with_jobs s.pending name (jobs_at w.units n) }) where
-  begins_within : n < length v.units
-  begins_within = let h = got_within g.names n name number in omega (arith, h, tells.long)
+-- where a job of a unit is in another state by its number and its name, it is so in the state, which is told by number
+module _ (to : JobState) (g : GraphView) (s b : State) (v w : JobsView) (n : ℕ) (name : List ℕ) (kind : JobKind) (tells : Tells g s v) (number : IsNumberOf g n name)
+    (by_number : w ≡ with_jobs_at v n (with_job kind to (jobs_at v.units n))) (by_name : b ≡ record s { pending = with_jobs s.pending name (jobs_at w.units n) }) where
+  within_all : n < length v.units
+  within_all = let h = got_within g.names n name number in omega (arith, h, tells.long)
 
-  begins_here : jobs_at w.units n ≡ with_running kind (jobs_of_unit s.pending name)
-  begins_here =
+  pub made_here : jobs_at w.units n ≡ with_job kind to (jobs_of_unit s.pending name)
+  made_here =
       ap (λ (x : JobsView). jobs_at x.units n) by_number
-      ∙ (get_or-set_at v.units n n (with_running kind (jobs_at v.units n)) no_jobs refl begins_within ∙ ap (with_running kind) (tells.jobs n name number))
+      ∙ (get_or-set_at v.units n n (with_job kind to (jobs_at v.units n)) no_jobs refl within_all ∙ ap (with_job kind to) (tells.jobs n name number))
 
-  pub begun_so : b ≡ begun s (record { unit = name; kind = kind })
-  begun_so = by_name ∙ ap (λ jobs. record s { pending = with_jobs s.pending name jobs }) begins_here
+  pub made_so : b ≡ record s { pending = with_jobs s.pending name (with_job kind to (jobs_of_unit s.pending name)) }
+  made_so = by_name ∙ ap (λ jobs. record s { pending = with_jobs s.pending name jobs }) made_here
 
-  pub begun_told : Tells g b w
-  begun_told = record {
+  pub made_told : Tells g b w
+  made_told = record {
     graph = tells.graph;
     same = ap (λ (x : JobsView). x.graph) by_number ∙ tells.same;
-    long = ap (λ (x : JobsView). length x.units) by_number ∙ (length-set v.units n (with_running kind (jobs_at v.units n)) ∙ tells.long);
+    long = ap (λ (x : JobsView). length x.units) by_number ∙ (length-set v.units n (with_job kind to (jobs_at v.units n)) ∙ tells.long);
     wide = ap (λ (x : JobsView). length x.held) by_number ∙ tells.wide;
     jobs = jobs_now;
     held = λ i unit below m.
@@ -281,7 +282,7 @@ module _ (g : GraphView) (s b : State) (v w : JobsView) (n : ℕ) (name : List �
         | inr apart ↦
             let elsewhere : i ≢ n = λ at. apart (same_Some unit name (sym m ∙ (ap (slice_get g.names) at ∙ number))) in
             ap (λ (x : JobsView). jobs_at x.units i) by_number
-            ∙ (get_or-set_other v.units n i (with_running kind (jobs_at v.units n)) no_jobs elsewhere
+            ∙ (get_or-set_other v.units n i (with_job kind to (jobs_at v.units n)) no_jobs elsewhere
             ∙ (tells.jobs i unit m
             ∙ sym (ap (λ (x : State). jobs_of_unit x.pending unit) by_name ∙ jobs_apart s.pending name (jobs_at w.units n) unit apart)))
       ]

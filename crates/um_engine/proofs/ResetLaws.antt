@@ -13,7 +13,8 @@ use Rattle.um_model.specs.declared.service.UnitState.{UnitState}
 use Rattle.um_model.specs.declared.transition.Around.{Around}
 use Rattle.um_model.specs.declared.transition.StartJob.TheVariants.{Stays}
 use Rattle.um_model.specs.declared.transition.UnitEvent.TheVariants.{Reset}
-use Rattle.um_model.proofs.FewLaws.{none_there, resets_no_more, HoldsNoMore}
+use Rattle.um_model.proofs.FewLaws.{none_there, resets_no_more}
+use Rattle.um_model.specs.Live.{HoldsNoMore}
 use Rattle.um_model.proofs.TimersLaws.{same_name}
 use Rattle.um_model.proofs.UnitLaws.{unlike}
 use Rattle.um_graph.specs.Graph.{GraphView}

@@ -1,17 +1,21 @@
 -- A restart puts a start of its unit, or leaves the state as it is.
-use Rattle.std.proofs.Common.{◌≡◌, ◌≢◌, ◌∙◌, ℕ, true, false, List, Contains, Some, None, sym, ap, subst, inl, inr}
-use Rattle.um_model.specs.Jobs.{Job, AreTidyJobs, ComesBefore, has_job, jobs, jobs_of_unit, no_jobs, with_jobs}
+use Rattle.std.proofs.Common.{◌≡◌, ◌≢◌, ◌∙◌, ℕ, true, false, List, Contains, Some, None, refl, sym, ap, subst, inl, inr}
+use Rattle.um_model.specs.Jobs.{has_job, jobs, jobs_of_unit, no_jobs, with_job}
 use Rattle.um_model.specs.Machine.{State, IsBefore, IsHeld, Restarts, puts, isnt_put, with_plan, with_start_alone}
-use Rattle.um_model.specs.Order.{IsCycle}
 use Rattle.um_model.specs.Plan.{AreFree}
-use Rattle.um_model.specs.Service.{ByUnit}
+use Rattle.um_model.specs.declared.jobs.JobKind.TheVariants.{Start}
 use Rattle.um_model.specs.declared.jobs.JobState.TheVariants.{Waiting}
 use Rattle.um_model.specs.declared.jobs.UnitJobs.{UnitJobs}
 use Rattle.um_model.proofs.TimersLaws.{same_name}
-use Rattle.um_model.proofs.UnitLaws.{jobs_apart, jobs_here, no_job_held, not_jobless, same_tidy, tidy_jobs}
-use Rattle.um_graph.specs.Graph.{GraphView}
+use Rattle.um_model.proofs.UnitLaws.{no_job_held, not_jobless}
+use Rattle.um_graph.specs.Graph.{GraphView, IsNumberOf}
+use Rattle.um_jobs.specs.Jobs.{JobsView, with_jobs_at}
+use Rattle.um_jobs.specs.Named.{jobs_at}
 use Rattle.um_falling.specs.Over.{Serves}
 use Rattle.um_falling.proofs.AlongLaws.{pending_apart}
+use Rattle.um_engine.specs.Filled.{Tells}
+use Rattle.um_engine.specs.Planned.{ArePending}
+use Rattle.um_engine.proofs.ReadyLaws.{made_so, made_told}
 
 -- the graph serves where jobs of one of its units are put
 pub serves_with : (g : GraphView) (s : State) (unit : List ℕ) (j : UnitJobs) → Serves g s → Contains g.names unit → Serves g (with_plan s unit j)
@@ -27,39 +31,33 @@ serves_with g s unit j serves known = record { extra = serves.extra; graph = ser
         before (inl h) apart = inl h
         before (inr h) apart = inr (λ e. h (pending_apart s.pending unit j x apart ∙ e))
 
--- a job that is put into none and taken out again leaves the jobs as they were
-with_none : (pending : ByUnit UnitJobs) (unit : List ℕ) (j : UnitJobs) → AreTidyJobs pending → jobs_of_unit pending unit ≡ no_jobs
-    → with_jobs (with_jobs pending unit j) unit no_jobs ≡ pending
-with_none pending unit j tidy none =
-    same_tidy no_jobs _ pending (tidy_jobs (with_jobs pending unit j) unit no_jobs (tidy_jobs pending unit j tidy)) tidy
-    (λ x. elim (same_name x unit) as (λ _. jobs_of_unit (with_jobs (with_jobs pending unit j) unit no_jobs) x ≡ jobs_of_unit pending x) [
-      | inl same ↦ subst (λ y. jobs_of_unit (with_jobs (with_jobs pending unit j) unit no_jobs) y ≡ jobs_of_unit pending y) (sym same)
-          (jobs_here (with_jobs pending unit j) unit no_jobs ∙ sym none)
-      | inr apart ↦ jobs_apart (with_jobs pending unit j) unit no_jobs x apart ∙ jobs_apart pending unit j x apart
-    ])
-
 module _ (g : GraphView) (s : State) (unit : List ℕ) (j : UnitJobs) (is : jobs_of_unit s.pending unit ≡ j) where
   -- a job of the unit is pending
   pub restarts_not : has_job j ≡ true → Restarts s unit s
   restarts_not some = isnt_put (λ may. not_jobless j some (sym is ∙ may.0))
 
-  none_there : has_job j ≡ false → jobs_of_unit s.pending unit ≡ no_jobs
-  none_there none = is ∙ no_job_held j none
+  -- none is, and a start is put by number
+  module _ (none : has_job j ≡ false) (serves : Serves g s) (known : Contains g.names unit) (v w : JobsView) (n : ℕ) (tells : Tells g s v) (number : IsNumberOf g n unit)
+      (put : w ≡ with_jobs_at v n (with_job Start Waiting (jobs_at v.units n))) where
+    none_there : jobs_of_unit s.pending unit ≡ no_jobs
+    none_there = is ∙ no_job_held j none
 
-  module _ (none : has_job j ≡ false) (serves : Serves g s) (known : Contains g.names unit) (u : State) (put : u ≡ with_start_alone s unit) where
-    pub serves_put : Serves g u
-    serves_put = subst (Serves g) (sym put) (serves_with g s unit (jobs None (Some Waiting)) serves known)
+    alone : with_plan s unit (jobs_at w.units n) ≡ with_start_alone s unit
+    alone = made_so Waiting g s (with_plan s unit (jobs_at w.units n)) v w n unit Start tells number put refl ∙ ap (λ k. with_plan s unit (with_job Start Waiting k)) none_there
 
-    -- the start is put
-    pub restarts_so : AreFree (IsBefore u.loaded) u.pending → Restarts s unit u × Serves g u
-    restarts_so free =
-        let put_here : Restarts s unit (with_start_alone s unit) = puts (none_there none) (subst (λ (x : State). AreFree (IsBefore x.loaded) x.pending) put free) in
-        (subst (Restarts s unit) (sym put) put_here, serves_put)
+    pub serves_alone : Serves g (with_start_alone s unit)
+    serves_alone = serves_with g s unit (jobs None (Some Waiting)) serves known
 
-    -- it would close a circle, and is taken out again
-    pub restarts_none : AreTidyJobs s.pending → (cycle : List Job) → IsCycle (ComesBefore (IsBefore u.loaded) u.pending) cycle → (v : State) → v ≡ with_plan u unit no_jobs
-        → Restarts s unit v × Serves g v
-    restarts_none tidy cycle closed v out =
-        let same : v ≡ s = out ∙ (ap (λ x. with_plan x unit no_jobs) put ∙ ap (λ p. record s { pending = p }) (with_none s.pending unit (jobs None (Some Waiting)) tidy (none_there none))) in
-        let left : Restarts s unit s = isnt_put (λ may. may.1 cycle (subst (λ (x : State). IsCycle (ComesBefore (IsBefore x.loaded) x.pending) cycle) put closed)) in
-        (subst (Restarts s unit) (sym same) left, subst (Serves g) (sym same) serves)
+    pub pends_alone : ArePending g (with_start_alone s unit) w.units
+    pends_alone = (subst (λ x. Tells g x w) alone (made_told Waiting g s (with_plan s unit (jobs_at w.units n)) v w n unit Start tells number put refl)).jobs
+
+    -- the start is put into the state
+    pub restarts_so : AreFree (IsBefore (with_start_alone s unit).loaded) (with_start_alone s unit).pending → (u : State) → u ≡ with_plan s unit (jobs_at w.units n)
+        → Restarts s unit u × Serves g u
+    restarts_so free u so =
+        let same : u ≡ with_start_alone s unit = so ∙ alone in
+        (subst (Restarts s unit) (sym same) (puts none_there free), subst (Serves g) (sym same) serves_alone)
+
+    -- it would close a circle
+    pub restarts_none : ¬ AreFree (IsBefore (with_start_alone s unit).loaded) (with_start_alone s unit).pending → Restarts s unit s
+    restarts_none closed = isnt_put (λ may. closed may.1)

@@ -11,7 +11,8 @@ use Rattle.um_model.specs.Standing.{Standing}
 use Rattle.um_model.specs.Service.{Action, state_of_unit}
 use Rattle.um_model.specs.declared.transition.UnitEvent.TheVariants.{Executed}
 use Rattle.um_model.proofs.KeepsLaws.{settles_keeps}
-use Rattle.um_model.proofs.FewLaws.{fires_no_more, happened_no_more, number_held, settles_no_more, HoldsNoMore}
+use Rattle.um_model.proofs.FewLaws.{fires_no_more, happened_no_more, number_held, settles_no_more}
+use Rattle.um_model.specs.Live.{HoldsNoMore}
 use Rattle.um_graph.specs.Graph.{GraphView}
 use Rattle.um_state.specs.View.{state_of}
 use Rattle.um_wire.specs.Refusal.{refused_of}
@@ -57,6 +58,13 @@ idle_step size s i t happening reply all v e f none g h k =
     (subst (λ x. Step size s input Done x v) (sym h)
     (subst (λ x. Step size s input Done [] x) (sym k)
     (idle (subst (λ n. HasNoEffect n s happening) f none)))))
+
+-- what happens without effect is done at once
+pub idle_lacks : (t : ℕ) (s : State) (event : Event) (happening : Happening) → event ≡ Happened happening → HasNoEffect t s happening → LacksEffect t s event
+idle_lacks t s event happening e none = subst (LacksEffect t s) (sym e) none
+
+pub idle_done : (size : ℕ) (s : State) (i : Input) (happening : Happening) → i.event ≡ Happened happening → HasNoEffect (moment_of s i.moment) s happening → Step size s i Done [] s
+idle_done size s i happening e none = idle_step size s i (moment_of s i.moment) happening Done [] s e refl none refl refl refl
 
 -- what comes of a happening is the step
 pub met_step : (size : ℕ) (s : State) (i : Input) (t : ℕ) (happening : Happening) (reply : Reply) (all actions : List Action) (after : Option ServedView) (v : State)

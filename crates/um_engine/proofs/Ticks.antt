@@ -1,7 +1,7 @@
 -- What follows from what happens, and whether it has an effect, by what it leaves.
 use Rattle.um_falling.specs.Carrying.{Adds}
 use Rattle.um_model.specs.Machine.{Settles}
-use Rattle.std.proofs.Common.{◌≡◌, ◌∙◌, ◌&&◌, ◌++◌, ℕ, Bool, true, false, true≢false, List, [], Option, Some, None, refl, sym, ap, subst}
+use Rattle.std.proofs.Common.{◌≡◌, ◌∙◌, ◌&&◌, ◌++◌, ℕ, Bool, true, false, true≢false, cond, List, [], Option, Some, None, refl, sym, ap, subst}
 use Rattle.std.specs.Bool.{Decides}
 use Rattle.std.specs.Cmp.Lexicographic.{pointwise, same_text, other_text}
 use Rattle.std.specs.Prelude.{nat_eq}
@@ -14,6 +14,7 @@ use Rattle.um_model.specs.Ends.{waits_for_report, has_one_command}
 use Rattle.um_model.specs.Machine.{State, ProcessEnded, ProcessExecuted, Tick, Booted, IsProcessOf, IsOver, AreDeadlines, none_due, AwaitsReport, settings_in, booted, end_of, Happens, Follows, ends, reports, ticks, boots, HasNoEffect, is_idle, isnt_awaited, is_known}
 use Rattle.um_model.specs.Service.{Action, is_number, state_of_unit}
 use Rattle.um_model.specs.Timers.{Timers}
+use Rattle.um_state.specs.Awaiting.{IsUnawaited}
 use Rattle.um_state.specs.Due.{NoneDue}
 use Rattle.um_model.specs.declared.service.End.{End}
 use Rattle.um_model.specs.declared.transition.UnitEvent.{UnitEvent}
@@ -64,6 +65,11 @@ report_is_idle t s number unit process none =
 -- nor has one of a process that isn't live
 pub report_is_over : (t : ℕ) (s : State) (number : ℕ) → IsOver s.units number → HasNoEffect t s (ProcessExecuted number)
 report_is_over t s number over = isnt_awaited (λ other is awaits. over other is.has)
+
+-- nor has one for which no unit at all waits
+pub report_is_unawaited : (t : ℕ) (s : State) (number : ℕ) → IsUnawaited s.units number → HasNoEffect t s (ProcessExecuted number)
+report_is_unawaited t s number none = isnt_awaited (λ unit is awaits.
+    none unit (ap (λ b. cond b (state_of_unit s.units unit).main None) awaits.starts ∙ awaits.main))
 
 -- the number of a process, as it is tested
 number_told : (number : ℕ) (o : Option ℕ) → is_number number o ≡ true → o ≡ Some number

@@ -1,4 +1,4 @@
--- What the engine knows of the units of a tree: the graph, and the units for which it was made.
+-- What the engine knows of the units of a tree: the graph, the units for which it was made, and those that are known without the entries under `run/`.
 -- Follows no manual page: it is how the engine keeps what it knows of units.
 -- Commands and the room that a state takes stand on this file.
 use Rattle.std.specs.Prelude.{◌≡◌, ◌⊎◌, ◌↔◌, ℕ, List, Contains, Option, Some, None}
@@ -34,7 +34,8 @@ abbrev pub AreLasting : Tree → List (List ℕ) → Option (List (List ℕ)) �
 AreLasting tree extra None = without_run tree ≡ tree
 AreLasting tree extra (Some names) = (unit : List ℕ) → Contains names unit ↔ IsKnown (without_run tree) (Contains extra) unit
 
--- it was made for the state's loaded tree, and the state holds units of the graph alone
+-- it was made for the state's loaded tree, tells which of its units are known without the entries under `run/`, and the state holds units of
+-- the graph alone
 pub record KnowsFor (k : KnownView) (s : State) : Type 0 where
   pub made : IsGraphFor s.loaded (Contains k.extra) k.graph
   pub lasting : (unit : List ℕ) → Contains k.lasting unit ↔ IsKnown (without_run s.loaded) (Contains k.extra) unit

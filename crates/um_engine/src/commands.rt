@@ -1,10 +1,10 @@
 //! What a command does, and why it is refused.
 
 ghost use Rattle.std.specs.Prelude.{◌≡◌, Err, ℕ, List, [], false, map, Contains, IfOk, IfErr};
-ghost use Rattle.um_model.proofs.FewLaws.{HoldsNoMore};
+ghost use Rattle.um_model.specs.Live.{HoldsNoMore};
 ghost use Rattle.um_answer.specs.Loaded.{is_found as finds};
 ghost use Rattle.um_engine.specs.Known.{KnowsFor};
-ghost use Rattle.um_model.proofs.WaitingLaws.{has_waiting};
+ghost use Rattle.um_model.specs.Waiting.{has_waiting};
 ghost use Rattle.um_model.specs.Install.{paths_beyond};
 ghost use Rattle.um_model.specs.Jobs.{cancelled, jobs_of_unit};
 ghost use Rattle.um_model.specs.Machine as model;

@@ -1,5 +1,5 @@
 ghost use Rattle.um_falling.specs.Carrying.{Adds};
-ghost use Rattle.std.specs.Prelude.{◌≡◌, ◌≢◌, ◌↔◌, [], false, is_some, map, IfOk, IfErr, IfSome, IsTrue};
+ghost use Rattle.std.specs.Prelude.{◌≡◌, ◌≢◌, ◌↔◌, [], true, false, is_some, map, IfOk, IfErr, IfSome, IsTrue};
 ghost use Rattle.um_engine.specs.Engine.{LacksEffect, standing_in, state_in, size_in, has_effect_in, state_at, state_after, reply_in, actions_in, state_before};
 ghost use Rattle.um_engine.specs.OfStore.{is_of_store};
 ghost use Rattle.um_engine.specs.Planned.{Declines};
@@ -13,7 +13,7 @@ ghost use Rattle.um_wire.specs.Refusal.{refused_of};
 ghost use Rattle.um_wire.specs.declared.refusal.Refusal.TheVariants.{NoMemory};
 
 use crate::commands::{Outcome, done};
-use crate::happenings::met;
+use crate::happenings::{is_unawaited, met};
 use crate::loading::known_of_loaded;
 use crate::room::check_room;
 use crate::served::Served;
@@ -181,6 +181,19 @@ impl Engine {
                 let (served, actions) = met(self.alloc, &self.served, moment, happening)?;
                 Ok(Next::at(moment, served, Reply::Done, actions))
             }
+        }
+    }
+
+    /// Whether the input is one of those without effect that are known without a plan: a report for which no unit waits, as most are. Of any
+    /// other input nothing is told. It takes no memory.
+    pub fn is_idle(&self, input: &Input) -> bool
+        ensures lacks { result ≡ true
+            → LacksEffect (moment_of (state_in self.now) (input_of input.now).moment) (state_in self.now) (input_of input.now).event }
+        ensures step { result ≡ true → Step (size_in self.now) (state_in self.now) (input_of input.now) model.Done [] (state_in self.now) }
+    {
+        match input.event() {
+            Event::Commanded(_) => false,
+            Event::Happened(happening) => is_unawaited(self.served.state(), happening),
         }
     }
 

@@ -1,7 +1,7 @@
 //! What follows from what happens.
 
 ghost use Rattle.std.specs.Bool.{Decides};
-ghost use Rattle.std.specs.Prelude.{◌≡◌, ◌↔◌, ◌&&◌, ℕ, List, [], Contains, map, option_map, IsTrue, IfOk, IfSome};
+ghost use Rattle.std.specs.Prelude.{◌≡◌, ◌↔◌, ◌&&◌, ℕ, true, List, [], Contains, map, option_map, IsTrue, IfOk, IfSome};
 ghost use Rattle.um_engine.specs.Engine.{FollowsUpon, Met, MetBy, IsSame};
 ghost use Rattle.um_engine.specs.Known.{KnowsFor};
 ghost use Rattle.um_falling.specs.Over.{Serves};
@@ -121,6 +121,16 @@ fn awaits_report(graph: &Graph, state: &State, number: u64, unit: &UnitName) -> 
         return false;
     }
     has_one_command(kind_in(graph, unit))
+}
+
+/// Whether what happens is a report for which no unit waits, as it is known without a look at any unit. Of anything else nothing is told.
+pub fn is_unawaited(state: &State, happening: &Happening) -> bool
+    ensures { result ≡ true → (t : ℕ) → model.HasNoEffect t (state_of state.now) (happening_of happening.now) }
+{
+    match happening {
+        Happening::ProcessExecuted { number } => !state.units().may_await(*number),
+        Happening::ProcessEnded { .. } | Happening::Tick | Happening::Booted { .. } => false,
+    }
 }
 
 /// The state after the report that the program of a process runs; none where no unit waits for it.

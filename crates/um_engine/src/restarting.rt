@@ -1,37 +1,29 @@
 //! Automatic restarts (systemd.service(5), "Restart=").
 
-ghost use Rattle.std.specs.Prelude.{◌≡◌, true, false, List, Contains, IfOk, OnOk};
+ghost use Rattle.std.specs.Bool.{Decides};
+ghost use Rattle.std.specs.Prelude.{Contains, IfOk, OnOk};
+ghost use Rattle.um_engine.specs.Planned.{ArePending};
 ghost use Rattle.um_falling.specs.Over.{Serves};
-ghost use Rattle.um_model.specs.Jobs.{ComesBefore, Job};
 ghost use Rattle.um_model.specs.Machine as model;
 ghost use Rattle.um_model.specs.Machine.{IsBefore};
-ghost use Rattle.um_model.specs.Order.{IsCycle};
 ghost use Rattle.um_model.specs.Plan.{AreFree};
 ghost use Rattle.um_state.specs.View.{state_of};
 
-use crate::numbered::pending_by_number;
+use crate::numbered::jobs_in;
 use std::alloc::{AllocError, Global};
 use um_graph::Graph;
-use um_model::{JobState, UnitJobs};
+use um_jobs::Jobs;
+use um_model::JobKind;
 use um_name::UnitName;
 use um_state::State;
 use um_transact::check_pending;
 use um_wire::Refusal;
 
-/// A start as the one job of a unit.
-const START_ALONE: UnitJobs = UnitJobs {
-    stop: None,
-    start: Some(JobState::Waiting),
-};
-
-/// Whether no pending jobs wait for one another in a circle.
-fn are_free(alloc: Global, graph: &Graph, state: &State) -> Result<bool, AllocError>
-    ensures free { IfOk result (λ free. Serves graph.now (state_of state.now) → free ≡ true → AreFree (IsBefore (state_of state.now).loaded) (state_of state.now).pending) }
-    ensures circle { IfOk result (λ free. Serves graph.now (state_of state.now) → free ≡ false
-        → (cycle : List Job) × IsCycle (ComesBefore (IsBefore (state_of state.now).loaded) (state_of state.now).pending) cycle) }
+/// Whether none of these jobs wait for one another in a circle.
+fn are_free(alloc: Global, graph: &Graph, jobs: &Jobs<'_>) -> Result<bool, AllocError>
+    ensures { IfOk result (λ free. (s : model.State) → Serves graph.now s → ArePending graph.now s jobs.now.units → Decides free (AreFree (IsBefore s.loaded) s.pending)) }
 {
-    let pending = pending_by_number(alloc, graph, state)?;
-    match check_pending(alloc, graph, &pending) {
+    match check_pending(alloc, graph, jobs.as_slice()) {
         Ok(()) => Ok(true),
         Err(Refusal::NoMemory) => Err(AllocError),
         Err(_) => Ok(false),
@@ -52,9 +44,14 @@ pub fn restart(
     if state.pending().get(unit).has_job() {
         return Ok(());
     }
-    state.set_jobs(unit, START_ALONE)?;
-    if !are_free(alloc, graph, state)? {
-        state.set_jobs(unit, UnitJobs::NONE)?;
+    let Some(number) = graph.number(unit) else {
+        return Ok(());
+    };
+    let mut jobs = jobs_in(alloc, graph, state)?;
+    jobs.put(number, JobKind::Start);
+    if !are_free(alloc, graph, &jobs)? {
+        return Ok(());
     }
+    state.set_jobs(unit, jobs.get(number))?;
     Ok(())
 }

@@ -16,7 +16,7 @@ use Rattle.um_model.specs.declared.jobs.UnitJobs.{UnitJobs}
 use Rattle.um_model.specs.declared.service.UnitState.{UnitState}
 use Rattle.um_model.proofs.TimersLaws.{same_name}
 use Rattle.um_model.proofs.UnitLaws.{jobs_apart, jobs_here, unlike}
-use Rattle.um_model.proofs.WaitingLaws.{NoMoreWait, waits, waits_in}
+use Rattle.um_model.specs.Waiting.{NoMoreWait, waits, waits_in}
 use Rattle.um_graph.specs.Graph.{GraphView, IsNumberOf}
 use Rattle.um_graph.specs.declared.row.Neighbour.{Neighbour}
 use Rattle.um_graph.proofs.NamedLaws.{got_within}

@@ -18,7 +18,7 @@ use Rattle.um_model.specs.declared.transition.StartJob.TheVariants.{Stays, Ends,
 use Rattle.um_model.specs.declared.transition.UnitEvent.{UnitEvent}
 use Rattle.um_model.proofs.TimersLaws.{same_name}
 use Rattle.um_model.proofs.UnitLaws.{jobs_apart, jobs_here, state_apart, tidy_jobs, tidy_units}
-use Rattle.um_model.proofs.WaitingLaws.{NoMoreWait, waits, waits_in}
+use Rattle.um_model.specs.Waiting.{NoMoreWait, waits, waits_in}
 use Rattle.um_graph.specs.Graph.{GraphView}
 use Rattle.um_falling.specs.Carrying.{ChangesTo, KeepsOthers, OnlyEnds, fails_start}
 use Rattle.um_falling.specs.Over.{Serves}

@@ -16,7 +16,8 @@ use Rattle.um_model.specs.declared.dependencies.DependencyKind.TheVariants.{Bind
 use Rattle.um_model.specs.declared.transition.UnitEvent.{UnitEvent}
 use Rattle.um_model.specs.declared.transition.UnitEvent.TheVariants.{BoundStop}
 use Rattle.um_model.proofs.AmongLaws.{among_contained, contains_among}
-use Rattle.um_model.proofs.FallTotal.{goes_at, comes_to_rest, rest_told, rest_is}
+use Rattle.um_model.proofs.FallTotal.{goes_at, rest_told, rest_is}
+use Rattle.um_model.specs.Transitions.{comes_to_rest}
 use Rattle.um_model.proofs.LeastLaws.{Among}
 use Rattle.um_model.proofs.OnceLaws.{among_at}
 use Rattle.um_model.proofs.SceneLaws.{first_before, others_sorted}

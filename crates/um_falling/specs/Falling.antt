@@ -4,7 +4,7 @@
 use Rattle.std.specs.Prelude.{◌≡◌, ◌≢◌, ℕ, suc, ◌==◌, ◌&&◌, ◌++◌, Bool, false, if◌then◌else◌, List, [], ◌∷◌, Option, Some, None, map, slice_get}
 use Rattle.std.specs.List.{list_any}
 use Rattle.um_model.specs.Machine.{State}
-use Rattle.um_model.proofs.FallTotal.{comes_to_rest}
+use Rattle.um_model.specs.Transitions.{comes_to_rest}
 use Rattle.um_model.specs.Service.{active_state_of, state_of_unit}
 use Rattle.um_model.specs.Transitions.{is_going}
 use Rattle.um_model.specs.declared.dependencies.DependencyKind.TheVariants.{BindsTo}

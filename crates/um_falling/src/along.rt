@@ -5,7 +5,7 @@ ghost use Rattle.um_falling.specs.Along as taking;
 ghost use Rattle.um_falling.specs.Falling.{KeepsSubs};
 ghost use Rattle.um_falling.specs.Over.{Serves};
 ghost use Rattle.um_graph.specs.Graph.{IsNumberOf, row_of};
-ghost use Rattle.um_model.proofs.WaitingLaws.{NoMoreWait};
+ghost use Rattle.um_model.specs.Waiting.{NoMoreWait};
 ghost use Rattle.um_model.specs.Jobs as model;
 ghost use Rattle.um_model.specs.Jobs.{AreTidyJobs};
 ghost use Rattle.um_model.specs.Machine.{TakesAlong};

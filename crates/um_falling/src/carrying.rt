@@ -3,7 +3,7 @@ ghost use Rattle.std.specs.Prelude.{◌≡◌, false, Contains, map, IfOk, OnOk}
 ghost use Rattle.um_falling.specs.Carrying.{ChangesTo, KeepsOthers, OnlyEnds, fails_start};
 ghost use Rattle.um_falling.specs.Falling.{StopsOne};
 ghost use Rattle.um_falling.specs.Over.{Serves};
-ghost use Rattle.um_model.proofs.WaitingLaws.{NoMoreWait};
+ghost use Rattle.um_model.specs.Waiting.{NoMoreWait};
 ghost use Rattle.um_model.specs.Jobs.{jobs_of_unit};
 ghost use Rattle.um_model.specs.Machine as model;
 ghost use Rattle.um_model.specs.declared.transition.UnitEvent.TheVariants.{BoundStop};

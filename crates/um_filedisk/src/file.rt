@@ -15,8 +15,8 @@ use um_sector::{Disk, Fault, Sector};
 ///
 /// It is the file at its path for as long as it is used: once another file or none stands there, or the file was cut, each write and sync fails.
 ///
-/// No contract can say what a file gives back. So `honest` isn't claimed of it, and of the clauses of `Disk` those on counts
-/// alone say something here: that a file does what the disk model says is a premise of what is proved above.
+/// No contract can say what a file gives back. So `honest` isn't claimed of it, and of the clauses of `Disk` those on counts and on
+/// which sectors are there alone say something here: that a file does what the disk model says is a premise of what is proved above.
 #[derive(Drop)]
 pub struct FileDisk<'a, R> {
     rt: &'a R,

@@ -36,8 +36,8 @@ enum Place {
 
 /// A gate over a Unix socket, of which no call waits but `wait`.
 ///
-/// No contract can say what a socket gives and takes. So `honest` isn't claimed of it, and of the clauses of `Gate` those on counts
-/// alone say something here: that a socket does what the list of events says is a premise of what is proved above.
+/// No contract can say what a socket gives and takes. So `honest` isn't claimed of it, and of the clauses of `Gate` those on how many
+/// bytes there are alone say something here: that a socket does what the list of events says is a premise of what is proved above.
 #[derive(Drop)]
 pub struct SocketGate {
     poll: Poll,

@@ -19,9 +19,9 @@ use Rattle.um_model.specs.declared.warnings.WarningKind.TheVariants.{UnreadableV
 use Rattle.um_model.specs.declared.words.WordRules.TheVariants.{Names}
 use Rattle.um_model.proofs.Forms.{found_unless}
 use Rattle.um_graph.proofs.ListLaws.{flat_contains, in_none, in_cons}
-use Rattle.um_model.proofs.FileForms.{Meaning, names_said}
-use Rattle.um_model.proofs.FileForms.{unit_reading}
-use Rattle.um_model.proofs.FileForms.{without_install}
+use Rattle.um_model.specs.FileForms.{Meaning, names_said}
+use Rattle.um_model.specs.FileForms.{unit_reading}
+use Rattle.um_model.specs.FileForms.{without_install}
 
 -- ---- what a value tells
 module _ (fits : List ℕ → Bool) (unit : List ℕ) where

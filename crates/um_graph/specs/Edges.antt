@@ -8,7 +8,7 @@ use Rattle.std.specs.List.{flat_map}
 use Rattle.std.specs.Ordering.{nat_cmp}
 use Rattle.std.specs.Str.{bytes_eq}
 use Rattle.um_model.specs.Dependencies.{loadable_of}
-use Rattle.um_model.proofs.KnownLaws.{is_target}
+use Rattle.um_model.specs.Names.{is_target}
 use Rattle.um_model.specs.Units.{LoadedUnit}
 use Rattle.um_model.specs.declared.dependencies.DependencyKind.TheVariants as kinds
 use Rattle.um_unit.specs.View.{loading_of}

@@ -4,7 +4,7 @@ ghost use Rattle.std.specs.Prelude.{◌≡◌, ◌<◌, [], All, AllPairs, IfOk,
 ghost use Rattle.std.specs.List.{flat_map};
 ghost use Rattle.std.specs.Option.{option_to_list};
 ghost use Rattle.um_model.specs.Least.{IsNamedBefore};
-ghost use Rattle.um_model.proofs.KnownLaws.{is_target};
+ghost use Rattle.um_model.specs.Names.{is_target};
 ghost use Rattle.um_graph.specs.Edges.{AreJoined, comes_after, declines, edge_seen, names_of, order_seen, pulled};
 ghost use Rattle.um_graph.specs.Rows.{AreRows};
 

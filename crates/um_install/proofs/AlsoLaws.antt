@@ -18,8 +18,8 @@ use Rattle.um_model.proofs.Forms.{found_unless}
 use Rattle.std.proofs.lemmas.Option.{same_Some, none-some}
 use Rattle.std.specs.Option.{option_map_or}
 use Rattle.um_install.proofs.Members.{each_contains, filter_map_contains, flat_contains}
-use Rattle.um_model.proofs.FileForms.{Meaning, names_of, names_said}
-use Rattle.um_model.proofs.FileForms.{unit_reading}
+use Rattle.um_model.specs.FileForms.{Meaning, names_of, names_said}
+use Rattle.um_model.specs.FileForms.{unit_reading}
 
 none_in : (name : List ℕ) → Contains [] name → ⊥
 none_in name (k, h, e) = omega arith

@@ -4,7 +4,7 @@
 use Rattle.std.specs.Prelude.{ℕ, Bool, false, ◌&&◌, ◌||◌, List, [], ◌∷◌, Option, Some, None, Result, Ok, Err, map as each}
 use Rattle.std.specs.FinMap as map
 use Rattle.std.specs.List.{filter}
-use Rattle.um_model.proofs.InstallLaws.{is_etc}
+use Rattle.um_model.specs.Install.{is_etc}
 use Rattle.um_model.specs.Refusals.{Refused}
 use Rattle.um_model.specs.Resolution.{unit_in_target}
 use Rattle.um_model.specs.Tree.{Tree, Entry, File, Link, PathParts, Place, Unit, DropIn, Wants, Requires, path_parts, put_link, remove_at}

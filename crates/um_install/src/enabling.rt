@@ -17,20 +17,19 @@ ghost use Rattle.um_install.specs.View.{link_of, targets_of as targets_seen, uni
 use crate::fitness::least_unfit;
 use crate::links::{LinkAt, Targets, linked_name, links_of, targets_of};
 use crate::occupied::{has_room, least_occupied};
-use crate::refusals::{bad_path, bad_setting, exists_at, masked, not_found};
 use crate::walk::{Naming, Units, walk};
 use std::alloc::{AllocError, Global};
 use um_name::UnitName;
 use um_tree::Tree;
 use um_unit::{LoadedUnit, Loading};
-use um_wire::{Limit, Refusal};
+use um_wire::{Limit, Refusal, bad_path, bad_setting, exists_at, masked, not_found};
 
 /// Refuses the least path that isn't served, or at which its link may not stand (E12).
 fn check_fit(alloc: Global, tree: &Tree, links: &[LinkAt]) -> Result<(), Refusal>
     ensures { RefusesBy (checks.Names told.bad_path (checks.least_of checks.is_unfit None (each link_of links.now))) result }
 {
     match least_unfit(tree, links) {
-        Some(path) => Err(bad_path(alloc, path)),
+        Some(path) => Err(bad_path(alloc, path)?),
         None => Ok(()),
     }
 }
@@ -45,7 +44,7 @@ fn check_free(
     ensures { RefusesBy (checks.Names told.exists_at (checks.least_of (checks.is_occupied tree.now (targets_seen targets.now.entries)) None (each link_of links.now))) result }
 {
     match least_occupied(tree, targets, links) {
-        Some(path) => Err(exists_at(alloc, path)),
+        Some(path) => Err(exists_at(alloc, path)?),
         None => Ok(()),
     }
 }
@@ -76,7 +75,7 @@ fn check_found(alloc: Global, unit: &str, found: &LoadedUnit) -> Result<(), Refu
     ensures { RefusesBy (model.CannotEnable unit.now (Found (unit_of found.now))) result }
 {
     if lacks_instance(found)? {
-        return Err(bad_setting(alloc, &found.name, "default-instance"));
+        return Err(bad_setting(alloc, found.name.as_str(), "default-instance")?);
     }
     Ok(())
 }
@@ -88,9 +87,11 @@ fn check_unit(alloc: Global, unit: &str, loading: &Loading) -> Result<(), Refusa
 {
     match loading {
         Loading::Found(found) => check_found(alloc, unit, found),
-        Loading::NotFound => Err(not_found(alloc, unit)),
-        Loading::Masked { unit } => Err(masked(alloc, unit)),
-        Loading::BadSetting { unit, reason } => Err(bad_setting(alloc, unit, reason.as_str())),
+        Loading::NotFound => Err(not_found(alloc, unit)?),
+        Loading::Masked { unit } => Err(masked(alloc, unit.as_str())?),
+        Loading::BadSetting { unit, reason } => {
+            Err(bad_setting(alloc, unit.as_str(), reason.as_str())?)
+        }
     }
 }
 

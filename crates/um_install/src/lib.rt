@@ -11,7 +11,6 @@ mod laws;
 mod links;
 mod masking;
 mod occupied;
-mod refusals;
 mod verbs;
 mod walk;
 

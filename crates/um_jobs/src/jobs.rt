@@ -5,7 +5,7 @@ ghost use Rattle.std.specs.List.{list_any};
 ghost use Rattle.um_graph.specs.Graph.{row_of};
 ghost use Rattle.um_jobs.specs.Jobs as told;
 ghost use Rattle.um_jobs.specs.Jobs.{IsReadyIn, JobsView, held_at, job_named, with_held_at, with_jobs_at, without_job};
-ghost use Rattle.um_model.proofs.WaitingLaws.{has_waiting};
+ghost use Rattle.um_model.specs.Waiting.{has_waiting};
 ghost use Rattle.um_jobs.specs.Named.{jobs_at};
 ghost use Rattle.um_jobs.specs.Ready as rows;
 ghost use Rattle.um_jobs.specs.Ready.{ready_kind};
@@ -13,17 +13,17 @@ ghost use Rattle.um_model.specs.Jobs as model;
 ghost use Rattle.um_model.specs.Jobs.{IsToldBefore, Job, no_jobs};
 ghost use Rattle.um_model.specs.Least.{IsLeast};
 ghost use Rattle.um_model.specs.Refusals as refused;
-ghost use Rattle.um_model.specs.declared.jobs.JobState.TheVariants.{Running};
+ghost use Rattle.um_model.specs.declared.jobs.JobState.TheVariants.{Running, Waiting};
 ghost use Rattle.um_wire.specs.Refusal.{refused_of};
 ghost use Rattle.um_wire.specs.declared.refusal.Refusal.TheVariants.{NoMemory};
 
-use crate::table::{is_waiting, jobs_of, with_running};
+use crate::table::{is_waiting, jobs_of, with_job};
 use std::alloc::{AllocError, Global};
 use std::marker::Model;
 use um_graph::{Graph, Neighbour};
 use um_model::{JobKind, JobState, UnitJobs};
 use um_name::UnitName;
-use um_wire::Refusal;
+use um_wire::{Refusal, no_such_job};
 
 /// The pending jobs of the units of a graph by their numbers, and which units count as deactivating. A number past the last unit
 /// is that of a unit without jobs, and nothing changes it.
@@ -137,11 +137,18 @@ impl Jobs<'_> {
         }
     }
 
+    /// A job of this kind of the unit is pending and waits from now on.
+    pub fn put(&mut self, unit: usize, kind: JobKind)
+        ensures { self.new ≡ with_jobs_at self.old unit (model.with_job kind Waiting (jobs_at self.old.units unit)) }
+    {
+        self.set(unit, with_job(kind, JobState::Waiting, self.get(unit)));
+    }
+
     /// That job of the unit runs from now on.
     pub fn begin(&mut self, unit: usize, kind: JobKind)
         ensures { self.new ≡ with_jobs_at self.old unit (model.with_job kind Running (jobs_at self.old.units unit)) }
     {
-        self.set(unit, with_running(kind, self.get(unit)));
+        self.set(unit, with_job(kind, JobState::Running, self.get(unit)));
     }
 
     /// That job of the unit is over.
@@ -160,7 +167,7 @@ impl Jobs<'_> {
     {
         let jobs = self.get(unit);
         if !has_waiting(jobs) {
-            return Err(no_such_job(alloc, name));
+            return Err(no_such_job(alloc, name.as_str())?);
         }
         self.set(unit, without_waiting(jobs));
         Ok(())
@@ -293,14 +300,4 @@ fn has_waiting(jobs: UnitJobs) -> bool
     ensures { result ≡ has_waiting jobs }
 {
     is_waiting(jobs.stop) || is_waiting(jobs.start)
-}
-
-/// E21 with the unit, or want of memory for its text.
-fn no_such_job(alloc: Global, unit: &UnitName) -> Refusal
-    ensures { ¬ (result ≡ NoMemory) → refused_of result ≡ refused.no_such_job unit.now }
-{
-    match String::from_str(alloc, unit.as_str()) {
-        Ok(unit) => Refusal::NoSuchJob { unit },
-        Err(_) => Refusal::NoMemory,
-    }
 }

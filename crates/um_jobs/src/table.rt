@@ -5,7 +5,7 @@ ghost use Rattle.um_jobs.specs.Drops.{drops_one, is_dropped};
 ghost use Rattle.um_jobs.specs.Named.{jobs_at};
 ghost use Rattle.um_model.specs.Jobs as model;
 ghost use Rattle.um_model.specs.Machine as machine;
-ghost use Rattle.um_model.specs.declared.jobs.JobState.TheVariants.{Running, Waiting};
+ghost use Rattle.um_model.specs.declared.jobs.JobState.TheVariants.{Waiting};
 
 use um_model::{ActiveState, Demand, JobKind, JobState, StartJob, UnitJobs};
 
@@ -116,17 +116,17 @@ pub fn drops_one(before: UnitJobs, after: UnitJobs) -> bool
     is_dropped(before.stop, after.stop) || is_dropped(before.start, after.start)
 }
 
-/// The jobs with that one running.
-pub fn with_running(kind: JobKind, now: UnitJobs) -> UnitJobs
-    ensures { result ≡ model.with_job kind Running now }
+/// The jobs with the one of this kind in that state.
+pub fn with_job(kind: JobKind, state: JobState, now: UnitJobs) -> UnitJobs
+    ensures { result ≡ model.with_job kind state now }
 {
     match kind {
         JobKind::Stop => UnitJobs {
-            stop: Some(JobState::Running),
+            stop: Some(state),
             ..now
         },
         JobKind::Start => UnitJobs {
-            start: Some(JobState::Running),
+            start: Some(state),
             ..now
         },
     }

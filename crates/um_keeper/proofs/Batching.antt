@@ -7,8 +7,9 @@ use Rattle.std.proofs.lemmas.List.Elements.{Contains-append_right, Contains-appe
 use Rattle.um_engine.specs.Engine.{state_before}
 use Rattle.um_engine.specs.declared.engine.Back.{Back}
 use Rattle.um_model.specs.Disk.{Past, Image, During}
-use Rattle.um_model.specs.Machine.{State, Input, Reply, Refusal, Run, rests, goes, Step}
+use Rattle.um_model.specs.Machine.{State, Input, Reply, Done, Refusal, Run, rests, goes, Step}
 use Rattle.um_model.specs.Numbers.{AreNew, started_numbers, actions_in}
+use Rattle.um_model.specs.Refusals.{Refused}
 use Rattle.um_model.specs.Service.{Action}
 use Rattle.um_model.specs.Standing.{Standing}
 use Rattle.um_model.specs.Store.{body_limit}
@@ -242,6 +243,16 @@ no_fault (and_next {answer = answer} {answers = answers} one more) has =
     elim (Contains-append_cases (answer ∷ []) answers (Err Device) has) [ inl here ↦ elim (Contains-push_cases [] answer (Err Device) here) [ inl none ↦ omega (arith, none.1) | inr is ↦ answered_otherwise one is ] | inr there ↦ no_fault more there ]
 
 -- ---- one input
+
+-- one that is done, and asks for nothing
+pub done_answered : {size : ℕ} {s : State} {input : Input} (given : Reply × List Action) → given.0 ≡ Done → given.1 ≡ [] → Step size s input Done [] s
+    → Answered size s input (Ok given) s
+done_answered {size} {s} {input} given reply actions step = accepted
+    (subst (λ r. Step size s input r given.1 s) (sym reply) (subst (λ l. Step size s input Done l s) (sym actions) step))
+    (λ r e. done_accepts r (sym reply ∙ e))
+  where
+    done_accepts : (r : Refused) → Done ≡ Refusal r → ⊥
+    done_accepts r e = cc
 
 -- a refusal that is a step's, unless it turns the input away
 told_refused : {size : ℕ} {s : State} {input : Input} {e : declared.Refusal} (away : Bool) → is_turned_away e ≡ away → is_of_store e ≡ false

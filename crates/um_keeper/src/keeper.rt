@@ -16,7 +16,7 @@ ghost use Rattle.um_model.specs.Numbers.{AreNew, started_numbers};
 ghost use Rattle.um_model.specs.Refusals.{Refused};
 ghost use Rattle.um_model.specs.StateSpellings.{state_spelling};
 ghost use Rattle.um_model.specs.Stands.{contents_of, IsStoreOf};
-ghost use Rattle.um_model.specs.Store.{other, log_start, part_count};
+ghost use Rattle.um_model.specs.Store.{other, body_limit, log_start, part_count};
 ghost use Rattle.um_sector.specs.Refused.{CountsDevice, IsLost};
 ghost use Rattle.um_state.specs.View.{state_of, input_of, query_of, reply_of};
 ghost use Rattle.um_tree.specs.Code.{tree_code};
@@ -118,6 +118,14 @@ impl<D: Disk> Keeper<D> {
     {
         self.engine.query(query)
     }
+
+    /// Each image that a crash may leave of the disk is a store of the state, as long as no call on it failed; and the store has the size of
+    /// its layout. It does nothing.
+    pub fn is_stored(&self)
+        ensures stored { has_failed self.now ≡ false → IsTrue (D.honest (disk_in self.now))
+            → Images (D.past (disk_in self.now)) (λ image. IsStoreOf (layout_in self.now) image (state_in self.now)) }
+        ensures sized { size_in self.now ≡ body_limit (layout_in self.now) }
+    {}
 
     /// The disk, as the last call left it.
     pub fn into_disk(self) -> D
@@ -320,9 +328,10 @@ impl<D: Disk> Keeper<D> {
 
     /// Takes a step: plans it, records it and syncs, and only then answers.
     ///
-    /// Each image of each moment meanwhile is a store of the state before, or of that with the input. The step's refusals (E1 to E14),
+    /// Each image of each moment meanwhile is a store of the state before, or of that with the input. The step's refusals (E4 to E14, E21),
     /// with nothing written; E17 where an earlier call answered E16; E20 where the record has no room and the generation is the last,
-    /// with nothing written; E15 and E16, after which the state is that from before.
+    /// with nothing written; E15 and E16, after which the state is that from before. But for E16 and E17 each image meanwhile is of
+    /// the state before.
     pub fn submit(&mut self, input: &Input) -> Result<Receipt, Refusal>
         ensures during { has_failed self.old ≡ false → IsTrue (D.honest (disk_in self.old))
             → During (D.past (disk_in self.old)) (D.past (disk_in self.new)) (IsBegun (layout_in self.old) (state_in self.old) (input_of input.now ∷ [])) }
@@ -332,6 +341,8 @@ impl<D: Disk> Keeper<D> {
         ensures stored { has_failed self.new ≡ false → IsTrue (D.honest (disk_in self.old))
             → Images (D.past (disk_in self.new)) (λ image. IsStoreOf (layout_in self.old) image (state_in self.new)) }
         ensures state { OnErr result (state_in self.new ≡ state_in self.old) }
+        ensures kept { IfErr result (λ e. (e ≡ Refusal.Device) ⊎ (e ≡ Refusal.Reopen) ⊎ (IsTrue (D.honest (disk_in self.old))
+            → During (D.past (disk_in self.old)) (D.past (disk_in self.new)) (λ image. IsStoreOf (layout_in self.old) image (state_in self.old)))) }
         ensures place { IsSamePlace self.old self.new }
         ensures grows { generation_in self.old ≤ generation_in self.new }
         ensures refused { IfErr result (λ e. IsLost e ⊎ (e ≡ Refusal.Reopen) ⊎ (e ≡ Refusal.GenerationsSpent) ⊎ ((is_of_store e ≡ false)

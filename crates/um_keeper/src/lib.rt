@@ -15,5 +15,7 @@ pub use laws::{
     an_input_has_room_in_a_record, unread_sectors_of_a_store_do_not_count,
     what_was_answered_outlives_crashes,
 };
-pub use opening::{a_store_is_taken_up, what_is_taken_up_is_not_refused};
+pub use opening::{
+    a_store_goes_up_by_one_generation, a_store_is_taken_up, what_is_taken_up_is_not_refused,
+};
 pub use receipt::{Handed, Receipt, SpawnOrder};

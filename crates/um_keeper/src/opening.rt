@@ -3,6 +3,8 @@ ghost use Rattle.std.specs.Option.{option_map};
 ghost use Rattle.um_engine.specs.Engine.{state_in, size_in};
 ghost use Rattle.um_keeper.specs.Keeping.{Keeps};
 ghost use Rattle.um_keeper.specs.Opening.{HasLayout, IsStart, Leads, Replays, IsNoInput, IsUnread, IsUntaken, IsTakenUp, IsNextOf, IsRead, IsKept, IsSomeStore, IsAsBefore};
+ghost use Rattle.um_keeper.specs.Opening.{IsStill, StaysFor, StaysForOne, IsUnwritten};
+ghost use Rattle.um_log.specs.Greatest.{IsGreatest};
 ghost use Rattle.um_log.specs.Reading.{bytes_of, places_of};
 ghost use Rattle.um_model.specs.Bytes.{nothing_left};
 ghost use Rattle.um_model.specs.Disk.{Image, seen, Images, IsSettled, During};
@@ -12,7 +14,7 @@ ghost use Rattle.um_model.specs.Machine as model;
 ghost use Rattle.um_model.specs.Servable.{IsServable};
 ghost use Rattle.um_model.specs.StateSpellings.{state_at, FitState};
 ghost use Rattle.um_model.specs.Store.{body_limit, store_sectors, other, log_start};
-ghost use Rattle.um_model.specs.Stands.{IsStoreOf};
+ghost use Rattle.um_model.specs.Stands.{StandsFor, IsStoreOf};
 ghost use Rattle.um_model.specs.declared.layout.Layout as declared;
 ghost use Rattle.um_model.specs.declared.layout.Slot as declared_slot;
 ghost use Rattle.um_wire.specs.declared.refusal.Refusal as declared_refusal;
@@ -22,7 +24,7 @@ ghost use Rattle.um_state.specs.View.{state_of, input_of};
 use crate::keeper::{Keeper, OpenedStore};
 use std::alloc::{AllocError, Global};
 use um_engine::Engine;
-use um_log::{Log, Record, first_later, scan};
+use um_log::{Log, Record, greatest_generation, scan};
 use um_model::Layout;
 use um_sector::{Disk, SECTOR_BYTES, Sector};
 use um_slot::{Home, newest, read_superblock, write_other};
@@ -158,9 +160,8 @@ fn take_up<D: Disk>(alloc: Global, disk: &mut D) -> Result<Found, Refusal>
     ensures read { IfOk result (λ f. IsTrue (D.honest disk.old)
         → IsRead f.layout (seen (D.past disk.old)) (record { generation = f.home.generation; records = f.records })) }
     ensures kept { IfOk result (λ f. IsKept f.layout (size_in f.engine) (state_in f.engine)) }
-    ensures last { IfOk result (λ f. f.home.generation < 2 ^ 64 - 1) }
     ensures room { IfOk result (λ f. store_sectors f.layout ≤ D.size disk.old) }
-    ensures err { IfErr result (λ e. IsLost e ⊎ (IsTrue (D.honest disk.old) → IsUntaken (D.size disk.old) (seen (D.past disk.old)) e)) }
+    ensures err { IfErr result (λ e. IsLost e ⊎ (IsTrue (D.honest disk.old) → IsUnread (D.size disk.old) (seen (D.past disk.old)) e)) }
     ensures past { IsTrue (D.honest disk.old) → D.past disk.new ≡ D.past disk.old }
     ensures failures { CountsDevice result (D.failures disk.old) (D.failures disk.new) }
     ensures size { D.size disk.new ≡ D.size disk.old }
@@ -169,20 +170,12 @@ fn take_up<D: Disk>(alloc: Global, disk: &mut D) -> Result<Found, Refusal>
     let layout = read_layout(disk)?;
     let snapshot = newest(alloc, disk, layout)?;
     let home = snapshot.home;
-    if home.generation == u64::MAX {
-        return Err(Refusal::GenerationsSpent);
-    }
     let Some(mut engine) = start_of(alloc, layout, &snapshot.body)? else {
         let sector = layout.slot_start(home.slot) as u64 + 1;
         return Err(Refusal::Damaged { sector });
     };
     let records = scan(alloc, disk, layout, home.generation)?;
     replay(alloc, &mut engine, &records)?;
-    if let Some(sector) = first_later(disk, layout, home.generation)? {
-        return Err(Refusal::Damaged {
-            sector: sector as u64,
-        });
-    }
     Ok(Found {
         layout,
         home,
@@ -191,19 +184,39 @@ fn take_up<D: Disk>(alloc: Global, disk: &mut D) -> Result<Found, Refusal>
     })
 }
 
-/// Writes the state as the next generation into the other slot.
-fn renew<D: Disk>(alloc: Global, disk: &mut D, found: Found) -> Result<Held, Refusal>
+/// The greatest generation that stands on the disk of a store, which isn't the last there is: E20 where it is.
+fn greatest_but_last<D: Disk>(disk: &mut D, layout: Layout, newest: u64) -> Result<u64, Refusal>
+    ensures greatest { IfOk result (λ n. IsTrue (D.honest disk.old) → IsGreatest layout (seen (D.past disk.old)) newest n) }
+    ensures early { IfOk result (λ n. n < 2 ^ 64 - 1) }
+    ensures err { IfErr result (λ e. (e ≡ Refusal.Device) ⊎ ((e ≡ Refusal.GenerationsSpent)
+        × (IsTrue (D.honest disk.old) → IsGreatest layout (seen (D.past disk.old)) newest (2 ^ 64 - 1)))) }
+    ensures past { IsTrue (D.honest disk.old) → D.past disk.new ≡ D.past disk.old }
+    ensures failures { CountsDevice result (D.failures disk.old) (D.failures disk.new) }
+    ensures size { D.size disk.new ≡ D.size disk.old }
+    ensures honest { D.honest disk.new ≡ D.honest disk.old }
+{
+    let greatest = greatest_generation(disk, layout, newest)?;
+    if greatest == u64::MAX {
+        return Err(Refusal::GenerationsSpent);
+    }
+    Ok(greatest)
+}
+
+/// Writes the state into the other slot, as the generation behind the greatest that stands on the disk.
+fn renew<D: Disk>(alloc: Global, disk: &mut D, found: Found, greatest: u64) -> Result<Held, Refusal>
     requires kept { IsKept found.layout (size_in found.engine) (state_in found.engine) }
-    requires last { found.home.generation < 2 ^ 64 - 1 }
+    requires early { greatest < 2 ^ 64 - 1 }
     requires room { store_sectors found.layout ≤ D.size disk.old }
     ensures during { IsTrue (D.honest disk.old) → IsSettled (D.past disk.old)
         → IsTakenUp (D.size disk.old) (seen (D.past disk.old)) found.layout found.home.slot found.home.generation (state_in found.engine)
-        → During (D.past disk.old) (D.past disk.new) (IsAsBefore found.layout (D.past disk.old)) }
+        → IsGreatest found.layout (seen (D.past disk.old)) found.home.generation greatest
+        → During (D.past disk.old) (D.past disk.new) (IsStill found.layout (seen (D.past disk.old)) (state_in found.engine)) }
     ensures ok { IfOk result (λ held. IsTrue (D.honest disk.old) → IsSettled (D.past disk.old)
         → IsTakenUp (D.size disk.old) (seen (D.past disk.old)) found.layout found.home.slot found.home.generation (state_in found.engine)
+        → IsGreatest found.layout (seen (D.past disk.old)) found.home.generation greatest
         → Keeps (D.past disk.new) (D.size disk.new) held.log.layout held.home.slot held.home.generation held.log.number held.log.next (state_in held.engine)) }
     ensures held { IfOk result (λ held. (state_in held.engine ≡ state_in found.engine) × (size_in held.engine ≡ size_in found.engine)
-        × (held.log.layout ≡ found.layout) × (held.home.slot ≡ other found.home.slot) × (held.home.generation ≡ found.home.generation + 1) × (held.log.generation ≡ held.home.generation) × (held.log.number ≡ 0)
+        × (held.log.layout ≡ found.layout) × (held.home.slot ≡ other found.home.slot) × (held.home.generation ≡ greatest + 1) × (held.log.generation ≡ held.home.generation) × (held.log.number ≡ 0)
         × (held.opened ≡ record { generation = found.home.generation; records = found.records })) }
     ensures failures { CountsDevice result (D.failures disk.old) (D.failures disk.new) }
     ensures err { IfErr result IsLost }
@@ -212,7 +225,11 @@ fn renew<D: Disk>(alloc: Global, disk: &mut D, found: Found) -> Result<Held, Ref
 {
     let mut body = Vec::new(alloc);
     found.engine.state().put(&mut body)?;
-    let Some(home) = write_other(alloc, disk, found.layout, found.home, &body)? else {
+    let last = Home {
+        slot: found.home.slot,
+        generation: greatest,
+    };
+    let Some(home) = write_other(alloc, disk, found.layout, last, &body)? else {
         unreachable!();
     };
     Ok(Held {
@@ -228,8 +245,9 @@ fn renew<D: Disk>(alloc: Global, disk: &mut D, found: Found) -> Result<Held, Ref
 
 /// Syncs, takes up the store that the disk holds, and writes its state as the next generation.
 pub(crate) fn recover<D: Disk>(alloc: Global, disk: &mut D) -> Result<Held, Refusal>
-    ensures during { IsTrue (D.honest disk.old) → (layout : declared.Layout) → Images (D.past disk.old) (IsSomeStore layout)
-        → During (D.past disk.old) (D.past disk.new) (IsAsBefore layout (D.past disk.old)) }
+    ensures stays { IfOk result (λ held. IsTrue (D.honest disk.old) → StaysFor held.log.layout (state_in held.engine) (D.past disk.old) (D.past disk.new)) }
+    ensures unwritten { IfErr result (λ e. IsTrue (D.honest disk.old)
+        → IsUnwritten (D.past disk.old) (D.past disk.new) ⊎ (IsLost e × StaysForOne (D.past disk.old) (D.past disk.new))) }
     ensures ok { IfOk result (λ held. IsTrue (D.honest disk.old)
         → Keeps (D.past disk.new) (D.size disk.new) held.log.layout held.home.slot held.home.generation held.log.number held.log.next (state_in held.engine)) }
     ensures taken { IfOk result (λ held. IsTrue (D.honest disk.old)
@@ -244,23 +262,31 @@ pub(crate) fn recover<D: Disk>(alloc: Global, disk: &mut D) -> Result<Held, Refu
 {
     disk.sync()?;
     let found = take_up(alloc, disk)?;
-    renew(alloc, disk, found)
+    let greatest = greatest_but_last(disk, found.layout, found.home.generation)?;
+    renew(alloc, disk, found, greatest)
 }
 
 impl<D: Disk> Keeper<D> {
-    /// Opens the store that a disk holds: it syncs, takes up what is read, and writes the state as the next generation into the other
-    /// slot, before anything is accepted. A refusal hands the disk back.
+    /// Opens the store that a disk holds: it syncs, takes up the state that what it reads stands for, and writes that state into the other
+    /// slot, as the generation behind the greatest that a header or a sector of the log tells, before anything is accepted. A refusal
+    /// hands the disk back.
     ///
     /// E19 where there is no sector 0, or it doesn't begin as that of a store; E22 where it is of another format. E18 with sector 0
     /// where it tells no layout for which the disk has room; with sector 1 where no slot has a header; with the newest body's first
-    /// sector where it spells no state that the store may hold; with a record's first sector where it spells no input; with a sector of
-    /// the log that is of a later generation than the newest header's. E20 where that generation is the last one. All of these come
-    /// before anything is written, and none but E20 where the disk holds a store for which it has room. E15; E16 where a disk call fails.
+    /// sector where it spells no state that the store may hold; with a record's first sector where it spells no input. E20 where that
+    /// greatest generation is the last one. Behind each of these nothing is written, and none but E20 comes where the disk has room for
+    /// the store, and stands for a state. E15; E16 where a disk call fails: then too each image stands for what it stood for.
     pub fn open(alloc: Global, mut disk: D) -> Result<Keeper<D>, (Refusal, D)>
         ensures during { IfOk result (λ k. IsTrue (D.honest disk) → (layout : declared.Layout) → Images (D.past disk) (IsSomeStore layout)
             → During (D.past disk) (D.past k.disk) (IsAsBefore layout (D.past disk))) }
         ensures during_err { IfErr result (λ e. IsTrue (D.honest disk) → (layout : declared.Layout) → Images (D.past disk) (IsSomeStore layout)
             → During (D.past disk) (D.past e.1) (IsAsBefore layout (D.past disk))) }
+        ensures stands { IfOk result (λ k. IsTrue (D.honest disk) → StandsFor k.log.layout (seen (D.past disk)) (state_in k.engine)) }
+        ensures stays { IfOk result (λ k. IsTrue (D.honest disk) → StaysFor k.log.layout (state_in k.engine) (D.past disk) (D.past k.disk)) }
+        ensures stored { IfOk result (λ k. IsTrue (D.honest disk) → Images (D.past k.disk) (λ image. IsStoreOf k.log.layout image (state_in k.engine))) }
+        ensures sized { IfOk result (λ k. size_in k.engine ≡ body_limit k.log.layout) }
+        ensures unwritten { IfErr result (λ e. IsTrue (D.honest disk)
+            → IsUnwritten (D.past disk) (D.past e.1) ⊎ (IsLost e.0 × StaysForOne (D.past disk) (D.past e.1))) }
         ensures ok { IfOk result (λ k. (k.failed ≡ false) × (k.log.number ≡ 0) × (D.honest k.disk ≡ D.honest disk) × (D.size k.disk ≡ D.size disk)) }
         ensures taken { IfOk result (λ k. IsTrue (D.honest disk)
             → IsNextOf (D.size disk) (seen (D.past disk)) k.log.layout k.home.slot k.home.generation (state_in k.engine)) }
@@ -285,16 +311,24 @@ impl<D: Disk> Keeper<D> {
     }
 }
 
-/// A store for which the disk has room isn't refused for any cause of its reading, so that E20 alone may refuse it, in its last generation.
+/// What stands for a state isn't refused for any cause of its reading where the disk has room, so that E20 alone may refuse it, behind the
+/// last generation.
 pub fn a_store_is_taken_up()
-    ensures read { (count : ℕ) (layout : declared.Layout) (image : Image) (s : model.State) (e : declared_refusal.Refusal) → store_sectors layout ≤ count → IsStoreOf layout image s
+    ensures read { (count : ℕ) (layout : declared.Layout) (image : Image) (s : model.State) (e : declared_refusal.Refusal) → store_sectors layout ≤ count → StandsFor layout image s
         → ¬ IsUnread count image e }
-    ensures spent { (count : ℕ) (layout : declared.Layout) (image : Image) (s : model.State) (e : declared_refusal.Refusal) → store_sectors layout ≤ count → IsStoreOf layout image s
+    ensures spent { (count : ℕ) (layout : declared.Layout) (image : Image) (s : model.State) (e : declared_refusal.Refusal) → store_sectors layout ≤ count → StandsFor layout image s
         → IsUntaken count image e → e ≡ Refusal.GenerationsSpent }
 {}
 
-/// What is taken up isn't refused.
+/// What is taken up isn't refused, unless the greatest generation that stands there is the last one.
 pub fn what_is_taken_up_is_not_refused()
-    ensures { (count : ℕ) (layout : declared.Layout) (image : Image) (slot : declared_slot.Slot) (generation : ℕ) (s : model.State) (e : declared_refusal.Refusal)
-        → IsTakenUp count image layout slot generation s → generation < 2 ^ 64 - 1 → ¬ IsUntaken count image e }
+    ensures { (count : ℕ) (layout : declared.Layout) (image : Image) (slot : declared_slot.Slot) (generation greatest : ℕ) (s : model.State) (e : declared_refusal.Refusal)
+        → IsTakenUp count image layout slot generation s → IsGreatest layout image generation greatest → greatest < 2 ^ 64 - 1 → ¬ IsUntaken count image e }
+{}
+
+/// A store that was left by calls that answered goes up by one generation when it is opened: no sector of its log is of a later one than
+/// its newest header.
+pub fn a_store_goes_up_by_one_generation()
+    ensures { (count : ℕ) (layout : declared.Layout) (image : Image) (slot : declared_slot.Slot) (generation : ℕ) (s : model.State) (next : IsNextOf count image layout slot generation s)
+        → IsStoreOf layout image s → generation ≡ next.earlier + 1 }
 {}

@@ -102,6 +102,14 @@ impl Receipt {
         }
     }
 
+    /// The receipt of an input that is done and asks for nothing. It takes no memory.
+    pub(crate) fn done(alloc: Global) -> Receipt
+        ensures reply { result.0 ≡ machine.Done }
+        ensures actions { result.1 ≡ [] }
+    {
+        Receipt::new(Reply::Done, Vec::new(alloc))
+    }
+
     /// The reply.
     pub fn reply(&self) -> &Reply
         ensures { reply_of result.now ≡ self.now.0 }

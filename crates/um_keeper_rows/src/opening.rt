@@ -88,35 +88,49 @@ const NO_INPUT: &[u8] = &[
 const LATER: &[u8] = &[0x55, 0x4d, 0x4c, 0x47, 0, 0, 0, 0, 0, 0, 0, 3];
 
 /// What is changed, and how the open is refused.
-const DAMAGED: &[(&[Damage], &str)] = &[
+const REFUSED: &[(&[Damage], &str)] = &[
     // sector 0 tells whether a store is there
     (&[(0, 0, &[0; 16])], "E19 NotFormatted"),
     (&[(0, 11, &[63])], "E18 Damaged 0"),
     (&[(0, 7, b"9")], "E22 OtherLayout"),
     // without a header slot A is named
     (&[(1, 0, &[0; 24]), (65, 0, &[0; 24])], "E18 Damaged 1"),
-    // a body that spells no state, a record that spells no input, a sector of a later generation
+    // a body that spells no state, a record that spells no input
     (&[(66, 0, &[9])], "E18 Damaged 66"),
     (&[(129, 0, NO_INPUT)], "E18 Damaged 129"),
-    (&[(640, 0, LATER)], "E18 Damaged 640"),
+    // in the last generation a body that spells no state is told first
+    (&[(65, 8, &[255; 8]), (66, 0, &[9])], "E18 Damaged 66"),
+    (&[(65, 8, &[255; 8])], "E20 GenerationsSpent"),
+    (&[(640, 4, &[255; 8]), (640, 0, b"UMLG")], "E20 GenerationsSpent"),
 ];
 
-#[test]
-fn what_is_damaged_is_named(rt: HostRuntime) {
-    for (changes, wanted) in DAMAGED {
-        refuses(&rt, changed(&rt, changes), wanted);
+/// Asserts that a store with these changes isn't opened, and that each sector is as it was.
+fn leaves(rt: &(impl AllocGlobal + Abort), changes: &[Damage], wanted: &str) {
+    let mut before = changed(rt, changes);
+    let mut disk = refuses(rt, changed(rt, changes), wanted);
+    for k in 0..641 {
+        let sector = sector_at(rt, &mut disk, k);
+        same(rt, sector, sector_at(rt, &mut before, k));
     }
 }
 
 #[test]
-fn behind_the_last_generation_nothing_is_written(rt: HostRuntime) {
-    let mut before = changed(&rt, &[(65, 8, &[255; 8])]);
-    let disk = changed(&rt, &[(65, 8, &[255; 8])]);
-    let mut disk = refuses(&rt, disk, "E20 GenerationsSpent");
-    for k in 0..641 {
-        let sector = sector_at(&rt, &mut disk, k);
-        same(&rt, sector, sector_at(&rt, &mut before, k));
+fn what_is_refused_is_named_and_left_as_it_was(rt: HostRuntime) {
+    for (changes, wanted) in REFUSED {
+        leaves(&rt, changes, wanted);
     }
+}
+
+#[test]
+fn an_image_with_a_later_sector_is_opened_above_it(rt: HostRuntime) {
+    let mut disk = over(&rt, changed(&rt, &[(640, 0, LATER)])).into_disk();
+    // UMSLOT01, generation 4, a body of 37 bytes
+    let header = [
+        0x55, 0x4d, 0x53, 0x4c, 0x4f, 0x54, 0x30, 0x31, 0, 0, 0, 0, 0, 0, 0, 4, 0, 0, 0, 0, 0, 0,
+        0, 0x25,
+    ];
+    has_layout(&rt, &mut disk, 1, &header);
+    same(&rt, files_on(&rt, disk), 0);
 }
 
 /// A disk whose store has one file, in its log.
@@ -137,22 +151,28 @@ fn half_checkpointed(rt: &(impl AllocGlobal + Abort)) -> MemDisk {
     keeper.into_disk().into_inner()
 }
 
-/// What a crash leaves of an open whose call of that number fails.
-fn crashed(rt: &(impl AllocGlobal + Abort), disk: MemDisk, fails: u64, pick: usize) -> MemDisk {
-    let disk = refuses(rt, Fuse::new(disk, fails), "E16 Device");
+/// What a crash leaves of an open that a failing call ends.
+fn crashed(rt: &(impl AllocGlobal + Abort), disk: Fuse<MemDisk>, pick: usize) -> MemDisk {
+    let disk = refuses(rt, disk, "E16 Device");
     crash(rt, disk, &[pick])
 }
 
-/// Asserts that a crash behind the failed call of that number of an open of the store of one file, or of the half checkpointed one,
-/// leaves its file.
+/// The store of one file, or the half checkpointed one.
+fn one_file(rt: &(impl AllocGlobal + Abort), is_half: bool) -> MemDisk {
+    if is_half {
+        half_checkpointed(rt)
+    } else {
+        filed(rt)
+    }
+}
+
+/// Asserts that a crash behind the failed call of that number of an open of such a store leaves its file, also where a write that failed
+/// was made.
 fn adds_no_state(rt: &(impl AllocGlobal + Abort), is_half: bool, fails: u64) {
     for pick in 0..2 {
-        let disk = if is_half {
-            half_checkpointed(rt)
-        } else {
-            filed(rt)
-        };
-        let left = crashed(rt, disk, fails, pick);
+        let left = crashed(rt, Fuse::new(one_file(rt, is_half), fails), pick);
+        same(rt, files_on(rt, left), 1);
+        let left = crashed(rt, Fuse::making(one_file(rt, is_half), fails), pick);
         same(rt, files_on(rt, left), 1);
     }
 }
@@ -177,6 +197,7 @@ fn crashes_inside_an_open_add_no_state(rt: HostRuntime) {
     same(&rt, files_on(&rt, half_checkpointed(&rt)), 1);
     // and an open that begins on what such a crash left
     let fails = call_before_last(&rt, calls, 2);
-    let disk = crashed(&rt, crashed(&rt, filed(&rt), fails, 1), fails, 1);
+    let left = crashed(&rt, Fuse::new(filed(&rt), fails), 1);
+    let disk = crashed(&rt, Fuse::new(left, fails), 1);
     same(&rt, files_on(&rt, disk), 1);
 }

@@ -5,7 +5,7 @@ use Rattle.std.proofs.lemmas.List.Elements.{All-contains, All-replicate}
 use Rattle.um_keeper.specs.Answering.{Answer, AreAnswered, all_answered, and_next, FellBack, HasFault, denied, turned_away, all_asked, taken}
 use Rattle.um_keeper.specs.Keeping.{IsBegun}
 use Rattle.um_model.specs.Children.{Call}
-use Rattle.um_model.specs.Disk.{Past, Image, During}
+use Rattle.um_model.specs.Disk.{Past, Image, Images, During}
 use Rattle.um_model.specs.Machine.{State, Input, Reply, Refusal, rests}
 use Rattle.um_model.specs.Numbers.{AreNew, started_numbers}
 use Rattle.um_model.specs.Stands.{IsStoreOf}
@@ -97,6 +97,10 @@ untrusted honest is = ap (is_trusted honest) is
 -- a store of the state is one of a beginning of any inputs
 pub none_begun : (layout : Layout) (s : State) (inputs : List Input) (image : Image) → IsStoreOf layout image s → IsBegun layout s inputs image
 none_begun layout s inputs image is = record { count = 0; state = s; run = rests; store = is }
+
+-- where nothing was offered yet
+pub not_begun : {layout : Layout} {s : State} {past : Past} (inputs : List Input) → Images past (λ image. IsStoreOf layout image s) → During past past (IsBegun layout s inputs)
+not_begun {layout} {s} {past} inputs stored = started past (IsBegun layout s inputs) (λ image is. none_begun layout s inputs image (stored image is))
 
 kept_on : (place : Place) (s : State) (inputs : List Input) (answers : List Answer) (d e : Past) → e ≡ d → Holds place s d → Leaves place s inputs answers d e
 kept_on place s inputs answers d e same holds =

@@ -10,6 +10,7 @@ use Rattle.um_model.specs.Disk.{Image, Past, Images, During, seen}
 use Rattle.um_model.specs.Lives.{HasInOrder}
 use Rattle.um_model.specs.Machine.{State, Input, Reply, Step, Booted}
 use Rattle.um_model.specs.Service.{ByUnit}
+use Rattle.um_model.specs.Stands.{StandsFor}
 use Rattle.um_model.specs.declared.layout.Layout.{Layout}
 use Rattle.um_model.specs.declared.layout.Slot.{Slot}
 use Rattle.um_model.specs.declared.service.Signal.{Signal}
@@ -81,11 +82,12 @@ pub data Refuses (place : Place) (refusal : Refusal) (moment : ℕ) (boot : List
       → (IsTrue place.trusted → During a.disk b.disk (IsBegun place.layout a.state (boot_at moment boot ∷ []))) → Refuses place refusal moment boot a b
   unadopted : {count : ℕ} → refusal ≢ NoMemory → Began place (Err refusal) moment boot count a b → Refuses place refusal moment boot a b
 
--- the state that a disk of so many sectors is read as
+-- the state that a disk of so many sectors is read as, and stands for
 pub record IsFound (sectors : ℕ) (disk : Past) (layout : Layout) (s : State) : Type 0 where
   pub slot : Slot
   pub generation : ℕ
   pub taken_up : IsTakenUp sectors (seen disk) layout slot generation s
+  pub stands : StandsFor layout (seen disk) s
 
 -- an image that an opening leaves: a store of a state that one of before was a store of, or of one that a beginning of these inputs gives
 abbrev pub IsOfOpening : Layout → Past → State → List Input → Image → Type 0

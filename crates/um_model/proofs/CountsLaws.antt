@@ -7,14 +7,7 @@ use Rattle.um_model.specs.Results.{result_map}
 use Rattle.um_model.specs.Units.{value_readings, value_warning}
 use Rattle.um_model.specs.declared.units.ValueKind.{ValueKind}
 use Rattle.um_model.specs.declared.warnings.WarningKind.{WarningKind}
-
--- settings take something from each of these
-abbrev are_read : {A : Type 0} → List (Result A WarningKind) → Bool
-are_read readings = list_all (λ r. is_some (result_ok r)) readings
-
--- all that the value says counts for the settings of keys of this kind
-abbrev pub counts : List ℕ → ValueKind → List ℕ → Bool
-counts unit k value = are_read (value_readings unit k value)
+use Rattle.um_model.specs.Units.{are_read, counts}
 
 with_first : {A : Type 0} (a : A) (r : Result (List A) WarningKind) → is_none (result_err r) ≡ is_none (result_err (result_map (λ rest. a ∷ rest) r))
 with_first a (Ok rest) = refl

@@ -8,12 +8,9 @@ use Rattle.std.proofs.lemmas.List.Folds.{list_all-append}
 use Rattle.std.proofs.lemmas.Str.{digit_value-digit_char}
 use Rattle.um_model.specs.Names.{is_prefix_byte, byte_escape, is_plain_byte, escape_of, escaped, is_hex_digit, unescape_front}
 use Rattle.um_model.specs.Pieces.{Unreadable, Gives}
-use Rattle.um_model.proofs.PiecesLaws.{StandsForText, done, piece}
+use Rattle.um_model.specs.Pieces.{StandsForText, done, piece}
 use Rattle.um_model.proofs.Forms.{first_escape_of}
-
--- the text stands for these bytes
-abbrev pub StandsForBytes : List ℕ → List ℕ → Type 0
-StandsForBytes text bytes = StandsForText unescape_front text bytes
+use Rattle.um_model.specs.Specifiers.{StandsForBytes}
 
 -- What an escape stands for.
 

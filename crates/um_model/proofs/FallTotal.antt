@@ -29,6 +29,7 @@ use Rattle.um_model.proofs.LeastLaws.{IsDecided, Among}
 use Rattle.um_model.proofs.TimersLaws.{among_keys, same_name}
 use Rattle.um_model.proofs.TransitionLaws.{have_actions}
 use Rattle.um_model.proofs.UnitLaws.{state_apart, state_here}
+use Rattle.um_model.specs.Transitions.{comes_to_rest}
 
 -- some outcome, with its actions
 abbrev pub HasOutcome : (List Action → State → Type 0) → Type 0
@@ -193,12 +194,6 @@ goes_held units unit goes = among_keys units unit (by_entry (map.get units unit)
     by_entry None e = absurd (true≢false (sym goes ∙ ap (λ o. goes_at (unwrap_or o dead_unit).sub) e))
 
 -- ---- the units that fall with one
-
--- a unit came to rest, as it is tested: it is dead or failed, and wasn't the same before
-abbrev pub comes_to_rest : (before after : SubState) → Bool
-comes_to_rest before Dead = not (is_dead before)
-comes_to_rest before Failed = not (is_failed before)
-comes_to_rest before other = false
 
 -- so it did
 pub rest_told : (before after : SubState) → comes_to_rest before after ≡ true → ((after ≡ Dead) ⊎ (after ≡ Failed)) × (before ≢ after)

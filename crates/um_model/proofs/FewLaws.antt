@@ -41,6 +41,7 @@ use Rattle.um_model.proofs.TimersLaws.{same_name}
 use Rattle.um_model.proofs.TreeLaws.{without_run_same, without_run_twice}
 use Rattle.um_model.proofs.UnitLaws.{jobs_here, unlike}
 use Rattle.um_model.proofs.Forms.{with_running}
+use Rattle.um_model.specs.Live.{HoldsNoMore}
 
 -- ---- what maps hold of a unit
 
@@ -99,11 +100,6 @@ deadline_held : (s : State) (unit : List ℕ) (deadline : ℕ) → (state_of_uni
 deadline_held s unit deadline is = inl (λ none. none-some deadline (sym (ap (λ o. (unwrap_or o dead_unit).deadline) none) ∙ is))
 
 -- ---- what happens to units makes the state hold nothing new
-
--- the later state has the same loaded tree and holds nothing new
-pub record HoldsNoMore (s u : State) : Type 0 where
-  pub loaded : u.loaded ≡ s.loaded
-  pub held : (unit : List ℕ) → IsHeld u unit → IsHeld s unit
 
 pub same_no_more : (s : State) → HoldsNoMore s s
 same_no_more s = record { loaded = refl; held = λ unit is. is }

@@ -1,10 +1,7 @@
 -- What code finds by a function, and what it finds by the relation.
 use Rattle.std.proofs.Common.{◌≡◌, Option, Some, None, IfSome, IfNone, MatchOption, option_map, refl, sym, ◌∙◌}
 use Rattle.std.proofs.lemmas.Option.{none-some, same_Some}
-
--- what is found is of the relation, and what is of the relation is found
-abbrev pub Finds : {A : Type 0} → Option A → (A → Type 0) → Type 0
-Finds {A = A} found Is = (x : A) → (found ≡ Some x → Is x) × (Is x → found ≡ Some x)
+use Rattle.um_model.specs.Results.{Finds}
 
 -- what is of the relation is one
 pub one_found : {A : Type 0} (found : Option A) (Is : A → Type 0) → Finds found Is → (a b : A) → Is a → Is b → a ≡ b

@@ -21,7 +21,8 @@ use Rattle.um_model.specs.declared.jobs.UnitJobs.{UnitJobs}
 use Rattle.um_model.specs.declared.transition.Change.{Change}
 use Rattle.um_model.specs.declared.transition.UnitEvent.{UnitEvent}
 use Rattle.um_model.proofs.DemandsLaws.{reached_in}
-use Rattle.um_model.proofs.FewLaws.{HoldsNoMore, booted_none, cancel_no_more, blank_none, follows_no_more, resets_no_more, settles_no_more}
+use Rattle.um_model.proofs.FewLaws.{booted_none, cancel_no_more, blank_none, follows_no_more, resets_no_more, settles_no_more}
+use Rattle.um_model.specs.Live.{HoldsNoMore}
 use Rattle.um_model.proofs.FreeLaws.{pending_known}
 use Rattle.um_model.proofs.GivesLaws.{names_of_link, names_mentioned, OwnOrName}
 use Rattle.um_model.proofs.InvariantLaws.{FitUnitEvent, kept_taking}

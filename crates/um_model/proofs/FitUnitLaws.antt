@@ -47,7 +47,7 @@ use Rattle.um_model.proofs.InvariantLaws.{FitUnitEvent}
 use Rattle.um_model.proofs.LeastLaws.{Among}
 use Rattle.um_model.proofs.TransitionLaws.{by_cond}
 use Rattle.um_model.proofs.ValuesLaws.{IsNumber-number_of, IsSpan-span_of}
-use Rattle.um_model.proofs.FileForms.{place_limit, last_or, number_limit}
+use Rattle.um_model.specs.FileForms.{place_limit, last_or, number_limit}
 
 -- ---- settings
 

@@ -24,23 +24,11 @@ use Rattle.um_model.specs.Refusals.{Refused}
 use Rattle.um_model.specs.StateSpellings.{is_job_before}
 use Rattle.um_model.specs.Bytes.{Spelling, text_spelling}
 use Rattle.um_model.specs.Weight.{text_of_entry}
-use Rattle.um_model.proofs.FileForms.{words_in}
+use Rattle.um_model.specs.FileForms.{words_in}
 
 -- a unit is found, unless there is a reason why it can't be loaded
 abbrev pub found_unless : Option (List ℕ) → LoadedUnit → Loading
 found_unless reason u = option_map_or (BadSetting u.name) reason (Found u)
-
--- the span of so many microseconds, where they aren't too many
-abbrev pub span_within : ℕ → Option (Option ℕ)
-span_within n = if nat_le n span_limit then Some (Some n) else None
-
--- a word of the text tells this end
-abbrev pub tells_end : List ℕ → End → Bool
-tells_end text end = list_any (λ word. is_end end (exit_of word)) (words_in text)
-
--- the word tells an end
-abbrev pub is_exit : List ℕ → Bool
-is_exit word = is_some (exit_of word)
 
 -- what a `$` before a name in braces stands for, where there is one
 abbrev pub variable_front : List Variable → Option (List ℕ) → Front ℕ

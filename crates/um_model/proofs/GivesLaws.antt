@@ -28,8 +28,8 @@ use Rattle.um_model.proofs.NamedLaws.{named_by_name}
 use Rattle.um_model.proofs.OwnNameLaws.{loadable_found, name_of_loadable}
 use Rattle.um_model.proofs.TimersLaws.{same_name, same_option, among_keys}
 use Rattle.um_model.proofs.TreeLaws.{path_of_parts, fit-name}
-use Rattle.um_model.proofs.FileForms.{Meaning, names_of, names_said}
-use Rattle.um_model.proofs.FileForms.{unit_reading}
+use Rattle.um_model.specs.FileForms.{Meaning, names_of, names_said}
+use Rattle.um_model.specs.FileForms.{unit_reading}
 
 -- ---- kinds
 

@@ -32,6 +32,7 @@ use Rattle.um_model.proofs.NamedLaws.{named_by_name, also_names}
 use Rattle.um_model.proofs.ReachedLaws.{reached_list}
 use Rattle.um_model.proofs.TimersLaws.{same_name, named_trans, one_named_first, among_keys}
 use Rattle.um_model.proofs.UnitLaws.{alike, unlike}
+use Rattle.um_model.specs.Install.{is_etc}
 
 -- ---- trees
 
@@ -99,10 +100,6 @@ meant_list tree asked =
     reached_list (λ name. name ≡ asked) (λ unit name. Contains (install_of (load tree unit)).also name) (asked ∷ names_cover.0) (meant_covered tree asked) (λ name. same_name name asked) (written_or_not tree)
 
 -- ---- the links that disabling removes, by tests
-
-abbrev pub is_etc : Layer → Bool
-is_etc Etc = true
-is_etc other = false
 
 -- a link at such a place wants or requires the unit of this name
 abbrev pub pulls_in : Place → List ℕ → Bool

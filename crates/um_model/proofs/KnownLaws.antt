@@ -26,16 +26,9 @@ use Rattle.um_model.proofs.OwnNameLaws.{AskedOrName, named_or_asked}
 use Rattle.um_model.proofs.ReachedLaws.{reached_or_not}
 use Rattle.um_model.proofs.TimersLaws.{same_name, among_keys}
 use Rattle.um_model.proofs.TreeLaws.{path_of_parts, parts_at, fit-name}
+use Rattle.um_model.specs.Names.{is_target_type, is_target}
 
 -- ---- targets
-
--- the unit is a target
-abbrev pub is_target_type : Option Suffix → Bool
-is_target_type (Some Target) = true
-is_target_type other = false
-
-abbrev pub is_target : List ℕ → Bool
-is_target unit = is_target_type (suffix_of unit)
 
 pub target_suffix : (unit : List ℕ) → (is_target unit ≡ true) ↔ (suffix_of unit ≡ Some Target)
 target_suffix unit = (by (suffix_of unit), λ e. ap is_target_type e)

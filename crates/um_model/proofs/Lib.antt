@@ -63,7 +63,6 @@ pub mod SpelledLaws
 pub mod FitOnceLaws
 pub mod UnreadLaws
 pub mod KeptLaws
-pub mod FileForms
 pub mod FindsLaws
 pub mod SessionsLaws
 pub mod WaitingLaws

@@ -9,7 +9,8 @@ use Rattle.um_model.specs.Tree.{Tree, without_run}
 use Rattle.um_model.specs.Weight.{tree_weight}
 use Rattle.um_model.specs.declared.transition.UnitEvent.TheVariants.{Executed}
 use Rattle.um_model.proofs.AmongLaws.{contains_among, among_contained}
-use Rattle.um_model.proofs.FewLaws.{HoldsNoMore, same_no_more, happened_no_more, fires_no_more, number_held, booted_none}
+use Rattle.um_model.proofs.FewLaws.{same_no_more, happened_no_more, fires_no_more, number_held, booted_none}
+use Rattle.um_model.specs.Live.{HoldsNoMore}
 use Rattle.um_model.proofs.KeepsLaws.{happens_keeps, settles_keeps, fires_keeps}
 use Rattle.um_model.proofs.KnownLaws.{known_grows}
 use Rattle.um_model.proofs.OnceLaws.{no_more}

@@ -13,7 +13,7 @@ use Rattle.um_model.specs.declared.tree.Layer.{Layer}
 use Rattle.um_model.specs.declared.tree.Layer.TheVariants.{Etc, Run, Lib}
 use Rattle.um_model.proofs.NamesLaws.{is_unit_name-template}
 use Rattle.um_model.proofs.Forms.{of_same_type, drop_in_named}
-use Rattle.um_model.proofs.FileForms.{without_install}
+use Rattle.um_model.specs.FileForms.{without_install}
 
 -- ---- drop-ins: a link is none
 

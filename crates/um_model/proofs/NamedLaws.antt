@@ -19,8 +19,8 @@ use Rattle.um_model.specs.declared.words.WordRules.TheVariants.{Names}
 use Rattle.um_model.proofs.Forms.{found_unless, of_same_type}
 use Rattle.um_model.proofs.AmongLaws.{from_map, from_flat_map, from_filter_map}
 use Rattle.um_model.proofs.LeastLaws.{Among}
-use Rattle.um_model.proofs.FileForms.{Meaning, names_of, names_said}
-use Rattle.um_model.proofs.FileForms.{unit_reading}
+use Rattle.um_model.specs.FileForms.{Meaning, names_of, names_said}
+use Rattle.um_model.specs.FileForms.{unit_reading}
 
 -- ---- where a name leads
 

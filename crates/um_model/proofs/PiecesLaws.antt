@@ -6,18 +6,8 @@ use Rattle.std.proofs.lemmas.Option.{none-some, same_Some, some_pair_parts}
 use Rattle.um_model.specs.Bytes.{nothing_left as whole}
 use Rattle.um_model.specs.Pieces.{Front, Unreadable, Ends, Gives, by_front, begun_in, begun}
 pub use Rattle.um_model.specs.Pieces.{reading}
-use Rattle.um_model.proofs.FileForms.{with_front}
-
--- the text begins with pieces, which stand for these one behind the other, up to its end or to a front that ends them; this is left
-pub data BeginsWith {A : Type 0} (front : ℕ → List ℕ → Front A) : List ℕ → List A → List ℕ → Type 0 where
-  done : BeginsWith front [] [] []
-  stops : (b : ℕ) (bs : List ℕ) → front b bs ≡ Ends → BeginsWith front (b ∷ bs) [] (b ∷ bs)
-  piece : (b n : ℕ) (bs : List ℕ) (out more : List A) (left : List ℕ) → front b bs ≡ Gives out n → BeginsWith front (drop (n - 1) bs) more left
-      → BeginsWith front (b ∷ bs) (out ++ more) left
-
--- the text is pieces alone, which stand for these
-abbrev pub StandsForText : {A : Type 0} → (ℕ → List ℕ → Front A) → List ℕ → List A → Type 0
-StandsForText front text found = BeginsWith front text found []
+use Rattle.um_model.specs.FileForms.{with_front}
+use Rattle.um_model.specs.Pieces.{BeginsWith, StandsForText, done, stops, piece}
 
 -- these, and then what is read
 abbrev pub prefixed : {A : Type 0} → List A → Option (List A) → Option (List A)

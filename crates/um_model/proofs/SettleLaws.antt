@@ -33,7 +33,8 @@ use Rattle.um_model.proofs.LeastLaws.{IsDecided, a_least}
 use Rattle.um_model.proofs.MachineLaws.{same_job}
 use Rattle.um_model.proofs.SameUnits.{same_job_state, same_jobs}
 use Rattle.um_model.proofs.TimersLaws.{same_name, same_number, same_option, one_named_first, named_trans, first_timer, first_is_late, fewer_timers}
-use Rattle.um_model.proofs.WaitingLaws.{NoMoreWait, waiting, begun_fewer, begun_no_more}
+use Rattle.um_model.proofs.WaitingLaws.{waiting, begun_fewer, begun_no_more}
+use Rattle.um_model.specs.Waiting.{NoMoreWait}
 
 -- ---- a job is ready or not
 

@@ -5,26 +5,17 @@ use Rattle.std.specs.Str.{IsUtf8, is_utf8}
 use Rattle.std.proofs.lemmas.List.Sums.{suffix_len_is}
 use Rattle.std.proofs.lemmas.Bool.{cases_Bool, cond-true, cond-false, ne_eqb, eq-eqb, true≢false}
 use Rattle.std.proofs.lemmas.Str.{IsUtf8-from_is_utf8, is_utf8-from_IsUtf8}
-use Rattle.um_model.proofs.FindsLaws.{Finds}
+use Rattle.um_model.specs.Results.{Finds}
 use Rattle.um_model.specs.Names.{unescape_front}
-use Rattle.um_model.proofs.EscapesLaws.{StandsForBytes}
+use Rattle.um_model.specs.Specifiers.{StandsForBytes}
 use Rattle.um_model.specs.Pieces.{Gives, reading}
 use Rattle.um_model.specs.Specifiers.{specifier_front, unescaped_of, expanded_of}
 use Rattle.um_model.proofs.FindsLaws.{one_found}
-use Rattle.um_model.proofs.PiecesLaws.{StandsForText, one_reading, no_reading, reading-StandsForText, StandsForText-reading}
+use Rattle.um_model.proofs.PiecesLaws.{one_reading, no_reading, reading-StandsForText, StandsForText-reading}
+use Rattle.um_model.specs.Pieces.{StandsForText}
 use Rattle.um_model.proofs.Forms.{as_text}
-use Rattle.um_model.proofs.FileForms.{instance_or_empty}
-
--- the text that the bytes' escapes stand for, where it is one
-abbrev pub IsUnescaped : List ℕ → Option (List ℕ) → Type 0
-IsUnescaped escaped (Some text) = StandsForBytes escaped text × IsUtf8 text
-IsUnescaped escaped None = (bytes : List ℕ) → StandsForBytes escaped bytes → ¬ (IsUtf8 bytes)
-
--- the text stands for another one in the files of the unit of that name
-pub record IsExpanded (name text expanded : List ℕ) : Type 0 where
-  pub unescaped : Option (List ℕ)
-  pub instance : IsUnescaped (instance_or_empty name) unescaped
-  pub pieces : StandsForText (specifier_front name unescaped) text expanded
+use Rattle.um_model.specs.Names.{instance_or_empty}
+use Rattle.um_model.specs.Specifiers.{IsUnescaped, IsExpanded}
 
 -- there is one unescaped text at most, or none
 pub one_unescaped : (escaped : List ℕ) (a b : Option (List ℕ)) → IsUnescaped escaped a → IsUnescaped escaped b → a ≡ b

@@ -5,15 +5,17 @@ use Rattle.std.proofs.lemmas.Option.{none-some, same_Some}
 use Rattle.std.specs.Option.{option_map_or}
 use Rattle.um_model.specs.Ascii.{is_space}
 use Rattle.um_model.specs.Pieces.{Front, Gives, Unreadable}
-use Rattle.um_model.proofs.WordSteps.{bare, begun-read}
+use Rattle.um_model.proofs.WordSteps.{begun-read}
+use Rattle.um_model.specs.WordSpellings.{bare}
 use Rattle.um_model.specs.Words.{is_quote, Word, word_front, piece_of_words, words_of}
 use Rattle.um_model.specs.Substitution.{Variable, value_of, whole_name, braced_name, dollar_front, piece_front, Becomes, splits, fills, AllBecome, no_more, one_more, AreSubstituted, no_words, first_stays}
 use Rattle.um_model.specs.declared.words.WordRules.TheVariants.{Plain}
 use Rattle.um_model.specs.Text.{first_passes}
-use Rattle.um_model.proofs.PiecesLaws.{StandsForText, reading-StandsForText, IsRead, has_reading}
+use Rattle.um_model.proofs.PiecesLaws.{reading-StandsForText, IsRead, has_reading}
+use Rattle.um_model.specs.Pieces.{StandsForText}
 use Rattle.um_model.proofs.WordsLaws.{read, by_spelling, with_front, first_word, words_of-AreWords}
 use Rattle.um_model.proofs.Forms.{variable_front}
-use Rattle.um_model.proofs.FileForms.{word_values}
+use Rattle.um_model.specs.FileForms.{word_values}
 
 -- a byte that is no `$` stands for itself
 pub plain_piece : (environment : List Variable) (b : ℕ) (bs : List ℕ) → b ≢ 36 → piece_front environment b bs ≡ Gives (b ∷ []) 1

@@ -5,21 +5,8 @@ use Rattle.std.proofs.lemmas.List.{reverse-append, reverse-reverse}
 use Rattle.std.proofs.lemmas.List.Folds.{list_all-append}
 use Rattle.um_model.specs.Ascii.{is_space}
 use Rattle.um_model.specs.Text.{trim_start, first_passes}
-use Rattle.um_model.proofs.FileForms.{trim_end}
-
--- whitespace alone was cut off in front, and none is left there
-pub record IsCutInFront (text rest : List ℕ) : Type 0 where
-  pub front : List ℕ
-  pub parts : text ≡ front ++ rest
-  pub spaces : list_all is_space front ≡ true
-  pub stops : first_passes is_space rest ≡ false
-
--- whitespace alone was cut off at the end, and none is left there
-pub record IsCutAtEnd (text rest : List ℕ) : Type 0 where
-  pub back : List ℕ
-  pub parts : text ≡ rest ++ back
-  pub spaces : list_all is_space back ≡ true
-  pub stops : first_passes is_space (reverse rest) ≡ false
+use Rattle.um_model.specs.FileForms.{trim_end}
+use Rattle.um_model.specs.Text.{IsCutInFront, IsCutAtEnd}
 
 -- trimming in front cuts off whitespace alone, and leaves none there
 pub trim_start_cuts : (text : List ℕ) → IsCutInFront text (trim_start text)

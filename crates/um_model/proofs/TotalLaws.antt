@@ -35,7 +35,8 @@ use Rattle.um_model.proofs.SameUnits.{same_units, same_pending}
 use Rattle.um_model.proofs.ScanLaws.{held_with_number}
 use Rattle.um_model.proofs.SceneLaws.{finite_scene, held_list, held_or_list}
 use Rattle.um_model.proofs.SettleLaws.{a_settling, a_firing, a_reset, a_deadline_map}
-use Rattle.um_model.proofs.WaitingLaws.{has_waiting, none_told, none_waiting}
+use Rattle.um_model.proofs.WaitingLaws.{none_told, none_waiting}
+use Rattle.um_model.specs.Waiting.{has_waiting}
 use Rattle.um_model.proofs.TimersLaws.{same_name, same_number, same_option, one_named_first, named_trans, among_keys}
 
 -- ---- why a command for a unit is refused, if it is

@@ -27,6 +27,7 @@ use Rattle.um_model.specs.declared.tree.Layer.TheVariants.{Etc, Run, Lib}
 use Rattle.um_model.proofs.NamesLaws.{named_by_parts}
 use Rattle.um_model.proofs.Forms.{where_fit, is_fit_at, instance_text, is_fit_instance}
 use Rattle.um_model.specs.Bytes.{◌>>=◌}
+use Rattle.um_model.specs.Tree.{has_run}
 
 tied : (o : Ordering) → is_eq o ≡ true → o ≡ Equal
 tied Less e = cc
@@ -128,10 +129,6 @@ all_kept (e ∷ es) h = by (is_volatile e.0) refl h (all_kept es)
         → cond (not (is_volatile e.0)) (e ∷ where_key (slice_cmp nat_cmp) (λ path. not (is_volatile path)) es) (where_key (slice_cmp nat_cmp) (λ path. not (is_volatile path)) es) ≡ e ∷ es
     by true t h rest = cc
     by false t h rest = ap (λ b. cond (not b) (e ∷ where_key (slice_cmp nat_cmp) (λ path. not (is_volatile path)) es) (where_key (slice_cmp nat_cmp) (λ path. not (is_volatile path)) es)) t ∙ ap (λ xs. e ∷ xs) (rest h)
-
--- an entry stands under `run/`
-abbrev pub has_run : Tree → Bool
-has_run tree = list_any (λ e. is_volatile e.0) (map.entries tree)
 
 pub without_run_same : (tree : Tree) → has_run tree ≡ false → without_run tree ≡ tree
 unfolding without_run

@@ -14,44 +14,22 @@ use Rattle.um_model.specs.Ascii.{is_space, is_digit}
 use Rattle.std.specs.Option.{option_map_or}
 use Rattle.um_model.specs.Pieces.{Gives, Unreadable, reading}
 use Rattle.um_model.specs.Text.{trim_start, is_empty, is_blank}
-use Rattle.um_model.proofs.FindsLaws.{Finds}
+use Rattle.um_model.specs.Results.{Finds}
 use Rattle.um_model.specs.Moments.{span_limit}
 use Rattle.um_model.specs.Values.{words_for, boolean_of, decimal, is_decimal, number_of, time_of, time_front, span_of, exits_of, restart_text, policy_named}
 use Rattle.um_model.specs.declared.service.End.{End}
 use Rattle.um_model.specs.declared.settings.RestartPolicy.{RestartPolicy}
 use Rattle.um_model.specs.declared.settings.RestartPolicy.TheVariants.{No, Always, OnSuccess, OnFailure, OnAbnormal, OnAbort, OnWatchdog}
 use Rattle.um_model.proofs.FindsLaws.{one_found}
-use Rattle.um_model.proofs.PiecesLaws.{StandsForText, done, prefixed, prefixed-nil, reading_first, reading_unreadable, reading-StandsForText, StandsForText-reading, Follows, past_piece}
+use Rattle.um_model.proofs.PiecesLaws.{prefixed, prefixed-nil, reading_first, reading_unreadable, reading-StandsForText, StandsForText-reading, Follows, past_piece}
+use Rattle.um_model.specs.Pieces.{StandsForText, done}
 use Rattle.um_model.proofs.TextLaws.{trim_start_cuts}
-use Rattle.um_model.proofs.Forms.{span_within, tells_end, is_exit}
-use Rattle.um_model.proofs.FileForms.{number_limit, unit_size, digits_of, unit_of, past_part}
-use Rattle.um_model.proofs.FileForms.{words_in, policies}
+use Rattle.um_model.specs.ValueSpellings.{span_within, tells_end, is_exit}
+use Rattle.um_model.specs.FileForms.{number_limit, unit_size, digits_of, unit_of, past_part}
+use Rattle.um_model.specs.FileForms.{words_in, policies}
+use Rattle.um_model.specs.ValueSpellings.{IsBoolean, IsNumber, AddUpTo, IsSpan, IsExitSet, IsTime}
 
 -- ---- the values as relations
-
--- the text is one of the words for this truth value, in any ASCII case
-abbrev pub IsBoolean : List ℕ → Bool → Type 0
-IsBoolean text b = list_any (str_eq_ignore_ascii_case text) (words_for b) ≡ true
-
--- the text spells this number, which isn't too great
-pub record IsNumber (text : List ℕ) (n : ℕ) : Type 0 where
-  pub digits : is_decimal text ≡ true
-  pub value : n ≡ decimal text
-  pub limit : n ≤ number_limit
-
--- the text is a sequence of parts, with whitespace between them as one likes; together they are so many microseconds
-abbrev pub AddUpTo : List ℕ → ℕ → Type 0
-AddUpTo text n = (times : List ℕ) × StandsForText time_front text times × (sum times ≡ n)
-
--- the text is `infinity`, or it has one part at least and its parts add up to this
-abbrev pub IsSpan : List ℕ → Option ℕ → Type 0
-IsSpan text None = text ≡ codes "infinity"
-IsSpan text (Some n) = (is_blank text ≡ false) × AddUpTo text n × (n ≤ span_limit)
-
--- each word of the text tells an end, and the set holds the ends that they tell and no other
-pub record IsExitSet (text : List ℕ) (holds : End → Bool) : Type 0 where
-  pub readable : list_all is_exit (words_in text) ≡ true
-  pub exact : (end : End) → holds end ≡ tells_end text end
 
 -- ---- the laws
 
@@ -63,13 +41,6 @@ no_space_first b bs some white = elim (cases_Bool (is_digit b)) [
       elim (or_cases (eqb b 32) (eqb b 9) white) [ inl e ↦ omega (arith, eqb-true b 32 e, leb-true 48 b low.0) | inr e ↦ omega (arith, eqb-true b 9 e, leb-true 48 b low.0) ]
   | inr other ↦ let none : digits_of (b ∷ bs) ≡ [] = take_while-cons is_digit b bs ∙ cond-false _ _ _ other in omega (arith, ap length none)
 ]
-
--- A number and a unit say so many microseconds, in other words.
-pub record IsTime (digits unit : List ℕ) (n : ℕ) : Type 0 where
-  pub some : 0 < length digits
-  pub size : ℕ
-  pub unit_is : unit_size unit ≡ Some size
-  pub value : n ≡ decimal digits * size
 
 -- a number and a unit say one time
 pub one_time : (digits unit : List ℕ) (a b : ℕ) → IsTime digits unit a → IsTime digits unit b → a ≡ b

@@ -23,10 +23,7 @@ use Rattle.um_model.specs.declared.transition.StartJob.TheVariants.{Stays, Ends,
 use Rattle.um_model.proofs.FallLaws.{over_falls}
 use Rattle.um_model.proofs.TimersLaws.{same_name}
 use Rattle.um_model.proofs.Forms.{with_running}
-
--- a job of the unit waits, as it is tested
-abbrev pub has_waiting : UnitJobs → Bool
-has_waiting j = is_waiting j.stop || is_waiting j.start
+use Rattle.um_model.specs.Waiting.{waits, waits_in, has_waiting, NoMoreWait}
 
 neither : (a b : Bool) → (a || b) ≡ false → (a ≡ false) × (b ≡ false)
 neither false false e = (refl, refl)
@@ -45,22 +42,10 @@ isnt_waiting (Some Waiting) isnt = absurd (isnt refl)
 pub none_told : (j : UnitJobs) → ((kind : JobKind) → job_of kind j ≢ Some Waiting) → has_waiting j ≡ false
 none_told j none = ap (λ b. b || is_waiting j.start) (isnt_waiting j.stop (none Stop)) ∙ isnt_waiting j.start (none Start)
 
-abbrev pub waits : Option JobState → ℕ
-waits (Some Waiting) = 1
-waits other = 0
-
--- how many jobs of a unit wait
-abbrev pub waits_in : UnitJobs → ℕ
-waits_in j = waits j.stop + waits j.start
-
 -- how many jobs of these units wait
 abbrev pub waiting : List (List ℕ) → ByUnit UnitJobs → ℕ
 waiting [] pending = 0
 waiting (unit ∷ units) pending = waits_in (jobs_of_unit pending unit) + waiting units pending
-
--- of no unit more jobs wait
-abbrev pub NoMoreWait : ByUnit UnitJobs → ByUnit UnitJobs → Type 0
-NoMoreWait later earlier = (unit : List ℕ) → waits_in (jobs_of_unit later unit) ≤ waits_in (jobs_of_unit earlier unit)
 
 no_more : (units : List (List ℕ)) (later earlier : ByUnit UnitJobs) → NoMoreWait later earlier → waiting units later ≤ waiting units earlier
 no_more [] later earlier none = omega arith

@@ -10,66 +10,10 @@ use Rattle.um_model.specs.declared.words.WordRules.TheVariants.{Escaped, Plain, 
 use Rattle.um_model.specs.Pieces.{Front, Unreadable, Ends, Gives, by_front, begun}
 use Rattle.um_model.specs.Words.{begins_with_digits, is_left_out, rare_front, backslash_front, begins_escape, is_quote, quoted_front, quote_front, piece_of_word}
 use Rattle.um_model.proofs.PiecesLaws.{begun_step, BeginsWith-begun, left_follows, Follows, past_piece}
-use Rattle.um_model.proofs.FileForms.{meaning_of, hex_value}
-pub use Rattle.um_model.proofs.FileForms.{with_front}
-use Rattle.um_model.proofs.FileForms.{hex_front}
-
--- the front of a text, inside a quote or not: the word ends before it, it can't be read, a quote opens or closes,
--- it means a byte and takes so many bytes, or so many bytes stay as written
-pub data Spelling : Type 0 where
-  Stop : Spelling
-  Bad : Spelling
-  Turn : Option ℕ → Spelling
-  Means : ℕ → ℕ → Spelling
-  Kept : ℕ → Spelling
-
--- \x and two digits
-abbrev pub hex_spelling : ℕ → Spelling
-hex_spelling value = if nat_lt 0 value && nat_lt value 128 then Means value 4 else Bad
-
--- a backslash and a byte that has no meaning alone
-abbrev pub rare_escape : ℕ → List ℕ → Spelling
-rare_escape b bs =
-    if b == 120 && begins_with_digits 16 2 bs then hex_spelling (hex_value bs)
-    else (if is_left_out b bs then Bad
-    else (if is_space b then Kept 2 else Kept 1))
-
--- a backslash, by what follows it
-abbrev pub escape : List ℕ → Spelling
-escape [] = Kept 1
-escape (b ∷ bs) = option_map_or (λ meaning. Means meaning 2) (meaning_of b) (rare_escape b bs)
-
--- a byte that begins no escape
-abbrev pub bare : Option ℕ → ℕ → Spelling
-bare None b = if is_space b then Stop else (if is_quote b then Turn (Some b) else Kept 1)
-bare (Some quote) b = if b == quote then Turn None else Kept 1
-
--- how the front of a text is spelled, inside this quote or none
-abbrev pub spelled_at : WordRules → Option ℕ → ℕ → List ℕ → Spelling
-spelled_at rules quote b bs = if begins_escape rules b then escape bs else bare quote b
-
--- a word may end with the text: outside quotes, and in a variable's value anywhere
-abbrev pub may_end : WordRules → Option ℕ → Bool
-may_end Plain quote = true
-may_end other quote = is_none quote
-
--- nothing is left
-abbrev pub at_end : WordRules → Option ℕ → Option (List ℕ × List ℕ)
-at_end rules quote = if may_end rules quote then Some ([], []) else None
-
--- what is read, where the front is spelled so and what follows so many skipped bytes is read so
-abbrev pub by_spelling : Spelling → Option ℕ → ℕ → List ℕ → (ℕ → Option ℕ → Option (List ℕ × List ℕ)) → Option (List ℕ × List ℕ)
-by_spelling Stop quote b bs later = Some ([], b ∷ bs)
-by_spelling Bad quote b bs later = None
-by_spelling (Turn other) quote b bs later = later 0 other
-by_spelling (Means meaning n) quote b bs later = with_front (meaning ∷ []) (later (n - 1) quote)
-by_spelling (Kept n) quote b bs later = with_front (b ∷ take (n - 1) bs) (later (n - 1) quote)
-
--- the word and what follows it, after so many bytes are skipped
-abbrev pub read : WordRules → ℕ → Option ℕ → List ℕ → Option (List ℕ × List ℕ)
-read rules skip quote [] = at_end rules quote
-read rules (suc skip) quote (b ∷ bs) = read rules skip quote bs
-read rules zero quote (b ∷ bs) = by_spelling (spelled_at rules quote b bs) quote b bs (λ n other. read rules n other bs)
+use Rattle.um_model.specs.FileForms.{meaning_of, hex_value}
+pub use Rattle.um_model.specs.FileForms.{with_front}
+use Rattle.um_model.specs.FileForms.{hex_front}
+use Rattle.um_model.specs.WordSpellings.{Spelling, hex_spelling, rare_escape, escape, spelled_at, at_end, by_spelling, read, Stop, Bad, Turn, Means, Kept}
 
 pub read_skip : (rules : WordRules) (n : ℕ) (quote : Option ℕ) (bs : List ℕ) → read rules n quote bs ≡ read rules 0 quote (drop n bs)
 read_skip rules zero quote bs = refl

@@ -7,37 +7,22 @@ use Rattle.std.proofs.lemmas.Bool.{cases_Bool, true≢false, cond-true, cond-fal
 use Rattle.std.proofs.lemmas.Option.{some_pair_parts, none-some, same_Some}
 use Rattle.std.specs.Option.{option_map_or}
 use Rattle.um_model.specs.Ascii.{is_space}
-use Rattle.um_model.proofs.FindsLaws.{Finds}
+use Rattle.um_model.specs.Results.{Finds}
 use Rattle.um_model.specs.declared.words.WordRules.{WordRules}
 use Rattle.um_model.specs.declared.words.WordRules.TheVariants.{Escaped, Plain, Names}
-pub use Rattle.um_model.proofs.WordSteps.{with_front, at_end, by_spelling, read}
-use Rattle.um_model.proofs.WordSteps.{Spelling, Stop, Bad, Turn, Means, Kept, escape, bare, spelled_at, may_end, read_skip, front_of_front, no_front, is_piece, escape_piece, begun-read}
+pub use Rattle.um_model.proofs.WordSteps.{with_front}
+pub use Rattle.um_model.specs.WordSpellings.{at_end, by_spelling, read}
+use Rattle.um_model.proofs.WordSteps.{read_skip, front_of_front, no_front, is_piece, escape_piece, begun-read}
+use Rattle.um_model.specs.WordSpellings.{Spelling, Stop, Bad, Turn, Means, Kept, escape, bare, spelled_at, may_end}
 use Rattle.um_model.proofs.FindsLaws.{one_found}
 use Rattle.um_model.specs.Words.{is_quote, begins_escape, Word, word_front, piece_of_words, words_of}
 use Rattle.um_model.specs.Commands.{Command, is_separator, value_in_command, command_of, commands_read}
 use Rattle.um_model.specs.Pieces.{reading, Unreadable}
-use Rattle.um_model.proofs.PiecesLaws.{StandsForText, prefixed, reading_first, reading_unreadable, reading-StandsForText, StandsForText-reading, prefixed-nil, Follows, follows_more, past_piece}
-use Rattle.um_model.proofs.FileForms.{word_values, commands_among}
-
--- the byte ends or turns a word, outside quotes or in one
-abbrev pub marks : Option ℕ → ℕ → Bool
-marks None b = is_space b || is_quote b
-marks (Some quote) b = eqb b quote
-
--- the byte stands for itself
-abbrev pub is_plain : WordRules → Option ℕ → ℕ → Bool
-is_plain rules quote b = not (begins_escape rules b || marks quote b)
-
--- The word at the front of a text in other words: inside this quote, or none, the text begins with spellings of the word's bytes up to the word's end, and then the rest
-pub data InWord (rules : WordRules) : Option ℕ → List ℕ → List ℕ → List ℕ → Type 0 where
-  ends : (quote : Option ℕ) → may_end rules quote ≡ true → InWord rules quote [] [] []
-  stops : (quote : Option ℕ) (b : ℕ) (bs : List ℕ) → spelled_at rules quote b bs ≡ Stop → InWord rules quote (b ∷ bs) [] (b ∷ bs)
-  turns : (quote other : Option ℕ) (b : ℕ) (bs word rest : List ℕ) → spelled_at rules quote b bs ≡ Turn other
-      → InWord rules other bs word rest → InWord rules quote (b ∷ bs) word rest
-  stands : (quote : Option ℕ) (b meaning n : ℕ) (bs word rest : List ℕ) → spelled_at rules quote b bs ≡ Means meaning n
-      → InWord rules quote (drop (n - 1) bs) word rest → InWord rules quote (b ∷ bs) (meaning ∷ word) rest
-  keeps : (quote : Option ℕ) (b n : ℕ) (bs word rest : List ℕ) → spelled_at rules quote b bs ≡ Kept n
-      → InWord rules quote (drop (n - 1) bs) word rest → InWord rules quote (b ∷ bs) (b ∷ take (n - 1) bs ++ word) rest
+use Rattle.um_model.proofs.PiecesLaws.{prefixed, reading_first, reading_unreadable, reading-StandsForText, StandsForText-reading, prefixed-nil, Follows, follows_more, past_piece}
+use Rattle.um_model.specs.Pieces.{StandsForText}
+use Rattle.um_model.specs.FileForms.{word_values, commands_among}
+use Rattle.um_model.specs.WordSpellings.{is_plain, InWord, AreWords, AreCommands, ends, stops, turns, stands, keeps}
+use Rattle.um_model.specs.WordSpellings.{marks}
 
 drop_cons : (b : ℕ) (bs : List ℕ) (n : ℕ) → 1 ≤ n → drop n (b ∷ bs) ≡ drop (n - 1) bs
 drop_cons b bs zero h = absurd (omega arith)
@@ -278,10 +263,6 @@ none_read rules text later b e apart nothing =
     ap (reading (piece_of_words rules)) e
     ∙ reading_unreadable (piece_of_words rules) b later (cond-false _ _ _ apart ∙ ap (λ o. option_map_or (word_front (b ∷ later)) o Unreadable) (begun-read rules (b ∷ later) ∙ ap (read rules 0 None) (sym e) ∙ nothing))
 
--- the text reads as these words
-abbrev pub AreWords : WordRules → List ℕ → List (List ℕ) → Type 0
-AreWords rules text words = (spelled : List Word) × StandsForText (piece_of_words rules) text spelled × (word_values spelled ≡ words)
-
 -- the same of what the words stand for
 pub words_of-AreWords : (rules : WordRules) (text : List ℕ) (words : List (List ℕ)) → AreWords rules text words → words_of rules text ≡ Some words
 unfolding words_of
@@ -292,10 +273,6 @@ unfolding words_of
 AreWords-words_of rules text words e =
     let t = mapped word_values (reading (piece_of_words rules) text) words e in
     (t.0, StandsForText-reading (piece_of_words rules) text t.0 t.1, t.2)
-
--- the text reads as these commands
-abbrev pub AreCommands : List ℕ → List Command → Type 0
-AreCommands text commands = (spelled : List Word) × StandsForText (piece_of_words Escaped) text spelled × (commands_among spelled ≡ commands)
 
 -- and of commands
 pub commands_read-AreCommands : (text : List ℕ) (commands : List Command) → AreCommands text commands → commands_read text ≡ Some commands

@@ -1,5 +1,5 @@
 -- What is asked of the children of the manager and what they tell, as one history of calls, the oldest first.
--- No manual page has this: processes under numbers are the project's own (docs/FORMATS.md, "The runner's files").
+-- No manual page has this: processes under numbers are the project's own (docs/FORMATS.md, "The files of a process").
 -- Receipts, children and the running manager stand on this file.
 use Rattle.std.specs.Prelude.{◌∷◌, [], List, ℕ, Bool, false, Option, flat_map}
 use Rattle.um_model.specs.Service.{Action, SpawnProcess, SendSignal}

@@ -20,6 +20,7 @@ use Rattle.um_model.specs.declared.install.InstallVerb.{InstallVerb}
 use Rattle.um_model.specs.declared.install.InstallVerb.TheVariants as verbs
 use Rattle.um_model.specs.declared.refusals.Limit.TheVariants.{Entries}
 use Rattle.um_model.specs.declared.tree.Layer.TheVariants.{Etc}
+use Rattle.um_model.specs.declared.tree.Layer.{Layer}
 
 -- ---- the links that a unit asks for
 
@@ -209,3 +210,7 @@ pub record IsEnabledAs (tree : Tree) (asked : List ℕ) (answer : Enabling) : Ty
   pub linked : Bool
   pub decides : Decides linked ((path : List ℕ) × IsUnlinked tree asked path)
   pub fits : answer ≡ enabling_of asked (load tree asked) linked
+
+abbrev pub is_etc : Layer → Bool
+is_etc Etc = true
+is_etc other = false

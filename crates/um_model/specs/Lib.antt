@@ -53,3 +53,8 @@ pub mod Stands
 pub mod Lives
 pub mod Sessions
 pub mod Children
+pub mod FileForms
+pub mod SyntaxSpellings
+pub mod ValueSpellings
+pub mod WordSpellings
+pub mod Waiting

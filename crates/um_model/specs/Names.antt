@@ -1,7 +1,7 @@
 -- What a unit name is, by its parts; its instance and its template; how other text is escaped in a name.
 -- Follows systemd.unit(5), "Description" and "String Escaping for Inclusion in Unit Names".
 -- The tree, unit files, requests and all that names a unit stand on this file.
-use Rattle.std.specs.Prelude.{◌≡◌, ℕ, ◌+◌, ◌-◌, ◌*◌, ◌/◌, ◌%◌, ◌≤◌, ◌<◌, nat_le, nat_lt, nat_eq, Bool, true, false, not, ◌&&◌, ◌||◌, ◌==◌}
+use Rattle.std.specs.Prelude.{◌≡◌, ℕ, ◌+◌, ◌-◌, ◌*◌, ◌/◌, ◌%◌, ◌≤◌, ◌<◌, nat_le, nat_lt, nat_eq, Bool, true, false, not, ◌&&◌, ◌||◌, ◌==◌, unwrap_or}
 use Rattle.std.specs.Prelude.{List, [], ◌∷◌, ◌++◌, length, take, slice_index, Option, Some, None, is_some, option_map, if◌then◌else◌, codes, find}
 use Rattle.std.specs.Option.{option_map_or}
 use Rattle.std.specs.List.{list_all, ends_with, flat_map}
@@ -153,3 +153,15 @@ escape_front other = Unreadable
 -- `-` becomes `/`, an escape its byte, and any other byte stays
 abbrev pub unescape_front : ℕ → List ℕ → Front ℕ
 unescape_front b bs = if b == 45 then Gives (47 ∷ []) 1 else (if b == 92 then escape_front bs else Gives (b ∷ []) 1)
+
+-- the unit is a target
+abbrev pub is_target_type : Option Suffix → Bool
+is_target_type (Some Target) = true
+is_target_type other = false
+
+abbrev pub is_target : List ℕ → Bool
+is_target unit = is_target_type (suffix_of unit)
+
+-- the instance of a name; empty where it has none
+abbrev pub instance_or_empty : List ℕ → List ℕ
+instance_or_empty name = unwrap_or (instance_of name) []

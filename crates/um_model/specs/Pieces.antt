@@ -1,7 +1,7 @@
 -- A text that stands for something, piece by piece from its front: for another text, for words, for times.
 -- The common form of several rules: escapes in names, specifiers, substitution, time spans, quotes, words and lists of words.
 -- Names, Values, Words, Substitution and Specifiers stand on this file.
-use Rattle.std.specs.Prelude.{ℕ, zero, suc, ◌-◌, List, [], ◌∷◌, ◌++◌, length, drop, Option, Some, None, option_map}
+use Rattle.std.specs.Prelude.{ℕ, zero, suc, ◌-◌, List, [], ◌∷◌, ◌++◌, length, drop, Option, Some, None, option_map, ◌≡◌}
 use Rattle.um_model.specs.Bytes.{nothing_left}
 
 -- the front of a text can't be read, ends what is read before it, or stands for these and takes so many bytes
@@ -29,3 +29,14 @@ begun front text = begun_in (length text) front text
 -- what a text stands for
 abbrev pub reading : {A : Type 0} → (ℕ → List ℕ → Front A) → List ℕ → Option (List A)
 reading front text = nothing_left (begun front text)
+
+-- the text begins with pieces, which stand for these one behind the other, up to its end or to a front that ends them; this is left
+pub data BeginsWith {A : Type 0} (front : ℕ → List ℕ → Front A) : List ℕ → List A → List ℕ → Type 0 where
+  done : BeginsWith front [] [] []
+  stops : (b : ℕ) (bs : List ℕ) → front b bs ≡ Ends → BeginsWith front (b ∷ bs) [] (b ∷ bs)
+  piece : (b n : ℕ) (bs : List ℕ) (out more : List A) (left : List ℕ) → front b bs ≡ Gives out n → BeginsWith front (drop (n - 1) bs) more left
+      → BeginsWith front (b ∷ bs) (out ++ more) left
+
+-- the text is pieces alone, which stand for these
+abbrev pub StandsForText : {A : Type 0} → (ℕ → List ℕ → Front A) → List ℕ → List A → Type 0
+StandsForText front text found = BeginsWith front text found []

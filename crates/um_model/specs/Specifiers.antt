@@ -5,10 +5,11 @@ use Rattle.std.specs.Prelude.{ℕ, List, [], ◌∷◌, Option, Some, None, opti
 use Rattle.std.specs.Map.{lookup}
 use Rattle.std.specs.Option.{option_map_or}
 use Rattle.std.specs.List.{after_last}
-use Rattle.std.specs.Str.{is_utf8}
+use Rattle.std.specs.Str.{is_utf8, IsUtf8}
 use Rattle.um_model.specs.Ascii.{is_letter}
 use Rattle.um_model.specs.Names.{stem_of, prefix_of, instance_of, unescape_front}
-use Rattle.um_model.specs.Pieces.{Front, Unreadable, Gives, reading}
+use Rattle.um_model.specs.Pieces.{Front, Unreadable, Gives, reading, StandsForText}
+use Rattle.um_model.specs.Names.{instance_or_empty}
 
 -- what a letter stands for: `n` the full name, `N` without the suffix, `p` the prefix, `i` the instance as written, empty where there
 -- is none, `I` unescaped, `j` what follows the last `-` of the prefix
@@ -36,3 +37,18 @@ unescaped_of escaped = option_and_then (λ text. if is_utf8 text then Some text 
 -- what the text stands for in the files of the unit of that name
 unfoldable pub expanded_of : List ℕ → List ℕ → Option (List ℕ)
 expanded_of name text = reading (specifier_front name (unescaped_of (unwrap_or (instance_of name) []))) text
+
+-- the text stands for these bytes
+abbrev pub StandsForBytes : List ℕ → List ℕ → Type 0
+StandsForBytes text bytes = StandsForText unescape_front text bytes
+
+-- the text that the bytes' escapes stand for, where it is one
+abbrev pub IsUnescaped : List ℕ → Option (List ℕ) → Type 0
+IsUnescaped escaped (Some text) = StandsForBytes escaped text × IsUtf8 text
+IsUnescaped escaped None = (bytes : List ℕ) → StandsForBytes escaped bytes → ¬ (IsUtf8 bytes)
+
+-- the text stands for another one in the files of the unit of that name
+pub record IsExpanded (name text expanded : List ℕ) : Type 0 where
+  pub unescaped : Option (List ℕ)
+  pub instance : IsUnescaped (instance_or_empty name) unescaped
+  pub pieces : StandsForText (specifier_front name unescaped) text expanded

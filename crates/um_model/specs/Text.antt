@@ -1,8 +1,9 @@
 -- A text without the spaces and tabs at its ends.
 -- Follows systemd.syntax(7) in what counts as whitespace.
 -- Unit files, values and words stand on this file.
-use Rattle.std.specs.Prelude.{ℕ, Bool, true, false, List, [], ◌∷◌, reverse, if◌then◌else◌}
+use Rattle.std.specs.Prelude.{ℕ, Bool, true, false, List, [], ◌∷◌, reverse, if◌then◌else◌, ◌≡◌, ◌++◌}
 use Rattle.um_model.specs.Ascii.{is_space}
+use Rattle.std.specs.List.{list_all}
 
 -- without the whitespace in front
 abbrev pub trim_start : List ℕ → List ℕ
@@ -26,3 +27,17 @@ is_blank text = is_empty (trim_start text)
 abbrev pub first_passes : (ℕ → Bool) → List ℕ → Bool
 first_passes passes [] = false
 first_passes passes (b ∷ bs) = passes b
+
+-- whitespace alone was cut off in front, and none is left there
+pub record IsCutInFront (text rest : List ℕ) : Type 0 where
+  pub front : List ℕ
+  pub parts : text ≡ front ++ rest
+  pub spaces : list_all is_space front ≡ true
+  pub stops : first_passes is_space rest ≡ false
+
+-- whitespace alone was cut off at the end, and none is left there
+pub record IsCutAtEnd (text rest : List ℕ) : Type 0 where
+  pub back : List ℕ
+  pub parts : text ≡ rest ++ back
+  pub spaces : list_all is_space back ≡ true
+  pub stops : first_passes is_space (reverse rest) ≡ false

@@ -7,7 +7,7 @@ use Rattle.um_model.specs.Moments.{process_limit}
 use Rattle.um_model.specs.Commands.{Command}
 use Rattle.um_model.specs.Substitution.{Variable, AreSubstituted}
 use Rattle.um_model.specs.Limit.{counted}
-use Rattle.um_model.specs.Service.{Action, SpawnProcess, SendSignal, active_state_of, is_success}
+use Rattle.um_model.specs.Service.{Action, SpawnProcess, SendSignal, active_state_of, is_success, is_dead}
 use Rattle.um_model.specs.Settings.{ServiceSettings, commands_in, has_place, has_dash, environment_texts}
 use Rattle.um_model.specs.Ends.{is_clean, is_told, unclean_result, or_later, is_restart_wanted, is_starting, is_failed, has_one_command}
 use Rattle.um_model.specs.declared.limit.Counted.{Counted}
@@ -264,3 +264,9 @@ spawned other = 0
 -- the number is that of one of the unit's live processes
 abbrev pub HasNumber : UnitState → ℕ → Type 0
 HasNumber u n = (u.main ≡ Some n) ⊎ (u.control ≡ Some n)
+
+-- a unit came to rest, as it is tested: it is dead or failed, and wasn't the same before
+abbrev pub comes_to_rest : (before after : SubState) → Bool
+comes_to_rest before Dead = not (is_dead before)
+comes_to_rest before Failed = not (is_failed before)
+comes_to_rest before other = false

@@ -4,7 +4,7 @@
 use Rattle.std.specs.Prelude.{◌≡◌, ℕ, ◌-◌, ◌≤◌, nat_le, nat_lt, nat_eq, Bool, true, false, not, ◌&&◌, ◌||◌, ◌==◌, List, [], ◌++◌}
 use Rattle.std.specs.Prelude.{length, take, drop, Option, Some, None, is_none, is_some, option_map, Result, if◌then◌else◌, codes}
 use Rattle.std.specs.Option.{option_or, option_map_or}
-use Rattle.std.specs.List.{list_all, starts_with, ends_with, position_or_len, before_first, after_first, after_last}
+use Rattle.std.specs.List.{list_all, starts_with, ends_with, position_or_len, before_first, after_first, after_last, list_any}
 use Rattle.std.specs.Str.{bytes_eq}
 use Rattle.std.specs.Ordering.{nat_cmp}
 use Rattle.std.specs.Cmp.Lexicographic.{slice_cmp}
@@ -226,3 +226,7 @@ is_volatile path = starts_with nat_eq path (layer_text Run)
 -- the tree as it comes out of a boot
 unfoldable pub without_run : Tree → Tree
 without_run tree = map.retain_keys tree (λ path. not (is_volatile path))
+
+-- an entry stands under `run/`
+abbrev pub has_run : Tree → Bool
+has_run tree = list_any (λ e. is_volatile e.0) (map.entries tree)

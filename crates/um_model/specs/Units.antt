@@ -1,11 +1,11 @@
 -- What a unit's files set and warn of, by one list of assignments, and whether the unit can be loaded.
 -- Follows systemd.unit(5) and systemd.service(5).
 -- The machine stands on this file: what `show` tells, and what a start does.
-use Rattle.std.specs.Prelude.{ℕ, ◌*◌, Bool, true, false, not, ◌&&◌, ◌||◌, ◌==◌, List, [], ◌∷◌, ◌++◌, length, filter, find, fold, filter_map, map as each}
+use Rattle.std.specs.Prelude.{ℕ, ◌*◌, Bool, true, false, not, ◌&&◌, ◌||◌, ◌==◌, List, [], ◌∷◌, ◌++◌, length, filter, find, fold, filter_map, map as each, is_some}
 use Rattle.std.specs.Prelude.{Option, Some, None, Result, option_map, if◌then◌else◌, codes}
 use Rattle.std.specs.Option.{ok_or, option_or, option_map_or, option_and_then}
 use Rattle.std.specs.Result.{result_ok, result_err}
-use Rattle.std.specs.List.{flat_map, list_any, after_last}
+use Rattle.std.specs.List.{flat_map, list_any, after_last, list_all}
 use Rattle.std.specs.Str.{bytes_eq}
 use Rattle.std.specs.Map.{lookup}
 use Rattle.um_model.specs.Names.{suffix_of, is_unit_name}
@@ -416,3 +416,11 @@ name_in asked (Found u) = u.name
 name_in asked (Masked unit) = unit
 name_in asked NotFound = asked
 name_in asked (BadSetting unit reason) = unit
+
+-- settings take something from each of these
+abbrev pub are_read : {A : Type 0} → List (Result A WarningKind) → Bool
+are_read readings = list_all (λ r. is_some (result_ok r)) readings
+
+-- all that the value says counts for the settings of keys of this kind
+abbrev pub counts : List ℕ → ValueKind → List ℕ → Bool
+counts unit k value = are_read (value_readings unit k value)

@@ -1,7 +1,7 @@
 //! Other text in a name: any bytes as a text that can stand there, and back.
 ghost use Rattle.std.specs.Prelude.{◌≡◌, ◌+◌, ◌<◌, ◌≤◌, ◌++◌, ℕ, List, length, true, IfOk, OnOk, IfSome, MatchOption, string_bytes, ◌==◌, if◌then◌else◌};
 ghost use Rattle.std.specs.Char.{digit_char, digit_value};
-ghost use Rattle.um_model.proofs.EscapesLaws.{StandsForBytes};
+ghost use Rattle.um_model.specs.Specifiers.{StandsForBytes};
 ghost use Rattle.um_model.specs.Names as names;
 ghost use Rattle.um_name.specs.Escapes.{front_of};
 

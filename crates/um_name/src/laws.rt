@@ -2,7 +2,7 @@
 ghost use Rattle.std.specs.Prelude.{◌≡◌, ◌<◌, ◌↔◌, ℕ, List, All, Some, true};
 ghost use Rattle.std.specs.List.{list_all};
 ghost use Rattle.um_model.specs.Names.{NameParts, AreFit, IsNameOf, name_text, is_unit_name, prefix_of, instance_of, suffix_of, with_instance, is_prefix_byte, escaped};
-ghost use Rattle.um_model.proofs.EscapesLaws.{StandsForBytes};
+ghost use Rattle.um_model.specs.Specifiers.{StandsForBytes};
 
 /// A text is a unit name by the test exactly where it is the name of some parts.
 pub fn a_unit_name_has_parts()

@@ -10,7 +10,7 @@ use crate::suffixes::suffix_of;
 use std::alloc::{AllocError, Global};
 use std::marker::Model;
 use um_model::Suffix;
-use um_wire::Refusal;
+use um_wire::{Refusal, bad_name};
 
 /// The greatest length of a unit name, in bytes.
 const LIMIT: usize = 255;
@@ -80,11 +80,9 @@ impl UnitName {
         ensures err { IfErr result (λ e. ¬ (e ≡ NoMemory)
             → (refused_of e ≡ bad_name text.now) × (names.is_unit_name text.now ≡ false)) }
     {
-        let suffix = named_suffix(text);
-        let text = String::from_str(alloc, text)?;
-        match suffix {
-            Some(suffix) => Ok(UnitName { text, suffix }),
-            None => Err(Refusal::BadName { text }),
+        match UnitName::named(alloc, text)? {
+            Some(name) => Ok(name),
+            None => Err(bad_name(alloc, text)?),
         }
     }
 
@@ -177,6 +175,13 @@ impl UnitName {
             text: self.text.clone()?,
             suffix: self.suffix,
         })
+    }
+
+    /// The whole name as a text of its own.
+    pub fn text(&self) -> Result<String, AllocError>
+        ensures { IfOk result (λ text. string_bytes text ≡ self.now) }
+    {
+        Ok(self.text.clone()?)
     }
 
     /// What stands before the suffix.

@@ -14,7 +14,7 @@ use std::alloc::{AllocError, Global};
 use um_model::Mode;
 use um_name::{UnitName, suffix_of};
 use um_state::{Command, Event, Happening, Query};
-use um_wire::Refusal;
+use um_wire::{Refusal, bad_name, unknown_verb};
 
 /// The name with a suffix: that of a service where it has none.
 fn completed(alloc: Global, text: &str) -> Result<String, AllocError>
@@ -34,10 +34,7 @@ fn name_asked(alloc: Global, text: &str) -> Result<UnitName, Refusal>
     let name = completed(alloc, text)?;
     match UnitName::named(alloc, name.as_str())? {
         Some(unit) => Ok(unit),
-        None => {
-            let text = String::from_str(alloc, text)?;
-            Err(Refusal::BadName { text })
-        }
+        None => Err(bad_name(alloc, text)?),
     }
 }
 
@@ -138,10 +135,7 @@ fn refusal_for(alloc: Global, cause: Cause) -> Result<Refusal, AllocError>
 {
     match cause {
         Cause::BadRequest => Ok(Refusal::BadRequest),
-        Cause::UnknownVerb(text) => {
-            let verb = String::from_str(alloc, text)?;
-            Ok(Refusal::UnknownVerb { verb })
-        }
+        Cause::UnknownVerb(text) => unknown_verb(alloc, text),
     }
 }
 

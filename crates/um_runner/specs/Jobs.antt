@@ -1,5 +1,5 @@
 -- How a job is a list of words, and which command it is.
--- Follows the command line of a runner (docs/FORMATS.md, "The runner").
+-- Follows the command line of a runner (docs/FORMATS.md, "The program").
 -- The contracts of Job cite it.
 use Rattle.std.specs.Prelude.{◌≡◌, ℕ, Bool, true, false, ◌&&◌, not, nat_lt, List, ◌∷◌, length, map, take, drop, Some, option_map, string_bytes}
 use Rattle.std.specs.List.{list_all, list_any}

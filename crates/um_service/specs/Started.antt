@@ -1,7 +1,7 @@
 -- What a process is started with, and how long that may be.
 -- Follows systemd.service(5), "Command lines", and execve(2), "Limits on size of arguments and environment".
 -- Actions, orders and the children stand on this file.
-use Rattle.std.specs.Prelude.{ℕ, Bool, List, [], ◌++◌, Option, Some, None, map, not, slice_get, if◌then◌else◌}
+use Rattle.std.specs.Prelude.{ℕ, Bool, List, [], ◌++◌, Option, Some, None, not, slice_get, if◌then◌else◌}
 use Rattle.um_model.specs.Commands.{Command}
 use Rattle.um_model.specs.Settings as model
 use Rattle.um_model.specs.Substitution.{Variable}

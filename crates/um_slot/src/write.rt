@@ -1,7 +1,7 @@
 ghost use Rattle.std.specs.Prelude.{◌≡◌, ◌⊎◌, ◌↔◌, ◌+◌, ◌-◌, ◌<◌, ◌≤◌, ◌^◌, ℕ, List, [], length, Ok, Err, Some, None, IfOk, IfErr, IfSome, OnOk, IsTrue, slice_index_or};
 ghost use Rattle.um_model.specs.Disk.{Sector, seen, Images, During, IsSettled};
 ghost use Rattle.um_model.specs.Store.{other, body_limit, log_start, sector_count, HasNoHeader, IsNewest, IsFree, IsStore, GoesOn};
-ghost use Rattle.um_slot.specs.Snapshots.{HasStore};
+ghost use Rattle.um_slot.specs.Snapshots.{HasStore, HasNewest, EitherNewest};
 ghost use Rattle.um_slot.specs.Snapshots.{body_sector, IsSnapshot, MaybeSnapshot, AfterSnapshot, EitherSnapshot};
 ghost use Rattle.um_model.specs.declared.layout.Slot.TheVariants.{A};
 ghost use Rattle.um_sector.specs.Refused.{CountsDevice, IsLost};
@@ -49,6 +49,10 @@ fn write_slot<D: Disk>(
 /// the store of an image of before, or of the store with the new body and no record; after Ok it is the latter, and the log is
 /// free from its first sector on. So records that weren't synced may be there or not meanwhile, and are gone after it.
 ///
+/// The generation at `home` may be above that of the newest snapshot, which stands in its slot: then no sector of the log is of a
+/// generation above it, meanwhile the newest snapshot and the log are those of an image of before, or the new body stands there, and
+/// after Ok it is the latter.
+///
 /// E20 where the generation is 2^64 - 1, whatever the body, with nothing written; E15, with nothing written; E16 where a disk
 /// call fails. It makes at most three disk calls more than the body has sectors.
 pub fn write_other<D: Disk>(
@@ -61,6 +65,12 @@ pub fn write_other<D: Disk>(
     ensures during { IsTrue (D.honest disk.old) → (before : List ℕ) → Images (D.past disk.old) (HasStore layout home.slot home.generation before)
         → During (D.past disk.old) (D.past disk.new) (EitherSnapshot layout (D.past disk.old) home.slot home.generation before body.now) }
     ensures ok { IfOk result (λ to. IfSome to (λ to. IsTrue (D.honest disk.old) → (before : List ℕ) → Images (D.past disk.old) (HasStore layout home.slot home.generation before)
+        → GoesOn layout (D.past disk.new) to.slot to.generation body.now [] to.generation 0 (log_start layout to.generation))) }
+    ensures during_newest { IsTrue (D.honest disk.old) → (newest : ℕ) (before : List ℕ) → newest ≤ home.generation
+        → Images (D.past disk.old) (HasNewest layout home.slot newest before home.generation)
+        → During (D.past disk.old) (D.past disk.new) (EitherNewest layout (D.past disk.old) home.slot newest before home.generation body.now) }
+    ensures ok_newest { IfOk result (λ to. IfSome to (λ to. IsTrue (D.honest disk.old) → (newest : ℕ) (before : List ℕ) → newest ≤ home.generation
+        → Images (D.past disk.old) (HasNewest layout home.slot newest before home.generation)
         → GoesOn layout (D.past disk.new) to.slot to.generation body.now [] to.generation 0 (log_start layout to.generation))) }
     ensures settled { IfOk result (λ to. IfSome to (λ _. IsTrue (D.honest disk.old) → IsSettled (D.past disk.new))) }
     ensures home { IfOk result (λ to. IfSome to (λ to. (to.slot ≡ other home.slot) × (to.generation ≡ home.generation + 1))) }

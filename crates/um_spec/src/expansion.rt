@@ -5,9 +5,9 @@ ghost use Rattle.std.specs.List.{after_last};
 ghost use Rattle.std.specs.Str.{IsCharBoundary};
 ghost use Rattle.um_model.specs.Pieces.{reading};
 ghost use Rattle.um_model.specs.Specifiers.{expanded_of, specified, percent_front, specifier_front};
-ghost use Rattle.um_model.proofs.SpecifiersLaws.{IsUnescaped};
+ghost use Rattle.um_model.specs.Specifiers.{IsUnescaped};
 ghost use Rattle.um_spec.specs.Piece.{front_of};
-ghost use Rattle.um_model.proofs.FileForms.{instance_or_empty};
+ghost use Rattle.um_model.specs.Names.{instance_or_empty};
 
 use std::alloc::{AllocError, Global};
 use um_name::{UnitName, unescape};

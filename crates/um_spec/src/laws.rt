@@ -1,9 +1,9 @@
 //! What the definition of specifiers says, as functions that do nothing.
 
 ghost use Rattle.std.specs.Prelude.{◌≡◌, ℕ, List};
-ghost use Rattle.um_model.proofs.FindsLaws.{Finds};
+ghost use Rattle.um_model.specs.Results.{Finds};
 ghost use Rattle.um_model.specs.Specifiers.{expanded_of};
-ghost use Rattle.um_model.proofs.SpecifiersLaws.{IsExpanded};
+ghost use Rattle.um_model.specs.Specifiers.{IsExpanded};
 
 /// Under a name a text stands for one other at most.
 pub fn a_text_has_one_expansion()

@@ -1,5 +1,5 @@
 -- What a finder tells once a unit is put into the units, a number is let go, or each unit was added.
-use Rattle.std.proofs.Common.{ℕ, ◌≡◌, ◌≢◌, ◌∙◌, ◌<◌, Bool, true, false, cond, List, [], ◌∷◌, length, Some, None, refl, sym, ap, subst, arith, zero, suc, get_or, Contains, true≢false, is_some, Option, unwrap_or, inl, inr, Result, Ok, Err}
+use Rattle.std.proofs.Common.{ℕ, ◌≡◌, ◌≢◌, ◌∙◌, ◌<◌, true, false, cond, List, [], ◌∷◌, length, Some, None, refl, sym, ap, subst, arith, zero, suc, get_or, true≢false, is_some, Option, unwrap_or, inl, inr, Result, Ok, Err}
 use Rattle.std.specs.Prelude.{OnOk}
 use Rattle.std.specs.BTreeMap as tree
 use Rattle.std.specs.BTreeMap.{BTreeMap}

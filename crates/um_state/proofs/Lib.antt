@@ -1,3 +1,4 @@
+pub mod AwaitingLaws
 pub mod DueLaws
 pub mod Distinct
 pub mod FindingLaws

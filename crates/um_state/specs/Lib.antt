@@ -1,4 +1,5 @@
 pub mod Arms
+pub mod Awaiting
 pub mod Due
 pub mod Finding
 pub mod Held

@@ -63,7 +63,7 @@ shown_of u = record {
 
 abbrev pub reply_of : Reply → model.Reply
 reply_of reply.Done = model.Done
-reply_of (reply.Shown u) = model.Shown (shown_of u)
+reply_of (reply.Shown u) = model.Shown (shown_of u.value)
 reply_of (reply.Activity state) = model.Activity state
 reply_of (reply.Files files) = model.Files (map file_of files.items)
 reply_of (reply.Relinked made removed) = model.Relinked (map string_bytes made.items) (map string_bytes removed.items)

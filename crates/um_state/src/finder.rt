@@ -1,13 +1,15 @@
 //! Which unit a number is of, found without a look at all units.
 
-ghost use Rattle.std.specs.Prelude.{◌≡◌, ℕ, List, [], true, Some, None, IfOk, OnOk};
+ghost use Rattle.std.specs.Prelude.{◌≡◌, ℕ, List, [], true, false, Some, None, IfOk, OnOk};
 ghost use Rattle.std.specs.BTreeMap as tree;
 ghost use Rattle.std.specs.FinMap as maps;
 ghost use Rattle.std.specs.Ordering.{nat_cmp};
 ghost use Rattle.um_model.specs.Service.{state_of_unit};
 ghost use Rattle.um_model.specs.Transitions.{HasNumber};
+ghost use Rattle.um_state.specs.Awaiting.{IsUnawaited};
 ghost use Rattle.um_state.specs.Finding.{Tells, Finds};
 
+use crate::awaited::awaited_by;
 use std::alloc::{AllocError, Global};
 use std::collections::BTreeMap;
 use um_model::{ProcessNumber, UnitState};
@@ -130,6 +132,20 @@ impl Finder {
     {
         self.let_go(entries, before.main);
         self.let_go(entries, before.control);
+    }
+
+    /// Whether a unit may wait for the report of the process with the number. It takes no memory.
+    pub(crate) fn is_awaited(&self, entries: &BTreeMap<UnitName, UnitState>, number: u64) -> bool
+        requires { Finds (maps.from_entries entries.now.entries) self.now }
+        ensures { result ≡ false → IsUnawaited (maps.from_entries entries.now.entries) number }
+    {
+        if self.is_shared {
+            return true;
+        }
+        match self.names.get(&number) {
+            Some(unit) => awaited_by(&state_in(entries, unit)).is_some(),
+            None => false,
+        }
     }
 
     /// That of these units.

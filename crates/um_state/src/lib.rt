@@ -1,6 +1,7 @@
 //! What comes into the manager, what it answers and asks for, and its state, each seen as the value of the definitions.
 #![tactic(auto)]
 
+mod awaited;
 mod boot;
 mod due;
 mod finder;

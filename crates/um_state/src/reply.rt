@@ -37,7 +37,8 @@ pub struct JobShown {
 #[derive(Debug, Drop)]
 pub enum Reply {
     Done,
-    Shown(UnitShown),
+    /// Boxed, since it is far larger than the others.
+    Shown(Box<UnitShown>),
     /// The active state of a unit.
     Activity(ActiveState),
     /// The files of a unit, its own and then its drop-ins.

@@ -8,6 +8,7 @@ ghost use Rattle.um_model.specs.StateSpellings.{FitUnits, are_distinct, are_know
 ghost use Rattle.um_model.proofs.StateSpellingsLaws.{canonical_units};
 ghost use Rattle.um_model.specs.declared.service.UnitState as unit;
 
+use crate::awaited::Awaited;
 use crate::finder::Finder;
 use crate::units::Units;
 use std::alloc::{AllocError, Global};
@@ -52,11 +53,13 @@ impl Canon for Units {
             return Ok(None);
         }
         let finder = Finder::of(alloc, &entries)?;
+        let awaited = Awaited::of(alloc, &entries)?;
         Ok(Some((
             Units {
                 alloc,
                 entries,
                 finder,
+                awaited,
             },
             n,
         )))

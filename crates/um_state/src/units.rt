@@ -1,4 +1,4 @@
-ghost use Rattle.std.specs.Prelude.{◌≡◌, ◌↔◌, ◌++◌, map, is_some, IsTrue, MatchOption, IfOk, OnOk, OnErr};
+ghost use Rattle.std.specs.Prelude.{◌≡◌, ◌↔◌, ◌++◌, false, map, is_some, IsTrue, MatchOption, IfOk, OnOk, OnErr};
 ghost use Rattle.std.specs.Coded.{codes};
 ghost use Rattle.std.specs.Cmp.Lexicographic.{slice_cmp};
 ghost use Rattle.std.specs.FinMap as maps;
@@ -9,10 +9,12 @@ ghost use Rattle.um_model.specs.Service.{AreTidyUnits, state_of_unit, with_unit}
 ghost use Rattle.um_model.specs.Standing.{Table};
 ghost use Rattle.um_model.specs.declared.jobs.UnitJobs as jobs;
 ghost use Rattle.um_model.specs.declared.service.UnitState as unit;
+ghost use Rattle.um_state.specs.Awaiting.{HasAll, IsUnawaited};
 ghost use Rattle.um_state.specs.Finding.{Finds};
 ghost use Rattle.um_state.specs.Held.{table_of};
 ghost use Rattle.um_state.specs.Shown.{job_of};
 
+use crate::awaited::Awaited;
 use crate::finder::{Finder, state_in};
 use crate::reply::JobShown;
 use std::alloc::{AllocError, Global};
@@ -52,22 +54,28 @@ fn hold(
     Ok(())
 }
 
-/// Puts in how the unit stands, so that it is found by the numbers of its processes. Where memory is refused, all is as before.
+/// Puts in how the unit stands, so that it is found by the numbers of its processes, and known by the report that it waits for. Where memory is
+/// refused, all is as before.
 fn put(
     entries: &mut BTreeMap<UnitName, UnitState>,
     finder: &mut Finder,
+    awaited: &mut Awaited,
     unit: &UnitName,
     state: UnitState,
 ) -> Result<(), AllocError>
-    requires { Finds (maps.from_entries entries.old.entries) finder.old }
+    requires found { Finds (maps.from_entries entries.old.entries) finder.old }
+    requires had { HasAll (maps.from_entries entries.old.entries) awaited.old }
     ensures ok { OnOk result (maps.from_entries {R = slice_cmp nat_cmp} entries.new.entries ≡ with_unit (maps.from_entries entries.old.entries) unit.now state) }
     ensures err { OnErr result (maps.from_entries {R = slice_cmp nat_cmp} entries.new.entries ≡ maps.from_entries entries.old.entries) }
     ensures finds { Finds (maps.from_entries entries.new.entries) finder.new }
+    ensures has { HasAll (maps.from_entries entries.new.entries) awaited.new }
 {
     let before = state_in(entries, unit);
     finder.note(entries, unit, &state)?;
+    awaited.note(&state)?;
     hold(entries, unit, &state)?;
     finder.leave(entries, &before);
+    awaited.leave(finder, entries, &before);
     Ok(())
 }
 
@@ -77,7 +85,9 @@ pub struct Units {
     pub(crate) alloc: Global,
     pub(crate) entries: BTreeMap<UnitName, UnitState>,
     pub(crate) finder: Finder,
+    pub(crate) awaited: Awaited,
     ghost finds: { Finds (maps.from_entries entries.entries) finder },
+    ghost has: { HasAll (maps.from_entries entries.entries) awaited },
 }
 
 impl Model for Units {
@@ -99,6 +109,7 @@ impl Units {
             alloc,
             entries: BTreeMap::new(alloc),
             finder: Finder::new(alloc),
+            awaited: Awaited::new(alloc),
         }
     }
 
@@ -141,7 +152,13 @@ impl Units {
         ensures ok { OnOk result (self.new.held ≡ with_unit self.old.held unit.now state) }
         ensures err { OnErr result (self.new ≡ self.old) }
     {
-        put(&mut self.entries, &mut self.finder, unit, state)?;
+        put(
+            &mut self.entries,
+            &mut self.finder,
+            &mut self.awaited,
+            unit,
+            state,
+        )?;
         Ok(())
     }
 
@@ -168,6 +185,13 @@ impl Units {
             Some(unit) if state_in(&self.entries, unit).has_number(number) => Some(unit),
             Some(_) | None => None,
         }
+    }
+
+    /// Whether any unit may wait for the report that the program of the process with this number runs. It takes no memory, and looks at no unit.
+    pub fn may_await(&self, number: u64) -> bool
+        ensures { result ≡ false → IsUnawaited self.now.held number }
+    {
+        self.awaited.has(number)
     }
 
     /// The deadlines of the units.
@@ -198,6 +222,7 @@ impl Units {
         Ok(Units {
             alloc: self.alloc,
             finder: Finder::of(self.alloc, &entries)?,
+            awaited: Awaited::of(self.alloc, &entries)?,
             entries,
         })
     }

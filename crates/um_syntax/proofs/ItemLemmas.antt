@@ -4,7 +4,7 @@ use Rattle.std.specs.Prelude.{All, IfSome}
 use Rattle.std.specs.Option.{option_to_list}
 use Rattle.std.proofs.lemmas.List.{drop_more, drop_all, map-append}
 use Rattle.std.proofs.lemmas.List.Elements.{All-push}
-use Rattle.um_model.proofs.FileForms.{items_of, items_in, is_head, in_sections}
+use Rattle.um_model.specs.FileForms.{items_of, items_in, is_head, in_sections}
 use Rattle.um_model.proofs.SyntaxLaws.{placed_is}
 use Rattle.um_model.specs.Syntax.{Line, statement_of, joined_lines, reading_of}
 use Rattle.um_model.specs.Syntax as said

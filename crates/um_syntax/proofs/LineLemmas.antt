@@ -13,7 +13,7 @@ use Rattle.std.specs.Str.Lines.{lines, lines_of_parts, strip_carriage_return}
 use Rattle.std.proofs.lemmas.List.Splits.{slice_split_at, slice_split_none, length-slice_split}
 use Rattle.std.proofs.lemmas.List.{take_at, get_or_at, get_or_default, length_push}
 use Rattle.std.proofs.lemmas.Bool.{ne_eqb, eqb-true, false_from_ne_true, eq-eqb, cases_eq, cond-true, cond-false}
-use Rattle.um_model.proofs.FileForms.{before_bracket}
+use Rattle.um_model.specs.FileForms.{before_bracket}
 
 -- a part before others loses its carriage return
 lines_of_more : (x : List ℕ) (parts : List (List ℕ)) → 0 < length parts → lines_of_parts (x ∷ parts) ≡ strip_carriage_return x ∷ lines_of_parts parts

@@ -1,7 +1,7 @@
 //! The items of a text.
 
 ghost use Rattle.std.specs.Prelude.{◌≡◌, ◌+◌, ◌<◌, ◌^◌, ℕ, List, None, IfOk, IfSome, All, map, length, true, false};
-ghost use Rattle.um_model.proofs.FileForms.{items_of, is_head, in_sections};
+ghost use Rattle.um_model.specs.FileForms.{items_of, is_head, in_sections};
 ghost use Rattle.um_model.specs.Syntax.{statement_of, reading_of};
 ghost use Rattle.um_syntax.specs.Places.{cow_text, is_borrowed, LiesAt};
 ghost use Rattle.um_syntax.specs.Joining.{line_of, LiesIn, HasPlace};

@@ -4,7 +4,7 @@ ghost use Rattle.std.specs.Prelude.{◌≡◌, ◌∷◌, List, IfOk, OnOk, All,
 ghost use Rattle.um_model.specs.Syntax.{Line, joined_lines};
 ghost use Rattle.um_syntax.specs.Joining.{line_of, all_lines, LiesIn};
 ghost use Rattle.um_syntax.specs.Places.{LiesAt};
-ghost use Rattle.um_model.proofs.FileForms.{physical_line};
+ghost use Rattle.um_model.specs.FileForms.{physical_line};
 
 use crate::lines::{continued, cut_line, is_comment};
 use std::alloc::{AllocError, Global};

@@ -4,7 +4,7 @@ ghost use Rattle.std.specs.Prelude.{◌≡◌, ◌↔◌, ℕ, List, map};
 ghost use Rattle.std.specs.List.{AllPass};
 ghost use Rattle.std.specs.List.Sorted.{IsStrictlyIncreasing};
 ghost use Rattle.um_model.specs.Syntax.{Placed, reading_of, line_number};
-ghost use Rattle.um_model.proofs.SyntaxLaws.{IsReading, stands_well};
+ghost use Rattle.um_model.specs.SyntaxSpellings.{IsReading, stands_well};
 
 /// Each text has a reading.
 pub fn each_text_has_a_reading()

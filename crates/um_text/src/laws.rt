@@ -2,10 +2,10 @@
 
 ghost use Rattle.std.specs.Prelude.{◌≡◌, ◌↔◌, ℕ, List, Some};
 ghost use Rattle.um_model.specs.Pieces.{Front, begun, reading};
-ghost use Rattle.um_model.proofs.PiecesLaws.{BeginsWith, StandsForText};
+ghost use Rattle.um_model.specs.Pieces.{BeginsWith, StandsForText};
 ghost use Rattle.um_model.specs.Text.{trim_start};
-ghost use Rattle.um_model.proofs.TextLaws.{IsCutInFront, IsCutAtEnd};
-ghost use Rattle.um_model.proofs.FileForms.{trim_end};
+ghost use Rattle.um_model.specs.Text.{IsCutInFront, IsCutAtEnd};
+ghost use Rattle.um_model.specs.FileForms.{trim_end};
 
 /// A text without the whitespace in front is what is left where whitespace alone is cut off there, as far as it goes.
 pub fn trimming_in_front()

@@ -2,7 +2,7 @@
 
 ghost use Rattle.std.specs.Prelude.{◌≡◌, ◌-◌, ◌≤◌, take, drop, length};
 ghost use Rattle.um_model.specs.Text.{trim_start, trim, is_blank};
-ghost use Rattle.um_model.proofs.FileForms.{trim_end};
+ghost use Rattle.um_model.specs.FileForms.{trim_end};
 
 /// The text without the spaces and tabs in front: an end of it.
 pub fn trim_start(text: &str) -> &str

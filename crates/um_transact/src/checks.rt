@@ -9,13 +9,13 @@ ghost use Rattle.um_jobs.specs.Named.{jobs_at};
 ghost use Rattle.um_wire.specs.Gives.{RefusesBy};
 
 use crate::demands::marks_of;
-use crate::refusals::{check_start, clash, job_conflict};
+use crate::refusals::check_start;
 use crate::walk::Marks;
 use std::alloc::Global;
 use um_graph::Graph;
 use um_jobs::{drops_one, jobs_of};
 use um_model::{JobMode, UnitJobs};
-use um_wire::Refusal;
+use um_wire::{Refusal, clash, job_conflict};
 
 fn is_started(marks: Marks) -> bool
     ensures { result ≡ told.is_started marks }
@@ -65,7 +65,7 @@ fn check_clash(alloc: Global, graph: &Graph, marks: &[Marks], unit: usize) -> Re
         return Ok(());
     }
     match graph.name(unit) {
-        Some(name) => Err(clash(alloc, name)),
+        Some(name) => Err(clash(alloc, name.as_str())?),
         None => Ok(()),
     }
 }
@@ -101,7 +101,7 @@ fn check_drop(
         return Ok(());
     }
     match graph.name(unit) {
-        Some(name) => Err(job_conflict(alloc, name)),
+        Some(name) => Err(job_conflict(alloc, name.as_str())?),
         None => Ok(()),
     }
 }

@@ -11,4 +11,4 @@ mod walk;
 
 pub use order::check_pending;
 pub use plan::{Plan, Transaction, build};
-pub use refusals::{check_start, job_conflict};
+pub use refusals::check_start;

@@ -11,7 +11,6 @@ ghost use Rattle.um_transact.specs.Order.{ArePairs, Node, number_of, pair_of, pa
 ghost use Rattle.um_jobs.specs.Named.{jobs_at, jobs_by};
 ghost use Rattle.um_graph.specs.Named.{Joins, name_at};
 
-use crate::refusals::text_of;
 use std::alloc::{AllocError, Global};
 use um_graph::{Graph, Neighbour};
 use um_jobs::{is_waiting, jobs_of};
@@ -125,7 +124,7 @@ fn name_of(alloc: Global, graph: &Graph, unit: usize) -> Result<String, AllocErr
     ensures { IfOk result (λ text. string_bytes text ≡ name_at graph.now.names unit) }
 {
     match graph.name(unit) {
-        Some(name) => text_of(alloc, name),
+        Some(name) => name.text(),
         None => Ok(String::new(alloc)),
     }
 }

@@ -1,6 +1,6 @@
 -- A folder's entries lie between its path with a slash and its path with the sign after a slash.
 use Rattle.std.proofs.Common.{◌≡◌, ℕ, List, [], ◌∷◌, ◌++◌, Bool, true, false, not, ◌&&◌, cond, String, Global, string_bytes, string_cmp, is_gt, is_le, codes, filter, map as each, arith, refl, sym, ap, ◌∙◌}
-use Rattle.std.specs.declared.ops.Bound.TheVariants.{Included, Excluded}
+use Rattle.std.specs.declared.ops.Bound.TheVariants.{Included, Excluded, Unbounded}
 use Rattle.std.specs.BTreeMap.Range.{entries_between}
 use Rattle.std.specs.Cmp.Lexicographic.{slice_cmp}
 use Rattle.std.specs.List.{starts_with}
@@ -32,6 +32,11 @@ is_forward folder first end f e = rw (f, e) (forward_so folder)
 filter_same : {A : Type 0} (p q : A → Bool) → ((x : A) → p x ≡ q x) → (xs : List A) → filter p xs ≡ filter q xs
 filter_same p q h [] = refl
 filter_same p q h (x ∷ xs) = rw (h x, filter_same p q h xs) refl
+
+-- between no bounds lie all entries
+pub all_between : (es : List (String Global × Stored)) → entries_between string_cmp Unbounded Unbounded es ≡ es
+all_between [] = refl
+all_between (x ∷ xs) = ap (λ ys. x ∷ ys) (all_between xs)
 
 pub ranged : (folder : List ℕ) (first end : String Global) → string_bytes first ≡ folder ++ codes "/" → string_bytes end ≡ folder ++ codes "0"
     → (es : List (String Global × Stored))

@@ -6,7 +6,7 @@ ghost use Rattle.um_wire.specs.declared.refusal.Refusal.TheVariants as refusals;
 ghost use Rattle.um_tree.specs.declared.cause.Cause.TheVariants as causes;
 
 use std::alloc::Global;
-use um_wire::{Limit, Refusal};
+use um_wire::{Limit, Refusal, bad_path, exists_at};
 
 /// Why a change of a tree is refused: it borrows what the refusal tells, and so takes no memory.
 #[derive(Clone, Copy, Debug, PartialEq, Eq)]
@@ -26,14 +26,8 @@ impl Cause<'_> {
         ensures limit { (limit : limits.Limit) → self.entry ≡ causes.TooLarge limit → result ≡ refusals.TooLarge limit }
     {
         match self {
-            Cause::BadPath { path } => match String::from_str(alloc, path) {
-                Ok(path) => Refusal::BadPath { path },
-                Err(refused) => refused.into(),
-            },
-            Cause::Exists { path } => match String::from_str(alloc, path) {
-                Ok(path) => Refusal::Exists { path },
-                Err(refused) => refused.into(),
-            },
+            Cause::BadPath { path } => bad_path(alloc, path).unwrap_or(Refusal::NoMemory),
+            Cause::Exists { path } => exists_at(alloc, path).unwrap_or(Refusal::NoMemory),
             Cause::TooLarge { limit } => Refusal::TooLarge { limit },
         }
     }

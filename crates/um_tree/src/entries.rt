@@ -3,13 +3,13 @@ ghost use Rattle.std.specs.Iterator.{YieldsFirstBy, item_count};
 ghost use Rattle.um_tree.specs.View.{path_and_entry, path_with_entry};
 
 use crate::entry::{Entry, Stored};
-use std::collections::btree_map::Iter;
+use std::collections::btree_map::Range;
 use std::marker::Model;
 
-/// The entries of a tree with their paths, in ascending order of the paths by bytes. It takes no memory.
+/// The entries of a tree, or of a part of it, with their paths, in ascending order of the paths by bytes. It takes no memory.
 #[derive(Drop)]
 pub struct Entries<'a> {
-    rest: Iter<'a, String, Stored>,
+    rest: Range<'a, String, Stored>,
 }
 
 impl<'a> Model for Entries<'a> {
@@ -23,7 +23,7 @@ impl<'a> Model for Entries<'a> {
 }
 
 impl<'a> Entries<'a> {
-    pub(crate) fn of(rest: Iter<'a, String, Stored>) -> Entries<'a>
+    pub(crate) fn of(rest: Range<'a, String, Stored>) -> Entries<'a>
         ensures { result ≡ each path_and_entry rest.entry }
     {
         Entries { rest }

@@ -1,7 +1,7 @@
 ghost use Rattle.std.specs.Prelude.{◌≡◌, ◌≤◌, ◌^◌, ◌++◌, string_bytes, Some, Ok, Err, IfErr, IfOk, IsOk, IsTrue, OnErr, OnOk, option_map};
 ghost use Rattle.std.specs.FinMap as map;
 ghost use Rattle.std.specs.Map.Iter.{ShowsInOrder};
-ghost use Rattle.um_model.proofs.TreeLaws.{has_run};
+ghost use Rattle.um_model.specs.Tree.{has_run};
 ghost use Rattle.um_model.specs.Tree as model;
 ghost use Rattle.um_model.specs.Refusals as told;
 ghost use Rattle.um_model.specs.Weight.{entry_weight, tree_weight};
@@ -15,7 +15,6 @@ ghost use Rattle.um_wire.specs.declared.refusal.Refusal.TheVariants.{NoMemory, T
 use crate::cause::Cause;
 use crate::entries::Entries;
 use crate::entry::{Entry, Stored};
-use crate::folder::FolderEntries;
 use crate::path::{ServedPath, is_fit_target};
 use crate::text::behind;
 use std::alloc::{AllocError, Global};
@@ -89,12 +88,12 @@ impl Tree {
         ensures runs { ShowsInOrder path_with_entry }
         ensures tree { model.IsTree self.now }
     {
-        Entries::of(self.entries.iter())
+        Entries::of(self.entries.range(..))
     }
 
     /// The entries in a folder with their paths, in ascending order of the paths by bytes: those whose path begins with the folder's and a
     /// slash. The others cost nothing.
-    pub fn entries_in(&self, folder: &str) -> Result<FolderEntries<'_>, AllocError>
+    pub fn entries_in(&self, folder: &str) -> Result<Entries<'_>, AllocError>
         ensures entries { IfOk result (λ found. found ≡ entries_in folder.now self.now) }
 
         // The iterator gives them in this order.
@@ -103,7 +102,7 @@ impl Tree {
         // the sign after the slash is the digit zero: what lies between has the slash there
         let first = joined(self.alloc, folder, "/")?;
         let end = joined(self.alloc, folder, "0")?;
-        Ok(FolderEntries::of(self.entries.range(&first..&end)))
+        Ok(Entries::of(self.entries.range(&first..&end)))
     }
 
     /// The number of entries.

@@ -1,7 +1,7 @@
 -- What stands in a section that isn't known says nothing: item by item, or sorted out of the file.
 use Rattle.std.proofs.Common.{◌≡◌, ℕ, Bool, true, false, cond, List, [], ◌∷◌, ◌++◌, filter, Option, Some, None, refl, ap, ◌∙◌}
 use Rattle.std.specs.List.{flat_map}
-use Rattle.um_model.proofs.FileForms.{warnings_of}
+use Rattle.um_model.specs.FileForms.{warnings_of}
 use Rattle.um_model.specs.Keys.{is_known_section}
 use Rattle.um_model.specs.Names.{suffix_of}
 use Rattle.um_model.specs.Syntax.{Item, Section, Assignment, Warned, Placed, line_number}

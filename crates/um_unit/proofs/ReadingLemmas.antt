@@ -16,7 +16,7 @@ use Rattle.um_model.specs.declared.words.WordRules.TheVariants.{Escaped}
 use Rattle.um_model.specs.Units.{value_readings, value_warning}
 use Rattle.um_model.specs.declared.units.ValueKind.{ValueKind}
 use Rattle.um_unit.specs.Readings.{first_warning, read_as}
-use Rattle.um_model.proofs.FileForms.{Meaning}
+use Rattle.um_model.specs.FileForms.{Meaning}
 use Rattle.um_unit.specs.Readings.{variable_reading, value_reading}
 use Rattle.um_unit.specs.Readings.{command_reading}
 

@@ -6,7 +6,7 @@ use Rattle.std.proofs.lemmas.List.Folds.{list_any-append}
 use Rattle.std.specs.List.{flat_map, cons_option}
 use Rattle.std.specs.Option.{ok_or}
 use Rattle.std.specs.Result.{result_ok, result_unwrap_or}
-use Rattle.um_model.proofs.FileForms.{Meaning}
+use Rattle.um_model.specs.FileForms.{Meaning}
 use Rattle.um_model.specs.declared.warnings.WarningKind.TheVariants.{UnreadableValue}
 use Rattle.um_unit.specs.Tests.{tells_any}
 use Rattle.um_model.specs.Values.{exits_of}

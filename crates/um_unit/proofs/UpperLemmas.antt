@@ -18,7 +18,7 @@ use Rattle.um_model.specs.declared.names.Suffix.TheVariants.{Service}
 use Rattle.um_model.specs.declared.transition.UnitKind.TheVariants.{Simple, Exec, Oneshot, Target}
 use Rattle.um_model.specs.declared.transition.UnitKind.{UnitKind}
 use Rattle.um_model.proofs.Forms.{found_unless}
-use Rattle.um_model.proofs.FileForms.{warnings_of}
+use Rattle.um_model.specs.FileForms.{warnings_of}
 
 pub same_settings : {kind : UnitKind} {start stop stop' : List Command} {environment environment' : List Variable} {remains remains' : Bool} {restart restart' : RestartPolicy}
     {delay delay' timeout_start timeout_start' timeout_stop timeout_stop' interval interval' : Option ℕ} {burst burst' : ℕ}

@@ -12,7 +12,7 @@ use Rattle.um_model.specs.declared.warnings.WarningKind.{WarningKind}
 use Rattle.um_model.specs.declared.warnings.WarningKind.TheVariants.{UnreadableValue}
 use Rattle.um_unit.specs.declared.readings.NameUse.{NameUse}
 use Rattle.um_unit.specs.declared.readings.NameUse.TheVariants.{Units, Aliases}
-use Rattle.um_model.proofs.FileForms.{Meaning}
+use Rattle.um_model.specs.FileForms.{Meaning}
 
 -- a reading, what it read seen in another way
 abbrev pub read_as : {A B : Type 0} → (A → B) → Meaning A → Meaning B

@@ -1,7 +1,7 @@
 -- Sources and assignments of the code as those of the definitions.
 use Rattle.std.specs.Prelude.{ℕ, List, [], ◌∷◌, Option, None, Some, map, if◌then◌else◌}
 use Rattle.std.specs.List.{flat_map}
-use Rattle.um_model.proofs.FileForms.{in_sections}
+use Rattle.um_model.specs.FileForms.{in_sections}
 use Rattle.um_model.specs.Keys.{is_known_section}
 use Rattle.um_model.specs.Syntax.{Item, Assignment, Placed}
 use Rattle.um_model.specs.Units as model

@@ -1,7 +1,7 @@
 -- Units of the code as the units of the definitions.
 use Rattle.std.specs.Prelude.{List, None, option_map, map, string_bytes}
 use Rattle.um_model.specs.Resolution.{Resolution, AtFile, AtNoFile, AtMask, Nowhere}
-use Rattle.um_model.proofs.FileForms.{without_install}
+use Rattle.um_model.specs.FileForms.{without_install}
 use Rattle.um_model.specs.Units as model
 use Rattle.um_unit.specs.ServiceView.{service_settings_of}
 use Rattle.um_unit.specs.declared.warnings.Warning.{Warning}

@@ -4,7 +4,7 @@ ghost use Rattle.std.specs.Prelude.{◌≡◌, ◌&&◌, Some, None, IfOk, OnOk,
 ghost use Rattle.std.specs.List.{after_last, suffix_len};
 ghost use Rattle.std.specs.Str.{bytes_eq};
 ghost use Rattle.um_model.specs.Text.{is_empty};
-ghost use Rattle.um_model.proofs.FileForms.{in_sections, section_past};
+ghost use Rattle.um_model.specs.FileForms.{in_sections, section_past};
 ghost use Rattle.um_model.specs.Units as model;
 ghost use Rattle.um_syntax.specs.Items.{item_of};
 ghost use Rattle.um_unit.specs.Sources.{assigned_by, assigned_in, assigned_of, source_of};

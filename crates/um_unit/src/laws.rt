@@ -4,7 +4,7 @@ ghost use Rattle.std.specs.Prelude.{◌≡◌, ℕ, List, is_none};
 ghost use Rattle.um_model.specs.Tree.{Tree};
 ghost use Rattle.um_model.specs.Units.{load, name_in, unit_named, value_warning};
 ghost use Rattle.um_model.specs.declared.units.ValueKind as kinds;
-ghost use Rattle.um_model.proofs.CountsLaws.{counts};
+ghost use Rattle.um_model.specs.Units.{counts};
 
 /// Settings and warnings read values alike: a value counts, in all that it says, exactly where it gives no warning.
 pub fn a_value_counts_or_warns()

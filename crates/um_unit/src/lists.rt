@@ -6,7 +6,7 @@ ghost use Rattle.std.specs.Result.{result_ok, result_unwrap_or};
 ghost use Rattle.um_model.specs.Names.{is_unit_name};
 ghost use Rattle.um_model.specs.Readings as said;
 ghost use Rattle.um_model.specs.Units as model;
-ghost use Rattle.um_model.proofs.FileForms.{names_of};
+ghost use Rattle.um_model.specs.FileForms.{names_of};
 ghost use Rattle.um_model.specs.declared.units.ValueKind.TheVariants as kinds;
 ghost use Rattle.um_model.specs.Values.{exits_of};
 ghost use Rattle.um_model.specs.declared.service.End as ends;

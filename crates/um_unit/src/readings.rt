@@ -3,7 +3,7 @@
 ghost use Rattle.std.specs.Prelude.{◌≡◌, ◌∷◌, IfOk, map, option_copied, option_map, string_bytes};
 ghost use Rattle.um_model.specs.Names.{suffix_of, suffix_text_of};
 ghost use Rattle.um_model.specs.Commands.{is_executable_word};
-ghost use Rattle.um_model.proofs.FileForms.{unit_reading};
+ghost use Rattle.um_model.specs.FileForms.{unit_reading};
 ghost use Rattle.um_model.specs.Readings as said;
 ghost use Rattle.um_model.specs.Results.{◌and_then◌};
 ghost use Rattle.um_model.specs.Units as model;

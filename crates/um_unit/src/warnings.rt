@@ -3,7 +3,7 @@
 ghost use Rattle.std.specs.Prelude.{◌≡◌, [], ◌∷◌, ◌++◌, Some, OnOk, IfOk, map, option_map};
 ghost use Rattle.um_model.specs.Readings as said;
 ghost use Rattle.um_model.specs.Syntax.{line_number};
-ghost use Rattle.um_model.proofs.FileForms.{warnings_of};
+ghost use Rattle.um_model.specs.FileForms.{warnings_of};
 ghost use Rattle.um_model.specs.Units as model;
 ghost use Rattle.um_syntax.specs.Items.{item_of};
 ghost use Rattle.um_unit.specs.Readings.{fits_use, first_warning, value_reading};

@@ -8,7 +8,7 @@ use Rattle.std.proofs.lemmas.Bool.{and_parts, false≢true}
 use Rattle.um_model.specs.Values.{exit_of, is_end}
 use Rattle.um_model.specs.declared.service.End.{End}
 use Rattle.um_model.specs.declared.service.End.TheVariants.{Code, Signal, Lost}
-use Rattle.um_model.proofs.Forms.{is_exit}
+use Rattle.um_model.specs.ValueSpellings.{is_exit}
 use Rattle.um_value.specs.ExitSet.{holds}
 use Rattle.um_value.specs.declared.exits.ExitSet.{ExitSet}
 

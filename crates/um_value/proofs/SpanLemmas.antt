@@ -2,7 +2,7 @@
 use Rattle.std.proofs.Common.{◌≡◌, ◌≢◌, ℕ, true, false, eqb, List, [], ◌∷◌, Option, Some, None, IfNone, codes, length, refl, arith}
 use Rattle.std.proofs.lemmas.Bool.{eqb-true, true≢false}
 use Rattle.um_model.specs.Text.{is_empty}
-use Rattle.um_model.proofs.ValuesLaws.{IsSpan}
+use Rattle.um_model.specs.ValueSpellings.{IsSpan}
 use Rattle.um_model.specs.declared.settings.TimeSpan.{TimeSpan}
 
 pub some_from : (text : List ℕ) → eqb (length text) 0 ≡ false → is_empty text ≡ false

@@ -7,7 +7,7 @@ use Rattle.std.specs.Str.{bytes_eq}
 use Rattle.std.proofs.lemmas.Bool.{and_parts, ltb-true}
 use Rattle.std.proofs.lemmas.Option.{same_Some, none-some}
 use Rattle.um_model.specs.Values.{signals, time_units}
-use Rattle.um_model.proofs.FileForms.{unit_size}
+use Rattle.um_model.specs.FileForms.{unit_size}
 use Rattle.um_value.specs.ExitSet.{signal_number}
 
 found_here : {N : Type 0} (p : N → Bool) (b : Bool) (here : N) (rest : Option N) (n : N) → p here ≡ true → ((m : N) → rest ≡ Some m → p m ≡ true)

@@ -1,8 +1,8 @@
 //! What the definitions of values say together, as functions that do nothing.
 
 ghost use Rattle.std.specs.Prelude.{◌≡◌, ℕ, List, Bool, Option};
-ghost use Rattle.um_model.proofs.FindsLaws.{Finds};
-ghost use Rattle.um_model.proofs.ValuesLaws.{IsBoolean, IsNumber, IsTime, IsSpan, IsExitSet};
+ghost use Rattle.um_model.specs.Results.{Finds};
+ghost use Rattle.um_model.specs.ValueSpellings.{IsBoolean, IsNumber, IsTime, IsSpan, IsExitSet};
 ghost use Rattle.um_model.specs.Values.{restart_text, boolean_of, time_of, number_of, span_of, exits_of, policy_named};
 ghost use Rattle.um_model.specs.declared.service.End as ends;
 ghost use Rattle.um_model.specs.declared.settings.RestartPolicy as policies;

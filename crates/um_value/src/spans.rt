@@ -2,9 +2,9 @@
 
 ghost use Rattle.std.specs.Prelude.{◌≡◌, ◌+◌, ◌<◌, ◌≤◌, ◌^◌, ℕ, length, option_map, IfSome, IfNone};
 ghost use Rattle.um_model.specs.Values.{span_of};
-ghost use Rattle.um_model.proofs.ValuesLaws.{IsTime, IsSpan};
+ghost use Rattle.um_model.specs.ValueSpellings.{IsTime, IsSpan};
 ghost use Rattle.um_value.specs.Spans.{micros_in};
-ghost use Rattle.um_model.proofs.FileForms.{unit_size, digits_of, unit_of, past_part};
+ghost use Rattle.um_model.specs.FileForms.{unit_size, digits_of, unit_of, past_part};
 
 use crate::numbers::decimal;
 use crate::tables::number_among;

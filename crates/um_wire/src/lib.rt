@@ -11,6 +11,7 @@ mod maps;
 mod moments;
 mod numbers;
 mod refusal;
+mod refusing;
 mod texts;
 mod units;
 mod whole;
@@ -23,6 +24,10 @@ pub use laws::{
 };
 pub use maps::Key;
 pub use refusal::{Refusal, Texts};
+pub use refusing::{
+    bad_name, bad_path, bad_setting, clash, exists_at, job_conflict, masked, no_such_job,
+    not_found, not_loaded, unknown_verb,
+};
 pub use texts::{put_text, text_in_front};
 pub use um_model::Limit;
 pub use whole::{read_whole, spell};

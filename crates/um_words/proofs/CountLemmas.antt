@@ -9,9 +9,10 @@ use Rattle.um_model.specs.Substitution.{Variable, value_of, whole_name, braced_n
 use Rattle.um_model.specs.Text.{first_passes}
 use Rattle.um_model.specs.Words.{Word, piece_of_words, words_of}
 use Rattle.um_model.specs.declared.words.WordRules.TheVariants.{Plain}
-use Rattle.um_model.proofs.FileForms.{word_values}
+use Rattle.um_model.specs.FileForms.{word_values}
 use Rattle.um_model.proofs.Forms.{variable_front}
-use Rattle.um_model.proofs.PiecesLaws.{StandsForText, reading-StandsForText, IsRead, has_reading, prefixed, prefixed-nil, reading-append, reading_more_after}
+use Rattle.um_model.proofs.PiecesLaws.{reading-StandsForText, IsRead, has_reading, prefixed, prefixed-nil, reading-append, reading_more_after}
+use Rattle.um_model.specs.Pieces.{StandsForText}
 use Rattle.um_model.proofs.SubstitutionLaws.{has_words, plain_piece, same_substituted}
 use Rattle.um_model.proofs.WordsLaws.{read, space_read, word_read, first_word}
 use Rattle.um_words.specs.Substituted.{value_words, filled, becomes, becomes_by, substituted}

@@ -12,7 +12,8 @@ use Rattle.um_model.specs.Text.{first_passes}
 use Rattle.um_model.specs.Pieces.{Gives}
 use Rattle.um_model.specs.Substitution as pure
 use Rattle.um_model.specs.Substitution.{is_name_byte, is_variable_name, whole_name, braced_name, value_of, dollar_front, piece_front}
-use Rattle.um_model.proofs.PiecesLaws.{StandsForText, prefixed, reading, reading-append, reading_more_after, StandsForText-reading}
+use Rattle.um_model.proofs.PiecesLaws.{prefixed, reading, reading-append, reading_more_after, StandsForText-reading}
+use Rattle.um_model.specs.Pieces.{StandsForText}
 use Rattle.um_model.proofs.SubstitutionLaws.{plain_piece}
 use Rattle.um_words.proofs.WordLemmas.{boundary_behind}
 use Rattle.um_words.specs.declared.variables.Variable.{Variable}

@@ -14,7 +14,8 @@ use Rattle.std.proofs.lemmas.Option.{none-some, same_Some}
 use Rattle.um_model.specs.declared.words.WordRules.{WordRules}
 use Rattle.um_model.specs.Commands.{is_sign}
 use Rattle.um_model.specs.Words.{Word}
-use Rattle.um_model.proofs.WordsLaws.{is_plain, plain_ascii}
+use Rattle.um_model.proofs.WordsLaws.{plain_ascii}
+use Rattle.um_model.specs.WordSpellings.{is_plain}
 use Rattle.um_words.specs.declared.word.Spelled.{Spelled}
 use Rattle.um_words.specs.Views.{word_of}
 

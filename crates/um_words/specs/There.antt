@@ -1,7 +1,7 @@
 -- What a spelling takes is there.
 use Rattle.std.specs.Prelude.{◌≡◌, ℕ, ◌+◌, ◌-◌, ◌<◌, ◌≤◌, true, IfSome, List, length, slice_index}
 use Rattle.um_model.specs.Ascii.{is_space}
-use Rattle.um_model.proofs.WordSteps.{Spelling, Stop, Bad, Turn, Means, Kept}
+use Rattle.um_model.specs.WordSpellings.{Spelling, Stop, Bad, Turn, Means, Kept}
 
 -- what a spelling takes is there, and ends behind an ASCII byte or at the first
 abbrev pub IsThere : Spelling → ℕ → List ℕ → Type 0

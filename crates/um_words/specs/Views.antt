@@ -1,7 +1,7 @@
 -- What the code's types stand for.
 use Rattle.std.specs.Prelude.{string_bytes}
 use Rattle.um_model.specs.Words.{Word}
-use Rattle.um_model.proofs.WordSteps.{Spelling, Stop, Bad, Turn, Means, Kept}
+use Rattle.um_model.specs.WordSpellings.{Spelling, Stop, Bad, Turn, Means, Kept}
 use Rattle.um_words.specs.declared.spelling.WordFront as code
 use Rattle.um_words.specs.declared.spelling.WordFront.TheVariants as codes
 use Rattle.um_words.specs.declared.word.Spelled.{Spelled}

@@ -3,13 +3,13 @@
 ghost use Rattle.std.specs.Prelude.{◌≡◌, ◌↔◌, ℕ, List, Option, Some, None};
 ghost use Rattle.um_model.specs.declared.words.WordRules.{WordRules};
 ghost use Rattle.um_model.specs.declared.words.WordRules.TheVariants.{Plain};
-ghost use Rattle.um_model.proofs.FindsLaws.{Finds};
+ghost use Rattle.um_model.specs.Results.{Finds};
 ghost use Rattle.um_model.specs.Pieces.{begun};
 ghost use Rattle.um_model.specs.Words.{piece_of_word, words_of};
-ghost use Rattle.um_model.proofs.PiecesLaws.{BeginsWith};
-ghost use Rattle.um_model.proofs.WordSteps.{read};
+ghost use Rattle.um_model.specs.Pieces.{BeginsWith};
+ghost use Rattle.um_model.specs.WordSpellings.{read};
 ghost use Rattle.um_model.specs.Commands.{Command, commands_read};
-ghost use Rattle.um_model.proofs.WordsLaws.{AreCommands, AreWords, InWord};
+ghost use Rattle.um_model.specs.WordSpellings.{AreCommands, AreWords, InWord};
 ghost use Rattle.um_model.specs.Substitution.{Variable, AreSubstituted};
 ghost use Rattle.um_words.specs.Substituted.{substituted};
 

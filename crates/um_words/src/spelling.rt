@@ -4,10 +4,10 @@ ghost use Rattle.std.specs.Prelude.{◌≡◌, ◌<◌, ◌≤◌, ℕ, ◌∷�
 ghost use Rattle.std.specs.Char.{digit_value};
 ghost use Rattle.um_model.specs.Ascii.{is_space};
 ghost use Rattle.um_model.specs.Words.{begins_with_digits, begins_escape, is_quote};
-ghost use Rattle.um_model.proofs.WordSteps.{escape, bare, spelled_at};
+ghost use Rattle.um_model.specs.WordSpellings.{escape, bare, spelled_at};
 ghost use Rattle.um_words.specs.There.{IsThere};
 ghost use Rattle.um_words.specs.Views.{spelling_of};
-ghost use Rattle.um_model.proofs.FileForms.{meaning_of};
+ghost use Rattle.um_model.specs.FileForms.{meaning_of};
 
 use um_model::WordRules;
 use um_text::Class;

@@ -2,7 +2,7 @@
 
 ghost use Rattle.std.specs.Prelude.{◌≡◌, ◌≤◌, ◌+◌, ◌-◌, ◌++◌, List, IfOk, OnOk, length, drop, map, string_bytes};
 ghost use Rattle.um_model.specs.Pieces.{Gives};
-ghost use Rattle.um_model.proofs.PiecesLaws.{StandsForText};
+ghost use Rattle.um_model.specs.Pieces.{StandsForText};
 ghost use Rattle.um_model.specs.Substitution.{dollar_front, piece_front, AreSubstituted};
 ghost use Rattle.um_model.specs.Substitution as pure;
 ghost use Rattle.um_words.specs.Environment.{variables_of};

@@ -78,8 +78,8 @@ struct Loop<'a, R> {
     pace: Pace,
     /// The deadline that is slept for, as it was looked up last.
     deadline: Option<Deadline>,
-    /// There may be another deadline to sleep for since then.
-    is_stale: bool,
+    /// Where the clock of the state stood then.
+    looked: Option<Moment>,
 }
 
 impl<'a, R: Clock> Loop<'a, R> {
@@ -100,6 +100,12 @@ impl<'a, R: Clock> Loop<'a, R> {
         self.rest(manager, tally)
     }
 
+    /// Whether the state may have changed since the deadline was looked up: its clock, which stands so, moves with whatever changes it, unless
+    /// that comes twice at one moment.
+    fn is_stale(&mut self, clock: Moment) -> bool {
+        self.looked != Some(clock) || self.clock.moment().micros() <= clock.micros()
+    }
+
     /// Whether the deadline that is slept for has come.
     fn is_due(&mut self) -> bool {
         let now = self.clock.moment();
@@ -116,13 +122,13 @@ impl<'a, R: Clock> Loop<'a, R> {
         if tally.has_turned() {
             self.pace.begin();
         }
-        self.is_stale |= tally.has_turned() || self.rounds.was_busy();
         if self.rounds.was_busy() {
             return Ok(());
         }
-        if self.is_stale || self.is_due() {
+        let clock = manager.state().clock();
+        if self.is_stale(clock) || self.is_due() {
             self.deadline = self.rounds.deadline(manager)?;
-            self.is_stale = false;
+            self.looked = Some(clock);
         }
         if tally.is_live() && manager.children().has_news() {
             self.pace.hasten();
@@ -169,7 +175,7 @@ fn open_loop<'a, R: Files + Net + Clock, E: Eprint>(
         rounds,
         pace: Pace::new(),
         deadline: None,
-        is_stale: true,
+        looked: None,
     })
 }
 

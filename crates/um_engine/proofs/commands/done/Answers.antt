@@ -7,7 +7,7 @@ use Rattle.um_wire.specs.Gives.{RefusesBy}
 use Rattle.um_wire.specs.Refusal.{refused_of}
 use Rattle.um_wire.specs.declared.refusal.Refusal.TheVariants.{NoMemory}
 use Rattle.um_state.specs.View.{action_of, command_of, state_of}
-use Rattle.um_model.proofs.FewLaws.{HoldsNoMore}
+use Rattle.um_model.specs.Live.{HoldsNoMore}
 use Rattle.um_engine.proofs.KnownLaws.{put_holds_no_more, link_holds_no_more, remove_holds_no_more, waiting_holds_no_more}
 use Rattle.um_engine.proofs.PlannedLaws.{refuses_on}
 use Rattle.um_engine.proofs.Stepped.{does_so}

@@ -1,4 +1,4 @@
-use Rattle.std.proofs.Common.{◌≡◌, refl, ap, subst}
+use Rattle.std.proofs.Common.{refl, ap, subst}
 use Rattle.um_model.specs.Install.{Installs, RefusesLinks, RefusesUnits}
 use Rattle.um_model.specs.Machine as model
 use Rattle.um_model.specs.Machine.{IsCrowded, IsHeld}

@@ -1,5 +1,5 @@
 use Rattle.std.proofs.Common.{◌≡◌, ◌≢◌, ◌∙◌, rules, ap, sym, false, true≢false}
-use Rattle.um_model.proofs.WaitingLaws.{has_waiting}
+use Rattle.um_model.specs.Waiting.{has_waiting}
 use Rattle.um_model.specs.Jobs.{cancelled, jobs_of_unit}
 use Rattle.um_model.specs.Refusals.{no_such_job}
 use Rattle.um_state.specs.View.{state_of}

@@ -1,5 +1,6 @@
 use Rattle.std.proofs.Common.{◌≡◌, false, rules}
-use Rattle.um_model.proofs.TreeLaws.{without_run_same, has_run}
+use Rattle.um_model.proofs.TreeLaws.{without_run_same}
+use Rattle.um_model.specs.Tree.{has_run}
 use Rattle.um_engine.proofs.known.lasting.Goals as goal
 
 pub returns-then-not-has_run : goal.returns-then-not-has_run

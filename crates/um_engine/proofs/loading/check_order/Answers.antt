@@ -1,4 +1,4 @@
-use Rattle.std.proofs.Common.{◌≢◌, Contains, subst}
+use Rattle.std.proofs.Common.{Contains, subst}
 use Rattle.um_model.specs.Machine.{IsBefore}
 use Rattle.um_model.specs.Plan.{NamesCycle}
 use Rattle.um_state.specs.View.{state_of}

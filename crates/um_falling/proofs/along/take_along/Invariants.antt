@@ -1,5 +1,5 @@
 use Rattle.std.proofs.Common.{Contains}
-use Rattle.um_model.proofs.WaitingLaws.{NoMoreWait}
+use Rattle.um_model.specs.Waiting.{NoMoreWait}
 use Rattle.um_model.specs.Jobs.{AreTidyJobs}
 use Rattle.um_model.specs.Service.{AreTidyUnits}
 use Rattle.um_state.specs.View.{state_of}

@@ -1,5 +1,5 @@
 use Rattle.std.proofs.Common.{◌≡◌, ℕ, List, [], map}
-use Rattle.um_model.proofs.WaitingLaws.{NoMoreWait}
+use Rattle.um_model.specs.Waiting.{NoMoreWait}
 use Rattle.um_state.specs.View.{state_of, action_of}
 use Rattle.um_falling.specs.Falling.{AreNamed}
 use Rattle.um_falling.specs.Over.{Serves}

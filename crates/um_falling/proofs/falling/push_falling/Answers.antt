@@ -3,7 +3,7 @@ use Rattle.um_graph.proofs.NamedLaws.{got_within, name_is, names_once}
 use Rattle.um_graph.specs.Graph.{GraphView, IsGraph, IsNumberOf, row_of}
 use Rattle.um_graph.specs.declared.row.Neighbour.{Neighbour}
 use Rattle.um_model.specs.Machine.{State}
-use Rattle.um_model.proofs.FallTotal.{comes_to_rest}
+use Rattle.um_model.specs.Transitions.{comes_to_rest}
 use Rattle.um_model.specs.Service.{state_of_unit}
 use Rattle.um_model.specs.declared.service.SubState.{SubState}
 use Rattle.um_model.specs.declared.service.UnitState.{UnitState}

@@ -1,5 +1,6 @@
 use Rattle.std.proofs.Common.{rules, ◌≡◌, false}
-use Rattle.um_model.proofs.TreeLaws.{without_run_same, has_run}
+use Rattle.um_model.proofs.TreeLaws.{without_run_same}
+use Rattle.um_model.specs.Tree.{has_run}
 use Rattle.um_graph.proofs.graph.lasting_count.Goals as goal
 
 pub returns-then-not-has_run-clause-counts : goal.returns-then-not-has_run-clause-counts

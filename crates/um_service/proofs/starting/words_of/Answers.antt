@@ -1,4 +1,4 @@
-use Rattle.std.proofs.Common.{◌≡◌, List, ℕ, cond, refl, map, option_map, string_bytes, sym, ap, subst, ◌∙◌}
+use Rattle.std.proofs.Common.{List, ℕ, cond, map, option_map, string_bytes, sym, ap, subst, ◌∙◌}
 use Rattle.std.proofs.lemmas.Result.{IfOk-weaker}
 use Rattle.um_model.specs.Substitution.{AreSubstituted}
 use Rattle.um_service.specs.Started.{started_words}

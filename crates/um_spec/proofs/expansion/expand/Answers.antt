@@ -1,9 +1,10 @@
 use Rattle.std.proofs.Common.{◌≡◌, List, ℕ, Option, Some, None, Result, Ok, Err, String, Global, IfOk, string_bytes, option_map, sym, ap, subst, ◌∙◌}
 use Rattle.um_model.specs.Pieces.{reading}
 use Rattle.um_model.specs.Specifiers.{specifier_front, unescaped_of, expanded_of}
-use Rattle.um_model.proofs.SpecifiersLaws.{IsUnescaped, one_unescaped, IsUnescaped-unescaped_of}
+use Rattle.um_model.proofs.SpecifiersLaws.{one_unescaped, IsUnescaped-unescaped_of}
+use Rattle.um_model.specs.Specifiers.{IsUnescaped}
 use Rattle.um_spec.proofs.expansion.expand.Goals as goal
-use Rattle.um_model.proofs.FileForms.{instance_or_empty}
+use Rattle.um_model.specs.Names.{instance_or_empty}
 
 -- what is read with the one unescaped instance is what the text stands for
 same_with : {E : Type 0} (name text : List ℕ) (unescaped : Option (List ℕ)) (r : Result (Option (String Global)) E) → IsUnescaped (instance_or_empty name) unescaped

@@ -5,8 +5,8 @@ use Rattle.std.specs.Str.{IsUtf8}
 use Rattle.std.proofs.lemmas.Str.{IsUtf8-string_bytes}
 use Rattle.std.proofs.lemmas.Bool.{false≢true}
 use Rattle.um_model.specs.Names.{unescape_front}
-use Rattle.um_model.proofs.EscapesLaws.{StandsForBytes}
-use Rattle.um_model.proofs.SpecifiersLaws.{IsUnescaped}
+use Rattle.um_model.specs.Specifiers.{StandsForBytes}
+use Rattle.um_model.specs.Specifiers.{IsUnescaped}
 use Rattle.um_model.proofs.PiecesLaws.{one_reading}
 use Rattle.um_spec.proofs.expansion.unescaped.Goals as goal
 

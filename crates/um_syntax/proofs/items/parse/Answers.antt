@@ -1,6 +1,6 @@
 use Rattle.std.proofs.Common.{rules, ◌≡◌, ◌||◌, ◌++◌, false, map, append-nil, ap, sym, ◌∙◌, arith}
 use Rattle.std.specs.Option.{option_to_list}
-use Rattle.um_model.proofs.FileForms.{items_in}
+use Rattle.um_model.specs.FileForms.{items_in}
 use Rattle.um_syntax.specs.Joining.{line_of, LiesIn}
 use Rattle.um_syntax.specs.Items.{SpanIsIn, BorrowsIfWhole, begins_section}
 use Rattle.um_syntax.proofs.ItemLemmas.{read_more, read_all, all_more, at_item}

@@ -1,6 +1,6 @@
 use Rattle.std.proofs.Common.{◌≡◌, ◌++◌, false, map, drop}
 use Rattle.std.specs.Prelude.{All}
-use Rattle.um_model.proofs.FileForms.{items_in}
+use Rattle.um_model.specs.FileForms.{items_in}
 use Rattle.um_syntax.specs.Joining.{line_of}
 use Rattle.um_syntax.specs.Items.{item_of, SpanIsIn, BorrowsIfWhole}
 use Rattle.um_syntax.proofs.items.parse.Given as goal

@@ -1,5 +1,6 @@
 use Rattle.std.proofs.Common.{sym, subst}
-use Rattle.um_model.proofs.TextLaws.{IsCutInFront, trim_start_cuts, trim_start_is}
+use Rattle.um_model.proofs.TextLaws.{trim_start_cuts, trim_start_is}
+use Rattle.um_model.specs.Text.{IsCutInFront}
 use Rattle.um_text.proofs.laws.trimming_in_front.Goals as goal
 
 pub returns : goal.returns

@@ -1,5 +1,5 @@
 use Rattle.std.proofs.Common.{◌≡◌, ◌++◌, map, drop, Some, None, option_map}
-use Rattle.um_model.proofs.FileForms.{in_sections}
+use Rattle.um_model.specs.FileForms.{in_sections}
 use Rattle.um_syntax.specs.Items.{item_of}
 use Rattle.um_unit.specs.Sources.{assigned_in, assigned_of}
 use Rattle.um_unit.proofs.assignments.add_assignments.Given as goal

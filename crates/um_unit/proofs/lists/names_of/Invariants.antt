@@ -1,5 +1,5 @@
 use Rattle.std.proofs.Common.{◌≡◌, map, take, string_bytes}
-use Rattle.um_model.proofs.FileForms.{names_of}
+use Rattle.um_model.specs.FileForms.{names_of}
 use Rattle.um_unit.specs.Readings.{fits_use}
 use Rattle.um_unit.proofs.lists.names_of.Given as goal
 

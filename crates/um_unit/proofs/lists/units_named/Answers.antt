@@ -1,6 +1,6 @@
 use Rattle.std.proofs.Common.{◌≡◌, [], ◌∷◌, map, string_bytes, ap, ◌∙◌}
 use Rattle.std.proofs.lemmas.Result.{IfOk-weaker}
-use Rattle.um_model.proofs.FileForms.{names_of}
+use Rattle.um_model.specs.FileForms.{names_of}
 use Rattle.um_model.specs.Names.{is_unit_name}
 use Rattle.um_model.specs.Units.{all_said, values_of}
 use Rattle.um_model.specs.declared.units.ValueKind.TheVariants as kinds

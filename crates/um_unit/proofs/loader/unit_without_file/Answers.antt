@@ -4,7 +4,7 @@ use Rattle.um_unit.specs.Sources.{source_of}
 use Rattle.um_unit.specs.View.{settings_of, warning_of}
 use Rattle.um_unit.proofs.UpperLemmas.{unit_is}
 use Rattle.um_unit.proofs.loader.unit_without_file.Goals as goal
-use Rattle.um_model.proofs.FileForms.{without_install}
+use Rattle.um_model.specs.FileForms.{without_install}
 
 pub returns : goal.returns
 returns c =

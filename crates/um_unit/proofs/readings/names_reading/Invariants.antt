@@ -1,7 +1,7 @@
 use Rattle.std.proofs.Common.{◌≡◌, map, take, string_bytes}
 use Rattle.um_unit.specs.Readings.{fits_use, read_as}
 use Rattle.um_unit.proofs.readings.names_reading.Given as goal
-use Rattle.um_model.proofs.FileForms.{unit_reading}
+use Rattle.um_model.specs.FileForms.{unit_reading}
 
 -- the readings of the words so far
 abbrev pub invariant-loop-word : goal.invariant-loop-word

@@ -1,5 +1,5 @@
 use Rattle.std.proofs.Common.{◌≡◌, map, drop}
-use Rattle.um_model.proofs.FileForms.{last_or}
+use Rattle.um_model.specs.FileForms.{last_or}
 use Rattle.um_model.specs.Units.{all_said}
 use Rattle.um_unit.proofs.singles.last_read.Given as goal
 

@@ -1,6 +1,6 @@
 use Rattle.std.proofs.Common.{◌≡◌, ◌++◌, map, drop, option_map}
 use Rattle.std.specs.List.{flat_map}
-use Rattle.um_model.proofs.FileForms.{in_sections}
+use Rattle.um_model.specs.FileForms.{in_sections}
 use Rattle.um_model.specs.Syntax.{line_number}
 use Rattle.um_syntax.specs.Items.{item_of}
 use Rattle.um_unit.specs.Sources.{source_of}

@@ -7,12 +7,13 @@ use Rattle.std.proofs.lemmas.Iterator.Splits.{YieldsList-from_slice_split}
 use Rattle.um_model.specs.Ascii.{is_space}
 use Rattle.um_model.specs.Values.{exit_of, is_end, exits_of}
 use Rattle.um_model.proofs.FindsLaws.{told_by_relation}
-use Rattle.um_model.proofs.ValuesLaws.{IsExitSet, exits_of-IsExitSet, finds_exits}
-use Rattle.um_model.proofs.Forms.{is_exit}
+use Rattle.um_model.proofs.ValuesLaws.{exits_of-IsExitSet, finds_exits}
+use Rattle.um_model.specs.ValueSpellings.{IsExitSet}
+use Rattle.um_model.specs.ValueSpellings.{is_exit}
 use Rattle.um_value.specs.ExitSet.{holds}
 use Rattle.um_value.proofs.ExitLemmas.{word_more, readable_more, exact_more, unreadable}
 use Rattle.um_value.proofs.exits.exit_set.Goals as goal
-use Rattle.um_model.proofs.FileForms.{words_in}
+use Rattle.um_model.specs.FileForms.{words_in}
 
 pub loop-word-init : goal.loop-word-init
 loop-word-init c = record { can = (mut_total _ _ (λ s a. tt), search rules, search rules); finite = search rules; readable = refl; exact = c.empty-set.ensures }

@@ -2,10 +2,10 @@ use Rattle.std.proofs.Common.{◌≡◌, true, length, take}
 use Rattle.std.specs.List.{list_any, list_all}
 use Rattle.um_model.specs.Values.{exit_of, is_end}
 use Rattle.um_model.specs.declared.service.End.{End}
-use Rattle.um_model.proofs.Forms.{is_exit}
+use Rattle.um_model.specs.ValueSpellings.{is_exit}
 use Rattle.um_value.specs.ExitSet.{holds}
 use Rattle.um_value.proofs.exits.exit_set.Given as goal
-use Rattle.um_model.proofs.FileForms.{words_in}
+use Rattle.um_model.specs.FileForms.{words_in}
 
 -- the set holds what the words so far tell
 abbrev pub invariant-loop-word : goal.invariant-loop-word

@@ -7,7 +7,7 @@ use Rattle.std.proofs.lemmas.Iterator.Search.{find_from_yields_List}
 use Rattle.um_model.specs.Values.{restart_text, policy_named}
 use Rattle.um_model.specs.declared.settings.RestartPolicy.{RestartPolicy}
 use Rattle.um_value.proofs.policies.restart.Goals as goal
-use Rattle.um_model.proofs.FileForms.{policies}
+use Rattle.um_model.specs.FileForms.{policies}
 
 pub returns : goal.returns
 unfolding policy_named

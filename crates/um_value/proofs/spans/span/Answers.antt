@@ -1,7 +1,8 @@
 use Rattle.std.proofs.Common.{None, rules, sym}
 use Rattle.um_model.specs.Values.{span_of}
 use Rattle.um_model.proofs.FindsLaws.{told_by_relation}
-use Rattle.um_model.proofs.ValuesLaws.{IsSpan, span_of-IsSpan, finds_span}
+use Rattle.um_model.proofs.ValuesLaws.{span_of-IsSpan, finds_span}
+use Rattle.um_model.specs.ValueSpellings.{IsSpan}
 use Rattle.um_value.specs.Spans.{micros_in}
 use Rattle.um_value.proofs.SpanLemmas.{none_said}
 use Rattle.um_value.proofs.spans.span.Goals as goal

@@ -1,9 +1,10 @@
 use Rattle.std.proofs.Common.{◌≡◌, ℕ, ◌+◌, List, false, zero-add, add-zero, add_assoc, sym, ap, subst, ◌∙◌, arith, rules}
 use Rattle.um_model.specs.Text.{trim_start, is_empty}
-use Rattle.um_model.proofs.ValuesLaws.{AddUpTo, IsTime, nothing, part, trim_start-trim_start, sum-untrimmed, sum-trimmed, sum-first, one_time}
+use Rattle.um_model.proofs.ValuesLaws.{nothing, part, trim_start-trim_start, sum-untrimmed, sum-trimmed, sum-first, one_time}
+use Rattle.um_model.specs.ValueSpellings.{AddUpTo, IsTime}
 use Rattle.um_value.proofs.SpanLemmas.{some_from, none_from}
 use Rattle.um_value.proofs.spans.sum_of_parts.Goals as goal
-use Rattle.um_model.proofs.FileForms.{past_part, digits_of, unit_of}
+use Rattle.um_model.specs.FileForms.{past_part, digits_of, unit_of}
 
 pub loop-rest-init : goal.loop-rest-init
 loop-rest-init c =

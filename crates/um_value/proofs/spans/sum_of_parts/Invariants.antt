@@ -2,7 +2,7 @@ use Rattle.std.proofs.Common.{◌≡◌, ◌≤◌, ◌+◌, ◌^◌, ℕ, lengt
 use denote.Text.{Utf8}
 use denote.Shadow.{shadow}
 use Rattle.um_model.specs.Text.{trim_start}
-use Rattle.um_model.proofs.ValuesLaws.{AddUpTo}
+use Rattle.um_model.specs.ValueSpellings.{AddUpTo}
 use Rattle.um_value.proofs.spans.sum_of_parts.Given as goal
 
 -- what serves the rest serves the text, with the parts before it

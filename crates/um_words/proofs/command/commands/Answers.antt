@@ -10,7 +10,7 @@ use Rattle.um_model.proofs.WordsLaws.{commands_after, commands_are}
 use Rattle.um_words.specs.Views.{word_of}
 use Rattle.um_words.specs.Commands.{commands_seen}
 use Rattle.um_words.proofs.command.commands.Goals as goal
-use Rattle.um_model.proofs.FileForms.{commands_among}
+use Rattle.um_model.specs.FileForms.{commands_among}
 
 pub returns-in_default : goal.returns-in_default
 unfolding commands_read

@@ -4,7 +4,8 @@ use Rattle.std.specs.List.{prefix_len}
 use Rattle.std.proofs.lemmas.List.{take_rest}
 use Rattle.std.specs.Prelude.{None, string_bytes}
 use Rattle.std.proofs.lemmas.Grind.{common_steps}
-use Rattle.um_model.proofs.WordsLaws.{read, is_plain, told_means, told_kept}
+use Rattle.um_model.proofs.WordsLaws.{read, told_means, told_kept}
+use Rattle.um_model.specs.WordSpellings.{is_plain}
 use Rattle.um_words.proofs.WordLemmas.{boundary_one, boundary_means, kept_fits, boundary_kept}
 use Rattle.um_words.proofs.word.word.Goals as goal
 

@@ -1,5 +1,4 @@
 use Rattle.std.proofs.Common.{subst, sym}
-use Rattle.um_model.specs.Machine.{IsHeld}
 use Rattle.um_state.specs.View.{state_of}
 use Rattle.um_engine.specs.Known.{KnownView, KnowsFor}
 use Rattle.um_engine.proofs.KnownLaws.{knows_made, knows_of}

@@ -45,10 +45,6 @@ word_values words = map (λ w. w.value) words
 abbrev pub commands_among : List Word → List Command
 commands_among words = flat_map (λ part. command_of (map value_in_command part)) (slice_split is_separator words)
 
--- the instance of a name; empty where it has none
-abbrev pub instance_or_empty : List ℕ → List ℕ
-instance_or_empty name = unwrap_or (instance_of name) []
-
 -- a place in a list of commands is a number of 32 bits
 abbrev pub place_limit : ℕ
 place_limit = 2 ^ 32

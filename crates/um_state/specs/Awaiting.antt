@@ -1,0 +1,26 @@
+-- For which reports units wait, and when numbers leave none of these out.
+-- Follows no manual page: it is how a report that nobody waits for is known without a look at any unit.
+-- The contracts of Awaited and of Units, and the ghost field of Units, cite it.
+use Rattle.std.specs.Prelude.{◌≡◌, ◌≢◌, ℕ, true, if◌then◌else◌, List, Option, Some, None}
+use Rattle.std.specs.BTreeSet as sets
+use Rattle.std.specs.Ordering.{nat_cmp}
+use Rattle.um_model.specs.Ends.{waits_for_report}
+use Rattle.um_model.specs.Service.{ByUnit, state_of_unit}
+use Rattle.um_model.specs.declared.service.UnitState.{UnitState}
+use Rattle.um_state.specs.declared.awaited.Awaited.{Awaited}
+
+-- the number of the process whose report a unit that stands so may wait for
+abbrev pub awaited_by : UnitState → Option ℕ
+awaited_by u = if waits_for_report u.sub then u.main else None
+
+-- no unit waits for the report of the process with the number
+abbrev pub IsUnawaited : ByUnit UnitState → ℕ → Type 0
+IsUnawaited units number = (unit : List ℕ) → awaited_by (state_of_unit units unit) ≢ Some number
+
+-- the number is one of them
+abbrev pub Has : Awaited → ℕ → Type 0
+Has awaited number = sets.contains nat_cmp awaited.numbers number ≡ true
+
+-- none is left out for whose report a unit may wait
+abbrev pub HasAll : ByUnit UnitState → Awaited → Type 0
+HasAll units awaited = (unit : List ℕ) (number : ℕ) → awaited_by (state_of_unit units unit) ≡ Some number → Has awaited number
