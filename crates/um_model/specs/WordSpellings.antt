@@ -77,7 +77,8 @@ marks (Some quote) b = b == quote
 abbrev pub is_plain : WordRules → Option ℕ → ℕ → Bool
 is_plain rules quote b = not (begins_escape rules b || marks quote b)
 
--- The word at the front of a text in other words: inside this quote, or none, the text begins with spellings of the word's bytes up to the word's end, and then the rest
+-- The word at the front of a text in other words: inside this quote, or none, the text begins with spellings of the word's bytes up to the
+-- word's end, and then the rest.
 pub data InWord (rules : WordRules) : Option ℕ → List ℕ → List ℕ → List ℕ → Type 0 where
   ends : (quote : Option ℕ) → may_end rules quote ≡ true → InWord rules quote [] [] []
   stops : (quote : Option ℕ) (b : ℕ) (bs : List ℕ) → spelled_at rules quote b bs ≡ Stop → InWord rules quote (b ∷ bs) [] (b ∷ bs)

@@ -5,7 +5,7 @@ ghost use Rattle.std.specs.Option.{option_map};
 ghost use Rattle.std.specs.List.{prefix_len};
 ghost use Rattle.um_model.specs.Ascii.{is_space};
 ghost use Rattle.um_model.specs.WordSpellings.{may_end};
-ghost use Rattle.um_model.proofs.WordsLaws.{read};
+ghost use Rattle.um_model.specs.WordSpellings.{read};
 ghost use Rattle.um_model.specs.WordSpellings.{is_plain};
 
 use crate::spelling::{WordFront, begins_escape, front_at, is_quote, is_space};
