@@ -14,13 +14,13 @@ use std::env;
 use std::env::Env;
 use std::process::ExitCode;
 use um_state::State;
+use um_wire::{Canon, spell};
 
 /// Writes the state so many times, and gives the bytes of all times.
 fn write_times(alloc: Global, state: &State, times: u32) -> Result<u64, AllocError> {
     let mut count: u64 = 0;
     for _ in 0..times {
-        let mut bytes = Vec::new(alloc);
-        state.put(&mut bytes)?;
+        let bytes = spell(alloc, state)?;
         count = count.saturating_add(bytes.len() as u64);
     }
     Ok(count)
@@ -43,8 +43,7 @@ fn measured(alloc: Global, line: &Line) -> Option<u64> {
     match line.task {
         Task::Write => write_times(alloc, &state, line.times).ok(),
         Task::Read => {
-            let mut bytes = Vec::new(alloc);
-            state.put(&mut bytes).ok()?;
+            let bytes = spell(alloc, &state).ok()?;
             read_times(alloc, bytes.as_slice(), line.times).ok()
         }
     }

@@ -1,42 +1,24 @@
 -- A store that is opened is in the state that its image stands for; and a disk in memory that is settled shows what it showed.
-use Rattle.std.proofs.Common.{◌≡◌, ◌∙◌, ◌-◌, ◌*◌, ℕ, List, [], ◌∷◌, Some, refl, sym, ap, subst}
+use Rattle.std.proofs.Common.{◌≡◌, ◌∙◌, ◌-◌, ◌*◌, ℕ, List, [], sym, ap, subst}
 use Rattle.um_bin.specs.Stores.{StandsIn}
 use Rattle.um_keeper.specs.Creating.{IsEmptyStore}
-use Rattle.um_keeper.specs.Opening.{Replays, no_more, and_then, IsTakenUp}
-use Rattle.um_model.proofs.StandsLaws.{store_of, one_layout, one_state}
-use Rattle.um_model.specs.Bytes.{◌>>=◌}
+use Rattle.um_model.proofs.StandsLaws.{one_layout, one_state}
 use Rattle.um_model.specs.Disk.{Image, Images, Sector, seen}
 use Rattle.um_bin.specs.Stores.{memory_size}
-use Rattle.um_model.specs.Machine.{State, Input, Run, rests, goes, empty_state}
-use Rattle.um_model.specs.Stands.{inputs_of, StandsFor, IsStoreOf}
+use Rattle.um_model.specs.Machine.{State, empty_state}
+use Rattle.um_model.specs.Stands.{StandsFor, IsStoreOf}
 use Rattle.um_model.specs.Store.{body_limit}
 use Rattle.um_model.specs.declared.layout.Layout.{Layout}
-use Rattle.um_model.specs.declared.layout.Slot.{Slot}
 use Rattle.um_sector.specs.Memory.{history}
 use Rattle.um_sector.specs.Noted.{past_of, seen_is_image}
 use Rattle.um_sector.specs.declared.memory.MemDisk.{MemDisk}
 use Rattle.um_sector.specs.declared.noted.Noted.{Noted}
 
--- ---- what is taken up
-
--- the records that were taken again are a run
-replayed : {size : ℕ} {records : List (List ℕ)} {s t : State} → Replays size records s t → (inputs : List Input) × (inputs_of records ≡ Some inputs) × Run size s inputs t
-replayed no_more = ([], refl, rests)
-replayed (and_then {records = records} {input = input} is leads more) =
-    let (inputs, are, run) = replayed more in
-    (input ∷ inputs, (λ k. is k >>= λ i. are k >>= λ more. Some (i ∷ more)), goes leads.reply leads.actions leads.step run)
-
-taken_store : {count : ℕ} {image : Image} {layout : Layout} {slot : Slot} {generation : ℕ} {s : State} → IsTakenUp count image layout slot generation s → IsStoreOf layout image s
-taken_store t =
-    let (inputs, are, run) = replayed t.replays in
-    store_of t.store (record { start_is = t.starts.read; inputs_are = are; servable = t.starts.servable; run = run })
-
--- an image stands for one state, so what was taken up of it is that
-pub taken_stands : {count : ℕ} {image : Image} {layout : Layout} {slot : Slot} {generation : ℕ} {s : State} → IsTakenUp count image layout slot generation s → StandsIn image layout s
-taken_stands {image = image} {layout = layout} {s = s} taken l t store =
-    let mine = taken_store taken in
-    let same : layout ≡ l = one_layout layout l image mine.stands.first store.stands.first in
-    (same, one_state l image s t (subst (λ (m : Layout). StandsFor m image s) same mine.stands) store.stands)
+-- an image stands for one state
+pub stands_in : {image : Image} {layout : Layout} {s : State} → StandsFor layout image s → StandsIn image layout s
+stands_in {image = image} {layout = layout} {s = s} mine l t store =
+    let same : layout ≡ l = one_layout layout l image mine.first store.stands.first in
+    (same, one_state l image s t (subst (λ (m : Layout). StandsFor m image s) same mine) store.stands)
 
 -- ---- disks in memory
 

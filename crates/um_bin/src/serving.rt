@@ -103,7 +103,7 @@ impl Manager {
         ensures working { OnOk result (has_failed self.new.keeper ≡ false) }
     {
         let moment = at.unwrap_or(self.keeper.state().clock());
-        match self.keeper.submit(&Input::new(moment, event)) {
+        match self.keeper.submit(Input::new(moment, event)) {
             Ok(receipt) => Ok(keep_actions(&mut self.kept, receipt)?),
             Err(refusal) => reply_to(refusal),
         }

@@ -71,5 +71,6 @@ pub fn renewed(alloc: Global, keeper: Keeper<MemDisk>) -> Result<Keeper<MemDisk>
     ensures size { IfOk result (λ k. size_in k ≡ size_in keeper) }
     ensures working { IfOk result (λ k. has_failed k ≡ false) }
 {
+    keeper.is_stored();
     open_store(alloc, keeper.into_disk().settled())
 }

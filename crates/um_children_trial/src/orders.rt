@@ -20,7 +20,7 @@ pub struct Orders {
 /// What came of a command: its order, if any.
 fn order_of(keeper: &mut Keeper<MemDisk>, command: Command) -> anyhow::Result<Option<SpawnOrder>> {
     let input = Input::new(Moment::FIRST, Event::Commanded(command));
-    let mut receipt = keeper.submit(&input)?;
+    let mut receipt = keeper.submit(input)?;
     let mut order = None;
     while let Some(handed) = receipt.next_action() {
         if let Handed::Spawn(spawn) = handed {

@@ -16,7 +16,7 @@ use crate::settling::{fire, settle};
 use std::alloc::{AllocError, Global};
 use um_falling::{happen, kind_in};
 use um_graph::Graph;
-use um_model::{End, Moment, ProcessNumber, SubState, UnitEvent, UnitState};
+use um_model::{End, Moment, ProcessNumber, UnitEvent, UnitState};
 use um_name::UnitName;
 use um_service::has_one_command;
 use um_state::{Action, BootId, Happening, State};
@@ -88,12 +88,6 @@ fn after_end(
     Ok((Some(after), actions))
 }
 
-fn waits_for_report(sub: SubState) -> bool
-    ensures { result ≡ waits_for_report sub }
-{
-    matches!(sub, SubState::Start)
-}
-
 /// Whether the process is there and has the number.
 fn is_number(number: u64, process: Option<ProcessNumber>) -> bool
     ensures { result ≡ is_number number process }
@@ -108,7 +102,7 @@ fn is_number(number: u64, process: Option<ProcessNumber>) -> bool
 fn may_await(stands: UnitState, number: u64) -> bool
     ensures { result ≡ (waits_for_report stands.sub && is_number number stands.main) }
 {
-    waits_for_report(stands.sub) && is_number(number, stands.main)
+    stands.sub.waits_for_report() && is_number(number, stands.main)
 }
 
 /// Whether the unit, one of the graph, waits for the report that the program of its main process runs, and that process has the

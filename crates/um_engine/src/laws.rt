@@ -1,6 +1,6 @@
 ghost use Rattle.std.specs.Prelude.{◌≡◌, ◌≢◌, ◌↔◌, ◌<◌, ◌≤◌, ◌++◌, ℕ, List, All, length, None};
 ghost use Rattle.um_model.specs.Begun.{WasNext, begun_in};
-ghost use Rattle.um_model.specs.Finished.{Finishes, IsAtRest, PutsStart};
+ghost use Rattle.um_model.specs.Finished.{Finishes, IsAtRest, PutsNoStart};
 ghost use Rattle.um_model.specs.InputSpellings.{FitInput, input_limit, input_spelling};
 ghost use Rattle.um_model.specs.Jobs.{jobs_of_unit};
 ghost use Rattle.um_model.specs.Live.{IsNotStuck};
@@ -114,8 +114,8 @@ pub fn an_input_that_is_not_refused_is_short()
 /// each further run in which no command puts a start of it.
 pub fn a_finished_job_is_not_repeated()
     ensures { (size : ℕ) (s t u : State) (unit : List ℕ) (input : Input) (inputs : List Input) (reply : Reply) (actions : List Action)
-        → Step size s input reply actions t → Finishes s t unit → (jobs_of_unit t.pending unit).start ≡ None → Run size t inputs u
-        → ¬ PutsStart size unit t inputs → IsAtRest u unit }
+        → Step size s input reply actions t → Finishes s t unit → (jobs_of_unit t.pending unit).start ≡ None
+        → (run : Run size t inputs u) → PutsNoStart unit run → IsAtRest u unit }
 {}
 
 /// The numbers of the processes that a step starts are new: the next number never falls, and each number started is at least the one

@@ -1,11 +1,12 @@
 -- Of inputs that are taken one behind the other.
-use Rattle.std.proofs.Common.{◌≡◌, ◌⊎◌, ◌∙◌, ℕ, zero, suc, ◌≤◌, arith, Bool, true, false, if◌then◌else◌, List, [], ◌∷◌, ◌++◌, append_assoc, take, refl, sym, ap, subst, inl, inr}
+use Rattle.std.proofs.Common.{◌≡◌, ◌⊎◌, ◌∙◌, ℕ, zero, suc, ◌+◌, ◌-◌, arith, Bool, true, false, if◌then◌else◌, List, [], ◌∷◌, ◌++◌, append_assoc, append-nil, length, length-append, map, replicate, take, refl, sym, ap, subst, inl, inr}
 use Rattle.std.specs.List.{AllByRecursion}
 use Rattle.std.specs.Prelude.{Ok, Err, IsTrue}
+use Rattle.std.proofs.lemmas.Bool.{false≢true}
+use Rattle.std.proofs.lemmas.List.Elements.{Contains-append_right, Contains-append_cases, Contains-push_cases}
 use Rattle.um_engine.specs.Engine.{state_before}
 use Rattle.um_engine.specs.declared.engine.Back.{Back}
 use Rattle.um_model.specs.Disk.{Past, Image, During}
-use Rattle.um_model.specs.Lives.{HasInOrder, no_others, has, between}
 use Rattle.um_model.specs.Machine.{State, Input, Reply, Done, Refusal, Run, rests, goes, Step}
 use Rattle.um_model.specs.Numbers.{AreNew, started_numbers, actions_in}
 use Rattle.um_model.specs.Refusals.{Refused}
@@ -15,7 +16,7 @@ use Rattle.um_model.specs.Store.{body_limit}
 use Rattle.um_model.specs.declared.layout.Layout.{Layout}
 use Rattle.um_model.proofs.DiskLaws.{weaker, followed}
 use Rattle.um_model.proofs.NumbersLaws.{run_numbers_rise}
-use Rattle.um_keeper.specs.Answering.{Answer, is_turned_away, Answered, accepted, refused, turned_away, AreAnswered, all_answered, and_next, where_step, taken, all_asked, IsIdle, IsRefusal, NeedNoRecord, IsSpentIn, state_before_all}
+use Rattle.um_keeper.specs.Answering.{Answer, is_turned_away, Answered, accepted, refused, turned_away, AreAnswered, all_answered, and_next, FellBack, StopsAt, HasFault, denied, where_step, taken, all_asked, IsIdle, IsRefusal, NeedNoRecord, state_before_all}
 use Rattle.um_keeper.specs.Keeping.{IsBegun}
 use Rattle.um_engine.specs.OfStore.{is_of_store}
 use Rattle.um_sector.specs.Refused.{IsLost}
@@ -58,20 +59,6 @@ taken_on {old} {mid} {new} {input = input} {answer} {rest} answered one others =
     (weaker old mid _ _ (begun_longer (where_step answer input) rest) one)
     (weaker mid new _ _ (λ image. begun_answered image answered) others)
 
--- ---- inputs in their order
-
-pub none_had : (xs : List Input) → HasInOrder [] xs
-none_had [] = no_others
-none_had (x ∷ xs) = between (none_had xs)
-
-had_where : (away : Bool) (input : Input) (some all : List Input) → HasInOrder some all → HasInOrder ((if away then [] else input ∷ []) ++ some) (input ∷ all)
-had_where true input some all h = between h
-had_where false input some all h = has h
-
-pub had_more : (answer : Answer) (input : Input) (some all : List Input) → HasInOrder some all → HasInOrder (where_step answer input ++ some) (input ∷ all)
-had_more (Ok given) input some all h = has h
-had_more (Err e) input some all h = had_where (is_turned_away e) input some all h
-
 -- ---- numbers
 
 -- the accepted ones are a run, with the actions that were asked
@@ -109,30 +96,12 @@ module _ {size : ℕ} {s t : State} {input : Input} {left more : List Input} {an
   -- what a crash leaves meanwhile
   module _ {old mid new : Past} {layout l : Layout} {h h' : Bool} (on : size ≡ body_limit layout) (same : l ≡ layout) (honest : h' ≡ h)
       (one : IsTrue h → During old mid (IsBegun layout s (where_step answer input))) where
-    pub one_lost : {some : List Input} → (IsTrue h' → During mid new (IsBegun l t some)) → IsTrue h → During old new (IsBegun layout s (where_step answer input ++ some))
+    one_lost : {some : List Input} → (IsTrue h' → During mid new (IsBegun l t some)) → IsTrue h → During old new (IsBegun layout s (where_step answer input ++ some))
     one_lost {some} others sure = taken_on (subst (λ n. Answered n s input answer t) on answered) (one sure)
         (subst (λ (z : Layout). During mid new (IsBegun z t some)) same (others (honest ∙ sure)))
 
     pub one_begun : (rest : List Answer) → (IsTrue h' → During mid new (IsBegun l t (taken more rest))) → IsTrue h → During old new (IsBegun layout s (taken left (answer ∷ rest)))
     one_begun rest others sure = subst (λ z. During old new (IsBegun layout s (taken z (answer ∷ rest)))) (sym is) (one_lost others sure)
-
-  pub one_had : {some : List Input} → HasInOrder some more → HasInOrder (where_step answer input ++ some) left
-  one_had {some} h = subst (HasInOrder (where_step answer input ++ some)) (sym is) (had_more answer input some more h)
-
--- ---- the last generation
-
-each_spent : {g later : ℕ} (answers : List Answer) → g ≤ later → AllByRecursion (IsSpentIn g) answers → AllByRecursion (IsSpentIn later) answers
-each_spent [] more all = tt
-each_spent (answer ∷ answers) more all = ((λ is. omega (arith, all.0 is, more)), each_spent answers more all.1)
-
-one_spent : {g later : ℕ} (answers : List Answer) (answer : Answer) → g ≤ later → AllByRecursion (IsSpentIn g) answers → IsSpentIn g answer
-    → AllByRecursion (IsSpentIn later) (answers ++ answer ∷ [])
-one_spent [] answer more all one = each_spent (answer ∷ []) more (one, tt)
-one_spent (x ∷ answers) answer more all one = ((λ is. omega (arith, all.0 is, more)), one_spent answers answer more all.1 one)
-
-pub spent_more : {g later : ℕ} (answers : List Answer) {all : List Answer} (answer : Answer) → AllByRecursion (IsSpentIn g) answers → g ≤ later → IsSpentIn g answer → all ≡ answers ++ answer ∷ []
-    → AllByRecursion (IsSpentIn later) all
-spent_more {later = later} answers answer spent more one is = subst (AllByRecursion (IsSpentIn later)) (sym is) (one_spent answers answer more spent one)
 
 -- ---- what is to be recorded
 
@@ -142,6 +111,136 @@ idle_left s is all = subst (AllByRecursion (IsIdle s)) is all
 pub unrecorded_left : (s : State) {left more : List Input} {input : Input} (answer : Answer) (rest : List Answer) → left ≡ input ∷ more → NeedNoRecord s left (answer ∷ rest)
     → (IsIdle s input ⊎ IsRefusal answer) × NeedNoRecord s more rest
 unrecorded_left s answer rest is all = subst (λ l. NeedNoRecord s l (answer ∷ rest)) is all
+
+-- a record that isn't needed for an answer that is denied isn't needed for that which was meant
+undenied : (answer : Answer) → IsRefusal (denied answer) → IsRefusal answer
+undenied (Ok given) refusal = refusal.0 refl
+undenied (Err e) refusal = refusal
+
+pub unrecorded_meant : (s : State) (inputs : List Input) (meant rest : List Answer) → NeedNoRecord s inputs (map denied meant ++ rest) → NeedNoRecord s inputs (meant ++ rest)
+unrecorded_meant s inputs [] rest none = none
+unrecorded_meant s [] (answer ∷ meant) rest none = tt
+unrecorded_meant s (input ∷ inputs) (answer ∷ meant) rest none =
+    (elim none.0 [ inl idle ↦ inl idle | inr refusal ↦ inr (undenied answer refusal) ], unrecorded_meant s inputs meant rest none.1)
+
+-- ---- where the disk failed
+
+pub answered_more : {size : ℕ} {s t u : State} {inputs : List Input} {answers : List Answer} {input : Input} {answer : Answer} → AreAnswered size s inputs answers t → Answered size t input answer u
+    → AreAnswered size s (inputs ++ input ∷ []) (answers ++ answer ∷ []) u
+answered_more all_answered one = and_next one all_answered
+answered_more (and_next first more) one = and_next first (answered_more more one)
+
+same_length : {size : ℕ} {s t : State} {inputs : List Input} {answers : List Answer} → AreAnswered size s inputs answers t → length answers ≡ length inputs
+same_length all_answered = refl
+same_length (and_next one more) = ap suc (same_length more)
+
+pub taken_none : (inputs : List Input) → taken inputs [] ≡ []
+taken_none [] = refl
+taken_none (input ∷ inputs) = refl
+
+taken_more : (inputs : List Input) (answers : List Answer) (input : Input) (rest : List Input) (answer : Answer) → length answers ≡ length inputs
+    → taken (inputs ++ input ∷ rest) (answers ++ answer ∷ []) ≡ taken inputs answers ++ where_step answer input
+taken_more [] [] input rest answer same = ap (λ l. where_step answer input ++ l) (taken_none rest) ∙ append-nil (where_step answer input)
+taken_more [] (a ∷ answers) input rest answer same = absurd (omega (arith, same))
+taken_more (x ∷ inputs) [] input rest answer same = absurd (omega (arith, same))
+taken_more (x ∷ inputs) (a ∷ answers) input rest answer same =
+    ap (λ l. where_step a x ++ l) (taken_more inputs answers input rest answer (omega (arith, same))) ∙ sym (append_assoc (where_step a x) (taken inputs answers) (where_step answer input))
+
+same_where : (answer : Answer) (input : Input) → where_step (denied answer) input ≡ where_step answer input
+same_where (Ok given) input = refl
+same_where (Err e) input = refl
+
+taken_faults : (rest : List Input) → taken rest (replicate (length rest) (Err Device)) ≡ rest
+taken_faults [] = refl
+taken_faults (x ∷ rest) = ap (λ l. x ∷ l) (taken_faults rest)
+
+taken_denied : (judged rest : List Input) (meant : List Answer) → length meant ≡ length judged
+    → taken (judged ++ rest) (map denied meant ++ replicate (length rest) (Err Device)) ≡ taken judged meant ++ rest
+taken_denied [] rest [] same = taken_faults rest
+taken_denied [] rest (a ∷ meant) same = absurd (omega (arith, same))
+taken_denied (x ∷ judged) rest [] same = absurd (omega (arith, same))
+taken_denied (x ∷ judged) rest (a ∷ meant) same =
+    ap (λ l. l ++ taken (judged ++ rest) (map denied meant ++ replicate (length rest) (Err Device))) (same_where a x)
+    ∙ ap (λ l. where_step a x ++ l) (taken_denied judged rest meant (omega (arith, same))) ∙ sym (append_assoc (where_step a x) (taken judged meant) rest)
+
+-- the answers before the one at which it failed
+module _ {size : ℕ} {s : State} {inputs : List Input} {meant : List Answer} (stopped : StopsAt size s inputs meant) where
+  whole : length inputs ≡ length meant + suc (length stopped.rest)
+  whole = omega (arith, ap (λ (l : List Input). length l) stopped.parts, length-append stopped.judged (stopped.input ∷ stopped.rest), same_length stopped.were)
+
+  module _ {told : List Answer} (count : ℕ) (counts : count ≡ length inputs) (is : told ≡ map denied meant ++ replicate (count - length meant) (Err Device)) where
+    are : told ≡ map denied meant ++ replicate (suc (length stopped.rest)) (Err Device)
+    are =
+        let left : count - length meant ≡ suc (length stopped.rest) = omega (arith, counts, whole) in
+        is ∙ ap (λ n. map denied meant ++ replicate n (Err Device)) left
+
+    pub fell_back : {t : State} → t ≡ s → FellBack size s inputs told t
+    fell_back state = record {
+      judged = stopped.judged;
+      rest = stopped.input ∷ stopped.rest;
+      parts = stopped.parts;
+      meant = meant;
+      u = stopped.u;
+      were = stopped.were;
+      are = are;
+      state = state;
+    }
+
+    pub fell_told : HasFault told
+    fell_told = subst HasFault (sym are) (Contains-append_right (map denied meant) (replicate (suc (length stopped.rest)) (Err Device)) (Err Device) (0, omega arith, refl))
+
+    -- a crash leaves a beginning of what isn't turned away
+    all_taken : taken inputs told ≡ taken inputs (meant ++ Err Device ∷ []) ++ stopped.rest
+    all_taken =
+        ap (λ l. taken l told) stopped.parts ∙ ap (taken (stopped.judged ++ stopped.input ∷ stopped.rest)) are
+        ∙ taken_denied stopped.judged (stopped.input ∷ stopped.rest) meant (same_length stopped.were)
+        ∙ sym (append_assoc (taken stopped.judged meant) (stopped.input ∷ []) stopped.rest)
+        ∙ ap (λ l. l ++ stopped.rest) (sym (taken_more stopped.judged meant stopped.input stopped.rest (Err Device) (same_length stopped.were)))
+        ∙ ap (λ l. taken l (meant ++ Err Device ∷ []) ++ stopped.rest) (sym stopped.parts)
+
+    pub fell_during : {old new : Past} {layout : Layout} → During old new (IsBegun layout s (taken inputs (meant ++ Err Device ∷ [])))
+        → During old new (IsBegun layout s (taken inputs told))
+    fell_during {old} {new} {layout} lost = subst (λ l. During old new (IsBegun layout s l)) (sym all_taken)
+        (weaker old new _ _ (begun_longer (taken inputs (meant ++ Err Device ∷ [])) stopped.rest) lost)
+
+    pub fell_unrecorded : NeedNoRecord s inputs told → NeedNoRecord s inputs (meant ++ Err Device ∷ replicate (length stopped.rest) (Err Device))
+    fell_unrecorded none = unrecorded_meant s inputs meant (replicate (suc (length stopped.rest)) (Err Device)) (subst (NeedNoRecord s inputs) are none)
+
+-- none is asked for where all was denied
+none_denied : (answers : List Answer) (count : ℕ) → all_asked (map denied answers ++ replicate count (Err Device)) ≡ []
+none_denied [] zero = refl
+none_denied [] (suc count) = none_denied [] count
+none_denied (Ok given ∷ answers) count = none_denied answers count
+none_denied (Err e ∷ answers) count = none_denied answers count
+
+none_new : (n : ℕ) → AreNew n n []
+none_new n = record { rises = omega arith; within = λ i number is. cc; once = λ i j number is too. cc }
+
+pub denied_new : (s t : State) (meant : List Answer) (count : ℕ) (told : List Answer) → t ≡ s → told ≡ map denied meant ++ replicate count (Err Device)
+    → AreNew s.next t.next (started_numbers (all_asked told))
+denied_new s t meant count told same is =
+    subst (λ (u : State). AreNew s.next u.next (started_numbers (all_asked told))) (sym same)
+    (subst (λ l. AreNew s.next s.next (started_numbers l)) (sym (ap all_asked is ∙ none_denied meant count)) (none_new s.next))
+
+-- what a refusal is, of an answer
+abbrev store_answer : Answer → Bool
+store_answer (Ok given) = false
+store_answer (Err e) = is_of_store e
+
+abbrev away_answer : Answer → Bool
+away_answer (Ok given) = false
+away_answer (Err e) = is_turned_away e
+
+-- no step is answered E16
+answered_otherwise : {size : ℕ} {s t : State} {input : Input} {answer : Answer} → Answered size s input answer t → answer ≡ Err Device → ⊥
+answered_otherwise (accepted step ok) is = cc
+answered_otherwise (refused of_step stays step) is = false≢true (sym of_step ∙ ap store_answer is)
+answered_otherwise (turned_away away) is = false≢true (sym (ap away_answer is) ∙ away)
+
+pub no_fault : {size : ℕ} {s t : State} {inputs : List Input} {answers : List Answer} → AreAnswered size s inputs answers t → ¬ HasFault answers
+no_fault all_answered has = omega (arith, has.1)
+no_fault (and_next {answer = answer} {answers = answers} one more) has =
+    elim (Contains-append_cases (answer ∷ []) answers (Err Device) has) [ inl here ↦ elim (Contains-push_cases [] answer (Err Device) here) [ inl none ↦ omega (arith, none.1) | inr is ↦ answered_otherwise one is ] | inr there ↦ no_fault more there ]
 
 -- ---- one input
 

@@ -5,9 +5,6 @@ use Rattle.std.proofs.Math.Bridge.{le_prop}
 use Rattle.std.proofs.Math.Logic.{∥∥₁_elim, ∥∥₁_map}
 use Rattle.std.proofs.lemmas.Bool.{false≢true}
 use Rattle.std.proofs.lemmas.Option.{same_Some}
-use Rattle.std.specs.Coded.{Coded, Coded-set, codes}
-use Rattle.std.specs.FinMap as maps
-use Rattle.um_model.specs.Bytes.{nothing_left}
 use Rattle.um_model.specs.Disk.{Past, Image, IsImage, Images, During, seen}
 use Rattle.um_model.specs.InputSpellings.{input_limit, FitInput, input_spelling}
 use Rattle.um_model.specs.Machine.{State, Input, Run, rests, goes, Step, Reply, Refusal}
@@ -15,9 +12,9 @@ use Rattle.um_model.specs.Numbers.{AreNew, started_numbers}
 use Rattle.um_model.specs.Refusals.{Refused}
 use Rattle.um_model.specs.Servable.{IsServable}
 use Rattle.um_model.specs.Service.{Action}
-use Rattle.um_model.specs.StateSpellings.{state_at, state_spelling}
+use Rattle.um_model.specs.StateSpellings.{FitState, state_spelling}
 use Rattle.um_model.specs.Stands.{Contents, contents_of, inputs_of, IsStoreOf}
-use Rattle.um_model.specs.Store.{body_limit, sector_count, log_start, log_end, store_sectors, newest_of, records_of, sectors_of, HasRecords, IsStore, GoesOn}
+use Rattle.um_model.specs.Store.{body_limit, sector_count, log_start, store_sectors, newest_of, records_of, sectors_of, HasRecords, IsStore, GoesOn}
 use Rattle.um_slot.specs.Snapshots.{HasStore, EitherSnapshot}
 use Rattle.um_log.specs.Appending.{EitherRecord}
 use Rattle.um_model.specs.declared.layout.Layout.{Layout}
@@ -29,7 +26,6 @@ use Rattle.um_model.proofs.ServableLaws.{step_servable}
 use Rattle.um_model.proofs.StandsLaws.{contents, ComesTo, HasContents, has_contents, contents_are, newest_told, records_told, store_of, comes_further, comes_anew, run_to, only_end, state_back, anew}
 use Rattle.um_keeper.proofs.Meanwhile.{either_state}
 use Rattle.um_model.proofs.WholeLaws.{step_fits, spelled_room, accepted_room}
-use Rattle.um_tree.specs.Code.{tree_code}
 use Rattle.um_keeper.specs.Keeping.{MayHold, Keeps, IsBegun, snapshot_calls}
 
 -- ---- answers
@@ -245,14 +241,7 @@ stores_for {layout = layout} k same image is = subst (λ (z : State). IsStoreOf 
 
 -- ---- a snapshot
 
--- a state's bytes are read again
-pub read_again : {layout : Layout} {size : ℕ} {s : State} → MayHold layout size s → nothing_left (state_at (state_spelling s)) ≡ Some s
-read_again {s = s} held = ∥∥₁_elim held.fits (Coded-set state_code (nothing_left (state_at (state_spelling s))) (Some s)) (state_back s)
-  where
-    state_code : Coded (Option State)
-    state_code = Prim.hlevel (codes, maps.code, tree_code)
-
--- and have room in a slot
+-- a state's bytes have room in a slot
 pub spelled_fits : {layout : Layout} {size : ℕ} {s : State} → MayHold layout size s → length (state_spelling s) ≤ body_limit layout
 spelled_fits {size = size} {s = s} held = subst (λ n. length (state_spelling s) ≤ n) held.size_is (∥∥₁_elim held.fits le_prop (λ f. spelled_room size s f held.servable))
 
@@ -268,14 +257,14 @@ pub calls_at_most : {layout : Layout} {size : ℕ} {s : State} → MayHold layou
 calls_at_most {layout} {s = s} held now old more = at_most (snapshot_calls s) (sector_count (body_limit layout) + 3) now old more (most_of_snapshot held)
 
 module _ {past : Past} {sectors : ℕ} {layout : Layout} {slot : Slot} {generation number next size : ℕ} {s : State} (held : MayHold layout size s)
-    (k : Keeps past sectors layout slot generation number next s) where
+    (k : Keeps past sectors layout slot generation number next s) (fits : FitState s) where
   may : IsServable (body_limit layout) s
   may = subst (λ n. IsServable n s) held.size_is held.servable
 
   -- while it is written the image is a store of the state
   pub either_kept : (image : Image) → EitherSnapshot layout past slot generation (unpacked k).body (state_spelling s) image → IsStoreOf layout image s
   either_kept image (inl was) = store_of (subst (IsStore layout image slot generation (unpacked k).body) (k.records was.from was.was) was.store) (unpacked k).comes
-  either_kept image (inr new) = anew new (read_again held) may
+  either_kept image (inr new) = anew new (state_back s fits) may
 
   -- the same of the calls that write it
   pub during_kept : {new : Past} {body : List ℕ} → body ≡ state_spelling s
@@ -287,7 +276,7 @@ module _ {past : Past} {sectors : ℕ} {layout : Layout} {slot : Slot} {generati
   -- behind it the keeper holds the same state, with no record
   pub snapped : {new : Past} {to : Slot} {after later further : ℕ} → IsImage new (seen new) → store_sectors layout ≤ sectors
       → GoesOn layout new to after (state_spelling s) [] after later further → Keeps new sectors layout to after later further s
-  snapped is on_disk whole = packed is whole (comes_anew (read_again held) may) on_disk
+  snapped is on_disk whole = packed is whole (comes_anew (state_back s fits) may) on_disk
 
   -- behind the calls that write it
   module _ {new : Past} {to : Slot} {after later further : ℕ} {body : List ℕ} (is : body ≡ state_spelling s)
@@ -299,4 +288,4 @@ module _ {past : Past} {sectors : ℕ} {layout : Layout} {slot : Slot} {generati
     kept_behind image on_disk = snapped image on_disk behind
 
     pub told_behind : Images new (λ image. contents_of layout image ≡ Some (contents to after s []))
-    told_behind image at = contents_are (behind.store image at) (read_again held) refl
+    told_behind image at = contents_are (behind.store image at) (state_back s fits) refl

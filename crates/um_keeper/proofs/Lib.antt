@@ -2,6 +2,8 @@ mod Batching
 pub mod Kept
 mod Reopening
 mod Repeating
+mod Replaying
 mod Results
+mod Spent
 mod Wiping
 mod Meanwhile

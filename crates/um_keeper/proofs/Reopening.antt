@@ -1,35 +1,32 @@
 -- What opening makes of what it reads.
-use Rattle.std.proofs.Common.{◌≡◌, ◌⊎◌, ◌∙◌, ◌++◌, inl, inr, ⊎_elim, ℕ, ◌+◌, ◌-◌, ◌^◌, ◌<◌, ◌≤◌, Bool, true, false, List, [], ◌∷◌, length, take, drop, refl, sym, ap, subst, Option, Some, None, arith}
-use Rattle.std.specs.Prelude.{Result, Ok, Err, IfOk, IfSome, is_some}
-use Rattle.std.specs.Option.{option_map}
+use Rattle.std.proofs.Common.{◌≡◌, ◌⊎◌, ◌∙◌, inl, inr, ⊎_elim, ℕ, ◌+◌, ◌-◌, ◌^◌, ◌<◌, ◌≤◌, Bool, true, false, List, [], ◌∷◌, length, take, refl, sym, ap, subst, Some, None, arith}
+use Rattle.std.specs.Prelude.{Result, Ok, Err, is_some}
 use Rattle.std.proofs.lemmas.Bool.{cases_Bool, false≢true}
 use Rattle.std.proofs.lemmas.Option.{none-some, same_Some}
 use Rattle.std.proofs.lemmas.Slice.Eq.{bytes_eq-Decides}
 use Rattle.std.specs.Str.{bytes_eq}
-use Rattle.um_model.specs.Bytes.{IsBytes, ◌>>=◌, nothing_left}
+use Rattle.um_model.specs.Bytes.{◌>>=◌, nothing_left}
 use Rattle.um_model.specs.Disk.{Image, Past, Sector, Images, IsImage, During, Synced, IsSettled, seen, after, synced}
 use Rattle.um_model.specs.Machine.{State, Input, Run, rests, goes}
 use Rattle.um_model.specs.Servable.{IsServable}
-use Rattle.um_model.specs.InputSpellings.{input_at, FitInput}
+use Rattle.um_model.specs.InputSpellings.{input_at}
 use Rattle.um_model.specs.StateSpellings.{state_at, state_spelling, FitState}
-use Rattle.um_model.specs.Stands.{inputs_of, IsStoreOf}
-use Rattle.um_model.specs.Store.{store_name, store_format, superblock, body_limit, log_start, log_end, store_sectors, filled, other, part_count, placed, records_of, sectors_of, GoesOn}
-use Rattle.um_slot.specs.Snapshots.{HasStore, EitherSnapshot}
+use Rattle.um_model.specs.Stands.{Contents, contents_of, inputs_of, StandsFor, IsStoreOf}
+use Rattle.um_model.specs.Store.{store_name, store_format, superblock, body_limit, log_start, store_sectors, filled, other, part_count, placed, records_of, sectors_of, IsOf, GoesOn}
+use Rattle.um_log.specs.Greatest.{IsTold, IsGreatest}
+use Rattle.um_slot.specs.Snapshots.{HasNewest, EitherNewest}
 use Rattle.um_model.specs.Store as sectors
 use Rattle.um_model.specs.declared.layout.Layout.{Layout}
 use Rattle.um_model.specs.declared.layout.Slot.{Slot}
-use Rattle.um_model.proofs.DiskLaws.{weaker, followed, during_sync, image_synced}
+use Rattle.um_model.proofs.DiskLaws.{started, weaker, followed, during_sync, settled_after_sync}
 use Rattle.um_model.proofs.ImageLaws.{newest_some, newest_none, records_are, only_records}
-use Rattle.um_model.proofs.InputSpellingsLaws.{canonical_input}
-use Rattle.um_model.proofs.StateSpellingsLaws.{canonical_state}
-use Rattle.um_model.proofs.StandsLaws.{ComesTo, store_of, newest_told, records_told, contents_are, state_back, ends_of, anew, one_layout, bound, held}
-use Rattle.um_keeper.proofs.Meanwhile.{still_state}
-use Rattle.um_model.proofs.StoreLaws.{superblock_name}
-use Rattle.byteorder.specs.Endian.{big_number}
+use Rattle.um_model.proofs.StandsLaws.{ComesTo, contents, one_contents, has_contents, newest_told, records_told, contents_are, state_back, ends_of, anew, one_layout, bound}
+use Rattle.um_model.proofs.StoreLaws.{superblock_name, same_newest, same_records}
+use Rattle.um_sector.specs.Refused.{IsLost}
 use Rattle.um_wire.specs.declared.refusal.Refusal.{Refusal}
-use Rattle.um_wire.specs.declared.refusal.Refusal.TheVariants.{Damaged, Device, NotFormatted, GenerationsSpent, OtherLayout}
+use Rattle.um_wire.specs.declared.refusal.Refusal.TheVariants.{Damaged, NotFormatted, GenerationsSpent, OtherLayout}
 use Rattle.um_keeper.specs.Keeping.{Keeps}
-use Rattle.um_keeper.specs.Opening.{HasLayout, IsStart, Replays, no_more, and_then, IsNoInput, here, later, IsUnread, no_sector, no_store, other_format, no_layout, no_header, no_state, no_input, later_sector, IsSpent, IsUntaken, unread, spent, IsNextOf, IsTakenUp, IsRead, IsSomeStore, IsAsBefore}
+use Rattle.um_keeper.specs.Opening.{HasLayout, Replays, no_more, and_then, IsNoInput, here, later, IsUnread, no_sector, no_store, other_format, no_layout, no_header, no_state, no_input, IsSpent, IsUntaken, unread, spent, IsNextOf, IsTakenUp, IsBehind, IsSomeStore, IsStill, IsAsBefore, StaysFor, StaysForOne, IsUnwritten}
 
 -- ---- sector 0
 
@@ -80,12 +77,6 @@ too_small count image layout some first small name =
     no_layout some (ap (λ (s : Sector). take 8 s) first ∙ name)
     (λ other h. let same = one_layout layout other image first h.first in let room = subst (λ (l : Layout). store_sectors l ≤ count) (sym same) h.room in omega (arith, room, small))
 
--- ---- the body
-
--- what is read of bytes has bytes
-pub fits_read : (bytes : List ℕ) (s : State) (rest : List ℕ) → IsBytes bytes → state_at bytes ≡ Some (s, rest) → FitState s
-fits_read bytes s rest are is = (canonical_state.takes bytes s rest are is).1
-
 -- ---- the records
 
 pub replayed : {size : ℕ} {records : List (List ℕ)} {s t : State} → Replays size records s t → (inputs : List Input) × (inputs_of records ≡ Some inputs) × Run size s inputs t
@@ -101,8 +92,67 @@ pub taken_comes : {count : ℕ} {image : Image} {layout : Layout} {slot : Slot} 
     → (inputs : List Input) × ComesTo (body_limit layout) t.body (records_of layout generation image) t.start inputs s
 taken_comes t = let (inputs, are, run) = replayed t.replays in (inputs, record { start_is = t.starts.read; inputs_are = are; servable = t.starts.servable; run = run })
 
-pub taken_store : {count : ℕ} {image : Image} {layout : Layout} {slot : Slot} {generation : ℕ} {s : State} → IsTakenUp count image layout slot generation s → IsStoreOf layout image s
-taken_store t = store_of t.store (taken_comes t).1
+-- what the newest slot and the records of its generation hold
+contents_told : (layout : Layout) (image : Image) {slot : Slot} {generation : ℕ} {body : List ℕ} {start s : State} {inputs : List Input}
+    → sectors.newest_of layout image ≡ Some (record { slot = slot; generation = generation; body = body })
+    → ComesTo (body_limit layout) body (records_of layout generation image) start inputs s → contents_of layout image ≡ Some (contents slot generation start inputs)
+contents_told layout image {slot} {generation} {start = start} newest comes =
+    (λ k. newest k >>= λ n. nothing_left (state_at n.body) >>= λ x. inputs_of (records_of layout n.generation image) >>= λ xs. Some (contents n.slot n.generation x xs))
+    ∙ (λ k. comes.start_is k >>= λ x. inputs_of (records_of layout generation image) >>= λ xs. Some (contents slot generation x xs))
+    ∙ (λ k. comes.inputs_are k >>= λ xs. Some (contents slot generation start xs))
+
+-- what was taken up of an image is what it stands for
+pub taken_stands : {count : ℕ} {image : Image} {layout : Layout} {slot : Slot} {generation : ℕ} {s : State} → IsTakenUp count image layout slot generation s → StandsFor layout image s
+taken_stands {image = image} {layout = layout} {slot = slot} {generation = generation} t =
+    let (inputs, comes) = taken_comes t in
+    record {
+      first = t.has.first;
+      contents = contents slot generation t.start inputs;
+      holds = contents_told layout image ((newest_some layout image _).1 t.newest) comes;
+      servable = comes.servable;
+      run = comes.run;
+    }
+
+module _ {count : ℕ} {layout : Layout} {slot : Slot} {generation : ℕ} {s : State} (from image : Image) (taken : IsTakenUp count from layout slot generation s) (first : image 0 ≡ superblock layout)
+    (newest : sectors.IsNewest layout image slot generation taken.body) (log : (j : ℕ) → log_start layout generation ≤ j → image j ≡ from j) where
+  -- an image with its log has the same records
+  same_log : records_of layout generation image ≡ records_of layout generation from
+  same_log = only_records layout generation image (records_of layout generation from)
+      (same_records 0 (log_start layout generation) (records_of layout generation from) (λ j low high. log j low) (records_are layout generation from))
+
+  -- and with its newest snapshot too it stands for the same state
+  still_was : IsStill layout from s image
+  still_was =
+      let (inputs, comes) = taken_comes taken in
+      let here = contents_told layout image ((newest_some layout image _).1 newest) (subst (λ r. ComesTo (body_limit layout) taken.body r taken.start inputs s) (sym same_log) comes) in
+      let there = contents_told layout from ((newest_some layout from _).1 taken.newest) comes in
+      record {
+        stands = record { first = first; contents = contents slot generation taken.start inputs; holds = here; servable = comes.servable; run = comes.run };
+        store = λ is. record {
+          stands = record { first = first; contents = contents slot generation taken.start inputs; holds = here; servable = comes.servable; run = comes.run };
+          none_later = λ theirs j low high told.
+              let below = is.none_later theirs j low high (subst (IsOf theirs) (log j low) told) in
+              let same = ap (λ (c : Contents). c.generation) (one_contents layout from is.stands.contents (contents slot generation taken.start inputs) is.stands.holds there) in
+              omega (arith, below, same);
+        };
+      }
+
+-- where nothing is written yet
+pub still_here : {count : ℕ} {layout : Layout} {slot : Slot} {generation : ℕ} {s : State} (past : Past) → IsSettled past → IsTakenUp count (seen past) layout slot generation s
+    → Images past (IsStill layout (seen past) s)
+still_here {layout = layout} {s = s} past settled taken image at =
+    subst (IsStill layout (seen past) s) (sym (settled image at)) (record { stands = taken_stands taken; store = λ is. is })
+
+-- an image has one greatest generation at most
+pub one_greatest : (layout : Layout) (image : Image) (newest a b : ℕ) → IsGreatest layout image newest a → IsGreatest layout image newest b → a ≡ b
+one_greatest layout image newest a b one two =
+    let low = most one.stands two in
+    let high = most two.stands one in
+    omega (arith, low, high)
+  where
+    most : {x y : ℕ} → (x ≡ newest) ⊎ IsTold layout image x → IsGreatest layout image newest y → x ≤ y
+    most (inl same) top = let least = top.least in omega (arith, same, least)
+    most {x} (inr told) top = let below = top.none_later x told.place told.low told.high told.is in omega (arith, below)
 
 -- ---- the next generation
 
@@ -132,59 +182,80 @@ keeps_anew {past} {count} {layout} {slot} {generation} {s} is on fits may room =
       on_disk = omega (arith, room);
     }
 
--- while the snapshot of its state is written, the image is a store of the state of before
-pub renewed : (past new : Past) (count : ℕ) (layout : Layout) (slot : Slot) (generation : ℕ) (s : State) (body : List ℕ) → body ≡ state_spelling s → FitState s → IsServable (body_limit layout) s
-    → IsImage past (seen past) → IsSettled past → IsTakenUp count (seen past) layout slot generation s
-    → ((before : List ℕ) → Images past (HasStore layout slot generation before) → During past new (EitherSnapshot layout past slot generation before body))
-    → During past new (IsAsBefore layout past)
-renewed past new count layout slot generation s body is_body fits may is settled taken run =
-    let stores : Images past (HasStore layout slot generation taken.body) = λ image at. subst (HasStore layout slot generation taken.body) (sym (settled image at)) taken.store in
-    let all : Images past (λ image. IsStoreOf layout image s) = λ image at. subst (λ i. IsStoreOf layout i s) (sym (settled image at)) (taken_store taken) in
-    weaker past new _ _
-    (λ image e. record {
-      from = seen past;
-      was = is;
-      state = s;
-      before = taken_store taken;
-      now = still_state stores (state_back s fits) may all image (subst (λ b. EitherSnapshot layout past slot generation taken.body b image) is_body e);
-    })
-    (run taken.body stores)
+module _ (past : Past) (count : ℕ) (layout : Layout) (slot : Slot) (generation greatest : ℕ) (s : State) (settled : IsSettled past) (taken : IsTakenUp count (seen past) layout slot generation s)
+    (top : IsGreatest layout (seen past) generation greatest) where
+  -- each image has the snapshot that was taken up
+  pub have_newest : Images past (HasNewest layout slot generation taken.body greatest)
+  have_newest image at = subst (HasNewest layout slot generation taken.body greatest) (sym (settled image at))
+      (record { first = taken.has.first; snapshot = taken.newest; none_later = top.none_later })
+
+  module _ (body : List ℕ) (is_body : body ≡ state_spelling s) (fits : FitState s) (may : IsServable (body_limit layout) s) where
+    still_either : (image : Image) → EitherNewest layout past slot generation taken.body greatest body image → IsStill layout (seen past) s image
+    still_either image (inl was) =
+        let same : was.from ≡ seen past = settled was.from was.was in
+        still_was (seen past) image taken was.first was.snapshot (λ j low. was.log j low ∙ ap (λ (i : Image). i j) same)
+    still_either image (inr new) =
+        let store = anew (subst (λ b. sectors.IsStore layout image (other slot) (greatest + 1) b []) is_body new) (state_back s fits) may in
+        record { stands = store.stands; store = λ is. store }
+
+    -- while the snapshot of its state is written, the image stands for the state
+    pub renewed : (new : Past) → ((newest : ℕ) (before : List ℕ) → newest ≤ greatest → Images past (HasNewest layout slot newest before greatest)
+        → During past new (EitherNewest layout past slot newest before greatest body)) → During past new (IsStill layout (seen past) s)
+    renewed new run = weaker past new _ _ still_either (run generation taken.body top.least have_newest)
+
+-- ---- what a crash leaves of an opening
 
 -- an image of before is as before
-pub as_before : (layout : Layout) (past : Past) → Images past (IsSomeStore layout) → Images past (IsAsBefore layout past)
-as_before layout past all image at = let s = all image at in record { from = image; was = at; state = s.state; before = s.store; now = s.store }
+as_before : (layout : Layout) (past : Past) → Images past (IsSomeStore layout) → Images past (IsAsBefore layout past)
+as_before layout past all image at =
+    let s = all image at in record { from = image; was = at; state = s.state; before = s.stands; now = record { stands = s.stands; store = λ is. is } }
 
--- the first sync
-pub synced_before : {T E : Type 0} (result : Result T E) (layout : Layout) (old mid : Past) → Images old (IsSomeStore layout) → IsImage old (seen old) → Synced result old mid → During old mid (IsAsBefore layout old)
-synced_before result layout old mid all is sync =
-    during_sync result old mid (IsAsBefore layout old) sync (as_before layout old all (seen old) is) (as_before layout old all)
+module _ (layout : Layout) (old : Past) (all : Images old (IsSomeStore layout)) (is : IsImage old (seen old)) where
+  -- the first sync
+  sync_before : During old (after synced old) (IsAsBefore layout old)
+  sync_before = by (Ok tt) refl
+    where
+      by : (result : Result (Unit {0}) (Unit {0})) → Synced result old (after synced old) → During old (after synced old) (IsAsBefore layout old)
+      by result sync = during_sync result old (after synced old) (IsAsBefore layout old) sync (as_before layout old all (seen old) is) (as_before layout old all)
 
--- and all behind it
-pub goes_on_before : (layout found : Layout) (count : ℕ) (slot : Slot) (generation : ℕ) (s : State) (old mid past new : Past) → Images old (IsSomeStore layout) → IsImage old (seen old)
-    → mid ≡ after synced old → past ≡ mid → IsTakenUp count (seen old) found slot generation s → During old mid (IsAsBefore layout old)
-    → (IsSettled past → IsTakenUp count (seen past) found slot generation s → During past new (IsAsBefore found past)) → During old new (IsAsBefore layout old)
-goes_on_before layout found count slot generation s old mid past new all is sync same taken so_far more =
-    let to : past ≡ after synced old = same ∙ sync in
-    let look : seen past ≡ seen old = ap seen to in
-    let settled : IsSettled past = subst IsSettled (sym to) (λ image at. image_synced old image at) in
-    let one : found ≡ layout = one_layout found layout (seen old) taken.store.first (all (seen old) is).store.stands.first in
-    followed old mid new (IsAsBefore layout old) so_far
-    (subst (λ p. During p new (IsAsBefore layout old)) same
-    (weaker past new _ _
-    (λ image m.
-    let from : m.from ≡ seen old = settled m.from m.was ∙ look in
-    record {
-      from = seen old;
-      was = is;
-      state = m.state;
-      before = subst (λ l. IsStoreOf l (seen old) m.state) one (subst (λ i. IsStoreOf found i m.state) from m.before);
-      now = subst (λ l. IsStoreOf l image m.state) one m.now;
-    })
-    (more settled (subst (λ i. IsTakenUp count i found slot generation s) (sym look) taken))))
+  unwritten_before : (new : Past) → IsUnwritten old new → During old new (IsAsBefore layout old)
+  unwritten_before new (inl same) = subst (λ p. During old p (IsAsBefore layout old)) (sym same) (started old (IsAsBefore layout old) (as_before layout old all))
+  unwritten_before new (inr sync) = subst (λ p. During old p (IsAsBefore layout old)) (sym sync) sync_before
 
--- the bytes that are written
-pub spelled : (b put start : List ℕ) (x s : State) → b ≡ put → put ≡ start ++ state_spelling x → start ≡ [] → x ≡ s → b ≡ state_spelling s
-spelled b put start x s is grown none same = is ∙ grown ∙ ap (λ (l : List ℕ). l ++ state_spelling x) none ∙ ap state_spelling same
+  -- and all behind it
+  pub stays_before : (found : Layout) (s : State) (new : Past) → StaysFor found s old new → During old new (IsAsBefore layout old)
+  stays_before found s new stays =
+      let one : found ≡ layout = one_layout found layout (seen old) stays.stands.first (all (seen old) is).stands.first in
+      followed old (after synced old) new (IsAsBefore layout old) sync_before
+      (weaker (after synced old) new (IsStill found (seen old) s) (IsAsBefore layout old)
+      (λ image m. record {
+        from = seen old;
+        was = is;
+        state = s;
+        before = subst (λ l. StandsFor l (seen old) s) one stays.stands;
+        now = subst (λ l. IsStill l (seen old) s image) one m;
+      })
+      stays.during)
+
+  pub refused_before : (e : Refusal) (new : Past) → IsUnwritten old new ⊎ (IsLost e × StaysForOne old new) → During old new (IsAsBefore layout old)
+  refused_before e new (inl unwritten) = unwritten_before new unwritten
+  refused_before e new (inr (lost, one)) = stays_before one.layout one.state new one.stays
+
+-- a sync writes nothing
+pub sync_unwritten : {T E : Type 0} (result : Result T E) (old new : Past) → Synced result old new → IsUnwritten old new
+sync_unwritten (Ok x) old new is = inr is
+sync_unwritten (Err e) old new is = inl is
+
+-- from the first sync on
+pub stays_of : (count : ℕ) (layout : Layout) (slot : Slot) (generation greatest : ℕ) (s : State) (old mid new : Past) → mid ≡ after synced old → IsTakenUp count (seen old) layout slot generation s
+    → IsGreatest layout (seen old) generation greatest
+    → (IsSettled mid → IsTakenUp count (seen mid) layout slot generation s → IsGreatest layout (seen mid) generation greatest → During mid new (IsStill layout (seen mid) s)) → StaysFor layout s old new
+stays_of count layout slot generation greatest s old mid new sync taken top more = record {
+  stands = taken_stands taken;
+  during = subst (λ p. During p new (IsStill layout (seen p) s)) sync
+      (more (subst IsSettled (sym sync) (settled_after_sync old)) (subst (λ p. IsTakenUp count (seen p) layout slot generation s) (sym sync) taken)
+      (subst (λ p. IsGreatest layout (seen p) generation greatest) (sym sync) top));
+}
 
 -- ---- why it isn't taken up
 
@@ -198,58 +269,6 @@ pub header_unread : (count : ℕ) (old new : Past) (layout : Layout) (e : Refusa
     → IsUnread count (seen old) e
 header_unread count old new layout e has same is none =
     subst (IsUnread count (seen old)) (sym is) (no_header has ((newest_none layout (seen old)).1 (subst (λ (p : Past). sectors.HasNoHeader layout (seen p)) same none)))
-
--- the records of such a disk
-pub records_there : (old new : Past) (layout : Layout) (generation : ℕ) (records : List (List ℕ)) → new ≡ old → sectors.HasRecords layout generation (seen new) records
-    → records_of layout generation (seen old) ≡ records
-records_there old new layout generation records same are =
-    only_records layout generation (seen old) records (subst (λ (p : Past). sectors.HasRecords layout generation (seen p) records) same are)
-
-pub record_no_device : {places : List (ℕ × List ℕ)} {e : Refusal} → IsNoInput places e → ¬ (e ≡ Device)
-record_no_device (here is) same = absurd (cc)
-record_no_device (later is more) same = record_no_device more same
-
--- what was read of such a disk
-pub read_there : (layout : Layout) (image : Image) (slot : Slot) (generation count : ℕ) (body : List ℕ) (records : List (List ℕ))
-    → sectors.newest_of layout image ≡ Some (record { slot = slot; generation = generation; body = body }) → records_of layout generation image ≡ records
-    → count ≡ length records → IsRead layout image (record { generation = generation; records = count })
-read_there layout image slot generation count body records newest are counted = record {
-  newest = record { slot = slot; generation = generation; body = body };
-  is_newest = newest;
-  generation_is = refl;
-  records_are = counted ∙ ap (λ l. length l) (sym are);
-}
-
--- ---- a value that has all the bytes
-
-nothing_whole : {V : Type 0} (o : Option (V × List ℕ)) (v : V) → nothing_left o ≡ Some v → o ≡ Some (v, [])
-nothing_whole None v e = absurd (none-some v e)
-nothing_whole (Some (w, [])) v e = ap (λ x. Some (x, [])) (same_Some w v e)
-nothing_whole (Some (w, b ∷ rest)) v e = absurd (none-some v e)
-
-pub left_over : {V : Type 0} (v : V) (rest : List ℕ) → 0 < length rest → nothing_left (Some (v, rest)) ≡ None
-left_over v [] some = absurd (omega (arith, some))
-left_over v (b ∷ rest) some = refl
-
-pub fits_input : {X E : Type 0} (f : X → Input) (bytes : List ℕ) (result : Result (Option X) E) → IsBytes bytes → IfOk result (λ found. option_map f found ≡ nothing_left (input_at bytes))
-    → IfOk result (λ found. IfSome found (λ x. FitInput (f x)))
-fits_input f bytes (Err e) are is = tt
-fits_input f bytes (Ok None) are is = tt
-fits_input f bytes (Ok (Some x)) are is = (canonical_input.takes bytes (f x) [] are (nothing_whole (input_at bytes) (f x) (sym is))).1
-
--- ---- it is taken up
-
-pub taken_up : (count : ℕ) (image : Image) (layout : Layout) (slot : Slot) (generation : ℕ) (body : List ℕ) (start s : State) → HasLayout count image layout
-    → sectors.IsNewest layout image slot generation body → sectors.IsFree layout (generation + 1) image (log_start layout generation) → IsStart layout body start
-    → Replays (body_limit layout) (records_of layout generation image) start s → IsTakenUp count image layout slot generation s
-taken_up count image layout slot generation body start s has newest free starts replays = record {
-  room = has.room;
-  body = body;
-  start = start;
-  store = record { first = has.first; newest = newest; records_are = records_are layout generation image; none_later = free };
-  starts = starts;
-  replays = replays;
-}
 
 -- ---- a store is taken up
 
@@ -284,78 +303,99 @@ no_input_none (later {places = places} is fails) at (bytes ∷ records) inputs s
     let (others, all, last) = bound (inputs_of records) _ inputs more in
     no_input_none fails (at + part_count (length bytes)) records others rest all
 
-module _ (count : ℕ) (layout : Layout) (image : Image) (room : store_sectors layout ≤ count) (slot : Slot) (generation : ℕ) (body : List ℕ) (records : List (List ℕ)) (start s : State) (inputs : List Input)
-    (store : sectors.IsStore layout image slot generation body records) (comes : ComesTo (body_limit layout) body records start inputs s) where
+module _ (count : ℕ) (layout : Layout) (image : Image) (room : store_sectors layout ≤ count) (slot : Slot) (generation : ℕ) (body : List ℕ) (start s : State) (inputs : List Input)
+    (first : image 0 ≡ superblock layout) (newest : sectors.IsNewest layout image slot generation body) (comes : ComesTo (body_limit layout) body (records_of layout generation image) start inputs s) where
   there : sectors.newest_of layout image ≡ Some (record { slot = slot; generation = generation; body = body })
-  there = newest_told store
+  there = (newest_some layout image _).1 newest
 
   -- whatever is told of it is told of this store
   this : (other : Layout) (n : sectors.Newest) → image 0 ≡ superblock other → sectors.newest_of other image ≡ Some n
       → (other ≡ layout) × (n.generation ≡ generation) × (n.body ≡ body)
-  this other n first newest =
-      let one = one_layout other layout image first store.first in
-      let same = same_Some n _ (sym (subst (λ l. sectors.newest_of l image ≡ Some n) one newest) ∙ there) in
+  this other n zero held =
+      let one = one_layout other layout image zero first in
+      let same = same_Some n _ (sym (subst (λ l. sectors.newest_of l image ≡ Some n) one held) ∙ there) in
       (one, ap (λ (m : sectors.Newest). m.generation) same, ap (λ (m : sectors.Newest). m.body) same)
 
-  -- a store of the last generation alone is refused by E20
-  pub store_spent : IsSpent count image → generation ≡ 2 ^ 64 - 1
-  store_spent h = sym (this h.layout h.newest h.has.first h.held).1 ∙ h.last
+  -- only where its greatest generation is the last one it is refused by E20
+  store_spent : (greatest : ℕ) → IsGreatest layout image generation greatest → IsSpent count image → greatest ≡ 2 ^ 64 - 1
+  store_spent greatest top h =
+      let same = this h.layout (record { slot = h.slot; generation = h.generation; body = h.taken.body }) h.taken.has.first ((newest_some h.layout image _).1 h.taken.newest) in
+      one_greatest layout image generation greatest (2 ^ 64 - 1) top
+      (subst (λ g. IsGreatest layout image g (2 ^ 64 - 1)) same.1 (subst (λ l. IsGreatest l image h.generation (2 ^ 64 - 1)) same.0 h.last))
 
-  -- and none for a cause of its reading
-  pub store_unread : {e : Refusal} → ¬ IsUnread count image e
+  -- and never for a cause of its reading
+  store_unread : {e : Refusal} → ¬ IsUnread count image e
   store_unread (no_sector none) = absurd (omega (arith, none, room))
-  store_unread (no_store some differs) = absurd (differs (ap (λ (x : Sector). take 6 x) store.first ∙ name_six layout))
-  store_unread (other_format some name differs) = absurd (differs (ap (λ (x : Sector). take 8 x) store.first ∙ superblock_name layout))
-  store_unread (no_layout some name none) = absurd (none layout (record { first = store.first; room = room }))
+  store_unread (no_store some differs) = absurd (differs (ap (λ (x : Sector). take 6 x) first ∙ name_six layout))
+  store_unread (other_format some name differs) = absurd (differs (ap (λ (x : Sector). take 8 x) first ∙ superblock_name layout))
+  store_unread (no_layout some name none) = absurd (none layout (record { first = first; room = room }))
   store_unread (no_header {layout = other} has none) =
-      absurd (none-some _ (sym (subst (λ l. sectors.newest_of l image ≡ None) (one_layout other layout image has.first store.first) none) ∙ there))
-  store_unread (no_state {layout = other} {n = n} has newest early none) =
-      let same = this other n has.first newest in
+      absurd (none-some _ (sym (subst (λ l. sectors.newest_of l image ≡ None) (one_layout other layout image has.first first) none) ∙ there))
+  store_unread (no_state {layout = other} {n = n} has held none) =
+      let same = this other n has.first held in
       absurd (none start (record {
         read = ap (λ (b : List ℕ). nothing_left (state_at b)) same.2 ∙ comes.start_is;
         servable = subst (λ l. IsServable (body_limit l) start) (sym same.0) comes.servable;
       }))
-  store_unread (no_input {layout = other} {n = n} has newest early starts fails) =
-      let same = this other n has.first newest in
-      let are : records_of other n.generation image ≡ records = (λ k. records_of (same.0 k) (same.1 k) image) ∙ records_told store in
+  store_unread (no_input {layout = other} {n = n} has held starts fails) =
+      let same = this other n has.first held in
+      let are : records_of other n.generation image ≡ records_of layout generation image = λ k. records_of (same.0 k) (same.1 k) image in
       absurd (no_input_none fails (log_start other n.generation) (records_of other n.generation image) inputs refl (ap inputs_of are ∙ comes.inputs_are))
-  store_unread (later_sector {layout = other} {n = n} {j = j} has newest early starts replays first) =
-      let same = this other n has.first newest in
-      let low = first.low in
-      let high = first.high in
-      let is = first.is.later in
-      let below : big_number 8 (drop 4 (image j)) < generation + 1 =
-      store.none_later (big_number 8 (drop 4 (image j))) j (subst (λ l. log_start l n.generation ≤ j) same.0 low) (subst (λ l. j < log_end l n.generation) same.0 high)
-      (record { name = first.is.name; generation_is = refl }) in
-      absurd (omega (arith, below, is, same.1))
 
 -- as laws of what is told of a disk
-pub a_store_unread : (count : ℕ) (layout : Layout) (image : Image) (s : State) (e : Refusal) → store_sectors layout ≤ count → IsStoreOf layout image s → ¬ IsUnread count image e
+pub a_store_unread : (count : ℕ) (layout : Layout) (image : Image) (s : State) (e : Refusal) → store_sectors layout ≤ count → StandsFor layout image s → ¬ IsUnread count image e
 a_store_unread count layout image s e room is fails =
-    let h = held is in store_unread count layout image room h.slot h.generation h.body h.records h.start s h.inputs h.store h.comes fails
+    let c = is.contents in
+    let h = has_contents layout image c is.holds in
+    store_unread count layout image room c.slot c.generation h.body c.start s c.inputs is.first h.newest
+    (record { start_is = h.start_is; inputs_are = h.inputs_are; servable = is.servable; run = is.run }) fails
 
-pub a_store_untaken : (count : ℕ) (layout : Layout) (image : Image) (s : State) (e : Refusal) → store_sectors layout ≤ count → IsStoreOf layout image s → IsUntaken count image e
+pub a_store_untaken : (count : ℕ) (layout : Layout) (image : Image) (s : State) (e : Refusal) → store_sectors layout ≤ count → StandsFor layout image s → IsUntaken count image e
     → e ≡ GenerationsSpent
 a_store_untaken count layout image s e room is (unread fails) = absurd (a_store_unread count layout image s e room is fails)
 a_store_untaken count layout image s e room is (spent last) = refl
 
-pub a_taken_read : (count : ℕ) (layout : Layout) (image : Image) (slot : Slot) (generation : ℕ) (s : State) (e : Refusal) → IsTakenUp count image layout slot generation s → generation < 2 ^ 64 - 1
-    → ¬ IsUntaken count image e
-a_taken_read count layout image slot generation s e t early (unread fails) =
+pub a_taken_read : (count : ℕ) (layout : Layout) (image : Image) (slot : Slot) (generation greatest : ℕ) (s : State) (e : Refusal) → IsTakenUp count image layout slot generation s
+    → IsGreatest layout image generation greatest → greatest < 2 ^ 64 - 1 → ¬ IsUntaken count image e
+a_taken_read count layout image slot generation greatest s e t top early (unread fails) =
     let (inputs, comes) = taken_comes t in
-    store_unread count layout image t.room slot generation t.body (records_of layout generation image) t.start s inputs t.store comes fails
-a_taken_read count layout image slot generation s e t early (spent is) =
+    store_unread count layout image t.has.room slot generation t.body t.start s inputs t.has.first t.newest comes fails
+a_taken_read count layout image slot generation greatest s e t top early (spent is) =
     let (inputs, comes) = taken_comes t in
-    let last = store_spent count layout image t.room slot generation t.body (records_of layout generation image) t.start s inputs t.store comes is in
+    let last = store_spent count layout image t.has.room slot generation t.body t.start s inputs t.has.first t.newest comes greatest top is in
     omega (arith, last, early)
 
--- the state that was taken up, one generation on
-pub next_of : (count : ℕ) (image : Image) (from layout : Layout) (before slot : Slot) (earlier generation : ℕ) (s t : State) → t ≡ s → layout ≡ from → slot ≡ other before → generation ≡ earlier + 1
-    → IsTakenUp count image from before earlier s → IsNextOf count image layout slot generation t
-next_of count image from layout before slot earlier generation s t state one turned next taken = record {
+-- the greatest generation of a disk that reads left as it was
+pub greatest_of : (layout l : Layout) (generation n number next greatest : ℕ) (new old : Past) → l ≡ layout → n ≡ generation → new ≡ old → IsBehind layout generation (seen old) number next
+    → (IsBehind l n (seen new) number next → IsGreatest l (seen new) n greatest) → IsGreatest layout (seen new) generation greatest
+greatest_of layout l generation n number next greatest new old on of same behind top =
+    subst (λ (z : Layout). IsGreatest z (seen new) generation greatest) on (subst (λ m. IsGreatest l (seen new) m greatest) of
+    (top (subst (λ (z : Layout). IsBehind z n (seen new) number next) (sym on) (subst (λ m. IsBehind layout m (seen new) number next) (sym of)
+    (subst (λ p. IsBehind layout generation (seen p) number next) (sym same) behind)))))
+
+-- the state that was taken up, one generation behind the greatest
+pub next_of : (count : ℕ) (image : Image) (from layout : Layout) (before slot : Slot) (earlier greatest generation : ℕ) (s t : State) → t ≡ s → layout ≡ from → slot ≡ other before
+    → generation ≡ greatest + 1 → IsGreatest from image earlier greatest → IsTakenUp count image from before earlier s → IsNextOf count image layout slot generation t
+next_of count image from layout before slot earlier greatest generation s t state one turned next top taken = record {
   before = before;
   earlier = earlier;
+  greatest = greatest;
   turned = turned;
+  is_greatest = subst (λ l. IsGreatest l image earlier greatest) (sym one) top;
   next = next;
   taken = subst (λ l. IsTakenUp count image l before earlier t) (sym one) (subst (IsTakenUp count image from before earlier) (sym state) taken);
 }
+
+-- of a store no sector of the log is above its newest header
+pub one_up : (count : ℕ) (layout : Layout) (image : Image) (slot : Slot) (generation : ℕ) (s : State) (next : IsNextOf count image layout slot generation s) → IsStoreOf layout image s
+    → generation ≡ next.earlier + 1
+one_up count layout image slot generation s next is = by next.is_greatest.stands
+  where
+    same : is.stands.contents.generation ≡ next.earlier
+    same = (same_newest (has_contents layout image is.stands.contents is.stands.holds).newest next.taken.newest).1
+
+    by : (next.greatest ≡ next.earlier) ⊎ IsTold layout image next.greatest → generation ≡ next.earlier + 1
+    by (inl first) = omega (arith, next.next, first)
+    by (inr told) =
+        let below = is.none_later next.greatest told.place told.low told.high told.is in
+        omega (arith, next.next, next.is_greatest.least, below, same)

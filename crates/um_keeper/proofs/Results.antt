@@ -53,9 +53,23 @@ the_other not (inl a) = absurd (not a)
 the_other not (inr b) = b
 
 -- what is told exactly by a refusal isn't so at Ok
-ok_err : {T E : Type 0} {x : T} {e : E} {result : Result T E} → result ≡ Ok x → ¬ (result ≡ Err e)
+pub ok_err : {T E : Type 0} {x : T} {e : E} {result : Result T E} → result ≡ Ok x → ¬ (result ≡ Err e)
 ok_err a b = cc
 
 pub not_so : {T E : Type 0} (b : Bool) (result : Result T E) (e : E) (x : T) → (b ≡ true) ↔ (result ≡ Err e) → result ≡ Ok x → b ≡ false
 not_so true result e x exactly is = absurd (ok_err is (exactly.0 refl))
 not_so false result e x exactly is = refl
+
+-- what follows of a refusal
+pub err_more : {T E : Type 0} (result : Result T E) {P Q : Type 0} → (P → Q) → OnErr result P → OnErr result Q
+err_more (Ok x) f p = tt
+err_more (Err e) f p = f p
+
+-- what is told of the case that holds
+pub of_first : {A B C : Type 0} → A → (A × B) ⊎ ((¬ A) × C) → B
+of_first a (inl both) = both.1
+of_first a (inr other) = absurd (other.0 a)
+
+-- a refusal is no value
+pub err_ok : {T E : Type 0} {e : E} {x : T} → ◌≡◌ {A = Result T E} (Err e) (Ok x) → ⊥
+err_ok is = cc

@@ -123,7 +123,7 @@ module _ (layout : Layout) (mid : Image) (newest : IsNewest layout mid A 1 (stat
   pub made_maybe : IsZeroed mid → (image : Image) → MaybeLaid mid 0 (superblock layout ∷ []) image → NoneOrEmpty layout image
   made_maybe zero image maybe = ⊎_elim {C = NoneOrEmpty layout image}
       (λ old. inl (zeroed_none image (old ∙ zero)))
-      (λ new. inr (makes image new (λ j above. maybe.outside j (inr above))).store)
+      (λ new. inr (makes image new (λ j above. maybe.outside j (inr above))))
       (maybe.inside 0 (omega arith))
 
 -- ---- all of it

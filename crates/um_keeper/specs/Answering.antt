@@ -1,21 +1,24 @@
 -- What a list of inputs is answered that are taken one behind the other, and what a crash leaves of them.
 -- No manual page has it: it is the project's own (docs/CRASH.md tells it in plain words).
 -- `Keeper::submit_all` and the running manager stand on this file.
-use Rattle.std.specs.Prelude.{◌≡◌, ◌≢◌, ◌⊎◌, ◌+◌, ◌-◌, ◌^◌, ◌≤◌, ◌++◌, ℕ, Bool, true, false, if◌then◌else◌, List, [], ◌∷◌, Result, Ok, Err}
+use Rattle.std.specs.Prelude.{◌≡◌, ◌≢◌, ◌⊎◌, ◌+◌, ◌-◌, ◌^◌, ◌≤◌, ◌++◌, ℕ, Bool, true, false, if◌then◌else◌, List, [], ◌∷◌, length, map, replicate, Contains, Result, Ok, Err}
 use Rattle.um_engine.specs.Engine.{state_before}
 use Rattle.um_engine.specs.OfStore.{is_of_store}
 use Rattle.um_engine.specs.declared.engine.Back.{Back}
 use Rattle.um_keeper.specs.Keeping.{record_calls}
+use Rattle.um_log.specs.Reading.{Fits}
+use Rattle.um_model.specs.Disk.{one_more}
+use Rattle.um_model.specs.InputSpellings.{input_spelling}
 use Rattle.um_model.specs.Machine.{State, Input, Reply, Refusal, Step, moment_of}
 use Rattle.um_engine.specs.Engine.{LacksEffect}
 use Rattle.um_model.specs.Refusals.{Refused}
 use Rattle.um_model.specs.Service.{Action}
 use Rattle.um_model.specs.Standing.{Standing}
-use Rattle.um_model.specs.Store.{body_limit, sector_count}
+use Rattle.um_model.specs.Store.{body_limit, sector_count, part_count}
 use Rattle.um_model.specs.declared.layout.Layout.{Layout}
 use Rattle.um_wire.specs.Refusal.{refused_of}
 use Rattle.um_wire.specs.declared.refusal.Refusal as declared
-use Rattle.um_wire.specs.declared.refusal.Refusal.TheVariants.{NoMemory, GenerationsSpent}
+use Rattle.um_wire.specs.declared.refusal.Refusal.TheVariants.{NoMemory, Device, GenerationsSpent}
 
 -- what one input is answered: the reply and the actions of its step, or a refusal
 abbrev pub Answer : Type 0
@@ -40,6 +43,40 @@ pub data AreAnswered (size : ℕ) : State → List Input → List Answer → Sta
   all_answered : {s : State} → AreAnswered size s [] [] s
   and_next : {s t u : State} {input : Input} {inputs : List Input} {answer : Answer} {answers : List Answer} → Answered size s input answer t
       → AreAnswered size t inputs answers u → AreAnswered size s (input ∷ inputs) (answer ∷ answers) u
+
+-- what an answer becomes where the disk fails behind it: nothing was done, and a refusal stays
+abbrev pub denied : Answer → Answer
+denied (Ok given) = Err Device
+denied (Err e) = Err e
+
+-- The answers to a list in which a call on the disk failed: those of the inputs before it are denied, and from it on each is E16. The state
+-- is that from before.
+pub record FellBack (size : ℕ) (s : State) (inputs : List Input) (answers : List Answer) (t : State) : Type 0 where
+  pub judged : List Input
+  pub rest : List Input
+  pub parts : inputs ≡ judged ++ rest
+  pub meant : List Answer
+  pub u : State
+  pub were : AreAnswered size s judged meant u
+  pub are : answers ≡ map denied meant ++ replicate (length rest) (Err Device)
+  pub state : t ≡ s
+
+-- The answers to the inputs before the one at which a call on the disk failed.
+pub record StopsAt (size : ℕ) (s : State) (inputs : List Input) (answers : List Answer) : Type 0 where
+  pub judged : List Input
+  pub input : Input
+  pub rest : List Input
+  pub parts : inputs ≡ judged ++ (input ∷ rest)
+  pub u : State
+  pub were : AreAnswered size s judged answers u
+
+-- some answer is E16
+abbrev pub HasFault : List Answer → Type 0
+HasFault answers = Contains answers (Err Device)
+
+-- the count of failures rises, and by one, exactly where some answer is E16
+abbrev pub CountsFault : List Answer → ℕ → ℕ → Type 0
+CountsFault answers old new = (HasFault answers × (new ≡ one_more old)) ⊎ ((¬ HasFault answers) × (new ≡ old))
 
 -- the input, where its answer is that of a step: it was accepted, or refused for a cause of its own
 abbrev pub where_step : Answer → Input → List Input
@@ -67,16 +104,29 @@ IsIdle s input = LacksEffect (moment_of s input.moment) s input.event
 -- the answer is the refusal of a step
 abbrev pub IsRefusal : Answer → Type 0
 IsRefusal (Ok given) = ⊥
-IsRefusal (Err e) = is_turned_away e ≡ false
+IsRefusal (Err e) = (e ≢ Device) × (is_turned_away e ≡ false)
 
 -- nothing of these inputs is to be recorded: each has no effect in the state, or is refused
 abbrev pub NeedNoRecord : State → List Input → List Answer → Type 0
 NeedNoRecord s (input ∷ inputs) (answer ∷ answers) = (IsIdle s input ⊎ IsRefusal answer) × NeedNoRecord s inputs answers
 NeedNoRecord s inputs answers = Unit {0}
 
--- an input is turned away for want of a generation in none before the last
-abbrev pub IsSpentIn : ℕ → Answer → Type 0
-IsSpentIn generation answer = answer ≡ Err GenerationsSpent → 2 ^ 64 - 1 ≤ generation
+-- so many sectors the record of an input may take: none where it was refused for another cause than the disk
+abbrev pub sectors_for : Answer → Input → ℕ
+sectors_for (Ok given) input = part_count (length (input_spelling input))
+sectors_for (Err Device) input = part_count (length (input_spelling input))
+sectors_for (Err e) input = 0
+
+-- E20 turns an input away only where the log's generation is the last, and its record has no room in it from this sector on
+abbrev pub IsSpentAt : Layout → (generation from : ℕ) → Input → Answer → Type 0
+IsSpentAt layout generation from input answer =
+    answer ≡ Err GenerationsSpent → (2 ^ 64 - 1 ≤ generation) × (¬ Fits layout (2 ^ 64 - 1) from (length (input_spelling input)))
+
+-- so it is of each of these, behind the records of those before it
+abbrev pub AreSpentAt : Layout → (generation from : ℕ) → List Input → List Answer → Type 0
+AreSpentAt layout generation from (input ∷ inputs) (answer ∷ answers) =
+    IsSpentAt layout generation from input answer × AreSpentAt layout generation (from + sectors_for answer input) inputs answers
+AreSpentAt layout generation from inputs answers = Unit {0}
 
 -- the standing before the steps that these ways lead back from, the last one first
 abbrev pub state_before_all : List Back → Standing → Standing

@@ -30,7 +30,7 @@ pub record IsEmptyStore (layout : Layout) (image : Image) : Type 0 where
 
 -- no store, or that of the empty state
 abbrev pub NoneOrEmpty : Layout → Image → Type 0
-NoneOrEmpty layout image = IsNoStore image ⊎ IsStoreOf layout image empty_state
+NoneOrEmpty layout image = IsNoStore image ⊎ IsEmptyStore layout image
 
 -- What a crash leaves while a store is made.
 pub data WhileCreated (layout : Layout) (old new : Past) : Type 0 where

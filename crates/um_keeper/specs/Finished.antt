@@ -1,27 +1,17 @@
 -- What it is that a oneshot which finished isn't started again in a run.
 -- Follows systemd.service(5), "Type=oneshot", and systemctl(1), "start".
 -- The law of finished oneshots over all crashes depends on this file.
-use Rattle.std.specs.Prelude.{◌≡◌, ◌≢◌, ◌⊎◌, ⊤, ℕ, List, None, Contains}
+use Rattle.std.specs.Prelude.{◌≡◌, ◌⊎◌, ⊤, ℕ, List, None, Contains}
 use Rattle.um_model.specs.Begun.{jobs_begun_in}
-use Rattle.um_model.specs.Finished.{Finishes}
+use Rattle.um_model.specs.Finished.{Finishes, PutsStart}
 use Rattle.um_model.specs.Jobs.{start_job, jobs_of_unit}
-use Rattle.um_model.specs.Machine.{State, Command, Commanded, Input, Reply, Done, Changes, Run, goes}
-
--- a command was done, and its plan has a start of the unit where none was pending
-pub record PlansStart (unit : List ℕ) (s : State) (input : Input) (reply : Reply) : Type 0 where
-  pub command : Command
-  pub is : input.event ≡ Commanded command
-  pub done : reply ≡ Done
-  pub planned : State
-  pub changes : Changes s command planned
-  pub none : (jobs_of_unit s.pending unit).start ≡ None
-  pub one : (jobs_of_unit planned.pending unit).start ≢ None
+use Rattle.um_model.specs.Machine.{State, Input, Run, goes}
 
 -- no start of the unit begins in the run before a command puts one
 abbrev pub WaitsForCommand : (unit : List ℕ) → {size : ℕ} {s t : State} {inputs : List Input} → Run size s inputs t → Type 0
 WaitsForCommand unit Run.rests = ⊤
 WaitsForCommand unit (goes {s = s} {input = input} reply actions step run) =
-    PlansStart unit s input reply ⊎ (¬ Contains (jobs_begun_in step) (start_job unit)) × WaitsForCommand unit run
+    PutsStart unit s input reply ⊎ (¬ Contains (jobs_begun_in step) (start_job unit)) × WaitsForCommand unit run
 
 -- wherever in the run a oneshot finishes and no start of it is pending then, none begins later before a command puts one
 abbrev pub RepeatsNone : {size : ℕ} {s t : State} {inputs : List Input} → Run size s inputs t → Type 0

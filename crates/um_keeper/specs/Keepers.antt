@@ -1,10 +1,11 @@
 -- What clauses say of a keeper: its disk, the layout of its store, where it stands on the disk, and its state.
 -- No manual page has it: it is the project's own.
 -- The keeper's calls stand on this file.
-use Rattle.std.specs.Prelude.{◌≡◌, ◌≢◌, ◌-◌, ◌^◌, ℕ, Bool}
+use Rattle.std.specs.Prelude.{◌≡◌, ◌≢◌, ◌≤◌, ◌-◌, ◌^◌, ℕ, Bool}
 use Rattle.um_model.specs.Machine.{State, Refusal, Step}
 use Rattle.um_model.specs.Refusals.{Refused}
 use Rattle.um_model.specs.Standing.{Standing}
+use Rattle.um_model.specs.Store.{log_start}
 use Rattle.um_model.specs.declared.layout.Layout.{Layout}
 use Rattle.um_model.specs.declared.layout.Slot.{Slot}
 use Rattle.um_engine.specs.Engine as engine
@@ -39,6 +40,10 @@ slot_in k = k.home.slot
 abbrev pub generation_in : {D : Type 0} {g : _} → Keeper D g → ℕ
 generation_in k = k.home.generation
 
+-- the generation of which its log takes records
+abbrev pub log_generation_in : {D : Type 0} {g : _} → Keeper D g → ℕ
+log_generation_in k = k.log.generation
+
 -- the number and the first sector of the next record
 abbrev pub number_in : {D : Type 0} {g : _} → Keeper D g → ℕ
 number_in k = k.log.number
@@ -60,10 +65,15 @@ pub record IsSamePlace {D : Type 0} {g : _} (old new : Keeper D g) : Type 0 wher
   pub size : size_in new ≡ size_in old
   pub opened : opened_in new ≡ opened_in old
 
--- the log has no room for a record of so many bytes, and the generation is the last
+-- the log has no room for a record of so many bytes, and its generation is the last
 pub record HasNoRoom {D : Type 0} {g : _} (k : Keeper D g) (bytes : ℕ) : Type 0 where
-  pub no_room : ¬ Fits (layout_in k) (generation_in k) (next_in k) bytes
-  pub last : generation_in k ≡ 2 ^ 64 - 1
+  pub no_room : ¬ Fits (layout_in k) (log_generation_in k) (next_in k) bytes
+  pub last : log_generation_in k ≡ 2 ^ 64 - 1
+
+-- in the last generation, now or once it comes to that, the log is free from this sector on
+pub record IsFreeFrom {D : Type 0} {g : _} (k : Keeper D g) (from : ℕ) : Type 0 where
+  pub start : log_start (layout_in k) (2 ^ 64 - 1) ≤ from
+  pub behind : log_generation_in k ≡ 2 ^ 64 - 1 → next_in k ≤ from
 
 -- it is the step of the machine that the input is, and no refusal
 pub record IsPlanned {D : Type 0} {g : _} (k : Keeper D g) (input : Input) (next : Next) : Type 0 where

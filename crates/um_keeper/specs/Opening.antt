@@ -1,22 +1,22 @@
 -- What opening reads of a disk, and why it isn't taken up.
 -- No manual page has it: it is the project's own format (docs/FORMATS.md, "The store on its disk").
 -- `Keeper::open` stands on this file.
-use Rattle.std.specs.Prelude.{◌≡◌, ◌+◌, ◌-◌, ◌^◌, ◌<◌, ◌≤◌, ℕ, List, [], ◌∷◌, length, take, Some, None}
+use Rattle.std.specs.Prelude.{◌≡◌, ◌⊎◌, ◌+◌, ◌-◌, ◌^◌, ◌<◌, ◌≤◌, ℕ, List, [], ◌∷◌, length, take, Some, None}
 use Rattle.um_model.specs.Bytes.{nothing_left}
-use Rattle.um_model.specs.Disk.{Image, Past, IsImage}
+use Rattle.um_model.specs.Disk.{Image, Past, IsImage, During, seen, after, synced}
 use Rattle.um_model.specs.InputSpellings.{input_at}
 use Rattle.um_model.specs.Machine.{State, Input, Reply, Step}
 use Rattle.um_model.specs.Servable.{IsServable}
 use Rattle.um_model.specs.Service.{Action}
-use Rattle.um_model.specs.Stands.{IsStoreOf}
-use Rattle.um_model.specs.StateSpellings.{state_at, FitState}
-use Rattle.um_model.specs.Store.{store_name, store_format, superblock, slot_start, body_limit, log_start, store_sectors, Newest, newest_of, records_of, placed}
+use Rattle.um_model.specs.Stands.{StandsFor, IsStoreOf}
+use Rattle.um_model.specs.StateSpellings.{state_at}
+use Rattle.um_model.specs.Store.{store_name, store_format, superblock, slot_start, body_limit, log_start, store_sectors, Newest, newest_of, records_of, sectors_of, placed}
 use Rattle.um_model.specs.Store as sectors
 use Rattle.um_model.specs.declared.layout.Layout.{Layout}
 use Rattle.um_model.specs.declared.layout.Slot.{Slot}
 use Rattle.um_wire.specs.declared.refusal.Refusal.{Refusal}
 use Rattle.um_wire.specs.declared.refusal.Refusal.TheVariants.{Damaged, NotFormatted, GenerationsSpent, OtherLayout}
-use Rattle.um_log.specs.Later.{IsFirstLater}
+use Rattle.um_log.specs.Greatest.{IsGreatest}
 use Rattle.um_keeper.specs.declared.keeper.OpenedStore.{OpenedStore}
 
 -- sector 0 tells a layout for which a disk of so many sectors has room
@@ -54,43 +54,47 @@ pub data IsUnread (count : ℕ) (image : Image) : Refusal → Type 0 where
   other_format : 0 < count → take 6 (image 0) ≡ store_name → ¬ (take 8 (image 0) ≡ store_format) → IsUnread count image OtherLayout
   no_layout : 0 < count → take 8 (image 0) ≡ store_format → ((layout : Layout) → ¬ HasLayout count image layout) → IsUnread count image (Damaged 0)
   no_header : {layout : Layout} → HasLayout count image layout → newest_of layout image ≡ None → IsUnread count image (Damaged 1)
-  no_state : {layout : Layout} {n : Newest} → HasLayout count image layout → newest_of layout image ≡ Some n → n.generation < 2 ^ 64 - 1
+  no_state : {layout : Layout} {n : Newest} → HasLayout count image layout → newest_of layout image ≡ Some n
       → ((s : State) → ¬ IsStart layout n.body s) → IsUnread count image (Damaged (slot_start layout n.slot + 1))
-  no_input : {layout : Layout} {n : Newest} {s : State} {e : Refusal} → HasLayout count image layout → newest_of layout image ≡ Some n
-      → n.generation < 2 ^ 64 - 1 → IsStart layout n.body s
+  no_input : {layout : Layout} {n : Newest} {s : State} {e : Refusal} → HasLayout count image layout → newest_of layout image ≡ Some n → IsStart layout n.body s
       → IsNoInput (placed (log_start layout n.generation) (records_of layout n.generation image)) e → IsUnread count image e
-  later_sector : {layout : Layout} {n : Newest} {s t : State} {j : ℕ} → HasLayout count image layout → newest_of layout image ≡ Some n
-      → n.generation < 2 ^ 64 - 1 → IsStart layout n.body s → Replays (body_limit layout) (records_of layout n.generation image) s t
-      → IsFirstLater layout n.generation image j → IsUnread count image (Damaged j)
 
--- The newest snapshot of what a read gives is of the last generation, so that no next one can be written.
+-- all records of the generation lie before this number and this place
+pub record IsBehind (layout : Layout) (generation : ℕ) (image : Image) (number next : ℕ) : Type 0 where
+  pub count : number ≡ length (records_of layout generation image)
+  pub place : next ≡ log_start layout generation + sectors_of (records_of layout generation image)
+
+-- What a read gives is taken up: a store of this layout on the disk, whose newest snapshot and its records come to the state.
+pub record IsTakenUp (count : ℕ) (image : Image) (layout : Layout) (slot : Slot) (generation : ℕ) (s : State) : Type 0 where
+  pub has : HasLayout count image layout
+  pub body : List ℕ
+  pub newest : sectors.IsNewest layout image slot generation body
+  pub start : State
+  pub starts : IsStart layout body start
+  pub replays : Replays (body_limit layout) (records_of layout generation image) start s
+
+-- What a read gives would be taken up, but the greatest generation that stands there is the last one, so that no next one can be written.
 pub record IsSpent (count : ℕ) (image : Image) : Type 0 where
   pub layout : Layout
-  pub newest : Newest
-  pub has : HasLayout count image layout
-  pub held : newest_of layout image ≡ Some newest
-  pub last : newest.generation ≡ 2 ^ 64 - 1
+  pub slot : Slot
+  pub generation : ℕ
+  pub state : State
+  pub taken : IsTakenUp count image layout slot generation state
+  pub last : IsGreatest layout image generation (2 ^ 64 - 1)
 
 -- Why a disk isn't taken up: for a cause of its reading, or by E20.
 pub data IsUntaken (count : ℕ) (image : Image) : Refusal → Type 0 where
   unread : {e : Refusal} → IsUnread count image e → IsUntaken count image e
   spent : IsSpent count image → IsUntaken count image GenerationsSpent
 
--- What a read gives is taken up: a store of this layout on the disk, whose newest snapshot and its records come to the state.
-pub record IsTakenUp (count : ℕ) (image : Image) (layout : Layout) (slot : Slot) (generation : ℕ) (s : State) : Type 0 where
-  pub room : store_sectors layout ≤ count
-  pub body : List ℕ
-  pub start : State
-  pub store : sectors.IsStore layout image slot generation body (records_of layout generation image)
-  pub starts : IsStart layout body start
-  pub replays : Replays (body_limit layout) (records_of layout generation image) start s
-
--- The state that was taken up of an image, in the other slot and one generation on.
+-- The state that was taken up of an image, in the other slot, one generation behind the greatest that stood there.
 pub record IsNextOf (count : ℕ) (image : Image) (layout : Layout) (slot : Slot) (generation : ℕ) (s : State) : Type 0 where
   pub before : Slot
   pub earlier : ℕ
+  pub greatest : ℕ
   pub turned : slot ≡ sectors.other before
-  pub next : generation ≡ earlier + 1
+  pub is_greatest : IsGreatest layout image earlier greatest
+  pub next : generation ≡ greatest + 1
   pub taken : IsTakenUp count image layout before earlier s
 
 -- What was read of an image: the generation of its newest header, and the count of the records of that generation, which are replayed.
@@ -100,21 +104,40 @@ pub record IsRead (layout : Layout) (image : Image) (opened : OpenedStore) : Typ
   pub generation_is : opened.generation ≡ newest.generation
   pub records_are : opened.records ≡ length (records_of layout newest.generation image)
 
--- what a store of this layout may hold, and what has bytes
+-- what a store of this layout may hold
 pub record IsKept (layout : Layout) (size : ℕ) (s : State) : Type 0 where
   pub size_is : size ≡ body_limit layout
   pub servable : IsServable size s
-  pub fits : FitState s
 
--- a store of some state
+-- it stands for some state
 pub record IsSomeStore (layout : Layout) (image : Image) : Type 0 where
   pub state : State
-  pub store : IsStoreOf layout image state
+  pub stands : StandsFor layout image state
 
--- a store of a state that one of the images of before was a store of
+-- The image stands for this state; and if the one that it came from was an image that a store of the state leaves, so is this one.
+pub record IsStill (layout : Layout) (from : Image) (s : State) (image : Image) : Type 0 where
+  pub stands : StandsFor layout image s
+  pub store : IsStoreOf layout from s → IsStoreOf layout image s
+
+-- it stands for a state that one of the images of before stood for
 pub record IsAsBefore (layout : Layout) (past : Past) (image : Image) : Type 0 where
   pub from : Image
   pub was : IsImage past from
   pub state : State
-  pub before : IsStoreOf layout from state
-  pub now : IsStoreOf layout image state
+  pub before : StandsFor layout from state
+  pub now : IsStill layout from state image
+
+-- What a read gave stands for the state; the first call was a sync, and from then on each image stands for that state.
+pub record StaysFor (layout : Layout) (s : State) (old new : Past) : Type 0 where
+  pub stands : StandsFor layout (seen old) s
+  pub during : During (after synced old) new (IsStill layout (seen old) s)
+
+-- what a read gave stands for a state, and each image still does from the first sync on
+pub record StaysForOne (old new : Past) : Type 0 where
+  pub layout : Layout
+  pub state : State
+  pub stays : StaysFor layout state old new
+
+-- nothing was written: the disk was synced, or not even that
+abbrev pub IsUnwritten : Past → Past → Type 0
+IsUnwritten old new = (new ≡ old) ⊎ (new ≡ after synced old)

@@ -1,6 +1,6 @@
-ghost use Rattle.std.specs.Prelude.{◌≡◌, ◌⊎◌, ◌≤◌, ◌+◌, [], ◌∷◌, replicate, IsTrue, IfErr, OnOk, OnErr};
-ghost use Rattle.um_model.specs.Disk.{seen, Images, During, IsSettled};
-ghost use Rattle.um_sector.specs.Runs.{CountsFailure, IsLaid, AfterRun};
+ghost use Rattle.std.specs.Prelude.{◌≡◌, ◌⊎◌, ◌≤◌, ◌+◌, IsTrue, IfErr, OnOk, OnErr};
+ghost use Rattle.um_model.specs.Disk.{seen, Images, During};
+ghost use Rattle.um_sector.specs.Runs.{CountsFailure};
 ghost use Rattle.um_model.specs.Machine.{empty_state};
 ghost use Rattle.um_model.specs.StateSpellings.{state_spelling};
 ghost use Rattle.um_model.specs.Store as store;
@@ -8,13 +8,12 @@ ghost use Rattle.um_sector.specs.Unsynced.{sync_count};
 ghost use Rattle.um_sector.specs.Refused.{CountsDevice, IsLost};
 ghost use Rattle.um_keeper.specs.Creating.{blank, WasOrIsNone, IsEmptyStore, WhileCreated, IsWiped};
 
-use crate::keeper::state_bytes;
 use std::alloc::Global;
 use um_model::{Layout, SECTOR_BYTES, Slot};
 use um_sector::{Disk, Fault, Sector, write_blank, write_run_synced};
-use um_slot::{Body, superblock, write_first};
+use um_slot::{superblock, write_first};
 use um_state::State;
-use um_wire::Refusal;
+use um_wire::{Refusal, spell};
 
 /// Zeros sector 0 and syncs, so that no store is there.
 fn unformat<D: Disk>(disk: &mut D) -> Result<(), Fault>
@@ -46,7 +45,7 @@ fn wipe<D: Disk>(disk: &mut D, layout: Layout) -> Result<(), Fault>
 }
 
 /// Writes the store of the empty state, whose bytes the body has.
-fn lay<D: Disk>(disk: &mut D, layout: Layout, body: &Body) -> Result<(), Refusal>
+fn lay<D: Disk>(disk: &mut D, layout: Layout, body: &[u8]) -> Result<(), Refusal>
     requires empty { body.now ≡ state_spelling empty_state }
     ensures during { IsTrue (D.honest disk.old) → WhileCreated layout (D.past disk.old) (D.past disk.new) }
     ensures ok { OnOk result (IsTrue (D.honest disk.old) → Images (D.past disk.new) (IsEmptyStore layout)) }
@@ -81,7 +80,6 @@ pub fn create<D: Disk>(alloc: Global, disk: &mut D, layout: Layout) -> Result<()
     ensures honest { D.honest disk.new ≡ D.honest disk.old }
 {
     // All that takes memory comes before the first write.
-    let bytes = state_bytes(alloc, &State::empty(alloc))?;
-    let body = Body::new(alloc, bytes)?;
+    let body = spell(alloc, &State::empty(alloc))?;
     lay(disk, layout, &body)
 }

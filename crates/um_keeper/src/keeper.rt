@@ -1,4 +1,4 @@
-ghost use Rattle.std.specs.Prelude.{◌≡◌, ◌≢◌, ◌⊎◌, ◌↔◌, ◌+◌, ◌-◌, ◌^◌, ◌<◌, ◌≤◌, ◌∷◌, [], true, false, length, Err, Some, IfOk, IfErr, OnOk, OnErr, IsTrue};
+ghost use Rattle.std.specs.Prelude.{◌≡◌, ◌≢◌, ◌⊎◌, ◌↔◌, ◌+◌, ◌-◌, ◌^◌, ◌<◌, ◌≤◌, ◌∷◌, [], ℕ, true, false, length, Err, Some, IfOk, IfErr, OnOk, OnErr, IsTrue};
 ghost use Rattle.std.proofs.Props.{props};
 ghost use Rattle.std.specs.Coded.{codes};
 ghost use Rattle.std.specs.FinMap as maps;
@@ -14,9 +14,8 @@ ghost use Rattle.um_model.specs.Machine.{Step, moment_of};
 ghost use Rattle.um_engine.specs.Engine.{LacksEffect};
 ghost use Rattle.um_model.specs.Numbers.{AreNew, started_numbers};
 ghost use Rattle.um_model.specs.Refusals.{Refused};
-ghost use Rattle.um_model.specs.StateSpellings.{state_spelling};
 ghost use Rattle.um_model.specs.Stands.{contents_of, IsStoreOf};
-ghost use Rattle.um_model.specs.Store.{other, log_start};
+ghost use Rattle.um_model.specs.Store.{other, body_limit, log_start, part_count};
 ghost use Rattle.um_sector.specs.Refused.{CountsDevice, IsLost};
 ghost use Rattle.um_state.specs.View.{state_of, input_of, query_of, reply_of};
 ghost use Rattle.um_tree.specs.Code.{tree_code};
@@ -29,7 +28,7 @@ use um_log::Log;
 use um_sector::Disk;
 use um_slot::{Home, write_other};
 use um_state::{Input, Query, Reply, State};
-use um_wire::{Canon, Refusal};
+use um_wire::{Refusal, spell};
 
 /// What was read of a store when it was opened.
 #[derive(Clone, Copy, Debug, PartialEq, Eq)]
@@ -58,25 +57,6 @@ pub struct Keeper<D: Disk> {
         → Keeps (D.past disk) (D.size disk) log.layout home.slot home.generation log.number log.next (machine.state_in engine) } by { Prim.hlevel (props, codes, maps.code, tree_code) },
 }
 
-/// The bytes of an input.
-fn input_bytes(alloc: Global, input: &Input) -> Result<Vec<u8>, AllocError>
-    ensures bytes { IfOk result (λ bytes. bytes.items ≡ input_spelling (input_of input.now)) }
-    ensures fits { OnOk result (FitInput (input_of input.now)) }
-{
-    let mut bytes = Vec::new(alloc);
-    input.put(&mut bytes)?;
-    Ok(bytes)
-}
-
-/// The bytes of a state.
-pub(crate) fn state_bytes(alloc: Global, state: &State) -> Result<Vec<u8>, AllocError>
-    ensures { IfOk result (λ bytes. bytes.items ≡ state_spelling (state_of state.now)) }
-{
-    let mut bytes = Vec::new(alloc);
-    state.put(&mut bytes)?;
-    Ok(bytes)
-}
-
 /// The refusal of a call on the disk, noted where the disk failed.
 fn noted(failed: &mut bool, refusal: Refusal) -> Refusal
     ensures same { result ≡ refusal }
@@ -89,13 +69,20 @@ fn noted(failed: &mut bool, refusal: Refusal) -> Refusal
 }
 
 impl<D: Disk> Keeper<D> {
-    ghost use Rattle.um_keeper.specs.Keepers.{disk_in, standing_in, state_in, size_in, layout_in, slot_in, generation_in, number_in, next_in, has_failed, opened_in, IsSamePlace, HasNoRoom, IsPlanned};
+    ghost use Rattle.um_keeper.specs.Keepers.{disk_in, standing_in, state_in, size_in, layout_in, slot_in, generation_in, log_generation_in, number_in, next_in, has_failed, opened_in, IsSamePlace, HasNoRoom, IsFreeFrom, IsPlanned};
 
     /// What was read of the store when it was opened.
     pub fn opened(&self) -> OpenedStore
         ensures { result ≡ opened_in self.now }
     {
         self.opened
+    }
+
+    /// Whether an earlier call answered E16, so that the store is to be opened again.
+    pub fn has_failed(&self) -> bool
+        ensures { result ≡ has_failed self.now }
+    {
+        self.failed
     }
 
     /// The state.
@@ -112,6 +99,14 @@ impl<D: Disk> Keeper<D> {
         self.engine.query(query)
     }
 
+    /// Each image that a crash may leave of the disk is a store of the state, as long as no call on it failed; and the store has the size of
+    /// its layout. It does nothing.
+    pub fn is_stored(&self)
+        ensures stored { has_failed self.now ≡ false → IsTrue (D.honest (disk_in self.now))
+            → Images (D.past (disk_in self.now)) (λ image. IsStoreOf (layout_in self.now) image (state_in self.now)) }
+        ensures sized { size_in self.now ≡ body_limit (layout_in self.now) }
+    {}
+
     /// The disk, as the last call left it.
     pub fn into_disk(self) -> D
         ensures { result ≡ disk_in self }
@@ -127,14 +122,14 @@ impl<D: Disk> Keeper<D> {
         ensures during { has_failed self.old ≡ false → IsTrue (D.honest (disk_in self.old))
             → During (D.past (disk_in self.old)) (D.past (disk_in self.new)) (λ image. IsStoreOf (layout_in self.old) image (state_in self.old)) }
         ensures ok { OnOk result ((slot_in self.new ≡ other (slot_in self.old)) × (generation_in self.new ≡ generation_in self.old + 1)
-            × (number_in self.new ≡ 0) × (next_in self.new ≡ log_start (layout_in self.old) (generation_in self.new))) }
+            × (log_generation_in self.new ≡ generation_in self.new) × (number_in self.new ≡ 0) × (next_in self.new ≡ log_start (layout_in self.old) (log_generation_in self.new))) }
         ensures stored { OnOk result (IsTrue (D.honest (disk_in self.old)) → Images (D.past (disk_in self.new)) (λ image. contents_of (layout_in self.old) image
             ≡ Some (record { slot = slot_in self.new; generation = generation_in self.new; start = state_in self.old; inputs = [] }))) }
         ensures state { state_in self.new ≡ state_in self.old }
         ensures stands { standing_in self.new ≡ standing_in self.old }
         ensures place { IsSamePlace self.old self.new }
         ensures same { OnErr result ((slot_in self.new ≡ slot_in self.old) × (generation_in self.new ≡ generation_in self.old)
-            × (number_in self.new ≡ number_in self.old) × (next_in self.new ≡ next_in self.old)) }
+            × (log_generation_in self.new ≡ log_generation_in self.old) × (number_in self.new ≡ number_in self.old) × (next_in self.new ≡ next_in self.old)) }
         ensures refused { IfErr result (λ e. IsLost e ⊎ (e ≡ Refusal.Reopen) ⊎ (e ≡ Refusal.GenerationsSpent)) }
         ensures unwritten { IfErr result (λ e. (e ≡ Refusal.Device) ⊎ (disk_in self.new ≡ disk_in self.old)) }
         ensures device { CountsDevice result (D.failures (disk_in self.old)) (D.failures (disk_in self.new)) }
@@ -151,14 +146,8 @@ impl<D: Disk> Keeper<D> {
         if self.home.generation == u64::MAX {
             return Err(Refusal::GenerationsSpent);
         }
-        let body = state_bytes(self.alloc, self.engine.state())?;
-        match write_other(
-            self.alloc,
-            &mut self.disk,
-            self.log.layout,
-            self.home,
-            &body,
-        ) {
+        let body = spell(self.alloc, self.engine.state())?;
+        match write_other(&mut self.disk, self.log.layout, self.home, &body) {
             Ok(Some(home)) => {
                 self.home = home;
                 self.log = Log::new(self.log.layout, home.generation);
@@ -176,16 +165,18 @@ impl<D: Disk> Keeper<D> {
         requires short { bytes ≤ input_limit }
         ensures during { IsTrue (D.honest (disk_in self.old))
             → During (D.past (disk_in self.old)) (D.past (disk_in self.new)) (λ image. IsStoreOf (layout_in self.old) image (state_in self.old)) }
-        ensures fits { OnOk result (Fits (layout_in self.new) (generation_in self.new) (next_in self.new) bytes) }
+        ensures fits { OnOk result (Fits (layout_in self.new) (log_generation_in self.new) (next_in self.new) bytes) }
+        ensures free { (from : ℕ) → IsFreeFrom self.old from → IsFreeFrom self.new from }
         ensures state { standing_in self.new ≡ standing_in self.old }
         ensures place { IsSamePlace self.old self.new }
         ensures grows { generation_in self.old ≤ generation_in self.new }
+        ensures log_grows { log_generation_in self.old ≤ log_generation_in self.new }
         ensures refused { IfErr result (λ e. IsLost e ⊎ (e ≡ Refusal.GenerationsSpent)) }
         ensures unwritten { IfErr result (λ e. (e ≡ Refusal.Device) ⊎ (disk_in self.new ≡ disk_in self.old)) }
         ensures device { CountsDevice result (D.failures (disk_in self.old)) (D.failures (disk_in self.new)) }
         ensures failed { (has_failed self.new ≡ true) ↔ (result ≡ Err Refusal.Device) }
         ensures spent { result ≡ Err Refusal.GenerationsSpent → HasNoRoom self.old bytes }
-        ensures untouched { Fits (layout_in self.old) (generation_in self.old) (next_in self.old) bytes → disk_in self.new ≡ disk_in self.old }
+        ensures untouched { Fits (layout_in self.old) (log_generation_in self.old) (next_in self.old) bytes → disk_in self.new ≡ disk_in self.old }
         ensures calls { D.calls (disk_in self.new) ≤ D.calls (disk_in self.old) + snapshot_calls (state_in self.old) }
         ensures size { D.size (disk_in self.new) ≡ D.size (disk_in self.old) }
         ensures honest { D.honest (disk_in self.new) ≡ D.honest (disk_in self.old) }
@@ -207,7 +198,7 @@ impl<D: Disk> Keeper<D> {
         requires step { IsPlanned self.old input.now next }
         requires bytes { bytes.now ≡ input_spelling (input_of input.now) }
         requires has_bytes { FitInput (input_of input.now) }
-        requires fits { Fits (layout_in self.old) (generation_in self.old) (next_in self.old) (length bytes.now) }
+        requires fits { Fits (layout_in self.old) (log_generation_in self.old) (next_in self.old) (length bytes.now) }
         ensures during { IsTrue (D.honest (disk_in self.old))
             → During (D.past (disk_in self.old)) (D.past (disk_in self.new)) (IsBegun (layout_in self.old) (state_in self.old) (input_of input.now ∷ [])) }
         ensures ok { IfOk result (λ taken. (taken.0.0 ≡ reply_in next) × (taken.0.1 ≡ actions_in next) × (standing_in self.new ≡ state_after next (standing_in self.old))) }
@@ -215,6 +206,10 @@ impl<D: Disk> Keeper<D> {
         ensures state { OnErr result (standing_in self.new ≡ standing_in self.old) }
         ensures place { IsSamePlace self.old self.new }
         ensures grows { generation_in self.old ≤ generation_in self.new }
+        ensures log_grows { log_generation_in self.old ≤ log_generation_in self.new }
+        ensures filled { OnOk result ((from : ℕ) → IsFreeFrom self.old from
+            → IsFreeFrom self.new (from + part_count (length (input_spelling (input_of input.now))))) }
+        ensures free { OnErr result ((from : ℕ) → IsFreeFrom self.old from → IsFreeFrom self.new from) }
         ensures refused { IfErr result IsLost }
         ensures unwritten { IfErr result (λ e. (e ≡ Refusal.Device) ⊎ (disk_in self.new ≡ disk_in self.old)) }
         ensures device { CountsDevice result (D.failures (disk_in self.old)) (D.failures (disk_in self.new)) }
@@ -223,7 +218,7 @@ impl<D: Disk> Keeper<D> {
         ensures size { D.size (disk_in self.new) ≡ D.size (disk_in self.old) }
         ensures honest { D.honest (disk_in self.new) ≡ D.honest (disk_in self.old) }
     {
-        match self.log.append(self.alloc, &mut self.disk, bytes) {
+        match self.log.append(&mut self.disk, bytes) {
             Ok(true) => {
                 let (reply, actions, back) = self.engine.commit(next);
                 Ok((Receipt::new(reply, actions), back))
@@ -246,17 +241,21 @@ impl<D: Disk> Keeper<D> {
             → During (D.past (disk_in self.old)) (D.past (disk_in self.new)) (λ image. IsStoreOf (layout_in self.old) image (state_in self.old)))) }
         ensures place { IsSamePlace self.old self.new }
         ensures grows { generation_in self.old ≤ generation_in self.new }
+        ensures log_grows { log_generation_in self.old ≤ log_generation_in self.new }
+        ensures filled { OnOk result ((from : ℕ) → IsFreeFrom self.old from
+            → IsFreeFrom self.new (from + part_count (length (input_spelling (input_of input.now))))) }
+        ensures free { OnErr result ((from : ℕ) → IsFreeFrom self.old from → IsFreeFrom self.new from) }
         ensures refused { IfErr result (λ e. IsLost e ⊎ (e ≡ Refusal.GenerationsSpent)) }
         ensures device { CountsDevice result (D.failures (disk_in self.old)) (D.failures (disk_in self.new)) }
         ensures failed { (has_failed self.new ≡ true) ↔ (result ≡ Err Refusal.Device) }
         ensures spent { result ≡ Err Refusal.GenerationsSpent → HasNoRoom self.old (length (input_spelling (input_of input.now))) × (disk_in self.new ≡ disk_in self.old) }
-        ensures calls { Fits (layout_in self.old) (generation_in self.old) (next_in self.old) (length (input_spelling (input_of input.now)))
+        ensures calls { Fits (layout_in self.old) (log_generation_in self.old) (next_in self.old) (length (input_spelling (input_of input.now)))
             → D.calls (disk_in self.new) ≤ D.calls (disk_in self.old) + record_calls (input_of input.now) }
         ensures most_calls { D.calls (disk_in self.new) ≤ D.calls (disk_in self.old) + snapshot_calls (state_in self.old) + record_calls (input_of input.now) }
         ensures size { D.size (disk_in self.new) ≡ D.size (disk_in self.old) }
         ensures honest { D.honest (disk_in self.new) ≡ D.honest (disk_in self.old) }
     {
-        let bytes = input_bytes(self.alloc, input)?;
+        let bytes = spell(self.alloc, input)?;
         self.make_room(bytes.len())?;
         self.append(input, next, &bytes)
     }
@@ -277,6 +276,10 @@ impl<D: Disk> Keeper<D> {
             → During (D.past (disk_in self.old)) (D.past (disk_in self.new)) (λ image. IsStoreOf (layout_in self.old) image (state_in self.old)))) }
         ensures place { IsSamePlace self.old self.new }
         ensures grows { generation_in self.old ≤ generation_in self.new }
+        ensures log_grows { log_generation_in self.old ≤ log_generation_in self.new }
+        ensures filled { OnOk result ((from : ℕ) → IsFreeFrom self.old from
+            → IsFreeFrom self.new (from + part_count (length (input_spelling (input_of input.now))))) }
+        ensures free { OnErr result ((from : ℕ) → IsFreeFrom self.old from → IsFreeFrom self.new from) }
         ensures refused { IfErr result (λ e. IsLost e ⊎ (e ≡ Refusal.GenerationsSpent) ⊎ ((is_of_store e ≡ false)
             × Step (size_in self.old) (state_in self.old) (input_of input.now) (model.Refusal (refused_of e)) [] (state_in self.old))) }
         ensures unwritten { IfErr result (λ e. IsLost e ⊎ (disk_in self.new ≡ disk_in self.old)) }
@@ -287,7 +290,7 @@ impl<D: Disk> Keeper<D> {
         ensures device { CountsDevice result (D.failures (disk_in self.old)) (D.failures (disk_in self.new)) }
         ensures failed { (has_failed self.new ≡ true) ↔ (result ≡ Err Refusal.Device) }
         ensures spent { result ≡ Err Refusal.GenerationsSpent → HasNoRoom self.old (length (input_spelling (input_of input.now))) }
-        ensures calls { Fits (layout_in self.old) (generation_in self.old) (next_in self.old) (length (input_spelling (input_of input.now)))
+        ensures calls { Fits (layout_in self.old) (log_generation_in self.old) (next_in self.old) (length (input_spelling (input_of input.now)))
             → D.calls (disk_in self.new) ≤ D.calls (disk_in self.old) + record_calls (input_of input.now) }
         ensures most_calls { D.calls (disk_in self.new) ≤ D.calls (disk_in self.old) + snapshot_calls (state_in self.old) + record_calls (input_of input.now) }
         ensures size { D.size (disk_in self.new) ≡ D.size (disk_in self.old) }
@@ -305,37 +308,41 @@ impl<D: Disk> Keeper<D> {
     ///
     /// Each image of each moment meanwhile is a store of the state before, or of that with the input. The step's refusals (E4 to E14, E21),
     /// with nothing written; E17 where an earlier call answered E16; E20 where the record has no room and the generation is the last,
-    /// with nothing written; E15 and E16, after which the state is that from before.
-    pub fn submit(&mut self, input: &Input) -> Result<Receipt, Refusal>
+    /// with nothing written; E15 and E16, after which the state is that from before. But for E16 and E17 each image meanwhile is of
+    /// the state before.
+    pub fn submit(&mut self, input: Input) -> Result<Receipt, Refusal>
         ensures during { has_failed self.old ≡ false → IsTrue (D.honest (disk_in self.old))
-            → During (D.past (disk_in self.old)) (D.past (disk_in self.new)) (IsBegun (layout_in self.old) (state_in self.old) (input_of input.now ∷ [])) }
-        ensures ok { IfOk result (λ receipt. Step (size_in self.old) (state_in self.old) (input_of input.now) receipt.0 receipt.1 (state_in self.new)) }
+            → During (D.past (disk_in self.old)) (D.past (disk_in self.new)) (IsBegun (layout_in self.old) (state_in self.old) (input_of input ∷ [])) }
+        ensures ok { IfOk result (λ receipt. Step (size_in self.old) (state_in self.old) (input_of input) receipt.0 receipt.1 (state_in self.new)) }
         ensures accepted { IfOk result (λ receipt. (r : Refused) → receipt.0 ≢ model.Refusal r) }
         ensures order { IfOk result (λ receipt. AreNew (state_in self.old).next (state_in self.new).next (started_numbers receipt.1)) }
         ensures stored { has_failed self.new ≡ false → IsTrue (D.honest (disk_in self.old))
             → Images (D.past (disk_in self.new)) (λ image. IsStoreOf (layout_in self.old) image (state_in self.new)) }
         ensures state { OnErr result (state_in self.new ≡ state_in self.old) }
+        ensures kept { IfErr result (λ e. (e ≡ Refusal.Device) ⊎ (e ≡ Refusal.Reopen) ⊎ (IsTrue (D.honest (disk_in self.old))
+            → During (D.past (disk_in self.old)) (D.past (disk_in self.new)) (λ image. IsStoreOf (layout_in self.old) image (state_in self.old)))) }
         ensures place { IsSamePlace self.old self.new }
         ensures grows { generation_in self.old ≤ generation_in self.new }
+        ensures log_grows { log_generation_in self.old ≤ log_generation_in self.new }
         ensures refused { IfErr result (λ e. IsLost e ⊎ (e ≡ Refusal.Reopen) ⊎ (e ≡ Refusal.GenerationsSpent) ⊎ ((is_of_store e ≡ false)
-            × Step (size_in self.old) (state_in self.old) (input_of input.now) (model.Refusal (refused_of e)) [] (state_in self.old))) }
+            × Step (size_in self.old) (state_in self.old) (input_of input) (model.Refusal (refused_of e)) [] (state_in self.old))) }
         ensures unwritten { IfErr result (λ e. IsLost e ⊎ (disk_in self.new ≡ disk_in self.old)) }
-        ensures idle { LacksEffect (moment_of (state_in self.old) (input_of input.now).moment) (state_in self.old) (input_of input.now).event
+        ensures idle { LacksEffect (moment_of (state_in self.old) (input_of input).moment) (state_in self.old) (input_of input).event
             → disk_in self.new ≡ disk_in self.old }
         ensures device { CountsDevice result (D.failures (disk_in self.old)) (D.failures (disk_in self.new)) }
         ensures failed { (has_failed self.new ≡ true) ↔ ((has_failed self.old ≡ true) ⊎ (result ≡ Err Refusal.Device)) }
         ensures reopen { (result ≡ Err Refusal.Reopen) ↔ (has_failed self.old ≡ true) }
-        ensures spent { result ≡ Err Refusal.GenerationsSpent → HasNoRoom self.old (length (input_spelling (input_of input.now))) }
-        ensures calls { Fits (layout_in self.old) (generation_in self.old) (next_in self.old) (length (input_spelling (input_of input.now)))
-            → D.calls (disk_in self.new) ≤ D.calls (disk_in self.old) + record_calls (input_of input.now) }
-        ensures most_calls { D.calls (disk_in self.new) ≤ D.calls (disk_in self.old) + snapshot_calls (state_in self.old) + record_calls (input_of input.now) }
+        ensures spent { result ≡ Err Refusal.GenerationsSpent → HasNoRoom self.old (length (input_spelling (input_of input))) }
+        ensures calls { Fits (layout_in self.old) (log_generation_in self.old) (next_in self.old) (length (input_spelling (input_of input)))
+            → D.calls (disk_in self.new) ≤ D.calls (disk_in self.old) + record_calls (input_of input) }
+        ensures most_calls { D.calls (disk_in self.new) ≤ D.calls (disk_in self.old) + snapshot_calls (state_in self.old) + record_calls (input_of input) }
         ensures size { D.size (disk_in self.new) ≡ D.size (disk_in self.old) }
         ensures honest { D.honest (disk_in self.new) ≡ D.honest (disk_in self.old) }
     {
         if self.failed {
             return Err(Refusal::Reopen);
         }
-        let (receipt, _) = self.take_step(input)?;
+        let (receipt, _) = self.take_step(&input)?;
         Ok(receipt)
     }
 }

@@ -1,15 +1,20 @@
 //! What the definitions of a store say together, as functions that do nothing.
-ghost use Rattle.std.specs.Prelude.{◌≡◌, ◌↔◌, ◌≤◌, ℕ, List};
+ghost use Rattle.std.specs.Prelude.{◌≡◌, ◌↔◌, ◌+◌, ◌-◌, ◌^◌, ◌<◌, ◌≤◌, ℕ, List};
 ghost use Rattle.um_keeper.specs.Finished.{RepeatsNone, WaitsForCommand};
+ghost use Rattle.um_keeper.specs.Opening.{IsUnread, IsUntaken, IsTakenUp, IsNextOf};
+ghost use Rattle.um_log.specs.Greatest.{IsGreatest};
 ghost use Rattle.um_model.specs.Disk.{Image};
 ghost use Rattle.um_model.specs.Finished.{IsAtRest};
-ghost use Rattle.um_model.specs.Lives.{Life, Lived, AreKept, HasInOrder, all_answered};
+ghost use Rattle.um_model.specs.Lives.{Life, Lived, AreKept, RunsThrough, HasInOrder, all_answered};
 ghost use Rattle.um_model.specs.Machine.{State, Input, Run};
 ghost use Rattle.um_model.specs.Stands.{StandsFor, IsStoreOf};
 ghost use Rattle.um_model.specs.InputSpellings.{input_limit};
-ghost use Rattle.um_model.specs.Store.{superblock, body_limit, record_limit};
+ghost use Rattle.um_model.specs.Store.{body_limit, record_limit, store_sectors};
 ghost use Rattle.um_model.specs.Unread.{IsRead};
 ghost use Rattle.um_model.specs.declared.layout.Layout.{Layout};
+ghost use Rattle.um_model.specs.declared.layout.Slot.{Slot};
+ghost use Rattle.um_wire.specs.declared.refusal.Refusal.{Refusal};
+ghost use Rattle.um_wire.specs.declared.refusal.Refusal.TheVariants.{GenerationsSpent};
 
 /// An image stands for one state at most, of one layout.
 pub fn an_image_stands_for_one_state()
@@ -18,7 +23,7 @@ pub fn an_image_stands_for_one_state()
 {}
 
 /// Images that agree in each sector that the reading of a store looks at stand for the same state, or for none.
-pub fn unread_sectors_of_a_store_do_not_count()
+pub fn unread()
     ensures { (layout : Layout) (a b : Image) → ((j : ℕ) → IsRead layout a j → b j ≡ a j) → (s : State) → StandsFor layout a s ↔ StandsFor layout b s }
 {}
 
@@ -28,21 +33,44 @@ pub fn an_input_has_room_in_a_record()
 {}
 
 /// However many lives a store has, each opened on the image that the crash of the one before it left: from an image of a store on, as a
-/// new one, the last image is a store of the state that a run from the first one's over what was kept comes to, and that holds all that
-/// was answered, in its order.
-pub fn what_was_answered_outlives_crashes()
+/// new one, the last image is a store of the state that a run from the first one's over what was kept comes to; each input that was
+/// answered got its reply in that run; and what was kept holds all that was answered, in its order.
+pub fn lives()
     ensures state { (layout : Layout) (first last : Image) (lives : List Life) (s : State) → IsStoreOf layout first s → Lived layout first lives last
-        → (kept : List Input) × AreKept lives kept × (t : State) × Run (body_limit layout) s kept t × IsStoreOf layout last t }
+        → (kept : List Input) × AreKept lives kept × (t : State) × Run (body_limit layout) s kept t × RunsThrough (body_limit layout) s lives kept t
+        × IsStoreOf layout last t }
     ensures answered { (lives : List Life) (kept : List Input) → AreKept lives kept → HasInOrder (all_answered lives) kept }
 {}
 
 /// A finished job is never repeated: wherever in a run a oneshot finishes and no start of it is pending then, none of its starts begins
 /// later before a command's plan puts one, in that boot or in a later one. So it is of each unit at rest, whatever its kind and however
 /// it came there. And so it is over all crashes: from the state of the first image on, in the one run over what was kept of all lives.
-pub fn a_finished_oneshot_is_not_started_again()
+pub fn finished()
     ensures run { (size : ℕ) (s t : State) (inputs : List Input) (run : Run size s inputs t) → RepeatsNone run }
     ensures rest { (size : ℕ) (s t : State) (inputs : List Input) (run : Run size s inputs t) (unit : List ℕ) → IsAtRest s unit → WaitsForCommand unit run }
     ensures crashes { (layout : Layout) (first last : Image) (lives : List Life) (s : State) → IsStoreOf layout first s → Lived layout first lives last
         → (kept : List Input) × AreKept lives kept × (t : State) × (run : Run (body_limit layout) s kept t) × RepeatsNone run
         × ((unit : List ℕ) → IsAtRest s unit → WaitsForCommand unit run) × IsStoreOf layout last t }
+{}
+
+/// What stands for a state isn't refused for any cause of its reading where the disk has room, so that E20 alone may refuse it, behind the
+/// last generation.
+pub fn a_store_is_taken_up()
+    ensures read { (count : ℕ) (layout : Layout) (image : Image) (s : State) (e : Refusal) → store_sectors layout ≤ count → StandsFor layout image s
+        → ¬ IsUnread count image e }
+    ensures spent { (count : ℕ) (layout : Layout) (image : Image) (s : State) (e : Refusal) → store_sectors layout ≤ count → StandsFor layout image s
+        → IsUntaken count image e → e ≡ GenerationsSpent }
+{}
+
+/// What is taken up isn't refused, unless the greatest generation that stands there is the last one.
+pub fn what_is_taken_up_is_not_refused()
+    ensures { (count : ℕ) (layout : Layout) (image : Image) (slot : Slot) (generation greatest : ℕ) (s : State) (e : Refusal)
+        → IsTakenUp count image layout slot generation s → IsGreatest layout image generation greatest → greatest < 2 ^ 64 - 1 → ¬ IsUntaken count image e }
+{}
+
+/// A store that was left by calls that answered goes up by one generation when it is opened: no sector of its log is of a later one than
+/// its newest header.
+pub fn a_store_goes_up_by_one_generation()
+    ensures { (count : ℕ) (layout : Layout) (image : Image) (slot : Slot) (generation : ℕ) (s : State) (next : IsNextOf count image layout slot generation s)
+        → IsStoreOf layout image s → generation ≡ next.earlier + 1 }
 {}

@@ -1,42 +1,37 @@
-ghost use Rattle.std.specs.Prelude.{◌≡◌, ◌⊎◌, ◌↔◌, ℕ, ◌+◌, ◌-◌, ◌^◌, ◌<◌, ◌≤◌, Ok, None, false, IfOk, IfErr, IfSome, OnOk, IsTrue};
-ghost use Rattle.std.specs.Option.{option_map};
+ghost use Rattle.std.specs.Prelude.{◌≡◌, ◌⊎◌, ◌↔◌, ◌+◌, ◌-◌, ◌^◌, ◌<◌, ◌≤◌, Ok, None, false, IfOk, IfErr, IfSome, OnOk, IsTrue};
 ghost use Rattle.um_engine.specs.Engine.{state_in, size_in};
-ghost use Rattle.um_keeper.specs.Keeping.{Keeps};
+ghost use Rattle.um_keeper.specs.Keeping.{Keeps, MayHold};
 ghost use Rattle.um_keeper.specs.Opening.{HasLayout, IsStart, Leads, Replays, IsNoInput, IsUnread, IsUntaken, IsTakenUp, IsNextOf, IsRead, IsKept, IsSomeStore, IsAsBefore};
-ghost use Rattle.um_log.specs.Reading.{bytes_of, places_of};
-ghost use Rattle.um_model.specs.Bytes.{nothing_left};
-ghost use Rattle.um_model.specs.Disk.{Image, seen, Images, IsSettled, During};
+ghost use Rattle.um_keeper.specs.Opening.{IsBehind, IsStill, StaysFor, StaysForOne, IsUnwritten};
+ghost use Rattle.um_log.specs.Greatest.{IsGreatest};
+ghost use Rattle.um_model.specs.Disk.{seen, Images, IsSettled, During};
 ghost use Rattle.um_model.specs.Disk.{one_more};
-ghost use Rattle.um_model.specs.InputSpellings.{input_at, FitInput};
 ghost use Rattle.um_model.specs.Machine as model;
 ghost use Rattle.um_model.specs.Servable.{IsServable};
-ghost use Rattle.um_model.specs.StateSpellings.{state_at, FitState};
-ghost use Rattle.um_model.specs.Store.{body_limit, store_sectors, other, log_start};
-ghost use Rattle.um_model.specs.Stands.{IsStoreOf};
+ghost use Rattle.um_model.specs.Store.{body_limit, store_sectors, other, log_start, placed, records_of};
+ghost use Rattle.um_model.specs.Stands.{StandsFor, IsStoreOf};
 ghost use Rattle.um_model.specs.declared.layout.Layout as declared;
-ghost use Rattle.um_model.specs.declared.layout.Slot as declared_slot;
-ghost use Rattle.um_wire.specs.declared.refusal.Refusal as declared_refusal;
 ghost use Rattle.um_sector.specs.Refused.{CountsDevice, IsLost};
-ghost use Rattle.um_state.specs.View.{state_of, input_of};
+ghost use Rattle.um_state.specs.View.{input_of};
 
 use crate::keeper::{Keeper, OpenedStore};
 use std::alloc::{AllocError, Global};
 use um_engine::Engine;
-use um_log::{Log, Record, first_later, scan};
+use um_log::Log;
 use um_model::Layout;
 use um_sector::{Disk, SECTOR_BYTES, Sector};
 use um_slot::{Home, newest, read_superblock, write_other};
-use um_state::{Input, State};
-use um_wire::{Refusal, read_whole};
+use um_state::Input;
+use um_wire::{Refusal, read_whole, spell};
 
 /// What was taken up of a disk: the layout of its store, where the newest snapshot stands, the engine in the state that the store stands for,
-/// and how many records were replayed to it.
+/// and the log behind the records that were replayed to it.
 #[derive(Drop)]
 struct Found {
     layout: Layout,
     home: Home,
     engine: Engine,
-    records: usize,
+    log: Log,
 }
 
 /// What a keeper needs beside its disk.
@@ -70,36 +65,13 @@ fn read_layout<D: Disk>(disk: &mut D) -> Result<Layout, Refusal>
     Ok(layout)
 }
 
-/// The state that a body spells, all of it.
-fn read_state(alloc: Global, body: &[u8]) -> Result<Option<State>, AllocError>
-    ensures read { IfOk result (λ found. option_map state_of found ≡ nothing_left (state_at body.now)) }
-    ensures fits { IfOk result (λ found. IfSome found (λ state. FitState (state_of state))) }
-{
-    let Some((state, n)) = State::get(alloc, body)? else {
-        return Ok(None);
-    };
-    if n == body.len() {
-        Ok(Some(state))
-    } else {
-        Ok(None)
-    }
-}
-
-/// The input that a record spells, all of it.
-fn read_input(alloc: Global, bytes: &[u8]) -> Result<Option<Input>, AllocError>
-    ensures read { IfOk result (λ found. option_map input_of found ≡ nothing_left (input_at bytes.now)) }
-    ensures fits { IfOk result (λ found. IfSome found (λ input. FitInput (input_of input))) }
-{
-    read_whole(alloc, bytes)
-}
-
 /// The engine in the state that a body spells; None where it spells none that a store of this layout may hold.
 fn start_of(alloc: Global, layout: Layout, body: &[u8]) -> Result<Option<Engine>, AllocError>
     ensures start { IfOk result (λ made. IfSome made (λ e. IsStart layout body.now (state_in e))) }
-    ensures kept { IfOk result (λ made. IfSome made (λ e. IsKept layout (size_in e) (state_in e))) }
+    ensures sized { IfOk result (λ made. IfSome made (λ e. size_in e ≡ body_limit layout)) }
     ensures none { result ≡ Ok None → (s : model.State) → ¬ IsStart layout body.now s }
 {
-    let Some(state) = read_state(alloc, body)? else {
+    let Some(state) = read_whole(alloc, body)? else {
         return Ok(None);
     };
     Engine::of(alloc, state, layout.body_limit() as u64)
@@ -130,20 +102,34 @@ fn retake(engine: &mut Engine, input: &Input) -> Result<(), AllocError>
     Ok(())
 }
 
-/// Takes the steps of the inputs that records spell, one behind the other.
+/// Takes the steps of the inputs that the records of a log spell, one behind the other, each as it is read.
 ///
-/// E18 with the first sector of the first record that spells none; E15.
-fn replay(alloc: Global, engine: &mut Engine, records: &[Record]) -> Result<(), Refusal>
-    requires kept { IsServable (size_in engine.old) (state_in engine.old) × FitState (state_in engine.old) }
-    ensures ok { OnOk result (Replays (size_in engine.old) (bytes_of records.now) (state_in engine.old) (state_in engine.new)) }
-    ensures kept { OnOk result (IsServable (size_in engine.new) (state_in engine.new) × FitState (state_in engine.new)) }
-    ensures err { IfErr result (λ e. (e ≡ Refusal.NoMemory) ⊎ IsNoInput (places_of records.now) e) }
+/// E18 with the first sector of the first record that spells none; E15; E16 where a read fails.
+fn replay<D: Disk>(
+    alloc: Global,
+    disk: &mut D,
+    engine: &mut Engine,
+    log: &mut Log,
+) -> Result<(), Refusal>
+    requires kept { IsServable (size_in engine.old) (state_in engine.old) }
+    requires anew { (log.old.number ≡ 0) × (log.old.next ≡ log_start log.old.layout log.old.generation) }
+    ensures ok { OnOk result (IsTrue (D.honest disk.old) → Replays (size_in engine.old) (records_of log.old.layout log.old.generation (seen (D.past disk.old)))
+        (state_in engine.old) (state_in engine.new)) }
+    ensures all { OnOk result (IsTrue (D.honest disk.old) → IsBehind log.old.layout log.old.generation (seen (D.past disk.old)) log.new.number log.new.next) }
+    ensures kept { OnOk result (IsServable (size_in engine.new) (state_in engine.new)) }
+    ensures err { IfErr result (λ e. IsLost e ⊎ (IsTrue (D.honest disk.old)
+        → IsNoInput (placed (log_start log.old.layout log.old.generation) (records_of log.old.layout log.old.generation (seen (D.past disk.old)))) e)) }
     ensures size { size_in engine.new ≡ size_in engine.old }
+    ensures of { (log.new.layout ≡ log.old.layout) × (log.new.generation ≡ log.old.generation) }
+    ensures past { IsTrue (D.honest disk.old) → D.past disk.new ≡ D.past disk.old }
+    ensures failures { CountsDevice result (D.failures disk.old) (D.failures disk.new) }
+    ensures disk_size { D.size disk.new ≡ D.size disk.old }
+    ensures honest { D.honest disk.new ≡ D.honest disk.old }
 {
-    for record in records {
-        let Some(input) = read_input(alloc, &record.bytes)? else {
+    while let Some(found) = log.read_next(alloc, disk)? {
+        let Some(input) = read_whole(alloc, &found.bytes)? else {
             return Err(Refusal::Damaged {
-                sector: record.first as u64,
+                sector: found.first as u64,
             });
         };
         retake(engine, &input)?;
@@ -156,11 +142,12 @@ fn take_up<D: Disk>(alloc: Global, disk: &mut D) -> Result<Found, Refusal>
     ensures found { IfOk result (λ f. IsTrue (D.honest disk.old)
         → IsTakenUp (D.size disk.old) (seen (D.past disk.old)) f.layout f.home.slot f.home.generation (state_in f.engine)) }
     ensures read { IfOk result (λ f. IsTrue (D.honest disk.old)
-        → IsRead f.layout (seen (D.past disk.old)) (record { generation = f.home.generation; records = f.records })) }
+        → IsRead f.layout (seen (D.past disk.old)) (record { generation = f.home.generation; records = f.log.number })) }
     ensures kept { IfOk result (λ f. IsKept f.layout (size_in f.engine) (state_in f.engine)) }
-    ensures last { IfOk result (λ f. f.home.generation < 2 ^ 64 - 1) }
     ensures room { IfOk result (λ f. store_sectors f.layout ≤ D.size disk.old) }
-    ensures err { IfErr result (λ e. IsLost e ⊎ (IsTrue (D.honest disk.old) → IsUntaken (D.size disk.old) (seen (D.past disk.old)) e)) }
+    ensures of { IfOk result (λ f. (f.log.layout ≡ f.layout) × (f.log.generation ≡ f.home.generation)) }
+    ensures behind { IfOk result (λ f. IsTrue (D.honest disk.old) → IsBehind f.layout f.home.generation (seen (D.past disk.old)) f.log.number f.log.next) }
+    ensures err { IfErr result (λ e. IsLost e ⊎ (IsTrue (D.honest disk.old) → IsUnread (D.size disk.old) (seen (D.past disk.old)) e)) }
     ensures past { IsTrue (D.honest disk.old) → D.past disk.new ≡ D.past disk.old }
     ensures failures { CountsDevice result (D.failures disk.old) (D.failures disk.new) }
     ensures size { D.size disk.new ≡ D.size disk.old }
@@ -169,50 +156,68 @@ fn take_up<D: Disk>(alloc: Global, disk: &mut D) -> Result<Found, Refusal>
     let layout = read_layout(disk)?;
     let snapshot = newest(alloc, disk, layout)?;
     let home = snapshot.home;
-    if home.generation == u64::MAX {
-        return Err(Refusal::GenerationsSpent);
-    }
     let Some(mut engine) = start_of(alloc, layout, &snapshot.body)? else {
         let sector = layout.slot_start(home.slot) as u64 + 1;
         return Err(Refusal::Damaged { sector });
     };
-    let records = scan(alloc, disk, layout, home.generation)?;
-    replay(alloc, &mut engine, &records)?;
-    if let Some(sector) = first_later(disk, layout, home.generation)? {
-        return Err(Refusal::Damaged {
-            sector: sector as u64,
-        });
-    }
+    let mut log = Log::new(layout, home.generation);
+    replay(alloc, disk, &mut engine, &mut log)?;
     Ok(Found {
         layout,
         home,
         engine,
-        records: records.len(),
+        log,
     })
 }
 
-/// Writes the state as the next generation into the other slot.
-fn renew<D: Disk>(alloc: Global, disk: &mut D, found: Found) -> Result<Held, Refusal>
+/// The greatest generation that stands on the disk of a store, which isn't the last there is: E20 where it is.
+fn greatest_but_last<D: Disk>(disk: &mut D, log: &Log) -> Result<u64, Refusal>
+    ensures greatest { IfOk result (λ n. IsTrue (D.honest disk.old) → IsBehind log.now.layout log.now.generation (seen (D.past disk.old)) log.now.number log.now.next
+        → IsGreatest log.now.layout (seen (D.past disk.old)) log.now.generation n) }
+    ensures early { IfOk result (λ n. n < 2 ^ 64 - 1) }
+    ensures err { IfErr result (λ e. (e ≡ Refusal.Device) ⊎ ((e ≡ Refusal.GenerationsSpent)
+        × (IsTrue (D.honest disk.old) → IsBehind log.now.layout log.now.generation (seen (D.past disk.old)) log.now.number log.now.next
+        → IsGreatest log.now.layout (seen (D.past disk.old)) log.now.generation (2 ^ 64 - 1)))) }
+    ensures past { IsTrue (D.honest disk.old) → D.past disk.new ≡ D.past disk.old }
+    ensures failures { CountsDevice result (D.failures disk.old) (D.failures disk.new) }
+    ensures size { D.size disk.new ≡ D.size disk.old }
+    ensures honest { D.honest disk.new ≡ D.honest disk.old }
+{
+    let greatest = log.greatest_generation(disk)?;
+    if greatest == u64::MAX {
+        return Err(Refusal::GenerationsSpent);
+    }
+    Ok(greatest)
+}
+
+/// Writes the state into the other slot, as the generation behind the greatest that stands on the disk.
+fn renew<D: Disk>(alloc: Global, disk: &mut D, found: Found, greatest: u64) -> Result<Held, Refusal>
     requires kept { IsKept found.layout (size_in found.engine) (state_in found.engine) }
-    requires last { found.home.generation < 2 ^ 64 - 1 }
+    requires early { greatest < 2 ^ 64 - 1 }
     requires room { store_sectors found.layout ≤ D.size disk.old }
     ensures during { IsTrue (D.honest disk.old) → IsSettled (D.past disk.old)
         → IsTakenUp (D.size disk.old) (seen (D.past disk.old)) found.layout found.home.slot found.home.generation (state_in found.engine)
-        → During (D.past disk.old) (D.past disk.new) (IsAsBefore found.layout (D.past disk.old)) }
+        → IsGreatest found.layout (seen (D.past disk.old)) found.home.generation greatest
+        → During (D.past disk.old) (D.past disk.new) (IsStill found.layout (seen (D.past disk.old)) (state_in found.engine)) }
     ensures ok { IfOk result (λ held. IsTrue (D.honest disk.old) → IsSettled (D.past disk.old)
         → IsTakenUp (D.size disk.old) (seen (D.past disk.old)) found.layout found.home.slot found.home.generation (state_in found.engine)
+        → IsGreatest found.layout (seen (D.past disk.old)) found.home.generation greatest
         → Keeps (D.past disk.new) (D.size disk.new) held.log.layout held.home.slot held.home.generation held.log.number held.log.next (state_in held.engine)) }
     ensures held { IfOk result (λ held. (state_in held.engine ≡ state_in found.engine) × (size_in held.engine ≡ size_in found.engine)
-        × (held.log.layout ≡ found.layout) × (held.home.slot ≡ other found.home.slot) × (held.home.generation ≡ found.home.generation + 1) × (held.log.generation ≡ held.home.generation) × (held.log.number ≡ 0)
-        × (held.opened ≡ record { generation = found.home.generation; records = found.records })) }
+        × (held.log.layout ≡ found.layout) × (held.home.slot ≡ other found.home.slot) × (held.home.generation ≡ greatest + 1) × (held.log.generation ≡ held.home.generation) × (held.log.number ≡ 0)
+        × (held.opened ≡ record { generation = found.home.generation; records = found.log.number })) }
+    ensures kept { IfOk result (λ held. MayHold held.log.layout (size_in held.engine) (state_in held.engine)) }
     ensures failures { CountsDevice result (D.failures disk.old) (D.failures disk.new) }
     ensures err { IfErr result IsLost }
     ensures size { D.size disk.new ≡ D.size disk.old }
     ensures honest { D.honest disk.new ≡ D.honest disk.old }
 {
-    let mut body = Vec::new(alloc);
-    found.engine.state().put(&mut body)?;
-    let Some(home) = write_other(alloc, disk, found.layout, found.home, &body)? else {
+    let body = spell(alloc, found.engine.state())?;
+    let last = Home {
+        slot: found.home.slot,
+        generation: greatest,
+    };
+    let Some(home) = write_other(disk, found.layout, last, &body)? else {
         unreachable!();
     };
     Ok(Held {
@@ -221,21 +226,22 @@ fn renew<D: Disk>(alloc: Global, disk: &mut D, found: Found) -> Result<Held, Ref
         log: Log::new(found.layout, home.generation),
         opened: OpenedStore {
             generation: found.home.generation,
-            records: found.records,
+            records: found.log.number as usize,
         },
     })
 }
 
 /// Syncs, takes up the store that the disk holds, and writes its state as the next generation.
 pub(crate) fn recover<D: Disk>(alloc: Global, disk: &mut D) -> Result<Held, Refusal>
-    ensures during { IsTrue (D.honest disk.old) → (layout : declared.Layout) → Images (D.past disk.old) (IsSomeStore layout)
-        → During (D.past disk.old) (D.past disk.new) (IsAsBefore layout (D.past disk.old)) }
+    ensures stays { IfOk result (λ held. IsTrue (D.honest disk.old) → StaysFor held.log.layout (state_in held.engine) (D.past disk.old) (D.past disk.new)) }
+    ensures unwritten { IfErr result (λ e. IsTrue (D.honest disk.old)
+        → IsUnwritten (D.past disk.old) (D.past disk.new) ⊎ (IsLost e × StaysForOne (D.past disk.old) (D.past disk.new))) }
     ensures ok { IfOk result (λ held. IsTrue (D.honest disk.old)
         → Keeps (D.past disk.new) (D.size disk.new) held.log.layout held.home.slot held.home.generation held.log.number held.log.next (state_in held.engine)) }
     ensures taken { IfOk result (λ held. IsTrue (D.honest disk.old)
         → IsNextOf (D.size disk.old) (seen (D.past disk.old)) held.log.layout held.home.slot held.home.generation (state_in held.engine)) }
     ensures opened { IfOk result (λ held. IsTrue (D.honest disk.old) → IsRead held.log.layout (seen (D.past disk.old)) held.opened) }
-    ensures kept { IfOk result (λ held. IsKept held.log.layout (size_in held.engine) (state_in held.engine)) }
+    ensures kept { IfOk result (λ held. MayHold held.log.layout (size_in held.engine) (state_in held.engine)) }
     ensures anew { IfOk result (λ held. (held.log.generation ≡ held.home.generation) × (held.log.number ≡ 0)) }
     ensures err { IfErr result (λ e. IsLost e ⊎ (IsTrue (D.honest disk.old) → IsUntaken (D.size disk.old) (seen (D.past disk.old)) e)) }
     ensures failures { CountsDevice result (D.failures disk.old) (D.failures disk.new) }
@@ -244,23 +250,31 @@ pub(crate) fn recover<D: Disk>(alloc: Global, disk: &mut D) -> Result<Held, Refu
 {
     disk.sync()?;
     let found = take_up(alloc, disk)?;
-    renew(alloc, disk, found)
+    let greatest = greatest_but_last(disk, &found.log)?;
+    renew(alloc, disk, found, greatest)
 }
 
 impl<D: Disk> Keeper<D> {
-    /// Opens the store that a disk holds: it syncs, takes up what is read, and writes the state as the next generation into the other
-    /// slot, before anything is accepted. A refusal hands the disk back.
+    /// Opens the store that a disk holds: it syncs, takes up the state that what it reads stands for, and writes that state into the other
+    /// slot, as the generation behind the greatest that a header or a sector of the log tells, before anything is accepted. A refusal
+    /// hands the disk back.
     ///
     /// E19 where there is no sector 0, or it doesn't begin as that of a store; E22 where it is of another format. E18 with sector 0
     /// where it tells no layout for which the disk has room; with sector 1 where no slot has a header; with the newest body's first
-    /// sector where it spells no state that the store may hold; with a record's first sector where it spells no input; with a sector of
-    /// the log that is of a later generation than the newest header's. E20 where that generation is the last one. All of these come
-    /// before anything is written, and none but E20 where the disk holds a store for which it has room. E15; E16 where a disk call fails.
+    /// sector where it spells no state that the store may hold; with a record's first sector where it spells no input. E20 where that
+    /// greatest generation is the last one. Behind each of these nothing is written, and none but E20 comes where the disk has room for
+    /// the store, and stands for a state. E15; E16 where a disk call fails: then too each image stands for what it stood for.
     pub fn open(alloc: Global, mut disk: D) -> Result<Keeper<D>, (Refusal, D)>
         ensures during { IfOk result (λ k. IsTrue (D.honest disk) → (layout : declared.Layout) → Images (D.past disk) (IsSomeStore layout)
             → During (D.past disk) (D.past k.disk) (IsAsBefore layout (D.past disk))) }
         ensures during_err { IfErr result (λ e. IsTrue (D.honest disk) → (layout : declared.Layout) → Images (D.past disk) (IsSomeStore layout)
             → During (D.past disk) (D.past e.1) (IsAsBefore layout (D.past disk))) }
+        ensures stands { IfOk result (λ k. IsTrue (D.honest disk) → StandsFor k.log.layout (seen (D.past disk)) (state_in k.engine)) }
+        ensures stays { IfOk result (λ k. IsTrue (D.honest disk) → StaysFor k.log.layout (state_in k.engine) (D.past disk) (D.past k.disk)) }
+        ensures stored { IfOk result (λ k. IsTrue (D.honest disk) → Images (D.past k.disk) (λ image. IsStoreOf k.log.layout image (state_in k.engine))) }
+        ensures sized { IfOk result (λ k. size_in k.engine ≡ body_limit k.log.layout) }
+        ensures unwritten { IfErr result (λ e. IsTrue (D.honest disk)
+            → IsUnwritten (D.past disk) (D.past e.1) ⊎ (IsLost e.0 × StaysForOne (D.past disk) (D.past e.1))) }
         ensures ok { IfOk result (λ k. (k.failed ≡ false) × (k.log.number ≡ 0) × (D.honest k.disk ≡ D.honest disk) × (D.size k.disk ≡ D.size disk)) }
         ensures taken { IfOk result (λ k. IsTrue (D.honest disk)
             → IsNextOf (D.size disk) (seen (D.past disk)) k.log.layout k.home.slot k.home.generation (state_in k.engine)) }
@@ -284,17 +298,3 @@ impl<D: Disk> Keeper<D> {
         }
     }
 }
-
-/// A store for which the disk has room isn't refused for any cause of its reading, so that E20 alone may refuse it, in its last generation.
-pub fn a_store_is_taken_up()
-    ensures read { (count : ℕ) (layout : declared.Layout) (image : Image) (s : model.State) (e : declared_refusal.Refusal) → store_sectors layout ≤ count → IsStoreOf layout image s
-        → ¬ IsUnread count image e }
-    ensures spent { (count : ℕ) (layout : declared.Layout) (image : Image) (s : model.State) (e : declared_refusal.Refusal) → store_sectors layout ≤ count → IsStoreOf layout image s
-        → IsUntaken count image e → e ≡ Refusal.GenerationsSpent }
-{}
-
-/// What is taken up isn't refused.
-pub fn what_is_taken_up_is_not_refused()
-    ensures { (count : ℕ) (layout : declared.Layout) (image : Image) (slot : declared_slot.Slot) (generation : ℕ) (s : model.State) (e : declared_refusal.Refusal)
-        → IsTakenUp count image layout slot generation s → generation < 2 ^ 64 - 1 → ¬ IsUntaken count image e }
-{}

@@ -13,13 +13,31 @@ use Rattle.um_model.proofs.StoreLaws.{log_generation, log_size, is_of, none_of, 
 use Rattle.um_model.proofs.LogLaws.{record_size, all_or_one, read_below, records_front, sectors_push}
 use Rattle.um_sector.specs.Runs.{IsLaid, MaybeLaid, AfterRun}
 use Rattle.um_sector.proofs.RunLaws.{laid_maybe}
-use Rattle.um_log.specs.Appending.{EitherRecord, IsElsewhere}
+use Rattle.um_log.specs.Appending.{record_run, EitherRecord, IsElsewhere}
+use Rattle.std.proofs.lemmas.List.FromFn.{length-map-range_with_len, get_or-map-range_with_len}
 
-module _ (layout : Layout) (generation number next : ℕ) (bytes : List ℕ) (run : List Sector) (last : generation < 2 ^ 64) (some : 0 < length bytes) (short : length bytes ≤ record_limit layout generation)
-    (room : next + part_count (length bytes) ≤ log_end layout generation) (count : length run ≡ part_count (length bytes))
-    (each : (i : ℕ) → i < length run → slice_index_or run i [] ≡ log_sector generation number i (length bytes) (part_of bytes i)) where
+-- a record has so many sectors, each in its place
+pub record_count : (generation number : ℕ) (bytes : List ℕ) → length (record_run generation number bytes) ≡ part_count (length bytes)
+record_count generation number bytes = length-map-range_with_len (λ part. log_sector generation number part (length bytes) (part_of bytes part)) 0 (part_count (length bytes))
+
+pub record_each : (generation number : ℕ) (bytes : List ℕ) (part : ℕ) → part < part_count (length bytes)
+    → slice_index_or (record_run generation number bytes) part [] ≡ log_sector generation number part (length bytes) (part_of bytes part)
+record_each generation number bytes part low =
+    get_or-map-range_with_len (λ i. log_sector generation number i (length bytes) (part_of bytes i)) 0 (part_count (length bytes)) part part [] low (omega arith)
+
+module _ (layout : Layout) (generation number next : ℕ) (bytes : List ℕ) (last : generation < 2 ^ 64) (some : 0 < length bytes) (short : length bytes ≤ record_limit layout generation)
+    (room : next + part_count (length bytes) ≤ log_end layout generation) where
   abbrev size : ℕ
   size = part_count (length bytes)
+
+  abbrev run : List Sector
+  run = record_run generation number bytes
+
+  count : length run ≡ size
+  count = record_count generation number bytes
+
+  each : (i : ℕ) → i < length run → slice_index_or run i [] ≡ log_sector generation number i (length bytes) (part_of bytes i)
+  each i below = record_each generation number bytes i (omega (arith, below, count))
 
   module _ (old : Image) (records : List (List ℕ)) (end : IsLogEnd layout generation old records number next) (are : HasRecords layout generation old records) where
     -- what is behind the run is as before
@@ -137,8 +155,8 @@ before_record {layout} past {slot} {generation} {body} {records} bytes ready = s
 
 -- outside the run all is as in an image of before
 pub before_elsewhere : (past : Past) (at count : ℕ) → During past past (IsElsewhere past at count)
-before_elsewhere past at count = started past _ (λ image is. record { from = image; was = is; same = λ j out. refl })
+before_elsewhere past at _ = started past _ (λ image is. record { from = image; was = is; same = λ j out. refl })
 
 pub during_elsewhere : (old new : Past) (at count : ℕ) (run : List Sector) → length run ≡ count → During old new (AfterRun old at run) → During old new (IsElsewhere old at count)
-during_elsewhere old new at count run is =
+during_elsewhere old new at _ _ is =
     weaker old new _ _ (λ image m. record { from = m.from; was = m.was; same = λ j out. m.laid.outside j (subst (λ (n : ℕ). (j < at) ⊎ (at + n ≤ j)) (sym is) out) })

@@ -1,11 +1,17 @@
 -- What the store is while a record is written behind the others.
 -- No manual page has it: it is the project's own format (docs/FORMATS.md, "The store on its disk").
 -- The writing of records and the keeper stand on this file.
-use Rattle.std.specs.Prelude.{◌≡◌, ◌⊎◌, ◌+◌, ◌<◌, ◌≤◌, ℕ, List, [], ◌∷◌, ◌++◌}
-use Rattle.um_model.specs.Disk.{Image, Past, IsImage}
-use Rattle.um_model.specs.Store.{IsStore}
+use Rattle.std.specs.Prelude.{◌≡◌, ◌⊎◌, ◌+◌, ◌<◌, ◌≤◌, ℕ, List, [], ◌∷◌, ◌++◌, length, map}
+use Rattle.std.specs.List.{range_with_len}
+use Rattle.um_model.specs.Disk.{Sector, Image, Past, IsImage}
+use Rattle.um_model.specs.Store.{part_count, part_of, log_sector, IsStore}
 use Rattle.um_model.specs.declared.layout.Layout.{Layout}
 use Rattle.um_model.specs.declared.layout.Slot.{Slot}
+
+-- the sectors of a record as they are written, in their order
+abbrev pub record_run : ℕ → ℕ → List ℕ → List Sector
+record_run generation number bytes =
+    map (λ part. log_sector generation number part (length bytes) (part_of bytes part)) (range_with_len 0 (part_count (length bytes)))
 
 -- the store as it was, or with this record behind the others
 abbrev pub EitherRecord : Layout → Slot → ℕ → List ℕ → List (List ℕ) → List ℕ → Image → Type 0

@@ -1,3 +1,3 @@
 pub mod Reading
-pub mod Later
+pub mod Greatest
 pub mod Appending

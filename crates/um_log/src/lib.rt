@@ -2,13 +2,12 @@
 //! reads them again up to the first that isn't whole.
 #![tactic(auto)]
 
-mod later;
+mod greatest;
 mod laws;
 mod read;
 mod sectors;
 mod write;
 
-pub use later::first_later;
 pub use laws::{
     records_are_told, records_have_one_reading, unread_sectors_of_the_log_do_not_count,
 };

@@ -1,13 +1,15 @@
-ghost use Rattle.std.specs.Prelude.{◌≡◌, ◌↔◌, ◌+◌, ◌-◌, ◌*◌, ◌<◌, ◌≤◌, ℕ, length, IfOk, IfErr, IfSome, IsTrue};
+ghost use Rattle.std.specs.Prelude.{◌≡◌, ◌⊎◌, ◌↔◌, ◌+◌, ◌-◌, ◌<◌, ◌≤◌, ℕ, min, length, Ok, None, IfOk, IfErr, IfSome, OnOk, OnErr, IsTrue};
 ghost use Rattle.um_model.specs.Disk.{seen};
 ghost use Rattle.um_model.specs.Store.{part_count, log_start, log_end, HasRecords, placed};
 ghost use Rattle.um_sector.specs.Refused.{CountsDevice, IsLost};
-ghost use Rattle.um_log.specs.Reading.{ReadsRecord, Fits, bytes_of, places_of};
+ghost use Rattle.um_sector.specs.Runs.{CountsFailure};
+ghost use Rattle.um_log.specs.Reading.{ReadsRecord, ReadsNext, Fits, bytes_of, places_of};
 
 use crate::sectors::{PART_BYTES, SIZE_AT, log_sector, payload};
+use crate::write::Log;
 use std::alloc::Global;
 use um_model::Layout;
-use um_sector::{Disk, SECTOR_BYTES, Sector, u32_at};
+use um_sector::{Disk, Fault, SECTOR_BYTES, Sector, u32_at};
 use um_wire::Refusal;
 
 /// A record that was read.
@@ -28,7 +30,23 @@ pub fn fits(layout: Layout, generation: u64, next: usize, size: usize) -> bool
         && size.div_ceil(PART_BYTES as usize) <= layout.log_end(generation) - next
 }
 
-/// The record that begins at that sector, where it is whole.
+/// Reads the sector of a part of a record; that of the first part was read before.
+fn read_part<D: Disk>(disk: &mut D, at: usize, part: u32, sector: &mut Sector) -> Result<(), Fault>
+    requires { at + part ≤ usize.MAX }
+    ensures value { OnOk result (IsTrue (D.honest disk.old) → (part ≡ 0 → sector.old ≡ seen (D.past disk.old) at) → sector.new ≡ seen (D.past disk.old) (at + part)) }
+    ensures past { IsTrue (D.honest disk.old) → D.past disk.new ≡ D.past disk.old }
+    ensures calls { D.calls disk.new ≤ D.calls disk.old + min part 1 }
+    ensures failures { CountsFailure result (D.failures disk.old) (D.failures disk.new) }
+    ensures size { D.size disk.new ≡ D.size disk.old }
+    ensures honest { D.honest disk.new ≡ D.honest disk.old }
+{
+    if part == 0 {
+        return Ok(());
+    }
+    disk.read(at + part as usize, sector)
+}
+
+/// The record that begins at that sector, where it is whole. Each of its sectors is read once.
 fn record_at<D: Disk>(
     alloc: Global,
     disk: &mut D,
@@ -41,8 +59,8 @@ fn record_at<D: Disk>(
     ensures found { IfOk result (λ found. IsTrue (D.honest disk.old) → ReadsRecord layout generation (seen (D.past disk.old)) number at found) }
     ensures fits { IfOk result (λ found. IfSome found (λ bytes. Fits layout generation at (length bytes.items))) }
     ensures past { IsTrue (D.honest disk.old) → D.past disk.new ≡ D.past disk.old }
-    ensures calls { IfOk result (λ found. IfSome found (λ bytes. D.calls disk.new ≤ D.calls disk.old + 2 * part_count (length bytes.items))) }
-    ensures most_calls { D.calls disk.new ≤ D.calls disk.old + 2 * (log_end layout generation - at) }
+    ensures calls { IfOk result (λ found. IfSome found (λ bytes. D.calls disk.new ≤ D.calls disk.old + part_count (length bytes.items))) }
+    ensures most_calls { D.calls disk.new ≤ D.calls disk.old + (log_end layout generation - at) }
     ensures failures { CountsDevice result (D.failures disk.old) (D.failures disk.new) }
     ensures lost { IfErr result IsLost }
     ensures size { D.size disk.new ≡ D.size disk.old }
@@ -56,7 +74,7 @@ fn record_at<D: Disk>(
     }
     let mut bytes = Vec::new(alloc);
     for part in 0..size.div_ceil(PART_BYTES) {
-        disk.read(at + part as usize, &mut sector)?;
+        read_part(disk, at, part, &mut sector)?;
         let payload = payload(&sector, size - PART_BYTES * part);
         if sector != log_sector(generation, number, part, size, payload) {
             return Ok(None);
@@ -66,9 +84,57 @@ fn record_at<D: Disk>(
     Ok(Some(bytes))
 }
 
+impl Log {
+    /// Reads the record that stands where the log goes on, and goes on behind it; None where none is whole there.
+    ///
+    /// E15; E16 where a read fails. After each of them, and where there is none, the log is as before. Each sector of the record is read
+    /// once, and none behind it.
+    pub fn read_next<D: Disk>(
+        &mut self,
+        alloc: Global,
+        disk: &mut D,
+    ) -> Result<Option<Record>, Refusal>
+        ensures found { IfOk result (λ found. IsTrue (D.honest disk.old) → ReadsNext self.old.layout self.old.generation (seen (D.past disk.old)) self.old.number self.old.next found) }
+        ensures first { IfOk result (λ found. IfSome found (λ r. r.first ≡ self.old.next)) }
+        ensures goes { IfOk result (λ found. IfSome found (λ r. (self.new.number ≡ self.old.number + 1) × (self.new.next ≡ self.old.next + part_count (length r.bytes.items))
+            × (0 < length r.bytes.items))) }
+        ensures stays { result ≡ Ok None → self.new ≡ self.old }
+        ensures same { OnErr result (self.new ≡ self.old) }
+        ensures of { (self.new.layout ≡ self.old.layout) × (self.new.generation ≡ self.old.generation) }
+        ensures past { IsTrue (D.honest disk.old) → D.past disk.new ≡ D.past disk.old }
+        ensures calls { IfOk result (λ found. IfSome found (λ r. D.calls disk.new ≤ D.calls disk.old + part_count (length r.bytes.items))) }
+        ensures most_calls { D.calls disk.new ≤ D.calls disk.old + (log_end self.old.layout self.old.generation - self.old.next) }
+        ensures failures { CountsDevice result (D.failures disk.old) (D.failures disk.new) }
+        ensures lost { IfErr result IsLost }
+        ensures size { D.size disk.new ≡ D.size disk.old }
+        ensures honest { D.honest disk.new ≡ D.honest disk.old }
+    {
+        let Log {
+            layout,
+            generation,
+            number,
+            next,
+            ..
+        } = *self;
+        if next == layout.log_end(generation) {
+            return Ok(None);
+        }
+        let Some(bytes) = record_at(alloc, disk, layout, generation, number, next)? else {
+            return Ok(None);
+        };
+        *self = Log {
+            layout,
+            generation,
+            number: number + 1,
+            next: next + bytes.len().div_ceil(PART_BYTES as usize),
+        };
+        Ok(Some(Record { first: next, bytes }))
+    }
+}
+
 /// The records of a generation, up to the first that isn't whole, each with its first sector.
 ///
-/// E15; E16 where a read fails. It makes at most twice as many disk calls as the log has sectors.
+/// E15; E16 where a read fails. It makes at most as many disk calls as the log has sectors.
 pub fn scan<D: Disk>(
     alloc: Global,
     disk: &mut D,
@@ -78,25 +144,16 @@ pub fn scan<D: Disk>(
     ensures records { IfOk result (λ records. IsTrue (D.honest disk.old) → HasRecords layout generation (seen (D.past disk.old)) (bytes_of records.items)) }
     ensures places { IfOk result (λ records. places_of records.items ≡ placed (log_start layout generation) (bytes_of records.items)) }
     ensures past { IsTrue (D.honest disk.old) → D.past disk.new ≡ D.past disk.old }
-    ensures calls { D.calls disk.new ≤ D.calls disk.old + 2 * layout.log_sectors }
+    ensures calls { D.calls disk.new ≤ D.calls disk.old + layout.log_sectors }
     ensures failures { CountsDevice result (D.failures disk.old) (D.failures disk.new) }
     ensures lost { IfErr result IsLost }
     ensures size { D.size disk.new ≡ D.size disk.old }
     ensures honest { D.honest disk.new ≡ D.honest disk.old }
 {
     let mut records = Vec::new(alloc);
-    let mut at = layout.log_start(generation);
-    let mut number = 0;
-    while at < layout.log_end(generation) {
-        match record_at(alloc, disk, layout, generation, number, at)? {
-            Some(bytes) => {
-                let parts = bytes.len().div_ceil(PART_BYTES as usize);
-                records.push(Record { first: at, bytes })?;
-                at += parts;
-                number += 1;
-            }
-            None => return Ok(records),
-        }
+    let mut log = Log::new(layout, generation);
+    while let Some(found) = log.read_next(alloc, disk)? {
+        records.push(found)?;
     }
     Ok(records)
 }

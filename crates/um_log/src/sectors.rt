@@ -1,9 +1,11 @@
-ghost use Rattle.std.specs.Prelude.{◌≡◌, ◌-◌, ◌^◌, ◌≤◌, ◌<◌, ℕ, [], min, length, take, drop, IfOk, slice_index_or};
+ghost use Rattle.std.specs.Prelude.{◌≡◌, ◌+◌, ◌-◌, ◌^◌, ◌≤◌, ◌<◌, min, length, take, drop, IsTrue, OnOk};
+ghost use Rattle.um_model.specs.Disk.{seen, During, IsSettled};
 ghost use Rattle.um_model.specs.Store as store;
-ghost use Rattle.um_model.specs.Store.{part_count, part_of};
+ghost use Rattle.um_model.specs.Store.{part_count};
+ghost use Rattle.um_sector.specs.Runs.{CountsFailure, IsLaid, AfterRun};
+ghost use Rattle.um_log.specs.Appending.{record_run};
 
-use std::alloc::{AllocError, Global};
-use um_sector::{Fields, Sector, next_chunk};
+use um_sector::{Disk, Fault, Fields, Sector, next_chunk};
 
 /// The first bytes of a sector of the log.
 pub const FORMAT: &[u8] = b"UMLG";
@@ -47,25 +49,56 @@ pub fn payload(sector: &Sector, left: u32) -> &[u8]
     }
 }
 
-/// The sectors of a record.
-pub fn record_sectors(
-    alloc: Global,
+/// Writes the sectors of a record one behind the other, from sector `at` on.
+///
+/// Each image that a crash leaves during it is one of before, with any of these sectors in their places.
+fn write_record<D: Disk>(
+    disk: &mut D,
+    at: usize,
     generation: u64,
     number: u64,
     bytes: &[u8],
-) -> Result<Vec<Sector>, AllocError>
-    requires { length bytes.now < 2 ^ 32 }
-    ensures count { IfOk result (λ run. length run.items ≡ part_count (length bytes.now)) }
-    ensures each { IfOk result (λ run. (i : ℕ) → i < length run.items
-        → slice_index_or run.items i [] ≡ store.log_sector generation number i (length bytes.now) (part_of bytes.now i)) }
+) -> Result<(), Fault>
+    requires short { length bytes.now < 2 ^ 32 }
+    requires end { at + part_count (length bytes.now) ≤ usize.MAX }
+    ensures during { IsTrue (D.honest disk.old) → During (D.past disk.old) (D.past disk.new) (AfterRun (D.past disk.old) at (record_run generation number bytes.now)) }
+    ensures ok { OnOk result (IsTrue (D.honest disk.old) → IsLaid (seen (D.past disk.old)) at (record_run generation number bytes.now) (seen (D.past disk.new))) }
+    ensures calls { D.calls disk.new ≤ D.calls disk.old + part_count (length bytes.now) }
+    ensures failures { CountsFailure result (D.failures disk.old) (D.failures disk.new) }
+    ensures size { D.size disk.new ≡ D.size disk.old }
+    ensures honest { D.honest disk.new ≡ D.honest disk.old }
 {
     let size = bytes.len() as u32;
-    let mut run = Vec::new(alloc);
     let mut rest = bytes;
     for part in 0..size.div_ceil(PART_BYTES) {
         let (chunk, behind) = next_chunk(rest, PART_BYTES as usize);
-        run.push(log_sector(generation, number, part, size, chunk))?;
+        let sector = log_sector(generation, number, part, size, chunk);
+        disk.write(at + part as usize, &sector)?;
         rest = behind;
     }
-    Ok(run)
+    Ok(())
+}
+
+/// Writes the sectors of a record one behind the other, from sector `at` on, and a sync behind them. It takes no memory.
+///
+/// Each image that a crash leaves during it is one of before, with any of these sectors in their places; after Ok they all stand there.
+pub fn write_record_synced<D: Disk>(
+    disk: &mut D,
+    at: usize,
+    generation: u64,
+    number: u64,
+    bytes: &[u8],
+) -> Result<(), Fault>
+    requires short { length bytes.now < 2 ^ 32 }
+    requires end { at + part_count (length bytes.now) ≤ usize.MAX }
+    ensures during { IsTrue (D.honest disk.old) → During (D.past disk.old) (D.past disk.new) (AfterRun (D.past disk.old) at (record_run generation number bytes.now)) }
+    ensures ok { OnOk result (IsTrue (D.honest disk.old) → IsLaid (seen (D.past disk.old)) at (record_run generation number bytes.now) (seen (D.past disk.new))) }
+    ensures settled { OnOk result (IsTrue (D.honest disk.old) → IsSettled (D.past disk.new)) }
+    ensures calls { D.calls disk.new ≤ D.calls disk.old + part_count (length bytes.now) + 1 }
+    ensures failures { CountsFailure result (D.failures disk.old) (D.failures disk.new) }
+    ensures size { D.size disk.new ≡ D.size disk.old }
+    ensures honest { D.honest disk.new ≡ D.honest disk.old }
+{
+    write_record(disk, at, generation, number, bytes)?;
+    disk.sync()
 }

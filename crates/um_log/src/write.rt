@@ -4,14 +4,13 @@ ghost use Rattle.um_log.specs.Appending.{IsElsewhere};
 ghost use Rattle.um_model.specs.Store.{log_start, log_end, part_count, GoesOn};
 ghost use Rattle.um_log.specs.Appending.{EitherRecord};
 ghost use Rattle.um_model.specs.declared.layout.Slot.{Slot};
-ghost use Rattle.um_sector.specs.Refused.{CountsDevice, IsLost};
+ghost use Rattle.um_sector.specs.Refused.{CountsDevice};
 ghost use Rattle.um_log.specs.Reading.{Fits};
 
 use crate::read::fits;
-use crate::sectors::record_sectors;
-use std::alloc::Global;
+use crate::sectors::{PART_BYTES, write_record_synced};
 use um_model::Layout;
-use um_sector::{Disk, write_run_synced};
+use um_sector::Disk;
 use um_wire::Refusal;
 
 /// Where the log of a generation goes on.
@@ -56,14 +55,9 @@ impl Log {
     /// goes on behind it. No sector but those of the record is written, and the next record goes behind them: so a sector of the
     /// log is written at most once a generation.
     ///
-    /// E15, with nothing written; E16 where a disk call fails. After each of them, and where the record doesn't fit, the log is as
-    /// before, but after E16 its sectors may have been written. It makes at most one disk call more than the record has parts.
-    pub fn append<D: Disk>(
-        &mut self,
-        alloc: Global,
-        disk: &mut D,
-        bytes: &[u8],
-    ) -> Result<bool, Refusal>
+    /// E16 where a disk call fails: it takes no memory. After it, and where the record doesn't fit, the log is as before, but after E16 its
+    /// sectors may have been written. It makes at most one disk call more than the record has parts.
+    pub fn append<D: Disk>(&mut self, disk: &mut D, bytes: &[u8]) -> Result<bool, Refusal>
         ensures during { IsTrue (D.honest disk.old) → (slot : Slot) (body : List ℕ) (records : List (List ℕ))
             → GoesOn self.old.layout (D.past disk.old) slot self.old.generation body records self.old.generation self.old.number self.old.next
             → During (D.past disk.old) (D.past disk.new) (EitherRecord self.old.layout slot self.old.generation body records bytes.now) }
@@ -78,23 +72,21 @@ impl Log {
         ensures same { (result ≡ Ok true) ⊎ (self.new ≡ self.old) }
         ensures room { (result ≡ Ok false) ↔ ¬ (Fits self.old.layout self.old.generation self.old.next (length bytes.now)) }
         ensures unwritten { result ≡ Ok false → disk.new ≡ disk.old }
-        ensures kept { IfErr result (λ e. (e ≡ Refusal.Device) ⊎ (disk.new ≡ disk.old)) }
         ensures calls { D.calls disk.new ≤ D.calls disk.old + part_count (length bytes.now) + 1 }
         ensures failures { CountsDevice result (D.failures disk.old) (D.failures disk.new) }
-        ensures err { IfErr result IsLost }
+        ensures err { IfErr result (λ e. e ≡ Refusal.Device) }
         ensures size { D.size disk.new ≡ D.size disk.old }
         ensures honest { D.honest disk.new ≡ D.honest disk.old }
     {
         if !self.fits(bytes.len()) {
             return Ok(false);
         }
-        let run = record_sectors(alloc, self.generation, self.number, bytes)?;
-        write_run_synced(disk, self.next, &run)?;
+        write_record_synced(disk, self.next, self.generation, self.number, bytes)?;
         *self = Log {
             layout: self.layout,
             generation: self.generation,
             number: self.number + 1,
-            next: self.next + run.len(),
+            next: self.next + bytes.len().div_ceil(PART_BYTES as usize),
         };
         Ok(true)
     }

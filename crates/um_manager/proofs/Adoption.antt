@@ -18,7 +18,7 @@ use Rattle.um_manager.specs.Opening.{Signalled, Adopted}
 use Rattle.um_manager.specs.Orders.{signals}
 use Rattle.um_manager.specs.Places.{Place}
 use Rattle.um_manager.specs.Stores.{Submits}
-use Rattle.um_manager.specs.Turns.{now, Answers, Leaves}
+use Rattle.um_manager.specs.Turns.{now, Answers, Tells, Leaves}
 
 joined : (units : ByUnit UnitState) (sub : SubState) (ms ks ns ls : List ℕ) → AreIn units sub ms ks → AreIn units sub ns ls → AreIn units sub (ms ++ ns) (ks ++ ls)
 joined units sub ms ks ns ls none q = q
@@ -73,7 +73,8 @@ adopted place store moment s t old heard grown termed new live marks marked d e 
       of_live = told.of_live;
       tales_are = kill.no_tale ∙ term.no_tale ∙ grew.no_tale ∙ told.tales_are;
       answers = sub.answers;
-      answered = subst (λ l. Answers place.size store s l sub.answers t) told.inputs_are sub.answered;
+      answered = subst (λ l. Answers place s l sub.answers t) told.inputs_are sub.answered;
+      tells = subst (λ l. Tells store place.size s l sub.answers t) told.inputs_are sub.tells;
       order = sub.order;
       termed = term.chosen;
       are_termed = term.are;
@@ -85,6 +86,6 @@ adopted place store moment s t old heard grown termed new live marks marked d e 
       refusals = grew.refusals;
       refusals_are = kill.no_refusal ∙ term.no_refusal ∙ grew.refusals_are ∙ ap (λ l. l ++ grew.refusals) told.no_refusal;
       marks_are = λ few n is. grew.marks_are few n is ∙ ap (λ b. b || has n grew.refusals) (marks_live n);
-      left = λ x. subst (λ l. Leaves place store s l sub.answers d e) told.inputs_are (sub.left x);
+      left = λ x. subst (λ l. Leaves place s l sub.answers d e) told.inputs_are (sub.left x);
       stored = sub.stored;
     }

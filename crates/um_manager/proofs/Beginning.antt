@@ -1,15 +1,16 @@
 -- What the parts of an opening come to together.
-use Rattle.std.proofs.Common.{◌≡◌, inl, inr, ◌∙◌, ◌++◌, ℕ, zero, suc, List, [], ◌∷◌, take, Bool, false, Result, Ok, Err, append-nil, refl, sym, ap, subst}
+use Rattle.std.proofs.Common.{◌≡◌, inl, inr, ◌∙◌, ◌++◌, ℕ, zero, suc, List, [], ◌∷◌, take, Bool, true, false, if◌then◌else◌, Result, Ok, Err, append-nil, refl, sym, ap, subst}
 use Rattle.std.specs.Bool.{IsTrue}
 use Rattle.std.specs.Prelude.{IfErr}
 use Rattle.std.proofs.lemmas.Result.{err_from_is_err_and}
 use Rattle.std.specs.Result.{IsErrAnd}
+use Rattle.um_keeper.specs.Answering.{Answer, is_turned_away, where_step, taken}
 use Rattle.um_keeper.specs.Keeping.{IsBegun}
 use Rattle.um_keeper.specs.Opening.{IsAsBefore}
 use Rattle.um_model.proofs.DiskLaws.{weaker, followed}
 use Rattle.um_model.specs.Children.{Call, Tale, tales}
 use Rattle.um_model.specs.Disk.{Past, Image, During}
-use Rattle.um_model.specs.Lives.{HasInOrder, no_others}
+use Rattle.um_model.specs.Lives.{HasInOrder, no_others, has, between}
 use Rattle.um_model.specs.Machine.{State, Input, Reply, Step, Run, goes}
 use Rattle.um_model.specs.Service.{Action}
 use Rattle.um_model.specs.Store.{body_limit}
@@ -55,27 +56,44 @@ begun_then layout s t i reply actions xs image step b = record { count = suc b.c
 -- what a crash leaves of the boot and of what follows
 pub boot_then : (place : Place) (s t : State) (i : Input) (reply : Reply) (xs : List Input) (d e f : Past) → place.size ≡ body_limit place.layout → Step place.size s i reply [] t
     → During d e (IsBegun place.layout s (i ∷ [])) → During e f (IsBegun place.layout t xs) → During d f (IsBegun place.layout s (i ∷ xs))
-boot_then place s t i reply xs d e f on step first then =
+boot_then place s t i reply xs d e f on step first more =
     followed d e f (IsBegun place.layout s (i ∷ xs))
     (weaker d e (IsBegun place.layout s (i ∷ [])) (IsBegun place.layout s (i ∷ xs)) (begun_first place.layout s i xs) first)
-    (weaker e f (IsBegun place.layout t xs) (IsBegun place.layout s (i ∷ xs)) (λ image. begun_then place.layout s t i reply [] xs image (subst (λ n. Step n s i reply [] t) on step)) then)
+    (weaker e f (IsBegun place.layout t xs) (IsBegun place.layout s (i ∷ xs)) (λ image. begun_then place.layout s t i reply [] xs image (subst (λ n. Step n s i reply [] t) on step)) more)
 
 -- an opening as a whole
 pub opening_left : (layout : Layout) (s : State) (inputs : List Input) (d e f : Past) → During d e (IsAsBefore layout d) → During e f (IsBegun layout s inputs)
     → During d f (IsOfOpening layout d s inputs)
-opening_left layout s inputs d e f first then =
+opening_left layout s inputs d e f first more =
     followed d e f (IsOfOpening layout d s inputs)
     (weaker d e (IsAsBefore layout d) (IsOfOpening layout d s inputs) (λ image is. inl is) first)
-    (weaker e f (IsBegun layout s inputs) (IsOfOpening layout d s inputs) (λ image is. inr is) then)
+    (weaker e f (IsBegun layout s inputs) (IsOfOpening layout d s inputs) (λ image is. inr is) more)
+
+none_had : (inputs : List Input) → HasInOrder [] inputs
+none_had [] = no_others
+none_had (input ∷ inputs) = between (none_had inputs)
+
+had_where : (away : Bool) (input : Input) (some all : List Input) → HasInOrder some all → HasInOrder ((if away then [] else input ∷ []) ++ some) (input ∷ all)
+had_where true input some all had = between had
+had_where false input some all had = has had
+
+had_more : (answer : Answer) (input : Input) (some all : List Input) → HasInOrder some all → HasInOrder (where_step answer input ++ some) (input ∷ all)
+had_more (Ok given) input some all had = has had
+had_more (Err e) input some all had = had_where (is_turned_away e) input some all had
+
+taken_had : (inputs : List Input) (answers : List Answer) → HasInOrder (taken inputs answers) inputs
+taken_had [] answers = no_others
+taken_had (input ∷ inputs) [] = none_had (input ∷ inputs)
+taken_had (input ∷ inputs) (answer ∷ answers) = had_more answer input (taken inputs answers) inputs (taken_had inputs answers)
 
 cut_short : (place : Place) (moment : ℕ) (boot : List ℕ) (sectors : ℕ) (first : Past) (a b : Now) (told : List Tale) (some : List Input) → IsFound sectors first place.layout a.state
     → tales b.past ≡ tales a.past ++ told → HasInOrder some (adoptions moment told) → During first a.disk (IsAsBefore place.layout first)
     → During a.disk b.disk (IsBegun place.layout a.state (boot_at moment boot ∷ some)) → During first b.disk (IsOfRefused place.layout moment boot sectors first a.past b.past)
-cut_short place moment boot sectors first a b told some found tales_are are before then =
+cut_short place moment boot sectors first a b told some found tales_are are before more =
     followed first a.disk b.disk (IsOfRefused place.layout moment boot sectors first a.past b.past)
     (weaker first a.disk (IsAsBefore place.layout first) (IsOfRefused place.layout moment boot sectors first a.past b.past) (λ image is. inl is) before)
     (weaker a.disk b.disk (IsBegun place.layout a.state (boot_at moment boot ∷ some)) (IsOfRefused place.layout moment boot sectors first a.past b.past)
-    (λ image is. inr (record { state = a.state; found = found; told = told; tales_are = tales_are; some = some; are = are; begun = is })) then)
+    (λ image is. inr (record { state = a.state; found = found; told = told; tales_are = tales_are; some = some; are = are; begun = is })) more)
 
 -- what a crash leaves of an opening that is refused once the store is taken up
 pub refused_left : (place : Place) (moment : ℕ) (boot : List ℕ) (sectors : ℕ) (first : Past) (a b : Now) (e : Refusal) → place.size ≡ body_limit place.layout → IsTrue place.trusted
@@ -86,9 +104,10 @@ refused_left place moment boot sectors first a b e on sure found before (unboote
 refused_left place moment boot sectors first a b e on sure found before (unadopted differs began) =
     let mid = began.mid in
     let adopted = began.adopted in
-    let (some, are, then) = adopted.left sure in
-    cut_short place moment boot sectors first a b adopted.told some found (adopted.tales_are ∙ ap (λ l. tales l ++ adopted.told) began.asked_none) are before
-    (boot_then place a.state mid.state (boot_at moment boot) began.reply some a.disk mid.disk b.disk on began.booted (began.left sure) then)
+    let inputs = adoptions moment adopted.told in
+    let some = taken inputs adopted.answers in
+    cut_short place moment boot sectors first a b adopted.told some found (adopted.tales_are ∙ ap (λ l. tales l ++ adopted.told) began.asked_none) (taken_had inputs adopted.answers) before
+    (boot_then place a.state mid.state (boot_at moment boot) began.reply some a.disk mid.disk b.disk on began.booted (began.left sure) (adopted.left sure))
 
 pub opened_place : {m n : ℕ} {k l : Layout} {h i f : Bool} → n ≡ m → l ≡ k → i ≡ h → f ≡ false → place m k (is_trusted i f) ≡ place n l h
 opened_place {m} {n} {k} {l} {h} {i} {f} size layout honest working =

@@ -1,24 +1,81 @@
 -- What a crash leaves of turns that follow each other.
-use Rattle.std.proofs.Common.{◌≡◌, ◌++◌, ℕ, zero, suc, List, [], ◌∷◌, map, take, Bool, true, false, if◌then◌else◌, Result, Ok, Err, append_assoc, refl, sym, ap, subst}
+use Rattle.std.proofs.Common.{◌≡◌, ◌≢◌, ◌⊎◌, ◌∙◌, ◌++◌, inl, inr, ℕ, zero, suc, List, [], ◌∷◌, length, map, replicate, take, Bool, true, false, if◌then◌else◌, Result, Ok, Err, append_assoc, refl, sym, ap, subst, true≢false, arith}
+use Rattle.std.proofs.lemmas.Bool.{false≢true}
 use Rattle.std.specs.Bool.{IsTrue}
-use Rattle.um_keeper.specs.Answering.{Answer, Answered, accepted, refused, turned_away, AreAnswered, all_answered, and_next, is_turned_away, where_step, taken}
+use Rattle.std.specs.List.{AllByRecursion}
+use Rattle.um_engine.specs.OfStore.{is_of_store}
+use Rattle.um_keeper.specs.Answering.{Answer, Answered, accepted, refused, turned_away, AreAnswered, all_answered, and_next, denied, is_turned_away, where_step, taken}
 use Rattle.um_keeper.specs.Keeping.{IsBegun}
 use Rattle.um_model.proofs.DiskLaws.{weaker}
 use Rattle.um_model.specs.Disk.{Image, Past, During}
-use Rattle.um_model.specs.Lives.{Offer, AreUnanswered, none, turned, lost, MayLeave, holds, takes, turns_away, HasInOrder, no_others, has, between}
+use Rattle.um_model.specs.Lives.{Outcome, Offer, AreUnanswered, none, turned, lost, MayLeave, holds, takes, turns_away}
 use Rattle.um_model.specs.Lives as lives
 use Rattle.um_model.specs.Machine.{State, Input, Run, rests, goes}
 use Rattle.um_model.specs.Stands.{IsStoreOf}
 use Rattle.um_model.specs.Store.{body_limit}
 use Rattle.um_model.specs.declared.layout.Layout.{Layout}
 use Rattle.um_wire.specs.declared.refusal.Refusal.{Refusal}
+use Rattle.um_wire.specs.declared.refusal.Refusal.TheVariants.{BadRequest, UnknownVerb, BadName, NotFound, Masked, BadSetting, NotLoaded, Clash, OrderingCycle, JobConflict, Exists, BadPath, TooLarge, NoRoom, NoMemory, Device, Reopen, Damaged, NotFormatted, GenerationsSpent, NoSuchJob, OtherLayout}
+use Rattle.um_manager.proofs.Offering.{length-told, same_refusal}
 use Rattle.um_manager.specs.Clients.{AllTurned, no_turn, and_turn}
-use Rattle.um_manager.specs.Crashes.{outcome_of, offers, offered_in, all_offers, IsLeft}
+use Rattle.um_manager.specs.Crashes.{outcome_of, offers, offered_in, all_offers, untold, untold_offers, IsLeft}
 use Rattle.um_manager.specs.Places.{Place}
 use Rattle.um_manager.specs.Replies.{reply_in}
-use Rattle.um_manager.specs.Turns.{Now, Leaves, Turned}
+use Rattle.um_manager.specs.Turns.{Now, Answers, each, fell, reopen, Turned}
 use Rattle.um_manager.specs.declared.pieces.Piece.{Piece}
 use Rattle.um_manager.specs.declared.script.Step.{Step}
+
+-- ---- what came of an input
+
+-- what came of an input that was refused so: it was turned away, or not
+data Came (e : Refusal) : Type 0 where
+  away : is_turned_away e ≡ true → outcome_of (Err e) ≡ lives.turned_away → Came e
+  lost_it : e ≡ Device → is_turned_away e ≡ false → outcome_of (Err e) ≡ lives.unanswered → Came e
+  again : e ≡ Reopen → Came e
+  own : is_turned_away e ≡ false → outcome_of (Err e) ≡ lives.answered (reply_in (Err e)) → Came e
+
+came : (e : Refusal) → Came e
+came BadRequest = own refl refl
+came (UnknownVerb verb) = own refl refl
+came (BadName text) = own refl refl
+came (NotFound unit) = own refl refl
+came (Masked unit) = own refl refl
+came (BadSetting unit reason) = own refl refl
+came (NotLoaded unit) = own refl refl
+came (Clash unit) = own refl refl
+came (OrderingCycle units) = own refl refl
+came (JobConflict unit) = own refl refl
+came (Exists path) = own refl refl
+came (BadPath path) = own refl refl
+came (TooLarge limit) = own refl refl
+came NoRoom = own refl refl
+came NoMemory = away refl refl
+came Device = lost_it refl refl refl
+came Reopen = again refl
+came (Damaged sector) = own refl refl
+came NotFormatted = own refl refl
+came GenerationsSpent = away refl refl
+came (NoSuchJob unit) = own refl refl
+came OtherLayout = own refl refl
+
+-- what came of an input that its step refused
+came_own : (e : Refusal) → is_of_store e ≡ false → is_turned_away e ≡ false → outcome_of (Err e) ≡ lives.answered (reply_in (Err e))
+came_own e of_step stays = by (came e)
+  where
+    by : Came e → outcome_of (Err e) ≡ lives.answered (reply_in (Err e))
+    by (away is o) = absurd (false≢true (sym stays ∙ is))
+    by (lost_it is isnt o) = absurd (false≢true (sym of_step ∙ ap is_of_store is))
+    by (again is) = absurd (false≢true (sym of_step ∙ ap is_of_store is))
+    by (own isnt o) = o
+
+came_away : (e : Refusal) → is_turned_away e ≡ true → outcome_of (Err e) ≡ lives.turned_away
+came_away e is = by (came e)
+  where
+    by : Came e → outcome_of (Err e) ≡ lives.turned_away
+    by (away so o) = o
+    by (lost_it device isnt o) = absurd (false≢true (sym isnt ∙ is))
+    by (again told) = absurd (false≢true (sym (ap is_turned_away told) ∙ is))
+    by (own isnt o) = absurd (false≢true (sym isnt ∙ is))
 
 -- ---- turns that ended
 
@@ -26,10 +83,10 @@ one_answered : (layout : Layout) (s t : State) (input : Input) (answer : Answer)
     → MayLeave layout t rest image → MayLeave layout s (record { input = input; outcome = outcome_of answer } ∷ rest) image
 one_answered layout s t input answer rest image (accepted {reply} {actions} step ok) m = takes reply actions refl step m
 one_answered layout s t input answer rest image (refused {e} of_step stays step) m =
-    subst (λ away. MayLeave layout s (record { input = input; outcome = if away then lives.turned_away else lives.answered (reply_in (Err e)) } ∷ rest) image) (sym stays)
+    subst (λ o. MayLeave layout s (record { input = input; outcome = o } ∷ rest) image) (sym (came_own e of_step stays))
     (takes (reply_in (Err e)) [] refl step m)
-one_answered layout s t input answer rest image (turned_away {e} away) m =
-    subst (λ x. MayLeave layout s (record { input = input; outcome = if x then lives.turned_away else lives.answered (reply_in (Err e)) } ∷ rest) image) (sym away) (turns_away m)
+one_answered layout s t input answer rest image (turned_away {e} is) m =
+    subst (λ o. MayLeave layout s (record { input = input; outcome = o } ∷ rest) image) (sym (came_away e is)) (turns_away m)
 
 answered_before : (layout : Layout) (s t : State) (inputs : List Input) (answers : List Answer) (rest : List Offer) (image : Image) → AreAnswered (body_limit layout) s inputs answers t
     → MayLeave layout t rest image → MayLeave layout s (offers inputs answers ++ rest) image
@@ -43,81 +100,115 @@ turns_before place steps a b no_turn rest image on m = m
 turns_before place steps a b (and_turn {step} {steps = later} {mid = mid} turn turns) rest image on m =
     subst (λ l. MayLeave place.layout a.state l image) (sym (append_assoc (offers (offered_in turn) turn.answers) (all_offers turns) rest))
     (answered_before place.layout a.state mid.state (offered_in turn) turn.answers (all_offers turns ++ rest) image
-    (subst (λ n. AreAnswered n a.state (offered_in turn) turn.answers mid.state) on turn.answered)
+    (subst (λ n. AreAnswered n a.state (offered_in turn) turn.answers mid.state) on (turn.tells.ok refl))
     (turns_before place later mid b turns rest image on m))
 
 -- ---- the turn that a crash meets
 
-record Last (layout : Layout) (s : State) (inputs : List Input) (image : Image) : Type 0 where
-  last : List Offer
-  last_are : map (λ (offer : Offer). offer.input) last ≡ inputs
-  unanswered : AreUnanswered last
-  leaves : MayLeave layout s last image
+-- none is E17
+abbrev NoReopen : List Answer → Type 0
+NoReopen answers = AllByRecursion (λ (answer : Answer). answer ≢ Err Reopen) answers
 
-none_taken : (layout : Layout) (s : State) (inputs : List Input) (image : Image) → IsStoreOf layout image s → Last layout s inputs image
-none_taken layout s [] image store = record { last = []; last_are = refl; unanswered = none; leaves = holds store none }
-none_taken layout s (input ∷ inputs) image store =
-    let rest = none_taken layout s inputs image store in
-    let all = record { input = input; outcome = lives.unanswered } ∷ rest.last in
-    record { last = all; last_are = ap (λ l. input ∷ l) rest.last_are; unanswered = lost rest.unanswered; leaves = holds store (lost rest.unanswered) }
+one_stays : {size : ℕ} {s t : State} {input : Input} {answer : Answer} → Answered size s input answer t → answer ≢ Err Reopen
+one_stays (accepted step ok) is = cc
+one_stays (refused {e} of_step stays step) is = false≢true (sym of_step ∙ ap is_of_store (same_refusal is))
+one_stays (turned_away {e} is) told = false≢true (sym (ap is_turned_away (same_refusal told)) ∙ is)
+
+each_stays : {size : ℕ} {s t : State} {inputs : List Input} {answers : List Answer} → AreAnswered size s inputs answers t → NoReopen answers
+each_stays all_answered = tt
+each_stays (and_next one more) = (one_stays one, each_stays more)
+
+faults_stay : (count : ℕ) → NoReopen (replicate count (Err Device))
+faults_stay zero = tt
+faults_stay (suc count) = ((λ is. cc), faults_stay count)
+
+denied_stay : (meant : List Answer) (count : ℕ) → NoReopen meant → NoReopen (map denied meant ++ replicate count (Err Device))
+denied_stay [] count stay = faults_stay count
+denied_stay (Ok given ∷ meant) count stay = ((λ is. cc), denied_stay meant count stay.1)
+denied_stay (Err e ∷ meant) count stay = (stay.0, denied_stay meant count stay.1)
+
+stays : (place : Place) (s t : State) (inputs : List Input) (answers : List Answer) → IsTrue place.trusted → Answers place s inputs answers t → NoReopen answers
+stays place s t inputs answers sure (each are) = each_stays are
+stays place s t inputs answers sure (fell back) = subst NoReopen (sym back.are) (denied_stay back.meant (length back.rest) (each_stays back.were))
+stays place s t inputs answers sure (reopen failed are same) = absurd (true≢false (sym sure ∙ failed))
+
+-- what came of an input whose answer isn't told yet, and whether it was taken
+untold_taken : (answer : Answer) (input : Input) → answer ≢ Err Reopen
+    → ((untold (outcome_of answer) ≡ lives.unanswered) × (where_step answer input ≡ input ∷ [])) ⊎ ((untold (outcome_of answer) ≡ lives.turned_away) × (where_step answer input ≡ []))
+untold_taken (Ok given) input differs = inl (refl, refl)
+untold_taken (Err e) input differs = by (came e)
+  where
+    stays_in : is_turned_away e ≡ false → where_step (Err e) input ≡ input ∷ []
+    stays_in isnt = ap (λ is. if is then [] else input ∷ []) isnt
+
+    by : Came e → ((untold (outcome_of (Err e)) ≡ lives.unanswered) × (where_step (Err e) input ≡ input ∷ [])) ⊎ ((untold (outcome_of (Err e)) ≡ lives.turned_away) × (where_step (Err e) input ≡ []))
+    by (away is o) = inr (ap untold o, ap (λ is. if is then [] else input ∷ []) is)
+    by (lost_it is isnt o) = inl (ap untold o, stays_in isnt)
+    by (again is) = absurd (differs (ap Err is))
+    by (own isnt o) = inl (ap untold o, stays_in isnt)
+
+one_untold : (outcome : Outcome) (input : Input) (rest : List Offer) → AreUnanswered rest → AreUnanswered (record { input = input; outcome = untold outcome } ∷ rest)
+one_untold (lives.answered reply) input rest others = lost others
+one_untold lives.turned_away input rest others = turned others
+one_untold lives.unanswered input rest others = lost others
+
+all_untold : (inputs : List Input) (answers : List Answer) → AreUnanswered (untold_offers inputs answers)
+all_untold [] answers = none
+all_untold (input ∷ inputs) [] = none
+all_untold (input ∷ inputs) (answer ∷ answers) = one_untold (outcome_of answer) input (untold_offers inputs answers) (all_untold inputs answers)
+
+inputs_untold : (inputs : List Input) (answers : List Answer) → length answers ≡ length inputs → map (λ (offer : Offer). offer.input) (untold_offers inputs answers) ≡ inputs
+inputs_untold [] answers same = refl
+inputs_untold (input ∷ inputs) [] same = absurd (omega (arith, same))
+inputs_untold (input ∷ inputs) (answer ∷ answers) same = ap (λ l. input ∷ l) (inputs_untold inputs answers (omega (arith, same)))
 
 still : (layout : Layout) (s t : State) (image : Image) → Run (body_limit layout) s [] t → IsStoreOf layout image t → IsStoreOf layout image s
 still layout s t image rests store = store
 
-some_taken : (layout : Layout) (s t : State) (some inputs : List Input) (count : ℕ) (image : Image) → HasInOrder some inputs → Run (body_limit layout) s (take count some) t
-    → IsStoreOf layout image t → Last layout s inputs image
-some_taken layout s t some inputs zero image order run store = none_taken layout s inputs image (still layout s t image run store)
-some_taken layout s t some inputs (suc count) image no_others run store = none_taken layout s [] image (still layout s t image run store)
-some_taken layout s t some inputs (suc count) image (has {input} {some = more} {all = others} order) (goes {t = mid} reply actions step run) store =
-    let rest = some_taken layout mid t more others count image order run store in
-    record {
-      last = record { input = input; outcome = lives.unanswered } ∷ rest.last;
-      last_are = ap (λ l. input ∷ l) rest.last_are;
-      unanswered = lost rest.unanswered;
-      leaves = takes reply actions tt step rest.leaves;
-    }
-some_taken layout s t some inputs (suc count) image (between {input} {all = others} order) run store =
-    let rest = some_taken layout s t some others (suc count) image order run store in
-    record {
-      last = record { input = input; outcome = lives.turned_away } ∷ rest.last;
-      last_are = ap (λ l. input ∷ l) rest.last_are;
-      unanswered = turned rest.unanswered;
-      leaves = turns_away rest.leaves;
-    }
+-- one input of those that were taken
+one_taken : (layout : Layout) (s t : State) (input : Input) (outcome : Outcome) (rest : List Offer) (more : List Input) (count : ℕ) (image : Image) → outcome ≡ lives.unanswered → AreUnanswered rest
+    → Run (body_limit layout) s (take count (input ∷ more)) t → IsStoreOf layout image t
+    → ((u : State) (n : ℕ) → Run (body_limit layout) u (take n more) t → MayLeave layout u rest image)
+    → MayLeave layout s (record { input = input; outcome = outcome } ∷ rest) image
+one_taken layout s t input outcome rest more zero image is others run store behind =
+    subst (λ o. MayLeave layout s (record { input = input; outcome = o } ∷ rest) image) (sym is) (holds (still layout s t image run store) (lost others))
+one_taken layout s t input outcome rest more (suc count) image is others (goes {t = mid} reply actions step run) store behind =
+    subst (λ o. MayLeave layout s (record { input = input; outcome = o } ∷ rest) image) (sym is) (takes reply actions tt step (behind mid count run))
 
-begun_left : (place : Place) (steps : List Step) (a b : Now) (turns : AllTurned place steps a b) (some inputs : List Input) (image : Image) → place.size ≡ body_limit place.layout
-    → HasInOrder some inputs → IsBegun place.layout b.state some image → IsLeft place.layout a.state (all_offers turns) inputs image
-begun_left place steps a b turns some inputs image on order begun =
-    let last = some_taken place.layout b.state begun.state some inputs begun.count image order begun.run begun.store in
-    record { last = last.last; last_are = last.last_are; unanswered = last.unanswered; leaves = turns_before place steps a b turns last.last image on last.leaves }
+some_taken : (layout : Layout) (s t : State) (inputs : List Input) (answers : List Answer) (count : ℕ) (image : Image) → NoReopen answers
+    → Run (body_limit layout) s (take count (taken inputs answers)) t → IsStoreOf layout image t → MayLeave layout s (untold_offers inputs answers) image
+some_taken layout s t [] answers zero image stay run store = holds (still layout s t image run store) none
+some_taken layout s t [] answers (suc count) image stay run store = holds (still layout s t image run store) none
+some_taken layout s t (input ∷ inputs) [] zero image stay run store = holds (still layout s t image run store) none
+some_taken layout s t (input ∷ inputs) [] (suc count) image stay run store = holds (still layout s t image run store) none
+some_taken layout s t (input ∷ inputs) (answer ∷ answers) count image stay run store = by (untold_taken answer input stay.0)
+    (λ u n behind. some_taken layout u t inputs answers n image stay.1 behind store)
+  where
+    rest : List Offer
+    rest = untold_offers inputs answers
 
-none_had : (inputs : List Input) → HasInOrder [] inputs
-none_had [] = no_others
-none_had (input ∷ inputs) = between (none_had inputs)
+    at : (front : List Input) → where_step answer input ≡ front → Run (body_limit layout) s (take count (front ++ taken inputs answers)) t
+    at front is = subst (λ l. Run (body_limit layout) s (take count (l ++ taken inputs answers)) t) is run
 
-had_where : (away : Bool) (input : Input) (some all : List Input) → HasInOrder some all → HasInOrder ((if away then [] else input ∷ []) ++ some) (input ∷ all)
-had_where true input some all had = between had
-had_where false input some all had = has had
+    by : ((untold (outcome_of answer) ≡ lives.unanswered) × (where_step answer input ≡ input ∷ [])) ⊎ ((untold (outcome_of answer) ≡ lives.turned_away) × (where_step answer input ≡ []))
+        → ((u : State) (n : ℕ) → Run (body_limit layout) u (take n (taken inputs answers)) t → MayLeave layout u rest image)
+        → MayLeave layout s (record { input = input; outcome = untold (outcome_of answer) } ∷ rest) image
+    by (inl (is, there)) further = one_taken layout s t input (untold (outcome_of answer)) rest (taken inputs answers) count image is (all_untold inputs answers) (at (input ∷ []) there) store further
+    by (inr (is, there)) further = subst (λ o. MayLeave layout s (record { input = input; outcome = o } ∷ rest) image) (sym is) (turns_away (further s count (at [] there)))
 
-had_more : (answer : Answer) (input : Input) (some all : List Input) → HasInOrder some all → HasInOrder (where_step answer input ++ some) (input ∷ all)
-had_more (Ok given) input some all had = has had
-had_more (Err e) input some all had = had_where (is_turned_away e) input some all had
-
-taken_had : (inputs : List Input) (answers : List Answer) → HasInOrder (taken inputs answers) inputs
-taken_had [] answers = no_others
-taken_had (input ∷ inputs) [] = none_had (input ∷ inputs)
-taken_had (input ∷ inputs) (answer ∷ answers) = had_more answer input (taken inputs answers) inputs (taken_had inputs answers)
-
-left_by : (place : Place) (steps : List Step) (a b : Now) (turns : AllTurned place steps a b) (store : Result Unit Refusal) (inputs : List Input) (answers : List Answer) (d e : Past)
-    → place.size ≡ body_limit place.layout → Leaves place store b.state inputs answers d e → During d e (IsLeft place.layout a.state (all_offers turns) inputs)
-left_by place steps a b turns (Ok done) inputs answers d e on leaves =
-    weaker d e (IsBegun place.layout b.state (taken inputs answers)) (IsLeft place.layout a.state (all_offers turns) inputs)
-    (λ image. begun_left place steps a b turns (taken inputs answers) inputs image on (taken_had inputs answers)) leaves
-left_by place steps a b turns (Err x) inputs answers d e on leaves =
-    weaker d e (IsBegun place.layout b.state leaves.0) (IsLeft place.layout a.state (all_offers turns) inputs)
-    (λ image. begun_left place steps a b turns leaves.0 inputs image on leaves.1) leaves.2
+begun_left : (place : Place) (steps : List Step) (a b c : Now) (turns : AllTurned place steps a b) (inputs : List Input) (answers : List Answer) (image : Image) → place.size ≡ body_limit place.layout
+    → IsTrue place.trusted → Answers place b.state inputs answers c.state → IsBegun place.layout b.state (taken inputs answers) image
+    → IsLeft place.layout a.state (all_offers turns) inputs answers image
+begun_left place steps a b c turns inputs answers image on sure told begun = record {
+  last_are = inputs_untold inputs answers (length-told place b.state c.state inputs answers told);
+  unanswered = all_untold inputs answers;
+  leaves = turns_before place steps a b turns (untold_offers inputs answers) image on
+      (some_taken place.layout b.state begun.state inputs answers begun.count image (stays place b.state c.state inputs answers sure told) begun.run begun.store);
+}
 
 pub crash_leaves : (place : Place) (steps : List Step) (a b c : Now) (turns : AllTurned place steps a b) (store : Result Unit Refusal) (moment : ℕ) (pieces : List Piece)
     → place.size ≡ body_limit place.layout → IsTrue place.trusted → (next : Turned place store moment pieces b c)
-    → During b.disk c.disk (IsLeft place.layout a.state (all_offers turns) (offered_in next))
-crash_leaves place steps a b c turns store moment pieces on sure next = left_by place steps a b turns store (offered_in next) next.answers b.disk c.disk on (next.left sure)
+    → During b.disk c.disk (IsLeft place.layout a.state (all_offers turns) (offered_in next) next.answers)
+crash_leaves place steps a b c turns store moment pieces on sure next =
+    weaker b.disk c.disk (IsBegun place.layout b.state (taken (offered_in next) next.answers)) (IsLeft place.layout a.state (all_offers turns) (offered_in next) next.answers)
+    (λ image. begun_left place steps a b c turns (offered_in next) next.answers image on sure next.answered) (next.left sure)

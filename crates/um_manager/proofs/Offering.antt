@@ -1,10 +1,11 @@
 -- What it comes to that a list of inputs is offered: answered one behind the other, or refused as a whole.
-use Rattle.std.proofs.Common.{◌≡◌, ◌⊎◌, ◌↔◌, inl, inr, ℕ, suc, List, [], ◌∷◌, length, map, replicate, Bool, true, false, IsTrue, Result, Ok, Err, refl, sym, ap, subst, ◌∙◌, true≢false, arith}
-use Rattle.um_keeper.specs.Answering.{Answer, AreAnswered, all_answered, and_next, turned_away, all_asked, taken}
+use Rattle.std.proofs.Common.{◌≡◌, ◌≢◌, ◌⊎◌, ◌↔◌, inl, inr, ◌+◌, ℕ, suc, List, [], ◌∷◌, ◌++◌, length, length-append, map, replicate, Bool, true, false, if◌then◌else◌, IsTrue, Result, Ok, Err, refl, sym, ap, subst, ◌∙◌, true≢false, arith}
+use Rattle.std.proofs.lemmas.List.{length-map, length-replicate}
+use Rattle.std.proofs.lemmas.List.Elements.{All-contains, All-replicate}
+use Rattle.um_keeper.specs.Answering.{Answer, AreAnswered, all_answered, and_next, FellBack, HasFault, denied, turned_away, all_asked, taken}
 use Rattle.um_keeper.specs.Keeping.{IsBegun}
 use Rattle.um_model.specs.Children.{Call}
-use Rattle.um_model.specs.Disk.{Past, Image, During}
-use Rattle.um_model.specs.Lives.{HasInOrder}
+use Rattle.um_model.specs.Disk.{Past, Image, Images, During}
 use Rattle.um_model.specs.Machine.{State, Input, Reply, Refusal, rests}
 use Rattle.um_model.specs.Numbers.{AreNew, started_numbers}
 use Rattle.um_model.specs.Stands.{IsStoreOf}
@@ -18,7 +19,7 @@ use Rattle.um_manager.specs.Orders.{Grew}
 use Rattle.um_manager.specs.Replies.{reply_in}
 use Rattle.um_manager.specs.Stores.{refusal_of, StoreAnswers, Submits}
 use Rattle.um_manager.specs.Places.{Place, is_trusted}
-use Rattle.um_manager.specs.Turns.{Answers, Leaves, Holds, Submitted, now}
+use Rattle.um_manager.specs.Turns.{Answers, each, fell, reopen, Tells, Leaves, Holds, Submitted, now}
 use Rattle.um_manager.specs.declared.submitting.StoreFault.{StoreFault}
 use Rattle.um_manager.specs.declared.submitting.StoreFault.TheVariants as fault
 
@@ -26,6 +27,23 @@ use Rattle.um_manager.specs.declared.submitting.StoreFault.TheVariants as fault
 pub length-answers : (size : ℕ) (s t : State) (inputs : List Input) (answers : List Answer) → AreAnswered size s inputs answers t → length answers ≡ length inputs
 length-answers size s t inputs answers all_answered = refl
 length-answers size s t inputs answers (and_next one more) = ap suc (length-answers size _ t _ _ more)
+
+length-fell : (size : ℕ) (s t : State) (inputs : List Input) (answers : List Answer) → FellBack size s inputs answers t → length answers ≡ length inputs
+length-fell size s t inputs answers f =
+    let denials : List Answer = replicate (length f.rest) (Err refusal.Device) in
+    let told = ap (λ (l : List Answer). length l) f.are in
+    let both = length-append (map denied f.meant) denials in
+    let meant = length-map f.meant denied in
+    let left = length-replicate {A = Answer} (length f.rest) (Err refusal.Device) in
+    let judged = length-answers size s f.u f.judged f.meant f.were in
+    let parts = ap (λ (l : List Input). length l) f.parts in
+    let inputs_of = length-append f.judged f.rest in
+    omega (arith, told, both, meant, left, judged, parts, inputs_of)
+
+pub length-told : (place : Place) (s t : State) (inputs : List Input) (answers : List Answer) → Answers place s inputs answers t → length answers ≡ length inputs
+length-told place s t inputs answers (each are) = length-answers place.size s t inputs answers are
+length-told place s t inputs answers (fell back) = length-fell place.size s t inputs answers back
+length-told place s t inputs answers (reopen lost are same) = ap (λ (l : List Answer). length l) are ∙ length-replicate (length inputs) (Err refusal.Reopen)
 
 -- each may be turned away for want of memory
 all_denied : (size : ℕ) (s : State) (inputs : List Input) → AreAnswered size s inputs (replicate (length inputs) (Err refusal.NoMemory)) s
@@ -45,63 +63,25 @@ none_new n = record { rises = omega arith; within = λ i number is. cc; once = �
 
 -- ---- refusals
 
+pub ok_not_err : {T E : Type 0} {x : T} {e : E} → Ok x ≡ Err e → ⊥
+ok_not_err p = cc
+
 err_not_ok : {T E : Type 0} {x : T} {e : E} → Err e ≡ Ok x → ⊥
 err_not_ok p = cc
 
-other_than : {r : declared.Refusal} → r ≡ refusal.NoMemory → r ≡ refusal.Device → ⊥
-other_than p q = cc
+memory_not_device : refusal.NoMemory ≡ refusal.Device → ⊥
+memory_not_device p = cc
 
-no_device : {T : Type 0} {r : Result T declared.Refusal} {x : T} → r ≡ Ok x → r ≡ Err refusal.Device → ⊥
-no_device p q = cc
+reopen_not_device : refusal.Reopen ≡ refusal.Device → ⊥
+reopen_not_device p = cc
 
-no_memory : {T : Type 0} {r : Result T declared.Refusal} {e : declared.Refusal} → r ≡ Err e → e ≡ refusal.NoMemory → r ≡ Err refusal.Device → ⊥
-no_memory p q d = cc
+pub same_refusal : {T E : Type 0} {d e : E} → ◌≡◌ {A = Result T E} (Err d) (Err e) → d ≡ e
+same_refusal p = cc
 
-reopen_first : {T : Type 0} {r : Result T declared.Refusal} {e : declared.Refusal} → r ≡ Err e → e ≡ refusal.Reopen → r ≡ Err refusal.Device → ⊥
-reopen_first p q d = cc
-
-reopen_then : {q : Result Unit declared.Refusal} → q ≡ Err refusal.Reopen → q ≡ Err refusal.Device → ⊥
-reopen_then p q = cc
-
--- a keeper that was working goes on, unless the device failed
-pub stays_working : {T : Type 0} (r : Result T declared.Refusal) (o n : Bool) → o ≡ false → (r ≡ Err refusal.Device → ⊥)
-    → ((n ≡ true) ↔ ((o ≡ true) ⊎ (r ≡ Err refusal.Device))) → n ≡ false
-stays_working r o false working none failed = refl
-stays_working r o true working none failed = elim (failed.0 refl) [ inl was ↦ absurd (true≢false (sym was ∙ working)) | inr device ↦ absurd (none device) ]
-
-pub working_on : {T : Type 0} (r : Result T declared.Refusal) (x : T) (o n : Bool) → r ≡ Ok x → o ≡ false
-    → ((n ≡ true) ↔ ((o ≡ true) ⊎ (r ≡ Err refusal.Device))) → n ≡ false
-working_on r x o n is working failed = stays_working r o n working (no_device is) failed
-
--- whether a call on the disk failed, told by what all inputs are answered
-pub failed_answered : {T : Type 0} (r : Result T declared.Refusal) (x : T) (q : Result Unit declared.Refusal) {o n : Bool} → r ≡ Ok x → q ≡ Ok tt
-    → ((n ≡ true) ↔ ((o ≡ true) ⊎ (r ≡ Err refusal.Device))) → ((n ≡ true) ↔ ((o ≡ true) ⊎ (q ≡ Err refusal.Device)))
-failed_answered r x q is done exactly = (
-  (λ n. elim (exactly.0 n) [ inl was ↦ inl was | inr device ↦ absurd (no_device is device) ]),
-  (λ either. elim either [ inl was ↦ exactly.1 (inl was) | inr device ↦ absurd (no_device done device) ]),
-)
-
-pub failed_denied : {T : Type 0} (r : Result T declared.Refusal) (e : declared.Refusal) (f : StoreFault) (q : Result Unit declared.Refusal) {o n : Bool} → r ≡ Err e → e ≡ refusal_of f
-    → StoreAnswers f q → ((n ≡ true) ↔ ((o ≡ true) ⊎ (r ≡ Err refusal.Device))) → ((n ≡ true) ↔ ((o ≡ true) ⊎ (q ≡ Err refusal.Device)))
-failed_denied r e fault.NoMemory q is of answers exactly = (
-  (λ n. elim (exactly.0 n) [ inl was ↦ inl was | inr device ↦ absurd (no_memory is of device) ]),
-  (λ either. elim either [ inl was ↦ exactly.1 (inl was) | inr device ↦ absurd (no_device answers device) ]),
-)
-failed_denied r e fault.Device q is of answers exactly = (
-  (λ n. elim (exactly.0 n) [ inl was ↦ inl was | inr device ↦ inr answers ]),
-  (λ either. elim either [ inl was ↦ exactly.1 (inl was) | inr device ↦ exactly.1 (inr (is ∙ ap Err of)) ]),
-)
-failed_denied r e fault.Reopen q is of answers exactly = (
-  (λ n. elim (exactly.0 n) [ inl was ↦ inl was | inr device ↦ absurd (reopen_first is of device) ]),
-  (λ either. elim either [ inl was ↦ exactly.1 (inl was) | inr device ↦ absurd (reopen_then answers device) ]),
-)
+differs : {b : Bool} → b ≡ true → b ≡ false → ⊥
+differs p q = true≢false (sym p ∙ q)
 
 -- ---- the disk
-
--- the same of what is told of both
-pub or_ap : {A X Y : Type 0} {x y : X} (f : X → Y) → A ⊎ (x ≡ y) → A ⊎ (f x ≡ f y)
-or_ap f (inl a) = inl a
-or_ap f (inr same) = inr (ap f same)
 
 -- where the disk is to be trusted, it does what it answers and no call on it failed
 pub trusts : (honest failed : Bool) → IsTrue (is_trusted honest failed) → IsTrue honest × (failed ≡ false)
@@ -111,23 +91,40 @@ trusts honest false t = (t, refl)
 pub trusted_in : {honest sure failed : Bool} → honest ≡ sure → failed ≡ false → IsTrue sure → IsTrue (is_trusted honest failed)
 trusted_in {honest} {sure} {failed} same working is = subst (λ f. IsTrue (is_trusted honest f)) (sym working) (subst IsTrue (sym same) is)
 
+pub untrusted : (honest : Bool) {failed : Bool} → failed ≡ true → is_trusted honest failed ≡ false
+untrusted honest is = ap (is_trusted honest) is
+
 -- a store of the state is one of a beginning of any inputs
 pub none_begun : (layout : Layout) (s : State) (inputs : List Input) (image : Image) → IsStoreOf layout image s → IsBegun layout s inputs image
 none_begun layout s inputs image is = record { count = 0; state = s; run = rests; store = is }
 
-kept_on : (place : Place) (s : State) (inputs : List Input) (answers : List Answer) (d e : Past) → (e ≡ d) × Holds place s d → Leaves place (Ok tt) s inputs answers d e
-kept_on place s inputs answers d e (same, holds) =
+-- where nothing was offered yet
+pub not_begun : {layout : Layout} {s : State} {past : Past} (inputs : List Input) → Images past (λ image. IsStoreOf layout image s) → During past past (IsBegun layout s inputs)
+not_begun {layout} {s} {past} inputs stored = started past (IsBegun layout s inputs) (λ image is. none_begun layout s inputs image (stored image is))
+
+kept_on : (place : Place) (s : State) (inputs : List Input) (answers : List Answer) (d e : Past) → e ≡ d → Holds place s d → Leaves place s inputs answers d e
+kept_on place s inputs answers d e same holds =
     subst (λ x. During d x (IsBegun place.layout s (taken inputs answers))) (sym same)
     (started d (IsBegun place.layout s (taken inputs answers)) (λ image is. none_begun place.layout s (taken inputs answers) image (holds image is)))
 
+-- ---- a list that is refused as a whole
+
+-- no input that is refused so is answered E16
+no_fault_of : (n : ℕ) (e : declared.Refusal) → e ≢ refusal.Device → ¬ HasFault (replicate n (Err e))
+no_fault_of n e other has =
+    All-contains (λ (a : Answer). a ≢ Err refusal.Device) (replicate n (Err e)) (Err refusal.Device)
+    (All-replicate (λ (a : Answer). a ≢ Err refusal.Device) n (Err e) (λ is. other (same_refusal is))) has refl
+
 -- a refusal of all inputs is one of each
 denied_as : (place : Place) (e : declared.Refusal) (store : Result Unit declared.Refusal) (s : State) (inputs : List Input) (past : List Call) (marks : List ℕ) (d f : Past) (replies : List Reply) (h w : Bool)
-    → Answers place.size store s inputs (replicate (length inputs) (Err e)) s → replies ≡ replicate (length inputs) (Refusal (refused_of e))
-    → (IsTrue place.trusted → Leaves place store s inputs (replicate (length inputs) (Err e)) d f) → (IsTrue place.trusted → store ≡ Ok tt → Holds place s f)
+    → Answers place s inputs (replicate (length inputs) (Err e)) s → Tells store place.size s inputs (replicate (length inputs) (Err e)) s
+    → replies ≡ replicate (length inputs) (Refusal (refused_of e))
+    → (IsTrue place.trusted → Leaves place s inputs (replicate (length inputs) (Err e)) d f) → (IsTrue place.trusted → store ≡ Ok tt → Holds place s f)
     → Submitted place store inputs replies h w (now s past marks [] d) (now s past marks [] f)
-denied_as place e store s inputs past marks d f replies h w answered is leaves holds = record {
+denied_as place e store s inputs past marks d f replies h w answered tells is leaves holds = record {
   answers = replicate (length inputs) (Err e);
   answered = answered;
+  tells = tells;
   order = subst (λ actions. AreNew s.next s.next (started_numbers actions)) (sym (none_asked (length inputs) e)) (none_new s.next);
   replies_are = is ∙ denied_replies (length inputs) e;
   grew = λ ho wh. subst (λ actions. Grew s.units past past marks marks actions) (sym (none_asked (length inputs) e)) (grew_none s.units past marks);
@@ -135,48 +132,122 @@ denied_as place e store s inputs past marks d f replies h w answered is leaves h
   stored = holds;
 }
 
+tells_memory : (size : ℕ) (s : State) (inputs : List Input) → Tells (Ok tt) size s inputs (replicate (length inputs) (Err refusal.NoMemory)) s
+tells_memory size s inputs = record {
+  ok = λ is. all_denied size s inputs;
+  device = ((λ is. absurd (ok_not_err is)), (λ has. absurd (no_fault_of (length inputs) refusal.NoMemory memory_not_device has)));
+  other = λ e is otherwise. absurd (ok_not_err is);
+}
+
+tells_reopen : (size : ℕ) (s : State) (inputs : List Input) → Tells (Err refusal.Reopen) size s inputs (replicate (length inputs) (Err refusal.Reopen)) s
+tells_reopen size s inputs = record {
+  ok = λ is. absurd (err_not_ok is);
+  device = ((λ is. absurd (reopen_not_device (same_refusal is))), (λ has. absurd (no_fault_of (length inputs) refusal.Reopen reopen_not_device has)));
+  other = λ e is otherwise. (ap (λ x. replicate (length inputs) (Err x)) (same_refusal is), refl);
+}
+
 denied_at : (place : Place) (f : StoreFault) (result : Result Unit declared.Refusal) (s : State) (inputs : List Input) (past : List Call) (marks : List ℕ) (d e : Past) (replies : List Reply) (h w : Bool)
     → StoreAnswers f result → replies ≡ replicate (length inputs) (Refusal (refused_of (refusal_of f)))
-    → (IsTrue place.trusted → (some : List Input) × HasInOrder some inputs × During d e (IsBegun place.layout s some))
-    → (f ≡ fault.NoMemory → IsTrue place.trusted → (e ≡ d) × Holds place s d)
+    → (f ≡ fault.Reopen → place.trusted ≡ false) → e ≡ d → (IsTrue place.trusted → Holds place s d)
     → Submits place result inputs replies h w (now s past marks [] d) (now s past marks [] e)
-denied_at place fault.NoMemory result s inputs past marks d e replies h w answers is lost held =
+denied_at place fault.NoMemory result s inputs past marks d e replies h w answers is lost same held =
     subst (λ r. Submits place r inputs replies h w (now s past marks [] d) (now s past marks [] e)) (sym answers) (
       (λ x. cc),
-      denied_as place refusal.NoMemory (Ok tt) s inputs past marks d e replies h w (all_denied place.size s inputs) is
-          (λ t. kept_on place s inputs (replicate (length inputs) (Err refusal.NoMemory)) d e (held refl t))
-          (λ t ok. let (same, holds) = held refl t in subst (λ x. Holds place s x) (sym same) holds),
+      denied_as place refusal.NoMemory (Ok tt) s inputs past marks d e replies h w (each (all_denied place.size s inputs)) (tells_memory place.size s inputs) is
+          (λ t. kept_on place s inputs (replicate (length inputs) (Err refusal.NoMemory)) d e same (held t))
+          (λ t ok. subst (λ x. Holds place s x) (sym same) (held t)),
     )
-denied_at place fault.Device result s inputs past marks d e replies h w answers is lost held =
-    subst (λ r. Submits place r inputs replies h w (now s past marks [] d) (now s past marks [] e)) (sym answers)
-    ((λ x. cc), denied_as place refusal.Device (Err refusal.Device) s inputs past marks d e replies h w (refl, refl) is lost (λ t ok. absurd (err_not_ok ok)))
-denied_at place fault.Reopen result s inputs past marks d e replies h w answers is lost held =
-    subst (λ r. Submits place r inputs replies h w (now s past marks [] d) (now s past marks [] e)) (sym answers)
-    ((λ x. cc), denied_as place refusal.Reopen (Err refusal.Reopen) s inputs past marks d e replies h w (refl, refl) is lost (λ t ok. absurd (err_not_ok ok)))
+denied_at place fault.Reopen result s inputs past marks d e replies h w answers is lost same held =
+    subst (λ r. Submits place r inputs replies h w (now s past marks [] d) (now s past marks [] e)) (sym answers) (
+      (λ x. cc),
+      denied_as place refusal.Reopen (Err refusal.Reopen) s inputs past marks d e replies h w (reopen (lost refl) refl refl) (tells_reopen place.size s inputs) is
+          (λ t. absurd (differs t (lost refl)))
+          (λ t ok. absurd (err_not_ok ok)),
+    )
 
 pub denied_all : (place : Place) (f : StoreFault) (result : Result Unit declared.Refusal) (s t : State) (inputs : List Input) (past : List Call) (marks : List ℕ) (d e : Past) (replies : List Reply) (h w : Bool)
     → StoreAnswers f result → t ≡ s → replies ≡ replicate (length inputs) (Refusal (refused_of (refusal_of f)))
-    → (IsTrue place.trusted → (some : List Input) × HasInOrder some inputs × During d e (IsBegun place.layout s some))
-    → (f ≡ fault.NoMemory → IsTrue place.trusted → (e ≡ d) × Holds place s d)
+    → (f ≡ fault.Reopen → place.trusted ≡ false) → e ≡ d → (IsTrue place.trusted → Holds place s d)
     → Submits place result inputs replies h w (now s past marks [] d) (now t past marks [] e)
-denied_all place f result s t inputs past marks d e replies h w answers same is lost held =
+denied_all place f result s t inputs past marks d e replies h w answers same is lost still held =
     subst (λ u. Submits place result inputs replies h w (now s past marks [] d) (now u past marks [] e)) (sym same)
-    (denied_at place f result s inputs past marks d e replies h w answers is lost held)
+    (denied_at place f result s inputs past marks d e replies h w answers is lost still held)
 
--- the store found no memory: the disk is the same, and it still holds the state
-pub denied_held : {T : Type 0} (r : Result T declared.Refusal) (x : declared.Refusal) (f : StoreFault) (o n : Bool) (place : Place) (s t : State) (d e : Past) → r ≡ Err x
-    → x ≡ refusal_of f → (x ≡ refusal.Device) ⊎ (e ≡ d) → ((n ≡ true) ↔ ((o ≡ true) ⊎ (r ≡ Err refusal.Device))) → t ≡ s → o ≡ false → (n ≡ false → Holds place t e)
-    → f ≡ fault.NoMemory → (e ≡ d) × Holds place s d
-denied_held r x f o n place s t d e is of unwritten failed same working holds wants =
-    let none : x ≡ refusal.NoMemory = of ∙ ap refusal_of wants in
-    let disk : e ≡ d = elim unwritten [ inl device ↦ absurd (other_than none device) | inr kept ↦ kept ] in
-    (disk, subst (λ y. Holds place s y) disk (subst (λ y. Holds place y e) same (holds (stays_working r o n working (no_memory is none) failed))))
+-- the list is refused so only where a call failed before
+pub refused_reopen : {T : Type 0} (r : Result T declared.Refusal) (x : declared.Refusal) (f : StoreFault) {failed : Bool} → r ≡ Err x → x ≡ refusal_of f
+    → ((r ≡ Err refusal.Reopen) ↔ (failed ≡ true)) → f ≡ fault.Reopen → failed ≡ true
+refused_reopen r x f is of exactly so = exactly.0 (is ∙ ap Err (of ∙ ap refusal_of so))
 
--- each input is answered
-pub submitted_all : (place : Place) (s t : State) (inputs : List Input) (answers : List Answer) (old new : List Call) (marks marked : List ℕ) (d e : Past) (replies : List Reply) (h w : Bool)
-    → AreAnswered place.size s inputs answers t → AreNew s.next t.next (started_numbers (all_asked answers)) → replies ≡ map reply_in answers
+-- a refusal of all inputs is none of the device
+denied_otherwise : (f : StoreFault) (result : Result Unit declared.Refusal) → StoreAnswers f result → result ≢ Err refusal.Device
+denied_otherwise fault.NoMemory result answers is = ok_not_err (sym answers ∙ is)
+denied_otherwise fault.Reopen result answers is = reopen_not_device (same_refusal (sym answers ∙ is))
+
+pub failed_denied : (f : StoreFault) (result : Result Unit declared.Refusal) {o n : Bool} → StoreAnswers f result → n ≡ o → ((n ≡ true) ↔ ((o ≡ true) ⊎ (result ≡ Err refusal.Device)))
+failed_denied f result answers same = (
+  (λ is. inl (sym same ∙ is)),
+  (λ either. elim either [ inl was ↦ same ∙ was | inr device ↦ absurd (denied_otherwise f result answers device) ]),
+)
+
+-- ---- a list of which each input is answered
+
+-- it was taken, or a call on the disk failed
+pub answers_of : (place : Place) (s t : State) (inputs : List Input) (answers : List Answer) (failed : Bool) → (failed ≡ false → AreAnswered place.size s inputs answers t)
+    → (failed ≡ true → FellBack place.size s inputs answers t) → Answers place s inputs answers t
+answers_of place s t inputs answers true taken back = fell (back refl)
+answers_of place s t inputs answers false taken back = each (taken refl)
+
+-- the result tells whether one failed
+record Reports (failed : Bool) (result : Result Unit declared.Refusal) : Type 0 where
+  pub good : result ≡ Ok tt → failed ≡ false
+  pub bad : (e : declared.Refusal) → result ≡ Err e → (e ≡ refusal.Device) × (failed ≡ true)
+  pub is_bad : failed ≡ true → result ≡ Err refusal.Device
+
+reports_of : (failed : Bool) (result : Result Unit declared.Refusal) → result ≡ (if failed then Err refusal.Device else Ok tt) → Reports failed result
+reports_of true result is = record {
+  good = λ ok. absurd (err_not_ok (sym is ∙ ok));
+  bad = λ e err. (same_refusal (sym err ∙ is), refl);
+  is_bad = λ same. is;
+}
+reports_of false result is = record {
+  good = λ ok. refl;
+  bad = λ e err. absurd (ok_not_err (sym is ∙ err));
+  is_bad = λ same. absurd (true≢false (sym same));
+}
+
+tells_of : (size : ℕ) (s t : State) (inputs : List Input) (answers : List Answer) (failed : Bool) (result : Result Unit declared.Refusal) → Reports failed result
+    → (failed ≡ false → AreAnswered size s inputs answers t) → ((failed ≡ true) ↔ HasFault answers) → Tells result size s inputs answers t
+tells_of size s t inputs answers failed result reports taken told = record {
+  ok = λ is. taken (reports.good is);
+  device = ((λ is. told.0 (reports.bad refusal.Device is).1), (λ has. reports.is_bad (told.1 has)));
+  other = λ e is otherwise. absurd (otherwise (reports.bad e is).0);
+}
+
+pub failed_answered : {o : Bool} (n : Bool) (result : Result Unit declared.Refusal) → result ≡ (if n then Err refusal.Device else Ok tt) → ¬ (o ≡ true) → ((n ≡ true) ↔ ((o ≡ true) ⊎ (result ≡ Err refusal.Device)))
+failed_answered n result told worked =
+    let reports = reports_of n result told in (
+      (λ is. inr (reports.is_bad is)),
+      (λ either. elim either [ inl was ↦ absurd (worked was) | inr device ↦ (reports.bad refusal.Device device).1 ]),
+    )
+
+pub submitted_all : (place : Place) (s t : State) (inputs : List Input) (answers : List Answer) (failed : Bool) (result : Result Unit declared.Refusal) (old new : List Call) (marks marked : List ℕ) (d e : Past)
+    (replies : List Reply) (h w : Bool) → result ≡ (if failed then Err refusal.Device else Ok tt)
+    → (failed ≡ false → AreAnswered place.size s inputs answers t) → (failed ≡ true → FellBack place.size s inputs answers t) → ((failed ≡ true) ↔ HasFault answers)
+    → AreNew s.next t.next (started_numbers (all_asked answers)) → replies ≡ map reply_in answers
     → (IsTrue h → IsTrue w → Grew t.units old new marks marked (all_asked answers))
-    → (IsTrue place.trusted → During d e (IsBegun place.layout s (taken inputs answers))) → (IsTrue place.trusted → Holds place t e)
-    → Submits place (Ok tt) inputs replies h w (now s old marks [] d) (now t new marked [] e)
-submitted_all place s t inputs answers old new marks marked d e replies h w answered order is grew leaves holds =
-    ((λ x. cc), record { answers = answers; answered = answered; order = order; replies_are = is; grew = grew; left = leaves; stored = λ y ok. holds y })
+    → (IsTrue place.trusted → During d e (IsBegun place.layout s (taken inputs answers))) → (IsTrue place.trusted → failed ≡ false → Holds place t e)
+    → Submits place result inputs replies h w (now s old marks [] d) (now t new marked [] e)
+submitted_all place s t inputs answers failed result old new marks marked d e replies h w reported taken back told order is grew leaves holds =
+    let reports = reports_of failed result reported in (
+      (λ x. absurd (memory_not_device (reports.bad refusal.NoMemory x).0)),
+      record {
+        answers = answers;
+        answered = answers_of place s t inputs answers failed taken back;
+        tells = tells_of place.size s t inputs answers failed result reports taken told;
+        order = order;
+        replies_are = is;
+        grew = grew;
+        left = leaves;
+        stored = λ y ok. holds y (reports.good ok);
+      },
+    )

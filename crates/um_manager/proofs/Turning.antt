@@ -12,7 +12,7 @@ use Rattle.um_fates.specs.Live.{has, AreLive}
 use Rattle.um_manager.specs.Places.{Place}
 use Rattle.um_manager.specs.Replies.{PaysAll}
 use Rattle.um_manager.specs.Stores.{Submits}
-use Rattle.um_manager.specs.Turns.{Now, now, firsts, Answers, Leaves, Turned}
+use Rattle.um_manager.specs.Turns.{Now, now, firsts, Answers, Tells, Leaves, Turned}
 use Rattle.um_manager.specs.declared.pieces.Piece.{Piece}
 use Rattle.um_manager.specs.declared.pieces.Piece.TheVariants.{Nothing, Bytes, Closed}
 use Rattle.um_manager.specs.declared.taking.Due.{Due}
@@ -64,7 +64,8 @@ turned place store moment pieces a b live past roomy cut heard ticked inputs cou
       cut = cut;
       cuts = cuts_roomy a.sessions roomy cut pieces took.requests room took.cuts;
       answers = sub.answers;
-      answered = subst (λ l. Answers place.size store a.state l sub.answers b.state) all sub.answered;
+      answered = subst (λ l. Answers place a.state l sub.answers b.state) all sub.answered;
+      tells = subst (λ l. Tells store place.size a.state l sub.answers b.state) all sub.tells;
       order = sub.order;
       orders_are = grew.orders_are ∙ ap (λ l. l ++ all_asked sub.answers) told.no_order;
       refusals = grew.refusals;
@@ -73,7 +74,7 @@ turned place store moment pieces a b live past roomy cut heard ticked inputs cou
       paid = subst (λ l. PaysAll b.state (map due_of took.requests) l cut b.sessions)
           (rest_is ∙ ap (λ n. drop n replies) (counted ∙ ap length first) ∙ ap (λ l. drop (length (firsts moment told.told)) l) sub.replies_are)
           (subst (λ l. PaysAll b.state l rest cut b.sessions) took.due_are pays);
-      left = λ t. subst (λ l. Leaves place store a.state l sub.answers a.disk b.disk) all (sub.left t);
+      left = λ t. subst (λ l. Leaves place a.state l sub.answers a.disk b.disk) all (sub.left t);
       stored = sub.stored;
     }
 

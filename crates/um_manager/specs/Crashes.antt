@@ -4,10 +4,11 @@
 use Rattle.std.specs.Prelude.{◌≡◌, List, [], ◌∷◌, ◌++◌, map, flat_map, if◌then◌else◌, Result, Ok, Err}
 use Rattle.um_keeper.specs.Answering.{Answer, is_turned_away}
 use Rattle.um_model.specs.Disk.{Image}
-use Rattle.um_model.specs.Lives.{Outcome, answered, turned_away, Offer, AreUnanswered, MayLeave}
+use Rattle.um_model.specs.Lives.{Outcome, answered, turned_away, unanswered, Offer, AreUnanswered, MayLeave}
 use Rattle.um_model.specs.Machine.{State, Input}
 use Rattle.um_model.specs.declared.layout.Layout.{Layout}
 use Rattle.um_wire.specs.declared.refusal.Refusal.{Refusal}
+use Rattle.um_wire.specs.declared.refusal.Refusal.TheVariants.{Device, Reopen}
 use Rattle.um_manager.specs.Clients.{AllTurned, no_turn, and_turn}
 use Rattle.um_manager.specs.Connections.{inputs_asked}
 use Rattle.um_manager.specs.Places.{Place}
@@ -16,9 +17,11 @@ use Rattle.um_manager.specs.Turns.{Now, firsts, Turned}
 use Rattle.um_manager.specs.declared.pieces.Piece.{Piece}
 use Rattle.um_manager.specs.declared.script.Step.{Step}
 
--- what came of an input that was answered so
+-- what came of an input that was answered so: after E16 it isn't known, and E17 is no step
 abbrev pub outcome_of : Answer → Outcome
 outcome_of (Ok given) = answered given.0
+outcome_of (Err Device) = unanswered
+outcome_of (Err Reopen) = turned_away
 outcome_of (Err e) = if is_turned_away e then turned_away else answered (reply_in (Err e))
 
 -- inputs with what came of each
@@ -36,10 +39,19 @@ abbrev pub all_offers : {place : Place} {steps : List Step} {a b : Now} → AllT
 all_offers no_turn = []
 all_offers (and_turn turned turns) = offers (offered_in turned) turned.answers ++ all_offers turns
 
+-- what came of an input where the machine stops before the answer is told: it isn't known, unless the input was turned away
+abbrev pub untold : Outcome → Outcome
+untold turned_away = turned_away
+untold other = unanswered
+
+-- inputs with what came of each, where the machine stops before the answers are told
+abbrev pub untold_offers : List Input → List Answer → List Offer
+untold_offers (input ∷ inputs) (answer ∷ answers) = record { input = input; outcome = untold (outcome_of answer) } ∷ untold_offers inputs answers
+untold_offers inputs answers = []
+
 -- An image that a life leaves which began in this state: behind what was answered it takes a beginning of those of the inputs offered last that
 -- weren't turned away.
-pub record IsLeft (layout : Layout) (s : State) (before : List Offer) (inputs : List Input) (image : Image) : Type 0 where
-  pub last : List Offer
-  pub last_are : map (λ (offer : Offer). offer.input) last ≡ inputs
-  pub unanswered : AreUnanswered last
-  pub leaves : MayLeave layout s (before ++ last) image
+pub record IsLeft (layout : Layout) (s : State) (before : List Offer) (inputs : List Input) (answers : List Answer) (image : Image) : Type 0 where
+  pub last_are : map (λ (offer : Offer). offer.input) (untold_offers inputs answers) ≡ inputs
+  pub unanswered : AreUnanswered (untold_offers inputs answers)
+  pub leaves : MayLeave layout s (before ++ untold_offers inputs answers) image

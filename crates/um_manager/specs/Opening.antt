@@ -10,6 +10,7 @@ use Rattle.um_model.specs.Disk.{Image, Past, Images, During, seen}
 use Rattle.um_model.specs.Lives.{HasInOrder}
 use Rattle.um_model.specs.Machine.{State, Input, Reply, Step, Booted}
 use Rattle.um_model.specs.Service.{ByUnit}
+use Rattle.um_model.specs.Stands.{StandsFor}
 use Rattle.um_model.specs.declared.layout.Layout.{Layout}
 use Rattle.um_model.specs.declared.layout.Slot.{Slot}
 use Rattle.um_model.specs.declared.service.Signal.{Signal}
@@ -24,7 +25,7 @@ use Rattle.um_fates.specs.Fates.{AreTalesOf, inputs_of_tale, lost, happens_at}
 use Rattle.um_fates.specs.Live.{has, is_live, AreLive, HasFewLive, AreIn}
 use Rattle.um_manager.specs.Orders.{signals}
 use Rattle.um_manager.specs.Places.{Place}
-use Rattle.um_manager.specs.Turns.{Now, Answers, Leaves, Holds}
+use Rattle.um_manager.specs.Turns.{Now, Answers, Tells, Leaves, Holds}
 
 -- the inputs of adoption: those of the fates told, where a number that is absent is lost
 abbrev pub adoptions : ℕ → List Tale → List Input
@@ -44,7 +45,8 @@ pub record Adopted (place : Place) (store : Result Unit Refusal) (moment : ℕ) 
   pub of_live : AreTalesOf (λ n. true) live told
   pub tales_are : tales b.past ≡ tales a.past ++ told
   pub answers : List Answer
-  pub answered : Answers place.size store a.state (adoptions moment told) answers b.state
+  pub answered : Answers place a.state (adoptions moment told) answers b.state
+  pub tells : Tells store place.size a.state (adoptions moment told) answers b.state
   pub order : AreNew a.state.next b.state.next (started_numbers (all_asked answers))
   pub termed : List ℕ
   pub are_termed : AreIn b.state.units StopSigterm live termed
@@ -54,7 +56,7 @@ pub record Adopted (place : Place) (store : Result Unit Refusal) (moment : ℕ) 
   pub refusals : List ℕ
   pub refusals_are : refused b.past ≡ refused a.past ++ refusals
   pub marks_are : HasFewLive b.state.units → (n : ℕ) → is_live b.state.units n ≡ true → has n b.marks ≡ (has n live || has n refusals)
-  pub left : IsTrue place.trusted → Leaves place store a.state (adoptions moment told) answers a.disk b.disk
+  pub left : IsTrue place.trusted → Leaves place a.state (adoptions moment told) answers a.disk b.disk
   pub stored : IsTrue place.trusted → store ≡ Ok tt → Holds place b.state b.disk
 
 abbrev pub Adopts : Place → Result Unit Refusal → Bool → Bool → ℕ → Now → Now → Type 0
@@ -80,11 +82,12 @@ pub data Refuses (place : Place) (refusal : Refusal) (moment : ℕ) (boot : List
       → (IsTrue place.trusted → During a.disk b.disk (IsBegun place.layout a.state (boot_at moment boot ∷ []))) → Refuses place refusal moment boot a b
   unadopted : {count : ℕ} → refusal ≢ NoMemory → Began place (Err refusal) moment boot count a b → Refuses place refusal moment boot a b
 
--- the state that a disk of so many sectors is read as
+-- the state that a disk of so many sectors is read as, and stands for
 pub record IsFound (sectors : ℕ) (disk : Past) (layout : Layout) (s : State) : Type 0 where
   pub slot : Slot
   pub generation : ℕ
   pub taken_up : IsTakenUp sectors (seen disk) layout slot generation s
+  pub stands : StandsFor layout (seen disk) s
 
 -- an image that an opening leaves: a store of a state that one of before was a store of, or of one that a beginning of these inputs gives
 abbrev pub IsOfOpening : Layout → Past → State → List Input → Image → Type 0

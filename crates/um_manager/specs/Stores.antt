@@ -12,13 +12,11 @@ use Rattle.um_manager.specs.declared.submitting.StoreFault.TheVariants as fault
 
 abbrev pub refusal_of : StoreFault → Refusal
 refusal_of fault.NoMemory = refusal.NoMemory
-refusal_of fault.Device = refusal.Device
 refusal_of fault.Reopen = refusal.Reopen
 
 -- want of memory for all is that for each, and no refusal of the store
 abbrev pub StoreAnswers : StoreFault → Result Unit Refusal → Type 0
 StoreAnswers fault.NoMemory result = result ≡ Ok tt
-StoreAnswers fault.Device result = result ≡ Err refusal.Device
 StoreAnswers fault.Reopen result = result ≡ Err refusal.Reopen
 
 -- the inputs were offered; want of memory is told of single inputs alone

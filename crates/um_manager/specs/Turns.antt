@@ -1,19 +1,18 @@
 -- What a turn of the manager does.
 -- No manual page has this: it is the project's own (docs/ARCHITECTURE.md, "The way of one input").
 -- The manager's calls stand on this file.
-use Rattle.std.specs.Prelude.{◌≡◌, ◌≢◌, ◌||◌, ℕ, List, [], ◌∷◌, ◌++◌, length, drop, map, flat_map, replicate, Bool, true, IsTrue, Option, Result, Ok, Err}
-use Rattle.um_keeper.specs.Answering.{Answer, AreAnswered, all_asked, taken}
+use Rattle.std.specs.Prelude.{◌≡◌, ◌≢◌, ◌↔◌, ◌||◌, ℕ, List, [], ◌∷◌, ◌++◌, length, drop, map, flat_map, replicate, Bool, true, false, IsTrue, Option, Result, Ok, Err}
+use Rattle.um_keeper.specs.Answering.{Answer, AreAnswered, FellBack, HasFault, all_asked, taken}
 use Rattle.um_keeper.specs.Keeping.{IsBegun}
 use Rattle.um_model.specs.Children.{Call, Tale, orders, tales, refused}
 use Rattle.um_model.specs.Disk.{Past, During, Images}
-use Rattle.um_model.specs.Lives.{HasInOrder}
 use Rattle.um_model.specs.Machine.{State, Input, Reply}
 use Rattle.um_model.specs.Numbers.{AreNew, started_numbers}
 use Rattle.um_model.specs.Sessions.{Session}
 use Rattle.um_model.specs.Stands.{IsStoreOf}
 use Rattle.um_proto.specs.declared.request.Request.{Request}
 use Rattle.um_wire.specs.declared.refusal.Refusal.{Refusal}
-use Rattle.um_wire.specs.declared.refusal.Refusal.TheVariants.{NoMemory}
+use Rattle.um_wire.specs.declared.refusal.Refusal.TheVariants.{NoMemory, Device, Reopen}
 use Rattle.um_manager.specs.Connections.{AllSame, CutsAll, inputs_asked, due_of}
 use Rattle.um_fates.specs.Fates.{AreTalesOf, inputs_of_tale, unexecuted, tick_at}
 use Rattle.um_fates.specs.Live.{has, is_live, AreLive, HasFewLive}
@@ -37,16 +36,25 @@ now state past marks sessions disk = record { state = state; past = past; marks 
 abbrev pub firsts : ℕ → List Tale → List Input
 firsts moment told = flat_map (inputs_of_tale unexecuted moment) told ++ tick_at moment ∷ []
 
--- the answers of the store: to one input after another; or where it refuses all of them, that refusal to each
-abbrev pub Answers : ℕ → Result Unit Refusal → State → List Input → List Answer → State → Type 0
-Answers size (Ok done) s inputs answers t = AreAnswered size s inputs answers t
-Answers size (Err e) s inputs answers t = (answers ≡ replicate (length inputs) (Err e)) × (t ≡ s)
+-- The answers of the store to a list of inputs, and the state behind them.
+pub data Answers (place : Place) (s : State) (inputs : List Input) (answers : List Answer) (t : State) : Type 0 where
+  -- to one input after another
+  each : AreAnswered place.size s inputs answers t → Answers place s inputs answers t
+  -- a call on the disk failed meanwhile
+  fell : FellBack place.size s inputs answers t → Answers place s inputs answers t
+  -- one failed before, and each is E17
+  reopen : place.trusted ≡ false → answers ≡ replicate (length inputs) (Err Reopen) → t ≡ s → Answers place s inputs answers t
 
--- What a crash leaves while inputs are offered: each image is a store of the state after a beginning of those that were taken; of some of
--- them where the device failed.
-abbrev pub Leaves : Place → Result Unit Refusal → State → List Input → List Answer → Past → Past → Type 0
-Leaves place (Ok done) s inputs answers old new = During old new (IsBegun place.layout s (taken inputs answers))
-Leaves place (Err e) s inputs answers old new = (some : List Input) × HasInOrder some inputs × During old new (IsBegun place.layout s some)
+-- What the result of the offer tells of the answers: at Ok they are to one input after another; it is E16 exactly where an answer is; and it is
+-- another refusal only where all answers are.
+pub record Tells (store : Result Unit Refusal) (size : ℕ) (s : State) (inputs : List Input) (answers : List Answer) (t : State) : Type 0 where
+  pub ok : store ≡ Ok tt → AreAnswered size s inputs answers t
+  pub device : (store ≡ Err Device) ↔ HasFault answers
+  pub other : (e : Refusal) → store ≡ Err e → e ≢ Device → (answers ≡ replicate (length inputs) (Err e)) × (t ≡ s)
+
+-- what a crash leaves while inputs are offered: each image is a store of the state after a beginning of those that were taken
+abbrev pub Leaves : Place → State → List Input → List Answer → Past → Past → Type 0
+Leaves place s inputs answers old new = During old new (IsBegun place.layout s (taken inputs answers))
 
 -- each image is a store of the state
 abbrev pub Holds : Place → State → Past → Type 0
@@ -55,11 +63,12 @@ Holds place s disk = Images disk (λ image. IsStoreOf place.layout image s)
 -- The inputs were offered, the actions of the receipts carried out, and the replies noted.
 pub record Submitted (place : Place) (store : Result Unit Refusal) (inputs : List Input) (replies : List Reply) (honest whole : Bool) (a b : Now) : Type 0 where
   pub answers : List Answer
-  pub answered : Answers place.size store a.state inputs answers b.state
+  pub answered : Answers place a.state inputs answers b.state
+  pub tells : Tells store place.size a.state inputs answers b.state
   pub order : AreNew a.state.next b.state.next (started_numbers (all_asked answers))
   pub replies_are : replies ≡ map reply_in answers
   pub grew : IsTrue honest → IsTrue whole → Grew b.state.units a.past b.past a.marks b.marks (all_asked answers)
-  pub left : IsTrue place.trusted → Leaves place store a.state inputs answers a.disk b.disk
+  pub left : IsTrue place.trusted → Leaves place a.state inputs answers a.disk b.disk
   pub stored : IsTrue place.trusted → store ≡ Ok tt → Holds place b.state b.disk
 
 -- What a turn did. It asked the fate of each live number once, ascending, of the marked ones with a claim. It took the pieces and of each
@@ -77,14 +86,15 @@ pub record Turned (place : Place) (store : Result Unit Refusal) (moment : ℕ) (
   pub cut : List Session
   pub cuts : CutsAll a.sessions pieces requests cut
   pub answers : List Answer
-  pub answered : Answers place.size store a.state (firsts moment told ++ flat_map (inputs_asked moment) requests) answers b.state
+  pub answered : Answers place a.state (firsts moment told ++ flat_map (inputs_asked moment) requests) answers b.state
+  pub tells : Tells store place.size a.state (firsts moment told ++ flat_map (inputs_asked moment) requests) answers b.state
   pub order : AreNew a.state.next b.state.next (started_numbers (all_asked answers))
   pub orders_are : orders b.past ≡ orders a.past ++ all_asked answers
   pub refusals : List ℕ
   pub refusals_are : refused b.past ≡ refused a.past ++ refusals
   pub marks_are : HasFewLive b.state.units → (n : ℕ) → is_live b.state.units n ≡ true → has n b.marks ≡ (has n a.marks || has n refusals)
   pub paid : PaysAll b.state (map due_of requests) (drop (length (firsts moment told)) (map reply_in answers)) cut b.sessions
-  pub left : IsTrue place.trusted → Leaves place store a.state (firsts moment told ++ flat_map (inputs_asked moment) requests) answers a.disk b.disk
+  pub left : IsTrue place.trusted → Leaves place a.state (firsts moment told ++ flat_map (inputs_asked moment) requests) answers a.disk b.disk
   pub stored : IsTrue place.trusted → store ≡ Ok tt → Holds place b.state b.disk
 
 -- nothing was taken, asked or offered

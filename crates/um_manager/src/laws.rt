@@ -24,10 +24,10 @@ pub fn each_client_has_its_own_replies()
 
 /// What a crash leaves of a script. Behind turns that ended Ok, each image of each moment of the next one, however that ends, is what a life of
 /// the store may leave that began where the first of these turns did: it takes all inputs that these turns answered, and a beginning of those
-/// of the next that weren't turned away. So `um_keeper`'s `what_was_answered_outlives_crashes` holds of it, over any number of crashes.
+/// of the next that weren't turned away. So `um_keeper::laws::lives` holds of it, over any number of crashes.
 pub fn what_a_crash_leaves()
     ensures { (place : Place) (steps : List Step) (a b c : Now) (turns : AllTurned place steps a b) (store : Result Unit Refusal) (moment : ℕ)
         (pieces : List Piece)
         → place.size ≡ body_limit place.layout → IsTrue place.trusted → (next : Turned place store moment pieces b c)
-        → During b.disk c.disk (IsLeft place.layout a.state (all_offers turns) (offered_in next)) }
+        → During b.disk c.disk (IsLeft place.layout a.state (all_offers turns) (offered_in next) next.answers) }
 {}

@@ -173,7 +173,7 @@ fn offer_boot<D: Disk>(keeper: &mut Keeper<D>, boot: BootId, moment: Moment) -> 
     ensures failed { (has_failed keeper.new ≡ true) ↔ ((has_failed keeper.old ≡ true) ⊎ (result ≡ Err Refusal.Device)) }
 {
     let event = Event::Happened(Happening::Booted { boot });
-    let receipt = keeper.submit(&Input::new(moment, event))?;
+    let receipt = keeper.submit(Input::new(moment, event))?;
     receipt.finish();
     Ok(())
 }
@@ -215,6 +215,7 @@ pub fn begin<D: Disk, C: Children>(
     ensures disk { D.honest (disk_in keeper.new) ≡ D.honest (disk_in keeper.old) }
     ensures failed { (has_failed keeper.new ≡ true) ↔ ((has_failed keeper.old ≡ true) ⊎ (result ≡ Err Refusal.Device)) }
 {
+    keeper.is_stored();
     let sessions = new_sessions(alloc)?;
     let live = live_in(alloc, keeper.state(), &boot)?;
     let mut marks = Marks::of(alloc, live.as_slice())?;

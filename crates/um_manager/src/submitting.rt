@@ -1,9 +1,8 @@
 //! Inputs offered to the store.
 
-ghost use Rattle.std.specs.Prelude.{◌≡◌, ◌⊎◌, ◌↔◌, ◌+◌, ◌≤◌, ◌++◌, [], true, Err, IsTrue, map, replicate, vec_len, vec_capacity};
+ghost use Rattle.std.specs.Prelude.{◌≡◌, ◌⊎◌, ◌↔◌, ◌+◌, ◌≤◌, ◌++◌, [], true, if◌then◌else◌, Ok, Err, IsTrue, map, replicate, vec_len, vec_capacity};
 ghost use Rattle.um_keeper.specs.Keepers.{disk_in, state_in, has_failed, IsSamePlace};
 ghost use Rattle.um_model.specs.Machine as model;
-ghost use Rattle.um_sector.specs.Refused.{IsLost};
 ghost use Rattle.um_state.specs.View.{reply_of};
 ghost use Rattle.um_wire.specs.Refusal.{refused_of};
 ghost use Rattle.um_fates.specs.Fates.{inputs_in};
@@ -23,18 +22,16 @@ use um_wire::Refusal;
 #[derive(Clone, Copy)]
 pub enum StoreFault {
     NoMemory,
-    Device,
     Reopen,
 }
 
 /// The cause of such a refusal.
 fn fault_of(refusal: Refusal) -> StoreFault
-    requires { IsLost refusal ⊎ (refusal ≡ Refusal.Reopen) }
+    requires { (refusal ≡ Refusal.NoMemory) ⊎ (refusal ≡ Refusal.Reopen) }
     ensures { refusal ≡ refusal_of result }
 {
     match refusal {
         Refusal::NoMemory => StoreFault::NoMemory,
-        Refusal::Device => StoreFault::Device,
         _ => StoreFault::Reopen,
     }
 }
@@ -45,7 +42,6 @@ impl StoreFault {
     {
         match self {
             StoreFault::NoMemory => Refusal::NoMemory,
-            StoreFault::Device => Refusal::Device,
             StoreFault::Reopen => Refusal::Reopen,
         }
     }
@@ -56,7 +52,6 @@ impl StoreFault {
     {
         match self {
             StoreFault::NoMemory => Ok(()),
-            StoreFault::Device => Err(Refusal::Device),
             StoreFault::Reopen => Err(Refusal::Reopen),
         }
     }
@@ -73,8 +68,18 @@ fn deny(replies: &mut Vec<Reply>, count: usize, fault: StoreFault)
     }
 }
 
+/// E16 where a call on the disk failed.
+fn faults<D: Disk>(keeper: &Keeper<D>) -> Result<(), Refusal>
+    ensures { result ≡ (if has_failed keeper.now then Err Refusal.Device else Ok tt) }
+{
+    if keeper.has_failed() {
+        return Err(Refusal::Device);
+    }
+    Ok(())
+}
+
 /// Offers the inputs, carries out the actions of the receipts, and notes the replies. Where the store refuses all of them each is
-/// answered so.
+/// answered so; E16 where some of them are.
 pub fn submit<D: Disk, C: Children>(
     keeper: &mut Keeper<D>,
     children: &mut C,
@@ -99,7 +104,7 @@ pub fn submit<D: Disk, C: Children>(
     match keeper.submit_all(inputs) {
         Ok(answers) => {
             carry_all(children, marks, keeper.state().units(), answers, replies);
-            Ok(())
+            faults(keeper)
         }
         Err(refusal) => {
             let fault = fault_of(refusal);

@@ -1,13 +1,14 @@
 //! Managers that are opened behind a crash.
 use crate::managers::{
     DONE, InMemory, PUT, RELOAD, SHOW, START, boot, frames, has_output, new_store, over, play,
-    same, started,
+    started,
 };
 use std::process::Abort;
 use um_children::{Call, Fate};
 use um_keeper::Keeper;
 use um_model::{JobMode, Moment, UnitVerb};
 use um_name::UnitName;
+use um_rows_shared::same;
 use um_sector::{Disk, Fuse, MemDisk};
 use um_state::{Command, Event, Happening, Input};
 use um_wire::Refusal;
@@ -20,7 +21,7 @@ const SLEEPS: &str = "[Service]\nExecStart=/bin/sleep 9\n";
 
 /// What came of an event at moment 0: how many actions it asked for. None of them is carried out.
 fn submit(keeper: &mut Keeper<Fuse<MemDisk>>, event: Event) -> Result<usize, Refusal> {
-    let mut receipt = keeper.submit(&Input::new(Moment::FIRST, event))?;
+    let mut receipt = keeper.submit(Input::new(Moment::FIRST, event))?;
     let mut count: usize = 0;
     while let Some(_) = receipt.next_action() {
         count = count.saturating_add(1);

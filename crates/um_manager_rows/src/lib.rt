@@ -1,9 +1,36 @@
-//! Worked rows of the manager: scripts of turns, and openings behind a crash, by its public calls alone.
+//! Worked rows of processes, the manager and its clients: runners and children, scripts of turns, openings behind a crash, what is served over
+//! a gate, and what the client asks and tells, by public calls alone.
 #![tactic(auto)]
 
 #[cfg(test)]
+mod backlogs;
+#[cfg(test)]
 mod crashes;
+#[cfg(test)]
+mod exchanges;
+#[cfg(test)]
+mod fakes;
+#[cfg(test)]
+mod folders;
+#[cfg(test)]
+mod gates;
+#[cfg(test)]
+mod helps;
 #[cfg(test)]
 mod managers;
 #[cfg(test)]
+mod orders;
+#[cfg(test)]
+mod places;
+#[cfg(test)]
+mod replies;
+#[cfg(test)]
+mod requests;
+#[cfg(test)]
+mod runs;
+#[cfg(test)]
 mod scripts;
+#[cfg(test)]
+mod serving;
+#[cfg(test)]
+mod texts;

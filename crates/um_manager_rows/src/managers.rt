@@ -1,10 +1,10 @@
 //! Managers over a disk and children in memory, and what is sent to them.
-use std::fmt::Debug;
 use std::process::Abort;
 use um_children::{Call, FakeChildren};
 use um_keeper::create;
 use um_manager::{Connection, Manager, Piece, Pieces, Step};
 use um_model::{Layout, Moment};
+use um_rows_shared::same;
 use um_sector::MemDisk;
 use um_state::BootId;
 
@@ -26,11 +26,6 @@ pub const SHOW: &str = r#"{"verb":"show","unit":"a"}"#;
 
 /// The reply to an event that was taken.
 pub const DONE: &str = r#"{"ok":true}"#;
-
-/// Asserts that the value is the wanted one.
-pub fn same<T: PartialEq + Debug + Drop>(rt: &impl Abort, got: T, wanted: T) {
-    assert_eq!(rt; got, wanted);
-}
 
 /// The boot that all rows are in.
 pub fn boot(rt: &(impl AllocGlobal + Abort)) -> BootId {

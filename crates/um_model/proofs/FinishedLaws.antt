@@ -1,21 +1,24 @@
 -- A finished job isn't repeated: a unit at rest stays so until a command puts a start of it.
-use Rattle.std.proofs.Common.{ℕ, ◌≡◌, ◌≢◌, ◌∙◌, ◌+◌, ◌||◌, ◌&&◌, Bool, true, false, true≢false, not, cond, List, [], ◌∷◌, ◌++◌, Some, None, unwrap_or, refl, sym, ap, subst, inl, inr}
+use Rattle.std.proofs.Common.{ℕ, ◌≡◌, ◌≢◌, ◌∙◌, ◌+◌, ◌||◌, ◌&&◌, ◌⊎◌, Bool, true, false, true≢false, not, cond, List, [], ◌∷◌, ◌++◌, Contains, Option, Some, None, unwrap_or, refl, sym, ap, subst, inl, inr}
+use Rattle.std.proofs.lemmas.List.{map-append}
 use Rattle.std.proofs.lemmas.Option.{none-some}
 use Rattle.std.specs.Cmp.Lexicographic.{slice_cmp}
 use Rattle.std.specs.FinMap as map
 use Rattle.std.specs.Ordering.{nat_cmp}
+use Rattle.um_model.specs.Begun.{Begun, begun_settling, begun_firing, begun_following, begun_taking, jobs_of, jobs_begun_in}
 use Rattle.um_model.specs.Ends.{is_clean, is_failed, is_restart_wanted}
-use Rattle.um_model.specs.Finished.{is_exited, Finishes, is_down_or_done, IsAtRest, PutsStart, now, later}
-use Rattle.um_model.specs.Jobs.{BeginsNext, Job, job_of, jobs, no_jobs, jobs_of_unit}
-use Rattle.um_model.specs.Machine.{IsBefore, State, Command, Happening, Event, Commanded, Input, Reply, TakesAlong, Becomes, Carries, change_of, changed, settings_in, around, begins, begun, FallDown, all_told, told_next, Happens, AreReset, all_reset, reset_next, Settles, unit_asked, jobs_asked, Refuses, Changes, Does, units_reset, end_of, Restarts, isnt_put, ComesDue, Fires, FiresOne, booted, Follows, TakesEffect, moment_of, Step, Run}
-use Rattle.um_model.specs.Refusals.{Refused}
+use Rattle.um_model.specs.Finished.{is_exited, Finishes, is_down_or_done, IsAtRest, PutsStart, PutsNoStart}
+use Rattle.um_model.specs.Jobs.{BeginsNext, Job, job_of, jobs, no_jobs, start_job, state_of_job, jobs_of_unit}
+use Rattle.um_model.specs.Machine.{IsBefore, State, Command, Happening, Event, Commanded, Input, Reply, TakesAlong, Becomes, Carries, change_of, changed, settings_in, around, begins, begun, FallDown, all_told, told_next, Happens, AreReset, all_reset, reset_next, Settles, unit_asked, jobs_asked, ForUnit, Done, Changes, Does, units_reset, end_of, Restarts, isnt_put, ComesDue, Fires, FiresOne, booted, Follows, TakesEffect, reply_after, moment_of, Step, Run, goes}
 use Rattle.um_model.specs.Service.{Action, active_state_of, dead_unit, is_dead, is_number, is_success, state_of_unit}
 use Rattle.um_model.specs.Settings.{ServiceSettings, has_place}
 use Rattle.um_model.specs.Timers.{Timers}
 use Rattle.um_model.specs.Transitions as table
 use Rattle.um_model.specs.Transitions.{deadline_after, has_number, is_live, just, asking, rests_for_good, rests, terminates, stop_command, winds_down, rests_unless_live, noted, without_main, without_control, timed_out, told_to_stop, is_stop_done, row, is_going, transition, fails_start}
+use Rattle.um_model.specs.Tree.{Tree}
 use Rattle.um_model.specs.declared.jobs.JobKind.{JobKind}
 use Rattle.um_model.specs.declared.jobs.JobKind.TheVariants as job
+use Rattle.um_model.specs.declared.jobs.JobState.{JobState}
 use Rattle.um_model.specs.declared.jobs.JobState.TheVariants.{Waiting}
 use Rattle.um_model.specs.declared.jobs.UnitJobs.{UnitJobs}
 use Rattle.um_model.specs.declared.service.End.{End}
@@ -32,8 +35,9 @@ use Rattle.um_model.specs.declared.transition.Process.TheVariants.{Main, Control
 use Rattle.um_model.specs.declared.transition.UnitEvent.{UnitEvent}
 use Rattle.um_model.specs.declared.transition.UnitEvent.TheVariants.{StartBegins, StopBegins, BoundStop, Executed, MainEnds, ControlEnds, DeadlinePasses, Reset}
 use Rattle.um_model.proofs.AlongLaws.{taken_along_or_not}
-use Rattle.um_model.proofs.FewLaws.{none_there}
+use Rattle.um_model.proofs.AmongLaws.{among_either, among_contained}
 use Rattle.um_model.proofs.FreeLaws.{cancelled_fewer, fewer_at, begun_less, carried_less}
+use Rattle.um_model.proofs.LeastLaws.{Among}
 use Rattle.um_model.proofs.TimersLaws.{same_name}
 use Rattle.um_model.proofs.TransitionLaws.{by_cond}
 use Rattle.um_model.proofs.UnitLaws.{state_here, state_apart, jobs_apart}
@@ -148,11 +152,11 @@ module _ (s : ServiceSettings) (c : Around) where
 
 -- x: the unit at rest
 module _ (x : List ℕ) where
-  abbrev pub AtRest : State → Type 0
+  abbrev AtRest : State → Type 0
   AtRest s = IsAtRest s x
 
   -- what happens to the unit isn't that its start begins
-  abbrev pub IsOther : List ℕ → UnitEvent → Type 0
+  abbrev IsOther : List ℕ → UnitEvent → Type 0
   IsOther unit event = x ≡ unit → event ≢ StartBegins
 
   changed_rests : (s : State) (unit : List ℕ) (c : Change) → (x ≡ unit → Rests c.unit) → Rests (state_of_unit s.units x) → Rests (state_of_unit (changed s unit c).units x)
@@ -192,7 +196,7 @@ module _ (x : List ℕ) where
   falls_rest t (unit ∷ units) s actions v (told_next {falling = falling} {u = u} {first = first} {more = more} h among k) rest =
       falls_rest t (falling ++ units) u more v k (carried_rests t unit BoundStop s first u (λ same. bound_apart) h rest)
 
-  pub happens_rest : (t : ℕ) (unit : List ℕ) (event : UnitEvent) (s : State) (actions : List Action) (v : State) → IsOther unit event → Happens t unit event s actions v
+  happens_rest : (t : ℕ) (unit : List ℕ) (event : UnitEvent) (s : State) (actions : List Action) (v : State) → IsOther unit event → Happens t unit event s actions v
       → AtRest s → AtRest v
   happens_rest t unit event s actions v other (Happens.happens {falling = falling} {u = u} {first = first} {more = more} h among k) rest =
       falls_rest t falling u more v k (carried_rests t unit event s first u other h rest)
@@ -200,7 +204,7 @@ module _ (x : List ℕ) where
   reset_apart : Reset ≡ StartBegins → ⊥
   reset_apart e = cc
 
-  pub resets_rest : (t : ℕ) (units : List (List ℕ)) (s : State) (actions : List Action) (v : State) → AreReset t units s actions v → AtRest s → AtRest v
+  resets_rest : (t : ℕ) (units : List (List ℕ)) (s : State) (actions : List Action) (v : State) → AreReset t units s actions v → AtRest s → AtRest v
   resets_rest t units s actions v all_reset rest = rest
   resets_rest t (unit ∷ units) s actions v (reset_next {u = u} {first = first} {more = more} h k) rest =
       resets_rest t units u more v k (happens_rest t unit Reset s first u (λ same. reset_apart) h rest)
@@ -211,7 +215,7 @@ module _ (x : List ℕ) where
   begins_other job.Stop j waits none = λ e. cc
 
   -- the job that begins next isn't a start of the unit, and leaves it at rest
-  pub next_rests : (t : ℕ) (s : State) (j : Job) (actions : List Action) (u : State) → BeginsNext (IsBefore s.loaded) s.units s.pending j
+  next_rests : (t : ℕ) (s : State) (j : Job) (actions : List Action) (u : State) → BeginsNext (IsBefore s.loaded) s.units s.pending j
       → Happens t j.unit (begins j.kind) (begun s j) actions u → AtRest s → AtRest u
   next_rests t s j actions u n h rest = happens_rest t j.unit (begins j.kind) (begun s j) actions u other h begun_rest
     where
@@ -221,7 +225,7 @@ module _ (x : List ℕ) where
       begun_rest : AtRest (begun s j)
       begun_rest = record { none = ((begun_less s j n.has.waits).fewer x job.Start).none rest.none; rests = rest.rests }
 
-  pub settles_rest : (t : ℕ) (s : State) (actions : List Action) (v : State) → Settles t s actions v → AtRest s → AtRest v
+  settles_rest : (t : ℕ) (s : State) (actions : List Action) (v : State) → Settles t s actions v → AtRest s → AtRest v
   settles_rest t s actions v (Settles.rests still) rest = rest
   settles_rest t s actions v (Settles.begins_next {u = u} {first = first} {more = more} j n h k) rest =
       settles_rest t u more v k (next_rests t s j first u n h rest)
@@ -244,7 +248,7 @@ module _ (x : List ℕ) where
   deadline_apart : DeadlinePasses ≡ StartBegins → ⊥
   deadline_apart e = cc
 
-  pub due_rest : (t : ℕ) (s : State) (unit : List ℕ) (actions : List Action) (v : State) → ComesDue t s unit actions v → AtRest s → AtRest v
+  due_rest : (t : ℕ) (s : State) (unit : List ℕ) (actions : List Action) (v : State) → ComesDue t s unit actions v → AtRest s → AtRest v
   due_rest t s unit actions v (ComesDue.restarts awaits again) rest = restarts_rest s unit v awaits again rest
   due_rest t s unit actions v (ComesDue.passes isnt h) rest = happens_rest t unit DeadlinePasses s actions v (λ same. deadline_apart) h rest
 
@@ -254,13 +258,13 @@ module _ (x : List ℕ) where
       fires_rest t (map.remove timers n) p more v l (settles_rest t u next p k (due_rest t s n first u h rest))
   fires_rest t timers s actions v (Fires.fires_next {more = more} d n least due (FiresOne.is_gone isnt) l) rest = fires_rest t (map.remove timers n) s more v l rest
 
-  -- ---- a step
+  -- ---- what follows from what happens
 
-  pub end_apart : (b : Bool) (e : End) → cond b (MainEnds e) (ControlEnds e) ≢ StartBegins
+  end_apart : (b : Bool) (e : End) → cond b (MainEnds e) (ControlEnds e) ≢ StartBegins
   end_apart true e = λ is. cc
   end_apart false e = λ is. cc
 
-  pub executed_apart : Executed ≡ StartBegins → ⊥
+  executed_apart : Executed ≡ StartBegins → ⊥
   executed_apart e = cc
 
   booted_rest : (boot : List ℕ) (s : State) → AtRest (booted boot s)
@@ -269,7 +273,7 @@ module _ (x : List ℕ) where
     rests = ap (λ o. is_down_or_done (unwrap_or o dead_unit).sub (unwrap_or o dead_unit).stop_asked) (map.get-empty (slice_cmp nat_cmp) x);
   }
 
-  pub follows_rest : (t : ℕ) (s : State) (happening : Happening) (actions : List Action) (v : State) → Follows t s happening actions v → AtRest s → AtRest v
+  follows_rest : (t : ℕ) (s : State) (happening : Happening) (actions : List Action) (v : State) → Follows t s happening actions v → AtRest s → AtRest v
   follows_rest t s happening actions v (Follows.ends {number = number} {end = end} {first = first} {more = more} {u = u} unit is h k) rest =
       settles_rest t u more v k
       (happens_rest t unit (end_of (state_of_unit s.units unit) number end) s first u (λ same. end_apart (is_number number (state_of_unit s.units unit).main) end) h rest)
@@ -278,67 +282,128 @@ module _ (x : List ℕ) where
   follows_rest t s happening actions v (Follows.ticks timers are h) rest = fires_rest t timers s actions v h rest
   follows_rest t s happening actions v (Follows.boots {boot = boot}) rest = booted_rest boot s
 
-  module _ (size : ℕ) where
-    -- the command puts no start of the unit
-    abbrev PutsNone : State → ℕ → Command → Type 0
-    PutsNone s moment command = ¬ PutsStart size x s (record { moment = moment; event = Commanded command } ∷ [])
+  -- ---- the jobs that begin
 
-    changes_rest : (s : State) (moment : ℕ) (command : Command) (u : State) → PutsNone s moment command → ((r : Refused) → ¬ Refuses s command r)
-        → Changes s command u → AtRest s → AtRest u
-    changes_rest s moment command u none isnt (Changes.puts e) rest = record { none = rest.none; rests = rest.rests }
-    changes_rest s moment command u none isnt (Changes.links e) rest = record { none = rest.none; rests = rest.rests }
-    changes_rest s moment command u none isnt (Changes.removes e) rest = record { none = rest.none; rests = rest.rests }
-    changes_rest s moment command u none isnt Changes.reloads rest = record { none = rest.none; rests = rest.rests }
-    changes_rest s moment command u none isnt (Changes.installs h) rest = record { none = rest.none; rests = rest.rests }
-    changes_rest s moment command u none isnt (Changes.cancels {asked = asked}) rest =
-        record { none = (fewer_at s.pending (unit_asked s asked) _ (cancelled_fewer (jobs_asked s asked)) x job.Start).none rest.none; rests = rest.rests }
-    changes_rest s moment command u none isnt (Changes.demands_nothing is) rest = rest
-    changes_rest s moment command u none isnt (Changes.plans {after = after} is plan) rest =
-        record { none = none_there (jobs_of_unit after x).start (λ puts. none (now isnt (Changes.plans is plan) puts)); rests = rest.rests }
+  -- of the jobs that begin none is a start of it
+  abbrev HasNone : List Begun → Type 0
+  HasNone begun = ¬ Among (jobs_of begun) (start_job x)
 
-    does_rest : (t : ℕ) (s : State) (moment : ℕ) (command : Command) (actions : List Action) (u : State) → PutsNone s moment command
-        → ((r : Refused) → ¬ Refuses s command r) → Does t s command actions u → AtRest s → AtRest u
-    does_rest t s moment command actions u none isnt (Does.changes h) rest = changes_rest s moment command u none isnt h rest
-    does_rest t s moment command actions u none isnt (Does.resets {asked = asked} h) rest = resets_rest t (units_reset s asked) s actions u h rest
+  none_of_both : (first more : List Begun) → HasNone first → HasNone more → HasNone (first ++ more)
+  none_of_both first more none none_later both =
+      elim (among_either (jobs_of first) (jobs_of more) (start_job x) (subst (λ l. Among l (start_job x)) (map-append (λ (b : Begun). b.job) first more) both)) [
+        | inl here ↦ none here
+        | inr there ↦ none_later there
+      ]
 
-    takes_rest : (t : ℕ) (s : State) (moment : ℕ) (event : Event) (actions : List Action) (v : State) → ¬ PutsStart size x s (record { moment = moment; event = event } ∷ [])
-        → TakesEffect t s event actions v → AtRest s → AtRest v
-    takes_rest t s moment event actions v none (TakesEffect.obeys {command = command} {first = first} {more = more} {u = u} isnt h k) rest =
-        settles_rest t u more v k (does_rest t s moment command first u none isnt h rest)
-    takes_rest t s moment event actions v none (TakesEffect.meets {happening = happening} effect h) rest = follows_rest t s happening actions v h rest
+  has_none : (begun : List Begun) → HasNone begun → ¬ Contains (jobs_of begun) (start_job x)
+  has_none begun none has = none (among_contained (jobs_of begun) (start_job x) has)
 
-    -- a unit at rest stays so over a step that puts no start of it
-    pub step_rests : (s : State) (input : Input) (reply : Reply) (actions : List Action) (t : State) → Step size s input reply actions t
-        → ¬ PutsStart size x s (input ∷ []) → IsAtRest s x → IsAtRest t x
-    step_rests s input reply actions t (Step.refused e) none rest = rest
-    step_rests s input reply actions t (Step.crowded_out h heavy) none rest = rest
-    step_rests s input reply actions t (Step.idle e) none rest = rest
-    step_rests s input reply actions t (Step.taken {moment = moment} {event = event} {u = u} h light) none rest =
-        let r = takes_rest (moment_of s moment) s moment event actions u none h rest in
-        record { none = r.none; rests = r.rests }
+  settles_none : (t : ℕ) (s : State) (actions : List Action) (v : State) (h : Settles t s actions v) → AtRest s → HasNone (begun_settling h)
+  settles_none t s actions v (Settles.rests still) rest = λ none. none
+  settles_none t s actions v (Settles.begins_next {u = u} {first = first} {more = more} j n h k) rest =
+      elim [ inl is ↦ isnt is | inr later ↦ settles_none t u more v k (next_rests t s j first u n h rest) later ]
+    where
+      isnt : start_job x ≢ j
+      isnt is = none-some Waiting (sym rest.none ∙ subst (λ (i : Job). state_of_job s.pending i ≡ Some Waiting) (sym is) n.has.waits)
 
-    -- what puts a start does so whatever comes later
-    puts_anyhow : (s : State) (inputs more : List Input) → PutsStart size x s inputs → PutsStart size x s (inputs ++ more)
-    puts_anyhow s inputs more (now isnt h puts) = now isnt h puts
-    puts_anyhow s (i ∷ inputs) more (later {t = t} reply actions step puts) = later reply actions step (puts_anyhow t inputs more puts)
+  fires_none : (t : ℕ) (timers : Timers) (s : State) (actions : List Action) (v : State) (h : Fires t timers s actions v) → AtRest s
+      → HasNone (begun_firing h)
+  fires_none t timers s actions v (Fires.none_due none) rest = λ none. none
+  fires_none t timers s actions v (Fires.fires_next {more = more} d n least due (FiresOne.fires {u = u} {v = p} {first = first} {next = next} is h k) l) rest =
+      let due_rests : AtRest u = due_rest t s n first u h rest in
+      none_of_both (begun_settling k) (begun_firing l) (settles_none t u next p k due_rests)
+      (fires_none t (map.remove timers n) p more v l (settles_rest t u next p k due_rests))
+  fires_none t timers s actions v (Fires.fires_next {more = more} d n least due (FiresOne.is_gone isnt) l) rest = fires_none t (map.remove timers n) s more v l rest
 
-    -- and over a run of such steps
-    pub run_rests : (s t : State) (inputs : List Input) → Run size s inputs t → ¬ PutsStart size x s inputs → IsAtRest s x → IsAtRest t x
-    run_rests s t inputs Run.rests none rest = rest
-    run_rests s t (i ∷ inputs) (Run.goes {t = v} reply actions step run) none rest =
-        run_rests v t inputs run (λ puts. none (later reply actions step puts))
-        (step_rests s i reply actions v step (λ puts. none (puts_anyhow s (i ∷ []) inputs puts)) rest)
+  follows_none : (t : ℕ) (s : State) (happening : Happening) (actions : List Action) (v : State) (h : Follows t s happening actions v) → AtRest s
+      → HasNone (begun_following h)
+  follows_none t s happening actions v (Follows.ends {number = number} {end = end} {first = first} {more = more} {u = u} unit is h k) rest =
+      settles_none t u more v k
+      (happens_rest t unit (end_of (state_of_unit s.units unit) number end) s first u (λ same. end_apart (is_number number (state_of_unit s.units unit).main) end) h rest)
+  follows_none t s happening actions v (Follows.reports {first = first} {more = more} {u = u} unit is awaits h k) rest =
+      settles_none t u more v k (happens_rest t unit Executed s first u (λ same. executed_apart) h rest)
+  follows_none t s happening actions v (Follows.ticks timers are h) rest = fires_none t timers s actions v h rest
+  follows_none t s happening actions v Follows.boots rest = λ none. none
 
-pub finished_rests : (sub : SubState) (well asked : Bool) → (is_exited sub || is_dead sub && well) ≡ true → is_down_or_done sub asked ≡ true
+  -- ---- a step
+
+  -- a command leaves the unit at rest, before any job begins, or puts a start of it
+  changes_rest : (s : State) (moment : ℕ) (command : Command) (u : State) (tree : Tree) → Changes s command u → AtRest s
+      → AtRest u ⊎ PutsStart x s (record { moment = moment; event = Commanded command }) (reply_after (Commanded command) s.tree tree)
+  changes_rest s moment command u tree (Changes.puts e) rest = inl (record { none = rest.none; rests = rest.rests })
+  changes_rest s moment command u tree (Changes.links e) rest = inl (record { none = rest.none; rests = rest.rests })
+  changes_rest s moment command u tree (Changes.removes e) rest = inl (record { none = rest.none; rests = rest.rests })
+  changes_rest s moment command u tree Changes.reloads rest = inl (record { none = rest.none; rests = rest.rests })
+  changes_rest s moment command u tree (Changes.installs h) rest = inl (record { none = rest.none; rests = rest.rests })
+  changes_rest s moment command u tree (Changes.cancels {asked = asked}) rest =
+      inl (record { none = (fewer_at s.pending (unit_asked s asked) _ (cancelled_fewer (jobs_asked s asked)) x job.Start).none rest.none; rests = rest.rests })
+  changes_rest s moment command u tree (Changes.demands_nothing is) rest = inl rest
+  changes_rest s moment command u tree (Changes.plans {verb = verb} {asked = asked} {mode = mode} {after = after} is plan) rest =
+      by (jobs_of_unit after x).start refl
+    where
+      by : (start : Option JobState) → (jobs_of_unit after x).start ≡ start
+          → AtRest (record s { pending = after }) ⊎ PutsStart x s (record { moment = moment; event = Commanded (ForUnit verb asked mode) }) Done
+      by None same = inl (record { none = same; rests = rest.rests })
+      by (Some state) same = inr (record {
+        command = ForUnit verb asked mode;
+        is = refl;
+        done = refl;
+        planned = record s { pending = after };
+        changes = Changes.plans is plan;
+        none = rest.none;
+        one = λ none. none-some state (sym none ∙ same);
+      })
+
+  does_rest : (t : ℕ) (s : State) (moment : ℕ) (command : Command) (actions : List Action) (u : State) (tree : Tree) → Does t s command actions u → AtRest s
+      → AtRest u ⊎ PutsStart x s (record { moment = moment; event = Commanded command }) (reply_after (Commanded command) s.tree tree)
+  does_rest t s moment command actions u tree (Does.changes h) rest = changes_rest s moment command u tree h rest
+  does_rest t s moment command actions u tree (Does.resets {asked = asked} h) rest = inl (resets_rest t (units_reset s asked) s actions u h rest)
+
+  -- so an event leaves it, with none of its starts begun, or a command puts one
+  takes_rest : (t : ℕ) (s : State) (moment : ℕ) (event : Event) (actions : List Action) (v : State) (tree : Tree) (h : TakesEffect t s event actions v) → AtRest s
+      → HasNone (begun_taking h) × AtRest v ⊎ PutsStart x s (record { moment = moment; event = event }) (reply_after event s.tree tree)
+  takes_rest t s moment event actions v tree (TakesEffect.obeys {command = command} {first = first} {more = more} {u = u} isnt h k) rest =
+      elim (does_rest t s moment command first u tree h rest) [
+        | inl rests ↦ inl (settles_none t u more v k rests, settles_rest t u more v k rests)
+        | inr puts ↦ inr puts
+      ]
+  takes_rest t s moment event actions v tree (TakesEffect.meets {happening = happening} effect h) rest =
+      inl (follows_none t s happening actions v h rest, follows_rest t s happening actions v h rest)
+
+  -- over a step a unit at rest stays so, and none of its starts begins, or a command puts one
+  pub step_rests : {size : ℕ} {s t : State} {input : Input} {reply : Reply} {actions : List Action} (step : Step size s input reply actions t) → IsAtRest s x
+      → (¬ Contains (jobs_begun_in step) (start_job x)) × IsAtRest t x ⊎ PutsStart x s input reply
+  step_rests (Step.refused e) rest = inl (has_none [] (λ none. none), rest)
+  step_rests (Step.crowded_out h heavy) rest = inl (has_none [] (λ none. none), rest)
+  step_rests (Step.idle e) rest = inl (has_none [] (λ none. none), rest)
+  step_rests {s = s} (Step.taken {moment = moment} {event = event} {actions = actions} {u = u} h light) rest =
+      elim (takes_rest (moment_of s moment) s moment event actions u u.tree h rest) [
+        | inl (none, rests) ↦ inl (has_none (begun_taking h) none, record { none = rests.none; rests = rests.rests })
+        | inr puts ↦ inr puts
+      ]
+
+  -- and over a run of which no command puts one
+  pub run_rests : {size : ℕ} {s t : State} {inputs : List Input} (run : Run size s inputs t) → PutsNoStart x run → IsAtRest s x → IsAtRest t x
+  run_rests Run.rests none rest = rest
+  run_rests (goes reply actions step run) (isnt, none) rest = elim (step_rests step rest) [
+    | inl (begun, rests) ↦ run_rests run none rests
+    | inr puts ↦ absurd (isnt puts)
+  ]
+
+finished_rests : (sub : SubState) (well asked : Bool) → (is_exited sub || is_dead sub && well) ≡ true → is_down_or_done sub asked ≡ true
 finished_rests Dead well asked h = refl
 finished_rests Exited well asked h = refl
 finished_rests Failed well asked h = refl
 finished_rests _ well asked h = absurd (true≢false (sym h))
 
--- a oneshot that finished, and of which no start is pending, stays at rest over all inputs that put no start of it
-pub not_repeated : (size : ℕ) (s t u : State) (unit : List ℕ) (input : Input) (inputs : List Input) (reply : Reply) (actions : List Action)
-    → Step size s input reply actions t → Finishes s t unit → (jobs_of_unit t.pending unit).start ≡ None → Run size t inputs u → ¬ PutsStart size unit t inputs
-    → IsAtRest u unit
-not_repeated size s t u unit input inputs reply actions step finishes none run puts =
+-- a oneshot that finished, and of which no start is pending, is at rest
+pub finished_is_at_rest : (s t : State) (unit : List ℕ) → Finishes s t unit → (jobs_of_unit t.pending unit).start ≡ None → IsAtRest t unit
+finished_is_at_rest s t unit finishes none =
     let o = state_of_unit t.units unit in
-    run_rests unit size t u inputs run puts (record { none = none; rests = finished_rests o.sub (is_success o.result) o.stop_asked finishes.finished })
+    record { none = none; rests = finished_rests o.sub (is_success o.result) o.stop_asked finishes.finished }
+
+-- and stays so over each run of which no command puts a start of it
+pub not_repeated : (size : ℕ) (s t u : State) (unit : List ℕ) (input : Input) (inputs : List Input) (reply : Reply) (actions : List Action)
+    → Step size s input reply actions t → Finishes s t unit → (jobs_of_unit t.pending unit).start ≡ None → (run : Run size t inputs u) → PutsNoStart unit run
+    → IsAtRest u unit
+not_repeated size s t u unit input inputs reply actions step finishes none run puts = run_rests unit run puts (finished_is_at_rest s t unit finishes none)

@@ -52,17 +52,13 @@ pub mod FitNumbersLaws
 pub mod FitSoundLaws
 pub mod FitStateLaws
 pub mod WholeLaws
-pub mod SpellingRows
 pub mod TransitionLaws
 pub mod StoreLaws
 pub mod LogLaws
 pub mod ImageLaws
 pub mod StandsLaws
 pub mod LivesLaws
-pub mod SpelledLaws
-pub mod FitOnceLaws
 pub mod UnreadLaws
-pub mod KeptLaws
 pub mod FindsLaws
 pub mod SessionsLaws
 pub mod WaitingLaws

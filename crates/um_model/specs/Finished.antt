@@ -1,14 +1,11 @@
 -- What it is that a finished job isn't repeated: a oneshot that has finished starts again only where a command asks for it.
 -- Follows systemd.service(5), "Type=oneshot" and "RemainAfterExit=".
--- The law of runs in proofs/FinishedLaws depends on this file.
-use Rattle.std.specs.Prelude.{◌≡◌, ◌≢◌, ℕ, Bool, true, false, ◌||◌, ◌&&◌, List, ◌∷◌, None}
+-- The laws that a finished job is not repeated, of runs and over all crashes, depend on this file.
+use Rattle.std.specs.Prelude.{◌≡◌, ◌≢◌, ⊤, ℕ, Bool, true, false, ◌||◌, ◌&&◌, List, None}
 use Rattle.um_model.specs.Ends.{is_starting, is_stopping}
-use Rattle.um_model.specs.Service.{Action, is_dead, is_success, state_of_unit}
+use Rattle.um_model.specs.Service.{is_dead, is_success, state_of_unit}
 use Rattle.um_model.specs.Jobs.{jobs_of_unit}
-use Rattle.um_model.specs.Refusals.{Refused}
-use Rattle.um_model.specs.Machine.{State, Input, Commanded, ForUnit, Reply, Changes, Refuses, Step, settings_in}
-use Rattle.um_model.specs.declared.commands.JobMode.{JobMode}
-use Rattle.um_model.specs.declared.commands.UnitVerb.{UnitVerb}
+use Rattle.um_model.specs.Machine.{State, Command, Commanded, Input, Reply, Done, Changes, Run, goes, settings_in}
 use Rattle.um_model.specs.declared.service.SubState.{SubState}
 use Rattle.um_model.specs.declared.service.SubState.TheVariants.{Dead, Exited, Stop, StopSigterm, StopSigkill, Failed}
 use Rattle.um_model.specs.declared.service.UnitState.{UnitState}
@@ -43,10 +40,17 @@ pub record IsAtRest (s : State) (unit : List ℕ) : Type 0 where
   pub none : (jobs_of_unit s.pending unit).start ≡ None
   pub rests : is_down_or_done (state_of_unit s.units unit).sub (state_of_unit s.units unit).stop_asked ≡ true
 
--- a command in the list, which is taken from this state on, isn't refused and puts a start of the unit
-pub data PutsStart (size : ℕ) (unit : List ℕ) : State → List Input → Type 0 where
-  now : {s u : State} {moment : ℕ} {verb : UnitVerb} {asked : List ℕ} {mode : JobMode} {inputs : List Input}
-      → ((r : Refused) → ¬ Refuses s (ForUnit verb asked mode) r) → Changes s (ForUnit verb asked mode) u → (jobs_of_unit u.pending unit).start ≢ None
-      → PutsStart size unit s (record { moment = moment; event = Commanded (ForUnit verb asked mode) } ∷ inputs)
-  later : {s t : State} {input : Input} {inputs : List Input} (reply : Reply) (actions : List Action) → Step size s input reply actions t
-      → PutsStart size unit t inputs → PutsStart size unit s (input ∷ inputs)
+-- a command was done, and its plan has a start of the unit where none was pending
+pub record PutsStart (unit : List ℕ) (s : State) (input : Input) (reply : Reply) : Type 0 where
+  pub command : Command
+  pub is : input.event ≡ Commanded command
+  pub done : reply ≡ Done
+  pub planned : State
+  pub changes : Changes s command planned
+  pub none : (jobs_of_unit s.pending unit).start ≡ None
+  pub one : (jobs_of_unit planned.pending unit).start ≢ None
+
+-- no command of the run puts a start of the unit
+abbrev pub PutsNoStart : (unit : List ℕ) → {size : ℕ} {s t : State} {inputs : List Input} → Run size s inputs t → Type 0
+PutsNoStart unit Run.rests = ⊤
+PutsNoStart unit (goes {s = s} {input = input} reply actions step run) = (¬ PutsStart unit s input reply) × PutsNoStart unit run

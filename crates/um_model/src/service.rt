@@ -1,4 +1,5 @@
 ghost use Rattle.std.specs.Prelude.{◌≡◌, ◌||◌, ◌&&◌, ◌==◌, not, is_none};
+ghost use Rattle.um_model.specs.Ends.{waits_for_report};
 ghost use Rattle.um_model.specs.Service.{holds_nothing, sub_state_text, active_state_of, active_state_text, result_text, is_number};
 
 use crate::limit::Counted;
@@ -138,6 +139,13 @@ impl SubState {
             SubState::AutoRestart => "auto-restart",
             SubState::Active => "active",
         }
+    }
+
+    /// Whether a unit that has come so far waits for the report that the program of its main process runs.
+    pub fn waits_for_report(self) -> bool
+        ensures { result ≡ waits_for_report self }
+    {
+        matches!(self, SubState::Start)
     }
 
     /// The active state of a unit that has come so far.

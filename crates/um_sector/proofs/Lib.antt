@@ -1,3 +1,4 @@
+mod Behind
 mod Front
 mod Notes
 mod Picks

@@ -10,7 +10,7 @@ use Rattle.um_sector.specs.Unsynced.{unsynced, picked}
 use Rattle.um_sector.proofs.Notes.{unsynced_no, turn_yes}
 
 -- each sector has a candidate
-some_length : (past : Past) (k : ℕ) → 0 < length (candidates past k)
+pub some_length : (past : Past) (k : ℕ) → 0 < length (candidates past k)
 some_length past k = let has = (some_candidate past.start past.calls k).1 in let below : has.0 < length (candidates past k) = has.1 in omega (arith, below)
 
 -- a choice with a default is a candidate

@@ -1,12 +1,17 @@
--- What a fuse adds to a disk: one failure, at one call.
+-- What a fuse adds to the failures of a disk.
 -- No manual page has it: it is the project's own test device.
 -- Fuse stands on this file.
-use Rattle.std.specs.Prelude.{ℕ, ◌+◌, ◌-◌, ◌^◌, ◌&&◌, min, nat_lt, nat_le, if◌then◌else◌}
+use Rattle.std.specs.Prelude.{◌+◌, ◌-◌, ◌^◌, min, ℕ, Result}
+use Rattle.um_model.specs.Disk.{Sector, Past, Wrote}
+use Rattle.um_sector.specs.Runs.{CountsFailure}
+use Rattle.um_sector.specs.declared.fault.Fault.{Fault}
 
--- the failures of the fuse itself, after these calls: its one call has failed once it was made
-abbrev pub own_failures : ℕ → ℕ → ℕ
-own_failures fails calls = if nat_lt 0 fails && nat_le fails calls then 1 else 0
+-- the failures of the disk below with those of the fuse itself, in a count that stays at its last value
+abbrev pub failures_with : ℕ → ℕ → ℕ
+failures_with below own = min (below + own) (2 ^ 64 - 1)
 
--- with those of the disk below, in a count that stays at its last value
-abbrev pub failures_with : ℕ → ℕ → ℕ → ℕ
-failures_with below fails calls = min (below + own_failures fails calls) (2 ^ 64 - 1)
+-- The disk below was asked to write the value there, whatever it answered.
+pub record IsAsked (honest : Type 0) (below above : ℕ) (old : Past) (k : ℕ) (value : Sector) (new : Past) : Type 0 where
+  pub answer : Result (Unit {0}) Fault
+  pub counts : CountsFailure answer below above
+  pub wrote : honest → Wrote answer old k value new

@@ -1,7 +1,7 @@
 -- What the notes of a disk in memory stand for.
 -- No manual page has it: it is the disk model of um_model, kept as a list.
 -- MemDisk stands on this file.
-use Rattle.std.specs.Prelude.{ℕ, List, [], ◌∷◌, map, reverse, replicate, slice_index_or}
+use Rattle.std.specs.Prelude.{ℕ, Bool, false, nat_lt, List, [], ◌∷◌, map, reverse, replicate, slice_index_or}
 use Rattle.std.specs.List.{Contains}
 use Rattle.std.proofs.Common.{sym, subst, ⊎_elim}
 use Rattle.std.proofs.lemmas.Bool.{cases_eq}
@@ -15,6 +15,11 @@ use Rattle.um_sector.specs.declared.noted.Noted.TheVariants.{Write, Sync}
 abbrev pub call_of : Noted → Call
 call_of (Write k value) = wrote k value value
 call_of Sync = synced
+
+-- whether it is a write of one of the first n sectors
+abbrev pub is_write_within : ℕ → Noted → Bool
+is_write_within n (Write k value) = nat_lt k n
+is_write_within n Sync = false
 
 -- the image of these sectors: a sector that isn't there has no bytes
 abbrev pub image_of : List Sector → Image

@@ -1,33 +1,55 @@
-ghost use Rattle.std.specs.Prelude.{◌≡◌, ◌≢◌, ◌+◌, ◌<◌, ◌==◌, OnOk, IsErr, IsTrue};
-ghost use Rattle.std.specs.Bool.{OnTrue, OnFalse};
+ghost use Rattle.std.specs.Prelude.{◌≡◌, ◌≢◌, ◌+◌, ◌<◌, ◌==◌, true, false, OnOk, IsErr, IsTrue};
 ghost use Rattle.um_model.specs.Disk.{seen, Wrote, Synced};
 ghost use Rattle.um_sector.specs.Runs.{CountsFailure};
 ghost use Rattle.um_model.specs.Disk.{one_more};
-ghost use Rattle.um_sector.specs.Fused.{own_failures, failures_with};
+ghost use Rattle.um_sector.specs.Fused.{failures_with, IsAsked};
 
 use crate::disk::{Disk, Sector};
 use crate::fault::Fault;
 
 /// A disk that fails one call and goes on: its `fails`-th, counted from 1 since the fuse was put in. The disk below isn't
-/// asked that call. With `fails` 0 no call is failed.
+/// asked that call, unless it is a write and the fuse is one that makes it. With `fails` 0 no call is failed.
 #[derive(Drop)]
 pub struct Fuse<D: Disk> {
     inner: D,
     fails: u64,
+    /// The write that it fails is made below.
+    makes: bool,
     calls: u64,
+    /// The failures that the disk below knows nothing of.
+    own: u64,
 }
 
 impl<D: Disk> Fuse<D> {
-    /// Fails the `fails`-th call from now on.
+    /// Fails the `fails`-th call from now on, which isn't made.
     pub fn new(inner: D, fails: u64) -> Fuse<D>
         ensures inner { result.inner ≡ inner }
         ensures fails { result.fails ≡ fails }
+        ensures makes { result.makes ≡ false }
         ensures calls { result.calls ≡ 0 }
     {
         Fuse {
             inner,
             fails,
+            makes: false,
             calls: 0,
+            own: 0,
+        }
+    }
+
+    /// Fails the `fails`-th call from now on: if it is a write, the disk below is asked it all the same.
+    pub fn making(inner: D, fails: u64) -> Fuse<D>
+        ensures inner { result.inner ≡ inner }
+        ensures fails { result.fails ≡ fails }
+        ensures makes { result.makes ≡ true }
+        ensures calls { result.calls ≡ 0 }
+    {
+        Fuse {
+            inner,
+            fails,
+            makes: true,
+            calls: 0,
+            own: 0,
         }
     }
 
@@ -42,11 +64,7 @@ impl<D: Disk> Fuse<D> {
     pub fn into_inner(self) -> D
         ensures { result ≡ self.inner }
     {
-        let Fuse {
-            inner,
-            fails: _,
-            calls: _,
-        } = self;
+        let Fuse { inner, .. } = self;
         inner
     }
 
@@ -54,14 +72,44 @@ impl<D: Disk> Fuse<D> {
     fn burns(&mut self) -> bool
         ensures due { result ≡ (self.old.calls + 1 == self.old.fails) }
         ensures inner { self.new.inner ≡ self.old.inner }
-        ensures fails { self.new.fails ≡ self.old.fails }
+        ensures fails { (self.new.fails ≡ self.old.fails) × (self.new.makes ≡ self.old.makes) }
         ensures calls { self.new.calls ≡ one_more self.old.calls }
-        ensures burnt { OnTrue result ((own_failures self.old.fails self.old.calls ≡ 0) × (own_failures self.new.fails self.new.calls ≡ 1)) }
-        ensures whole { OnFalse result (own_failures self.new.fails self.new.calls ≡ own_failures self.old.fails self.old.calls) }
+        ensures own { self.new.own ≡ self.old.own }
     {
         let is_due = self.calls.checked_add(1) == Some(self.fails);
         self.calls = self.calls.saturating_add(1);
         is_due
+    }
+
+    /// Counts a failure of its own.
+    fn fail(&mut self) -> Fault
+        ensures inner { self.new.inner ≡ self.old.inner }
+        ensures fails { (self.new.fails ≡ self.old.fails) × (self.new.makes ≡ self.old.makes) }
+        ensures calls { self.new.calls ≡ self.old.calls }
+        ensures own { self.new.own ≡ one_more self.old.own }
+    {
+        self.own = self.own.saturating_add(1);
+        Fault
+    }
+
+    /// Fails a write, which the disk below is asked where this fuse makes it. A failure there is counted there alone.
+    fn fail_write(&mut self, k: usize, sector: &Sector) -> Result<(), Fault>
+        ensures failed { IsErr result }
+        ensures past { IsTrue (D.honest self.old.inner) → Wrote result (D.past self.old.inner) k sector.now (D.past self.new.inner) }
+        ensures made { self.old.makes ≡ true
+            → IsAsked (IsTrue (D.honest self.old.inner)) (D.failures self.old.inner) (D.failures self.new.inner) (D.past self.old.inner) k sector.now (D.past self.new.inner) }
+        ensures unmade { self.old.makes ≡ false → self.new.inner ≡ self.old.inner }
+        ensures failures { failures_with (D.failures self.new.inner) self.new.own ≡ one_more (failures_with (D.failures self.old.inner) self.old.own) }
+        ensures fails { (self.new.fails ≡ self.old.fails) × (self.new.makes ≡ self.old.makes) }
+        ensures calls { self.new.calls ≡ self.old.calls }
+        ensures size { D.size self.new.inner ≡ D.size self.old.inner }
+        ensures honest { D.honest self.new.inner ≡ D.honest self.old.inner }
+    {
+        if !self.makes {
+            return Err(self.fail());
+        }
+        self.inner.write(k, sector)?;
+        Err(self.fail())
     }
 }
 
@@ -72,7 +120,7 @@ impl<D: Disk> Disk for Fuse<D> {
 
     ghost calls = { λ f. f.calls };
 
-    ghost failures = { λ f. failures_with (D.failures f.inner) f.fails f.calls };
+    ghost failures = { λ f. failures_with (D.failures f.inner) f.own };
 
     ghost honest = { λ f. D.honest f.inner };
 
@@ -87,16 +135,16 @@ impl<D: Disk> Disk for Fuse<D> {
         ensures there { OnOk result (k < D.size self.old.inner) }
         ensures past { IsTrue (D.honest self.old.inner) → D.past self.new.inner ≡ D.past self.old.inner }
         ensures calls { self.new.calls ≡ one_more self.old.calls }
-        ensures failures { CountsFailure result (failures_with (D.failures self.old.inner) self.old.fails self.old.calls) (failures_with (D.failures self.new.inner) self.new.fails self.new.calls) }
+        ensures failures { CountsFailure result (failures_with (D.failures self.old.inner) self.old.own) (failures_with (D.failures self.new.inner) self.new.own) }
         ensures size { D.size self.new.inner ≡ D.size self.old.inner }
         ensures honest { D.honest self.new.inner ≡ D.honest self.old.inner }
-        ensures fails { self.new.fails ≡ self.old.fails }
+        ensures fails { (self.new.fails ≡ self.old.fails) × (self.new.makes ≡ self.old.makes) }
         ensures due { self.old.calls + 1 ≡ self.old.fails → IsErr result × (self.new.inner ≡ self.old.inner) }
         ensures asked { self.old.calls + 1 ≢ self.old.fails → D.calls self.new.inner ≡ one_more (D.calls self.old.inner) }
         ensures answer { self.old.calls + 1 ≢ self.old.fails → CountsFailure result (D.failures self.old.inner) (D.failures self.new.inner) }
     {
         if self.burns() {
-            return Err(Fault);
+            return Err(self.fail());
         }
         self.inner.read(k, sector)
     }
@@ -105,16 +153,18 @@ impl<D: Disk> Disk for Fuse<D> {
         ensures past { IsTrue (D.honest self.old.inner) → Wrote result (D.past self.old.inner) k sector.now (D.past self.new.inner) }
         ensures there { OnOk result (k < D.size self.old.inner) }
         ensures calls { self.new.calls ≡ one_more self.old.calls }
-        ensures failures { CountsFailure result (failures_with (D.failures self.old.inner) self.old.fails self.old.calls) (failures_with (D.failures self.new.inner) self.new.fails self.new.calls) }
+        ensures failures { CountsFailure result (failures_with (D.failures self.old.inner) self.old.own) (failures_with (D.failures self.new.inner) self.new.own) }
         ensures size { D.size self.new.inner ≡ D.size self.old.inner }
         ensures honest { D.honest self.new.inner ≡ D.honest self.old.inner }
-        ensures fails { self.new.fails ≡ self.old.fails }
-        ensures due { self.old.calls + 1 ≡ self.old.fails → IsErr result × (self.new.inner ≡ self.old.inner) }
+        ensures fails { (self.new.fails ≡ self.old.fails) × (self.new.makes ≡ self.old.makes) }
+        ensures due { self.old.calls + 1 ≡ self.old.fails → IsErr result × (self.old.makes ≡ false → self.new.inner ≡ self.old.inner) }
+        ensures made { self.old.calls + 1 ≡ self.old.fails → self.old.makes ≡ true
+            → IsAsked (IsTrue (D.honest self.old.inner)) (D.failures self.old.inner) (D.failures self.new.inner) (D.past self.old.inner) k sector.now (D.past self.new.inner) }
         ensures asked { self.old.calls + 1 ≢ self.old.fails → D.calls self.new.inner ≡ one_more (D.calls self.old.inner) }
         ensures answer { self.old.calls + 1 ≢ self.old.fails → CountsFailure result (D.failures self.old.inner) (D.failures self.new.inner) }
     {
         if self.burns() {
-            return Err(Fault);
+            return self.fail_write(k, sector);
         }
         self.inner.write(k, sector)
     }
@@ -122,16 +172,16 @@ impl<D: Disk> Disk for Fuse<D> {
     fn sync(&mut self) -> Result<(), Fault>
         ensures past { IsTrue (D.honest self.old.inner) → Synced result (D.past self.old.inner) (D.past self.new.inner) }
         ensures calls { self.new.calls ≡ one_more self.old.calls }
-        ensures failures { CountsFailure result (failures_with (D.failures self.old.inner) self.old.fails self.old.calls) (failures_with (D.failures self.new.inner) self.new.fails self.new.calls) }
+        ensures failures { CountsFailure result (failures_with (D.failures self.old.inner) self.old.own) (failures_with (D.failures self.new.inner) self.new.own) }
         ensures size { D.size self.new.inner ≡ D.size self.old.inner }
         ensures honest { D.honest self.new.inner ≡ D.honest self.old.inner }
-        ensures fails { self.new.fails ≡ self.old.fails }
+        ensures fails { (self.new.fails ≡ self.old.fails) × (self.new.makes ≡ self.old.makes) }
         ensures due { self.old.calls + 1 ≡ self.old.fails → IsErr result × (self.new.inner ≡ self.old.inner) }
         ensures asked { self.old.calls + 1 ≢ self.old.fails → D.calls self.new.inner ≡ one_more (D.calls self.old.inner) }
         ensures answer { self.old.calls + 1 ≢ self.old.fails → CountsFailure result (D.failures self.old.inner) (D.failures self.new.inner) }
     {
         if self.burns() {
-            return Err(Fault);
+            return Err(self.fail());
         }
         self.inner.sync()
     }

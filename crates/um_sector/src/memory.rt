@@ -1,11 +1,11 @@
-ghost use Rattle.std.specs.Prelude.{◌≡◌, ◌<◌, ℕ, [], length, true, map, replicate, slice_index_or, IfOk};
+ghost use Rattle.std.specs.Prelude.{◌≡◌, ◌≢◌, ◌-◌, ◌<◌, ◌≤◌, ℕ, [], ◌∷◌, length, true, map, take, drop, replicate, slice_index_or, IfOk};
 ghost use Rattle.um_model.specs.Disk as model;
 ghost use Rattle.um_sector.specs.Unsynced as syncs;
 ghost use Rattle.um_model.specs.Disk.{seen, Wrote, Synced};
 ghost use Rattle.um_sector.specs.Runs.{CountsFailure};
 ghost use Rattle.um_model.specs.Disk.{one_more};
-ghost use Rattle.um_sector.specs.Noted.{past_of, blank, seen_is_image};
-ghost use Rattle.std.specs.List.{range_with_len};
+ghost use Rattle.um_sector.specs.Noted.{past_of, blank, seen_is_image, is_write_within};
+ghost use Rattle.std.specs.List.{range_with_len, AllPass};
 
 use crate::disk::{Disk, Sector};
 use crate::fault::Fault;
@@ -21,12 +21,19 @@ pub struct MemDisk {
     start: Vec<Sector>,
     /// What a read gives.
     held: Vec<Sector>,
+    /// What a read gave at the last sync, or at the start.
+    synced: Vec<Sector>,
     /// Its writes and syncs that answered Ok, the oldest first.
     noted: Vec<Noted>,
+    /// So many notes end with the last sync; those behind it are writes.
+    since: usize,
     calls: u64,
     failures: u64,
-    ghost same_size: { length held.items ≡ length start.items },
+    ghost same_size: { (length held.items ≡ length start.items) × (length synced.items ≡ length start.items) },
     ghost shown: { (k : ℕ) → slice_index_or held.items k [] ≡ seen (past_of start.items noted.items) k },
+    ghost noted_since: { since ≤ length noted.items },
+    ghost at_sync: { (k : ℕ) → model.candidates (past_of start.items (take since noted.items)) k ≡ slice_index_or synced.items k [] ∷ [] },
+    ghost behind: { AllPass (is_write_within (length start.items)) (drop since noted.items) },
 }
 
 /// So many sectors of zeros.
@@ -48,16 +55,29 @@ fn pick_at(picks: &[usize], turn: usize) -> usize
     if turn < picks.len() { picks[turn] } else { 0 }
 }
 
-/// The candidate at that index; the first where there is no such candidate.
-fn chosen(choices: &[Sector], pick: usize) -> Sector
-    requires { 0 < length choices.now }
-    ensures { result ≡ slice_index_or choices.now pick (slice_index_or choices.now 0 []) }
+/// Makes these writes.
+fn replay(sectors: &mut [Sector], calls: &[Noted])
+    requires { AllPass (is_write_within (length sectors.now)) calls.now }
+    ensures shown { (k : ℕ) → slice_index_or sectors.new k [] ≡ seen (past_of sectors.old calls.now) k }
+    ensures long { length sectors.new ≡ length sectors.old }
 {
-    if pick < choices.len() {
-        choices[pick]
-    } else {
-        choices[0]
+    for call in calls {
+        if let Noted::Write { k, value } = call {
+            sectors[*k] = *value;
+        }
     }
+}
+
+/// Takes one from what is left, and the value where nothing is left then.
+fn take_turn(left: &mut usize, sector: &mut Sector, value: &Sector)
+    ensures left { left.new ≡ left.old - 1 }
+    ensures last { left.old ≡ 1 → sector.new ≡ value.now }
+    ensures other { left.old ≢ 1 → sector.new ≡ sector.old }
+{
+    if *left == 1 {
+        *sector = *value;
+    }
+    *left = left.saturating_sub(1);
 }
 
 impl MemDisk {
@@ -69,10 +89,23 @@ impl MemDisk {
         ensures fresh { IfOk result (λ disk. disk.noted.items ≡ []) }
         ensures counts { IfOk result (λ disk. (disk.calls ≡ 0) × (disk.failures ≡ 0)) }
     {
+        MemDisk::holding(alloc, blank_sectors(alloc, sectors)?)
+    }
+
+    /// A disk that was just made with these sectors.
+    fn holding(alloc: Global, start: Vec<Sector>) -> Result<MemDisk, AllocError>
+        ensures start { IfOk result (λ disk. disk.start.items ≡ start.items) }
+        ensures fresh { IfOk result (λ disk. disk.noted.items ≡ []) }
+        ensures counts { IfOk result (λ disk. (disk.calls ≡ 0) × (disk.failures ≡ 0)) }
+    {
+        let held = Vec::from_slice(alloc, &start)?;
+        let synced = Vec::from_slice(alloc, &start)?;
         Ok(MemDisk {
-            start: blank_sectors(alloc, sectors)?,
-            held: blank_sectors(alloc, sectors)?,
+            start,
+            held,
+            synced,
             noted: Vec::new(alloc),
+            since: 0,
             calls: 0,
             failures: 0,
         })
@@ -82,9 +115,10 @@ impl MemDisk {
     pub fn unsynced(&self, alloc: Global) -> Result<Vec<(usize, usize)>, AllocError>
         ensures { IfOk result (λ list. list.items ≡ syncs.unsynced (history self.now) (length self.now.held.items)) }
     {
+        let counts = self.counts(alloc)?;
         let mut list = Vec::new(alloc);
-        for k in 0..self.held.len() {
-            let count = self.candidates(alloc, k)?.len();
+        for k in 0..counts.len() {
+            let count = counts[k];
             if count > 1 {
                 list.push((k, count))?;
             }
@@ -99,13 +133,7 @@ impl MemDisk {
         ensures fresh { IfOk result (λ disk. disk.noted.items ≡ []) }
         ensures counts { IfOk result (λ disk. (disk.calls ≡ 0) × (disk.failures ≡ 0)) }
     {
-        Ok(MemDisk {
-            start: self.picked(alloc, picks)?,
-            held: self.picked(alloc, picks)?,
-            noted: Vec::new(alloc),
-            calls: 0,
-            failures: 0,
-        })
+        MemDisk::holding(alloc, self.picked(alloc, picks)?)
     }
 
     /// The same disk as it stands, with nothing kept of the calls before: so much as a crash may leave where all is synced. It takes no
@@ -118,15 +146,19 @@ impl MemDisk {
         let MemDisk {
             mut start,
             held,
+            mut synced,
             mut noted,
             ..
         } = self;
         start.copy_from_slice(held.as_slice());
+        synced.copy_from_slice(held.as_slice());
         noted.clear();
         MemDisk {
             start,
             held,
+            synced,
             noted,
+            since: 0,
             calls: 0,
             failures: 0,
         }
@@ -143,39 +175,41 @@ impl MemDisk {
     fn picked(&self, alloc: Global, picks: &[usize]) -> Result<Vec<Sector>, AllocError>
         ensures { IfOk result (λ list. list.items ≡ map (syncs.picked (history self.now) picks.now) (range_with_len 0 (length self.now.held.items))) }
     {
+        let mut left = self.turns(alloc, picks)?;
+        let mut list = Vec::from_slice(alloc, &self.synced)?;
+        for call in &self.noted[self.since..] {
+            if let Noted::Write { k, value } = call {
+                take_turn(&mut left[*k], &mut list[*k], value);
+            }
+        }
+        Ok(list)
+    }
+
+    /// The pick for each sector; a sector with one candidate has the next one's.
+    fn turns(&self, alloc: Global, picks: &[usize]) -> Result<Vec<usize>, AllocError>
+        ensures { IfOk result (λ list. list.items ≡ map (λ k. slice_index_or picks.now (length (syncs.unsynced (history self.now) k)) 0) (range_with_len 0 (length self.now.held.items))) }
+    {
+        let counts = self.counts(alloc)?;
         let mut list = Vec::new(alloc);
         let mut turn = 0;
-        for k in 0..self.held.len() {
-            let choices = self.candidates(alloc, k)?;
-            list.push(chosen(&choices, pick_at(picks, turn)))?;
-            if choices.len() > 1 {
+        for k in 0..counts.len() {
+            list.push(pick_at(picks, turn))?;
+            if counts[k] > 1 {
                 turn += 1;
             }
         }
         Ok(list)
     }
 
-    /// The candidates of sector `k`, the value at the last sync first.
-    fn candidates(&self, alloc: Global, k: usize) -> Result<Vec<Sector>, AllocError>
-        requires { k < length self.now.held.items }
-        ensures candidates { IfOk result (λ list. list.items ≡ model.candidates (history self.now) k) }
-        ensures some { IfOk result (λ list. 0 < length list.items) }
+    /// How many candidates each sector has.
+    fn counts(&self, alloc: Global) -> Result<Vec<usize>, AllocError>
+        ensures long { IfOk result (λ list. length list.items ≡ length self.now.held.items) }
+        ensures counts { IfOk result (λ list. (k : ℕ) → k < length list.items → slice_index_or list.items k 0 ≡ length (model.candidates (history self.now) k)) }
     {
-        let mut last = self.start[k];
-        let mut list = Vec::new(alloc);
-        list.push(last)?;
-        for call in &self.noted {
-            match call {
-                Noted::Write { k: sector, value } => {
-                    if *sector == k {
-                        list.push(*value)?;
-                        last = *value;
-                    }
-                }
-                Noted::Sync => {
-                    list.clear();
-                    list.push(last)?;
-                }
+        let mut list = vec![in alloc; 1; self.held.len()]?;
+        for call in &self.noted[self.since..] {
+            if let Noted::Write { k, .. } = call {
+                list[*k] += 1;
             }
         }
         Ok(list)
@@ -183,7 +217,8 @@ impl MemDisk {
 
     /// Counts a call that failed.
     fn fail(&mut self) -> Fault
-        ensures past { (self.new.start ≡ self.old.start) × (self.new.held ≡ self.old.held) × (self.new.noted ≡ self.old.noted) }
+        ensures past { (self.new.start ≡ self.old.start) × (self.new.held ≡ self.old.held) × (self.new.synced ≡ self.old.synced) }
+        ensures notes { (self.new.noted ≡ self.old.noted) × (self.new.since ≡ self.old.since) }
         ensures calls { self.new.calls ≡ self.old.calls }
         ensures failures { self.new.failures ≡ one_more self.old.failures }
     {
@@ -233,9 +268,12 @@ impl Disk for MemDisk {
 
     fn sync(&mut self) -> Result<(), Fault> {
         self.calls = self.calls.saturating_add(1);
+        let end = self.noted.len();
         if self.noted.push(Noted::Sync).is_err() {
             return Err(self.fail());
         }
+        replay(&mut self.synced, &self.noted[self.since..end]);
+        self.since = self.noted.len();
         Ok(())
     }
 }

@@ -6,7 +6,7 @@ use Rattle.um_fates.specs.Fates.{inputs_of_tale, inputs_of_end, inputs_told, is_
 use Rattle.um_keeper.specs.Answering.{Answer, Answered, AreAnswered, accepted, refused, turned_away, all_answered, and_next}
 use Rattle.um_manager.specs.Connections.{inputs_asked, inputs_of_asked}
 use Rattle.um_manager.specs.Places.{Place}
-use Rattle.um_manager.specs.Turns.{Now, Turned, Answers, firsts}
+use Rattle.um_manager.specs.Turns.{Now, Turned, Answers, each, fell, reopen, firsts}
 use Rattle.um_manager.specs.declared.pieces.Piece.{Piece}
 use Rattle.um_model.specs.Children.{Tale}
 use Rattle.um_model.specs.Machine.{State, Input, Step}
@@ -117,12 +117,13 @@ unchanged : (m : ℕ) (s t : State) → s.clock < m → has_changed s t ≡ fals
 unchanged m s t low still (inl same) = same
 unchanged m s t low still (inr to) = let rises : nat_lt s.clock t.clock ≡ true = grind (arith, nat_tests) in absurd (true≢false (sym rises ∙ still))
 
-answered : (size m : ℕ) (store : Result Unit Refusal) (s t : State) (inputs : List Input) (answers : List Answer) → AllAt m inputs → s.clock < m → has_changed s t ≡ false
-    → Answers size store s inputs answers t → t ≡ s
-answered size m (Ok done) s t inputs answers at low still is = unchanged m s t low still (moved at low is)
-answered size m (Err e) s t inputs answers at low still is = is.1
+answered : (place : Place) (m : ℕ) (s t : State) (inputs : List Input) (answers : List Answer) → AllAt m inputs → s.clock < m → has_changed s t ≡ false
+    → Answers place s inputs answers t → t ≡ s
+answered place m s t inputs answers at low still (each are) = unchanged m s t low still (moved at low are)
+answered place m s t inputs answers at low still (fell back) = back.state
+answered place m s t inputs answers at low still (reopen lost are same) = same
 
 pub nothing_changed : (place : Place) (store : Result Unit Refusal) (moment : ℕ) (pieces : List Piece) (a b : Now) → Turned place store moment pieces a b
     → a.state.clock < moment → has_changed a.state b.state ≡ false → b.state ≡ a.state
 nothing_changed place store moment pieces a b turned low still =
-    answered place.size moment store a.state b.state _ turned.answers (offered_at moment turned.told turned.requests) low still turned.answered
+    answered place moment a.state b.state _ turned.answers (offered_at moment turned.told turned.requests) low still turned.answered

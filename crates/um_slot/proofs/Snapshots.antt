@@ -11,7 +11,7 @@ use Rattle.um_model.specs.declared.layout.Slot.{Slot}
 use Rattle.um_model.specs.declared.layout.Slot.TheVariants.{A, B}
 use Rattle.um_model.specs.Store.{log_start, stops, IsOf, IsFree, IsLogEnd, IsStore, GoesOn, filled, superblock, slot_start, other, body_limit, IsHeader, sector_count, joined, body_at, IsNewest, HasNoHeader}
 use Rattle.um_model.proofs.StoreLaws.{same_header, filled_whole, take-filled, behind_slot, before_slot, home_same, kept_newest, none_of, same_records}
-use Rattle.um_slot.specs.Snapshots.{body_sector, IsSnapshot, MaybeSnapshot, AfterSnapshot, HasStore, EitherSnapshot}
+use Rattle.um_slot.specs.Snapshots.{body_sector, IsSnapshot, MaybeSnapshot, AfterSnapshot, HasStore, EitherSnapshot, HasNewest, EitherNewest}
 
 -- ---- a body that is written
 
@@ -62,20 +62,20 @@ written_header first last fits snapshot = record { first = first; last = last; f
 written_body : {layout : Layout} {image : Image} {slot : Slot} {generation : ℕ} {body : List ℕ} → IsSnapshot layout image slot generation body → body ≡ body_at layout image slot (length body)
 written_body {layout} {image} {slot} {generation} {body} snapshot = sym (body_back (sector_count (length body)) body image (slot_start layout slot + 1) (omega arith) snapshot.sectors)
 
--- The snapshot of the next generation in the other slot is the newest.
-pub new_newest : {layout : Layout} {old image : Image} {slot : Slot} {generation : ℕ} {before body : List ℕ} → IsNewest layout old slot generation before
-    → image (slot_start layout slot) ≡ old (slot_start layout slot) → generation + 1 < 2 ^ 64 → length body ≤ body_limit layout
-    → IsSnapshot layout image (other slot) (generation + 1) body → IsNewest layout image (other slot) (generation + 1) body
-new_newest {layout} {old} {image} {slot = A} {generation} {before} {body} newest same last fits snapshot = record {
+-- The snapshot of a later generation in the other slot is the newest.
+pub new_newest : {layout : Layout} {old image : Image} {slot : Slot} {generation later : ℕ} {before body : List ℕ} → IsNewest layout old slot generation before
+    → image (slot_start layout slot) ≡ old (slot_start layout slot) → generation < later → later < 2 ^ 64 → length body ≤ body_limit layout
+    → IsSnapshot layout image (other slot) later body → IsNewest layout image (other slot) later body
+new_newest {layout} {old} {image} {slot = A} {generation} {later} {before} {body} newest same above last fits snapshot = record {
   size = length body;
-  header = written_header (omega arith) last fits snapshot;
-  newer = λ theirs size header. let g = same_header (subst (λ (s : Sector). IsHeader layout s theirs size) same header) newest.header in omega (arith, g.0);
+  header = written_header (omega (arith, above)) last fits snapshot;
+  newer = λ theirs size header. let g = same_header (subst (λ (s : Sector). IsHeader layout s theirs size) same header) newest.header in omega (arith, g.0, above);
   body_is = written_body snapshot;
 }
-new_newest {layout} {old} {image} {slot = B} {generation} {before} {body} newest same last fits snapshot = record {
+new_newest {layout} {old} {image} {slot = B} {generation} {later} {before} {body} newest same above last fits snapshot = record {
   size = length body;
-  header = written_header (omega arith) last fits snapshot;
-  newer = λ theirs size header. let g = same_header (subst (λ (s : Sector). IsHeader layout s theirs size) same header) newest.header in omega (arith, g.0);
+  header = written_header (omega (arith, above)) last fits snapshot;
+  newer = λ theirs size header. let g = same_header (subst (λ (s : Sector). IsHeader layout s theirs size) same header) newest.header in omega (arith, g.0, above);
   body_is = written_body snapshot;
 }
 
@@ -96,45 +96,83 @@ kept_free {layout} {slot} {later} maybe free theirs j low high is = free theirs 
 
 -- ---- the whole store while a snapshot is written into the other slot
 
-module _ {layout : Layout} {old image : Image} {slot : Slot} {generation : ℕ} {before body : List ℕ} {records : List (List ℕ)} (store : IsStore layout old slot generation before records)
-    (maybe : MaybeSnapshot layout old (other slot) (generation + 1) body image) where
-  log_same : (j : ℕ) → log_start layout generation ≤ j → image j ≡ old j
-  log_same j low = maybe.outside j (inr (behind_slot layout (other slot) generation j low))
+module _ {layout : Layout} {old image : Image} {slot : Slot} {newest last : ℕ} {before body : List ℕ} (above : newest ≤ last) (has : HasNewest layout slot newest before last old)
+    (maybe : MaybeSnapshot layout old (other slot) (last + 1) body image) where
+  log_same : (j : ℕ) → log_start layout newest ≤ j → image j ≡ old j
+  log_same j low = maybe.outside j (inr (behind_slot layout (other slot) newest j low))
 
   first_same : image 0 ≡ superblock layout
-  first_same = maybe.outside 0 (inl (before_slot layout (other slot))) ∙ store.first
+  first_same = maybe.outside 0 (inl (before_slot layout (other slot))) ∙ has.first
 
   -- no log sector is of the next generation
-  pub next_free : IsFree layout (generation + 1) image (log_start layout (generation + 1))
-  next_free theirs j low high is = store.none_later theirs j low high (subst (IsOf theirs) (log_same j low) is)
+  next_free : IsFree layout (last + 1) image (log_start layout (last + 1))
+  next_free theirs j low high is = has.none_later theirs j low high (subst (IsOf theirs) (log_same j low) is)
 
-  kept_store : image (slot_start layout (other slot)) ≡ old (slot_start layout (other slot)) → IsStore layout image slot generation before records
-  kept_store same = record {
-    first = first_same;
-    newest = kept_newest store.newest maybe.outside same;
-    records_are = same_records 0 (log_start layout generation) records (λ j low high. log_same j low) store.records_are;
-    none_later = next_free;
-  }
+  snapshot_same : image (slot_start layout (other slot)) ≡ old (slot_start layout (other slot)) → IsNewest layout image slot newest before
+  snapshot_same same = kept_newest has.snapshot maybe.outside same
 
   -- with the whole snapshot, nothing of its generation stands in the log
-  pub new_store : generation + 1 < 2 ^ 64 → length body ≤ body_limit layout → IsSnapshot layout image (other slot) (generation + 1) body → IsStore layout image (other slot) (generation + 1) body []
-  new_store last fits snapshot = record {
+  new_store : last + 1 < 2 ^ 64 → length body ≤ body_limit layout → IsSnapshot layout image (other slot) (last + 1) body → IsStore layout image (other slot) (last + 1) body []
+  new_store small fits snapshot = record {
     first = first_same;
-    newest = new_newest store.newest (home_same store.newest maybe.outside) last fits snapshot;
-    records_are = stops (λ bytes. none_of last next_free 0 (log_start layout (generation + 1)) bytes (omega arith));
+    newest = new_newest has.snapshot (home_same has.snapshot maybe.outside) (omega (arith, above)) small fits snapshot;
+    records_are = stops (λ bytes. none_of small next_free 0 (log_start layout (last + 1)) bytes (omega arith));
     none_later = λ theirs j low high is. let below = next_free theirs j low high is in omega (arith, below);
+  }
+
+  -- The log of a new snapshot begins at its first sector.
+  new_end : IsLogEnd layout (last + 1) image [] 0 (log_start layout (last + 1))
+  new_end = record { count = refl; place = omega arith; within = omega arith; free = next_free }
+
+  -- What a crash leaves meanwhile has the newest snapshot and the log of before, or the new snapshot and no record.
+  either_newest : {past : Past} → IsImage past old → last + 1 < 2 ^ 64 → length body ≤ body_limit layout → EitherNewest layout past slot newest before last body image
+  either_newest {past} was small fits = ⊎_elim {C = EitherNewest layout past slot newest before last body image}
+      (λ same. inl (record { from = old; was = was; first = first_same; snapshot = snapshot_same same; log = log_same }))
+      (λ snapshot. inr (new_store small fits snapshot)) maybe.inside
+
+-- a store has its newest snapshot, and none of a later generation
+has_newest : {layout : Layout} {image : Image} {slot : Slot} {generation : ℕ} {body : List ℕ} {records : List (List ℕ)} → IsStore layout image slot generation body records
+    → HasNewest layout slot generation body generation image
+has_newest store = record { first = store.first; snapshot = store.newest; none_later = store.none_later }
+
+module _ {layout : Layout} {old image : Image} {slot : Slot} {generation : ℕ} {before body : List ℕ} {records : List (List ℕ)} (store : IsStore layout old slot generation before records)
+    (maybe : MaybeSnapshot layout old (other slot) (generation + 1) body image) where
+  same : generation ≤ generation
+  same = omega arith
+
+  kept_store : image (slot_start layout (other slot)) ≡ old (slot_start layout (other slot)) → IsStore layout image slot generation before records
+  kept_store beside = record {
+    first = first_same same (has_newest store) maybe;
+    newest = snapshot_same same (has_newest store) maybe beside;
+    records_are = same_records 0 (log_start layout generation) records (λ j low high. log_same same (has_newest store) maybe j low) store.records_are;
+    none_later = next_free same (has_newest store) maybe;
   }
 
   -- What a crash leaves meanwhile is the store as it was, or with the new snapshot and no record.
   pub either_store : generation + 1 < 2 ^ 64 → length body ≤ body_limit layout
       → IsStore layout image slot generation before records ⊎ IsStore layout image (other slot) (generation + 1) body []
-  either_store last fits = ⊎_elim (λ same. inl (kept_store same)) (λ snapshot. inr (new_store last fits snapshot)) maybe.inside
-
-  -- The log of a new snapshot begins at its first sector.
-  pub new_end : IsLogEnd layout (generation + 1) image [] 0 (log_start layout (generation + 1))
-  new_end = record { count = refl; place = omega arith; within = omega arith; free = next_free }
+  either_store last fits = ⊎_elim (λ beside. inl (kept_store beside)) (λ snapshot. inr (new_store same (has_newest store) maybe last fits snapshot)) maybe.inside
 
 -- ---- the same of whole runs of calls
+
+module _ {layout : Layout} (past : Past) {slot : Slot} {newest last : ℕ} {before : List ℕ} (above : newest ≤ last) (all : Images past (HasNewest layout slot newest before last)) where
+  -- before the first call
+  pub before_newest : (body : List ℕ) → During past past (EitherNewest layout past slot newest before last body)
+  before_newest body = started past _ (λ image is. inl (record { from = image; was = is; first = (all image is).first; snapshot = (all image is).snapshot; log = λ j low. refl }))
+
+  -- while a snapshot is written into the other slot
+  pub during_newest : {new : Past} {body : List ℕ} → last + 1 < 2 ^ 64 → length body ≤ body_limit layout
+      → During past new (AfterSnapshot layout past (other slot) (last + 1) body) → During past new (EitherNewest layout past slot newest before last body)
+  during_newest {new} {body} small fits run = weaker past new _ _ (λ image m. either_newest above (all m.from m.was) m.maybe m.was small fits) run
+
+  -- and behind it
+  pub goes_on_newest : {new : Past} {body : List ℕ} → last + 1 < 2 ^ 64 → length body ≤ body_limit layout → IsImage past (seen past)
+      → MaybeSnapshot layout (seen past) (other slot) (last + 1) body (seen new) → IsSnapshot layout (seen new) (other slot) (last + 1) body → IsSettled new
+      → GoesOn layout new (other slot) (last + 1) body [] (last + 1) 0 (log_start layout (last + 1))
+  goes_on_newest {new} {body} small fits is maybe snapshot done = record {
+    store = λ image at. subst (λ i. IsStore layout i (other slot) (last + 1) body []) (sym (done image at)) (new_store above (all (seen past) is) maybe small fits snapshot);
+    end = λ image at. subst (λ i. IsLogEnd layout (last + 1) i [] 0 (log_start layout (last + 1))) (sym (done image at)) (new_end above (all (seen past) is) maybe);
+  }
 
 module _ {layout : Layout} (past : Past) {slot : Slot} {generation : ℕ} {before : List ℕ} (stores : Images past (HasStore layout slot generation before)) where
   -- before the first call
@@ -151,7 +189,4 @@ module _ {layout : Layout} (past : Past) {slot : Slot} {generation : ℕ} {befor
   pub goes_on_other : {new : Past} {body : List ℕ} → generation + 1 < 2 ^ 64 → length body ≤ body_limit layout → IsImage past (seen past)
       → MaybeSnapshot layout (seen past) (other slot) (generation + 1) body (seen new) → IsSnapshot layout (seen new) (other slot) (generation + 1) body → IsSettled new
       → GoesOn layout new (other slot) (generation + 1) body [] (generation + 1) 0 (log_start layout (generation + 1))
-  goes_on_other {new} {body} last fits is maybe snapshot done = record {
-    store = λ image at. subst (λ i. IsStore layout i (other slot) (generation + 1) body []) (sym (done image at)) (new_store (stores (seen past) is) maybe last fits snapshot);
-    end = λ image at. subst (λ i. IsLogEnd layout (generation + 1) i [] 0 (log_start layout (generation + 1))) (sym (done image at)) (new_end (stores (seen past) is) maybe);
-  }
+  goes_on_other = goes_on_newest past (omega arith) (λ image is. has_newest (stores image is))

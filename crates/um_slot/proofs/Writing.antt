@@ -8,7 +8,15 @@ use Rattle.um_model.specs.declared.layout.Layout.{Layout}
 use Rattle.um_model.specs.declared.layout.Slot.{Slot}
 use Rattle.um_model.proofs.StoreLaws.{before_slot}
 use Rattle.um_model.specs.Store.{slot_start, body_limit, sector_count, header_sector}
-use Rattle.um_slot.specs.Snapshots.{body_sector, IsSnapshot, MaybeSnapshot, AfterSnapshot}
+use Rattle.um_slot.specs.Snapshots.{body_sector, body_run, IsSnapshot, MaybeSnapshot, AfterSnapshot}
+use Rattle.std.proofs.lemmas.List.FromFn.{length-map-range_with_len, get_or-map-range_with_len}
+
+-- a body has so many sectors, each in its place
+pub body_count : (body : List ℕ) → length (body_run body) ≡ sector_count (length body)
+body_count body = length-map-range_with_len (body_sector body) 0 (sector_count (length body))
+
+pub body_each : (body : List ℕ) (i : ℕ) → i < sector_count (length body) → slice_index_or (body_run body) i [] ≡ body_sector body i
+body_each body i low = get_or-map-range_with_len (body_sector body) 0 (sector_count (length body)) i i [] low (omega arith)
 
 -- nothing of it is written yet
 pub nothing_written : (layout : Layout) (old : Image) (slot : Slot) (generation : ℕ) (body : List ℕ) → MaybeSnapshot layout old slot generation body old
@@ -24,10 +32,15 @@ pub first_kept : (layout : Layout) (old new : Past) (slot : Slot) (generation : 
     → During old new (AfterSnapshot layout old slot generation body) → During old new (λ image. image 0 ≡ first)
 first_kept layout old new slot generation body first all run = weaker old new _ _ (λ image m. m.maybe.outside 0 (inl (before_slot layout slot)) ∙ all m.from m.was) run
 
-module _ (layout : Layout) (slot : Slot) (generation : ℕ) (body : List ℕ) (run : List Sector) (count : length run ≡ sector_count (length body))
-    (each : (i : ℕ) → i < length run → slice_index_or run i [] ≡ body_sector body i) (fits : length body ≤ body_limit layout) where
+module _ (layout : Layout) (slot : Slot) (generation : ℕ) (body : List ℕ) (fits : length body ≤ body_limit layout) where
   abbrev start : ℕ
   start = slot_start layout slot
+
+  abbrev run : List Sector
+  run = body_run body
+
+  count : length run ≡ sector_count (length body)
+  count = body_count body
 
   within : start + 1 + length run ≤ start + layout.slot_sectors
   within = omega (arith, count, fits, layout.slot_least)
@@ -49,7 +62,7 @@ module _ (layout : Layout) (slot : Slot) (generation : ℕ) (body : List ℕ) (r
     whole : (image : Image) → image start ≡ header_sector generation (length body) → ((j : ℕ) → (j < start) ⊎ (start + 1 ≤ j) → image j ≡ mid j) → IsSnapshot layout image slot generation body
     whole image header same = record {
       header = header;
-      sectors = λ i below. let low : i < length run = omega (arith, below, count) in same (start + 1 + i) (inr (omega arith)) ∙ laid.inside i low ∙ each i low;
+      sectors = λ i below. let low : i < length run = omega (arith, below, count) in same (start + 1 + i) (inr (omega arith)) ∙ laid.inside i low ∙ body_each body i below;
     }
 
     here : start + 0 ≡ start
@@ -75,10 +88,14 @@ module _ (layout : Layout) (slot : Slot) (generation : ℕ) (body : List ℕ) (r
       inside = inr (header_done image all);
     }
 
+  -- while the body is written, as a run of calls
+  pub first_run : (old mid : Past) → During old mid (AfterRun old (start + 1) run) → During old mid (AfterSnapshot layout old slot generation body)
+  first_run old mid first = weaker old mid _ _ (λ image m. record { from = m.from; was = m.was; maybe = body_maybe m.from image m.laid }) first
+
   -- both runs of calls
   pub both_runs : (old mid new : Past) → IsImage old (seen old) → During old mid (AfterRun old (start + 1) run) → IsLaid (seen old) (start + 1) run (seen mid)
       → During mid new (MaybeLaid (seen mid) start (header_sector generation (length body) ∷ [])) → During old new (AfterSnapshot layout old slot generation body)
   both_runs old mid new is first laid second =
       followed old mid new (AfterSnapshot layout old slot generation body)
-      (weaker old mid _ _ (λ image m. record { from = m.from; was = m.was; maybe = body_maybe m.from image m.laid }) first)
+      (first_run old mid first)
       (weaker mid new _ _ (λ image maybe. record { from = seen old; was = is; maybe = header_maybe (seen old) (seen mid) laid image maybe }) second)

@@ -1,10 +1,10 @@
-ghost use Rattle.std.specs.Prelude.{◌≡◌, ◌≤◌, ◌<◌, ℕ, List, [], length, IfOk, slice_index_or};
+ghost use Rattle.std.specs.Prelude.{◌≡◌, ◌+◌, ◌≤◌, length, IsTrue, OnOk};
+ghost use Rattle.um_model.specs.Disk.{seen, During, IsSettled};
 ghost use Rattle.um_model.specs.Store.{filled, sector_count};
-ghost use Rattle.um_slot.specs.Snapshots.{body_sector};
+ghost use Rattle.um_sector.specs.Runs.{CountsFailure, IsLaid, AfterRun};
+ghost use Rattle.um_slot.specs.Snapshots.{body_run};
 
-use std::alloc::{AllocError, Global};
-use std::marker::Model;
-use um_sector::{Fields, SECTOR_BYTES, Sector, next_chunk};
+use um_sector::{Disk, Fault, Fields, SECTOR_BYTES, Sector, next_chunk};
 
 /// A sector of these bytes.
 fn sector_of(bytes: &[u8]) -> Sector
@@ -16,56 +16,40 @@ fn sector_of(bytes: &[u8]) -> Sector
     fields.sector()
 }
 
-/// The sectors of a body.
-pub fn body_sectors(alloc: Global, body: &[u8]) -> Result<Vec<Sector>, AllocError>
-    ensures count { IfOk result (λ run. length run.items ≡ sector_count (length body.now)) }
-    ensures each { IfOk result (λ run. (i : ℕ) → i < length run.items → slice_index_or run.items i [] ≡ body_sector body.now i) }
+/// Writes the sectors of a body one behind the other, from sector `at` on.
+///
+/// Each image that a crash leaves during it is one of before, with any of these sectors in their places.
+fn write_body<D: Disk>(disk: &mut D, at: usize, body: &[u8]) -> Result<(), Fault>
+    requires { at + sector_count (length body.now) ≤ usize.MAX }
+    ensures during { IsTrue (D.honest disk.old) → During (D.past disk.old) (D.past disk.new) (AfterRun (D.past disk.old) at (body_run body.now)) }
+    ensures ok { OnOk result (IsTrue (D.honest disk.old) → IsLaid (seen (D.past disk.old)) at (body_run body.now) (seen (D.past disk.new))) }
+    ensures calls { D.calls disk.new ≤ D.calls disk.old + sector_count (length body.now) }
+    ensures failures { CountsFailure result (D.failures disk.old) (D.failures disk.new) }
+    ensures size { D.size disk.new ≡ D.size disk.old }
+    ensures honest { D.honest disk.new ≡ D.honest disk.old }
 {
-    let mut run = Vec::new(alloc);
     let mut rest = body;
-    for _ in 0..body.len().div_ceil(SECTOR_BYTES) {
+    for i in 0..body.len().div_ceil(SECTOR_BYTES) {
         let (chunk, behind) = next_chunk(rest, SECTOR_BYTES);
-        run.push(sector_of(chunk))?;
+        disk.write(at + i, &sector_of(chunk))?;
         rest = behind;
     }
-    Ok(run)
+    Ok(())
 }
 
-/// A body with its sectors, made before anything is written: to write it takes no more memory.
-#[derive(Drop)]
-pub struct Body {
-    bytes: Vec<u8>,
-    run: Vec<Sector>,
-}
-
-impl Model for Body {
-    ghost Value = { List ℕ };
-
-    ghost view = { λ b. b.bytes.items };
-
-    ghost invariant = { λ b. (length b.run.items ≡ sector_count (length b.bytes.items))
-        × ((i : ℕ) → i < length b.run.items → slice_index_or b.run.items i [] ≡ body_sector b.bytes.items i) };
-}
-
-impl Body {
-    /// The body of these bytes.
-    pub fn new(alloc: Global, bytes: Vec<u8>) -> Result<Body, AllocError>
-        ensures { IfOk result (λ body. body ≡ bytes.items) }
-    {
-        let run = body_sectors(alloc, &bytes)?;
-        Ok(Body { bytes, run })
-    }
-
-    pub(crate) fn bytes(&self) -> &[u8]
-        ensures { result.now ≡ self.now }
-    {
-        &self.bytes
-    }
-
-    pub(crate) fn run(&self) -> &[Sector]
-        ensures count { length result.now ≡ sector_count (length self.now) }
-        ensures each { (i : ℕ) → i < length result.now → slice_index_or result.now i [] ≡ body_sector self.now i }
-    {
-        &self.run
-    }
+/// Writes the sectors of a body one behind the other, from sector `at` on, and a sync behind them. It takes no memory.
+///
+/// Each image that a crash leaves during it is one of before, with any of these sectors in their places; after Ok they all stand there.
+pub fn write_body_synced<D: Disk>(disk: &mut D, at: usize, body: &[u8]) -> Result<(), Fault>
+    requires { at + sector_count (length body.now) ≤ usize.MAX }
+    ensures during { IsTrue (D.honest disk.old) → During (D.past disk.old) (D.past disk.new) (AfterRun (D.past disk.old) at (body_run body.now)) }
+    ensures ok { OnOk result (IsTrue (D.honest disk.old) → IsLaid (seen (D.past disk.old)) at (body_run body.now) (seen (D.past disk.new))) }
+    ensures settled { OnOk result (IsTrue (D.honest disk.old) → IsSettled (D.past disk.new)) }
+    ensures calls { D.calls disk.new ≤ D.calls disk.old + sector_count (length body.now) + 1 }
+    ensures failures { CountsFailure result (D.failures disk.old) (D.failures disk.new) }
+    ensures size { D.size disk.new ≡ D.size disk.old }
+    ensures honest { D.honest disk.new ≡ D.honest disk.old }
+{
+    write_body(disk, at, body)?;
+    disk.sync()
 }

@@ -1,28 +1,19 @@
-ghost use Rattle.std.specs.Prelude.{◌≡◌, ◌⊎◌, ◌↔◌, ◌+◌, ◌-◌, ◌<◌, ◌≤◌, ◌^◌, ℕ, List, [], length, Ok, Err, Some, None, IfOk, IfErr, IfSome, OnOk, IsTrue, slice_index_or};
+ghost use Rattle.std.specs.Prelude.{◌≡◌, ◌⊎◌, ◌↔◌, ◌+◌, ◌-◌, ◌<◌, ◌≤◌, ◌^◌, ℕ, List, [], length, Ok, Err, Some, None, IfOk, IfErr, IfSome, OnOk, IsTrue};
 ghost use Rattle.um_model.specs.Disk.{Sector, seen, Images, During, IsSettled};
 ghost use Rattle.um_model.specs.Store.{other, body_limit, log_start, sector_count, HasNoHeader, IsNewest, IsFree, IsStore, GoesOn};
-ghost use Rattle.um_slot.specs.Snapshots.{HasStore};
-ghost use Rattle.um_slot.specs.Snapshots.{body_sector, IsSnapshot, MaybeSnapshot, AfterSnapshot, EitherSnapshot};
+ghost use Rattle.um_slot.specs.Snapshots.{HasStore, HasNewest, EitherNewest};
+ghost use Rattle.um_slot.specs.Snapshots.{IsSnapshot, MaybeSnapshot, AfterSnapshot, EitherSnapshot};
 ghost use Rattle.um_model.specs.declared.layout.Slot.TheVariants.{A};
-ghost use Rattle.um_sector.specs.Refused.{CountsDevice, IsLost};
+ghost use Rattle.um_sector.specs.Refused.{CountsDevice};
 
 use crate::header::{Home, header_sector};
-use crate::sectors::{Body, body_sectors};
-use std::alloc::Global;
+use crate::sectors::write_body_synced;
 use um_model::{Layout, Slot};
 use um_sector::{Disk, Sector, write_run_synced};
 use um_wire::Refusal;
 
 /// Writes the sectors of a body into a slot and syncs, then its header, and syncs.
-fn write_slot<D: Disk>(
-    disk: &mut D,
-    layout: Layout,
-    to: Home,
-    body: &[u8],
-    run: &[Sector],
-) -> Result<(), Refusal>
-    requires count { length run.now ≡ sector_count (length body.now) }
-    requires each { (i : ℕ) → i < length run.now → slice_index_or run.now i [] ≡ body_sector body.now i }
+fn write_slot<D: Disk>(disk: &mut D, layout: Layout, to: Home, body: &[u8]) -> Result<(), Refusal>
     requires fits { length body.now ≤ body_limit layout }
     ensures during { IsTrue (D.honest disk.old) → During (D.past disk.old) (D.past disk.new) (AfterSnapshot layout (D.past disk.old) to.slot to.generation body.now) }
     ensures written { OnOk result (IsTrue (D.honest disk.old) → IsSnapshot layout (seen (D.past disk.new)) to.slot to.generation body.now) }
@@ -35,7 +26,7 @@ fn write_slot<D: Disk>(
     ensures honest { D.honest disk.new ≡ D.honest disk.old }
 {
     let start = layout.slot_start(to.slot);
-    write_run_synced(disk, start + 1, run)?;
+    write_body_synced(disk, start + 1, body)?;
     // The body is on the disk before a header names it.
     let header: [Sector; 1] = [header_sector(to.generation, body.len() as u64)];
     write_run_synced(disk, start, &header)?;
@@ -49,10 +40,13 @@ fn write_slot<D: Disk>(
 /// the store of an image of before, or of the store with the new body and no record; after Ok it is the latter, and the log is
 /// free from its first sector on. So records that weren't synced may be there or not meanwhile, and are gone after it.
 ///
-/// E20 where the generation is 2^64 - 1, whatever the body, with nothing written; E15, with nothing written; E16 where a disk
-/// call fails. It makes at most three disk calls more than the body has sectors.
+/// The generation at `home` may be above that of the newest snapshot, which stands in its slot: then no sector of the log is of a
+/// generation above it, meanwhile the newest snapshot and the log are those of an image of before, or the new body stands there, and
+/// after Ok it is the latter.
+///
+/// E20 where the generation is 2^64 - 1, whatever the body, with nothing written; E16 where a disk call fails: it takes no memory. It
+/// makes at most three disk calls more than the body has sectors.
 pub fn write_other<D: Disk>(
-    alloc: Global,
     disk: &mut D,
     layout: Layout,
     home: Home,
@@ -62,6 +56,12 @@ pub fn write_other<D: Disk>(
         → During (D.past disk.old) (D.past disk.new) (EitherSnapshot layout (D.past disk.old) home.slot home.generation before body.now) }
     ensures ok { IfOk result (λ to. IfSome to (λ to. IsTrue (D.honest disk.old) → (before : List ℕ) → Images (D.past disk.old) (HasStore layout home.slot home.generation before)
         → GoesOn layout (D.past disk.new) to.slot to.generation body.now [] to.generation 0 (log_start layout to.generation))) }
+    ensures during_newest { IsTrue (D.honest disk.old) → (newest : ℕ) (before : List ℕ) → newest ≤ home.generation
+        → Images (D.past disk.old) (HasNewest layout home.slot newest before home.generation)
+        → During (D.past disk.old) (D.past disk.new) (EitherNewest layout (D.past disk.old) home.slot newest before home.generation body.now) }
+    ensures ok_newest { IfOk result (λ to. IfSome to (λ to. IsTrue (D.honest disk.old) → (newest : ℕ) (before : List ℕ) → newest ≤ home.generation
+        → Images (D.past disk.old) (HasNewest layout home.slot newest before home.generation)
+        → GoesOn layout (D.past disk.new) to.slot to.generation body.now [] to.generation 0 (log_start layout to.generation))) }
     ensures settled { IfOk result (λ to. IfSome to (λ _. IsTrue (D.honest disk.old) → IsSettled (D.past disk.new))) }
     ensures home { IfOk result (λ to. IfSome to (λ to. (to.slot ≡ other home.slot) × (to.generation ≡ home.generation + 1))) }
     ensures spent { (result ≡ Err Refusal.GenerationsSpent) ↔ (home.generation ≡ 2 ^ 64 - 1) }
@@ -70,7 +70,7 @@ pub fn write_other<D: Disk>(
     ensures kept { IfErr result (λ e. (e ≡ Refusal.Device) ⊎ (disk.new ≡ disk.old)) }
     ensures calls { D.calls disk.new ≤ D.calls disk.old + sector_count (length body.now) + 3 }
     ensures failures { CountsDevice result (D.failures disk.old) (D.failures disk.new) }
-    ensures err { IfErr result (λ e. IsLost e ⊎ (e ≡ Refusal.GenerationsSpent)) }
+    ensures err { IfErr result (λ e. (e ≡ Refusal.Device) ⊎ (e ≡ Refusal.GenerationsSpent)) }
     ensures size { D.size disk.new ≡ D.size disk.old }
     ensures honest { D.honest disk.new ≡ D.honest disk.old }
 {
@@ -84,8 +84,7 @@ pub fn write_other<D: Disk>(
         slot: home.slot.other(),
         generation: home.generation + 1,
     };
-    let run = body_sectors(alloc, body)?;
-    write_slot(disk, layout, to, body, &run)?;
+    write_slot(disk, layout, to, body)?;
     Ok(Some(to))
 }
 
@@ -99,7 +98,7 @@ pub fn write_other<D: Disk>(
 pub fn write_first<D: Disk>(
     disk: &mut D,
     layout: Layout,
-    body: &Body,
+    body: &[u8],
 ) -> Result<Option<Home>, Refusal>
     ensures during { IsTrue (D.honest disk.old) → (first : Sector) → Images (D.past disk.old) (λ image. image 0 ≡ first)
         → During (D.past disk.old) (D.past disk.new) (λ image. image 0 ≡ first) }
@@ -115,14 +114,13 @@ pub fn write_first<D: Disk>(
     ensures size { D.size disk.new ≡ D.size disk.old }
     ensures honest { D.honest disk.new ≡ D.honest disk.old }
 {
-    let content = body.bytes();
-    if content.len() > layout.body_limit() {
+    if body.len() > layout.body_limit() {
         return Ok(None);
     }
     let home = Home {
         slot: Slot::A,
         generation: 1,
     };
-    write_slot(disk, layout, home, content, body.run())?;
+    write_slot(disk, layout, home, body)?;
     Ok(Some(home))
 }

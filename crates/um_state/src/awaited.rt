@@ -4,27 +4,20 @@ ghost use Rattle.std.specs.Prelude.{◌≡◌, ℕ, Some, IfOk, OnOk};
 ghost use Rattle.std.specs.BTreeSet as sets;
 ghost use Rattle.std.specs.FinMap as maps;
 ghost use Rattle.std.specs.Ordering.{nat_cmp};
-ghost use Rattle.um_model.specs.Ends.{waits_for_report};
 ghost use Rattle.um_state.specs.Awaiting.{Has, HasAll, awaited_by};
 ghost use Rattle.um_state.specs.Finding.{Finds};
 
 use crate::finder::Finder;
 use std::alloc::{AllocError, Global};
 use std::collections::{BTreeMap, BTreeSet};
-use um_model::{ProcessNumber, SubState, UnitState};
+use um_model::{ProcessNumber, UnitState};
 use um_name::UnitName;
-
-fn waits_for_report(sub: SubState) -> bool
-    ensures { result ≡ waits_for_report sub }
-{
-    matches!(sub, SubState::Start)
-}
 
 /// The number of the process whose report a unit that stands so may wait for.
 pub(crate) fn awaited_by(state: &UnitState) -> Option<ProcessNumber>
     ensures { result ≡ awaited_by state.now }
 {
-    if waits_for_report(state.sub) {
+    if state.sub.waits_for_report() {
         state.main
     } else {
         None

@@ -1,9 +1,10 @@
 //! The canonical bytes of the state: its version and its fields in order.
-ghost use Rattle.std.specs.Prelude.{◌≡◌, ◌≤◌, ◌++◌, true, length, drop, nat_lt, IfOk, IfSome, OnOk, OnErr};
+ghost use Rattle.std.specs.Prelude.{◌≡◌, ◌++◌, true, nat_lt, IfOk, OnOk, OnErr};
 ghost use Rattle.std.specs.List.{list_all};
-ghost use Rattle.std.specs.Option.{option_map};
 ghost use Rattle.um_model.specs.Bytes.{IsInFront};
+ghost use Rattle.um_model.specs.Machine as model;
 ghost use Rattle.um_model.specs.StateSpellings.{FitState, is_sound, state_at, state_spelling};
+ghost use Rattle.um_model.proofs.StateSpellingsLaws.{canonical_state};
 ghost use Rattle.um_state.specs.View.{state_of};
 
 use crate::boot::BootId;
@@ -48,11 +49,8 @@ fn is_sound(alloc: Global, state: &State) -> Result<bool, AllocError>
 }
 
 impl State {
-    /// Puts the bytes of the state behind what is there: its version, and its fields in order. It answers want of memory where a
-    /// growth is refused, and for a field of 2^32 texts or bytes. Then what was there still stands in front, and what stands behind it
-    /// isn't told. From the bytes of a state that isn't sound no state is read; every state of a run is sound
-    /// (`each_state_of_a_run_has_a_spelling`).
-    pub fn put(&self, out: &mut Vec<u8>) -> Result<(), AllocError>
+    /// Puts the version and the fields, sound or not.
+    fn put_fields(&self, out: &mut Vec<u8>) -> Result<(), AllocError>
         ensures put { OnOk result (out.new.items ≡ out.old.items ++ state_spelling (state_of self.now)) }
         ensures fits { OnOk result (is_sound (state_of self.now) ≡ true → FitState (state_of self.now)) }
         ensures front { OnErr result (IsInFront out.old.items out.new.items) }
@@ -67,13 +65,29 @@ impl State {
         self.pending.put(out)?;
         Ok(())
     }
+}
 
-    /// The state in front of the bytes and how many bytes it has, or None where no front of them spells a state. It answers want of
-    /// memory where a growth is refused.
-    pub fn get(alloc: Global, bytes: &[u8]) -> Result<Option<(State, usize)>, AllocError>
-        ensures read { IfOk result (λ found. state_at bytes.now ≡ option_map (λ x. (state_of x.0, drop x.1 bytes.now)) found) }
-        ensures within { IfOk result (λ found. IfSome found (λ x. x.1 ≤ length bytes.now)) }
-    {
+impl Canon for State {
+    ghost Value = { model.State };
+
+    ghost value = { state_of };
+
+    ghost fits = { FitState };
+
+    ghost spelling = { state_spelling };
+
+    ghost reading = { state_at };
+
+    // A state that isn't sound has no spelling. None of a run is like that (`each_state_of_a_run_has_a_spelling`), and that it isn't costs
+    // less to see than its bytes do to write.
+    fn put(&self, out: &mut Vec<u8>) -> Result<(), AllocError> {
+        if !is_sound(self.units.alloc, self)? {
+            return Err(AllocError);
+        }
+        self.put_fields(out)
+    }
+
+    fn get(alloc: Global, bytes: &[u8]) -> Result<Option<(State, usize)>, AllocError> {
         let [STATE_VERSION, rest @ ..] = bytes else {
             return Ok(None);
         };
@@ -95,4 +109,6 @@ impl State {
         }
         Ok(Some((state, n + 1)))
     }
+
+    ghost canonical = { canonical_state };
 }

@@ -1,6 +1,7 @@
 //! Served paths, and the tree of files and links.
-use crate::answers::{is_refused, put, repeated, same, same_at, tree_of};
+use crate::answers::{put, repeated, tree_of};
 use std::process::Abort;
+use um_rows_shared::{is_refused, same, same_at};
 use um_tree::{Entry, Layer, Place, ServedPath, Tree};
 
 /// Paths, and whether they are served.

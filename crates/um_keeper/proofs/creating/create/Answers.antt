@@ -5,11 +5,8 @@ use Rattle.um_keeper.specs.Creating.{unsynced}
 use Rattle.um_keeper.proofs.creating.create.Goals as goal
 
 -- nothing is written before all that takes memory
-pub returns-in_err-bytes-clause-during : goal.returns-in_err-bytes-clause-during
-returns-in_err-bytes-clause-during g c h = unsynced refl (started (g.D.Disk.past c.args.disk.now) _ (λ image at. inl at))
-
 pub returns-in_err-body-clause-during : goal.returns-in_err-body-clause-during
 returns-in_err-body-clause-during g c h = unsynced refl (started (g.D.Disk.past c.args.disk.now) _ (λ image at. inl at))
 
 pub lay-requires : goal.lay-requires
-lay-requires g c = record { empty = c.in_ok-body.ensures ∙ c.in_ok-bytes.ensures ∙ ap state_spelling c.empty.ensures }
+lay-requires g c = record { empty = c.deref.ensures.value ∙ c.in_ok-body.ensures.bytes ∙ ap state_spelling c.empty.ensures }

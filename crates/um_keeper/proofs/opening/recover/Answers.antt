@@ -1,34 +1,110 @@
-use Rattle.std.proofs.Common.{◌≡◌, ◌∙◌, sym, subst}
+use Rattle.std.proofs.Common.{◌≡◌, ◌∙◌, ◌-◌, ◌^◌, inl, inr, ⊎_elim, sym, subst}
 use Rattle.um_engine.specs.Engine.{state_in}
-use Rattle.um_model.specs.Disk.{seen, IsSettled, During, after, synced}
+use Rattle.um_model.specs.Disk.{seen, IsSettled, after, synced}
 use Rattle.um_model.proofs.DiskLaws.{settled_after_sync}
-use Rattle.um_keeper.specs.Opening.{IsAsBefore, IsTakenUp, IsRead}
-use Rattle.um_keeper.proofs.Results.{if_ok_from}
-use Rattle.um_keeper.proofs.Reopening.{synced_before, goes_on_before, next_of}
+use Rattle.um_log.specs.Greatest.{IsGreatest}
+use Rattle.um_keeper.specs.Opening.{IsUnread, IsUntaken, unread, spent, IsTakenUp, IsRead, StaysFor}
+use Rattle.um_keeper.proofs.Results.{err_same, if_ok_from, if_err_from, if_err_all, or_more}
+use Rattle.um_keeper.proofs.Reopening.{sync_unwritten, stays_of, next_of, greatest_of}
 use Rattle.um_keeper.proofs.opening.recover.Goals as goal
 
-pub returns-in_err-sync-clause-during : goal.returns-in_err-sync-clause-during
-returns-in_err-sync-clause-during g c h layout all =
-    synced_before c.sync.result layout (g.D.Disk.past c.args.disk.now) (g.D.Disk.past c.sync.new.self) all (g.met.D.Disk.seen_is_image c.args.disk.now h) (c.sync.ensures.past h)
+-- ---- refusals before anything is written
 
-pub returns-in_err-found-clause-during : goal.returns-in_err-found-clause-during
-returns-in_err-found-clause-during g c h layout all =
-    subst (λ p. During (g.D.Disk.past c.args.disk.now) p (IsAsBefore layout (g.D.Disk.past c.args.disk.now))) (sym (c.take_up.ensures.past (c.sync.ensures.honest ∙ h)))
-    (synced_before c.sync.result layout (g.D.Disk.past c.args.disk.now) (g.D.Disk.past c.sync.new.self) all (g.met.D.Disk.seen_is_image c.args.disk.now h) (c.sync.ensures.past h))
+pub returns-in_err-sync-clause-unwritten : goal.returns-in_err-sync-clause-unwritten
+returns-in_err-sync-clause-unwritten g c =
+    if_err_all c.from_residual.result _ (λ e h. inl (sync_unwritten c.sync.result (g.D.Disk.past c.args.disk.now) (g.D.Disk.past c.sync.new.self) (c.sync.ensures.past h)))
 
-pub returns-clause-during : goal.returns-clause-during
-returns-clause-during g c h layout all =
-    let p0 = g.D.Disk.past c.args.disk.now in
-    let mid = g.D.Disk.past c.sync.new.self in
-    let found = c.in_ok-found.found in
+pub returns-in_err-found-clause-unwritten : goal.returns-in_err-found-clause-unwritten
+returns-in_err-found-clause-unwritten g c =
+    if_err_all c.from_residual-in_err-found.result _ (λ e h. inl (inr (c.take_up.ensures.past (c.sync.ensures.honest ∙ h) ∙ c.in_ok-sync.ensures.past h)))
+
+pub returns-in_err-greatest-clause-unwritten : goal.returns-in_err-greatest-clause-unwritten
+returns-in_err-greatest-clause-unwritten g c =
+    if_err_all c.from_residual-in_err-greatest.result _ (λ e h.
     let h1 = c.sync.ensures.honest ∙ h in
-    let is = g.met.D.Disk.seen_is_image c.args.disk.now h in
-    let synced_it : mid ≡ after synced p0 = c.in_ok-sync.ensures.past h in
-    goes_on_before layout found.layout (g.D.Disk.size c.take_up.new.disk) found.home.slot found.home.generation (state_in found.engine) p0 mid (g.D.Disk.past c.take_up.new.disk) (g.D.Disk.past c.renew.new.disk) all is synced_it (c.take_up.ensures.past h1)
-    (subst (λ n. IsTakenUp n (seen p0) found.layout found.home.slot found.home.generation (state_in found.engine)) (sym c.take_up.ensures.size)
+    inl (inr (c.greatest_but_last.ensures.past (c.take_up.ensures.honest ∙ h1) ∙ (c.take_up.ensures.past h1 ∙ c.in_ok-sync.ensures.past h))))
+
+pub returns-in_err-found-clause-err : goal.returns-in_err-found-clause-err
+returns-in_err-found-clause-err g c =
+    err_same _ c.from_residual-in_err-found.result c.in_err-found.field-0.0 c.from_residual-in_err-found.ensures.1
+    (or_more (λ fails h.
+    unread (subst (λ n. IsUnread n (seen (g.D.Disk.past c.args.disk.now)) c.in_err-found.field-0.0) c.sync.ensures.size
+    (subst (λ p. IsUnread (g.D.Disk.size c.sync.new.self) (seen p) c.in_err-found.field-0.0) (c.in_ok-sync.ensures.past h) (fails (c.sync.ensures.honest ∙ h)))))
+    c.in_err-found.ensures.err)
+
+-- what was taken up, of the disk as it was given
+pub returns-in_err-greatest-clause-err : goal.returns-in_err-greatest-clause-err
+returns-in_err-greatest-clause-err g c =
+    let p0 = g.D.Disk.past c.args.disk.now in
+    let found = c.in_ok-found.found in
+    err_same _ c.from_residual-in_err-greatest.result c.in_err-greatest.field-0.0 c.from_residual-in_err-greatest.ensures.1
+    (⊎_elim (λ device. inl (inr device))
+    (λ last. inr (λ h.
+    let h1 = c.sync.ensures.honest ∙ h in
+    let synced_it : g.D.Disk.past c.sync.new.self ≡ after synced p0 = c.in_ok-sync.ensures.past h in
+    subst (IsUntaken (g.D.Disk.size c.args.disk.now) (seen p0)) (sym last.0)
+    (spent (record {
+      layout = found.layout;
+      slot = found.home.slot;
+      generation = found.home.generation;
+      state = state_in found.engine;
+      taken =
+          subst (λ n. IsTakenUp n (seen p0) found.layout found.home.slot found.home.generation (state_in found.engine)) c.sync.ensures.size
+          (subst (λ p. IsTakenUp (g.D.Disk.size c.sync.new.self) (seen p) found.layout found.home.slot found.home.generation (state_in found.engine)) synced_it (c.in_ok-found.ensures.found h1));
+      last = subst (λ p. IsGreatest found.layout (seen p) found.home.generation (2 ^ 64 - 1)) (c.take_up.ensures.past h1 ∙ synced_it) (greatest_of found.layout found.log.layout found.home.generation found.log.generation found.log.number found.log.next (2 ^ 64 - 1) (g.D.Disk.past c.take_up.new.disk) (g.D.Disk.past c.sync.new.self)
+          c.in_ok-found.ensures.of.0 c.in_ok-found.ensures.of.1 (c.take_up.ensures.past h1) (c.in_ok-found.ensures.behind h1) (last.1 (c.take_up.ensures.honest ∙ h1)));
+    }))))
+    c.in_err-greatest.ensures.err)
+
+-- ---- the state is written
+
+pub returns-clause-stays : goal.returns-clause-stays
+returns-clause-stays g c =
+    if_ok_from c.renew.result _ _
+    (λ held facts h.
+    let p0 = g.D.Disk.past c.args.disk.now in
+    let found = c.in_ok-found.found in
+    let greatest = c.in_ok-greatest.greatest in
+    let h1 = c.sync.ensures.honest ∙ h in
+    let h2 = c.take_up.ensures.honest ∙ h1 in
+    let synced_it : g.D.Disk.past c.sync.new.self ≡ after synced p0 = c.in_ok-sync.ensures.past h in
+    let same = c.greatest_but_last.ensures.past h2 ∙ (c.take_up.ensures.past h1 ∙ synced_it) in
+    subst (λ l. StaysFor l (state_in held.engine) p0 (g.D.Disk.past c.renew.new.disk)) (sym facts.2)
+    (subst (λ s. StaysFor found.layout s p0 (g.D.Disk.past c.renew.new.disk)) (sym facts.0)
+    (stays_of (g.D.Disk.size c.greatest_but_last.new.disk) found.layout found.home.slot found.home.generation greatest (state_in found.engine) p0 (g.D.Disk.past c.greatest_but_last.new.disk) (g.D.Disk.past c.renew.new.disk) same
+    (subst (λ n. IsTakenUp n (seen p0) found.layout found.home.slot found.home.generation (state_in found.engine)) (sym (c.greatest_but_last.ensures.size ∙ c.take_up.ensures.size))
     (subst (λ p. IsTakenUp (g.D.Disk.size c.sync.new.self) (seen p) found.layout found.home.slot found.home.generation (state_in found.engine)) synced_it (c.in_ok-found.ensures.found h1)))
-    (synced_before c.sync.result layout p0 mid all is (c.sync.ensures.past h))
-    (λ settled taken. c.renew.ensures.during (c.take_up.ensures.honest ∙ h1) settled taken)
+    (subst (λ p. IsGreatest found.layout (seen p) found.home.generation greatest) (c.take_up.ensures.past h1 ∙ synced_it) (greatest_of found.layout found.log.layout found.home.generation found.log.generation found.log.number found.log.next greatest (g.D.Disk.past c.take_up.new.disk) (g.D.Disk.past c.sync.new.self)
+    c.in_ok-found.ensures.of.0 c.in_ok-found.ensures.of.1 (c.take_up.ensures.past h1) (c.in_ok-found.ensures.behind h1) (c.in_ok-greatest.ensures.greatest h2)))
+    (c.renew.ensures.during (c.greatest_but_last.ensures.honest ∙ h2)))))
+    c.renew.ensures.held
+
+pub returns-clause-unwritten : goal.returns-clause-unwritten
+returns-clause-unwritten g c =
+    if_err_from c.renew.result _ _
+    (λ e lost h.
+    let p0 = g.D.Disk.past c.args.disk.now in
+    let found = c.in_ok-found.found in
+    let greatest = c.in_ok-greatest.greatest in
+    let h1 = c.sync.ensures.honest ∙ h in
+    let h2 = c.take_up.ensures.honest ∙ h1 in
+    let synced_it : g.D.Disk.past c.sync.new.self ≡ after synced p0 = c.in_ok-sync.ensures.past h in
+    let same = c.greatest_but_last.ensures.past h2 ∙ (c.take_up.ensures.past h1 ∙ synced_it) in
+    inr (
+      lost,
+      record {
+        layout = found.layout;
+        state = state_in found.engine;
+        stays =
+            stays_of (g.D.Disk.size c.greatest_but_last.new.disk) found.layout found.home.slot found.home.generation greatest (state_in found.engine) p0 (g.D.Disk.past c.greatest_but_last.new.disk) (g.D.Disk.past c.renew.new.disk) same
+            (subst (λ n. IsTakenUp n (seen p0) found.layout found.home.slot found.home.generation (state_in found.engine)) (sym (c.greatest_but_last.ensures.size ∙ c.take_up.ensures.size))
+            (subst (λ p. IsTakenUp (g.D.Disk.size c.sync.new.self) (seen p) found.layout found.home.slot found.home.generation (state_in found.engine)) synced_it (c.in_ok-found.ensures.found h1)))
+            (subst (λ p. IsGreatest found.layout (seen p) found.home.generation greatest) (c.take_up.ensures.past h1 ∙ synced_it) (greatest_of found.layout found.log.layout found.home.generation found.log.generation found.log.number found.log.next greatest (g.D.Disk.past c.take_up.new.disk) (g.D.Disk.past c.sync.new.self)
+            c.in_ok-found.ensures.of.0 c.in_ok-found.ensures.of.1 (c.take_up.ensures.past h1) (c.in_ok-found.ensures.behind h1) (c.in_ok-greatest.ensures.greatest h2)))
+            (c.renew.ensures.during (c.greatest_but_last.ensures.honest ∙ h2));
+      },
+    ))
+    c.renew.ensures.err
 
 pub returns-clause-ok : goal.returns-clause-ok
 returns-clause-ok g c =
@@ -36,12 +112,17 @@ returns-clause-ok g c =
     (λ held keeps h.
     let p0 = g.D.Disk.past c.args.disk.now in
     let found = c.in_ok-found.found in
+    let greatest = c.in_ok-greatest.greatest in
     let h1 = c.sync.ensures.honest ∙ h in
-    let same = c.take_up.ensures.past h1 in
+    let h2 = c.take_up.ensures.honest ∙ h1 in
     let synced_it : g.D.Disk.past c.sync.new.self ≡ after synced p0 = c.in_ok-sync.ensures.past h in
-    keeps (c.take_up.ensures.honest ∙ h1) (subst IsSettled (sym (same ∙ synced_it)) (settled_after_sync p0))
-    (subst (λ n. IsTakenUp n (seen (g.D.Disk.past c.take_up.new.disk)) found.layout found.home.slot found.home.generation (state_in found.engine)) (sym c.take_up.ensures.size)
-    (subst (λ p. IsTakenUp (g.D.Disk.size c.sync.new.self) (seen p) found.layout found.home.slot found.home.generation (state_in found.engine)) (sym same) (c.in_ok-found.ensures.found h1))))
+    let same = c.greatest_but_last.ensures.past h2 ∙ (c.take_up.ensures.past h1 ∙ synced_it) in
+    keeps (c.greatest_but_last.ensures.honest ∙ h2) (subst IsSettled (sym same) (settled_after_sync p0))
+    (subst (λ n. IsTakenUp n (seen (g.D.Disk.past c.greatest_but_last.new.disk)) found.layout found.home.slot found.home.generation (state_in found.engine)) (sym (c.greatest_but_last.ensures.size ∙ c.take_up.ensures.size))
+    (subst (λ p. IsTakenUp (g.D.Disk.size c.sync.new.self) (seen p) found.layout found.home.slot found.home.generation (state_in found.engine))
+    (sym (c.greatest_but_last.ensures.past h2 ∙ c.take_up.ensures.past h1)) (c.in_ok-found.ensures.found h1)))
+    (subst (λ p. IsGreatest found.layout (seen p) found.home.generation greatest) (sym (c.greatest_but_last.ensures.past h2)) (greatest_of found.layout found.log.layout found.home.generation found.log.generation found.log.number found.log.next greatest (g.D.Disk.past c.take_up.new.disk) (g.D.Disk.past c.sync.new.self)
+    c.in_ok-found.ensures.of.0 c.in_ok-found.ensures.of.1 (c.take_up.ensures.past h1) (c.in_ok-found.ensures.behind h1) (c.in_ok-greatest.ensures.greatest h2))))
     c.renew.ensures.ok
 
 pub returns-clause-taken : goal.returns-clause-taken
@@ -50,10 +131,14 @@ returns-clause-taken g c =
     (λ held facts h.
     let p0 = g.D.Disk.past c.args.disk.now in
     let found = c.in_ok-found.found in
+    let greatest = c.in_ok-greatest.greatest in
     let h1 = c.sync.ensures.honest ∙ h in
+    let h2 = c.take_up.ensures.honest ∙ h1 in
     let synced_it : g.D.Disk.past c.sync.new.self ≡ after synced p0 = c.in_ok-sync.ensures.past h in
-    next_of (g.D.Disk.size c.args.disk.now) (seen p0) found.layout held.log.layout found.home.slot held.home.slot found.home.generation held.home.generation (state_in found.engine) (state_in held.engine)
+    next_of (g.D.Disk.size c.args.disk.now) (seen p0) found.layout held.log.layout found.home.slot held.home.slot found.home.generation greatest held.home.generation (state_in found.engine) (state_in held.engine)
     facts.0 facts.2 facts.3 facts.4
+    (subst (λ p. IsGreatest found.layout (seen p) found.home.generation greatest) (c.take_up.ensures.past h1 ∙ synced_it) (greatest_of found.layout found.log.layout found.home.generation found.log.generation found.log.number found.log.next greatest (g.D.Disk.past c.take_up.new.disk) (g.D.Disk.past c.sync.new.self)
+    c.in_ok-found.ensures.of.0 c.in_ok-found.ensures.of.1 (c.take_up.ensures.past h1) (c.in_ok-found.ensures.behind h1) (c.in_ok-greatest.ensures.greatest h2)))
     (subst (λ n. IsTakenUp n (seen p0) found.layout found.home.slot found.home.generation (state_in found.engine)) c.sync.ensures.size
     (subst (λ p. IsTakenUp (g.D.Disk.size c.sync.new.self) (seen p) found.layout found.home.slot found.home.generation (state_in found.engine)) synced_it (c.in_ok-found.ensures.found h1))))
     c.renew.ensures.held
@@ -68,5 +153,5 @@ returns-clause-opened g c =
     let synced_it : g.D.Disk.past c.sync.new.self ≡ after synced p0 = c.in_ok-sync.ensures.past h in
     subst (λ l. IsRead l (seen p0) held.opened) (sym facts.2)
     (subst (IsRead found.layout (seen p0)) (sym facts.7)
-    (subst (λ p. IsRead found.layout (seen p) (record { generation = found.home.generation; records = found.records })) synced_it (c.in_ok-found.ensures.read h1))))
+    (subst (λ p. IsRead found.layout (seen p) (record { generation = found.home.generation; records = found.log.number })) synced_it (c.in_ok-found.ensures.read h1))))
     c.renew.ensures.held

@@ -1,19 +1,26 @@
-use Rattle.std.proofs.Common.{◌≡◌, drop}
+use Rattle.std.proofs.Common.{◌≡◌, ◌-◌, IsTrue}
 use Rattle.um_engine.specs.Engine.{state_in, size_in}
-use Rattle.um_log.specs.Reading.{bytes_of, places_of}
-use Rattle.um_model.specs.Machine.{State}
+use Rattle.um_model.specs.Disk.{seen}
 use Rattle.um_model.specs.Servable.{IsServable}
-use Rattle.um_model.specs.StateSpellings.{FitState}
-use Rattle.um_wire.specs.declared.refusal.Refusal.{Refusal}
-use Rattle.um_keeper.specs.Opening.{Replays, IsNoInput}
+use Rattle.um_model.specs.Store.{log_end}
+use Rattle.um_keeper.proofs.Replaying.{IsReached}
 use Rattle.um_keeper.proofs.opening.replay.Given as goal
 
-abbrev pub invariant-loop-record : goal.invariant-loop-record
-invariant-loop-record l = record {
-  so_far : (t : State) → Replays (size_in l.engine) (bytes_of (drop l.record-index l.records)) (state_in l.engine) t
-      → Replays (size_in l.fn.engine) (bytes_of l.records) (state_in l.fn.engine) t;
-  cause : (e : Refusal) → IsNoInput (places_of (drop l.record-index l.records)) e → IsNoInput (places_of l.records) e;
-  servable : IsServable (size_in l.engine) (state_in l.engine);
-  fits : FitState (state_in l.engine);
-  size : size_in l.engine ≡ size_in l.fn.engine;
-}
+abbrev pub invariant-loop-found : goal.invariant-loop-found
+invariant-loop-found g l =
+    let past = g.D.Disk.past in
+    record {
+      reached : IsTrue (g.D.Disk.honest l.fn.disk)
+          → IsReached l.fn.log.layout l.fn.log.generation (seen (past l.fn.disk)) (size_in l.fn.engine) (state_in l.fn.engine) (state_in l.engine) l.log.number l.log.next;
+      servable : IsServable (size_in l.engine) (state_in l.engine);
+      size : size_in l.engine ≡ size_in l.fn.engine;
+      layout_is : l.log.layout ≡ l.fn.log.layout;
+      generation_is : l.log.generation ≡ l.fn.log.generation;
+      past : IsTrue (g.D.Disk.honest l.fn.disk) → past l.disk ≡ past l.fn.disk;
+      failures : g.D.Disk.failures l.disk ≡ g.D.Disk.failures l.fn.disk;
+      disk_size : g.D.Disk.size l.disk ≡ g.D.Disk.size l.fn.disk;
+      honest : g.D.Disk.honest l.disk ≡ g.D.Disk.honest l.fn.disk;
+    }
+
+abbrev pub decreases-loop-found : goal.decreases-loop-found
+decreases-loop-found g l = log_end l.fn.log.layout l.fn.log.generation - l.log.next

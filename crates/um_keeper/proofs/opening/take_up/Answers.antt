@@ -1,51 +1,30 @@
-use Rattle.std.proofs.Common.{◌≡◌, ◌⊎◌, ◌∙◌, ◌<◌, ◌+◌, ◌-◌, ◌^◌, ⊎_elim, inl, inr, ℕ, List, length, Ok, Some, None, sym, ap, subst, arith}
+use Rattle.std.proofs.Common.{◌≡◌, ◌∙◌, ◌+◌, ⊎_elim, inl, inr, ℕ, List, length, Ok, refl, sym, ap, subst, arith}
 use Rattle.std.specs.Prelude.{IfSome}
-use Rattle.std.proofs.lemmas.List.{length-map}
 use Rattle.um_engine.specs.Engine.{state_in, size_in}
-use Rattle.um_log.specs.Reading.{bytes_of, places_of}
 use Rattle.um_model.specs.Disk.{seen}
 use Rattle.um_model.specs.Store as sectors
-use Rattle.um_wire.specs.declared.refusal.Refusal.TheVariants.{Damaged, NoMemory, Device}
+use Rattle.um_wire.specs.declared.refusal.Refusal.{Refusal}
+use Rattle.um_wire.specs.declared.refusal.Refusal.TheVariants.{Damaged}
+use Rattle.um_model.specs.Machine.{State}
+use Rattle.um_model.specs.declared.layout.Layout.{Layout}
 use Rattle.um_model.specs.Disk.{Past}
-use Rattle.um_log.specs.Later.{FindsLater, IsFirstLater}
-use Rattle.um_keeper.specs.Opening.{IsStart, Replays, IsNoInput, IsUnread, IsKept, unread, spent, no_state, no_input, later_sector}
-use Rattle.um_keeper.proofs.Results.{err_same, not_device}
-use Rattle.um_keeper.proofs.Reopening.{newest_there, header_unread, record_no_device, records_there, read_there, taken_up}
+use Rattle.um_keeper.specs.Opening.{IsStart, Replays, IsNoInput, IsUnread, IsBehind, no_state, no_input}
+use Rattle.um_keeper.proofs.Results.{err_same, or_more}
+use Rattle.um_keeper.proofs.Reopening.{newest_there, header_unread}
 use Rattle.um_keeper.proofs.opening.take_up.Goals as goal
-
--- the size of the store of an engine that is kept
-size_kept : (layout : Rattle.um_model.specs.declared.layout.Layout.Layout) (o : Rattle.std.proofs.Common.Option Rattle.um_engine.specs.declared.engine.Engine.Engine)
-    → IfSome o (λ e. IsKept layout (size_in e) (state_in e)) → IfSome o (λ e. size_in e ≡ sectors.body_limit layout)
-size_kept layout None kept = tt
-size_kept layout (Some e) kept = kept.size_is
 
 pub returns-in_err-layout-clause-err : goal.returns-in_err-layout-clause-err
 returns-in_err-layout-clause-err g c =
     err_same _ c.from_residual.result c.in_err-layout.field-0.0 c.from_residual.ensures.1
-    (⊎_elim (λ device. inl (inr device)) (λ fails. inr (λ h. unread (fails h))) c.in_err-layout.ensures.err)
+    (⊎_elim (λ device. inl (inr device)) (λ fails. inr fails) c.in_err-layout.ensures.err)
 
 pub returns-in_err-snapshot-clause-err : goal.returns-in_err-snapshot-clause-err
 returns-in_err-snapshot-clause-err g c =
     err_same _ c.from_residual-in_err-snapshot.result c.in_err-snapshot.field-0.0 c.from_residual-in_err-snapshot.ensures.1
     (⊎_elim (λ lost. inl lost)
-    (λ damaged. inr (λ h. unread (header_unread (g.D.Disk.size c.args.disk.now) (g.D.Disk.past c.args.disk.now) (g.D.Disk.past c.read_layout.new.disk) c.in_ok-layout.layout c.in_err-snapshot.field-0.0
-    (c.in_ok-layout.ensures.ok h) (c.read_layout.ensures.past h) damaged.0 (damaged.1 (c.read_layout.ensures.honest ∙ h)))))
+    (λ damaged. inr (λ h. header_unread (g.D.Disk.size c.args.disk.now) (g.D.Disk.past c.args.disk.now) (g.D.Disk.past c.read_layout.new.disk) c.in_ok-layout.layout c.in_err-snapshot.field-0.0
+    (c.in_ok-layout.ensures.ok h) (c.read_layout.ensures.past h) damaged.0 (damaged.1 (c.read_layout.ensures.honest ∙ h))))
     c.in_err-snapshot.ensures.err)
-
-pub returns-then-home-clause-err : goal.returns-then-home-clause-err
-returns-then-home-clause-err g c = inr (λ h.
-    spent (record {
-      layout = c.in_ok-layout.layout;
-      newest = record {
-        slot = c.in_ok-snapshot.snapshot.home.slot;
-        generation = c.in_ok-snapshot.snapshot.home.generation;
-        body = c.in_ok-snapshot.snapshot.body.items;
-      };
-      has = c.in_ok-layout.ensures.ok h;
-      held = newest_there (g.D.Disk.past c.args.disk.now) (g.D.Disk.past c.read_layout.new.disk) c.in_ok-layout.layout c.in_ok-snapshot.snapshot.home.slot c.in_ok-snapshot.snapshot.home.generation c.in_ok-snapshot.snapshot.body.items
-          (c.read_layout.ensures.past h) (c.in_ok-snapshot.ensures.ok (c.read_layout.ensures.honest ∙ h));
-      last = omega (arith, c.if-home.true);
-    }))
 
 pub returns-in_default-clause-err : goal.returns-in_default-clause-err
 returns-in_default-clause-err g c = inr (λ h.
@@ -54,63 +33,49 @@ returns-in_default-clause-err g c = inr (λ h.
     let image = seen (g.D.Disk.past c.args.disk.now) in
     let count = g.D.Disk.size c.args.disk.now in
     let newest = c.in_ok-snapshot.ensures.ok (c.read_layout.ensures.honest ∙ h) in
-    let last = newest.header.last in
-    unread (subst (λ (n : ℕ). IsUnread count image (Damaged (n + 1))) (sym c.slot_start.ensures)
+    subst (λ (n : ℕ). IsUnread count image (Damaged (n + 1))) (sym c.slot_start.ensures)
     (no_state (c.in_ok-layout.ensures.ok h)
     (newest_there (g.D.Disk.past c.args.disk.now) (g.D.Disk.past c.read_layout.new.disk) layout home.slot home.generation c.in_ok-snapshot.snapshot.body.items (c.read_layout.ensures.past h) newest)
-    (omega (arith, last, c.if-home.false))
-    (λ s starts. c.start_of.ensures.none (c.in_ok-engine.was ∙ ap Ok c.in_default.is) s (subst (λ (b : List ℕ). IsStart layout b s) (sym c.deref.ensures.value) starts)))))
+    (λ s starts. c.start_of.ensures.none (c.in_ok-engine.was ∙ ap Ok c.in_default.is) s (subst (λ (b : List ℕ). IsStart layout b s) (sym c.deref.ensures.value) starts))))
+
+-- what was replayed of the log, of the disk as it was given
+module _ (layout l : Layout) (generation n : ℕ) (old new : Past) (on : l ≡ layout) (of : n ≡ generation) (same : new ≡ old) where
+  records_same : sectors.records_of l n (seen new) ≡ sectors.records_of layout generation (seen old)
+  records_same = λ k. sectors.records_of (on k) (of k) (seen (same k))
+
+  pub no_input_there : (e : Refusal) → IsNoInput (sectors.placed (sectors.log_start l n) (sectors.records_of l n (seen new))) e
+      → IsNoInput (sectors.placed (sectors.log_start layout generation) (sectors.records_of layout generation (seen old))) e
+  no_input_there e fails =
+      subst (λ (r : List (List ℕ)). IsNoInput (sectors.placed (sectors.log_start layout generation) r) e) records_same
+      (subst (λ (z : Layout). IsNoInput (sectors.placed (sectors.log_start z generation) (sectors.records_of l n (seen new))) e) on
+      (subst (λ m. IsNoInput (sectors.placed (sectors.log_start l m) (sectors.records_of l n (seen new))) e) of fails))
+
+  pub replays_there : (size : ℕ) (s t : State) → Replays size (sectors.records_of l n (seen new)) s t → Replays size (sectors.records_of layout generation (seen old)) s t
+  replays_there size s t = subst (λ (r : List (List ℕ)). Replays size r s t) records_same
+
+  pub behind_there : (number next : ℕ) → IsBehind l n (seen new) number next → IsBehind layout generation (seen old) number next
+  behind_there number next b = record {
+    count = b.count ∙ ap (λ (r : List (List ℕ)). length r) records_same;
+    place = omega (arith, b.place, ap (λ (z : Layout). sectors.log_start z 0) on, ap sectors.sectors_of records_same);
+  }
 
 pub returns-in_err-replay-clause-err : goal.returns-in_err-replay-clause-err
 returns-in_err-replay-clause-err g c =
     err_same _ c.from_residual-in_err-replay.result c.in_err-replay.field-0.0 c.from_residual-in_err-replay.ensures.1
-    (⊎_elim (λ memory. inl (inl memory))
-    (λ fails. inr (λ h.
+    (or_more (λ fails h.
     let layout = c.in_ok-layout.layout in
     let home = c.in_ok-snapshot.snapshot.home in
     let p0 = g.D.Disk.past c.args.disk.now in
     let h1 = c.read_layout.ensures.honest ∙ h in
     let h2 = c.newest.ensures.honest ∙ h1 in
     let newest = c.in_ok-snapshot.ensures.ok h1 in
-    let last = newest.header.last in
     let starts = subst (λ o. IfSome o (λ e. IsStart layout c.deref.result.now (state_in e))) c.in-Some.is c.in_ok-engine.ensures.start in
-    let records = records_there p0 (g.D.Disk.past c.newest.new.disk) layout home.generation (bytes_of c.in_ok-records.records.items) (c.newest.ensures.past h1 ∙ c.read_layout.ensures.past h) (c.in_ok-records.ensures.records h2) in
-    unread (no_input (c.in_ok-layout.ensures.ok h)
+    no_input (c.in_ok-layout.ensures.ok h)
     (newest_there p0 (g.D.Disk.past c.read_layout.new.disk) layout home.slot home.generation c.in_ok-snapshot.snapshot.body.items (c.read_layout.ensures.past h) newest)
-    (omega (arith, last, c.if-home.false)) (subst (λ (b : List ℕ). IsStart layout b (state_in c.in-Some.engine)) c.deref.ensures.value starts)
-    (subst (λ (l : List (ℕ × List ℕ)). IsNoInput l c.in_err-replay.field-0.0) (ap places_of c.deref-2.ensures.value ∙ c.in_ok-records.ensures.places ∙ ap (sectors.placed (sectors.log_start layout home.generation)) (sym records)) fails))))
+    (subst (λ (b : List ℕ). IsStart layout b (state_in c.in-Some.engine)) c.deref.ensures.value starts)
+    (no_input_there layout c.new-log.result.layout home.generation c.new-log.result.generation p0 (g.D.Disk.past c.newest.new.disk) c.new-log.ensures.of.0 c.new-log.ensures.of.1
+    (c.newest.ensures.past h1 ∙ c.read_layout.ensures.past h) c.in_err-replay.field-0.0 (fails h2)))
     c.in_err-replay.ensures.err)
-
-no_device : {places : List (ℕ × List ℕ)} {e : Rattle.um_wire.specs.declared.refusal.Refusal.Refusal} → (e ≡ NoMemory) ⊎ IsNoInput places e → ¬ (e ≡ Device)
-no_device (inl memory) same = cc
-no_device (inr no_record) same = record_no_device no_record same
-
-pub returns-in_err-replay-clause-failures : goal.returns-in_err-replay-clause-failures
-returns-in_err-replay-clause-failures g c =
-    not_device c.from_residual-in_err-replay.result c.in_err-replay.field-0.0 _ _ c.from_residual-in_err-replay.ensures.1 (no_device c.in_err-replay.ensures.err)
-    (c.in_ok-records.ensures.failures ∙ c.in_ok-snapshot.ensures.failures ∙ c.in_ok-layout.ensures.failures)
-
-pub returns-in-Some-2-clause-err : goal.returns-in-Some-2-clause-err
-returns-in-Some-2-clause-err g c = inr (λ h.
-    let layout = c.in_ok-layout.layout in
-    let home = c.in_ok-snapshot.snapshot.home in
-    let p0 = g.D.Disk.past c.args.disk.now in
-    let h1 = c.read_layout.ensures.honest ∙ h in
-    let h2 = c.newest.ensures.honest ∙ h1 in
-    let h3 = c.scan.ensures.honest ∙ h2 in
-    let newest = c.in_ok-snapshot.ensures.ok h1 in
-    let last = newest.header.last in
-    let engine = c.in-Some.engine in
-    let starts = subst (λ o. IfSome o (λ e. IsStart layout c.deref.result.now (state_in e))) c.in-Some.is c.in_ok-engine.ensures.start in
-    let size = (subst (λ o. IfSome o (λ e. size_in e ≡ sectors.body_limit layout)) c.in-Some.is (size_kept layout c.in_ok-engine.field-0 c.in_ok-engine.ensures.kept)) in
-    let records = records_there p0 (g.D.Disk.past c.newest.new.disk) layout home.generation (bytes_of c.in_ok-records.records.items) (c.newest.ensures.past h1 ∙ c.read_layout.ensures.past h) (c.in_ok-records.ensures.records h2) in
-    unread (later_sector (c.in_ok-layout.ensures.ok h)
-    (newest_there p0 (g.D.Disk.past c.read_layout.new.disk) layout home.slot home.generation c.in_ok-snapshot.snapshot.body.items (c.read_layout.ensures.past h) newest)
-    (omega (arith, last, c.if-home.false)) (subst (λ (b : List ℕ). IsStart layout b (state_in engine)) c.deref.ensures.value starts)
-    (subst (λ (n : ℕ). Replays n (sectors.records_of layout home.generation (seen p0)) (state_in engine) (state_in c.replay.new.engine)) size
-    (subst (λ (l : List (List ℕ)). Replays (size_in engine) l (state_in engine) (state_in c.replay.new.engine)) (ap bytes_of c.deref-2.ensures.value ∙ sym records) c.in_ok-replay.ensures.ok))
-    (subst (λ (p : Past). IsFirstLater layout home.generation (seen p) c.in-Some-2.sector) (c.scan.ensures.past h2 ∙ c.newest.ensures.past h1 ∙ c.read_layout.ensures.past h)
-    (subst (FindsLater layout home.generation (seen (g.D.Disk.past c.scan.new.disk))) c.in-Some-2.is (c.in_ok-sector.ensures.found h3)))))
 
 pub returns-clause-found : goal.returns-clause-found
 returns-clause-found g c h =
@@ -119,29 +84,36 @@ returns-clause-found g c h =
     let p0 = g.D.Disk.past c.args.disk.now in
     let h1 = c.read_layout.ensures.honest ∙ h in
     let h2 = c.newest.ensures.honest ∙ h1 in
-    let h3 = c.scan.ensures.honest ∙ h2 in
     let engine = c.in-Some.engine in
     let starts = subst (λ o. IfSome o (λ e. IsStart layout c.deref.result.now (state_in e))) c.in-Some.is c.in_ok-engine.ensures.start in
-    let size = (subst (λ o. IfSome o (λ e. size_in e ≡ sectors.body_limit layout)) c.in-Some.is (size_kept layout c.in_ok-engine.field-0 c.in_ok-engine.ensures.kept)) in
-    let records = records_there p0 (g.D.Disk.past c.newest.new.disk) layout home.generation (bytes_of c.in_ok-records.records.items) (c.newest.ensures.past h1 ∙ c.read_layout.ensures.past h) (c.in_ok-records.ensures.records h2) in
-    taken_up (g.D.Disk.size c.args.disk.now) (seen p0) layout home.slot home.generation c.in_ok-snapshot.snapshot.body.items (state_in engine) (state_in c.replay.new.engine) (c.in_ok-layout.ensures.ok h)
-    (subst (λ (p : Past). sectors.IsNewest layout (seen p) home.slot home.generation c.in_ok-snapshot.snapshot.body.items) (c.read_layout.ensures.past h) (c.in_ok-snapshot.ensures.ok h1))
-    (subst (λ (p : Past). FindsLater layout home.generation (seen p) None) (c.scan.ensures.past h2 ∙ c.newest.ensures.past h1 ∙ c.read_layout.ensures.past h)
-    (subst (FindsLater layout home.generation (seen (g.D.Disk.past c.scan.new.disk))) c.in_default-2.is (c.in_ok-sector.ensures.found h3)))
-    (subst (λ (b : List ℕ). IsStart layout b (state_in engine)) c.deref.ensures.value starts)
-    (subst (λ (n : ℕ). Replays n (sectors.records_of layout home.generation (seen p0)) (state_in engine) (state_in c.replay.new.engine)) size
-    (subst (λ (l : List (List ℕ)). Replays (size_in engine) l (state_in engine) (state_in c.replay.new.engine)) (ap bytes_of c.deref-2.ensures.value ∙ sym records) c.in_ok-replay.ensures.ok))
+    let size = subst (λ o. IfSome o (λ e. size_in e ≡ sectors.body_limit layout)) c.in-Some.is c.in_ok-engine.ensures.sized in
+    record {
+      has = c.in_ok-layout.ensures.ok h;
+      body = c.in_ok-snapshot.snapshot.body.items;
+      newest = subst (λ (p : Past). sectors.IsNewest layout (seen p) home.slot home.generation c.in_ok-snapshot.snapshot.body.items) (c.read_layout.ensures.past h) (c.in_ok-snapshot.ensures.ok h1);
+      start = state_in engine;
+      starts = subst (λ (b : List ℕ). IsStart layout b (state_in engine)) c.deref.ensures.value starts;
+      replays = subst (λ (n : ℕ). Replays n (sectors.records_of layout home.generation (seen p0)) (state_in engine) (state_in c.replay.new.engine)) size
+          (replays_there layout c.new-log.result.layout home.generation c.new-log.result.generation p0 (g.D.Disk.past c.newest.new.disk) c.new-log.ensures.of.0 c.new-log.ensures.of.1
+          (c.newest.ensures.past h1 ∙ c.read_layout.ensures.past h) (size_in engine) (state_in engine) (state_in c.replay.new.engine) (c.in_ok-replay.ensures.ok h2));
+    }
+
+pub returns-clause-behind : goal.returns-clause-behind
+returns-clause-behind g c h =
+    let h1 = c.read_layout.ensures.honest ∙ h in
+    let h2 = c.newest.ensures.honest ∙ h1 in
+    behind_there c.in_ok-layout.layout c.new-log.result.layout c.in_ok-snapshot.snapshot.home.generation c.new-log.result.generation (g.D.Disk.past c.args.disk.now) (g.D.Disk.past c.newest.new.disk)
+    c.new-log.ensures.of.0 c.new-log.ensures.of.1 (c.newest.ensures.past h1 ∙ c.read_layout.ensures.past h) c.replay.new.log.number c.replay.new.log.next (c.in_ok-replay.ensures.all h2)
 
 pub returns-clause-read : goal.returns-clause-read
 returns-clause-read g c h =
     let layout = c.in_ok-layout.layout in
     let home = c.in_ok-snapshot.snapshot.home in
-    let body = c.in_ok-snapshot.snapshot.body.items in
-    let items = c.in_ok-records.records.items in
     let p0 = g.D.Disk.past c.args.disk.now in
-    let h1 = c.read_layout.ensures.honest ∙ h in
-    let h2 = c.newest.ensures.honest ∙ h1 in
-    read_there layout (seen p0) home.slot home.generation c.len.result body (bytes_of items)
-    (newest_there p0 (g.D.Disk.past c.read_layout.new.disk) layout home.slot home.generation body (c.read_layout.ensures.past h) (c.in_ok-snapshot.ensures.ok h1))
-    (records_there p0 (g.D.Disk.past c.newest.new.disk) layout home.generation (bytes_of items) (c.newest.ensures.past h1 ∙ c.read_layout.ensures.past h) (c.in_ok-records.ensures.records h2))
-    (c.len.ensures ∙ sym c.deref-2.ensures.len ∙ ap length c.deref-2.ensures.value ∙ sym (length-map items (λ found. found.bytes.items)))
+    record {
+      newest = record { slot = home.slot; generation = home.generation; body = c.in_ok-snapshot.snapshot.body.items };
+      is_newest = newest_there p0 (g.D.Disk.past c.read_layout.new.disk) layout home.slot home.generation c.in_ok-snapshot.snapshot.body.items (c.read_layout.ensures.past h)
+          (c.in_ok-snapshot.ensures.ok (c.read_layout.ensures.honest ∙ h));
+      generation_is = refl;
+      records_are = (returns-clause-behind g c h).count;
+    }

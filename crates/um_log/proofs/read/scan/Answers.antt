@@ -1,58 +1,60 @@
-use Rattle.std.specs.Prelude.{◌≡◌, ◌+◌, ◌*◌, ◌≤◌, ℕ, List, length}
+use Rattle.std.specs.Prelude.{Option, Some, None, ◌≡◌, ◌+◌, ◌<◌, ◌≤◌, ◌++◌, ℕ, List, length}
 use Rattle.std.specs.Option.{IfSome}
-use Rattle.std.proofs.Common.{◌∙◌, subst, arith}
-use Rattle.um_model.specs.Disk.{Past, seen}
-use Rattle.um_model.specs.Store.{log_start, part_count, IsRecord, stops}
-use Rattle.um_log.specs.Reading.{ReadsRecord, Fits, bytes_of, places_of}
-use Rattle.um_log.proofs.Scanning.{none_behind, serves_more, serves_all, records_grown, places_more, place_more}
+use Rattle.std.proofs.Common.{◌∙◌, sym, subst, arith}
+use Rattle.um_model.specs.Disk.{Past, Image, seen}
+use Rattle.um_model.specs.Store.{log_start, part_count, IsRecord, AreRecords, HasRecords}
+use Rattle.um_model.specs.declared.layout.Layout.{Layout}
+use Rattle.um_log.specs.declared.read.Record.{Record}
+use Rattle.um_log.specs.Reading.{ReadsNext, bytes_of, places_of}
+use Rattle.um_log.proofs.Scanning.{serves_more, serves_all, records_grown, places_more, place_more}
 use Rattle.um_log.proofs.read.scan.Goals as goal
 
-pub loop-at-preserved : goal.loop-at-preserved
-loop-at-preserved g c =
+-- what was read where the log goes on, of the disk as it was given
+read_there : {layout l : Layout} {generation n : ℕ} {old new : Past} (number at : ℕ) (found : Option Record) → l ≡ layout → n ≡ generation → new ≡ old → ReadsNext l n (seen new) number at found
+    → ReadsNext layout generation (seen old) number at found
+read_there {layout} {l} {generation} {n} {old} {new} number at found a b c is =
+    subst (λ (p : Past). ReadsNext layout generation (seen p) number at found) c
+    (subst (λ g. ReadsNext layout g (seen new) number at found) b (subst (λ (z : Layout). ReadsNext z n (seen new) number at found) a is))
+
+pub loop-records-preserved : goal.loop-records-preserved
+loop-records-preserved g c =
     let past = g.D.Disk.past in
-    let layout = c.args.layout in
-    let bytes = c.in-Some.bytes.items in
-    let room = subst (λ o. IfSome o (λ b. Fits layout c.args.generation c.loop-at.at (length b.items))) c.in-Some.is c.in_ok-bytes.ensures.fits in
-    let some = room.some in
-    let within = room.within in
-    let size : c.len.result ≡ length bytes = omega (arith, c.len.ensures, c.in-Some.bytes.ok) in
-    let step : c.div_ceil-parts.result ≡ part_count (length bytes) = omega (arith, c.div_ceil-parts.ensures, size) in
-    let grown = records_grown c.loop-at.records.items c.push.new.self.items (record { first = c.loop-at.at; bytes = c.in-Some.bytes }) c.in_ok-push-in-Some.ensures.items in
-    let start = log_start layout c.args.generation in
+    let old = c.loop-records.log in
+    let new = c.read_next.new.self in
+    let bytes = c.in-Some.found.bytes.items in
+    let goes = subst (λ o. IfSome o (λ r. (new.number ≡ old.number + 1) × (new.next ≡ old.next + part_count (length r.bytes.items)) × (0 < length r.bytes.items))) c.in-Some.is c.in_ok-found.ensures.goes in
+    let first = subst (λ o. IfSome o (λ r. r.first ≡ old.next)) c.in-Some.is c.in_ok-found.ensures.first in
+    let grown = records_grown c.loop-records.records.items c.push.new.self.items c.in-Some.found c.in_ok-push.ensures.items in
+    let start = log_start c.args.layout c.args.generation in
     record {
       serves = λ h.
-          let here = subst (λ o. ReadsRecord layout c.args.generation (seen (past c.loop-at.disk)) c.loop-at.number c.loop-at.at o) c.in-Some.is (c.in_ok-bytes.ensures.found (c.loop-at.invariant.honest ∙ h)) in
-          let is = subst (λ (p : Past). IsRecord layout c.args.generation (seen p) c.loop-at.number c.loop-at.at bytes) (c.loop-at.invariant.past h) here in
-          serves_more layout c.args.generation c.loop-at.number c.loop-at.at (c.loop-at.at + c.div_ceil-parts.result) (seen (past c.args.disk.now)) bytes (bytes_of c.loop-at.records.items) (bytes_of c.push.new.self.items) is
-          (c.loop-at.invariant.serves h) (omega (arith, step)) grown.0;
-      places = places_more start c.loop-at.at bytes (bytes_of c.loop-at.records.items) (bytes_of c.push.new.self.items) (places_of c.loop-at.records.items) (places_of c.push.new.self.items)
-          c.loop-at.invariant.place grown.0 c.loop-at.invariant.places grown.1;
-      place = place_more start c.loop-at.at (c.loop-at.at + c.div_ceil-parts.result) bytes (bytes_of c.loop-at.records.items) (bytes_of c.push.new.self.items) c.loop-at.invariant.place grown.0 (omega (arith, step));
-      low = omega (arith, c.loop-at.invariant.low, step, some);
-      high = omega (arith, step, within);
+          let is = read_there old.number old.next (Some c.in-Some.found) c.loop-records.invariant.layout_is c.loop-records.invariant.generation_is (c.loop-records.invariant.past h)
+          (subst (λ o. ReadsNext old.layout old.generation (seen (past c.loop-records.disk)) old.number old.next o) c.in-Some.is (c.in_ok-found.ensures.found (c.loop-records.invariant.honest ∙ h))) in
+          subst (λ n. (more : List (List ℕ)) → AreRecords c.args.layout c.args.generation (seen (past c.args.disk.now)) n new.next more → HasRecords c.args.layout c.args.generation (seen (past c.args.disk.now)) (bytes_of c.push.new.self.items ++ more)) (sym goes.0)
+          (serves_more c.args.layout c.args.generation old.number old.next new.next (seen (past c.args.disk.now)) bytes (bytes_of c.loop-records.records.items) (bytes_of c.push.new.self.items) is
+          (c.loop-records.invariant.serves h) goes.1 grown.0);
+      places = places_more start old.next bytes (bytes_of c.loop-records.records.items) (bytes_of c.push.new.self.items) (places_of c.loop-records.records.items) (places_of c.push.new.self.items)
+          c.loop-records.invariant.place grown.0 c.loop-records.invariant.places (grown.1 ∙ (λ i. places_of c.loop-records.records.items ++ Rattle.std.specs.Prelude.◌∷◌ (first i, bytes) Rattle.std.specs.Prelude.[]));
+      place = place_more start old.next new.next bytes (bytes_of c.loop-records.records.items) (bytes_of c.push.new.self.items) c.loop-records.invariant.place grown.0 goes.1;
+      layout_is = c.read_next.ensures.of.0 ∙ c.loop-records.invariant.layout_is;
+      generation_is = c.read_next.ensures.of.1 ∙ c.loop-records.invariant.generation_is;
       calls = omega (
         arith,
-        subst (λ o. IfSome o (λ b. g.D.Disk.calls c.record_at.new.disk ≤ g.D.Disk.calls c.loop-at.disk + 2 * part_count (length b.items))) c.in-Some.is c.in_ok-bytes.ensures.calls,
-        c.loop-at.invariant.calls,
-        c.loop-at.invariant.low,
-        step,
+        subst (λ o. IfSome o (λ r. g.D.Disk.calls c.read_next.new.disk ≤ g.D.Disk.calls c.loop-records.disk + part_count (length r.bytes.items))) c.in-Some.is c.in_ok-found.ensures.calls,
+        c.loop-records.invariant.calls,
+        c.loop-records.invariant.place,
+        goes.1,
       );
-      past = λ h. c.record_at.ensures.past (c.loop-at.invariant.honest ∙ h) ∙ c.loop-at.invariant.past h;
-      failures = c.in_ok-bytes.ensures.failures ∙ c.loop-at.invariant.failures;
-      disk_size = c.record_at.ensures.size ∙ c.loop-at.invariant.disk_size;
-      honest = c.record_at.ensures.honest ∙ c.loop-at.invariant.honest;
+      past = λ h. c.read_next.ensures.past (c.loop-records.invariant.honest ∙ h) ∙ c.loop-records.invariant.past h;
+      failures = c.in_ok-found.ensures.failures ∙ c.loop-records.invariant.failures;
+      disk_size = c.read_next.ensures.size ∙ c.loop-records.invariant.disk_size;
+      honest = c.read_next.ensures.honest ∙ c.loop-records.invariant.honest;
     }
-
-pub returns-in-None-clause-records : goal.returns-in-None-clause-records
-returns-in-None-clause-records g c h =
-    let past = g.D.Disk.past in
-    let layout = c.args.layout in
-    let here = subst (λ o. ReadsRecord layout c.args.generation (seen (past c.loop-at.disk)) c.loop-at.number c.loop-at.at o) c.in-None.is (c.in_ok-bytes.ensures.found (c.loop-at.invariant.honest ∙ h)) in
-    serves_all layout c.args.generation c.loop-at.number c.loop-at.at (seen (past c.args.disk.now)) (bytes_of c.loop-at.records.items) (c.loop-at.invariant.serves h)
-    (stops (subst (λ (p : Past). (bytes : List ℕ) → IsRecord layout c.args.generation (seen p) c.loop-at.number c.loop-at.at bytes → ⊥) (c.loop-at.invariant.past h) here))
 
 pub returns-clause-records : goal.returns-clause-records
 returns-clause-records g c h =
-    let image = seen (g.D.Disk.past c.args.disk.now) in
-    serves_all c.args.layout c.args.generation c.loop-at.number c.loop-at.at image (bytes_of c.loop-at.records.items) (c.loop-at.invariant.serves h)
-    (none_behind c.args.layout c.args.generation c.loop-at.number c.loop-at.at image (omega (arith, c.loop-at-test.false, c.log_end.ensures)))
+    let past = g.D.Disk.past in
+    let old = c.loop-records.log in
+    let nothing = read_there old.number old.next None c.loop-records.invariant.layout_is c.loop-records.invariant.generation_is (c.loop-records.invariant.past h)
+    (subst (λ o. ReadsNext old.layout old.generation (seen (past c.loop-records.disk)) old.number old.next o) c.in_default.is (c.in_ok-found.ensures.found (c.loop-records.invariant.honest ∙ h))) in
+    serves_all c.args.layout c.args.generation old.number old.next (seen (past c.args.disk.now)) (bytes_of c.loop-records.records.items) (c.loop-records.invariant.serves h) nothing

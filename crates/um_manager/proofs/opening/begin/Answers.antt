@@ -1,6 +1,5 @@
 use Rattle.std.proofs.Common.{◌≡◌, ◌≢◌, ℕ, List, ◌∷◌, [], Ok, Err, refl, sym, subst}
 use Rattle.std.specs.Bool.{IsTrue}
-use Rattle.um_keeper.proofs.Kept.{not_begun}
 use Rattle.um_keeper.specs.Keepers.{disk_in, state_in, size_in, has_failed}
 use Rattle.um_fates.specs.Live.{AreLive}
 use Rattle.um_manager.specs.Opening.{Adopted, Refuses, unadopted, boot_at}
@@ -8,7 +7,7 @@ use Rattle.um_manager.specs.Places.{Place, place_in}
 use Rattle.um_manager.specs.Turns.{now}
 use Rattle.um_manager.proofs.Beginning.{refuses_boot, if_err_same}
 use Rattle.um_manager.proofs.Booting.{live_after}
-use Rattle.um_manager.proofs.Offering.{trusts}
+use Rattle.um_manager.proofs.Offering.{trusts, not_begun}
 use Rattle.um_manager.proofs.Placing.{same_place, same_failed}
 use Rattle.um_manager.proofs.opening.begin.Goals as goal
 
@@ -55,35 +54,35 @@ returns-in_err-sessions-clause-refuses g c =
     let D = g.D.Disk in
     let old = c.args.keeper.now in
     refuses_boot _ _ _ (place_in (D.honest (disk_in old)) old) c.args.moment c.args.boot (state_in old) (state_in old) (g.C.Children.past c.args.children.now) (D.past (disk_in old)) (D.past (disk_in old)) refl
-    (λ t. let (h, f) = trusts (D.honest (disk_in old)) (has_failed old) t in not_begun (boot_at c.args.moment c.args.boot ∷ []) (old.kept f h))
+    (λ t. let (h, f) = trusts (D.honest (disk_in old)) (has_failed old) t in not_begun (boot_at c.args.moment c.args.boot ∷ []) (c.is_stored.ensures.stored f h))
 
 pub returns-in_err-live-clause-refuses : goal.returns-in_err-live-clause-refuses
 returns-in_err-live-clause-refuses g c =
     let D = g.D.Disk in
     let old = c.args.keeper.now in
     refuses_boot _ _ _ (place_in (D.honest (disk_in old)) old) c.args.moment c.args.boot (state_in old) (state_in old) (g.C.Children.past c.args.children.now) (D.past (disk_in old)) (D.past (disk_in old)) refl
-    (λ t. let (h, f) = trusts (D.honest (disk_in old)) (has_failed old) t in not_begun (boot_at c.args.moment c.args.boot ∷ []) (old.kept f h))
+    (λ t. let (h, f) = trusts (D.honest (disk_in old)) (has_failed old) t in not_begun (boot_at c.args.moment c.args.boot ∷ []) (c.is_stored.ensures.stored f h))
 
 pub returns-in_err-marks-clause-refuses : goal.returns-in_err-marks-clause-refuses
 returns-in_err-marks-clause-refuses g c =
     let D = g.D.Disk in
     let old = c.args.keeper.now in
     refuses_boot _ _ _ (place_in (D.honest (disk_in old)) old) c.args.moment c.args.boot (state_in old) (state_in old) (g.C.Children.past c.args.children.now) (D.past (disk_in old)) (D.past (disk_in old)) refl
-    (λ t. let (h, f) = trusts (D.honest (disk_in old)) (has_failed old) t in not_begun (boot_at c.args.moment c.args.boot ∷ []) (old.kept f h))
+    (λ t. let (h, f) = trusts (D.honest (disk_in old)) (has_failed old) t in not_begun (boot_at c.args.moment c.args.boot ∷ []) (c.is_stored.ensures.stored f h))
 
 pub returns-in_err-inputs-clause-refuses : goal.returns-in_err-inputs-clause-refuses
 returns-in_err-inputs-clause-refuses g c =
     let D = g.D.Disk in
     let old = c.args.keeper.now in
     refuses_boot _ _ _ (place_in (D.honest (disk_in old)) old) c.args.moment c.args.boot (state_in old) (state_in old) (g.C.Children.past c.args.children.now) (D.past (disk_in old)) (D.past (disk_in old)) refl
-    (λ t. let (h, f) = trusts (D.honest (disk_in old)) (has_failed old) t in not_begun (boot_at c.args.moment c.args.boot ∷ []) (old.kept f h))
+    (λ t. let (h, f) = trusts (D.honest (disk_in old)) (has_failed old) t in not_begun (boot_at c.args.moment c.args.boot ∷ []) (c.is_stored.ensures.stored f h))
 
 pub returns-in_err-replies-clause-refuses : goal.returns-in_err-replies-clause-refuses
 returns-in_err-replies-clause-refuses g c =
     let D = g.D.Disk in
     let old = c.args.keeper.now in
     refuses_boot _ _ _ (place_in (D.honest (disk_in old)) old) c.args.moment c.args.boot (state_in old) (state_in old) (g.C.Children.past c.args.children.now) (D.past (disk_in old)) (D.past (disk_in old)) refl
-    (λ t. let (h, f) = trusts (D.honest (disk_in old)) (has_failed old) t in not_begun (boot_at c.args.moment c.args.boot ∷ []) (old.kept f h))
+    (λ t. let (h, f) = trusts (D.honest (disk_in old)) (has_failed old) t in not_begun (boot_at c.args.moment c.args.boot ∷ []) (c.is_stored.ensures.stored f h))
 
 pub returns-in_err-adopt-clause-refuses : goal.returns-in_err-adopt-clause-refuses
 returns-in_err-adopt-clause-refuses g c =

@@ -1,4 +1,4 @@
-use Rattle.std.proofs.Common.{◌≡◌, ◌∙◌, ◌++◌, length, map, replicate, Ok, refl, ap, sym, subst, rules}
+use Rattle.std.proofs.Common.{◌≡◌, ◌∙◌, ◌++◌, length, map, replicate, ap, sym, subst, rules}
 use Rattle.std.proofs.lemmas.List.{length-map}
 use Rattle.um_model.specs.Machine.{Refusal}
 use Rattle.um_keeper.specs.Answering.{all_asked}
@@ -10,17 +10,30 @@ use Rattle.um_manager.specs.Orders.{Carries}
 use Rattle.um_manager.specs.Places.{place_in}
 use Rattle.um_manager.specs.Replies.{reply_in}
 use Rattle.um_manager.specs.Stores.{refusal_of}
-use Rattle.um_manager.proofs.Offering.{length-answers, trusts, working_on, failed_answered, failed_denied, submitted_all, denied_held, denied_all, or_ap}
+use Rattle.um_manager.specs.Turns.{Holds}
+use Rattle.um_manager.proofs.Offering.{ok_not_err, length-told, trusts, untrusted, answers_of, failed_answered, failed_denied, submitted_all, refused_reopen, denied_all}
 use Rattle.um_manager.proofs.submitting.submit.Goals as goal
 
 pub carry_all-requires : goal.carry_all-requires
 carry_all-requires g c =
-    let n : length c.in-Ok.answers.items ≡ length c.args.inputs.items = length-answers _ _ _ _ _ c.in-Ok.ensures.ok ∙ length-map c.args.inputs.items input_of in
+    let old = c.args.keeper.now in
+    let new = c.submit_all.new.self in
+    let place = place_in (g.D.Disk.honest (disk_in old)) old in
+    let n : length c.in-Ok.answers.items ≡ length c.args.inputs.items =
+    length-told place (state_in old) (state_in new) (inputs_in c.args.inputs.items) c.in-Ok.answers.items
+    (answers_of place (state_in old) (state_in new) (inputs_in c.args.inputs.items) c.in-Ok.answers.items (has_failed new) c.in-Ok.ensures.ok c.in-Ok.ensures.fell)
+    ∙ length-map c.args.inputs.items input_of in
     record { room = search (rules, n) }
 
 pub returns-in-Ok-clause-len : goal.returns-in-Ok-clause-len
 returns-in-Ok-clause-len g c =
-    let n : length c.in-Ok.answers.items ≡ length c.args.inputs.items = length-answers _ _ _ _ _ c.in-Ok.ensures.ok ∙ length-map c.args.inputs.items input_of in
+    let old = c.args.keeper.now in
+    let new = c.submit_all.new.self in
+    let place = place_in (g.D.Disk.honest (disk_in old)) old in
+    let n : length c.in-Ok.answers.items ≡ length c.args.inputs.items =
+    length-told place (state_in old) (state_in new) (inputs_in c.args.inputs.items) c.in-Ok.answers.items
+    (answers_of place (state_in old) (state_in new) (inputs_in c.args.inputs.items) c.in-Ok.answers.items (has_failed new) c.in-Ok.ensures.ok c.in-Ok.ensures.fell)
+    ∙ length-map c.args.inputs.items input_of in
     let m : length c.carry_all.new.replies.items ≡ length c.args.inputs.items =
     sym (length-map c.carry_all.new.replies.items reply_of) ∙ ap length (c.carry_all.ensures.replies ∙ ap (λ l. map reply_of l ++ map reply_in c.in-Ok.answers.items) c.requires.empty)
     ∙ length-map c.in-Ok.answers.items reply_in ∙ n in
@@ -32,18 +45,19 @@ returns-in-Ok-clause-submits g c =
     let old = c.args.keeper.now in
     let new = c.submit_all.new.self in
     let honest = D.honest (disk_in old) in
-    submitted_all (place_in honest old) (state_in old) (state_in new) (inputs_in c.args.inputs.items) c.in-Ok.answers.items (g.C.Children.past c.args.children.now)
+    submitted_all (place_in honest old) (state_in old) (state_in new) (inputs_in c.args.inputs.items) c.in-Ok.answers.items (has_failed new) c.faults.result (g.C.Children.past c.args.children.now)
     (g.C.Children.past c.carry_all.new.children) c.args.marks.now c.carry_all.new.marks (D.past (disk_in old)) (D.past (disk_in new)) (map reply_of c.carry_all.new.replies.items)
     (g.C.Children.honest c.args.children.now) (g.C.Children.whole c.carry_all.new.children)
-    c.in-Ok.ensures.ok c.in-Ok.ensures.order (c.carry_all.ensures.replies ∙ ap (λ l. map reply_of l ++ map reply_in c.in-Ok.answers.items) c.requires.empty)
+    c.faults.ensures
+    c.in-Ok.ensures.ok c.in-Ok.ensures.fell c.in-Ok.ensures.told c.in-Ok.ensures.order (c.carry_all.ensures.replies ∙ ap (λ l. map reply_of l ++ map reply_in c.in-Ok.answers.items) c.requires.empty)
     (subst (λ units. Carries (g.C.Children.honest c.args.children.now) (g.C.Children.whole c.carry_all.new.children) units (g.C.Children.past c.args.children.now)
     (g.C.Children.past c.carry_all.new.children) c.args.marks.now c.carry_all.new.marks (all_asked c.in-Ok.answers.items))
     (c.units.ensures ∙ ap (λ s. s.units) c.state.ensures) c.carry_all.ensures.carries)
     (λ t. c.in-Ok.ensures.during (trusts honest (has_failed old) t).0)
-    (λ t. let (h, f) = trusts honest (has_failed old) t in c.submit_all.ensures.stored (working_on c.submit_all.result c.in-Ok.answers (has_failed old) (has_failed new) c.in-Ok.is f c.submit_all.ensures.failed) h)
+    (λ t f. c.submit_all.ensures.stored f (trusts honest (has_failed old) t).0)
 
 pub returns-in-Ok-clause-failed : goal.returns-in-Ok-clause-failed
-returns-in-Ok-clause-failed g c = failed_answered c.submit_all.result c.in-Ok.answers (Ok tt) c.in-Ok.is refl c.submit_all.ensures.failed
+returns-in-Ok-clause-failed g c = failed_answered _ c.faults.result c.faults.ensures (λ was. ok_not_err (sym c.in-Ok.is ∙ c.submit_all.ensures.reopen.1 was))
 
 pub returns-in-Err-clause-submits : goal.returns-in-Err-clause-submits
 returns-in-Err-clause-submits g c =
@@ -54,16 +68,16 @@ returns-in-Err-clause-submits g c =
     let place = place_in honest old in
     let f = c.fault_of-fault.result in
     let count : c.len-count.result ≡ length c.args.inputs.items = search rules in
+    let same = ap D.past c.in-Err.ensures.unwritten in
     denied_all place f c.answer.result (state_in old) (state_in new) (inputs_in c.args.inputs.items) (g.C.Children.past c.args.children.now) c.args.marks.now
     (D.past (disk_in old)) (D.past (disk_in new)) _ (g.C.Children.honest c.args.children.now) (g.C.Children.whole c.args.children.now) c.answer.ensures c.in-Err.ensures.state
     (c.deny.ensures.items ∙ ap (λ l. map reply_of l ++ replicate c.len-count.result (Refusal (refused_of (refusal_of f)))) c.requires.empty
     ∙ ap (λ n. replicate n (Refusal (refused_of (refusal_of f)))) (count ∙ sym (length-map c.args.inputs.items input_of)))
-    (λ t. let (h, w) = trusts honest (has_failed old) t in c.in-Err.ensures.lost w h)
-    (λ wants t.
+    (λ so. untrusted honest (refused_reopen c.submit_all.result c.in-Err.refusal f c.in-Err.is c.fault_of-fault.ensures c.submit_all.ensures.reopen so))
+    same
+    (λ t.
     let (h, w) = trusts honest (has_failed old) t in
-    denied_held c.submit_all.result c.in-Err.refusal f (has_failed old) (has_failed new) place (state_in old) (state_in new) (D.past (disk_in old)) (D.past (disk_in new))
-    c.in-Err.is c.fault_of-fault.ensures (or_ap D.past c.in-Err.ensures.unwritten) c.submit_all.ensures.failed c.in-Err.ensures.state w (λ working. c.submit_all.ensures.stored working h) wants)
+    subst (λ x. Holds place (state_in old) x) same (subst (λ y. Holds place y (D.past (disk_in new))) c.in-Err.ensures.state (c.submit_all.ensures.stored (c.in-Err.ensures.failed ∙ w) h)))
 
 pub returns-in-Err-clause-failed : goal.returns-in-Err-clause-failed
-returns-in-Err-clause-failed g c =
-    failed_denied c.submit_all.result c.in-Err.refusal c.fault_of-fault.result c.answer.result c.in-Err.is c.fault_of-fault.ensures c.answer.ensures c.submit_all.ensures.failed
+returns-in-Err-clause-failed g c = failed_denied c.fault_of-fault.result c.answer.result c.answer.ensures c.in-Err.ensures.failed

@@ -8,8 +8,8 @@ use Rattle.um_state.specs.View.{event_of, reply_of}
 use Rattle.um_keeper.specs.Keepers.{state_in}
 use Rattle.um_bin.proofs.serving.Manager.take_event.Goals as goal
 
-pub returns-clause-step : goal.returns-clause-step
-returns-clause-step c =
+pub returns-in-Err-clause-step : goal.returns-in-Err-clause-step
+returns-in-Err-clause-step c =
     let m = c.args.self.now in
     let e = c.in-Err.refusal in
     if_ok_with c.reply_to.result _ _ _ c.reply_to.ensures.told c.reply_to.ensures.step (λ reply told is. (
@@ -19,7 +19,7 @@ returns-clause-step c =
       sym (append-nil (kept_of m)),
     ))
 
-pub returns-clause-working : goal.returns-clause-working
-returns-clause-working c =
+pub returns-in-Err-clause-working : goal.returns-in-Err-clause-working
+returns-in-Err-clause-working c =
     on_ok c.reply_to.result _ _ c.reply_to.ensures.step (λ is.
     works_on c.submit.result (has_failed c.args.self.now.keeper) (has_failed c.submit.new.self) c.in-Err.refusal c.in-Err.is c.requires c.submit.ensures.failed is.device)

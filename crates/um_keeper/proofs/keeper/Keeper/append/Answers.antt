@@ -1,5 +1,8 @@
 use Rattle.std.proofs.Common.{◌∙◌, Ok, ap, sym}
 use Rattle.um_keeper.proofs.Kept.{during_begun, kept_recorded, held_at, held_after, keeps_for}
+use Rattle.um_keeper.proofs.Results.{err_ok, the_other}
+use Rattle.um_keeper.proofs.Spent.{free_still}
+use Rattle.um_log.specs.declared.write.Log.{Log}
 use Rattle.um_keeper.proofs.keeper.Keeper.append.Goals as goal
 
 pub invariant_of-self : goal.invariant_of-self
@@ -21,3 +24,6 @@ returns-in-Ok-true-clause-during g c h = during_begun c.args.self.now.holds (c.a
 pub returns-in-Err-clause-during : goal.returns-in-Err-clause-during
 returns-in-Err-clause-during g c h = during_begun c.args.self.now.holds (c.args.self.now.kept c.requires.working h) c.requires.has_bytes c.requires.step.step
     c.args.self.now.same c.requires.bytes (c.append.ensures.during h)
+
+pub returns-in-Err-clause-free : goal.returns-in-Err-clause-free
+returns-in-Err-clause-free g c from free = free_still c.append.ensures.of.0 c.append.ensures.of.1 (ap (λ (z : Log). z.next) (the_other err_ok c.in-Err.ensures.same)) free

@@ -1,5 +1,5 @@
-use Rattle.std.proofs.Common.{◌∙◌, Ok, length, refl, sym, ap, arith}
-use Rattle.um_model.specs.StateSpellings.{state_spelling}
+use Rattle.std.proofs.Common.{◌∙◌, Ok, length, refl, sym, ap, subst, arith}
+use Rattle.um_model.specs.StateSpellings.{FitState, state_spelling}
 use Rattle.um_keeper.proofs.Kept.{at_some, still, spelled_fits, during_kept, kept_behind, told_behind, held_at, keeps_at}
 use Rattle.um_keeper.proofs.keeper.Keeper.checkpoint.Goals as goal
 
@@ -17,7 +17,7 @@ invariant_of-self g c =
       kept = λ f h.
           let old = sym c.write_other.ensures.honest ∙ h in
           let k = c.args.self.now.kept f old in
-          keeps_at (kept_behind c.args.self.now.holds k (c.deref.ensures.value ∙ c.in_ok-body.ensures ∙ ap state_spelling c.state.ensures)
+          keeps_at (kept_behind c.args.self.now.holds k (subst FitState c.state.ensures c.in_ok-body.ensures.fits) (c.deref.ensures.value ∙ c.in_ok-body.ensures.bytes ∙ ap state_spelling c.state.ensures)
           (at_some _ c.write_other.result c.in-Ok-Some.field-0 c.in-Ok-Some.home c.write_other.ensures.ok c.in-Ok-Some.is c.in-Ok-Some.field-0-is old)
           (g.met.D.Disk.seen_is_image c.write_other.new.disk h) k.on_disk)
           c.write_other.ensures.size c.new-self.ensures.of.0 c.new-self.ensures.empty.0 c.new-self.ensures.empty.1;
@@ -25,20 +25,20 @@ invariant_of-self g c =
 
 pub returns-in-Ok-Some-clause-during : goal.returns-in-Ok-Some-clause-during
 returns-in-Ok-Some-clause-during g c f h =
-    during_kept c.args.self.now.holds (c.args.self.now.kept f h) (c.deref.ensures.value ∙ c.in_ok-body.ensures ∙ ap state_spelling c.state.ensures) (c.write_other.ensures.during h)
+    during_kept c.args.self.now.holds (c.args.self.now.kept f h) (subst FitState c.state.ensures c.in_ok-body.ensures.fits) (c.deref.ensures.value ∙ c.in_ok-body.ensures.bytes ∙ ap state_spelling c.state.ensures) (c.write_other.ensures.during h)
 
 pub returns-in-Ok-Some-clause-stored : goal.returns-in-Ok-Some-clause-stored
 returns-in-Ok-Some-clause-stored g c h =
-    told_behind c.args.self.now.holds (c.args.self.now.kept c.if-self.false h) (c.deref.ensures.value ∙ c.in_ok-body.ensures ∙ ap state_spelling c.state.ensures)
+    told_behind c.args.self.now.holds (c.args.self.now.kept c.if-self.false h) (subst FitState c.state.ensures c.in_ok-body.ensures.fits) (c.deref.ensures.value ∙ c.in_ok-body.ensures.bytes ∙ ap state_spelling c.state.ensures)
     (at_some _ c.write_other.result c.in-Ok-Some.field-0 c.in-Ok-Some.home c.write_other.ensures.ok c.in-Ok-Some.is c.in-Ok-Some.field-0-is h)
 
 pub unreachable-requires : goal.unreachable-requires
 unreachable-requires g c =
     let long = (c.write_other.ensures.long.0 (c.in-Ok-None.is ∙ ap Ok c.in-Ok-None.field-0-is)).1 in
-    let is = c.deref.ensures.value ∙ c.in_ok-body.ensures ∙ ap state_spelling c.state.ensures in
+    let is = c.deref.ensures.value ∙ c.in_ok-body.ensures.bytes ∙ ap state_spelling c.state.ensures in
     let most = spelled_fits c.args.self.now.holds in
     omega (arith, long, ap length is, most)
 
 pub returns-clause-during : goal.returns-clause-during
 returns-clause-during g c f h =
-    during_kept c.args.self.now.holds (c.args.self.now.kept f h) (c.deref.ensures.value ∙ c.in_ok-body.ensures ∙ ap state_spelling c.state.ensures) (c.write_other.ensures.during h)
+    during_kept c.args.self.now.holds (c.args.self.now.kept f h) (subst FitState c.state.ensures c.in_ok-body.ensures.fits) (c.deref.ensures.value ∙ c.in_ok-body.ensures.bytes ∙ ap state_spelling c.state.ensures) (c.write_other.ensures.during h)

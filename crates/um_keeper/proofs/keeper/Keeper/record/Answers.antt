@@ -2,7 +2,7 @@ use Rattle.std.proofs.Common.{◌∙◌, [], ◌∷◌, length, inr, sym, ap, su
 use Rattle.um_model.specs.Disk.{During}
 use Rattle.um_model.specs.Stands.{IsStoreOf}
 use Rattle.um_state.specs.View.{input_of}
-use Rattle.um_keeper.proofs.Results.{if_err_all, if_err_from, or_more}
+use Rattle.um_keeper.proofs.Results.{if_err_all, if_err_from, or_more, ok_from, err_more}
 use Rattle.um_keeper.specs.Keepers.{disk_in, layout_in, state_in}
 use Rattle.um_keeper.proofs.Kept.{still, not_begun, record_short, room_begun, room_and_record}
 use Rattle.um_keeper.proofs.keeper.Keeper.record.Goals as goal
@@ -31,3 +31,9 @@ returns-clause-kept g c =
     let first = c.args.self.now in
     if_err_from c.append.result _ _ (λ e. or_more (λ same h.
     subst (λ d. During (past (disk_in first)) (past d) (λ image. IsStoreOf (layout_in first) image (state_in first))) (sym same) (c.make_room.ensures.during h))) c.append.ensures.unwritten
+
+pub returns-clause-filled : goal.returns-clause-filled
+returns-clause-filled g c = ok_from c.append.result (λ further from free. further from (c.make_room.ensures.free from free)) c.append.ensures.filled
+
+pub returns-clause-free : goal.returns-clause-free
+returns-clause-free g c = err_more c.append.result (λ still from free. still from (c.make_room.ensures.free from free)) c.append.ensures.free

@@ -1,9 +1,9 @@
 use Rattle.std.specs.Prelude.{◌≡◌, ◌+◌, ◌++◌, ◌∷◌, [], ℕ, List, length}
 use Rattle.std.proofs.Common.{subst, arith}
-use Rattle.um_model.specs.Disk.{Sector, seen, During}
-use Rattle.um_sector.specs.Runs.{AfterRun, IsLaid}
+use Rattle.um_model.specs.Disk.{seen}
+use Rattle.um_log.specs.Appending.{record_run}
 use Rattle.um_model.specs.Store.{part_count, GoesOn}
-use Rattle.um_log.proofs.Appending.{before_elsewhere, during_elsewhere}
+use Rattle.um_log.proofs.Appending.{record_count, before_elsewhere, during_elsewhere}
 use Rattle.um_log.proofs.Appending.{before_record, during_record, goes_on_record}
 use Rattle.um_log.proofs.write.Log.append.Goals as goal
 
@@ -13,56 +13,49 @@ returns-then-not-fits-clause-during g c h slot body records ready = before_recor
 pub returns-then-not-fits-clause-elsewhere : goal.returns-then-not-fits-clause-elsewhere
 returns-then-not-fits-clause-elsewhere g c h = before_elsewhere (g.D.Disk.past c.args.disk.now) c.args.self.now.next (part_count (length c.args.bytes.now))
 
-pub returns-in_err-run-clause-during : goal.returns-in_err-run-clause-during
-returns-in_err-run-clause-during g c h slot body records ready = before_record (g.D.Disk.past c.args.disk.now) c.args.bytes.now ready
-
-pub returns-in_err-run-clause-elsewhere : goal.returns-in_err-run-clause-elsewhere
-returns-in_err-run-clause-elsewhere g c h = before_elsewhere (g.D.Disk.past c.args.disk.now) c.args.self.now.next (part_count (length c.args.bytes.now))
-
-pub returns-in_err-write_run_synced-clause-during : goal.returns-in_err-write_run_synced-clause-during
-returns-in_err-write_run_synced-clause-during g c h slot body records ready =
+pub returns-in_err-write_record_synced-clause-during : goal.returns-in_err-write_record_synced-clause-during
+returns-in_err-write_record_synced-clause-during g c h slot body records ready =
     let log = c.args.self.now in
     let old = g.D.Disk.past c.args.disk.now in
-    let new = g.D.Disk.past c.write_run_synced.new.disk in
+    let new = g.D.Disk.past c.write_record_synced.new.disk in
     let last = (ready.store (seen old) (g.met.D.Disk.seen_is_image c.args.disk.now h)).newest.header.last in
     let room = c.fits.ensures.0 c.if-not-fits.false in
-    during_record log.layout log.generation log.number log.next c.args.bytes.now c.in_ok-run.run'.items last room.some room.short room.within c.in_ok-run.ensures.count c.in_ok-run.ensures.each old new slot body records ready
-    (subst (λ (r : List Sector). During old new (AfterRun old log.next r)) c.deref.ensures.value (c.write_run_synced.ensures.during h))
+    during_record log.layout log.generation log.number log.next c.args.bytes.now last room.some room.short room.within old new slot body records ready
+    (c.write_record_synced.ensures.during h)
 
-pub returns-in_err-write_run_synced-clause-elsewhere : goal.returns-in_err-write_run_synced-clause-elsewhere
-returns-in_err-write_run_synced-clause-elsewhere g c h =
+pub returns-in_err-write_record_synced-clause-elsewhere : goal.returns-in_err-write_record_synced-clause-elsewhere
+returns-in_err-write_record_synced-clause-elsewhere g c h =
     let old = g.D.Disk.past c.args.disk.now in
-    let new = g.D.Disk.past c.write_run_synced.new.disk in
-    during_elsewhere old new c.args.self.now.next (part_count (length c.args.bytes.now)) c.in_ok-run.run'.items c.in_ok-run.ensures.count
-    (subst (λ (r : List Sector). During old new (AfterRun old c.args.self.now.next r)) c.deref.ensures.value (c.write_run_synced.ensures.during h))
+    let new = g.D.Disk.past c.write_record_synced.new.disk in
+    during_elsewhere old new c.args.self.now.next (part_count (length c.args.bytes.now)) (record_run c.args.self.now.generation c.args.self.now.number c.args.bytes.now) (record_count c.args.self.now.generation c.args.self.now.number c.args.bytes.now)
+    (c.write_record_synced.ensures.during h)
 
 pub returns-clause-during : goal.returns-clause-during
 returns-clause-during g c h slot body records ready =
     let log = c.args.self.now in
     let old = g.D.Disk.past c.args.disk.now in
-    let new = g.D.Disk.past c.write_run_synced.new.disk in
+    let new = g.D.Disk.past c.write_record_synced.new.disk in
     let last = (ready.store (seen old) (g.met.D.Disk.seen_is_image c.args.disk.now h)).newest.header.last in
     let room = c.fits.ensures.0 c.if-not-fits.false in
-    during_record log.layout log.generation log.number log.next c.args.bytes.now c.in_ok-run.run'.items last room.some room.short room.within c.in_ok-run.ensures.count c.in_ok-run.ensures.each old new slot body records ready
-    (subst (λ (r : List Sector). During old new (AfterRun old log.next r)) c.deref.ensures.value (c.write_run_synced.ensures.during h))
+    during_record log.layout log.generation log.number log.next c.args.bytes.now last room.some room.short room.within old new slot body records ready
+    (c.write_record_synced.ensures.during h)
 
 pub returns-clause-elsewhere : goal.returns-clause-elsewhere
 returns-clause-elsewhere g c h =
     let old = g.D.Disk.past c.args.disk.now in
-    let new = g.D.Disk.past c.write_run_synced.new.disk in
-    during_elsewhere old new c.args.self.now.next (part_count (length c.args.bytes.now)) c.in_ok-run.run'.items c.in_ok-run.ensures.count
-    (subst (λ (r : List Sector). During old new (AfterRun old c.args.self.now.next r)) c.deref.ensures.value (c.write_run_synced.ensures.during h))
+    let new = g.D.Disk.past c.write_record_synced.new.disk in
+    during_elsewhere old new c.args.self.now.next (part_count (length c.args.bytes.now)) (record_run c.args.self.now.generation c.args.self.now.number c.args.bytes.now) (record_count c.args.self.now.generation c.args.self.now.number c.args.bytes.now)
+    (c.write_record_synced.ensures.during h)
 
 pub returns-clause-ok : goal.returns-clause-ok
 returns-clause-ok g c is_ok h slot body records ready =
     let log = c.args.self.now in
     let old = g.D.Disk.past c.args.disk.now in
-    let new = g.D.Disk.past c.write_run_synced.new.disk in
+    let new = g.D.Disk.past c.write_record_synced.new.disk in
     let is = g.met.D.Disk.seen_is_image c.args.disk.now h in
     let last = (ready.store (seen old) is).newest.header.last in
     let room = c.fits.ensures.0 c.if-not-fits.false in
-    let count = c.in_ok-run.ensures.count in
-    let size : log.next + part_count (length c.args.bytes.now) ≡ log.next + c.len.result = omega (arith, c.len.ensures, c.in_ok-run.run'.ok, count) in
+    let size : log.next + part_count (length c.args.bytes.now) ≡ log.next + c.div_ceil.result = omega (arith, c.div_ceil.ensures) in
     subst (λ (n : ℕ). GoesOn log.layout new slot log.generation body (records ++ c.args.bytes.now ∷ []) log.generation (log.number + 1) n) size
-    (goes_on_record log.layout log.generation log.number log.next c.args.bytes.now c.in_ok-run.run'.items last room.some room.short room.within count c.in_ok-run.ensures.each old new slot body records ready is
-    (subst (λ (r : List Sector). IsLaid (seen old) log.next r (seen new)) c.deref.ensures.value (c.in_ok-write_run_synced.ensures.ok h)) (c.in_ok-write_run_synced.ensures.settled h))
+    (goes_on_record log.layout log.generation log.number log.next c.args.bytes.now last room.some room.short room.within old new slot body records ready is
+    (c.in_ok-write_record_synced.ensures.ok h) (c.in_ok-write_record_synced.ensures.settled h))

@@ -32,7 +32,7 @@ returns-in-Ok-begin-clause-opened g c h w =
       found = λ t.
           let (honest, works) = trusts (D.honest (disk_in k)) (has_failed k) t in
           let next = c.in-Ok.ensures.taken (subst IsTrue ok.2 honest) in
-          record { slot = next.before; generation = next.earlier; taken_up = next.taken };
+          record { slot = next.before; generation = next.earlier; taken_up = next.taken; stands = c.in-Ok.ensures.stands (subst IsTrue ok.2 honest) };
       unasked = refl;
       began = began;
       left = λ t images.
@@ -41,7 +41,7 @@ returns-in-Ok-begin-clause-opened g c h w =
           opening_left (layout_in k) (state_in k) (boot_at c.args.moment c.args.boot ∷ taken (adoptions c.args.moment adopted.told) adopted.answers) first (D.past (disk_in k)) (D.past (disk_in l))
           (c.in-Ok.ensures.during (subst IsTrue ok.2 honest) (layout_in k) images)
           (boot_then there (state_in k) began.mid.state (boot_at c.args.moment c.args.boot) began.reply (taken (adoptions c.args.moment adopted.told) adopted.answers)
-          (D.past (disk_in k)) began.mid.disk (D.past (disk_in l)) k.holds.size_is began.booted (began.left t) (adopted.left t));
+          (D.past (disk_in k)) began.mid.disk (D.past (disk_in l)) c.in-Ok.ensures.sized began.booted (began.left t) (adopted.left t));
     })
 
 pub returns-in-Err-clause-err : goal.returns-in-Err-clause-err
@@ -56,15 +56,15 @@ returns-in-Err-begin-clause-err g c = λ h w sure layout images.
     let there = place_in (D.honest (disk_in k)) k in
     let ok = c.in-Ok.ensures.ok in
     let next = c.in-Ok.ensures.taken sure in
-    let same : layout_in k ≡ layout = one_layout (layout_in k) layout (seen first) next.taken.store.first (images (seen first) (g.met.D.Disk.seen_is_image c.args.disk sure)).store.stands.first in
+    let same : layout_in k ≡ layout = one_layout (layout_in k) layout (seen first) next.taken.has.first (images (seen first) (g.met.D.Disk.seen_is_image c.args.disk sure)).stands.first in
     let a = now (state_in k) (g.C.Children.past c.args.children) [] [] (D.past (disk_in k)) in
     let (marks, refuses) = c.in-Err-begin.ensures.refuses h w in
     let b = now (state_in l) (g.C.Children.past c.begin.new.children) marks [] (D.past (disk_in l)) in
     let trusted = trusted_in ok.2 ok.0 sure in
     subst (λ d. During first (D.past d) (IsOfRefused layout c.args.moment c.args.boot (D.size c.args.disk) first (g.C.Children.past c.args.children) (g.C.Children.past c.begin.new.children))) (sym c.into_disk.ensures)
     (subst (λ (z : Layout). During first (D.past (disk_in l)) (IsOfRefused z c.args.moment c.args.boot (D.size c.args.disk) first (g.C.Children.past c.args.children) (g.C.Children.past c.begin.new.children))) same
-    (refused_left there c.args.moment c.args.boot (D.size c.args.disk) first a b _ k.holds.size_is trusted
-    (record { slot = next.before; generation = next.earlier; taken_up = next.taken })
+    (refused_left there c.args.moment c.args.boot (D.size c.args.disk) first a b _ c.in-Ok.ensures.sized trusted
+    (record { slot = next.before; generation = next.earlier; taken_up = next.taken; stands = c.in-Ok.ensures.stands sure })
     (c.in-Ok.ensures.during sure (layout_in k) (subst (λ (z : Layout). Images first (IsSomeStore z)) (sym same) images)) refuses))
 
 pub returns-in-Ok-begin-clause-sized : goal.returns-in-Ok-begin-clause-sized

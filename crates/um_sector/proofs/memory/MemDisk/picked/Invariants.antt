@@ -1,14 +1,16 @@
-use Rattle.std.proofs.Common.{◌≡◌, ◌≤◌, length, map}
-use Rattle.std.specs.List.{range_with_len}
-use Rattle.um_sector.specs.Unsynced.{unsynced, picked}
+use Rattle.std.proofs.Common.{◌≡◌, ◌+◌, ◌-◌, ◌<◌, ℕ, [], length, take, get_or}
+use Rattle.um_model.specs.Disk.{candidates}
+use Rattle.um_sector.specs.Unsynced.{unsynced}
 use Rattle.um_sector.specs.Noted.{past_of}
 use Rattle.um_sector.proofs.memory.MemDisk.picked.Given as goal
 
-abbrev pub invariant-loop-k : goal.invariant-loop-k
-invariant-loop-k l =
-    let past = past_of l.self.start.items l.self.noted.items in
+abbrev pub invariant-loop-call : goal.invariant-loop-call
+invariant-loop-call l =
+    let past = past_of l.self.start.items (take (l.self.since + l.call-index) l.self.noted.items) in
+    let pick : ℕ → ℕ = λ k. get_or l.picks (length (unsynced (past_of l.self.start.items l.self.noted.items) k)) 0 in
     record {
-      list : l.list.items ≡ map (picked past l.picks) (range_with_len 0 l.k);
-      turn : l.turn ≡ length (unsynced past l.k);
-      below : l.turn ≤ l.k;
+      held : length l.list.items ≡ length l.self.held.items;
+      long : length l.left.items ≡ length l.self.held.items;
+      left : (k : ℕ) → k < length l.left.items → get_or l.left.items k 0 ≡ pick k + 1 - length (candidates past k);
+      list : (k : ℕ) → k < length l.list.items → get_or l.list.items k [] ≡ get_or (candidates past k) (pick k) (get_or (candidates past k) 0 []);
     }

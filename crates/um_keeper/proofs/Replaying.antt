@@ -1,0 +1,82 @@
+-- The records of a log are taken again one behind the other, as they are read.
+use Rattle.std.proofs.Common.{◌≡◌, ℕ, suc, ◌+◌, List, [], ◌∷◌, length, Some, None, sym, ap, subst, arith}
+use Rattle.um_model.specs.Bytes.{nothing_left}
+use Rattle.um_model.specs.Disk.{Image}
+use Rattle.um_model.specs.InputSpellings.{input_at}
+use Rattle.um_model.specs.Machine.{State, Input}
+use Rattle.um_model.specs.Store.{log_start, part_count, placed, records_of, sectors_of, IsRecord, AreRecords, stops, goes_on}
+use Rattle.um_model.specs.declared.layout.Layout.{Layout}
+use Rattle.um_model.proofs.ImageLaws.{records_are}
+use Rattle.um_model.proofs.LogLaws.{one_record, same_list}
+use Rattle.um_wire.specs.declared.refusal.Refusal.{Refusal}
+use Rattle.um_wire.specs.declared.refusal.Refusal.TheVariants.{Damaged}
+use Rattle.um_keeper.specs.Opening.{Leads, Replays, no_more, and_then, IsNoInput, here, later, IsBehind}
+
+-- Some of a generation's records were taken from the first state on, the others begin at that number and place.
+pub record IsReached (layout : Layout) (generation : ℕ) (image : Image) (size : ℕ) (first s : State) (number next : ℕ) : Type 0 where
+  pub rest : List (List ℕ)
+  pub are : AreRecords layout generation image number next rest
+  pub count : number + length rest ≡ length (records_of layout generation image)
+  pub place : next + sectors_of rest ≡ log_start layout generation + sectors_of (records_of layout generation image)
+  pub so_far : (t : State) → Replays size rest s t → Replays size (records_of layout generation image) first t
+  pub cause : (e : Refusal) → IsNoInput (placed next rest) e → IsNoInput (placed (log_start layout generation) (records_of layout generation image)) e
+
+module _ (layout : Layout) (generation : ℕ) (image : Image) (size : ℕ) (first : State) where
+  -- none was taken yet
+  pub none_reached : (number next : ℕ) → number ≡ 0 → next ≡ log_start layout generation → IsReached layout generation image size first first number next
+  none_reached number next zero_is start_is = record {
+    rest = records_of layout generation image;
+    are = subst (λ n. AreRecords layout generation image n next (records_of layout generation image)) (sym zero_is)
+        (subst (λ m. AreRecords layout generation image 0 m (records_of layout generation image)) (sym start_is) (records_are layout generation image));
+    count = omega (arith, zero_is);
+    place = omega (arith, start_is);
+    so_far = λ t replays. replays;
+    cause = λ e fails. subst (λ m. IsNoInput (placed m (records_of layout generation image)) e) start_is fails;
+  }
+
+  module _ {number next : ℕ} {bytes : List ℕ} (is : IsRecord layout generation image number next bytes) where
+    -- the record that stands there is the first of those that are left
+    first_left : (rest : List (List ℕ)) → AreRecords layout generation image number next rest
+        → (more : List (List ℕ)) × (rest ≡ bytes ∷ more) × AreRecords layout generation image (suc number) (next + part_count (length bytes)) more
+    first_left [] (stops nothing) = absurd (nothing bytes is)
+    first_left (x ∷ xs) (goes_on there behind) =
+        let same = one_record there is in
+        (xs, (λ i. same i ∷ xs), subst (λ (b : List ℕ). AreRecords layout generation image (suc number) (next + part_count (length b)) xs) same behind)
+
+    -- it spells no input
+    pub none_spelled : {s : State} → IsReached layout generation image size first s number next → nothing_left (input_at bytes) ≡ None
+        → IsNoInput (placed (log_start layout generation) (records_of layout generation image)) (Damaged next)
+    none_spelled r none =
+        let (more, split, behind) = first_left r.rest r.are in
+        r.cause (Damaged next) (subst (λ (l : List (List ℕ)). IsNoInput (placed next l) (Damaged next)) (sym split) (here none))
+
+    -- its input is taken
+    pub one_reached : {s : State} {input : Input} {t : State} (further after : ℕ) → IsReached layout generation image size first s number next → nothing_left (input_at bytes) ≡ Some input → Leads size s input t
+        → further ≡ number + 1 → after ≡ next + part_count (length bytes) → IsReached layout generation image size first t further after
+    one_reached {s = s} further after r read leads on at =
+        let (more, split, behind) = first_left r.rest r.are in
+        let one : further ≡ suc number = omega (arith, on) in
+        record {
+          rest = more;
+          are = subst (λ n. AreRecords layout generation image n after more) (sym one)
+              (subst (λ m. AreRecords layout generation image (suc number) m more) (sym at) behind);
+          count = omega (arith, r.count, ap (λ (l : List (List ℕ)). length l) split, on);
+          place = omega (arith, r.place, ap sectors_of split, at);
+          so_far = λ t replays. r.so_far t (subst (λ (l : List (List ℕ)). Replays size l s t) (sym split) (and_then read leads replays));
+          cause = λ e fails. r.cause e (subst (λ (l : List (List ℕ)). IsNoInput (placed next l) e) (sym split)
+              (later read (subst (λ m. IsNoInput (placed m more) e) at fails)));
+        }
+
+  -- none is left
+  module _ {s : State} {number next : ℕ} (r : IsReached layout generation image size first s number next) (nothing : AreRecords layout generation image number next []) where
+    none_left : r.rest ≡ []
+    none_left = same_list number next r.rest [] r.are nothing
+
+    pub all_replayed : Replays size (records_of layout generation image) first s
+    all_replayed = r.so_far s (subst (λ (l : List (List ℕ)). Replays size l s s) (sym none_left) no_more)
+
+    pub all_behind : IsBehind layout generation image number next
+    all_behind = record {
+      count = omega (arith, r.count, ap (λ (l : List (List ℕ)). length l) none_left);
+      place = omega (arith, r.place, ap sectors_of none_left);
+    }

@@ -1,0 +1,66 @@
+-- Of the log of the last generation: from where on it is free, and which inputs have no room there.
+use Rattle.std.proofs.Common.{◌≡◌, ◌∙◌, ℕ, zero, suc, ◌+◌, ◌-◌, ◌^◌, ◌≤◌, arith, List, [], ◌∷◌, ◌++◌, length, map, replicate, sym, ap, subst}
+use Rattle.std.specs.Prelude.{Ok, Err}
+use Rattle.um_log.specs.Reading.{Fits}
+use Rattle.um_model.specs.InputSpellings.{input_spelling}
+use Rattle.um_model.specs.Machine.{Input}
+use Rattle.um_model.specs.Store.{log_start, log_end}
+use Rattle.um_model.specs.declared.layout.Layout.{Layout}
+use Rattle.um_keeper.specs.Answering.{Answer, denied, sectors_for, IsSpentAt, AreSpentAt}
+use Rattle.um_keeper.specs.Keepers.{layout_in, log_generation_in, next_in, HasNoRoom, IsFreeFrom}
+use Rattle.um_keeper.specs.declared.keeper.Keeper.{Keeper}
+use Rattle.um_wire.specs.declared.refusal.Refusal.TheVariants.{Device, GenerationsSpent}
+
+-- ---- where the log is free
+
+-- further on too
+free_more : {D : Type 0} {g : _} {k : Keeper D g} {from : ℕ} (n : ℕ) → IsFreeFrom k from → IsFreeFrom k (from + n)
+free_more n free = record { start = omega (arith, free.start); behind = λ last. omega (arith, free.behind last) }
+
+-- where the log is as before
+pub free_still : {D : Type 0} {g : _} {k l : Keeper D g} {from : ℕ} → layout_in l ≡ layout_in k → log_generation_in l ≡ log_generation_in k → next_in l ≡ next_in k → IsFreeFrom k from → IsFreeFrom l from
+free_still layout generation next free = record {
+  start = omega (arith, free.start, ap (λ (z : Layout). log_start z 0) layout);
+  behind = λ last. omega (arith, next, free.behind (sym generation ∙ last));
+}
+
+-- whatever the answer is, where no record was written
+pub free_refused : {D : Type 0} {g : _} {k l : Keeper D g} {from : ℕ} (n : ℕ) → ((start : ℕ) → IsFreeFrom k start → IsFreeFrom l start) → IsFreeFrom k from → IsFreeFrom l (from + n)
+free_refused {from = from} n still free = free_more n (still from free)
+
+-- ---- inputs that are turned away in the last generation
+
+-- a record that has no room has none further on
+no_room : {layout l : Layout} {generation next from size : ℕ} → l ≡ layout → generation ≡ 2 ^ 64 - 1 → next ≤ from → ¬ Fits l generation next size
+    → ¬ Fits layout (2 ^ 64 - 1) from size
+no_room same last low none fits = none (record {
+  some = fits.some;
+  short = fits.short;
+  within = omega (arith, low, fits.within, ap (λ (z : Layout). log_end z 0) same);
+})
+
+-- an input that was turned away so had no room there
+pub spent_at : {D : Type 0} {g : _} {k : Keeper D g} {layout : Layout} {from generation : ℕ} (input : Input) (answer : Answer) → IsFreeFrom k from → layout_in k ≡ layout → log_generation_in k ≤ generation
+    → (answer ≡ Err GenerationsSpent → HasNoRoom k (length (input_spelling input))) → IsSpentAt layout generation from input answer
+spent_at input answer free same high told is =
+    let none = told is in
+    (omega (arith, none.last, high), no_room same none.last (free.behind none.last) none.no_room)
+
+pub spent_left : (layout : Layout) (generation from : ℕ) {left more : List Input} {input : Input} (answer : Answer) (rest : List Answer) → left ≡ input ∷ more → IsSpentAt layout generation from input answer
+    → AreSpentAt layout generation (from + sectors_for answer input) more rest → AreSpentAt layout generation from left (answer ∷ rest)
+spent_left layout generation from answer rest is one others = subst (λ l. AreSpentAt layout generation from l (answer ∷ rest)) (sym is) (one, others)
+
+-- E16 tells of no generation
+pub faults_spent : (layout : Layout) (generation from : ℕ) (inputs : List Input) (count : ℕ) → AreSpentAt layout generation from inputs (replicate count (Err Device))
+faults_spent layout generation from [] count = tt
+faults_spent layout generation from (input ∷ inputs) zero = tt
+faults_spent layout generation from (input ∷ inputs) (suc count) = ((λ is. cc), faults_spent layout generation (from + sectors_for (Err Device) input) inputs count)
+
+pub spent_denied : (layout : Layout) (generation from : ℕ) (inputs : List Input) (meant rest : List Answer) → AreSpentAt layout generation from inputs (meant ++ rest)
+    → AreSpentAt layout generation from inputs (map denied meant ++ rest)
+spent_denied layout generation from inputs [] rest spent = spent
+spent_denied layout generation from [] (answer ∷ meant) rest spent = tt
+spent_denied layout generation from (input ∷ inputs) (Ok given ∷ meant) rest spent =
+    ((λ is. cc), spent_denied layout generation (from + sectors_for (Ok given) input) inputs meant rest spent.1)
+spent_denied layout generation from (input ∷ inputs) (Err e ∷ meant) rest spent =
+    (spent.0, spent_denied layout generation (from + sectors_for (Err e) input) inputs meant rest spent.1)

@@ -1,0 +1,5 @@
+use Rattle.um_model.proofs.UnreadLaws.{unread}
+use Rattle.um_keeper.proofs.laws.unread.Goals as goal
+
+pub returns : goal.returns
+returns c = unread

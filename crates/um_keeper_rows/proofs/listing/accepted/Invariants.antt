@@ -1,5 +1,0 @@
-use Rattle.std.specs.Vec.Iter.{into_iter_len}
-use Rattle.um_keeper_rows.proofs.listing.accepted.Given as goal
-
-abbrev pub decreases-loop-answer : goal.decreases-loop-answer
-decreases-loop-answer g l = into_iter_len l.rest

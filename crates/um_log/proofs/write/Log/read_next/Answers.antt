@@ -1,0 +1,23 @@
+use Rattle.std.specs.Option.{IfSome}
+use Rattle.std.specs.Prelude.{◌+◌, ◌<◌, ◌≤◌, length}
+use Rattle.std.proofs.Common.{◌≡◌, ◌∙◌, subst, arith}
+use Rattle.um_model.specs.Disk.{seen}
+use Rattle.um_model.specs.Store.{part_count, stops}
+use Rattle.um_log.specs.Reading.{ReadsRecord, Fits}
+use Rattle.um_log.proofs.Scanning.{none_behind}
+use Rattle.um_log.proofs.write.Log.read_next.Goals as goal
+
+pub returns-then-next-log_end-clause-found : goal.returns-then-next-log_end-clause-found
+returns-then-next-log_end-clause-found g c h =
+    let log = c.args.self.now in
+    none_behind log.layout log.generation log.number log.next (seen (g.D.Disk.past c.args.disk.now)) (omega (arith, c.if-next-log_end.true, c.log_end.ensures))
+
+pub returns-in_default-clause-found : goal.returns-in_default-clause-found
+returns-in_default-clause-found g c h =
+    let log = c.args.self.now in
+    stops (subst (ReadsRecord log.layout log.generation (seen (g.D.Disk.past c.args.disk.now)) log.number log.next) c.in_default.is (c.in_ok-bytes.ensures.found h))
+
+pub returns-clause-found : goal.returns-clause-found
+returns-clause-found g c h =
+    let log = c.args.self.now in
+    subst (ReadsRecord log.layout log.generation (seen (g.D.Disk.past c.args.disk.now)) log.number log.next) c.in-Some.is (c.in_ok-bytes.ensures.found h)

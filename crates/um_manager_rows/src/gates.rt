@@ -1,0 +1,101 @@
+//! Gates in memory, and what they took.
+use std::process::Abort;
+use um_gate::{FakeGate, Gate, MOST_BYTES, Note};
+use um_rows_shared::same;
+
+/// These bytes.
+pub fn bytes(rt: &(impl AllocGlobal + Abort), text: &[u8]) -> Vec<u8> {
+    Vec::from_slice(rt.alloc(), text).expect(rt, "no memory")
+}
+
+/// A client that sends these bytes in one part, stays, and takes at most so many bytes of a write.
+pub fn add_client(
+    rt: &(impl AllocGlobal + Abort),
+    gate: &mut FakeGate,
+    number: usize,
+    sent: &[u8],
+    limit: usize,
+) {
+    let parts = vec![in rt.alloc(); bytes(rt, sent)].expect(rt, "no memory");
+    gate.client(number, parts, false, limit)
+        .expect(rt, "no memory");
+}
+
+/// A gate that has accepted a client that sends nothing, and takes at most so many bytes of a write.
+pub fn with_client(rt: &(impl AllocGlobal + Abort), number: usize, limit: usize) -> FakeGate {
+    let mut gate = FakeGate::new(rt.alloc());
+    add_client(rt, &mut gate, number, b"", limit);
+    let _open = gate.accept();
+    gate
+}
+
+/// What the gate took for a connection, one write behind the other, how many writes it was offered, and whether the connection was
+/// given up.
+#[derive(Drop)]
+pub struct Taken {
+    pub bytes: Vec<u8>,
+    pub writes: usize,
+    pub is_dropped: bool,
+}
+
+/// What the gate took for the connection of this number.
+pub fn what_was_taken(rt: &(impl AllocGlobal + Abort), gate: &FakeGate, number: usize) -> Taken {
+    let mut bytes = Vec::new(rt.alloc());
+    let mut writes: usize = 0;
+    let mut is_dropped = false;
+    for note in gate.notes() {
+        match note {
+            Note::Wrote(to, part) if *to == number => {
+                bytes
+                    .extend_from_slice(part.as_slice())
+                    .expect(rt, "no memory");
+                writes = writes.saturating_add(1);
+            }
+            Note::Dropped(to) if *to == number => is_dropped = true,
+            _ => {}
+        }
+    }
+    Taken {
+        bytes,
+        writes,
+        is_dropped,
+    }
+}
+
+/// What a read of at most so many bytes gives; the client is there still.
+fn read_of(
+    rt: &(impl AllocGlobal + Abort),
+    gate: &mut FakeGate,
+    number: usize,
+    most: usize,
+) -> Vec<u8> {
+    let most = most.min(MOST_BYTES);
+    let mut read = Vec::with_capacity(rt.alloc(), most).expect(rt, "no memory");
+    same(rt, gate.read(number, most, &mut read), true);
+    read
+}
+
+/// Reads of a client that sends `abcde`, one after another: of how many bytes at most, and what they give.
+const READS: &[(usize, &[u8])] = &[(0, b""), (2, b"ab"), (0, b""), (4096, b"cde"), (4096, b"")];
+
+#[test]
+fn what_is_not_read_stays_there(rt: HostRuntime) {
+    let mut gate = FakeGate::new(rt.alloc());
+    add_client(&rt, &mut gate, 3, b"abcde", 9);
+    let _open = gate.accept();
+    for (most, wanted) in READS {
+        let read = read_of(&rt, &mut gate, 3, *most);
+        same(&rt, read.as_slice(), *wanted);
+    }
+}
+
+#[test]
+fn a_client_that_was_given_up_takes_nothing_and_is_told_closed(rt: HostRuntime) {
+    let mut gate = with_client(&rt, 2, 9);
+    same(&rt, gate.write(2, b"abc"), 3);
+    gate.drop_connection(2);
+    same(&rt, gate.write(2, b"def"), 0);
+    let mut read = Vec::with_capacity(rt.alloc(), MOST_BYTES).expect(&rt, "no memory");
+    same(&rt, gate.read(2, MOST_BYTES, &mut read), false);
+    same(&rt, read.len(), 0);
+}

@@ -1,0 +1,67 @@
+//! Orders of a keeper, which alone can make one.
+use std::process::Abort;
+use um_children::{Children, Fate};
+use um_keeper::{Handed, Keeper, Receipt, SpawnOrder, create};
+use um_model::{JobMode, Layout, Moment, NextNumber, ProcessNumber, UnitVerb};
+use um_name::UnitName;
+use um_sector::MemDisk;
+use um_state::{Command, Event, Input};
+
+pub fn number(rt: &impl Abort, n: u64) -> ProcessNumber {
+    ProcessNumber::new(n).expect(rt, "no process number")
+}
+
+/// The number that is started next.
+pub fn next(rt: &impl Abort, n: u64) -> NextNumber {
+    NextNumber::new(n).expect(rt, "no next number")
+}
+
+/// Asserts what is told of a number.
+pub fn told<C: Children>(rt: &impl Abort, children: &mut C, n: u64, claim: bool, wanted: Fate) {
+    assert_eq!(rt; children.fate(number(rt, n), claim), Ok(wanted), "at {n}");
+}
+
+/// The keeper of a new store in memory, with room for a unit of 64 kB.
+fn keeper(rt: &(impl AllocGlobal + Abort)) -> Keeper<MemDisk> {
+    let mut disk = MemDisk::new(rt.alloc(), 1_537).expect(rt, "no memory");
+    let layout = Layout::new(512, 512).expect(rt, "no layout");
+    create(rt.alloc(), &mut disk, layout).expect(rt, "not created");
+    match Keeper::open(rt.alloc(), disk) {
+        Ok(keeper) => keeper,
+        Err(_) => rt.abort(),
+    }
+}
+
+/// Spends a receipt, and gives its last order.
+fn order_in(mut receipt: Receipt) -> Option<SpawnOrder> {
+    let mut order = None;
+    while let Some(handed) = receipt.next_action() {
+        if let Handed::Spawn(spawn) = handed {
+            order = Some(spawn);
+        }
+    }
+    receipt.finish();
+    order
+}
+
+/// What came of a command at moment 0 that is accepted: its order, if any.
+fn take(rt: &impl Abort, keeper: &mut Keeper<MemDisk>, command: Command) -> Option<SpawnOrder> {
+    let input = Input::new(Moment::FIRST, Event::Commanded(command));
+    order_in(keeper.submit(input).expect(rt, "not taken"))
+}
+
+/// The order that starts a service with these lines, the first one of a new store.
+pub fn order(rt: &(impl AllocGlobal + Abort), lines: &str) -> SpawnOrder {
+    let alloc = rt.alloc();
+    let mut keeper = keeper(rt);
+    let path = String::from_str(alloc, "lib/a.service").expect(rt, "no memory");
+    let text = format!(in alloc; "[Service]\n{lines}\n").expect(rt, "no memory");
+    take(rt, &mut keeper, Command::PutFile { path, text });
+    take(rt, &mut keeper, Command::DaemonReload);
+    let start = Command::ForUnit {
+        verb: UnitVerb::Start,
+        unit: UnitName::parse(alloc, "a.service").expect(rt, "no unit"),
+        mode: JobMode::Replace,
+    };
+    take(rt, &mut keeper, start).expect(rt, "no order")
+}

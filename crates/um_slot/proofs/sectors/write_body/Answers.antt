@@ -1,0 +1,66 @@
+use Rattle.std.proofs.Common.{◌≡◌, ◌+◌, ◌*◌, ◌<◌, ◌∙◌, ℕ, List, length, take, drop, take_all, refl, sym, ap, subst, arith}
+use Rattle.std.proofs.lemmas.List.{drop-drop}
+use Rattle.um_model.specs.Disk.{Sector, seen}
+use Rattle.um_model.specs.Store.{filled, sector_count}
+use Rattle.um_sector.specs.Runs.{IsLaid}
+use Rattle.um_sector.proofs.RunLaws.{laid_start, laid_write, run_start, run_step}
+use Rattle.um_slot.specs.Snapshots.{body_sector, body_run}
+use Rattle.um_slot.proofs.Writing.{body_count, body_each}
+use Rattle.um_slot.proofs.sectors.write_body.Goals as goal
+
+-- the next sector of a body, whose bytes begin what is left
+next_of : (body rest chunk : List ℕ) (sector : Sector) (i : ℕ) → sector ≡ filled chunk → chunk ≡ take 512 rest → rest ≡ drop (512 * i) body → sector ≡ body_sector body i
+next_of body rest chunk sector i is cut here = is ∙ ap filled (cut ∙ ap (take 512) here)
+
+-- what is left behind it
+left_of : (body rest behind : List ℕ) (i : ℕ) → behind ≡ drop 512 rest → rest ≡ drop (512 * i) body → behind ≡ drop (512 * (i + 1)) body
+left_of body rest behind i cut here =
+    let next : 512 * i + 512 ≡ 512 * (i + 1) = omega arith in
+    cut ∙ ap (drop 512) here ∙ drop-drop 512 (512 * i) body ∙ ap (λ (n : ℕ). drop n body) next
+
+pub loop-i-init : goal.loop-i-init
+loop-i-init g c =
+    let past = g.D.Disk.past c.args.disk.now in
+    record {
+      rest = refl;
+      during = λ h. run_start past c.args.at (body_run c.args.body.now);
+      laid = λ h. laid_start (seen past) c.args.at;
+      calls = omega arith;
+      failures = refl;
+      size = refl;
+      honest = refl;
+    }
+
+pub returns-in_err-write-clause-during : goal.returns-in_err-write-clause-during
+returns-in_err-write-clause-during g c h =
+    let body = c.args.body.now in
+    let i = c.loop-i.i in
+    let low : i < sector_count (length body) = omega (arith, c.loop-i-test.true, c.div_ceil-i-end.ensures) in
+    let is = next_of body c.loop-i.rest.now c.next_chunk.result.0.now c.sector_of.result i c.sector_of.ensures c.next_chunk.ensures.chunk c.loop-i.invariant.rest in
+    run_step c.write.result (g.D.Disk.past c.args.disk.now) (g.D.Disk.past c.loop-i.disk) (g.D.Disk.past c.write.new.self) c.args.at (body_run body) i c.sector_of.result
+    (omega (arith, low, body_count body)) (is ∙ sym (body_each body i low)) (c.loop-i.invariant.during h) (c.write.ensures.past (c.loop-i.invariant.honest ∙ h))
+
+pub loop-i-preserved : goal.loop-i-preserved
+loop-i-preserved g c =
+    let body = c.args.body.now in
+    let i = c.loop-i.i in
+    let low : i < sector_count (length body) = omega (arith, c.loop-i-test.true, c.div_ceil-i-end.ensures) in
+    let below : i < length (body_run body) = omega (arith, low, body_count body) in
+    let is = next_of body c.loop-i.rest.now c.next_chunk.result.0.now c.sector_of.result i c.sector_of.ensures c.next_chunk.ensures.chunk c.loop-i.invariant.rest ∙ sym (body_each body i low) in
+    record {
+      rest = left_of body c.loop-i.rest.now c.next_chunk.result.1.now i c.next_chunk.ensures.behind c.loop-i.invariant.rest;
+      during = λ h. run_step c.write.result (g.D.Disk.past c.args.disk.now) (g.D.Disk.past c.loop-i.disk) (g.D.Disk.past c.write.new.self) c.args.at (body_run body) i c.sector_of.result
+          below is (c.loop-i.invariant.during h) (c.write.ensures.past (c.loop-i.invariant.honest ∙ h));
+      laid = λ h. subst (λ p. IsLaid (seen (g.D.Disk.past c.args.disk.now)) c.args.at (take (i + 1) (body_run body)) (seen p)) (sym (c.in_ok-write.ensures.past (c.loop-i.invariant.honest ∙ h)))
+          (laid_write (seen (g.D.Disk.past c.args.disk.now)) c.args.at (body_run body) (seen (g.D.Disk.past c.loop-i.disk)) i c.sector_of.result below is (c.loop-i.invariant.laid h));
+      calls = omega (arith, c.write.ensures.calls, c.loop-i.invariant.calls);
+      failures = c.in_ok-write.ensures.failures ∙ c.loop-i.invariant.failures;
+      size = c.write.ensures.size ∙ c.loop-i.invariant.size;
+      honest = c.write.ensures.honest ∙ c.loop-i.invariant.honest;
+    }
+
+pub returns-clause-ok : goal.returns-clause-ok
+returns-clause-ok g c h =
+    let body = c.args.body.now in
+    subst (λ r. IsLaid (seen (g.D.Disk.past c.args.disk.now)) c.args.at r (seen (g.D.Disk.past c.loop-i.disk)))
+    (take_all c.loop-i.i (body_run body) (omega (arith, body_count body, c.loop-i-test.false, c.div_ceil-i-end.ensures))) (c.loop-i.invariant.laid h)

@@ -1,0 +1,204 @@
+//! The canonical bytes of inputs: each of the 18, typed from the format, and what is no input.
+use crate::spelled::{hex, is_not_read, is_spelled};
+use std::process::Abort;
+use um_model::{End, InstallVerb, JobMode, Moment, UnitVerb};
+use um_rows_shared::{same, text, unit};
+use um_state::{BootId, Command, Event, Happening, Input};
+use um_tree::Tree;
+use um_wire::spell;
+
+/// A command, or what happens, by its texts; its unit is `a.service`.
+enum Coming {
+    PutFile(&'static str, &'static str),
+    PutLink(&'static str, &'static str),
+    Remove(&'static str),
+    DaemonReload,
+    ForUnit(UnitVerb, JobMode),
+    Cancel,
+    ResetFailed,
+    ResetAllFailed,
+    Install(InstallVerb),
+    Ended(u64, End),
+    Executed(u64),
+    Tick,
+    Booted(&'static str),
+}
+
+/// The command; None for what happens.
+fn command(rt: &(impl AllocGlobal + Abort), coming: &Coming) -> Option<Command> {
+    let unit = unit(rt, "a.service");
+    let command = match coming {
+        Coming::PutFile(path, content) => Command::PutFile {
+            path: text(rt, path),
+            text: text(rt, content),
+        },
+        Coming::PutLink(path, target) => Command::PutLink {
+            path: text(rt, path),
+            target: text(rt, target),
+        },
+        Coming::Remove(path) => Command::Remove {
+            path: text(rt, path),
+        },
+        Coming::DaemonReload => Command::DaemonReload,
+        Coming::ForUnit(verb, mode) => Command::ForUnit {
+            verb: *verb,
+            unit,
+            mode: *mode,
+        },
+        Coming::Cancel => Command::Cancel { unit },
+        Coming::ResetFailed => Command::ResetFailed { unit: Some(unit) },
+        Coming::ResetAllFailed => Command::ResetFailed { unit: None },
+        Coming::Install(verb) => Command::Install { verb: *verb, unit },
+        _ => return None,
+    };
+    Some(command)
+}
+
+/// What happens; for a command a tick.
+fn happening(rt: &(impl AllocGlobal + Abort), coming: &Coming) -> Happening {
+    match coming {
+        Coming::Ended(number, end) => Happening::ProcessEnded {
+            number: *number,
+            end: *end,
+        },
+        Coming::Executed(number) => Happening::ProcessExecuted { number: *number },
+        Coming::Booted(id) => Happening::Booted {
+            boot: BootId::new(text(rt, id)).expect(rt, "no boot"),
+        },
+        _ => Happening::Tick,
+    }
+}
+
+/// What comes in at 1,100,000, in the order of the tags, and its bytes.
+const INPUTS: &[(Coming, &str)] = &[
+    // changes of the tree
+    (
+        Coming::PutFile("etc/x", "#\n"),
+        "01 01 000000000010c8e0 00000005 6574632f78 00000002 230a",
+    ),
+    (
+        Coming::PutLink("run/x", ""),
+        "01 02 000000000010c8e0 00000005 72756e2f78 00000000",
+    ),
+    (Coming::Remove(""), "01 03 000000000010c8e0 00000000"),
+    (Coming::DaemonReload, "01 04 000000000010c8e0"),
+    // commands for a unit
+    (
+        Coming::ForUnit(UnitVerb::Start, JobMode::Replace),
+        "01 05 000000000010c8e0 00000009 612e73657276696365 00",
+    ),
+    (
+        Coming::ForUnit(UnitVerb::Stop, JobMode::Fail),
+        "01 06 000000000010c8e0 00000009 612e73657276696365 01",
+    ),
+    (
+        Coming::ForUnit(UnitVerb::Restart, JobMode::Replace),
+        "01 07 000000000010c8e0 00000009 612e73657276696365 00",
+    ),
+    (
+        Coming::ForUnit(UnitVerb::TryRestart, JobMode::Fail),
+        "01 08 000000000010c8e0 00000009 612e73657276696365 01",
+    ),
+    (
+        Coming::Cancel,
+        "01 09 000000000010c8e0 00000009 612e73657276696365",
+    ),
+    (
+        Coming::ResetFailed,
+        "01 0a 000000000010c8e0 01 00000009 612e73657276696365",
+    ),
+    (Coming::ResetAllFailed, "01 0a 000000000010c8e0 00"),
+    // enabling and its kin
+    (
+        Coming::Install(InstallVerb::Enable),
+        "01 0b 000000000010c8e0 00000009 612e73657276696365",
+    ),
+    (
+        Coming::Install(InstallVerb::Disable),
+        "01 0c 000000000010c8e0 00000009 612e73657276696365",
+    ),
+    (
+        Coming::Install(InstallVerb::Mask),
+        "01 0d 000000000010c8e0 00000009 612e73657276696365",
+    ),
+    (
+        Coming::Install(InstallVerb::Unmask),
+        "01 0e 000000000010c8e0 00000009 612e73657276696365",
+    ),
+    // what happens
+    (
+        Coming::Ended(258, End::Signal(15)),
+        "01 0f 000000000010c8e0 0000000000000102 010f",
+    ),
+    (
+        Coming::Executed(u64::MAX),
+        "01 10 000000000010c8e0 ffffffffffffffff",
+    ),
+    (Coming::Tick, "0111000000000010c8e0"),
+    (Coming::Booted("b1"), "01 12 000000000010c8e0 00000002 6231"),
+];
+
+#[test]
+fn inputs_are_spelled_by_their_tags(rt: HostRuntime) {
+    let moment = Moment::new(1_100_000).expect(&rt, "no moment");
+    for (coming, bytes) in INPUTS {
+        let event = match command(&rt, coming) {
+            Some(command) => Event::Commanded(command),
+            None => Event::Happened(happening(&rt, coming)),
+        };
+        let input = Input::new(moment, event);
+        is_spelled(&rt, &input, hex(&rt, bytes).as_slice());
+    }
+}
+
+#[test]
+fn the_longest_input_that_is_accepted_has_66078_bytes(rt: HostRuntime) {
+    let unit = "a".repeat(rt.alloc(), 247).expect(&rt, "no memory");
+    let path = format!(in rt.alloc(); "etc/{unit}.service.requires/{unit}.service");
+    let path = path.expect(&rt, "no memory");
+    let text = "a".repeat(rt.alloc(), 65_536).expect(&rt, "no memory");
+    let mut tree = Tree::new(rt.alloc());
+    let accepted: Result<_, _> = tree.put(path.as_str(), text.as_str());
+    accepted.expect(&rt, "no file");
+    let put = Event::Commanded(Command::PutFile { path, text });
+    let moment = Moment::new(1_100_000).expect(&rt, "no moment");
+    let bytes = spell(rt.alloc(), &Input::new(moment, put)).expect(&rt, "no memory");
+    same(&rt, bytes.len(), 66_078);
+}
+
+/// What is no input, and why.
+const NONE: &[(&str, &str)] = &[
+    ("another version", "02 11 000000000010c8e0"),
+    ("no tag", "01"),
+    ("tag 0", "01 00 000000000010c8e0"),
+    ("tag 19", "01 13 000000000010c8e0"),
+    ("tag 255", "01 ff 000000000010c8e0 00000000"),
+    ("a moment past 2^62", "01 11 4000000000000001"),
+    ("a moment of seven bytes", "01 11 00000000 10c8e0"),
+    (
+        "no unit name",
+        "01 09 000000000010c8e0 00000009 612d73657276696365",
+    ),
+    (
+        "mode 2",
+        "01 05 000000000010c8e0 00000009 612e73657276696365 02",
+    ),
+    (
+        "no mode",
+        "01 05 000000000010c8e0 00000009 612e73657276696365",
+    ),
+    ("an option of neither kind", "01 0a 000000000010c8e0 02"),
+    (
+        "an unknown end",
+        "01 0f 000000000010c8e0 0000000000000102 03",
+    ),
+    ("no end", "01 0f 000000000010c8e0 0000000000000102"),
+    ("no text", "01 01 000000000010c8e0 00000005 6574632f78"),
+];
+
+#[test]
+fn other_bytes_are_no_input(rt: HostRuntime) {
+    for (row, line) in NONE {
+        is_not_read::<Input, _>(&rt, hex(&rt, line).as_slice(), row);
+    }
+}

@@ -1,0 +1,58 @@
+//! Inputs, and what a keeper makes of one.
+use std::process::Abort;
+use um_keeper::{Handed, Keeper, Receipt};
+use um_model::Moment;
+use um_sector::Disk;
+use um_state::{Command, Event, Input};
+use um_wire::Refusal;
+
+/// The file of `a.service`.
+pub const A: &str = "lib/a.service";
+
+/// The file of `b.service`.
+pub const B: &str = "lib/b.service";
+
+/// The event at the moment.
+pub fn input(rt: &impl Abort, micros: u64, event: Event) -> Input {
+    Input::new(Moment::new(micros).expect(rt, "no moment"), event)
+}
+
+/// The input that puts a file.
+pub fn put(rt: &(impl AllocGlobal + Abort), path: &str, content: &str) -> Input {
+    let path = String::from_str(rt.alloc(), path).expect(rt, "no memory");
+    let text = String::from_str(rt.alloc(), content).expect(rt, "no memory");
+    input(rt, 0, Event::Commanded(Command::PutFile { path, text }))
+}
+
+/// The input that puts so many bytes as a file.
+pub fn put_long(rt: &(impl AllocGlobal + Abort), path: &str, length: usize) -> Input {
+    let content = "#".repeat(rt.alloc(), length).expect(rt, "no memory");
+    put(rt, path, content.as_str())
+}
+
+/// Spends a receipt, and tells how many processes it asks for.
+pub fn starts(mut receipt: Receipt) -> usize {
+    let mut starts: usize = 0;
+    while let Some(handed) = receipt.next_action() {
+        if let Handed::Spawn(_) = handed {
+            starts = starts.saturating_add(1);
+        }
+    }
+    receipt.finish();
+    starts
+}
+
+/// Submits an input, and tells how many processes it asks for.
+pub fn submit<D: Disk>(keeper: &mut Keeper<D>, input: Input) -> Result<usize, Refusal> {
+    let receipt = keeper.submit(input)?;
+    Ok(starts(receipt))
+}
+
+/// Submits an input that is taken, and tells how many processes it asks for.
+pub fn take<D: Disk>(
+    rt: &(impl AllocGlobal + Abort),
+    keeper: &mut Keeper<D>,
+    input: Input,
+) -> usize {
+    submit(keeper, input).expect(rt, "not taken")
+}

@@ -1,0 +1,206 @@
+//! Stores that are made and opened: what stands there, and what is refused with which sector.
+use crate::answers::{is_refused, sector_at};
+use crate::inputs::{A, put, take};
+use crate::keepers::{calls_of_open, crash, files_on, has_layout, made, over};
+use std::process::Abort;
+use um_keeper::Keeper;
+use um_rows_shared::same;
+use um_sector::{Disk, Fuse, MemDisk, Sector};
+
+/// Writes a sector.
+fn write(rt: &impl Abort, disk: &mut MemDisk, k: usize, sector: &Sector) {
+    disk.write(k, sector).expect(rt, "not written");
+}
+
+/// A new store on a disk of another size, as far as it goes.
+fn made_on(rt: &(impl AllocGlobal + Abort), sectors: usize) -> MemDisk {
+    let mut from = made(rt);
+    let mut disk = MemDisk::new(rt.alloc(), sectors).expect(rt, "no memory");
+    for k in 0..sectors.min(641) {
+        write(rt, &mut disk, k, &sector_at(rt, &mut from, k));
+    }
+    disk
+}
+
+/// Other bytes in a sector from a place on.
+type Damage = (usize, usize, &'static [u8]);
+
+/// Writes other bytes into a sector from a place on.
+fn change(rt: &impl Abort, disk: &mut MemDisk, damage: &Damage) {
+    let (k, at, bytes) = *damage;
+    let mut sector = sector_at(rt, disk, k);
+    for (i, place) in sector.iter_mut().enumerate() {
+        if i >= at && i - at < bytes.len() {
+            *place = bytes[i - at];
+        }
+    }
+    write(rt, disk, k, &sector);
+}
+
+/// A store that was opened once, generation 2 in slot B, with these changes.
+fn changed(rt: &(impl AllocGlobal + Abort), changes: &[Damage]) -> MemDisk {
+    let mut disk = over(rt, made(rt)).into_disk();
+    for each in changes {
+        change(rt, &mut disk, each);
+    }
+    disk
+}
+
+/// Asserts that a disk isn't opened, and gives it back.
+fn refuses<D: Disk>(rt: &(impl AllocGlobal + Abort), disk: D, wanted: &str) -> D {
+    match Keeper::open(rt.alloc(), disk) {
+        Ok(_) => rt.abort(),
+        Err((refusal, disk)) => {
+            is_refused::<()>(rt, Err(refusal), wanted);
+            disk
+        }
+    }
+}
+
+#[test]
+fn a_new_store_has_its_layout_and_one_snapshot(rt: HostRuntime) {
+    let mut disk = made(&rt);
+    // UMDISK01, slots of 64 sectors, a log of 512
+    let first = [
+        0x55, 0x4d, 0x44, 0x49, 0x53, 0x4b, 0x30, 0x31, 0, 0, 0, 0x40, 0, 0, 2, 0,
+    ];
+    has_layout(&rt, &mut disk, 0, &first);
+    // UMSLOT01, generation 1, a body of 37 bytes
+    let header = [
+        0x55, 0x4d, 0x53, 0x4c, 0x4f, 0x54, 0x30, 0x31, 0, 0, 0, 0, 0, 0, 0, 1, 0, 0, 0, 0, 0, 0,
+        0, 0x25,
+    ];
+    has_layout(&rt, &mut disk, 1, &header);
+    has_layout(&rt, &mut disk, 65, &[]);
+    // a disk without room for the layout is damaged
+    refuses(&rt, made_on(&rt, 640), "E18 Damaged 0");
+    over(&rt, made_on(&rt, 642));
+    refuses(&rt, made_on(&rt, 0), "E19 NotFormatted");
+}
+
+/// What a sector of the log holds that spells no input: generation 2, record 0, part 0 of 1, a length of 1, and that byte.
+const NO_INPUT: &[u8] = &[
+    0x55, 0x4d, 0x4c, 0x47, 0, 0, 0, 0, 0, 0, 0, 2, 0, 0, 0, 0, 0, 0, 0, 0, 0, 0, 0, 0, 0, 0, 0, 1,
+    0, 0, 0, 1, 9,
+];
+
+/// What a sector of the log holds that says generation 3, of no whole record.
+const LATER: &[u8] = &[0x55, 0x4d, 0x4c, 0x47, 0, 0, 0, 0, 0, 0, 0, 3];
+
+/// What is changed, and how the open is refused.
+const REFUSED: &[(&[Damage], &str)] = &[
+    // sector 0 tells whether a store is there
+    (&[(0, 0, &[0; 16])], "E19 NotFormatted"),
+    (&[(0, 11, &[63])], "E18 Damaged 0"),
+    (&[(0, 7, b"9")], "E22 OtherLayout"),
+    // without a header slot A is named
+    (&[(1, 0, &[0; 24]), (65, 0, &[0; 24])], "E18 Damaged 1"),
+    // a body that spells no state, a record that spells no input
+    (&[(66, 0, &[9])], "E18 Damaged 66"),
+    (&[(129, 0, NO_INPUT)], "E18 Damaged 129"),
+    // in the last generation a body that spells no state is told first
+    (&[(65, 8, &[255; 8]), (66, 0, &[9])], "E18 Damaged 66"),
+    (&[(65, 8, &[255; 8])], "E20 GenerationsSpent"),
+    (
+        &[(640, 4, &[255; 8]), (640, 0, b"UMLG")],
+        "E20 GenerationsSpent",
+    ),
+];
+
+/// Asserts that a store with these changes isn't opened, and that each sector is as it was.
+fn leaves(rt: &(impl AllocGlobal + Abort), changes: &[Damage], wanted: &str) {
+    let mut before = changed(rt, changes);
+    let mut disk = refuses(rt, changed(rt, changes), wanted);
+    for k in 0..641 {
+        let sector = sector_at(rt, &mut disk, k);
+        same(rt, sector, sector_at(rt, &mut before, k));
+    }
+}
+
+#[test]
+fn what_is_refused_is_named_and_left_as_it_was(rt: HostRuntime) {
+    for (changes, wanted) in REFUSED {
+        leaves(&rt, changes, wanted);
+    }
+}
+
+#[test]
+fn an_image_with_a_later_sector_is_opened_above_it(rt: HostRuntime) {
+    let mut disk = over(&rt, changed(&rt, &[(640, 0, LATER)])).into_disk();
+    // UMSLOT01, generation 4, a body of 37 bytes
+    let header = [
+        0x55, 0x4d, 0x53, 0x4c, 0x4f, 0x54, 0x30, 0x31, 0, 0, 0, 0, 0, 0, 0, 4, 0, 0, 0, 0, 0, 0,
+        0, 0x25,
+    ];
+    has_layout(&rt, &mut disk, 1, &header);
+    same(&rt, files_on(&rt, disk), 0);
+}
+
+/// A disk whose store has one file, in its log.
+fn filed(rt: &(impl AllocGlobal + Abort)) -> MemDisk {
+    let mut keeper = over(rt, made(rt));
+    take(rt, &mut keeper, put(rt, A, ""));
+    keeper.into_disk()
+}
+
+/// That store, behind a checkpoint whose last sync failed: its header was written, and isn't synced.
+fn half_checkpointed(rt: &(impl AllocGlobal + Abort)) -> MemDisk {
+    // the body, a sync, the header, and the sync that fails
+    let calls = calls_of_open(rt, filed(rt));
+    let fails = calls.checked_add(4).expect(rt, "too many");
+    let mut keeper = over(rt, Fuse::new(filed(rt), fails));
+    is_refused(rt, keeper.checkpoint(), "E16 Device");
+    is_refused(rt, keeper.checkpoint(), "E17 Reopen");
+    keeper.into_disk().into_inner()
+}
+
+/// What a crash leaves of an open that a failing call ends.
+fn crashed(rt: &(impl AllocGlobal + Abort), disk: Fuse<MemDisk>, pick: usize) -> MemDisk {
+    let disk = refuses(rt, disk, "E16 Device");
+    crash(rt, disk, &[pick])
+}
+
+/// The store of one file, or the half checkpointed one.
+fn one_file(rt: &(impl AllocGlobal + Abort), is_half: bool) -> MemDisk {
+    if is_half {
+        half_checkpointed(rt)
+    } else {
+        filed(rt)
+    }
+}
+
+/// Asserts that a crash behind the failed call of that number of an open of such a store leaves its file, also where a write that failed
+/// was made.
+fn adds_no_state(rt: &(impl AllocGlobal + Abort), is_half: bool, fails: u64) {
+    for pick in 0..2 {
+        let left = crashed(rt, Fuse::new(one_file(rt, is_half), fails), pick);
+        same(rt, files_on(rt, left), 1);
+        let left = crashed(rt, Fuse::making(one_file(rt, is_half), fails), pick);
+        same(rt, files_on(rt, left), 1);
+    }
+}
+
+/// The number of the call of an open that is so many before the last one.
+fn call_before_last(rt: &impl Abort, calls: u64, back: u64) -> u64 {
+    calls.checked_sub(back).expect(rt, "no call")
+}
+
+#[test]
+fn crashes_inside_an_open_add_no_state(rt: HostRuntime) {
+    let calls = calls_of_open(&rt, filed(&rt));
+    let half_calls = calls_of_open(&rt, half_checkpointed(&rt));
+    // the body, its sync, the header, its sync
+    for back in 0..4 {
+        adds_no_state(&rt, false, call_before_last(&rt, calls, back));
+        adds_no_state(&rt, true, call_before_last(&rt, half_calls, back));
+    }
+    // its first sync and its first read: the header of the failed checkpoint stands, or the one before
+    adds_no_state(&rt, true, 1);
+    adds_no_state(&rt, true, 2);
+    same(&rt, files_on(&rt, half_checkpointed(&rt)), 1);
+    // and an open that begins on what such a crash left
+    let fails = call_before_last(&rt, calls, 2);
+    let left = crashed(&rt, Fuse::new(filed(&rt), fails), 1);
+    let disk = crashed(&rt, Fuse::new(left, fails), 1);
+    same(&rt, files_on(&rt, disk), 1);
+}

@@ -1,0 +1,236 @@
+//! The two slots of a store and its sector 0.
+use crate::answers::{change, filled, is_refused, sector_at};
+use std::fmt::Debug;
+use std::process::Abort;
+use um_rows_shared::{same, same_at};
+use um_sector::{Disk, Fuse, MemDisk};
+use um_slot::{Home, Layout, Slot, newest, read_superblock, superblock, write_first, write_other};
+
+/// Slots of 64 sectors, a log of 512.
+fn small(rt: &impl Abort) -> Layout {
+    Layout::new(64, 512).expect(rt, "no layout")
+}
+
+/// A snapshot: its home, the length of its body, and the byte that its body has at each place.
+type Stored = (Home, usize, u8);
+
+/// Asserts that this is the newest snapshot, in this row.
+fn stores<D: Disk, R: Debug + Drop>(
+    rt: &(impl AllocGlobal + Abort),
+    disk: &mut D,
+    wanted: Stored,
+    row: R,
+) {
+    let found = newest(rt.alloc(), disk, small(rt)).expect(rt, "no snapshot");
+    let (home, size, byte) = wanted;
+    let body = vec![in rt.alloc(); byte; size].expect(rt, "no memory");
+    same_at(rt, (found.home, found.body), (home, body), row);
+}
+
+/// Asserts that no header is well-formed.
+fn has_none<D: Disk>(rt: &(impl AllocGlobal + Abort), disk: &mut D) {
+    let found = newest(rt.alloc(), disk, small(rt));
+    is_refused(rt, found, "E18 Damaged 1");
+}
+
+/// An empty disk.
+fn empty(rt: &(impl AllocGlobal + Abort)) -> MemDisk {
+    MemDisk::new(rt.alloc(), 641).expect(rt, "no memory")
+}
+
+/// A disk with generation 1 in slot A: a body of 37 bytes.
+fn first(rt: &(impl AllocGlobal + Abort)) -> MemDisk {
+    let mut disk = empty(rt);
+    let bytes = vec![in rt.alloc(); 7u8; 37].expect(rt, "no memory");
+    let written = write_first(&mut disk, small(rt), &bytes).expect(rt, "refused");
+    same(rt, written, Some(A1));
+    disk
+}
+
+const A1: Home = Home {
+    slot: Slot::A,
+    generation: 1,
+};
+
+const B2: Home = Home {
+    slot: Slot::B,
+    generation: 2,
+};
+
+/// What is stored first.
+const OLD: Stored = (A1, 37, 7);
+
+/// What is stored behind it: a body of two sectors.
+const NEW: Stored = (B2, 513, 8);
+
+/// Bytes of sector 0, and another value of each, with which it is refused so: another name; another layout; an unused byte; slots of
+/// 63 sectors.
+const ILL: &[(usize, u8, &str)] = &[
+    (0, 0, "E19 NotFormatted"),
+    (7, 50, "E22 OtherLayout"),
+    (16, 1, "E18 Damaged 0"),
+    (11, 63, "E18 Damaged 0"),
+];
+
+#[test]
+fn sector_0_is_written_by_its_layout_and_tells_it(rt: HostRuntime) {
+    let layout = small(&rt);
+    let log = (layout.log_start(1), layout.log_end(1));
+    let told = (log, layout.sectors(), layout.record_limit(1));
+    same(&rt, told, ((129, 641), 641, 131_072));
+    let sector_0 = superblock(layout);
+    let wanted = [
+        0x55, 0x4d, 0x44, 0x49, 0x53, 0x4b, 0x30, 0x31, 0, 0, 0, 0x40, 0, 0, 2, 0,
+    ];
+    same(&rt, sector_0, filled(&wanted));
+    let read = read_superblock(&sector_0).expect(&rt, "no layout");
+    same(&rt, (read.slot_sectors, read.log_sectors), (64, 512));
+    for (at, byte, why) in ILL {
+        let mut disk = empty(&rt);
+        disk.write(0, &sector_0).expect(&rt, "not written");
+        change(&rt, &mut disk, 0, *at, *byte);
+        let sector = sector_at(&rt, &mut disk, 0);
+        is_refused(&rt, read_superblock(&sector), why);
+    }
+}
+
+#[test]
+fn the_first_header_is_written_by_its_layout(rt: HostRuntime) {
+    let mut disk = first(&rt);
+    let header = [
+        0x55, 0x4d, 0x53, 0x4c, 0x4f, 0x54, 0x30, 0x31, 0, 0, 0, 0, 0, 0, 0, 1, 0, 0, 0, 0, 0, 0,
+        0, 0x25,
+    ];
+    same(&rt, sector_at(&rt, &mut disk, 1), filled(&header));
+    same(&rt, sector_at(&rt, &mut disk, 2), filled(&[7; 37]));
+    same(&rt, disk.syncs(), 2);
+    stores(&rt, &mut disk, OLD, "the first");
+}
+
+/// Which call of the writing of generation 2 fails, for a body of two sectors, which writes a crash leaves then, and the snapshot.
+const CRASHES: &[(u64, [usize; 2], Stored)] = &[
+    // the second write of the body
+    (2, [0, 0], OLD),
+    (2, [1, 0], OLD),
+    (2, [0, 1], OLD),
+    (2, [1, 1], OLD),
+    // its sync
+    (3, [0, 0], OLD),
+    (3, [1, 0], OLD),
+    (3, [0, 1], OLD),
+    (3, [1, 1], OLD),
+    // the header
+    (4, [0, 0], OLD),
+    (4, [1, 0], OLD),
+    (4, [0, 1], OLD),
+    (4, [1, 1], OLD),
+    // the header's sync: the new one counts where its header was written, which the failure leaves open
+    (5, [0, 0], OLD),
+    (5, [1, 0], NEW),
+    (5, [0, 1], OLD),
+    (5, [1, 1], NEW),
+];
+
+#[test]
+fn a_crash_leaves_the_snapshot_before_or_the_new_one(rt: HostRuntime) {
+    for (fails, picks, wanted) in CRASHES {
+        let mut disk = Fuse::new(first(&rt), *fails);
+        let written = write_other(&mut disk, small(&rt), A1, &[8; 513]);
+        is_refused(&rt, written, "E16 Device");
+        let disk = disk.into_inner();
+        let mut left = disk.crash(rt.alloc(), picks).expect(&rt, "no memory");
+        stores(&rt, &mut left, *wanted, (*fails, *picks));
+    }
+}
+
+#[test]
+fn a_header_whose_write_failed_may_count(rt: HostRuntime) {
+    for (pick, wanted) in &[(0, OLD), (1, NEW)] {
+        let mut disk = Fuse::making(first(&rt), 4);
+        let written = write_other(&mut disk, small(&rt), A1, &[8; 513]);
+        is_refused(&rt, written, "E16 Device");
+        let disk = disk.into_inner();
+        let mut left = disk.crash(rt.alloc(), &[*pick]).expect(&rt, "no memory");
+        stores(&rt, &mut left, *wanted, *pick);
+    }
+}
+
+/// Bytes of the first header, and another value of each, with which it is none: an unused byte twice, a length of 65,573 past the
+/// slot, generation 0, the name.
+const NO_HEADERS: &[(usize, u8)] = &[(24, 1), (511, 1), (21, 1), (15, 0), (7, 0)];
+
+#[test]
+fn what_is_not_as_it_is_written_is_no_header(rt: HostRuntime) {
+    let mut disk = empty(&rt);
+    has_none(&rt, &mut disk);
+    // a first body that is too long is not written
+    let long = vec![in rt.alloc(); 8u8; 32_257].expect(&rt, "no memory");
+    let written = write_first(&mut disk, small(&rt), &long);
+    same(&rt, written.expect(&rt, "refused"), None);
+    same(&rt, disk.syncs(), 0);
+    has_none(&rt, &mut disk);
+    for (at, byte) in NO_HEADERS {
+        let mut disk = first(&rt);
+        stores(&rt, &mut disk, OLD, at);
+        change(&rt, &mut disk, 1, *at, *byte);
+        has_none(&rt, &mut disk);
+    }
+}
+
+/// The last generation.
+const LAST: Home = Home {
+    slot: Slot::A,
+    generation: u64::MAX,
+};
+
+/// Sizes of a body, the home that it is written behind, its home where it fits, or the refusal; then what is stored, and how often the
+/// disk was synced.
+const BODIES: &[(usize, Home, Result<Option<Home>, &str>, Stored, usize)] = &[
+    (1, LAST, Err("E20 GenerationsSpent"), OLD, 2),
+    (32_257, LAST, Err("E20 GenerationsSpent"), OLD, 2),
+    (32_257, A1, Ok(None), OLD, 2),
+    (32_256, A1, Ok(Some(B2)), (B2, 32_256, 8), 4),
+];
+
+#[test]
+fn a_body_has_up_to_32_256_bytes_and_none_stands_behind_the_last_generation(rt: HostRuntime) {
+    for (size, before, wanted, snapshot, syncs) in BODIES {
+        let body = vec![in rt.alloc(); 8u8; *size].expect(&rt, "no memory");
+        let mut disk = first(&rt);
+        let written = write_other(&mut disk, small(&rt), *before, &body);
+        match wanted {
+            Ok(home) => same(&rt, written.expect(&rt, "refused"), *home),
+            Err(why) => is_refused(&rt, written, why),
+        }
+        same(&rt, disk.syncs(), *syncs);
+        stores(&rt, &mut disk, *snapshot, size);
+    }
+}
+
+#[test]
+fn each_call_makes_so_many_disk_calls_and_of_equal_generations_slot_a_counts(rt: HostRuntime) {
+    let mut disk = Fuse::new(first(&rt), 0);
+    // a body of two sectors, its sync, the header, its sync
+    let written = write_other(&mut disk, small(&rt), A1, &[8; 513]);
+    same(&rt, written.expect(&rt, "refused"), Some(B2));
+    same(&rt, disk.calls(), 5);
+    // two headers and the body
+    stores(&rt, &mut disk, NEW, "the second");
+    same(&rt, disk.calls(), 9);
+    let mut disk = disk.into_inner();
+    let unsynced = disk.unsynced(rt.alloc()).expect(&rt, "no memory");
+    same(&rt, unsynced, Vec::new(rt.alloc()));
+    change(&rt, &mut disk, 65, 15, 1);
+    stores(&rt, &mut disk, OLD, "equal generations");
+}
+
+#[test]
+fn a_snapshot_is_written_over_a_log_that_is_not_synced(rt: HostRuntime) {
+    let mut disk = first(&rt);
+    disk.write(200, &filled(&[7])).expect(&rt, "not written");
+    let written = write_other(&mut disk, small(&rt), A1, &[8; 513]);
+    same(&rt, written.expect(&rt, "refused"), Some(B2));
+    let unsynced = disk.unsynced(rt.alloc()).expect(&rt, "no memory");
+    same(&rt, unsynced, Vec::new(rt.alloc()));
+    stores(&rt, &mut disk, NEW, "the second");
+}
