@@ -1,3 +1,10 @@
 pub mod NamedLaws
 pub mod DropLaws
 pub mod ReadyLaws
+pub mod LeastLaws
+pub mod SumLaws
+pub mod MirrorLaws
+pub mod ShortLaws
+pub mod KeptLaws
+pub mod FreshLaws
+pub mod FreeLaws

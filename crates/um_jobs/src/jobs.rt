@@ -1,14 +1,10 @@
 //! The pending jobs of the units of a graph, and which of them begins next (systemd.unit(5), "Before=, After=").
 
-ghost use Rattle.std.specs.Prelude.{⊤, ◌≡◌, ◌↔◌, ◌<◌, true, false, not, ℕ, Option, IfErr, IfOk, IfSome, IsOk, MatchOption, OnErr, OnOk, is_some, length, replicate, slice_index_or};
-ghost use Rattle.std.specs.List.{list_any};
-ghost use Rattle.um_graph.specs.Graph.{row_of};
+ghost use Rattle.std.specs.Prelude.{◌≡◌, ◌↔◌, ◌<◌, true, false, ℕ, IfErr, IfOk, IfSome, IsOk, MatchOption, OnErr, OnOk, length, replicate};
 ghost use Rattle.um_jobs.specs.Jobs as told;
 ghost use Rattle.um_jobs.specs.Jobs.{IsReadyIn, JobsView, held_at, job_named, with_held_at, with_jobs_at, without_job};
 ghost use Rattle.um_model.specs.Waiting.{has_waiting};
 ghost use Rattle.um_jobs.specs.Named.{jobs_at};
-ghost use Rattle.um_jobs.specs.Ready as rows;
-ghost use Rattle.um_jobs.specs.Ready.{ready_kind};
 ghost use Rattle.um_model.specs.Jobs as model;
 ghost use Rattle.um_model.specs.Jobs.{IsToldBefore, Job, no_jobs};
 ghost use Rattle.um_model.specs.Least.{IsLeast};
@@ -17,10 +13,13 @@ ghost use Rattle.um_model.specs.declared.jobs.JobState.TheVariants.{Running, Wai
 ghost use Rattle.um_wire.specs.Refusal.{refused_of};
 ghost use Rattle.um_wire.specs.declared.refusal.Refusal.TheVariants.{NoMemory};
 
+use crate::counts::Blockers;
+use crate::least::LeastSet;
+use crate::marks::{change, is_stop_free, mark};
 use crate::table::{is_waiting, jobs_of, with_job};
 use std::alloc::{AllocError, Global};
 use std::marker::Model;
-use um_graph::{Graph, Neighbour};
+use um_graph::Graph;
 use um_model::{JobKind, JobState, UnitJobs};
 use um_name::UnitName;
 use um_wire::{Refusal, no_such_job};
@@ -32,17 +31,21 @@ pub struct Jobs<'g> {
     graph: &'g Graph,
     units: Vec<UnitJobs>,
     held: Vec<bool>,
+    /// How many pending jobs of its neighbours come before those of each unit.
+    counts: Vec<Blockers>,
+    /// The units that have a ready job.
+    ready: LeastSet,
 }
 
 impl<'g> Model for Jobs<'g> {
-    ghost use Rattle.std.specs.Prelude.{◌≡◌, length};
+    ghost use Rattle.um_jobs.specs.Counts.{IsKept};
     ghost use Rattle.um_jobs.specs.Jobs.{JobsView};
 
     ghost Value = { JobsView };
 
     ghost view = { λ j. record { graph = j.graph.now; units = j.units.items; held = j.held.items } };
 
-    ghost invariant = { λ j. (length j.units.items ≡ length j.graph.now.names) × (length j.held.items ≡ length j.units.items) };
+    ghost invariant = { λ j. IsKept j.graph.now j.units.items j.held.items j.counts.items j.ready };
 }
 
 impl<'g> Jobs<'g> {
@@ -52,9 +55,18 @@ impl<'g> Jobs<'g> {
         ensures units { IfOk result (λ j. j.units ≡ replicate (length graph.now.names) no_jobs) }
         ensures held { IfOk result (λ j. j.held ≡ replicate (length graph.now.names) false) }
     {
-        let units = vec![in alloc; UnitJobs::NONE; graph.len()]?;
-        let held = vec![in alloc; false; graph.len()]?;
-        Ok(Jobs { graph, units, held })
+        let len = graph.len();
+        let units = vec![in alloc; UnitJobs::NONE; len]?;
+        let held = vec![in alloc; false; len]?;
+        let counts = vec![in alloc; Blockers::NONE; len]?;
+        let ready = LeastSet::new(alloc, len)?;
+        Ok(Jobs {
+            graph,
+            units,
+            held,
+            counts,
+            ready,
+        })
     }
 
     /// Just these jobs, in the order of the graph's units, none of which counts as deactivating. A unit past their end has none.
@@ -78,6 +90,8 @@ impl<'g> Jobs<'g> {
             graph: self.graph,
             units: self.units.clone()?,
             held: self.held.clone()?,
+            counts: self.counts.clone()?,
+            ready: self.ready.copy()?,
         })
     }
 
@@ -115,7 +129,7 @@ impl Jobs<'_> {
         ensures graph { self.new.graph ≡ self.old.graph }
     {
         for unit in 0..self.units.len() {
-            self.units[unit] = jobs_of(plan, unit);
+            self.set(unit, jobs_of(plan, unit));
         }
     }
 
@@ -123,17 +137,33 @@ impl Jobs<'_> {
     pub fn hold(&mut self, unit: usize, deactivating: bool)
         ensures { self.new ≡ with_held_at self.old unit deactivating }
     {
-        if let Some(held) = self.held.get_mut(unit) {
-            *held = deactivating;
+        if unit < self.held.len() {
+            self.held[unit] = deactivating;
+            mark(
+                &mut self.ready,
+                &self.units,
+                &self.held,
+                &self.counts,
+                unit,
+            );
         }
     }
 
-    /// The unit with this number has just these jobs.
+    /// The unit with this number has just these jobs. It takes no memory, and no time where it has them already; else it goes over the
+    /// unit's row, and a job that only begins spares that.
     fn set(&mut self, unit: usize, jobs: UnitJobs)
         ensures { self.new ≡ with_jobs_at self.old unit jobs }
     {
-        if let Some(now) = self.units.get_mut(unit) {
-            *now = jobs;
+        if unit < self.units.len() {
+            change(
+                self.graph,
+                &mut self.units,
+                &self.held,
+                &mut self.counts,
+                &mut self.ready,
+                unit,
+                jobs,
+            );
         }
     }
 
@@ -184,85 +214,13 @@ impl Jobs<'_> {
             (λ r. IsLeast IsToldBefore (IsReadyIn self.now.graph self.now) (job_named self.now.graph r.0 r.1)) }
         ensures within { IfSome result (λ r. r.0 < length self.now.graph.names) }
     {
-        for unit in 0..self.graph.len() {
-            if let Some(kind) = self.ready_kind(unit) {
-                return Some((unit, kind));
-            }
+        let Some(unit) = self.ready.least() else {
+            return None;
+        };
+        if is_stop_free(&self.units, &self.counts, unit) {
+            return Some((unit, JobKind::Stop));
         }
-        None
-    }
-
-    /// The first job of the unit that is ready.
-    fn ready_kind(&self, unit: usize) -> Option<JobKind>
-        ensures { result ≡ ready_kind self.now.graph self.now unit }
-    {
-        if self.is_stop_ready(unit) {
-            Some(JobKind::Stop)
-        } else if self.is_start_ready(unit) {
-            Some(JobKind::Start)
-        } else {
-            None
-        }
-    }
-
-    /// Whether the stop of the unit waits, and for no other job.
-    fn is_stop_ready(&self, unit: usize) -> bool
-        ensures { result ≡ rows.is_stop_ready self.now.graph self.now unit }
-    {
-        is_waiting(self.get(unit).stop) && !self.holds_stop_of(self.graph.neighbours(unit))
-    }
-
-    /// Whether the start of the unit waits, and neither for another job nor for the end of its being deactivating.
-    fn is_start_ready(&self, unit: usize) -> bool
-        ensures { result ≡ rows.is_start_ready self.now.graph self.now unit }
-    {
-        let jobs = self.get(unit);
-        is_waiting(jobs.start)
-            && jobs.stop.is_none()
-            && !self.is_held(unit)
-            && !self.holds_start_of(self.graph.neighbours(unit))
-    }
-
-    /// Whether the stop of a unit waits for one of its neighbours.
-    fn holds_stop_of(&self, row: &[Neighbour]) -> bool
-        ensures { result ≡ list_any (rows.holds_stop self.now.units) row.now }
-    {
-        for neighbour in row {
-            if self.holds_stop(*neighbour) {
-                return true;
-            }
-        }
-        false
-    }
-
-    /// Whether the start of a unit waits for one of its neighbours.
-    fn holds_start_of(&self, row: &[Neighbour]) -> bool
-        ensures { result ≡ list_any (rows.holds_start self.now.units) row.now }
-    {
-        for neighbour in row {
-            if self.holds_start(*neighbour) {
-                return true;
-            }
-        }
-        false
-    }
-
-    /// Whether the stop of a unit waits for the neighbour: for its stop, where the unit is before it.
-    fn holds_stop(&self, neighbour: Neighbour) -> bool
-        ensures { result ≡ rows.holds_stop self.now.units neighbour }
-    {
-        neighbour.kinds.is_before() && self.get(neighbour.unit).stop.is_some()
-    }
-
-    /// Whether the start of a unit waits for the neighbour: for its start, where that is before the unit, and for its stop, where
-    /// the two are ordered.
-    fn holds_start(&self, neighbour: Neighbour) -> bool
-        ensures { result ≡ rows.holds_start self.now.units neighbour }
-    {
-        let jobs = self.get(neighbour.unit);
-        let before = neighbour.kinds.is_before();
-        let after = neighbour.kinds.is_after();
-        (after && jobs.start.is_some()) || ((before || after) && jobs.stop.is_some())
+        Some((unit, JobKind::Start))
     }
 }
 

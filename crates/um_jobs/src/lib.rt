@@ -1,8 +1,11 @@
 //! The jobs of units: what becomes of those of one unit, and which of the pending jobs of a graph's units begins next.
 #![tactic(auto)]
 
+mod counts;
 mod jobs;
 mod laws;
+mod least;
+mod marks;
 mod table;
 
 pub use jobs::Jobs;

@@ -1,0 +1,86 @@
+//! How many pending jobs of other units come before a job.
+
+ghost use Rattle.std.specs.Prelude.{◌≡◌, ◌<◌, ◌≤◌, ◌+◌, ◌^◌, All, length};
+ghost use Rattle.um_graph.specs.declared.row.Neighbour.{Neighbour};
+ghost use Rattle.um_jobs.specs.Counts as told;
+ghost use Rattle.um_jobs.specs.Counts.{IsCountedAnew, MayCountAnew, before_start, before_stop, behind, start_at, stop_at};
+
+use um_graph::Neighbour;
+use um_model::UnitJobs;
+
+/// How many pending jobs of other units come before the stop of a unit, and before its start.
+#[derive(Clone, Copy, Debug, PartialEq, Eq)]
+pub struct Blockers {
+    pub stop: u32,
+    pub start: u32,
+}
+
+impl Blockers {
+    /// Nothing comes before them.
+    pub const NONE: Blockers = Blockers { stop: 0, start: 0 };
+
+    /// The pending jobs of the unit in whose row the neighbour stands, counted before those of the neighbour.
+    fn behind(jobs: UnitJobs, neighbour: Neighbour) -> Blockers
+        ensures stop { result.stop ≡ behind before_stop jobs neighbour }
+        ensures start { result.start ≡ behind before_start jobs neighbour }
+    {
+        // The unit comes after the neighbour where the neighbour is before it.
+        let is_before = neighbour.kinds.is_after();
+        let is_after = neighbour.kinds.is_before();
+        let stops = is_before || is_after;
+        Blockers {
+            stop: one_if(is_before && jobs.stop.is_some()),
+            start: one_if(is_after && jobs.start.is_some()) + one_if(stops && jobs.stop.is_some()),
+        }
+    }
+
+    /// Those with the new ones counted in place of the old ones.
+    fn with(self, old: Blockers, new: Blockers) -> Blockers
+        requires stop { old.stop ≤ self.stop }
+        requires start { old.start ≤ self.start }
+        requires stop_room { self.stop + new.stop < 2 ^ 32 }
+        requires start_room { self.start + new.start < 2 ^ 32 }
+        ensures stop { result.stop + old.stop ≡ self.stop + new.stop }
+        ensures start { result.start + old.start ≡ self.start + new.start }
+    {
+        Blockers {
+            stop: self.stop - old.stop + new.stop,
+            start: self.start - old.start + new.start,
+        }
+    }
+}
+
+fn one_if(holds: bool) -> u32
+    ensures { result ≡ told.one_if holds }
+{
+    if holds { 1 } else { 0 }
+}
+
+/// Whether not the same jobs of a unit are pending as before. One that begins is pending as before.
+fn is_spread(old: UnitJobs, new: UnitJobs) -> bool
+    ensures { result ≡ told.is_spread old new }
+{
+    old.stop.is_some() != new.stop.is_some() || old.start.is_some() != new.start.is_some()
+}
+
+/// The neighbours in a unit's row before whose jobs others are counted where it has the new jobs in place of the old ones.
+pub fn touched<'r>(row: &'r [Neighbour], old: UnitJobs, new: UnitJobs) -> &'r [Neighbour]
+    ensures { result.now ≡ told.touched row.now old new }
+{
+    if is_spread(old, new) { row } else { &[] }
+}
+
+/// Counts, before the jobs of each of a unit's neighbours, its new jobs in place of the old ones.
+pub fn count_anew(counts: &mut [Blockers], row: &[Neighbour], old: UnitJobs, new: UnitJobs)
+    requires within { All (λ (n : Neighbour). n.unit < length counts.old) row.now }
+    requires stops { MayCountAnew before_stop (stop_at counts.old) old new row.now }
+    requires starts { MayCountAnew before_start (start_at counts.old) old new row.now }
+    ensures stops { IsCountedAnew before_stop (stop_at counts.old) (stop_at counts.new) old new row.now }
+    ensures starts { IsCountedAnew before_start (start_at counts.old) (start_at counts.new) old new row.now }
+{
+    for neighbour in row {
+        let was = Blockers::behind(old, *neighbour);
+        let is = Blockers::behind(new, *neighbour);
+        counts[neighbour.unit] = counts[neighbour.unit].with(was, is);
+    }
+}
