@@ -4,8 +4,8 @@ use Rattle.um_jobs.proofs.jobs.Jobs.install.Given as goal
 
 abbrev pub invariant-loop-unit : goal.invariant-loop-unit
 invariant-loop-unit l = record {
-  each : (u : ℕ) → u < l.unit → jobs_at l.self-inside.units.items u ≡ jobs_at l.plan u;
-  long : length l.self-inside.units.items ≡ length l.initial.self-inside.units.items;
-  held : l.self-inside.held ≡ l.initial.self-inside.held;
-  graph : l.self-inside.graph ≡ l.initial.self-inside.graph;
+  each : (u : ℕ) → u < l.unit → jobs_at l.self.units u ≡ jobs_at l.plan u;
+  long : length l.self.units ≡ length l.initial.self.units;
+  held : l.self.held ≡ l.initial.self.held;
+  graph : l.self.graph ≡ l.initial.self.graph;
 }

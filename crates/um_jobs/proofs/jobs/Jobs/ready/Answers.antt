@@ -1,23 +1,30 @@
-use Rattle.std.proofs.Common.{◌≡◌, ◌∙◌, None, length, sym, ap, subst, arith, below_more}
-use Rattle.um_graph.specs.Graph.{IsGraph}
-use Rattle.um_jobs.specs.Jobs.{JobsView}
-use Rattle.um_jobs.specs.Ready.{ready_kind}
-use Rattle.um_jobs.proofs.ReadyLaws.{none_ready, ready_least}
+use Rattle.std.proofs.Common.{◌≡◌, ◌∙◌, true, false, sym, subst}
+use Rattle.um_model.specs.Jobs.{IsToldBefore, Job}
+use Rattle.um_model.specs.Least.{IsLeast}
+use Rattle.um_model.specs.declared.jobs.JobKind.TheVariants.{Stop, Start}
+use Rattle.um_jobs.specs.Counts.{is_stop_free}
+use Rattle.um_jobs.specs.Jobs.{IsReadyIn, JobsView, job_named}
+use Rattle.um_jobs.proofs.FreeLaws.{none_least, start_least, stop_least}
 use Rattle.um_jobs.proofs.jobs.Jobs.ready.Goals as goal
 
-pub loop-unit-preserved : goal.loop-unit-preserved
-loop-unit-preserved c = below_more (λ u. ready_kind c.args.self.now.graph c.args.self.now u ≡ None) c.loop-unit.unit c.loop-unit.invariant (sym c.ready_kind.ensures ∙ c.in_default.is)
+pub returns-in_default-clause-least : goal.returns-in_default-clause-least
+returns-in_default-clause-least c =
+    let s = c.self.inside in
+    subst (λ (v : JobsView). (job : Job) → IsReadyIn v.graph v job → ⊥) c.self.view_is
+    (none_least s.graph.now s.units.items s.held.items s.counts.items s.ready c.self.invariant c.in_default.ensures)
 
-pub returns-in-Some-clause-least : goal.returns-in-Some-clause-least
-returns-in-Some-clause-least c =
-    let v = c.args.self.now in
-    let long : length c.self.inside.graph.now.names ≡ length v.graph.names = ap (λ (w : JobsView). length w.graph.names) c.self.view_is in
-    ready_least v.graph (subst IsGraph (ap (λ (w : JobsView). w.graph) c.self.view_is) c.len-unit-end.ensures.graph) v c.loop-unit.unit
-    (omega (arith, long, c.loop-unit-test.true, c.len-unit-end.ensures.len)) c.in-Some.kind (sym c.in-Some.ensures) c.loop-unit.invariant
+pub returns-then-is_stop_free-clause-least : goal.returns-then-is_stop_free-clause-least
+returns-then-is_stop_free-clause-least c =
+    let s = c.self.inside in
+    let e : is_stop_free s.units.items s.counts.items c.in-Some.unit ≡ true =
+    (λ i. is_stop_free (sym c.deref.ensures.value i) (sym c.deref-2.ensures.value i) c.in-Some.unit) ∙ (sym c.is_stop_free.ensures ∙ c.if-is_stop_free.true) in
+    subst (λ (v : JobsView). IsLeast IsToldBefore (IsReadyIn v.graph v) (job_named v.graph c.in-Some.unit Stop)) c.self.view_is
+    (stop_least s.graph.now s.units.items s.held.items s.counts.items s.ready c.self.invariant c.in-Some.unit c.in-Some.ensures e)
 
 pub returns-clause-least : goal.returns-clause-least
 returns-clause-least c =
-    let v = c.args.self.now in
-    let long : length c.self.inside.graph.now.names ≡ length v.graph.names = ap (λ (w : JobsView). length w.graph.names) c.self.view_is in
-    none_ready v.graph (subst IsGraph (ap (λ (w : JobsView). w.graph) c.self.view_is) c.len-unit-end.ensures.graph) v
-    (λ u h. c.loop-unit.invariant u (omega (arith, h, long, c.loop-unit-test.false, c.len-unit-end.ensures.len)))
+    let s = c.self.inside in
+    let e : is_stop_free s.units.items s.counts.items c.in-Some.unit ≡ false =
+    (λ i. is_stop_free (sym c.deref.ensures.value i) (sym c.deref-2.ensures.value i) c.in-Some.unit) ∙ (sym c.is_stop_free.ensures ∙ c.if-is_stop_free.false) in
+    subst (λ (v : JobsView). IsLeast IsToldBefore (IsReadyIn v.graph v) (job_named v.graph c.in-Some.unit Start)) c.self.view_is
+    (start_least s.graph.now s.units.items s.held.items s.counts.items s.ready c.self.invariant c.in-Some.unit c.in-Some.ensures e)
