@@ -1,5 +1,6 @@
 pub mod NamedLaws
 pub mod DropLaws
+pub mod RowReady
 pub mod ReadyLaws
 pub mod LeastLaws
 pub mod SumLaws

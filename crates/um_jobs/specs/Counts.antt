@@ -86,7 +86,7 @@ is_alike false b = not b
 abbrev pub is_spread : UnitJobs → UnitJobs → Bool
 is_spread old new = not (is_alike (is_some old.stop) (is_some new.stop) && is_alike (is_some old.start) (is_some new.start))
 
--- the neighbours in a unit's row before whose jobs others are counted then
+-- the neighbours in the unit's row whose counts change then
 abbrev pub touched : List Neighbour → UnitJobs → UnitJobs → List Neighbour
 touched row old new = if is_spread old new then row else []
 

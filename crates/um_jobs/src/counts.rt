@@ -24,18 +24,19 @@ impl Blockers {
         ensures stop { result.stop ≡ behind before_stop jobs neighbour }
         ensures start { result.start ≡ behind before_start jobs neighbour }
     {
-        // The unit comes after the neighbour where the neighbour is before it.
+        // The row tells how the unit stands to the neighbour; here it is asked the other way round.
         let is_before = neighbour.kinds.is_after();
         let is_after = neighbour.kinds.is_before();
-        let stops = is_before || is_after;
+        let is_ordered = is_before || is_after;
+        let stops = one_if(is_ordered && jobs.stop.is_some());
         Blockers {
             stop: one_if(is_before && jobs.stop.is_some()),
-            start: one_if(is_after && jobs.start.is_some()) + one_if(stops && jobs.stop.is_some()),
+            start: one_if(is_after && jobs.start.is_some()) + stops,
         }
     }
 
-    /// Those with the new ones counted in place of the old ones.
-    fn with(self, old: Blockers, new: Blockers) -> Blockers
+    /// The counts with the new ones in place of the old ones.
+    fn recounted(self, old: Blockers, new: Blockers) -> Blockers
         requires stop { old.stop ≤ self.stop }
         requires start { old.start ≤ self.start }
         requires stop_room { self.stop + new.stop < 2 ^ 32 }
@@ -63,8 +64,8 @@ fn is_spread(old: UnitJobs, new: UnitJobs) -> bool
     old.stop.is_some() != new.stop.is_some() || old.start.is_some() != new.start.is_some()
 }
 
-/// The neighbours in a unit's row before whose jobs others are counted where it has the new jobs in place of the old ones.
-pub fn touched<'r>(row: &'r [Neighbour], old: UnitJobs, new: UnitJobs) -> &'r [Neighbour]
+/// The neighbours in a unit's row whose counts change where it has the new jobs in place of the old ones.
+pub fn touched(row: &[Neighbour], old: UnitJobs, new: UnitJobs) -> &[Neighbour]
     ensures { result.now ≡ told.touched row.now old new }
 {
     if is_spread(old, new) { row } else { &[] }
@@ -81,6 +82,6 @@ pub fn count_anew(counts: &mut [Blockers], row: &[Neighbour], old: UnitJobs, new
     for neighbour in row {
         let was = Blockers::behind(old, *neighbour);
         let is = Blockers::behind(new, *neighbour);
-        counts[neighbour.unit] = counts[neighbour.unit].with(was, is);
+        counts[neighbour.unit] = counts[neighbour.unit].recounted(was, is);
     }
 }

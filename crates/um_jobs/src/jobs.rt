@@ -139,13 +139,7 @@ impl Jobs<'_> {
     {
         if unit < self.held.len() {
             self.held[unit] = deactivating;
-            mark(
-                &mut self.ready,
-                &self.units,
-                &self.held,
-                &self.counts,
-                unit,
-            );
+            mark(&mut self.ready, &self.units, &self.held, &self.counts, unit);
         }
     }
 

@@ -1,6 +1,4 @@
--- Which job is ready, by the numbers of the units: what the row of a unit says.
--- Follows the definition of ready jobs: it says it by numbers.
--- The search for the least ready job stands on this file.
+-- Which job is ready, by the numbers of the units: what the row of a unit says. It stands between the counts and the definition.
 use Rattle.std.specs.Prelude.{ℕ, Bool, not, ◌&&◌, ◌||◌, if◌then◌else◌, List, Option, Some, None, is_none, is_some}
 use Rattle.std.specs.List.{list_any}
 use Rattle.um_model.specs.Machine.{is_waiting}
