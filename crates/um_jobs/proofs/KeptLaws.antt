@@ -10,7 +10,7 @@ use Rattle.um_graph.specs.Kinds.{after_bit, before_bit, has}
 use Rattle.um_graph.specs.declared.row.Neighbour.{Neighbour}
 use Rattle.um_graph.proofs.StandLaws.{neighbour_within}
 use Rattle.um_jobs.specs.declared.counts.Blockers.{Blockers}
-use Rattle.um_jobs.specs.Counts.{Counting, IsCountedAnew, IsKept, MayCountAnew, ahead, before_start, before_stop, behind, count_before, is_alike, is_free, is_listed, is_spread, one_if, start_at, stop_at, sum_of, touched}
+use Rattle.um_jobs.specs.Counts.{Counting, IsCountedAnew, IsKept, MayCountAnew, ahead, before_start, before_stop, behind, count_before, is_alike, is_free, is_listed, changes_pending, one_if, start_at, stop_at, sum_of, touched}
 use Rattle.um_jobs.specs.Jobs.{held_at}
 use Rattle.um_jobs.specs.Named.{jobs_at}
 use Rattle.um_jobs.proofs.MirrorLaws.{mirror}
@@ -22,7 +22,7 @@ use Rattle.um_jobs.proofs.SumLaws.{counted_anew, neither, same_number, sum_most,
 pub record IsCounting (counting : Counting) : Type 0 where
   none : (j : UnitJobs) → counting j false false ≡ 0
   two : (j : UnitJobs) (a b : Bool) → counting j a b ≤ 2
-  alike : (old new : UnitJobs) → is_spread old new ≡ false → (a b : Bool) → counting old a b ≡ counting new a b
+  alike : (old new : UnitJobs) → changes_pending old new ≡ false → (a b : Bool) → counting old a b ≡ counting new a b
 
 one_most : (b : Bool) → one_if b ≤ 1
 one_most true = omega arith
@@ -38,7 +38,7 @@ both true true e = (refl, refl)
 both true false e = absurd (true≢false e)
 both false b e = absurd (true≢false e)
 
-same_pending : (old new : UnitJobs) → is_spread old new ≡ false → (is_some old.stop ≡ is_some new.stop) × (is_some old.start ≡ is_some new.start)
+same_pending : (old new : UnitJobs) → changes_pending old new ≡ false → (is_some old.stop ≡ is_some new.stop) × (is_some old.start ≡ is_some new.start)
 same_pending old new e =
     let b = both (is_alike (is_some old.stop) (is_some new.stop)) (is_alike (is_some old.start) (is_some new.start)) e in
     (alike_is (is_some old.stop) (is_some new.stop) b.0, alike_is (is_some old.start) (is_some new.start) b.1)
@@ -80,7 +80,7 @@ module _ (g : GraphView) (units : List UnitJobs) (held : List Bool) (counts : Li
   within_by false n e i d h = absurd (omega arith)
 
   pub row_within : (n : ℕ) → n ≡ length g.names → All (λ (m : Neighbour). m.unit < n) row
-  row_within n e = within_by (is_spread old j) n e
+  row_within n e = within_by (changes_pending old j) n e
 
   module _ (counting : Counting) (is : IsCounting counting) (now : ℕ → ℕ) (exact : (u : ℕ) → now u ≡ count_before counting g units u) where
     least : (u : ℕ) → sum_of (behind counting old) u (row_of g.rows x) ≤ now u
@@ -103,13 +103,13 @@ module _ (g : GraphView) (units : List UnitJobs) (held : List Bool) (counts : Li
     may_by false = record { least = λ u. omega arith; most = λ u. let m = most u in omega arith }
 
     pub may_count : MayCountAnew counting now old j row
-    may_count = may_by (is_spread old j)
+    may_count = may_by (changes_pending old j)
 
     -- ---- what they give
-    alike_in : is_spread old j ≡ false → (u : ℕ) (r : List Neighbour) → sum_of (behind counting old) u r ≡ sum_of (behind counting j) u r
+    alike_in : changes_pending old j ≡ false → (u : ℕ) (r : List Neighbour) → sum_of (behind counting old) u r ≡ sum_of (behind counting j) u r
     alike_in e u r = ap (λ c. sum_of c u r) (λ i n. is.alike old j e (has after_bit n.kinds) (has before_bit n.kinds) i)
 
-    whole_by : (b : Bool) → is_spread old j ≡ b → (later : ℕ → ℕ) → IsCountedAnew counting now later old j (cond b (row_of g.rows x) []) → IsCountedAnew counting now later old j (row_of g.rows x)
+    whole_by : (b : Bool) → changes_pending old j ≡ b → (later : ℕ → ℕ) → IsCountedAnew counting now later old j (cond b (row_of g.rows x) []) → IsCountedAnew counting now later old j (row_of g.rows x)
     whole_by true s later e u = e u
     whole_by false s later e u = let p = e u in let q = alike_in s u (row_of g.rows x) in omega arith
 
@@ -118,7 +118,7 @@ module _ (g : GraphView) (units : List UnitJobs) (held : List Bool) (counts : Li
         let n = counted_anew counting units x j l (row_of g.rows u) in
         let m = mirror g k.graph counting old (is.none old) x u in
         let o = mirror g k.graph counting j (is.none j) x u in
-        let p = whole_by (is_spread old j) refl later e u in
+        let p = whole_by (changes_pending old j) refl later e u in
         let q = exact u in omega arith
 
     pub same_count : (later : ℕ → ℕ) → IsCountedAnew counting now later old j row → (u : ℕ) → is_listed row u ≡ false → now u ≡ later u

@@ -32,12 +32,12 @@ true_not false h = refl
 not_false : (b : Bool) → b ≡ false → b ≡ true → ⊥
 not_false b e f = true≢false (sym f ∙ e)
 
-any_in : {A : Type 0} (p : A → Bool) (xs : List A) (x : A) → Contains xs x → p x ≡ true → list_any p xs ≡ true
+pub any_in : {A : Type 0} (p : A → Bool) (xs : List A) (x : A) → Contains xs x → p x ≡ true → list_any p xs ≡ true
 any_in p [] x (k, h, e) t = absurd (omega arith)
 any_in p (z ∷ xs) x (zero, h, e) t = or_left (p z) (list_any p xs) (ap p e ∙ t)
 any_in p (z ∷ xs) x (suc k, h, e) t = or_right (p z) (list_any p xs) (any_in p xs x (k, omega arith, e) t)
 
-in_any : {A : Type 0} (p : A → Bool) (xs : List A) → list_any p xs ≡ true → (x : A) × Contains xs x × (p x ≡ true)
+pub in_any : {A : Type 0} (p : A → Bool) (xs : List A) → list_any p xs ≡ true → (x : A) × Contains xs x × (p x ≡ true)
 in_any p [] t = cc
 in_any p (z ∷ xs) t = elim (or_cases (p z) (list_any p xs) t) as (λ _. (x : _) × Contains (z ∷ xs) x × (p x ≡ true)) [
   | inl h ↦ (z, (0, omega arith, refl), h)

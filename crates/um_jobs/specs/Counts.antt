@@ -1,4 +1,4 @@
--- How many pending jobs of its neighbours come before the stop of a unit and before its start, and which units have a ready job by that.
+-- How many pending jobs of its neighbours come before the stop of a unit and before its start, and which units have a ready job by these counts.
 -- Follows the definition of ready jobs: a job that waits is ready where nothing is counted before it.
 -- What `Jobs` keeps stands on this file.
 use Rattle.std.specs.Prelude.{◌≡◌, ℕ, ◌+◌, ◌<◌, ◌≤◌, ◌^◌, Bool, true, false, not, ◌&&◌, ◌||◌, ◌==◌, if◌then◌else◌, List, [], length, is_none, is_some, get_or}
@@ -44,6 +44,7 @@ count_before counting g units u = sum_by (λ n. ahead counting (jobs_at units n.
 
 -- ---- what is kept of it
 
+-- the counts of a unit; 0 past the last
 abbrev pub blockers_at : List Blockers → ℕ → Blockers
 blockers_at counts u = get_or counts u (record { stop = 0; start = 0 })
 
@@ -57,11 +58,12 @@ start_at counts u = (blockers_at counts u).start
 abbrev pub is_stop_free : List UnitJobs → List Blockers → ℕ → Bool
 is_stop_free units counts u = is_waiting (jobs_at units u).stop && (stop_at counts u == 0)
 
--- the start of the unit waits, nothing is counted before it, and neither the unit's own stop is pending nor does the unit count as deactivating
+-- the start of the unit waits, nothing is counted before it, the unit's own stop isn't pending, and the unit doesn't count as deactivating
 abbrev pub is_start_free : List UnitJobs → List Bool → List Blockers → ℕ → Bool
 is_start_free units held counts u =
     is_waiting (jobs_at units u).start && (is_none (jobs_at units u).stop && (not (held_at held u) && (start_at counts u == 0)))
 
+-- a job of the unit is ready
 abbrev pub is_free : List UnitJobs → List Bool → List Blockers → ℕ → Bool
 is_free units held counts u = is_stop_free units counts u || is_start_free units held counts u
 
@@ -78,18 +80,20 @@ pub record IsKept (g : GraphView) (units : List UnitJobs) (held : List Bool) (co
 
 -- ---- what a change of one unit's jobs changes of it
 
+-- both hold, or neither does
 abbrev pub is_alike : Bool → Bool → Bool
 is_alike true b = b
 is_alike false b = not b
 
--- not the same jobs of the unit are pending as before
-abbrev pub is_spread : UnitJobs → UnitJobs → Bool
-is_spread old new = not (is_alike (is_some old.stop) (is_some new.stop) && is_alike (is_some old.start) (is_some new.start))
+-- not the same jobs of the unit are pending as before: one that begins is pending as before
+abbrev pub changes_pending : UnitJobs → UnitJobs → Bool
+changes_pending old new = not (is_alike (is_some old.stop) (is_some new.stop) && is_alike (is_some old.start) (is_some new.start))
 
 -- the neighbours in the unit's row whose counts change then
 abbrev pub touched : List Neighbour → UnitJobs → UnitJobs → List Neighbour
-touched row old new = if is_spread old new then row else []
+touched row old new = if changes_pending old new then row else []
 
+-- the unit stands in the row
 abbrev pub is_listed : List Neighbour → ℕ → Bool
 is_listed row u = list_any (λ (n : Neighbour). n.unit == u) row
 

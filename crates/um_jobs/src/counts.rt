@@ -58,8 +58,8 @@ fn one_if(holds: bool) -> u32
 }
 
 /// Whether not the same jobs of a unit are pending as before. One that begins is pending as before.
-fn is_spread(old: UnitJobs, new: UnitJobs) -> bool
-    ensures { result ≡ told.is_spread old new }
+fn changes_pending(old: UnitJobs, new: UnitJobs) -> bool
+    ensures { result ≡ told.changes_pending old new }
 {
     old.stop.is_some() != new.stop.is_some() || old.start.is_some() != new.start.is_some()
 }
@@ -68,7 +68,7 @@ fn is_spread(old: UnitJobs, new: UnitJobs) -> bool
 pub fn touched(row: &[Neighbour], old: UnitJobs, new: UnitJobs) -> &[Neighbour]
     ensures { result.now ≡ told.touched row.now old new }
 {
-    if is_spread(old, new) { row } else { &[] }
+    if changes_pending(old, new) { row } else { &[] }
 }
 
 /// Counts, before the jobs of each of a unit's neighbours, its new jobs in place of the old ones.

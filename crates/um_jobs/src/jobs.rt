@@ -31,7 +31,7 @@ pub struct Jobs<'g> {
     graph: &'g Graph,
     units: Vec<UnitJobs>,
     held: Vec<bool>,
-    /// How many pending jobs of its neighbours come before those of each unit.
+    /// Of each unit how many pending jobs of its neighbours come before its own.
     counts: Vec<Blockers>,
     /// The units that have a ready job.
     ready: LeastSet,
@@ -143,8 +143,8 @@ impl Jobs<'_> {
         }
     }
 
-    /// The unit with this number has just these jobs. It takes no memory, and no time where it has them already; else it goes over the
-    /// unit's row, and a job that only begins spares that.
+    /// The unit with this number has just these jobs. It takes no memory, and goes over the unit's row only where not the same jobs of
+    /// it are pending as before.
     fn set(&mut self, unit: usize, jobs: UnitJobs)
         ensures { self.new ≡ with_jobs_at self.old unit jobs }
     {
