@@ -1,6 +1,5 @@
 -- Where no job is pending nothing is counted and no job is ready.
 use Rattle.std.proofs.Common.{◌≡◌, ◌∙◌, ℕ, Bool, true, false, List, length, get_or, replicate, refl, sym, ap, subst, inl, inr, arith}
-use Rattle.std.specs.List.{sum_by}
 use Rattle.std.proofs.lemmas.Bool.{cases_lt}
 use Rattle.std.proofs.lemmas.List.{get_or-replicate, get_or_past, length-replicate}
 use Rattle.um_model.specs.Jobs.{no_jobs}

@@ -1,6 +1,5 @@
 -- The counts and the units with a ready job after a change of one unit.
-use Rattle.std.proofs.Common.{◌≡◌, ◌≢◌, ◌∙◌, ◌+◌, ◌^◌, ◌<◌, ◌≤◌, ℕ, Bool, true, false, true≢false, cond, not, ◌&&◌, ◌||◌, ◌==◌, List, [], length, set, get_or, All, is_none, is_some, refl, sym, ap, inl, inr, arith}
-use Rattle.std.proofs.lemmas.Grind.{get_or-set_at}
+use Rattle.std.proofs.Common.{◌≡◌, ◌≢◌, ◌∙◌, ◌+◌, ◌^◌, ◌<◌, ◌≤◌, ℕ, Bool, true, false, true≢false, cond, not, ◌&&◌, ◌||◌, ◌==◌, List, [], length, set, get_or, All, is_none, is_some, refl, sym, ap, arith}
 use Rattle.std.proofs.lemmas.List.{get_or-set_other, get_or_default, length-set}
 use Rattle.um_model.specs.Machine.{is_waiting}
 use Rattle.um_model.specs.Jobs.{no_jobs}
@@ -15,7 +14,7 @@ use Rattle.um_jobs.specs.Jobs.{held_at}
 use Rattle.um_jobs.specs.Named.{jobs_at}
 use Rattle.um_jobs.proofs.MirrorLaws.{mirror}
 use Rattle.um_jobs.proofs.ShortLaws.{row_short}
-use Rattle.um_jobs.proofs.SumLaws.{counted_anew, neither, same_number, sum_most, sum_of_most, sum_of_none, summed_le}
+use Rattle.um_jobs.proofs.SumLaws.{counted_anew, same_number, sum_most, sum_of_most, sum_of_none, summed_le}
 
 -- ---- what a way to count has to be: nothing is counted of a unit that isn't ordered, two jobs at most of one that is, and only
 -- which jobs are pending counts

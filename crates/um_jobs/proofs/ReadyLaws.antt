@@ -1,21 +1,19 @@
 -- The first unit with a ready job by its row has the least ready job.
-use Rattle.std.proofs.Common.{◌≡◌, ◌≢◌, ◌↔◌, ◌∙◌, ◌<◌, ◌&&◌, ◌||◌, ℕ, zero, suc, Bool, true, false, true≢false, cond, not, List, [], ◌∷◌, length, Contains, Option, Some, None, is_none, is_some, refl, sym, ap, subst, inl, inr, arith}
+use Rattle.std.proofs.Common.{◌≡◌, ◌≢◌, ◌∙◌, ◌<◌, ◌&&◌, ◌||◌, ℕ, zero, suc, Bool, true, false, true≢false, cond, not, List, [], ◌∷◌, length, Contains, Option, Some, None, is_none, is_some, refl, sym, ap, subst, inl, inr, arith}
 use Rattle.std.specs.List.{list_any}
 use Rattle.std.proofs.lemmas.Bool.{and_from, and_parts, cases_lt, not-true, or_cases, or_left, or_right}
-use Rattle.um_model.specs.Jobs.{BeginsNext, Job, ComesBefore, GoesBefore, IsReady, IsToldBefore, by_name, job_of, jobs_of_unit, no_jobs, of_one_unit, start_job, starts, state_of_job, stop_first, stop_job, stops, stops_then_starts, stops_then_starts_before}
+use Rattle.um_model.specs.Jobs.{Job, ComesBefore, GoesBefore, IsToldBefore, by_name, job_of, jobs_of_unit, no_jobs, of_one_unit, start_job, starts, state_of_job, stop_first, stop_job, stops, stops_then_starts, stops_then_starts_before}
 use Rattle.um_model.specs.Least.{IsLeast, IsNamedBefore}
 use Rattle.um_model.specs.Machine.{is_waiting}
-use Rattle.um_model.specs.Service.{ByUnit, active_state_of, state_of_unit}
+use Rattle.um_model.specs.Service.{ByUnit}
 use Rattle.um_model.specs.declared.jobs.JobKind.{JobKind}
 use Rattle.um_model.specs.declared.jobs.JobKind.TheVariants.{Stop, Start}
 use Rattle.um_model.specs.declared.jobs.JobState.{JobState}
 use Rattle.um_model.specs.declared.jobs.JobState.TheVariants.{Waiting, Running}
 use Rattle.um_model.specs.declared.jobs.UnitJobs.{UnitJobs}
-use Rattle.um_model.specs.declared.service.ActiveState.TheVariants.{Deactivating}
-use Rattle.um_model.specs.declared.service.UnitState.{UnitState}
 use Rattle.um_graph.specs.Graph.{GraphView, IsGraph, Stands, row_of}
 use Rattle.um_graph.specs.Kinds.{after_bit, before_bit, has}
-use Rattle.um_graph.specs.Named.{Joins, item_for, name_at}
+use Rattle.um_graph.specs.Named.{Joins, name_at}
 use Rattle.um_graph.specs.declared.row.Neighbour.{Neighbour}
 use Rattle.um_graph.proofs.NamedLaws.{AreOnce, IsAmong, among_or_apart, got_within, item_at, name_got, name_is, named_before, names_once}
 use Rattle.um_graph.proofs.StandLaws.{stands_within}
@@ -326,16 +324,3 @@ module _ (g : GraphView) (is : IsGraph g) (v : JobsView) where
 
   pub none_ready : ((w : ℕ) → Inside w → ready_kind g v w ≡ None) → (j : Job) → ¬ IsReadyIn g v j
   none_ready none j r = let a = known_of j r in kind_whole a.0 a.1 j.kind (subst (IsReadyIn g v) (at_unit j a.0 a.2) r) (none a.0 a.1)
-
--- where those units are held that are deactivating, a job is ready as the definitions say
-pub ready_is : (g : GraphView) (v : JobsView) (units : ByUnit UnitState) → ((x : List ℕ) → (item_for false g.names v.held x ≡ false) ↔ (active_state_of (state_of_unit units x).sub ≢ Deactivating))
-    → (job : Job) → IsReadyIn g v job ↔ IsReady (Joins g before_bit) units (jobs_by g.names v.units) job
-ready_is g v units h job = (
-  λ r. record { waits = r.waits; free = r.free; still = λ e. (h job.unit).0 (r.still e) },
-  λ r. record { waits = r.waits; free = r.free; still = λ e. (h job.unit).1 (r.still e) },
-)
-
--- and so the least of them is the one that begins next
-pub begins_next : (g : GraphView) (v : JobsView) (units : ByUnit UnitState) → ((x : List ℕ) → (item_for false g.names v.held x ≡ false) ↔ (active_state_of (state_of_unit units x).sub ≢ Deactivating))
-    → (job : Job) → IsLeast IsToldBefore (IsReadyIn g v) job → BeginsNext (Joins g before_bit) units (jobs_by g.names v.units) job
-begins_next g v units h job l = record { has = (ready_is g v units h job).0 l.has; first = λ other r apart. l.first other ((ready_is g v units h other).1 r) apart }

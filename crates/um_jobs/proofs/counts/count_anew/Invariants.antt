@@ -1,4 +1,4 @@
-use Rattle.std.proofs.Common.{◌≡◌, ℕ, length, take}
+use Rattle.std.proofs.Common.{take}
 use Rattle.um_jobs.specs.Counts.{IsCountedAnew, before_start, before_stop, start_at, stop_at}
 use Rattle.um_jobs.proofs.counts.count_anew.Given as goal
 
