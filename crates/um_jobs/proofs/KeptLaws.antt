@@ -163,25 +163,3 @@ module _ (g : GraphView) (units : List UnitJobs) (held : List Bool) (counts : Li
       starts = exact_anew before_start of_starts (start_at counts) k.starts (start_at later_counts) starts;
       exact = λ u. r u ∙ exact_by u (u == x) (is_listed row u) refl refl;
     }
-
--- a unit counts as deactivating, or no more
-pub hold_kept : (g : GraphView) (units : List UnitJobs) (held : List Bool) (counts : List Blockers) (ready : List Bool) → IsKept g units held counts ready
-    → (x : ℕ) (d : Bool) (later : List Bool) → length later ≡ length ready
-    → ((u : ℕ) → get_or later u false ≡ cond (u == x) (is_free units (set held x d) counts u) (get_or ready u false))
-    → IsKept g units (set held x d) counts later
-hold_kept g units held counts ready k x d later c r = record {
-  graph = k.graph;
-  units_long = k.units_long;
-  held_long = length-set held x d ∙ k.held_long;
-  counts_long = k.counts_long;
-  ready_long = c ∙ k.ready_long;
-  stops = k.stops;
-  starts = k.starts;
-  exact = λ u. r u ∙ by u (u == x) refl;
-}
-  where
-    by : (u : ℕ) (b : Bool) → (u == x) ≡ b → cond b (is_free units (set held x d) counts u) (get_or ready u false) ≡ is_free units (set held x d) counts u
-    by u true e = refl
-    by u false e =
-        let apart : u ≢ x = λ s. true≢false (sym (same_number u x s) ∙ e) in
-        k.exact u ∙ ap (λ b. free_by (jobs_at units u) b (stop_at counts u) (start_at counts u)) (sym (get_or-set_other held x u d false apart))
