@@ -1,6 +1,7 @@
 //! Rounds of a manager in memory over a gate in memory.
-use crate::gates::{add_client, what_was_taken};
+use crate::gates::{add_client, new_gate, what_was_taken};
 use crate::managers::{new_store, over};
+use std::process::Abort;
 use um_gate::{FakeGate, FakeMoments, Note};
 use um_model::Moment;
 use um_rows_shared::same;
@@ -16,6 +17,14 @@ const DONE: &[u8] = b"\x00\x00\x00\x0b{\"ok\":true}";
 
 const NONE: &[u8] = b"\x00\x00\x00\x16{\"ok\":true,\"value\":[]}";
 
+/// A gate with two clients that take few bytes of a write.
+fn two_clients(rt: &(impl AllocGlobal + Abort)) -> FakeGate {
+    let mut gate = new_gate(rt);
+    add_client(rt, &mut gate, 0, LOADS, 3);
+    add_client(rt, &mut gate, 1, LISTS, 7);
+    gate
+}
+
 /// So many rounds, whether the last one was busy, and what the first client has then, and what the second.
 const ROUNDS: &[(usize, bool, &[u8], Option<&[u8]>)] = &[
     (1, true, b"\x00\x00\x00", None),
@@ -25,9 +34,7 @@ const ROUNDS: &[(usize, bool, &[u8], Option<&[u8]>)] = &[
 #[test]
 fn clients_that_take_few_bytes_get_their_own_replies(rt: HostRuntime) {
     for (count, is_busy, first, second) in ROUNDS {
-        let mut gate = FakeGate::new(rt.alloc());
-        add_client(&rt, &mut gate, 0, LOADS, 3);
-        add_client(&rt, &mut gate, 1, LISTS, 7);
+        let mut gate = two_clients(&rt);
         let mut manager = over(&rt, new_store(&rt));
         let mut clock = FakeMoments::new(rt.alloc(), Moment::FIRST, 1);
         let mut rounds = Rounds::new(rt.alloc()).expect(&rt, "no memory");
@@ -39,6 +46,23 @@ fn clients_that_take_few_bytes_get_their_own_replies(rt: HostRuntime) {
         if let Some(second) = second {
             let got = what_was_taken(&rt, &gate, 1);
             same(&rt, got.bytes.as_slice(), *second);
+        }
+    }
+}
+
+#[test]
+fn a_round_whose_accept_fails_serves_those_that_are_there(rt: HostRuntime) {
+    let mut gate = two_clients(&rt);
+    gate.fuse(2);
+    let mut manager = over(&rt, new_store(&rt));
+    let mut clock = FakeMoments::new(rt.alloc(), Moment::FIRST, 1);
+    let mut rounds = Rounds::new(rt.alloc()).expect(&rt, "no memory");
+    // the second round takes nobody, and hands three bytes more to the first client
+    for (count, first, second) in [(2, &DONE[..6], &[][..]), (9, DONE, NONE)] {
+        serve(&mut manager, &mut gate, &mut clock, &mut rounds, count).expect(&rt, "refused");
+        for (number, wanted) in [(0, first), (1, second)] {
+            let got = what_was_taken(&rt, &gate, number);
+            same(&rt, got.bytes.as_slice(), wanted);
         }
     }
 }
@@ -66,11 +90,11 @@ fn last_read(gate: &FakeGate) -> Option<usize> {
 
 #[test]
 fn nothing_is_read_of_a_client_while_a_whole_request_of_it_waits(rt: HostRuntime) {
-    let mut gate = FakeGate::new(rt.alloc());
+    let mut gate = new_gate(&rt);
     let mut both = Vec::from_slice(rt.alloc(), LISTS).expect(&rt, "no memory");
     both.extend_from_slice(LISTS).expect(&rt, "no memory");
     let third = Vec::from_slice(rt.alloc(), LISTS).expect(&rt, "no memory");
-    let parts = vec![in rt.alloc(); third, both].expect(&rt, "no memory");
+    let parts = vec![in rt.alloc(); both, third].expect(&rt, "no memory");
     gate.client(0, parts, false, 4096).expect(&rt, "no memory");
     let mut manager = over(&rt, new_store(&rt));
     let mut clock = FakeMoments::new(rt.alloc(), Moment::FIRST, 1);

@@ -2,7 +2,7 @@
 use crate::script::{push_frame, served};
 use crate::texts::{ACTIONS, DONE, RELOAD, SHOW_A, START_A};
 use std::alloc::{AllocError, Global};
-use um_bin::Ending;
+use um_memory::Ending;
 use um_rows_shared::same;
 
 /// A service that may be started any number of times.
