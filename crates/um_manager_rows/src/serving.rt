@@ -60,8 +60,10 @@ fn have(rt: &(impl AllocGlobal + Abort), gate: &FakeGate, first: &[u8], second: 
 }
 
 /// So many rounds, whether the last one was busy, and what the first client has then, and what the second.
-const ROUNDS: &[(usize, bool, &[u8], &[u8])] =
-    &[(1, true, b"\x00\x00\x00", b""), (9, false, DONE, NONE)];
+const ROUNDS: &[(usize, bool, &[u8], &[u8])] = &[
+    (1, true, b"\x00\x00\x00", b""),
+    (9, false, DONE, NONE),
+];
 
 #[test]
 fn clients_that_take_few_bytes_get_their_own_replies(rt: HostRuntime) {

@@ -136,7 +136,11 @@ impl<'a, R: Clock> Loop<'a, R> {
     fn sleep<D: Disk, C: Children + News>(&mut self, manager: &Manager<D, C>, is_live: bool) {
         for _ in 0..PARTS {
             let wait = self.pace.next(is_live, self.clock.moment(), self.deadline);
-            if self.gate.gate.wait(wait) || !is_live || manager.children().has_news() || self.is_due() {
+            if self.gate.gate.wait(wait)
+                || !is_live
+                || manager.children().has_news()
+                || self.is_due()
+            {
                 return;
             }
         }
