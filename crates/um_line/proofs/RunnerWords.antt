@@ -1,9 +1,7 @@
 -- The words of a runner are read in one way.
-use Rattle.std.proofs.Common.{◌≡◌, ◌<◌, ◌∷◌, ◌++◌, ℕ, ◌^◌, List, [], Some, length, slice_get, get_or, take, drop, codes, refl, sym, ap, subst, ◌∙◌, arith, length-append}
-use Rattle.std.specs.Prelude.{decimal}
+use Rattle.std.proofs.Common.{◌≡◌, ◌<◌, ◌++◌, ℕ, ◌^◌, List, [], Some, length, slice_get, get_or, take, drop, codes, refl, sym, ap, ◌∙◌, arith, length-append}
 use Rattle.std.proofs.lemmas.Fmt.{decimal_injective}
 use Rattle.std.proofs.lemmas.List.{take_at, drop_at}
-use Rattle.um_model.specs.Moments.{process_limit}
 use Rattle.um_line.specs.Line.{IsRunLine, IsToRun}
 use Rattle.um_line.specs.declared.line.Line.{Line}
 use Rattle.um_line.specs.declared.line.Line.TheVariants.{Memory, Run, Create, Serve, LongBoot, Ctl, Help, Told, Wrong}
