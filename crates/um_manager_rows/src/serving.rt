@@ -1,10 +1,10 @@
 //! Rounds of a manager in memory over a gate in memory.
+use crate::asserts::same;
 use crate::gates::{add_client, new_gate, what_was_taken};
 use crate::managers::{InMemory, new_store, over};
 use std::process::Abort;
 use um_gate::{FakeGate, FakeMoments, Note};
 use um_model::Moment;
-use um_rows_shared::same;
 use um_serve::{Buffered, rounds_join, serve};
 
 /// Requests of two clients: to load the tree, and to list the jobs.

@@ -1,7 +1,7 @@
 //! What the words of a command line ask for.
+use crate::asserts::{same, same_at, text};
 use std::process::Abort;
 use um_line::{Line, a_runner_s_words_are_run, read_line};
-use um_rows_shared::{same, same_at, text};
 
 /// The words of the text, the first of which is the program's name.
 fn words_of(rt: &(impl AllocGlobal + Abort), line: &str) -> Vec<String> {
