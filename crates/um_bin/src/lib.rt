@@ -1,13 +1,7 @@
-//! The parts of the program `umd`: `memory` writes exactly the frames of the replies to what it reads, however that is cut.
+//! The parts of the program `umd`, each out of a crate of its own: the words of its command line, one client over a store in memory, and rounds
+//! over a gate.
 #![tactic(auto)]
 
-mod actions;
-mod frames;
-mod laws;
-mod serving;
-mod store;
-
-pub use laws::{a_stream_has_one_reading, a_stream_is_served_in_one_way};
-pub use serving::memory;
-pub use um_model::Ending;
-pub use um_stream::Fault;
+pub use um_line::read_line as line;
+pub use um_memory::memory;
+pub use um_serve::serve;

@@ -1,1 +1,2 @@
 pub mod LineReadings
+mod RunnerWords

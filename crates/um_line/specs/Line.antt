@@ -14,8 +14,8 @@ use Rattle.um_line.specs.declared.line.Line.{Line}
 use Rattle.um_line.specs.declared.line.Line.TheVariants.{Memory, Run, Create, Serve, LongBoot, Ctl, Help, Told, Wrong}
 use Rattle.um_line.specs.declared.line.Subcommand.{Subcommand}
 use Rattle.um_line.specs.declared.line.Subcommand.TheVariants as sub
-use Rattle.um_runner.specs.Runner.{runner_words}
 use Rattle.um_runner.specs.Jobs.{entries_of, words_of}
+use Rattle.um_runner.specs.RunnerLines.{IsRunnerLine}
 
 -- ---- what the words may be
 
@@ -127,11 +127,21 @@ IsMemory other = ⊥
 abbrev pub IsTopLine : List (List ℕ) → Line → Type 0
 IsTopLine words = IsReadLine (mistakes_of words) IsMemory
 
--- what the words behind `run` ask for
+-- the words are no runner's, whatever folder, number, entries and command are looked for in them
+abbrev pub IsNoRunner : List (List ℕ) → Type 0
+IsNoRunner words = (folder : List ℕ) (number : ℕ) (entries command : List (List ℕ)) → IsRunnerLine folder number entries command words → ⊥
+
+-- the line is to run this command with these entries, as the process of this number
+abbrev pub IsToRun : (folder : List ℕ) (number : ℕ) (entries command : List (List ℕ)) → Line → Type 0
+IsToRun folder number entries command (Run line) =
+    (line.folder.now ≡ folder) × (line.number ≡ number) × (entries_of line.job ≡ entries) × (words_of line.job ≡ command)
+IsToRun folder number entries command other = ⊥
+
+-- what the words behind `run` ask for: a runner's are run, and others told wrong, but for `--help` in front
 abbrev pub IsRunLine : List (List ℕ) → Line → Type 0
-IsRunLine words (Run line) = words ≡ runner_words line.folder.now line.number (entries_of line.job) (words_of line.job)
+IsRunLine words (Run line) = IsRunnerLine line.folder.now line.number (entries_of line.job) (words_of line.job) words
 IsRunLine words (Told text) = slice_get words 0 ≡ Some (codes "--help")
-IsRunLine words (Wrong text) = slice_get words 0 ≢ Some (codes "--help")
+IsRunLine words (Wrong text) = (slice_get words 0 ≢ Some (codes "--help")) × IsNoRunner words
 IsRunLine words other = ⊥
 
 -- a store of so many sectors a slot and in its log, in a new file

@@ -4,6 +4,7 @@
 mod create;
 mod ctl;
 mod help;
+mod laws;
 mod line;
 mod mistake;
 mod numbers;
@@ -14,6 +15,7 @@ mod values;
 
 pub use create::CreateLine;
 pub use ctl::CtlLine;
+pub use laws::a_runner_s_words_are_run;
 pub use line::{Line, Subcommand, read_line};
 pub use serve::ServeLine;
 pub use top::common_lines;

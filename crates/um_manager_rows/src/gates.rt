@@ -8,6 +8,11 @@ pub fn bytes(rt: &(impl AllocGlobal + Abort), text: &[u8]) -> Vec<u8> {
     Vec::from_slice(rt.alloc(), text).expect(rt, "no memory")
 }
 
+/// A gate to which no client came yet.
+pub fn new_gate(rt: &(impl AllocGlobal + Abort)) -> FakeGate {
+    FakeGate::new(rt.alloc()).expect(rt, "no memory")
+}
+
 /// A client that sends these bytes in one part, stays, and takes at most so many bytes of a write.
 pub fn add_client(
     rt: &(impl AllocGlobal + Abort),
@@ -23,7 +28,7 @@ pub fn add_client(
 
 /// A gate that has accepted a client that sends nothing, and takes at most so many bytes of a write.
 pub fn with_client(rt: &(impl AllocGlobal + Abort), number: usize, limit: usize) -> FakeGate {
-    let mut gate = FakeGate::new(rt.alloc());
+    let mut gate = new_gate(rt);
     add_client(rt, &mut gate, number, b"", limit);
     let _open = gate.accept();
     gate
@@ -80,7 +85,7 @@ const READS: &[(usize, &[u8])] = &[(0, b""), (2, b"ab"), (0, b""), (4096, b"cde"
 
 #[test]
 fn what_is_not_read_stays_there(rt: HostRuntime) {
-    let mut gate = FakeGate::new(rt.alloc());
+    let mut gate = new_gate(&rt);
     add_client(&rt, &mut gate, 3, b"abcde", 9);
     let _open = gate.accept();
     for (most, wanted) in READS {
@@ -98,4 +103,35 @@ fn a_client_that_was_given_up_takes_nothing_and_is_told_closed(rt: HostRuntime) 
     let mut read = Vec::with_capacity(rt.alloc(), MOST_BYTES).expect(&rt, "no memory");
     same(&rt, gate.read(2, MOST_BYTES, &mut read), false);
     same(&rt, read.len(), 0);
+}
+
+#[test]
+fn an_accept_that_fails_takes_nobody(rt: HostRuntime) {
+    let mut gate = new_gate(&rt);
+    for number in [3, 5] {
+        add_client(&rt, &mut gate, number, b"abc", 9);
+    }
+    gate.fuse(2);
+    // client 5 waits while its accept fails, and is taken by the next one
+    for is_there in [false, false, true] {
+        let open = gate.accept();
+        same(&rt, (open.is_open[3], open.is_open[5]), (true, is_there));
+    }
+    let read = read_of(&rt, &mut gate, 5, MOST_BYTES);
+    same(&rt, read.as_slice(), b"abc".as_slice());
+}
+
+#[test]
+fn a_client_whose_number_is_taken_is_turned_away(rt: HostRuntime) {
+    let mut gate = new_gate(&rt);
+    for (number, sent) in [(3, b"abc"), (3, b"def"), (64, b"ghi")] {
+        add_client(&rt, &mut gate, number, sent, 9);
+    }
+    for _ in 0..3 {
+        let open = gate.accept();
+        let count = open.is_open.iter().filter(|is_open| **is_open).count();
+        same(&rt, (open.is_open[3], count), (true, 1));
+    }
+    let read = read_of(&rt, &mut gate, 3, MOST_BYTES);
+    same(&rt, read.as_slice(), b"abc".as_slice());
 }

@@ -1,10 +1,11 @@
 //! Rounds of a manager in memory over a gate in memory.
 use crate::asserts::same;
-use crate::gates::{add_client, what_was_taken};
-use crate::managers::{new_store, over};
+use crate::gates::{add_client, new_gate, what_was_taken};
+use crate::managers::{InMemory, new_store, over};
+use std::process::Abort;
 use um_gate::{FakeGate, FakeMoments, Note};
 use um_model::Moment;
-use um_serve::{Rounds, serve};
+use um_serve::{Buffered, rounds_join, serve};
 
 /// Requests of two clients: to load the tree, and to list the jobs.
 const LOADS: &[u8] = b"\x00\x00\x00\x18{\"verb\":\"daemon-reload\"}";
@@ -16,31 +17,95 @@ const DONE: &[u8] = b"\x00\x00\x00\x0b{\"ok\":true}";
 
 const NONE: &[u8] = b"\x00\x00\x00\x16{\"ok\":true,\"value\":[]}";
 
+/// A gate, a manager of a new store and a clock, all in memory.
+#[derive(Drop)]
+struct Served {
+    gate: Buffered<FakeGate>,
+    manager: InMemory,
+    clock: FakeMoments,
+}
+
+impl Served {
+    /// What is served over this gate.
+    fn over(rt: &(impl AllocGlobal + Abort), gate: FakeGate) -> Served {
+        Served {
+            gate: Buffered::new(rt.alloc(), gate).expect(rt, "no memory"),
+            manager: over(rt, new_store(rt)),
+            clock: FakeMoments::new(rt.alloc(), Moment::FIRST, 1),
+        }
+    }
+
+    /// Serves so many rounds, and tells whether the last one was busy.
+    fn serve(&mut self, rt: &(impl AllocGlobal + Abort), limit: usize) -> bool {
+        serve(&mut self.manager, &mut self.gate, &mut self.clock, limit).expect(rt, "refused");
+        self.gate.was_busy()
+    }
+}
+
+/// A gate with two clients that take few bytes of a write.
+fn two_clients(rt: &(impl AllocGlobal + Abort)) -> FakeGate {
+    let mut gate = new_gate(rt);
+    add_client(rt, &mut gate, 0, LOADS, 3);
+    add_client(rt, &mut gate, 1, LISTS, 7);
+    gate
+}
+
+/// Asserts what the first of them has by now, and what the second.
+fn have(rt: &(impl AllocGlobal + Abort), gate: &FakeGate, first: &[u8], second: &[u8]) {
+    for (number, wanted) in [(0, first), (1, second)] {
+        let got = what_was_taken(rt, gate, number);
+        same(rt, got.bytes.as_slice(), wanted);
+        same(rt, got.is_dropped, false);
+    }
+}
+
 /// So many rounds, whether the last one was busy, and what the first client has then, and what the second.
-const ROUNDS: &[(usize, bool, &[u8], Option<&[u8]>)] = &[
-    (1, true, b"\x00\x00\x00", None),
-    (9, false, DONE, Some(NONE)),
+const ROUNDS: &[(usize, bool, &[u8], &[u8])] = &[
+    (1, true, b"\x00\x00\x00", b""),
+    (9, false, DONE, NONE),
 ];
 
 #[test]
 fn clients_that_take_few_bytes_get_their_own_replies(rt: HostRuntime) {
     for (count, is_busy, first, second) in ROUNDS {
-        let mut gate = FakeGate::new(rt.alloc());
-        add_client(&rt, &mut gate, 0, LOADS, 3);
-        add_client(&rt, &mut gate, 1, LISTS, 7);
-        let mut manager = over(&rt, new_store(&rt));
-        let mut clock = FakeMoments::new(rt.alloc(), Moment::FIRST, 1);
-        let mut rounds = Rounds::new(rt.alloc()).expect(&rt, "no memory");
-        serve(&mut manager, &mut gate, &mut clock, &mut rounds, *count).expect(&rt, "refused");
-        same(&rt, rounds.was_busy(), *is_busy);
-        let got = what_was_taken(&rt, &gate, 0);
-        same(&rt, got.bytes.as_slice(), *first);
-        same(&rt, got.is_dropped, false);
-        if let Some(second) = second {
-            let got = what_was_taken(&rt, &gate, 1);
-            same(&rt, got.bytes.as_slice(), *second);
-        }
+        let mut served = Served::over(&rt, two_clients(&rt));
+        same(&rt, served.serve(&rt, *count), *is_busy);
+        have(&rt, &served.gate.gate, first, second);
     }
+}
+
+/// Nine rounds, so many in each call.
+const CALLS: &[&[usize]] = &[&[4, 5], &[3, 0, 6], &[1, 1, 1, 1, 1, 1, 1, 1, 1]];
+
+#[test]
+fn serving_again_and_again_is_serving_once(rt: HostRuntime) {
+    // the law that this shows
+    rounds_join();
+    let mut once = Served::over(&rt, two_clients(&rt));
+    once.serve(&rt, 9);
+    for calls in CALLS {
+        let mut served = Served::over(&rt, two_clients(&rt));
+        for count in *calls {
+            served.serve(&rt, *count);
+        }
+        have(&rt, &served.gate.gate, DONE, NONE);
+        same(&rt, served.gate.was_busy(), once.gate.was_busy());
+        same(&rt, served.clock.given(), once.clock.given());
+        let notes = served.gate.gate.notes().len();
+        same(&rt, notes, once.gate.gate.notes().len());
+    }
+}
+
+#[test]
+fn a_round_whose_accept_fails_serves_those_that_are_there(rt: HostRuntime) {
+    let mut gate = two_clients(&rt);
+    gate.fuse(2);
+    let mut served = Served::over(&rt, gate);
+    // the second round takes nobody, and hands three bytes more to the first client
+    served.serve(&rt, 2);
+    have(&rt, &served.gate.gate, &DONE[..6], b"");
+    served.serve(&rt, 9);
+    have(&rt, &served.gate.gate, DONE, NONE);
 }
 
 /// Rounds one by one, of a client that sends two requests in one part and then a third: how many bytes are to be read of it at most, how many
@@ -66,20 +131,17 @@ fn last_read(gate: &FakeGate) -> Option<usize> {
 
 #[test]
 fn nothing_is_read_of_a_client_while_a_whole_request_of_it_waits(rt: HostRuntime) {
-    let mut gate = FakeGate::new(rt.alloc());
+    let mut gate = new_gate(&rt);
     let mut both = Vec::from_slice(rt.alloc(), LISTS).expect(&rt, "no memory");
     both.extend_from_slice(LISTS).expect(&rt, "no memory");
     let third = Vec::from_slice(rt.alloc(), LISTS).expect(&rt, "no memory");
-    let parts = vec![in rt.alloc(); third, both].expect(&rt, "no memory");
+    let parts = vec![in rt.alloc(); both, third].expect(&rt, "no memory");
     gate.client(0, parts, false, 4096).expect(&rt, "no memory");
-    let mut manager = over(&rt, new_store(&rt));
-    let mut clock = FakeMoments::new(rt.alloc(), Moment::FIRST, 1);
-    let mut rounds = Rounds::new(rt.alloc()).expect(&rt, "no memory");
+    let mut served = Served::over(&rt, gate);
     for (most, count, is_busy) in ONE_BY_ONE {
-        serve(&mut manager, &mut gate, &mut clock, &mut rounds, 1).expect(&rt, "refused");
-        same(&rt, last_read(&gate), Some(*most));
-        let got = what_was_taken(&rt, &gate, 0);
+        same(&rt, served.serve(&rt, 1), *is_busy);
+        same(&rt, last_read(&served.gate.gate), Some(*most));
+        let got = what_was_taken(&rt, &served.gate.gate, 0);
         same(&rt, got.bytes.len(), *count);
-        same(&rt, rounds.was_busy(), *is_busy);
     }
 }

@@ -5,7 +5,7 @@ use crate::texts::{DONE, RELOAD};
 use std::io;
 use std::io::{ErrorKind, Read, Write};
 use std::process::Abort;
-use um_bin::{Ending, Fault, memory};
+use um_memory::{Ending, Fault, memory};
 
 /// A reader that gives its bytes one at a time.
 #[derive(Drop)]

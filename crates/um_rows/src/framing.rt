@@ -4,7 +4,7 @@ use crate::devices::Slow;
 use crate::script::{frames, front, has_replies, rest, served};
 use crate::texts::{BAD_REQUEST, DONE, RELOAD};
 use std::process::Abort;
-use um_bin::{Ending, memory};
+use um_memory::{Ending, memory};
 
 /// The longest frame, in bytes.
 const FRAME_LIMIT: usize = 524_288;

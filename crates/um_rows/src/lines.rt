@@ -1,7 +1,7 @@
 //! What the words of a command line ask for.
-use crate::asserts::{same_at, text};
+use crate::asserts::{same, same_at, text};
 use std::process::Abort;
-use um_line::{Line, read_line};
+use um_line::{Line, a_runner_s_words_are_run, read_line};
 
 /// The words of the text, the first of which is the program's name.
 fn words_of(rt: &(impl AllocGlobal + Abort), line: &str) -> Vec<String> {
@@ -85,4 +85,15 @@ fn words_ask_for_one_thing(rt: HostRuntime) {
         let got = (kind, told.contains(*part));
         same_at(&rt, got, (*wanted, true), (text, part, &line));
     }
+}
+
+#[test]
+fn a_runner_s_words_are_run_under_its_number(rt: HostRuntime) {
+    // the law that this shows
+    a_runner_s_words_are_run();
+    let words = words_of(&rt, "umd run --dir d --number 7 --env 1 -- A=b x --help");
+    let Line::Run(line) = read_line(rt.alloc(), words.as_slice()).expect(&rt, "no memory") else {
+        rt.abort()
+    };
+    same(&rt, (line.folder, line.number.get()), ("d", 7));
 }

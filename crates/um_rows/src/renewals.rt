@@ -3,7 +3,7 @@ use crate::asserts::same;
 use crate::script::{push_frame, served};
 use crate::texts::{ACTIONS, DONE, RELOAD, SHOW_A, START_A};
 use std::alloc::{AllocError, Global};
-use um_bin::Ending;
+use um_memory::Ending;
 
 /// A service that may be started any number of times.
 const PUT: &str =

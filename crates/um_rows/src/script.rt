@@ -2,7 +2,7 @@
 use crate::asserts::same_at;
 use std::alloc::{AllocError, Global};
 use std::process::Abort;
-use um_bin::{Ending, Fault, memory};
+use um_memory::{Ending, Fault, memory};
 
 /// A script: what it shows, and its requests, each with the reply that is wanted for it.
 pub struct Script {

@@ -1,5 +1,5 @@
 -- What one client has of rounds.
-use Rattle.std.proofs.Common.{◌≡◌, ◌≢◌, ◌<◌, ◌≤◌, ◌++◌, ◌∷◌, ◌∙◌, ℕ, zero, suc, List, [], Bool, true, false, Option, Some, None, Ok, refl, ap, sym, subst, append_assoc, append-nil, slice_get, arith, inl, inr, true≢false, if◌then◌else◌}
+use Rattle.std.proofs.Common.{◌≡◌, ◌≢◌, ◌<◌, ◌≤◌, ◌++◌, ◌∷◌, ◌∙◌, ℕ, zero, suc, List, [], Bool, true, false, Option, Some, None, Ok, IsTrue, refl, ap, sym, subst, append_assoc, append-nil, slice_get, arith, inl, inr, true≢false, if◌then◌else◌}
 use Rattle.std.proofs.lemmas.Bool.{cases_lt, eq-eqb, ne_eqb}
 use Rattle.std.proofs.lemmas.List.Concat.{flat_map-append}
 use Rattle.um_backlog.specs.Backlog.{Waits, given_up, is_given_up, writes, drops, HandsWhere}
@@ -9,7 +9,7 @@ use Rattle.um_manager.specs.declared.pieces.Piece.{Piece}
 use Rattle.um_manager.specs.declared.pieces.Piece.TheVariants.{Nothing, Bytes, Closed}
 use Rattle.um_model.specs.Sessions.{Session}
 use Rattle.um_serve.specs.Clients.{AllServed, no_round, and_round, output_in, put_out, taken_in, taken_of, StaysOpen, GetsItsOwn}
-use Rattle.um_serve.specs.Rounds.{Round, Served, heard_in, reads_one, reads_below, after_piece, ForgetsWhere, SaysTo, SaysBelow, Serves}
+use Rattle.um_serve.specs.Rounds.{Round, Trust, Served, heard_in, reads_one, reads_below, after_piece, Forgets, SaysTo, SaysBelow, Serves}
 
 none_some : {X : Type 0} {x : X} → None ≡ Some x → ⊥
 none_some e = cc
@@ -181,9 +181,8 @@ no_read k (suc n) which held pieces =
     taken_join k (reads_below n which held pieces) one ∙ ap (λ l. l ++ taken_of k one) (no_read k n which held pieces)
     ∙ one_read k n (slice_get which n) (slice_get held n) (slice_get pieces n)
 
-no_heard : (b : Bool) (k : ℕ) (which held : List Bool) (pieces : List Piece) → taken_of k (if b then [] else accepted which ∷ reads_below 64 which held pieces) ≡ []
-no_heard true k which held pieces = refl
-no_heard false k which held pieces = no_read k 64 which held pieces
+no_heard : (k : ℕ) (r : Round) → taken_of k (heard_in r) ≡ []
+no_heard k r = no_read k 64 r.which r.held r.pieces
 
 kept_at : (p : Option Piece) (w : Option Waits) → p ≢ Some Closed → after_piece p w ≡ w
 kept_at None w stays = refl
@@ -191,27 +190,26 @@ kept_at (Some Nothing) w stays = refl
 kept_at (Some (Bytes bytes)) w stays = refl
 kept_at (Some Closed) w stays = absurd (stays refl)
 
-kept : (b : Bool) (k : ℕ) (pieces : List Piece) (old new : List Waits) → slice_get pieces k ≢ Some Closed → ForgetsWhere b pieces old new → slice_get new k ≡ slice_get old k
-kept true k pieces old new stays forgets = ap (λ ws. slice_get ws k) forgets
-kept false k pieces old new stays forgets = forgets k ∙ kept_at (slice_get pieces k) (slice_get old k) stays
+kept : (k : ℕ) (pieces : List Piece) (old new : List Waits) → slice_get pieces k ≢ Some Closed → Forgets pieces old new → slice_get new k ≡ slice_get old k
+kept k pieces old new stays forgets = forgets k ∙ kept_at (slice_get pieces k) (slice_get old k) stays
 
 -- ---- all rounds
 
-record ToldAll {place : Place} {rs : List Round} {x y : Served} (k : ℕ) (rounds : AllServed place rs x y) (w : Waits) : Type 0 where
+record ToldAll {trust : Trust} {place : Place} {rs : List Round} {x y : Served} (k : ℕ) (rounds : AllServed trust place rs x y) (w : Waits) : Type 0 where
   v : Waits
   at : slice_get y.waits k ≡ Some v
   events : List Event
   grown : y.past ≡ x.past ++ events
   story : Story w v (taken_of k events) (put_out k rounds)
 
-told_all : {place : Place} {rs : List Round} {x y : Served} (k : ℕ) (rounds : AllServed place rs x y) (w : Waits) → k < 64 → slice_get x.waits k ≡ Some w → StaysOpen k rs
+told_all : {trust : Trust} {place : Place} {rs : List Round} {x y : Served} (k : ℕ) (rounds : AllServed trust place rs x y) (w : Waits) → IsTrue trust.gate → IsTrue trust.events → k < 64 → slice_get x.waits k ≡ Some w → StaysOpen k rs
     → ToldAll k rounds w
-told_all k (no_round {x}) w lt at stays = record { v = w; at = at; events = []; grown = sym (append-nil x.past); story = story_none w }
-told_all k (and_round {r} {rs} {x} {mid} {y} round rounds) w lt at stays =
+told_all k (no_round {x}) w honest whole lt at stays = record { v = w; at = at; events = []; grown = sym (append-nil x.past); story = story_none w }
+told_all k (and_round {r} {rs} {x} {mid} {y} round rounds) w honest whole lt at stays =
     let hears = round.hears in
-    let one = own_below 64 k round.turn.sessions round.waits round.said mid.waits w lt (kept r.is_owed k r.pieces x.waits round.waits stays.0 hears.forgets ∙ at) round.says in
-    let more = told_all k rounds one.0 lt one.1 stays.1 in
-    let silent = no_heard r.is_owed k r.which r.held r.pieces in
+    let one = own_below 64 k round.turn.sessions round.waits round.said mid.waits w lt (kept k r.pieces x.waits round.waits stays.0 hears.forgets ∙ at) round.says in
+    let more = told_all k rounds one.0 honest whole lt one.1 stays.1 in
+    let silent = no_heard k r in
     let first = heard_in r ++ round.said in
     let took : taken_of k (first ++ more.events) ≡ taken_of k round.said ++ taken_of k more.events =
     taken_join k first more.events ∙ ap (λ l. l ++ taken_of k more.events) (taken_join k (heard_in r) round.said ∙ ap (λ l. l ++ taken_of k round.said) silent) in
@@ -219,18 +217,18 @@ told_all k (and_round {r} {rs} {x} {mid} {y} round rounds) w lt at stays =
       v = more.v;
       at = more.at;
       events = first ++ more.events;
-      grown = more.grown ∙ ap (λ es. es ++ more.events) (hears.past ∙ append_assoc x.past (heard_in r) round.said) ∙ append_assoc x.past first more.events;
+      grown = more.grown ∙ ap (λ es. es ++ more.events) (hears.past honest whole) ∙ append_assoc x.past first more.events;
       story = subst (λ l. Story w more.v l (output_in (slice_get round.turn.sessions k) ++ put_out k rounds)) (sym took)
           (story_either one.0.is_over w one.0 more.v (taken_of k round.said) (taken_of k more.events) (output_in (slice_get round.turn.sessions k)) (put_out k rounds) refl one.2 more.story);
     }
 
-pub all_served : (place : Place) (rs : List Round) (x y : Served) → Serves place rs (Ok tt) x y → AllServed place rs x y
-all_served place [] x y serves = subst (λ z. AllServed place [] x z) (sym serves.1) no_round
-all_served place (r ∷ rs) x y (inl (mid, round, serves)) = and_round round (all_served place rs mid y serves)
-all_served place (r ∷ rs) x y (inr (none, stops)) = absurd (stops.refused refl)
+pub all_served : (trust : Trust) (place : Place) (rs : List Round) (x y : Served) → Serves trust place rs (Ok tt) x y → AllServed trust place rs x y
+all_served trust place [] x y serves = subst (λ z. AllServed trust place [] x z) (sym serves.1) no_round
+all_served trust place (r ∷ rs) x y (inl (mid, round, serves)) = and_round round (all_served trust place rs mid y serves)
+all_served trust place (r ∷ rs) x y (inr (none, stops)) = absurd (stops.refused refl)
 
-pub gets_its_own : {place : Place} {rs : List Round} {x y : Served} (rounds : AllServed place rs x y) (k : ℕ) (old : Waits) → k < 64 → slice_get x.waits k ≡ Some old → StaysOpen k rs
-    → (new : Waits) × (slice_get y.waits k ≡ Some new) × GetsItsOwn k rounds old new
-gets_its_own rounds k old lt at stays =
-    let all = told_all k rounds old lt at stays in
+pub gets_its_own : {trust : Trust} {place : Place} {rs : List Round} {x y : Served} (rounds : AllServed trust place rs x y) → IsTrue trust.gate → IsTrue trust.events → (k : ℕ) (old : Waits)
+    → k < 64 → slice_get x.waits k ≡ Some old → StaysOpen k rs → (new : Waits) × (slice_get y.waits k ≡ Some new) × GetsItsOwn k rounds old new
+gets_its_own rounds honest whole k old lt at stays =
+    let all = told_all k rounds old honest whole lt at stays in
     (all.v, all.at, record { events = all.events; grown = all.grown; rest = all.story.rest; all = all.story.all; waits = all.story.waits })

@@ -1,6 +1,7 @@
 mod BelowLaws
 mod ClientLaws
 mod HeldLaws
+mod JoinLaws
 mod RoundLaws
 mod SaidLaws
 mod ScanLaws

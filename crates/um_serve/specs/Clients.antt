@@ -8,12 +8,13 @@ use Rattle.um_gate.specs.Events.{Event, accepted, read, wrote, dropped}
 use Rattle.um_manager.specs.Places.{Place}
 use Rattle.um_manager.specs.declared.pieces.Piece.TheVariants.{Closed}
 use Rattle.um_model.specs.Sessions.{Session}
-use Rattle.um_serve.specs.Rounds.{Round, Served, IsRound}
+use Rattle.um_serve.specs.Rounds.{Round, Trust, Served, IsRound}
 
 -- rounds that were answered Ok, each from where the one before it ended
-pub data AllServed (place : Place) : List Round → Served → Served → Type 0 where
-  no_round : {x : Served} → AllServed place [] x x
-  and_round : {r : Round} {rs : List Round} {x mid y : Served} → IsRound place (Ok tt) r x mid → AllServed place rs mid y → AllServed place (r ∷ rs) x y
+pub data AllServed (trust : Trust) (place : Place) : List Round → Served → Served → Type 0 where
+  no_round : {x : Served} → AllServed trust place [] x x
+  and_round : {r : Round} {rs : List Round} {x mid y : Served}
+      → IsRound trust place (Ok tt) r x mid → AllServed trust place rs mid y → AllServed trust place (r ∷ rs) x y
 
 -- what is put out for a session
 abbrev pub output_in : Option Session → List ℕ
@@ -21,7 +22,7 @@ output_in (Some t) = t.output
 output_in None = []
 
 -- all that the turns of these rounds put out for a connection
-abbrev pub put_out : {place : Place} {rs : List Round} {x y : Served} → ℕ → AllServed place rs x y → List ℕ
+abbrev pub put_out : {trust : Trust} {place : Place} {rs : List Round} {x y : Served} → ℕ → AllServed trust place rs x y → List ℕ
 put_out k no_round = []
 put_out k (and_round round rounds) = output_in (slice_get round.turn.sessions k) ++ put_out k rounds
 
@@ -41,7 +42,8 @@ StaysOpen k rs = AllByRecursion (λ (r : Round). slice_get r.pieces k ≢ Some C
 
 -- The client of a connection over these rounds: what the gate took for it, in its order, is a beginning of what waited for it and what was put
 -- out for it behind that. The rest waits for it, unless it was given up.
-pub record GetsItsOwn {place : Place} {rs : List Round} {x y : Served} (k : ℕ) (rounds : AllServed place rs x y) (old new : Waits) : Type 0 where
+pub record GetsItsOwn {trust : Trust} {place : Place} {rs : List Round} {x y : Served} (k : ℕ) (rounds : AllServed trust place rs x y)
+    (old new : Waits) : Type 0 where
   pub events : List Event
   pub grown : y.past ≡ x.past ++ events
   pub rest : List ℕ

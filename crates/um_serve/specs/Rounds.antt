@@ -2,13 +2,13 @@
 -- each client.
 -- No manual page has this: it is the project's own (docs/FORMATS.md, "The socket").
 -- `serve` stands on this file.
-use Rattle.std.specs.Prelude.{◌≡◌, ◌≢◌, ◌⊎◌, ◌↔◌, ◌≤◌, ◌<◌, ◌||◌, ◌&&◌, not, ⊤, ℕ, zero, suc, List, [], ◌∷◌, ◌++◌, Bool, true, false, if◌then◌else◌, IsTrue, Option, Some, None, Result, Ok, Err, slice_get}
+use Rattle.std.specs.Prelude.{◌≡◌, ◌≢◌, ◌⊎◌, ◌↔◌, ◌≤◌, ◌<◌, ◌||◌, ◌&&◌, not, ⊤, ℕ, zero, suc, List, [], ◌∷◌, ◌++◌, Bool, true, false, IsTrue, Option, Some, None, Result, Ok, Err, slice_get}
 use Rattle.std.specs.List.{list_any}
 use Rattle.um_backlog.specs.Backlog.{Waits, gone, is_behind_at, HandsAt}
-use Rattle.um_gate.specs.Events.{Event, accepted, read, Logs}
+use Rattle.um_gate.specs.Events.{Event, accepted, read, Logs, Ticks}
 use Rattle.um_manager.specs.Connections.{HoldsFrameAt}
 use Rattle.um_manager.specs.Places.{Place}
-use Rattle.um_manager.specs.Turns.{Now, Turned, Untouched}
+use Rattle.um_manager.specs.Turns.{Now, Turns, Untouched}
 use Rattle.um_manager.specs.declared.pieces.Piece.{Piece}
 use Rattle.um_manager.specs.declared.pieces.Piece.TheVariants.{Nothing, Bytes, Closed}
 use Rattle.um_model.specs.Sessions.{Session, Does, Take}
@@ -58,36 +58,50 @@ IsSilent other = ⊤
 abbrev pub NoneOfHeld : List Bool → List Piece → Type 0
 NoneOfHeld held pieces = (n : ℕ) → n < 64 → slice_get held n ≡ Some true → IsSilent (slice_get pieces n)
 
--- what a round heard of the connections, or that its pieces are owed: they were heard in an earlier one, whose turn found no memory
+-- what a round heard of the connections
 pub record Round : Type 0 where
-  pub is_owed : Bool
   pub which : List Bool  -- the connections that are open
   pub held : List Bool  -- the clients that are held back
   pub pieces : List Piece
   pub moment : ℕ
 
 abbrev pub heard_in : Round → List Event
-heard_in r = if r.is_owed then [] else accepted r.which ∷ reads_below 64 r.which r.held r.pieces
+heard_in r = accepted r.which ∷ reads_below 64 r.which r.held r.pieces
 
--- what is served, at a moment: what the gate did, the moments that the clock gave, the pieces that are owed, what waits for each client, whether
--- the last round was busy, the moment of the last turn, and the manager
+-- what is served, at a moment: what the gate did, the moments that the clock gave, what waits for each client, whether the last round was busy, the
+-- moment of the last turn, and the manager
 pub record Served : Type 0 where
   pub past : List Event
   pub given : List ℕ
-  pub owed : Option (List Piece)
   pub waits : List Waits
   pub busy : Bool
   pub turned : ℕ
   pub now : Now
 
-abbrev pub served : List Event → List ℕ → Bool → List Piece → List Waits → Bool → ℕ → Now → Served
-served past given is_owed pieces waits busy turned now =
-    record { past = past; given = given; owed = if is_owed then Some pieces else None; waits = waits; busy = busy; turned = turned; now = now }
+abbrev pub served : List Event → List ℕ → List Waits → Bool → ℕ → Now → Served
+served past given waits busy turned now = record { past = past; given = given; waits = waits; busy = busy; turned = turned; now = now }
 
--- a round's pieces are the owed ones; where none are, they are what came of its accept and reads, of those that are held back nothing
-abbrev pub IsOffered : Option (List Piece) → List Session → List Waits → Round → Type 0
-IsOffered None ts waits r = (r.is_owed ≡ false) × OnlyOpen r.which r.pieces × AreHeldBack ts waits r.held × NoneOfHeld r.held r.pieces
-IsOffered (Some pieces) ts waits r = (r.is_owed ≡ true) × (r.pieces ≡ pieces)
+-- Which of children, gate and clock do what they tell, and have a list from which nothing is missing. What is said of each stands under its own.
+pub record Trust : Type 0 where
+  pub children : Bool
+  pub calls : Bool
+  pub gate : Bool
+  pub events : Bool
+  pub clock : Bool
+  pub moments : Bool
+
+abbrev pub trust : (children calls gate events clock moments : Bool) → Trust
+trust children calls gate events clock moments =
+    record { children = children; calls = calls; gate = gate; events = events; clock = clock; moments = moments }
+
+-- who trusts the one trusts the other
+pub record IsWithin (less more : Trust) : Type 0 where
+  pub children : IsTrue less.children → IsTrue more.children
+  pub calls : IsTrue less.calls → IsTrue more.calls
+  pub gate : IsTrue less.gate → IsTrue more.gate
+  pub events : IsTrue less.events → IsTrue more.events
+  pub clock : IsTrue less.clock → IsTrue more.clock
+  pub moments : IsTrue less.moments → IsTrue more.moments
 
 -- what waits for a client is forgotten where it is told closed
 abbrev pub after_piece : Option Piece → Option Waits → Option Waits
@@ -99,11 +113,6 @@ after_piece None waits = waits
 abbrev pub Forgets : List Piece → List Waits → List Waits → Type 0
 Forgets pieces old new = (n : ℕ) → slice_get new n ≡ after_piece (slice_get pieces n) (slice_get old n)
 
--- that is done once: not again where the pieces were heard in an earlier round
-abbrev pub ForgetsWhere : (is_owed : Bool) → List Piece → List Waits → List Waits → Type 0
-ForgetsWhere true pieces old new = new ≡ old
-ForgetsWhere false pieces old new = Forgets pieces old new
-
 -- something came of a connection
 abbrev pub is_something : Piece → Bool
 is_something Nothing = false
@@ -113,24 +122,24 @@ is_something Closed = true
 abbrev pub has_come : List Piece → Bool
 has_come pieces = list_any is_something pieces
 
--- something was heard, in this round or in the one that left it owed: more may stand behind it
-abbrev pub is_heard : Round → Bool
-is_heard r = if r.is_owed then true else has_come r.pieces
+-- What a round hears, what it says then to the clients, and its moment; these wait for them before anything is said. Nothing comes of a connection
+-- that isn't open, and no bytes of a client that is held back.
+pub record Hears (trust : Trust) (r : Round) (said : List Event) (waits : List Waits) (x y : Served) : Type 0 where
+  pub only_open : OnlyOpen r.which r.pieces
+  pub are_held : AreHeldBack x.now.sessions x.waits r.held
+  pub none_of_held : NoneOfHeld r.held r.pieces
+  pub past : Logs trust.gate trust.events x.past y.past (heard_in r ++ said)
+  pub given : Ticks trust.clock trust.moments x.given y.given (r.moment ∷ [])
+  pub forgets : Forgets r.pieces x.waits waits
 
--- What a round hears, what it says then to the clients, and its moment; these wait for them before anything is said.
-pub record Hears (r : Round) (said : List Event) (waits : List Waits) (x y : Served) : Type 0 where
-  pub offered : IsOffered x.owed x.now.sessions x.waits r
-  pub past : y.past ≡ x.past ++ heard_in r ++ said
-  pub given : y.given ≡ x.given ++ r.moment ∷ []
-  pub forgets : ForgetsWhere r.is_owed r.pieces x.waits waits
-
--- what came is offered: what was owed, or what an accept and the reads heard
-abbrev pub Gathers : (honest whole is_owed : Bool) → List Bool → (before pieces : List Piece) → List Event → List Event → List Waits → List Waits → Bool
-    → Type 0
-Gathers honest whole true held before pieces old new waits left busy = (pieces ≡ before) × (new ≡ old) × (left ≡ waits) × (busy ≡ true)
-Gathers honest whole false held before pieces old new waits left busy =
-    (which : List Bool) × OnlyOpen which pieces × NoneOfHeld held pieces × Logs honest whole old new (accepted which ∷ reads_below 64 which held pieces)
-    × Forgets pieces waits left × (busy ≡ has_come pieces)
+-- what came is offered: what an accept and the reads heard
+pub record Gathers (honest whole : Bool) (held : List Bool) (pieces : List Piece) (old new : List Event) (waits left : List Waits) (busy : Bool) : Type 0 where
+  pub which : List Bool
+  pub only_open : OnlyOpen which pieces
+  pub none_of_held : NoneOfHeld held pieces
+  pub past : Logs honest whole old new (accepted which ∷ reads_below 64 which held pieces)
+  pub forgets : Forgets pieces waits left
+  pub busy_is : busy ≡ has_come pieces
 
 -- what was put out for a connection is taken
 abbrev pub Empties : Option Session → Option Session → Type 0
@@ -174,52 +183,46 @@ any_stirred (suc n) ts old new = any_stirred n ts old new || is_stirred (slice_g
 -- A round: the accept and the reads, a turn over what came, and then what it put out for each client is taken of its session and handed to the
 -- gate, as far as that takes it. It was busy where something was heard or put out, where a client is read again, or where the turn changed the
 -- state: then another round may have more to do.
-pub record IsRound (place : Place) (store : Result Unit Refusal) (r : Round) (x y : Served) : Type 0 where
+pub record IsRound (trust : Trust) (place : Place) (store : Result Unit Refusal) (r : Round) (x y : Served) : Type 0 where
   pub said : List Event
   pub waits : List Waits
-  pub hears : Hears r said waits x y
+  pub hears : Hears trust r said waits x y
   pub turn : Now
-  pub turned : Turned place store r.moment r.pieces x.now turn
+  pub turns : Turns place store trust.children trust.calls r.moment r.pieces x.now turn
   pub says : SaysBelow 64 turn.sessions waits said y.waits
   pub empties : EmptiesAll turn.sessions y.now.sessions
   pub rest : y.now ≡ record turn { sessions = y.now.sessions }
-  pub settled : y.owed ≡ None
-  pub busy : y.busy ≡ (is_heard r || (any_stirred 64 turn.sessions waits y.waits || has_changed x.now.state y.now.state))
+  pub busy : y.busy ≡ (has_come r.pieces || (any_stirred 64 turn.sessions waits y.waits || has_changed x.now.state y.now.state))
   pub moment_is : y.turned ≡ r.moment
 
--- a round whose turn found no memory: nothing is said, and what it heard is owed
-pub record IsOwing (r : Round) (x y : Served) : Type 0 where
-  pub hears : Hears r [] y.waits x y
+-- a round whose turn found no memory for itself: what it heard wasn't taken, and nothing is said
+pub record IsUntaken (trust : Trust) (r : Round) (x y : Served) : Type 0 where
+  pub hears : Hears trust r [] y.waits x y
   pub untouched : Untouched x.now y.now
-  pub owed : y.owed ≡ Some r.pieces
-  pub busy : y.busy ≡ is_heard r
+  pub busy : y.busy ≡ has_come r.pieces
   pub moment_is : y.turned ≡ x.turned
 
 -- the last round of those that a refusal ends
-pub record Stops (place : Place) (result : Result Unit Refusal) (r : Round) (x y : Served) : Type 0 where
+pub record Stops (trust : Trust) (place : Place) (result : Result Unit Refusal) (r : Round) (x y : Served) : Type 0 where
   pub refused : result ≢ Ok tt
-  pub owing : result ≡ Err NoMemory → IsOwing r x y
-  pub is : result ≢ Err NoMemory → IsRound place result r x y
+  pub untaken : result ≡ Err NoMemory → IsUntaken trust r x y
+  pub is : result ≢ Err NoMemory → IsRound trust place result r x y
 
 -- These rounds, each from where the one before it ended; a refusal is the last. One that found no room for what a read may give is none.
-abbrev pub Serves : Place → List Round → Result Unit Refusal → Served → Served → Type 0
-Serves place [] result x y = ((result ≡ Ok tt) ⊎ (result ≡ Err NoMemory)) × (y ≡ x)
-Serves place (r ∷ rs) result x y =
-    ((mid : Served) × IsRound place (Ok tt) r x mid × Serves place rs result mid y) ⊎ ((rs ≡ []) × Stops place result r x y)
+abbrev pub Serves : Trust → Place → List Round → Result Unit Refusal → Served → Served → Type 0
+Serves trust place [] result x y = ((result ≡ Ok tt) ⊎ (result ≡ Err NoMemory)) × (y ≡ x)
+Serves trust place (r ∷ rs) result x y =
+    ((mid : Served) × IsRound trust place (Ok tt) r x mid × Serves trust place rs result mid y) ⊎ ((rs ≡ []) × Stops trust place result r x y)
 
 -- one round, or none
-abbrev pub ServesOne : Place → Result Unit Refusal → Served → Served → Type 0
-ServesOne place result x y = ((result ≡ Err NoMemory) × (y ≡ x)) ⊎ ((r : Round) × (((result ≡ Ok tt) × IsRound place result r x y) ⊎ Stops place result r x y))
+abbrev pub ServesOne : Trust → Place → Result Unit Refusal → Served → Served → Type 0
+ServesOne trust place result x y =
+    ((result ≡ Err NoMemory) × (y ≡ x)) ⊎ ((r : Round) × (((result ≡ Ok tt) × IsRound trust place result r x y) ⊎ Stops trust place result r x y))
 
 -- so many rounds, and no more where a refusal ended them
 abbrev pub IsCount : Result Unit Refusal → ℕ → ℕ → Type 0
 IsCount (Ok done) count limit = count ≡ limit
 IsCount (Err e) count limit = count ≤ limit
-
--- what the clauses on rounds stand on: children, gate and clock that do what they tell, and whose lists are whole
-abbrev pub Trusts : (children calls gate events clock moments : Bool) → Type 0
-Trusts children calls gate events clock moments =
-    IsTrue children × IsTrue calls × IsTrue gate × IsTrue events × IsTrue clock × IsTrue moments
 
 abbrev pub is_want : Result Unit Refusal → Bool
 is_want (Err NoMemory) = true

@@ -1,5 +1,5 @@
 //! What rounds and sleeps say together, as functions that do nothing.
-ghost use Rattle.std.specs.Prelude.{◌≡◌, ◌<◌, ◌≤◌, ◌-◌, ℕ, List, Bool, false, Option, Some, Result, Ok, slice_get};
+ghost use Rattle.std.specs.Prelude.{◌≡◌, ◌<◌, ◌≤◌, ◌+◌, ◌-◌, ◌++◌, ℕ, List, length, Bool, false, IsTrue, Option, Some, Result, Ok, slice_get};
 ghost use Rattle.um_backlog.specs.Backlog.{Waits};
 ghost use Rattle.um_manager.specs.Places.{Place};
 ghost use Rattle.um_manager.specs.Turns.{Now, Turned};
@@ -7,16 +7,24 @@ ghost use Rattle.um_manager.specs.declared.pieces.Piece.{Piece};
 ghost use Rattle.um_model.specs.Machine.{State};
 ghost use Rattle.um_model.specs.Service.{state_of_unit};
 ghost use Rattle.um_serve.specs.Clients.{AllServed, StaysOpen, GetsItsOwn};
-ghost use Rattle.um_serve.specs.Rounds.{Round, Served, Serves};
+ghost use Rattle.um_serve.specs.Rounds.{Round, Trust, IsWithin, Served, Serves, IsCount};
 ghost use Rattle.um_serve.specs.Sleep.{has_changed, slept, IsSleptFor};
 ghost use Rattle.um_wire.specs.declared.refusal.Refusal.{Refusal};
+
+/// Serving again and again is serving once: behind rounds that end Ok others go on where these ended, and all of them together are rounds from
+/// where the first ones began, as many as both were asked for.
+pub fn rounds_join()
+    ensures { (all rest : Trust) (place : Place) (first more : List Round) (result : Result Unit Refusal) (limit later : ℕ) (x mid y : Served) → IsWithin rest all
+        → Serves all place first (Ok tt) x mid → IsCount (Ok tt) (length first) limit → Serves rest place more result mid y → IsCount result (length more) later
+        → Serves rest place (first ++ more) result x y × IsCount result (length (first ++ more)) (limit + later) }
+{}
 
 /// Each client gets its own bytes. Rounds that end Ok are one turn each; and for each connection that isn't told closed meanwhile, whatever
 /// is put out for the others and however little is taken at a time: what the gate took for it, in its order, is a beginning of what
 /// waited for it and of what the turns put out for it behind that. The rest waits for it, unless it was given up.
 pub fn each_client_gets_its_own()
-    ensures { (place : Place) (rs : List Round) (x y : Served) → Serves place rs (Ok tt) x y → (rounds : AllServed place rs x y)
-        × ((k : ℕ) (old : Waits) → k < 64 → slice_get x.waits k ≡ Some old → StaysOpen k rs
+    ensures { (trust : Trust) (place : Place) (rs : List Round) (x y : Served) → Serves trust place rs (Ok tt) x y → (rounds : AllServed trust place rs x y)
+        × (IsTrue trust.gate → IsTrue trust.events → (k : ℕ) (old : Waits) → k < 64 → slice_get x.waits k ≡ Some old → StaysOpen k rs
         → (new : Waits) × (slice_get y.waits k ≡ Some new) × GetsItsOwn k rounds old new) }
 {}
 

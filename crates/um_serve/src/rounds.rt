@@ -6,7 +6,7 @@ ghost use Rattle.um_gate.specs.Events.{Event, Logs};
 ghost use Rattle.um_keeper.specs.Keepers.{disk_in, state_in, has_failed, IsSamePlace};
 ghost use Rattle.um_manager.specs.Places.{place_in};
 ghost use Rattle.um_manager.specs.Turns.{now};
-ghost use Rattle.um_serve.specs.Rounds.{Round, Trusts, Serves, ServesOne, IsCount, Gathers, served, SaysBelow, has_bytes, is_freed, any_stirred, EmptiesAll, is_want};
+ghost use Rattle.um_serve.specs.Rounds.{Round, Serves, ServesOne, IsCount, Gathers, served, trust, SaysBelow, has_bytes, is_freed, any_stirred, EmptiesAll, is_want};
 ghost use Rattle.um_serve.specs.Sleep.{IsSleptFor};
 
 use crate::blanks::{Blank, fill_up};
@@ -21,14 +21,14 @@ use um_model::{Deadline, Moment};
 use um_sector::Disk;
 use um_wire::Refusal;
 
-/// What goes from one round to the next.
+/// A gate, and beside it what goes from one round to the next: what waits for each client, the room for what is read, whether the last round was
+/// busy, and the moment of its turn.
 #[derive(Drop)]
-pub struct Rounds {
+pub struct Buffered<G> {
+    pub gate: G,
     alloc: Global,
     /// What came of the connections.
     pieces: Pieces,
-    /// A turn found no memory, and took the pieces not: they are offered again, before anything is read.
-    is_owed: bool,
     backlog: Backlog,
     blanks: Vec<Blank>,
     /// Another round may have more to do at once.
@@ -106,25 +106,27 @@ fn speak<D: Disk, C: Children, G: Gate>(
     is_stirred
 }
 
-impl Rounds {
-    /// No round was yet.
-    pub fn new(alloc: Global) -> Result<Rounds, AllocError>
-        ensures owed { IfOk result (λ rounds. rounds.is_owed ≡ false) }
-        ensures waits { IfOk result (λ rounds. rounds.backlog ≡ replicate 64 nothing) }
-        ensures busy { IfOk result (λ rounds. rounds.was_busy ≡ false) }
-        ensures turned { IfOk result (λ rounds. rounds.turned ≡ 0) }
+impl<G: Gate + Drop> Buffered<G> {
+    /// The gate, before its first round: nothing waits for anybody. Where memory is wanting the gate is let go.
+    pub fn new(alloc: Global, gate: G) -> Result<Buffered<G>, AllocError>
+        ensures gate { IfOk result (λ buffered. buffered.gate ≡ gate) }
+        ensures waits { IfOk result (λ buffered. buffered.backlog ≡ replicate 64 nothing) }
+        ensures busy { IfOk result (λ buffered. buffered.was_busy ≡ false) }
+        ensures turned { IfOk result (λ buffered. buffered.turned ≡ 0) }
     {
-        Ok(Rounds {
-            alloc,
+        Ok(Buffered {
             pieces: Pieces::none(alloc)?,
-            is_owed: false,
             backlog: Backlog::new(alloc)?,
+            gate,
+            alloc,
             blanks: Vec::new(alloc),
             was_busy: false,
             turned: Moment::FIRST,
         })
     }
+}
 
+impl<G: Gate> Buffered<G> {
     /// Whether another round may have more to do at once: the last one read something, put something out or changed the state, or a client is
     /// read again that had fallen behind.
     pub fn was_busy(&self) -> bool
@@ -144,51 +146,48 @@ impl Rounds {
         next_deadline(manager.state().units(), self.turned)
     }
 
-    /// An accept and a read of each open connection, unless pieces are owed; of those that are held back nothing is read. Where there is no
-    /// room for what a read may give nothing is done.
-    fn gather<G: Gate>(&mut self, gate: &mut G, held: Held) -> Result<(), AllocError>
-        ensures gathers { OnOk result (Gathers (G.honest gate.old) (G.whole gate.new) self.old.is_owed held.is_held self.old.pieces self.new.pieces
-            (G.past gate.old) (G.past gate.new) self.old.backlog self.new.backlog self.new.was_busy) }
+    /// An accept and a read of each open connection; of those that are held back nothing is read. Where there is no room for what a read may give
+    /// nothing is done.
+    fn gather(&mut self, held: Held) -> Result<(), AllocError>
+        ensures gathers { OnOk result (Gathers (G.honest self.old.gate) (G.whole self.new.gate) held.is_held self.new.pieces
+            (G.past self.old.gate) (G.past self.new.gate) self.old.backlog self.new.backlog self.new.was_busy) }
         ensures turned { self.new.turned ≡ self.old.turned }
-        ensures owed { self.new.is_owed ≡ self.old.is_owed }
-        ensures pieces { OnErr result (self.new.pieces ≡ self.old.pieces) }
         ensures backlog { OnErr result (self.new.backlog ≡ self.old.backlog) }
         ensures busy { OnErr result (self.new.was_busy ≡ self.old.was_busy) }
-        ensures past { OnErr result (G.past gate.new ≡ G.past gate.old) }
-        ensures events { IsTrue (G.whole gate.new) → IsTrue (G.whole gate.old) }
-        ensures gate { G.honest gate.new ≡ G.honest gate.old }
+        ensures past { OnErr result (G.past self.new.gate ≡ G.past self.old.gate) }
+        ensures events { IsTrue (G.whole self.new.gate) → IsTrue (G.whole self.old.gate) }
+        ensures gate { G.honest self.new.gate ≡ G.honest self.old.gate }
     {
-        if self.is_owed {
-            // more may stand behind the pieces, of which the gate tells no more
-            self.was_busy = true;
-            return Ok(());
-        }
         fill_up(self.alloc, &mut self.blanks)?;
-        let open = gate.accept();
-        listen(gate, open, held, &mut self.blanks, &mut self.pieces);
+        let open = self.gate.accept();
+        listen(
+            &mut self.gate,
+            open,
+            held,
+            &mut self.blanks,
+            &mut self.pieces,
+        );
         forget_closed(&self.pieces, &mut self.backlog);
         self.was_busy = has_come(&self.pieces);
         Ok(())
     }
 
-    /// An accept, a read of each open connection, a turn, and the writes. After a turn that found no memory for itself nothing is
-    /// read until it was taken.
-    fn round<D: Disk, C: Children, G: Gate, M: Moments>(
+    /// An accept, a read of each open connection, a turn, and the writes. What was read before a turn that found no memory for itself is lost.
+    fn round<D: Disk, C: Children, M: Moments>(
         &mut self,
         manager: &mut Manager<D, C>,
-        gate: &mut G,
         clock: &mut M,
     ) -> Result<(), Refusal>
-        ensures serves { Trusts (C.honest manager.old.children) (C.whole manager.new.children) (G.honest gate.old) (G.whole gate.new) (M.honest clock.old) (M.whole clock.new)
-            → ServesOne (place_in (D.honest (disk_in manager.old.keeper)) manager.old.keeper) result
-            (served (G.past gate.old) (M.given clock.old) self.old.is_owed self.old.pieces self.old.backlog self.old.was_busy self.old.turned
+        ensures serves { ServesOne (trust (C.honest manager.old.children) (C.whole manager.new.children) (G.honest self.old.gate) (G.whole self.new.gate) (M.honest clock.old) (M.whole clock.new))
+            (place_in (D.honest (disk_in manager.old.keeper)) manager.old.keeper) result
+            (served (G.past self.old.gate) (M.given clock.old) self.old.backlog self.old.was_busy self.old.turned
             (now (state_in manager.old.keeper) (C.past manager.old.children) manager.old.marks manager.old.sessions.items (D.past (disk_in manager.old.keeper))))
-            (served (G.past gate.new) (M.given clock.new) self.new.is_owed self.new.pieces self.new.backlog self.new.was_busy self.new.turned
+            (served (G.past self.new.gate) (M.given clock.new) self.new.backlog self.new.was_busy self.new.turned
             (now (state_in manager.new.keeper) (C.past manager.new.children) manager.new.marks manager.new.sessions.items (D.past (disk_in manager.new.keeper)))) }
         ensures whole { IsTrue (C.whole manager.new.children) → IsTrue (C.whole manager.old.children) }
         ensures honest { C.honest manager.new.children ≡ C.honest manager.old.children }
-        ensures events { IsTrue (G.whole gate.new) → IsTrue (G.whole gate.old) }
-        ensures gate { G.honest gate.new ≡ G.honest gate.old }
+        ensures events { IsTrue (G.whole self.new.gate) → IsTrue (G.whole self.old.gate) }
+        ensures gate { G.honest self.new.gate ≡ G.honest self.old.gate }
         ensures moments { IsTrue (M.whole clock.new) → IsTrue (M.whole clock.old) }
         ensures clock { M.honest clock.new ≡ M.honest clock.old }
         ensures place { IsSamePlace manager.old.keeper manager.new.keeper }
@@ -196,45 +195,45 @@ impl Rounds {
         ensures failed { (has_failed manager.new.keeper ≡ true) ↔ ((has_failed manager.old.keeper ≡ true) ⊎ (result ≡ Err Refusal.Device)) }
     {
         let held = held_back(manager, &self.backlog);
-        match self.gather(gate, held) {
+        match self.gather(held) {
             Ok(()) => {}
             Err(_) => return Err(Refusal::NoMemory),
         }
         let before = clock_of(manager);
         let moment = clock.moment();
         let turned = manager.turn(moment, &self.pieces);
-        self.is_owed = wants_memory(&turned);
-        if !self.is_owed {
-            self.turned = moment;
-            let is_stirred = speak(manager, gate, &mut self.backlog);
-            let has_changed = has_moved(manager, before);
-            self.was_busy |= is_stirred | has_changed;
+        if wants_memory(&turned) {
+            return turned;
         }
+        self.turned = moment;
+        let is_stirred = speak(manager, &mut self.gate, &mut self.backlog);
+        let has_changed = has_moved(manager, before);
+        self.was_busy |= is_stirred | has_changed;
         turned
     }
 }
 
-/// So many rounds; a refusal ends them.
+/// So many rounds over the gate; a refusal ends them.
 ///
-/// E15 where a round found no memory, before anything was read, or a turn none for itself: the next call begins with that turn. E16 and
-/// E17 of the store, once the replies are handed out.
+/// E15 where a round found no memory, before anything was accepted, or its turn none for itself, so that what was read is lost. E16 and E17 of
+/// the store, once the replies are handed out.
 pub fn serve<D: Disk, C: Children, G: Gate, M: Moments>(
     manager: &mut Manager<D, C>,
-    gate: &mut G,
+    gate: &mut Buffered<G>,
     clock: &mut M,
-    rounds: &mut Rounds,
     limit: usize,
 ) -> Result<(), Refusal>
-    ensures serves { Trusts (C.honest manager.old.children) (C.whole manager.new.children) (G.honest gate.old) (G.whole gate.new) (M.honest clock.old) (M.whole clock.new)
-        → (all : List Round) × IsCount result (length all) limit × Serves (place_in (D.honest (disk_in manager.old.keeper)) manager.old.keeper) all result
-        (served (G.past gate.old) (M.given clock.old) rounds.old.is_owed rounds.old.pieces rounds.old.backlog rounds.old.was_busy rounds.old.turned
+    ensures serves { (all : List Round) × IsCount result (length all) limit
+        × Serves (trust (C.honest manager.old.children) (C.whole manager.new.children) (G.honest gate.old.gate) (G.whole gate.new.gate) (M.honest clock.old) (M.whole clock.new))
+        (place_in (D.honest (disk_in manager.old.keeper)) manager.old.keeper) all result
+        (served (G.past gate.old.gate) (M.given clock.old) gate.old.backlog gate.old.was_busy gate.old.turned
         (now (state_in manager.old.keeper) (C.past manager.old.children) manager.old.marks manager.old.sessions.items (D.past (disk_in manager.old.keeper))))
-        (served (G.past gate.new) (M.given clock.new) rounds.new.is_owed rounds.new.pieces rounds.new.backlog rounds.new.was_busy rounds.new.turned
+        (served (G.past gate.new.gate) (M.given clock.new) gate.new.backlog gate.new.was_busy gate.new.turned
         (now (state_in manager.new.keeper) (C.past manager.new.children) manager.new.marks manager.new.sessions.items (D.past (disk_in manager.new.keeper)))) }
     ensures whole { IsTrue (C.whole manager.new.children) → IsTrue (C.whole manager.old.children) }
     ensures honest { C.honest manager.new.children ≡ C.honest manager.old.children }
-    ensures events { IsTrue (G.whole gate.new) → IsTrue (G.whole gate.old) }
-    ensures gate { G.honest gate.new ≡ G.honest gate.old }
+    ensures events { IsTrue (G.whole gate.new.gate) → IsTrue (G.whole gate.old.gate) }
+    ensures gate { G.honest gate.new.gate ≡ G.honest gate.old.gate }
     ensures moments { IsTrue (M.whole clock.new) → IsTrue (M.whole clock.old) }
     ensures clock { M.honest clock.new ≡ M.honest clock.old }
     ensures place { IsSamePlace manager.old.keeper manager.new.keeper }
@@ -242,7 +241,7 @@ pub fn serve<D: Disk, C: Children, G: Gate, M: Moments>(
     ensures failed { (has_failed manager.new.keeper ≡ true) ↔ ((has_failed manager.old.keeper ≡ true) ⊎ (result ≡ Err Refusal.Device)) }
 {
     for _ in 0..limit {
-        match rounds.round(manager, gate, clock) {
+        match gate.round(manager, clock) {
             Ok(()) => {}
             Err(refusal) => return Err(refusal),
         }

@@ -2,10 +2,10 @@
 
 use crate::lines::put_line;
 use std::alloc::Global;
-use um_bin::Fault;
 use um_create::CreateFault;
 use um_ctl::{CtlFault, meaning};
 use um_line::CtlLine;
+use um_memory::Fault;
 use um_wire::Refusal;
 
 /// The exit status where a request was refused, at a length past the limit, and where a growth of memory was refused.

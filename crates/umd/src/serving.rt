@@ -9,6 +9,7 @@ use std::fs::{File, Files};
 use std::net::Net;
 use std::process::Processes;
 use std::time::Clock;
+use um_bin::serve;
 use um_children::Children;
 use um_gate::{Moments, SocketGate, SystemMoments, system_moment};
 use um_keeper::OpenedStore;
@@ -16,7 +17,7 @@ use um_line::ServeLine;
 use um_manager::Manager;
 use um_model::{Deadline, Moment};
 use um_sector::Disk;
-use um_serve::{Pace, Rounds, serve};
+use um_serve::{Buffered, Pace};
 use um_state::BootId;
 use um_wire::Refusal;
 
@@ -72,9 +73,8 @@ fn boot_id(alloc: Global, boot: &str) -> Result<BootId, Refusal> {
 /// What goes from one round to the next in the program.
 #[derive(Drop)]
 struct Loop<'a, R> {
-    gate: SocketGate,
+    gate: Buffered<SocketGate>,
     clock: SystemMoments<'a, R>,
-    rounds: Rounds,
     pace: Pace,
     /// The deadline that is slept for, as it was looked up last.
     deadline: Option<Deadline>,
@@ -90,13 +90,7 @@ impl<'a, R: Clock> Loop<'a, R> {
         tally: &Tally,
     ) -> Result<(), Refusal> {
         tally.look();
-        serve(
-            manager,
-            &mut self.gate,
-            &mut self.clock,
-            &mut self.rounds,
-            1,
-        )?;
+        serve(manager, &mut self.gate, &mut self.clock, 1)?;
         self.rest(manager, tally)
     }
 
@@ -122,12 +116,12 @@ impl<'a, R: Clock> Loop<'a, R> {
         if tally.has_turned() {
             self.pace.begin();
         }
-        if self.rounds.was_busy() {
+        if self.gate.was_busy() {
             return Ok(());
         }
         let clock = manager.state().clock();
         if self.is_stale(clock) || self.is_due() {
-            self.deadline = self.rounds.deadline(manager)?;
+            self.deadline = self.gate.deadline(manager)?;
             self.looked = Some(clock);
         }
         if tally.is_live() && manager.children().has_news() {
@@ -142,7 +136,11 @@ impl<'a, R: Clock> Loop<'a, R> {
     fn sleep<D: Disk, C: Children + News>(&mut self, manager: &Manager<D, C>, is_live: bool) {
         for _ in 0..PARTS {
             let wait = self.pace.next(is_live, self.clock.moment(), self.deadline);
-            if self.gate.wait(wait) || !is_live || manager.children().has_news() || self.is_due() {
+            if self.gate.gate.wait(wait)
+                || !is_live
+                || manager.children().has_news()
+                || self.is_due()
+            {
                 return;
             }
         }
@@ -158,9 +156,6 @@ fn open_loop<'a, R: Files + Net + Clock, E: Eprint>(
     line: &ServeLine<'_>,
     least: Moment,
 ) -> Result<Loop<'a, R>, End> {
-    let Ok(rounds) = Rounds::new(alloc) else {
-        return Err(ends(rt, Refusal::NoMemory));
-    };
     let gate = match SocketGate::open(system, alloc, line.socket) {
         Ok(gate) => gate,
         Err(fault) => {
@@ -169,10 +164,12 @@ fn open_loop<'a, R: Files + Net + Clock, E: Eprint>(
             });
         }
     };
+    let Ok(gate) = Buffered::new(alloc, gate) else {
+        return Err(ends(rt, Refusal::NoMemory));
+    };
     Ok(Loop {
         gate,
         clock: SystemMoments::starting(system, least),
-        rounds,
         pace: Pace::new(),
         deadline: None,
         looked: None,

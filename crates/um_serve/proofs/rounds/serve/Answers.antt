@@ -1,11 +1,26 @@
-use Rattle.std.proofs.Common.{◌≡◌, ◌∙◌, ◌+◌, ◌≤◌, ◌∷◌, [], length, Ok, Err, refl, sym, subst, inl, rules, arith}
+use Rattle.std.proofs.Common.{◌≡◌, ◌∙◌, ◌+◌, ◌≤◌, ◌∷◌, ◌++◌, [], length, length-append, Ok, Err, refl, sym, subst, inl, rules, arith}
 use Rattle.std.specs.Bool.{IsTrue}
 use Rattle.um_keeper.specs.Keepers.{disk_in, state_in}
 use Rattle.um_manager.specs.Places.{Place, place_in}
 use Rattle.um_manager.specs.Turns.{now}
-use Rattle.um_serve.specs.Rounds.{Round, Serves, IsRound, served}
+use Rattle.um_serve.specs.Rounds.{Round, trust, Serves, IsRound, served}
+use Rattle.um_serve.proofs.JoinLaws.{round_less, serves_less, joined}
 use Rattle.um_serve.proofs.RoundLaws.{round_of, last_of, same_place, same_failed}
 use Rattle.um_serve.proofs.rounds.serve.Goals as goal
+
+pub loop-init : goal.loop-init
+loop-init g c = record {
+  done = ([], search rules, (inl refl, refl));
+  whole = search rules;
+  honest = search rules;
+  events = search rules;
+  gate = search rules;
+  moments = search rules;
+  clock = search rules;
+  place = search rules;
+  disk = search rules;
+  failed = search rules;
+}
 
 pub loop-preserved : goal.loop-preserved
 loop-preserved g c =
@@ -17,17 +32,32 @@ loop-preserved g c =
     let start = place_in (D.honest (disk_in first)) first in
     let there = place_in (D.honest (disk_in old)) old in
     let same : there ≡ start = same_place inv.place.size inv.place.layout inv.disk inv.failed in
-    let before = served (g.G.Gate.past c.loop.gate) (g.M.Moments.given c.loop.clock) c.loop.rounds.is_owed c.loop.rounds.pieces c.loop.rounds.backlog c.loop.rounds.was_busy c.loop.rounds.turned
+    let begun = served (g.G.Gate.past c.args.gate.now.gate) (g.M.Moments.given c.args.clock.now) c.args.gate.now.backlog c.args.gate.now.was_busy c.args.gate.now.turned
+    (now (state_in first) (g.C.Children.past c.args.manager.now.children) c.args.manager.now.marks c.args.manager.now.sessions.items (D.past (disk_in first))) in
+    let before = served (g.G.Gate.past c.loop.gate.gate) (g.M.Moments.given c.loop.clock) c.loop.gate.backlog c.loop.gate.was_busy c.loop.gate.turned
     (now (state_in old) (g.C.Children.past c.loop.manager.children) c.loop.manager.marks c.loop.manager.sessions.items (D.past (disk_in old))) in
-    let after = served (g.G.Gate.past c.round.new.gate) (g.M.Moments.given c.round.new.clock) c.round.new.self.is_owed c.round.new.self.pieces c.round.new.self.backlog c.round.new.self.was_busy c.round.new.self.turned
+    let after = served (g.G.Gate.past c.round.new.self.gate) (g.M.Moments.given c.round.new.clock) c.round.new.self.backlog c.round.new.self.was_busy c.round.new.self.turned
     (now (state_in m.keeper) (g.C.Children.past m.children) m.marks m.sessions.items (D.past (disk_in m.keeper))) in
+    let known = trust (g.C.Children.honest c.args.manager.now.children) (g.C.Children.whole c.loop.manager.children) (g.G.Gate.honest c.args.gate.now.gate) (g.G.Gate.whole c.loop.gate.gate) (g.M.Moments.honest c.args.clock.now) (g.M.Moments.whole c.loop.clock) in
+    let here = trust (g.C.Children.honest c.loop.manager.children) (g.C.Children.whole m.children) (g.G.Gate.honest c.loop.gate.gate) (g.G.Gate.whole c.round.new.self.gate) (g.M.Moments.honest c.loop.clock) (g.M.Moments.whole c.round.new.clock) in
+    let later = trust (g.C.Children.honest c.args.manager.now.children) (g.C.Children.whole m.children) (g.G.Gate.honest c.args.gate.now.gate) (g.G.Gate.whole c.round.new.self.gate) (g.M.Moments.honest c.args.clock.now) (g.M.Moments.whole c.round.new.clock) in
+    let p = round_of here there _ before after c.in-Ok.ensures.serves in
+    let round = subst (λ (s : Place). IsRound later s (Ok tt) p.0 before after) same
+    (round_less later here there (Ok tt) p.0 before after
+    (record {
+      children = subst IsTrue (sym inv.honest);
+      calls = λ h. h;
+      gate = subst IsTrue (sym inv.gate);
+      events = λ h. h;
+      clock = subst IsTrue (sym inv.clock);
+      moments = λ h. h;
+    }) p.1) in
+    let rounds = joined known later start inv.done.0 (p.0 ∷ []) (Ok tt) begun before after
+    (record { children = λ h. h; calls = c.round.ensures.whole; gate = λ h. h; events = c.round.ensures.events; clock = λ h. h; moments = c.round.ensures.moments })
+    inv.done.2 (inl (after, round, (inl refl, refl))) in
+    let e : length (inv.done.0 ++ p.0 ∷ []) ≡ c.loop.counter + 1 = omega (arith, inv.done.1, length-append inv.done.0 (p.0 ∷ [])) in
     record {
-      done = λ rounds result y trust rest.
-          let p = round_of there _ before after (c.in-Ok.ensures.serves (subst IsTrue (sym inv.honest) trust.0, trust.1, subst IsTrue (sym inv.gate) trust.2, trust.3, subst IsTrue (sym inv.clock) trust.4, trust.5)) in
-          let q = inv.done (p.0 ∷ rounds) result y (trust.0, c.round.ensures.whole trust.1, trust.2, c.round.ensures.events trust.3, trust.4, c.round.ensures.moments trust.5)
-          (inl (after, subst (λ (s : Place). IsRound s (Ok tt) p.0 before after) same p.1, rest)) in
-          let e : length (p.0 ∷ rounds) + c.loop.counter ≡ length rounds + (c.loop.counter + 1) = omega arith in
-          (q.0, q.1 ∙ e, q.2);
+      done = (inv.done.0 ++ p.0 ∷ [], e, rounds);
       whole = search rules;
       honest = search rules;
       events = search rules;
@@ -40,13 +70,13 @@ loop-preserved g c =
     }
 
 pub returns-clause-serves : goal.returns-clause-serves
-returns-clause-serves g c = λ trust.
-    let p = c.loop.invariant.done [] (Ok tt) _ trust (inl refl, refl) in
-    let e : length {A = Round} [] + c.loop.counter ≡ c.args.limit = search rules in
+returns-clause-serves g c =
+    let p = c.loop.invariant.done in
+    let e : c.loop.counter ≡ c.args.limit = search rules in
     (p.0, p.1 ∙ e, p.2)
 
 pub returns-in-Err-clause-serves : goal.returns-in-Err-clause-serves
-returns-in-Err-clause-serves g c = λ trust.
+returns-in-Err-clause-serves g c =
     let D = g.D.Disk in
     let first = c.args.manager.now.keeper in
     let old = c.loop.manager.keeper in
@@ -55,12 +85,27 @@ returns-in-Err-clause-serves g c = λ trust.
     let start = place_in (D.honest (disk_in first)) first in
     let there = place_in (D.honest (disk_in old)) old in
     let same : there ≡ start = same_place inv.place.size inv.place.layout inv.disk inv.failed in
-    let before = served (g.G.Gate.past c.loop.gate) (g.M.Moments.given c.loop.clock) c.loop.rounds.is_owed c.loop.rounds.pieces c.loop.rounds.backlog c.loop.rounds.was_busy c.loop.rounds.turned
+    let begun = served (g.G.Gate.past c.args.gate.now.gate) (g.M.Moments.given c.args.clock.now) c.args.gate.now.backlog c.args.gate.now.was_busy c.args.gate.now.turned
+    (now (state_in first) (g.C.Children.past c.args.manager.now.children) c.args.manager.now.marks c.args.manager.now.sessions.items (D.past (disk_in first))) in
+    let before = served (g.G.Gate.past c.loop.gate.gate) (g.M.Moments.given c.loop.clock) c.loop.gate.backlog c.loop.gate.was_busy c.loop.gate.turned
     (now (state_in old) (g.C.Children.past c.loop.manager.children) c.loop.manager.marks c.loop.manager.sessions.items (D.past (disk_in old))) in
-    let after = served (g.G.Gate.past c.round.new.gate) (g.M.Moments.given c.round.new.clock) c.round.new.self.is_owed c.round.new.self.pieces c.round.new.self.backlog c.round.new.self.was_busy c.round.new.self.turned
+    let after = served (g.G.Gate.past c.round.new.self.gate) (g.M.Moments.given c.round.new.clock) c.round.new.self.backlog c.round.new.self.was_busy c.round.new.self.turned
     (now (state_in m.keeper) (g.C.Children.past m.children) m.marks m.sessions.items (D.past (disk_in m.keeper))) in
-    let last = last_of there c.in-Err.refusal before after
-    (c.in-Err.ensures.serves (subst IsTrue (sym inv.honest) trust.0, trust.1, subst IsTrue (sym inv.gate) trust.2, trust.3, subst IsTrue (sym inv.clock) trust.4, trust.5)) in
-    let p = inv.done last.0 (Err c.in-Err.refusal) after (trust.0, c.round.ensures.whole trust.1, trust.2, c.round.ensures.events trust.3, trust.4, c.round.ensures.moments trust.5)
-    (subst (λ (s : Place). Serves s last.0 (Err c.in-Err.refusal) before after) same last.2) in
-    (p.0, subst (λ n. n ≤ c.args.limit) (sym p.1) (omega (arith, last.1, c.loop-test.true)), p.2)
+    let known = trust (g.C.Children.honest c.args.manager.now.children) (g.C.Children.whole c.loop.manager.children) (g.G.Gate.honest c.args.gate.now.gate) (g.G.Gate.whole c.loop.gate.gate) (g.M.Moments.honest c.args.clock.now) (g.M.Moments.whole c.loop.clock) in
+    let here = trust (g.C.Children.honest c.loop.manager.children) (g.C.Children.whole m.children) (g.G.Gate.honest c.loop.gate.gate) (g.G.Gate.whole c.round.new.self.gate) (g.M.Moments.honest c.loop.clock) (g.M.Moments.whole c.round.new.clock) in
+    let later = trust (g.C.Children.honest c.args.manager.now.children) (g.C.Children.whole m.children) (g.G.Gate.honest c.args.gate.now.gate) (g.G.Gate.whole c.round.new.self.gate) (g.M.Moments.honest c.args.clock.now) (g.M.Moments.whole c.round.new.clock) in
+    let last = last_of here there c.in-Err.refusal before after c.in-Err.ensures.serves in
+    let ends = subst (λ (s : Place). Serves later s last.0 (Err c.in-Err.refusal) before after) same
+    (serves_less later here there last.0 (Err c.in-Err.refusal) before after
+    (record {
+      children = subst IsTrue (sym inv.honest);
+      calls = λ h. h;
+      gate = subst IsTrue (sym inv.gate);
+      events = λ h. h;
+      clock = subst IsTrue (sym inv.clock);
+      moments = λ h. h;
+    }) last.2) in
+    let rounds = joined known later start inv.done.0 last.0 (Err c.in-Err.refusal) begun before after
+    (record { children = λ h. h; calls = c.round.ensures.whole; gate = λ h. h; events = c.round.ensures.events; clock = λ h. h; moments = c.round.ensures.moments })
+    inv.done.2 ends in
+    (inv.done.0 ++ last.0, omega (arith, inv.done.1, last.1, c.loop-test.true, length-append inv.done.0 last.0), rounds)

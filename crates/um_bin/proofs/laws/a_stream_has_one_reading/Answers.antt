@@ -1,5 +1,0 @@
-use Rattle.um_model.proofs.FramesLaws.{each_stream, one_stream}
-use Rattle.um_bin.proofs.laws.a_stream_has_one_reading.Goals as goal
-
-pub returns : goal.returns
-returns c = record { some = each_stream; one = one_stream }

@@ -1,0 +1,5 @@
+use Rattle.um_model.proofs.FramesLaws.{one_serving}
+use Rattle.um_memory.proofs.laws.a_stream_is_served_in_one_way.Goals as goal
+
+pub returns : goal.returns
+returns c = one_serving
