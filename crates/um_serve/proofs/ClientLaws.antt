@@ -3,7 +3,7 @@ use Rattle.std.proofs.Common.{◌≡◌, ◌≢◌, ◌<◌, ◌≤◌, ◌++◌
 use Rattle.std.proofs.lemmas.Bool.{cases_lt, eq-eqb, ne_eqb}
 use Rattle.std.proofs.lemmas.List.Concat.{flat_map-append}
 use Rattle.um_backlog.specs.Backlog.{Waits, given_up, is_given_up, writes, drops, HandsWhere}
-use Rattle.um_gate.specs.Events.{Event, accepted, wrote}
+use Rattle.um_gate.specs.Events.{Event, wrote}
 use Rattle.um_manager.specs.Places.{Place}
 use Rattle.um_manager.specs.declared.pieces.Piece.{Piece}
 use Rattle.um_manager.specs.declared.pieces.Piece.TheVariants.{Nothing, Bytes, Closed}

@@ -1,5 +1,5 @@
 -- Rounds behind rounds, and what stands of rounds under less trust.
-use Rattle.std.proofs.Common.{◌≡◌, ◌++◌, ◌∷◌, ◌+◌, ◌≤◌, [], ℕ, List, length, Bool, IsTrue, Result, Ok, Err, inl, inr, refl, sym, subst, arith, length-append}
+use Rattle.std.proofs.Common.{◌++◌, ◌∷◌, ◌+◌, [], ℕ, List, length, Result, Ok, Err, inl, inr, refl, subst, arith, length-append}
 use Rattle.um_backlog.specs.Backlog.{Waits}
 use Rattle.um_gate.specs.Events.{Event}
 use Rattle.um_manager.specs.Places.{Place}

@@ -1,5 +1,5 @@
 -- One round after another.
-use Rattle.std.proofs.Common.{◌≡◌, ◌≢◌, ◌⊎◌, ◌↔◌, inl, inr, ◌∙◌, ◌++◌, ◌∷◌, [], ◌≤◌, ℕ, List, Bool, true, false, IsTrue, Result, Ok, Err, is_ok, refl, sym, ap, append_assoc, append-nil, true≢false, ◌||◌, length, rules}
+use Rattle.std.proofs.Common.{◌≡◌, ◌⊎◌, ◌↔◌, inl, inr, ◌∙◌, ◌++◌, ◌∷◌, [], ◌≤◌, ℕ, List, Bool, true, false, IsTrue, Result, Ok, Err, is_ok, refl, sym, ap, append_assoc, append-nil, true≢false, ◌||◌, length, rules}
 use Rattle.um_backlog.specs.Backlog.{Waits}
 use Rattle.um_gate.specs.Events.{Event, Logs, Ticks}
 use Rattle.um_manager.specs.Places.{Place, place, is_trusted}
@@ -108,14 +108,14 @@ untaken_round {moment = moment} was old new turned later at result g are ticks t
     })
 
 -- a turn that was taken, and what is handed to the gate then
-pub done_round : {children calls gate later_gate before events clock moments busy came stirred changed : Bool} {held : List Bool} {pieces : List Piece} {waits forgot left : List Waits} {given more : List ℕ} {moment : ℕ}
+pub done_round : {children calls taken gate later_gate before events clock moments busy came stirred changed : Bool} {held : List Bool} {pieces : List Piece} {waits forgot left : List Waits} {given more : List ℕ} {moment : ℕ}
     {a b d : Now} → (was : Bool) (old new later said : List Event) (turned : ℕ) (at : Place) (result : Result Unit Refusal) → Gathers gate before held pieces old new waits forgot came
     → (IsTrue gate → IsTrue later_gate) → (IsTrue events → IsTrue before) → AreHeldBack a.sessions waits held → Ticks clock moments given more (moment ∷ [])
-    → Turns at result children calls moment pieces a b → is_want result ≡ false → SaysBelow 64 b.sessions forgot said left → Logs later_gate events new later said
-    → busy ≡ (came || (stirred || changed)) → stirred ≡ any_stirred 64 b.sessions forgot left → changed ≡ has_changed a.state d.state → EmptiesAll b.sessions d.sessions
+    → Turns at result children taken moment pieces a b → (IsTrue calls → IsTrue taken) → is_want result ≡ false → SaysBelow 64 b.sessions forgot said left
+    → Logs later_gate events new later said → busy ≡ (came || (stirred || changed)) → stirred ≡ any_stirred 64 b.sessions forgot left → changed ≡ has_changed a.state d.state → EmptiesAll b.sessions d.sessions
     → d ≡ record b { sessions = d.sessions }
     → ServesOne (trust children calls gate events clock moments) at result (served old given waits was turned a) (served later more left busy moment d)
-done_round {stirred = stirred} {changed = changed} {pieces = pieces} {forgot = forgot} {left = left} {moment = moment} {b = b} was old new later said turned at result g honest whole are ticks turns want says handed was_busy stirs changes empties rest =
+done_round {stirred = stirred} {changed = changed} {pieces = pieces} {forgot = forgot} {left = left} {moment = moment} {b = b} was old new later said turned at result g honest whole are ticks turns kept want says handed was_busy stirs changes empties rest =
     let r = round_at g moment in
     gone _ at result r _ _ want
     (record {
@@ -130,7 +130,7 @@ done_round {stirred = stirred} {changed = changed} {pieces = pieces} {forgot = f
         forgets = g.forgets;
       };
       turn = b;
-      turns = turns;
+      turns = (turns.0, λ not h w. turns.1 not h (kept w));
       says = says;
       empties = empties;
       rest = rest;

@@ -1,8 +1,7 @@
-use Rattle.std.proofs.Common.{◌∙◌, refl, sym, ap, subst, inl, nat_lt, rules}
+use Rattle.std.proofs.Common.{◌∙◌, refl, sym, ap, subst, inl, nat_lt}
 use Rattle.std.specs.Bool.{IsTrue}
 use Rattle.um_keeper.specs.Keepers.{disk_in, state_in}
 use Rattle.um_manager.specs.Places.{place_in}
-use Rattle.um_manager.specs.Turns.{now, Turns}
 use Rattle.um_serve.proofs.RoundLaws.{unserved, same_now, untaken_round, done_round}
 use Rattle.um_serve.proofs.rounds.Buffered.round.Goals as goal
 
@@ -20,7 +19,7 @@ returns-clause-serves g c =
     let there = state_in c.args.manager.now.keeper in
     done_round c.args.self.now.was_busy (g.G.Gate.past c.args.self.now.gate) (g.G.Gate.past c.gather.new.self.gate) (g.G.Gate.past c.speak-is_stirred.new.gate) said.says.0 c.args.self.now.turned (place_in (g.D.Disk.honest (disk_in c.args.manager.now.keeper)) c.args.manager.now.keeper) c.turn-turned.result
     c.in-Ok.ensures.gathers (subst IsTrue (sym c.gather.ensures.gate)) said.events c.held_back-held.ensures c.moment-moment.ensures.given
-    (subst (λ x. Turns _ _ _ (g.C.Children.whole x) _ _ _ _) (sym said.children) c.turn-turned.ensures.turns) (sym c.wants_memory.ensures ∙ c.if-wants_memory.false)
+    c.turn-turned.ensures.turns (subst (λ x. IsTrue (g.C.Children.whole x)) said.children) (sym c.wants_memory.ensures ∙ c.if-wants_memory.false)
     said.says.1 said.says.2 refl said.stirred
     (c.has_moved-has_changed.ensures ∙ ap (λ m. nat_lt m (state_in c.speak-is_stirred.new.manager.keeper).clock) c.clock_of-before.ensures) said.empties
     (same_now c.turn-turned.new.self.sessions.items c.speak-is_stirred.new.manager.sessions.items (ap (λ k. state_in k) said.keeper) (ap (λ x. g.C.Children.past x) said.children) said.marks (ap (λ k. g.D.Disk.past (disk_in k)) said.keeper))
