@@ -1,4 +1,5 @@
 //! A reader that gives little at a time, and a writer that fails.
+use crate::asserts::{same, same_at};
 use crate::script::{frames, front};
 use crate::texts::{DONE, RELOAD};
 use std::io;

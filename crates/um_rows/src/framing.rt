@@ -1,4 +1,5 @@
 //! Where the frames of a stream begin and end.
+use crate::asserts::{same, same_at};
 use crate::devices::Slow;
 use crate::script::{frames, front, has_replies, rest, served};
 use crate::texts::{BAD_REQUEST, DONE, RELOAD};

@@ -1,4 +1,5 @@
 //! More inputs than lie between two renewals of the store in memory: state, numbers and replies go on.
+use crate::asserts::same;
 use crate::script::{push_frame, served};
 use crate::texts::{ACTIONS, DONE, RELOAD, SHOW_A, START_A};
 use std::alloc::{AllocError, Global};

@@ -1,4 +1,5 @@
 //! Scripts of requests with the replies that are wanted for them.
+use crate::asserts::same_at;
 use std::alloc::{AllocError, Global};
 use std::process::Abort;
 use um_memory::{Ending, Fault, memory};
