@@ -16,9 +16,9 @@ use Rattle.um_fates.specs.Fates.{Heard, lost}
 use Rattle.um_fates.specs.Live.{has, AreLive, IsIn, AreIn, none, chosen_next, passed_over}
 use Rattle.um_manager.specs.Opening.{Signalled, Adopted}
 use Rattle.um_manager.specs.Orders.{signals}
-use Rattle.um_manager.specs.Places.{Place}
+use Rattle.um_manager.specs.Places.{Place, LogEnd}
 use Rattle.um_manager.specs.Stores.{Submits}
-use Rattle.um_manager.specs.Turns.{now, Answers, Tells, Leaves}
+use Rattle.um_manager.specs.Turns.{now, Answers, Tells, AreSpent, Leaves}
 
 joined : (units : ByUnit UnitState) (sub : SubState) (ms ks ns ls : List ℕ) → AreIn units sub ms ks → AreIn units sub ns ls → AreIn units sub (ms ++ ns) (ks ++ ls)
 joined units sub ms ks ns ls none q = q
@@ -53,14 +53,14 @@ signalled_it units sub signal n a b is e = record {
 pub signalled_not : (units : ByUnit UnitState) (sub : SubState) (signal : Signal) (n : ℕ) (a : List Call) → ¬ IsIn units sub n → Signalled units sub signal (n ∷ []) a a
 signalled_not units sub signal n a isnt = record { chosen = []; are = passed_over isnt none; orders_are = sym (append-nil _); no_tale = refl; no_refusal = refl }
 
-pub adopted : (place : Place) (store : Result Unit Refusal) (moment : ℕ) (s t : State) (old heard grown termed new : List Call) (live marks marked : List ℕ) (d e : Past) (inputs : List Input) (replies : List Reply)
+pub adopted : (place : Place) (store : Result Unit Refusal) (moment : ℕ) (s t : State) (old heard grown termed new : List Call) (live marks marked : List ℕ) (d e : Past) (p q : LogEnd) (inputs : List Input) (replies : List Reply)
     (h k l w v m : Bool) → AreLive s.units live → ((n : ℕ) → has n marks ≡ has n live)
     → (IsTrue h → IsTrue m → Heard lost moment (λ n. true) old heard live [] inputs)
-    → Submits place store inputs replies k v (now s heard marks [] d) (now t grown marked [] e)
+    → Submits place store inputs replies k v (now s heard marks [] d p) (now t grown marked [] e q)
     → (IsTrue l → IsTrue w → Signalled t.units StopSigterm Term live grown termed) → (IsTrue l → IsTrue w → Signalled t.units StopSigkill Kill live termed new)
     → (IsTrue h → IsTrue k) → (IsTrue h → IsTrue l) → (IsTrue w → IsTrue v) → (IsTrue v → IsTrue m) → IsTrue h → IsTrue w
-    → Adopted place store moment (now s old marks [] d) (now t new marked [] e)
-adopted place store moment s t old heard grown termed new live marks marked d e inputs replies h k l w v m are_live marks_live hears submits terms kills hk hl wv vm honest whole =
+    → Adopted place store moment (now s old marks [] d p) (now t new marked [] e q)
+adopted place store moment s t old heard grown termed new live marks marked d e p q inputs replies h k l w v m are_live marks_live hears submits terms kills hk hl wv vm honest whole =
     let told = hears honest (vm (wv whole)) in
     let sub = submits.1 in
     let grew = sub.grew (hk honest) (wv whole) in
@@ -76,6 +76,7 @@ adopted place store moment s t old heard grown termed new live marks marked d e 
       answered = subst (λ l. Answers place s l sub.answers t) told.inputs_are sub.answered;
       tells = subst (λ l. Tells store place.size s l sub.answers t) told.inputs_are sub.tells;
       order = sub.order;
+      spent = subst (λ l. AreSpent place l sub.answers p q) told.inputs_are sub.spent;
       termed = term.chosen;
       are_termed = term.are;
       killed = kill.chosen;

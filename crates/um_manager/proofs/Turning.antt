@@ -1,18 +1,21 @@
 -- What the parts of a turn come to together.
-use Rattle.std.proofs.Common.{◌≡◌, ℕ, List, [], ◌∷◌, ◌++◌, length, drop, map, flat_map, Bool, IsTrue, Option, Result, Ok, Err, cond, refl, sym, ap, subst, ◌∙◌}
+use Rattle.std.specs.Prelude.{IfErr}
+use Rattle.std.proofs.Common.{◌≡◌, ◌⊎◌, inl, inr, ℕ, List, [], ◌∷◌, ◌++◌, length, drop, map, flat_map, Bool, IsTrue, Option, Result, Ok, Err, cond, refl, sym, ap, subst, ◌∙◌}
 use Rattle.um_keeper.specs.Answering.{all_asked}
 use Rattle.um_model.specs.Children.{Call}
 use Rattle.um_model.specs.Machine.{Input, Reply}
 use Rattle.um_model.specs.Sessions.{Session, Does, Room}
 use Rattle.um_proto.specs.declared.request.Request.{Request}
+use Rattle.um_sector.specs.Refused.{IsLost}
 use Rattle.um_wire.specs.declared.refusal.Refusal.{Refusal}
+use Rattle.um_wire.specs.declared.refusal.Refusal.TheVariants.{Device, Reopen}
 use Rattle.um_manager.specs.Connections.{AllSame, TakesPiece, CutsAll, Took, inputs_asked, due_of}
 use Rattle.um_fates.specs.Fates.{Heard, unexecuted, tick_at}
 use Rattle.um_fates.specs.Live.{has, AreLive}
 use Rattle.um_manager.specs.Places.{Place}
 use Rattle.um_manager.specs.Replies.{PaysAll}
 use Rattle.um_manager.specs.Stores.{Submits}
-use Rattle.um_manager.specs.Turns.{Now, now, firsts, Answers, Tells, Leaves, Turned}
+use Rattle.um_manager.specs.Turns.{Now, now, firsts, Answers, Tells, AreSpent, Leaves, Turned}
 use Rattle.um_manager.specs.declared.pieces.Piece.{Piece}
 use Rattle.um_manager.specs.declared.pieces.Piece.TheVariants.{Nothing, Bytes, Closed}
 use Rattle.um_manager.specs.declared.taking.Due.{Due}
@@ -46,7 +49,7 @@ pub turned : (place : Place) (store : Result Unit Refusal) (moment : ℕ) (piece
     → AreLive a.state.units live → AllSame a.sessions roomy
     → (IsTrue h → IsTrue m → Heard unexecuted moment (λ n. has n a.marks) a.past past live [] heard) → ticked ≡ heard ++ tick_at moment ∷ [] → count ≡ length ticked
     → Took moment roomy pieces cut ticked inputs [] owed
-    → Submits place store inputs replies k w (now a.state past a.marks [] a.disk) (now b.state b.past b.marks [] b.disk)
+    → Submits place store inputs replies k w (now a.state past a.marks [] a.disk a.log) (now b.state b.past b.marks [] b.disk b.log)
     → rest ≡ drop count replies → PaysAll b.state owed rest cut b.sessions → k ≡ h → (IsTrue w → IsTrue m) → IsTrue h → IsTrue w → Turned place store moment pieces a b
 turned place store moment pieces a b live past roomy cut heard ticked inputs count owed replies rest h k w m are_live room hears tick counted took submits rest_is pays same fewer honest whole =
     let told = hears honest (fewer whole) in
@@ -67,6 +70,7 @@ turned place store moment pieces a b live past roomy cut heard ticked inputs cou
       answered = subst (λ l. Answers place a.state l sub.answers b.state) all sub.answered;
       tells = subst (λ l. Tells store place.size a.state l sub.answers b.state) all sub.tells;
       order = sub.order;
+      spent = subst (λ l. AreSpent place l sub.answers a.log b.log) all sub.spent;
       orders_are = grew.orders_are ∙ ap (λ l. l ++ all_asked sub.answers) told.no_order;
       refusals = grew.refusals;
       refusals_are = grew.refusals_are ∙ ap (λ l. l ++ grew.refusals) told.no_refusal;
@@ -77,6 +81,11 @@ turned place store moment pieces a b live past roomy cut heard ticked inputs cou
       left = λ t. subst (λ l. Leaves place a.state l sub.answers a.disk b.disk) all (sub.left t);
       stored = sub.stored;
     }
+
+-- a refusal of the store is one of the turn
+pub store_refuses : (r : Result Unit Refusal) → IfErr r (λ e. (e ≡ Device) ⊎ (e ≡ Reopen)) → IfErr r (λ e. IsLost e ⊎ (e ≡ Reopen))
+store_refuses (Ok u) refused = tt
+store_refuses (Err e) refused = elim refused [ inl device ↦ inl (inr device) | inr again ↦ inr again ]
 
 pub not_refused : (r : Result Unit Refusal) (u : Unit) (e : Refusal) → r ≡ Ok u → r ≡ Err e → ⊥
 not_refused r u e p q = cc

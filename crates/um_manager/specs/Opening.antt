@@ -1,7 +1,7 @@
 -- What opening does: the store is taken up, the boot is offered, and the processes that are live are adopted.
 -- No manual page has this: it is the project's own.
 -- `Manager::open` stands on this file.
-use Rattle.std.specs.Prelude.{◌≡◌, ◌≢◌, ◌||◌, ◌⊎◌, ℕ, List, [], ◌∷◌, ◌++◌, length, flat_map, Bool, true, IsTrue, Result, Ok, Err}
+use Rattle.std.specs.Prelude.{◌≡◌, ◌||◌, ◌⊎◌, ℕ, List, [], ◌∷◌, ◌++◌, length, flat_map, Bool, true, IsTrue, Result, Ok, Err}
 use Rattle.um_keeper.specs.Answering.{Answer, all_asked, taken}
 use Rattle.um_keeper.specs.Keeping.{IsBegun}
 use Rattle.um_keeper.specs.Opening.{IsTakenUp, IsSomeStore, IsAsBefore}
@@ -20,12 +20,12 @@ use Rattle.um_model.specs.Numbers.{AreNew, started_numbers}
 use Rattle.um_model.specs.declared.service.Signal.TheVariants.{Term, Kill}
 use Rattle.um_model.specs.declared.service.SubState.TheVariants.{StopSigterm, StopSigkill}
 use Rattle.um_wire.specs.declared.refusal.Refusal.{Refusal}
-use Rattle.um_wire.specs.declared.refusal.Refusal.TheVariants.{NoMemory}
+use Rattle.um_wire.specs.declared.refusal.Refusal.TheVariants.{Device}
 use Rattle.um_fates.specs.Fates.{AreTalesOf, inputs_of_tale, lost, happens_at}
 use Rattle.um_fates.specs.Live.{has, is_live, AreLive, HasFewLive, AreIn}
 use Rattle.um_manager.specs.Orders.{signals}
 use Rattle.um_manager.specs.Places.{Place}
-use Rattle.um_manager.specs.Turns.{Now, Answers, Tells, Leaves, Holds}
+use Rattle.um_manager.specs.Turns.{Now, Answers, Tells, AreSpent, Leaves, Holds}
 
 -- the inputs of adoption: those of the fates told, where a number that is absent is lost
 abbrev pub adoptions : ℕ → List Tale → List Input
@@ -48,6 +48,7 @@ pub record Adopted (place : Place) (store : Result Unit Refusal) (moment : ℕ) 
   pub answered : Answers place a.state (adoptions moment told) answers b.state
   pub tells : Tells store place.size a.state (adoptions moment told) answers b.state
   pub order : AreNew a.state.next b.state.next (started_numbers (all_asked answers))
+  pub spent : AreSpent place (adoptions moment told) answers a.log b.log
   pub termed : List ℕ
   pub are_termed : AreIn b.state.units StopSigterm live termed
   pub killed : List ℕ
@@ -80,7 +81,7 @@ pub record Began (place : Place) (store : Result Unit Refusal) (moment : ℕ) (b
 pub data Refuses (place : Place) (refusal : Refusal) (moment : ℕ) (boot : List ℕ) (a b : Now) : Type 0 where
   unbooted : b.state ≡ a.state → b.past ≡ a.past
       → (IsTrue place.trusted → During a.disk b.disk (IsBegun place.layout a.state (boot_at moment boot ∷ []))) → Refuses place refusal moment boot a b
-  unadopted : {count : ℕ} → refusal ≢ NoMemory → Began place (Err refusal) moment boot count a b → Refuses place refusal moment boot a b
+  unadopted : {count : ℕ} → refusal ≡ Device → Began place (Err refusal) moment boot count a b → Refuses place refusal moment boot a b
 
 -- the state that a disk of so many sectors is read as, and stands for
 pub record IsFound (sectors : ℕ) (disk : Past) (layout : Layout) (s : State) : Type 0 where

@@ -2,8 +2,10 @@
 -- No manual page has this: it is the project's own (docs/ARCHITECTURE.md, "The way of one input").
 -- The manager's calls stand on this file.
 use Rattle.std.specs.Prelude.{◌≡◌, ◌≢◌, ◌↔◌, ◌||◌, ℕ, List, [], ◌∷◌, ◌++◌, length, drop, map, flat_map, replicate, Bool, true, false, IsTrue, Option, Result, Ok, Err}
-use Rattle.um_keeper.specs.Answering.{Answer, AreAnswered, FellBack, HasFault, all_asked, taken}
+use Rattle.um_keeper.specs.Answering.{Answer, AreAnswered, FellBack, HasFault, AreSpentAt, all_asked, taken}
+use Rattle.um_keeper.specs.Keepers.{state_in}
 use Rattle.um_keeper.specs.Keeping.{IsBegun}
+use Rattle.um_keeper.specs.declared.keeper.Keeper.{Keeper}
 use Rattle.um_model.specs.Children.{Call, Tale, orders, tales, refused}
 use Rattle.um_model.specs.Disk.{Past, During, Images}
 use Rattle.um_model.specs.Machine.{State, Input, Reply}
@@ -17,20 +19,26 @@ use Rattle.um_manager.specs.Connections.{AllSame, CutsAll, inputs_asked, due_of}
 use Rattle.um_fates.specs.Fates.{AreTalesOf, inputs_of_tale, unexecuted, tick_at}
 use Rattle.um_fates.specs.Live.{has, is_live, AreLive, HasFewLive}
 use Rattle.um_manager.specs.Orders.{Grew}
-use Rattle.um_manager.specs.Places.{Place}
+use Rattle.um_manager.specs.Places.{Place, LogEnd, log_in, IsFreeFrom}
 use Rattle.um_manager.specs.Replies.{reply_in, PaysAll}
 use Rattle.um_manager.specs.declared.pieces.Piece.{Piece}
 
--- a manager at a moment: its state, the children's calls, the numbers whose fate is asked with a claim, the sessions, and the disk's calls
+-- a manager at a moment: its state, the children's calls, the numbers whose fate is asked with a claim, the sessions, the disk's calls, and where
+-- the next record goes
 pub record Now : Type 0 where
   pub state : State
   pub past : List Call
   pub marks : List ℕ
   pub sessions : List Session
   pub disk : Past
+  pub log : LogEnd
 
-abbrev pub now : State → List Call → List ℕ → List Session → Past → Now
-now state past marks sessions disk = record { state = state; past = past; marks = marks; sessions = sessions; disk = disk }
+abbrev pub now : State → List Call → List ℕ → List Session → Past → LogEnd → Now
+now state past marks sessions disk log = record { state = state; past = past; marks = marks; sessions = sessions; disk = disk; log = log }
+
+-- the same over a keeper
+abbrev pub now_in : {D : Type 0} {g : _} → Keeper D g → List Call → List ℕ → List Session → Past → Now
+now_in k past marks sessions disk = now (state_in k) past marks sessions disk (log_in k)
 
 -- the inputs that stand before the requests: those of the fates told, and a tick
 abbrev pub firsts : ℕ → List Tale → List Input
@@ -56,6 +64,10 @@ pub record Tells (store : Result Unit Refusal) (size : ℕ) (s : State) (inputs 
 abbrev pub Leaves : Place → State → List Input → List Answer → Past → Past → Type 0
 Leaves place s inputs answers old new = During old new (IsBegun place.layout s (taken inputs answers))
 
+-- E20 turns one of these inputs away only where the log's generation is the last, and its record has no room behind those before it
+abbrev pub AreSpent : Place → List Input → List Answer → LogEnd → LogEnd → Type 0
+AreSpent place inputs answers old new = (from : ℕ) → IsFreeFrom place.layout old from → AreSpentAt place.layout new.generation from inputs answers
+
 -- each image is a store of the state
 abbrev pub Holds : Place → State → Past → Type 0
 Holds place s disk = Images disk (λ image. IsStoreOf place.layout image s)
@@ -66,6 +78,7 @@ pub record Submitted (place : Place) (store : Result Unit Refusal) (inputs : Lis
   pub answered : Answers place a.state inputs answers b.state
   pub tells : Tells store place.size a.state inputs answers b.state
   pub order : AreNew a.state.next b.state.next (started_numbers (all_asked answers))
+  pub spent : AreSpent place inputs answers a.log b.log
   pub replies_are : replies ≡ map reply_in answers
   pub grew : IsTrue honest → IsTrue whole → Grew b.state.units a.past b.past a.marks b.marks (all_asked answers)
   pub left : IsTrue place.trusted → Leaves place a.state inputs answers a.disk b.disk
@@ -89,6 +102,7 @@ pub record Turned (place : Place) (store : Result Unit Refusal) (moment : ℕ) (
   pub answered : Answers place a.state (firsts moment told ++ flat_map (inputs_asked moment) requests) answers b.state
   pub tells : Tells store place.size a.state (firsts moment told ++ flat_map (inputs_asked moment) requests) answers b.state
   pub order : AreNew a.state.next b.state.next (started_numbers (all_asked answers))
+  pub spent : AreSpent place (firsts moment told ++ flat_map (inputs_asked moment) requests) answers a.log b.log
   pub orders_are : orders b.past ≡ orders a.past ++ all_asked answers
   pub refusals : List ℕ
   pub refusals_are : refused b.past ≡ refused a.past ++ refusals
@@ -104,6 +118,7 @@ pub record Untouched (a b : Now) : Type 0 where
   pub marks : b.marks ≡ a.marks
   pub sessions : AllSame a.sessions b.sessions
   pub disk : b.disk ≡ a.disk
+  pub log : b.log ≡ a.log
 
 -- a turn that finds no memory for itself is none; a refusal of the store is told after the replies
 abbrev pub Turns : Place → Result Unit Refusal → Bool → Bool → ℕ → List Piece → Now → Now → Type 0

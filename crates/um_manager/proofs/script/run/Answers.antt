@@ -1,12 +1,15 @@
 use Rattle.std.proofs.Common.{◌≡◌, ◌∙◌, ◌∷◌, ◌+◌, drop, Ok, ap, sym, subst, inl, inr, rules}
 use Rattle.std.specs.Bool.{IsTrue}
 use Rattle.std.proofs.lemmas.List.{drop_more}
-use Rattle.um_keeper.specs.Keepers.{disk_in, state_in}
+use Rattle.um_keeper.specs.Keepers.{disk_in, has_failed}
 use Rattle.um_manager.specs.Places.{Place, place_in}
 use Rattle.um_manager.specs.Scripts.{Runs, Stops}
-use Rattle.um_manager.specs.Turns.{Turned, now}
-use Rattle.um_manager.proofs.Placing.{same_place, same_failed, same_err, refused_not_ok}
+use Rattle.um_manager.specs.Turns.{Turned, now_in}
+use Rattle.um_manager.proofs.Placing.{same_place, same_failed, same_err, refused_not_ok, counted_ok, works, all_worked, last_reopen}
 use Rattle.um_manager.proofs.Turning.{not_refused}
+use Rattle.um_sector.specs.Refused.{CountsDevice, IsLost}
+use Rattle.um_wire.specs.declared.refusal.Refusal.TheVariants.{Reopen}
+use Rattle.std.specs.Prelude.{◌⊎◌, IfErr}
 use Rattle.um_manager.proofs.script.run.Goals as goal
 
 pub loop-step-preserved : goal.loop-step-preserved
@@ -16,8 +19,8 @@ loop-step-preserved g c =
     let old = c.loop-step.keeper in
     let new = c.turn.new.keeper in
     let inv = c.loop-step.invariant in
-    let before = now (state_in old) (g.C.Children.past c.loop-step.children) c.loop-step.marks c.loop-step.sessions (D.past (disk_in old)) in
-    let after = now (state_in new) (g.C.Children.past c.turn.new.children) c.turn.new.marks c.turn.new.sessions (D.past (disk_in new)) in
+    let before = now_in old (g.C.Children.past c.loop-step.children) c.loop-step.marks c.loop-step.sessions (D.past (disk_in old)) in
+    let after = now_in new (g.C.Children.past c.turn.new.children) c.turn.new.marks c.turn.new.sessions (D.past (disk_in new)) in
     let start = place_in (D.honest (disk_in first)) first in
     let there = place_in (D.honest (disk_in old)) old in
     let place : there ≡ start = same_place inv.place.size inv.place.layout inv.disk inv.failed in
@@ -39,6 +42,8 @@ loop-step-preserved g c =
       honest = search rules;
       place = record { layout = c.turn.ensures.place.layout ∙ inv.place.layout; size = c.turn.ensures.place.size ∙ inv.place.size; opened = c.turn.ensures.place.opened ∙ inv.place.opened };
       disk = c.turn.ensures.disk ∙ inv.disk;
+      failures = counted_ok c.in_ok-turn.was c.turn.ensures.device ∙ inv.failures;
+      worked = λ some. sym inv.failed ∙ works (has_failed old) c.in_ok-turn.was c.turn.ensures.reopen;
       failed = same_failed c.in_ok-turn.was c.turn.ensures.failed ∙ inv.failed;
       each = search rules;
     }
@@ -50,8 +55,8 @@ returns-in_err-turn-clause-runs g c = λ h w.
     let old = c.loop-step.keeper in
     let new = c.turn.new.keeper in
     let inv = c.loop-step.invariant in
-    let before = now (state_in old) (g.C.Children.past c.loop-step.children) c.loop-step.marks c.loop-step.sessions (D.past (disk_in old)) in
-    let after = now (state_in new) (g.C.Children.past c.turn.new.children) c.turn.new.marks c.turn.new.sessions (D.past (disk_in new)) in
+    let before = now_in old (g.C.Children.past c.loop-step.children) c.loop-step.marks c.loop-step.sessions (D.past (disk_in old)) in
+    let after = now_in new (g.C.Children.past c.turn.new.children) c.turn.new.marks c.turn.new.sessions (D.past (disk_in new)) in
     let start = place_in (D.honest (disk_in first)) first in
     let there = place_in (D.honest (disk_in old)) old in
     let place : there ≡ start = same_place inv.place.size inv.place.layout inv.disk inv.failed in
@@ -67,3 +72,22 @@ returns-in_err-turn-clause-runs g c = λ h w.
       λ differs. subst (λ pieces. Turned there c.turn.result c.step-item.result.moment pieces before after) c.as_slice-pieces.ensures.pieces
           (c.turn.ensures.turns.1 differs (subst IsTrue (sym inv.honest) h) w),
     )))))
+
+pub returns-clause-reopen : goal.returns-clause-reopen
+returns-clause-reopen g c = λ other. all_worked c.args.steps.now c.loop-step.step-index (has_failed c.args.keeper.now) tt c.loop-step.invariant.worked (search rules)
+
+pub returns-in_err-turn-clause-refused : goal.returns-in_err-turn-clause-refused
+returns-in_err-turn-clause-refused g c =
+    subst (λ r. IfErr r (λ e. IsLost e ⊎ (e ≡ Reopen))) (sym (same_err c.from_residual.result c.turn.result _ c.from_residual.ensures.1 c.in_err-turn.was)) c.turn.ensures.refused
+
+pub returns-in_err-turn-clause-device : goal.returns-in_err-turn-clause-device
+returns-in_err-turn-clause-device g c =
+    let D = g.D.Disk in
+    let n = D.failures (disk_in c.turn.new.keeper) in
+    subst (λ m. CountsDevice c.from_residual.result m n) c.loop-step.invariant.failures
+    (subst (λ r. CountsDevice r (D.failures (disk_in c.loop-step.keeper)) n) (sym (same_err c.from_residual.result c.turn.result _ c.from_residual.ensures.1 c.in_err-turn.was)) c.turn.ensures.device)
+
+pub returns-in_err-turn-clause-reopen : goal.returns-in_err-turn-clause-reopen
+returns-in_err-turn-clause-reopen g c =
+    last_reopen c.args.steps.now c.loop-step.step-index (same_err c.from_residual.result c.turn.result _ c.from_residual.ensures.1 c.in_err-turn.was) c.loop-step.invariant.failed c.loop-step-test.true
+    c.turn.ensures.reopen
