@@ -77,7 +77,7 @@ live_after size moment boot s t reply actions live step same other = elim ((step
 
 -- ---- the reply
 
-IsDone : Event → Reply → Type 0
+abbrev IsDone : Event → Reply → Type 0
 IsDone (Commanded command) reply = ⊤
 IsDone (Happened happening) reply = reply ≡ Done
 

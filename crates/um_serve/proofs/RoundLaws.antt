@@ -2,7 +2,7 @@
 use Rattle.std.proofs.Common.{◌≡◌, ◌≢◌, ◌⊎◌, ◌↔◌, inl, inr, ◌∙◌, ◌++◌, ◌∷◌, [], ◌≤◌, ℕ, List, Bool, true, false, IsTrue, Option, Some, None, Result, Ok, Err, is_ok, refl, sym, ap, subst, true≢false, append-nil, ◌||◌, length, rules, if◌then◌else◌}
 use Rattle.um_backlog.specs.Backlog.{Waits}
 use Rattle.um_gate.specs.Events.{Event}
-use Rattle.um_manager.specs.Places.{Place, place, is_trusted}
+use Rattle.um_manager.specs.Places.{Place, LogEnd, place, is_trusted}
 use Rattle.um_manager.specs.Turns.{Now, now, Turned, Turns}
 use Rattle.um_model.specs.Children.{Call}
 use Rattle.um_model.specs.Disk.{Past}
@@ -102,10 +102,11 @@ unserved {old} {new} {given} {is_owed} {again} {before} {pieces} {waits} {left} 
     ∙ ap (λ ps. served old given is_owed ps left busy later a) same ∙ ap (λ ws. served old given is_owed before ws busy later a) rest
     ∙ ap (λ b. served old given is_owed before waits b later a) quiet ∙ ap (λ m. served old given is_owed before waits was m a) turn
 
-pub same_now : {s t : State} {p q : List Call} {m n : List ℕ} {d e : Past} (us vs : List Session) → t ≡ s → q ≡ p → n ≡ m → e ≡ d
-    → now t q n vs e ≡ record (now s p m us d) { sessions = vs }
-same_now {s} {t} {p} {q} {m} {n} {d} {e} us vs state past marks disk =
-    ap (λ x. now x q n vs e) state ∙ ap (λ x. now s x n vs e) past ∙ ap (λ x. now s p x vs e) marks ∙ ap (λ x. now s p m vs x) disk
+pub same_now : {s t : State} {p q : List Call} {m n : List ℕ} {d e : Past} {k l : LogEnd} (us vs : List Session) → t ≡ s → q ≡ p → n ≡ m → e ≡ d → l ≡ k
+    → now t q n vs e l ≡ record (now s p m us d k) { sessions = vs }
+same_now {s} {t} {p} {q} {m} {n} {d} {e} {k} {l} us vs state past marks disk log =
+    ap (λ x. now x q n vs e l) state ∙ ap (λ x. now s x n vs e l) past ∙ ap (λ x. now s p x vs e l) marks ∙ ap (λ x. now s p m vs x l) disk
+    ∙ ap (λ (x : LogEnd). now s p m vs d x) log
 
 -- a turn that found no memory
 pub owing_round : {h w again honest whole busy : Bool} {pieces : List Piece} {waits left : List Waits} {given more : List ℕ} {moment : ℕ} {a b : Now}

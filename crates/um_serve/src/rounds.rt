@@ -5,7 +5,7 @@ ghost use Rattle.um_backlog.specs.Backlog.{nothing, HandsAt};
 ghost use Rattle.um_gate.specs.Events.{Event, Logs};
 ghost use Rattle.um_keeper.specs.Keepers.{disk_in, state_in, has_failed, IsSamePlace};
 ghost use Rattle.um_manager.specs.Places.{place_in};
-ghost use Rattle.um_manager.specs.Turns.{now};
+ghost use Rattle.um_manager.specs.Turns.{now_in};
 ghost use Rattle.um_serve.specs.Rounds.{Round, Trusts, Serves, ServesOne, IsCount, Gathers, served, SaysBelow, has_bytes, is_freed, any_stirred, EmptiesAll, is_want};
 ghost use Rattle.um_serve.specs.Sleep.{IsSleptFor};
 
@@ -182,9 +182,9 @@ impl Rounds {
         ensures serves { Trusts (C.honest manager.old.children) (C.whole manager.new.children) (G.honest gate.old) (G.whole gate.new) (M.honest clock.old) (M.whole clock.new)
             → ServesOne (place_in (D.honest (disk_in manager.old.keeper)) manager.old.keeper) result
             (served (G.past gate.old) (M.given clock.old) self.old.is_owed self.old.pieces self.old.backlog self.old.was_busy self.old.turned
-            (now (state_in manager.old.keeper) (C.past manager.old.children) manager.old.marks manager.old.sessions.items (D.past (disk_in manager.old.keeper))))
+            (now_in manager.old.keeper (C.past manager.old.children) manager.old.marks manager.old.sessions.items (D.past (disk_in manager.old.keeper))))
             (served (G.past gate.new) (M.given clock.new) self.new.is_owed self.new.pieces self.new.backlog self.new.was_busy self.new.turned
-            (now (state_in manager.new.keeper) (C.past manager.new.children) manager.new.marks manager.new.sessions.items (D.past (disk_in manager.new.keeper)))) }
+            (now_in manager.new.keeper (C.past manager.new.children) manager.new.marks manager.new.sessions.items (D.past (disk_in manager.new.keeper)))) }
         ensures whole { IsTrue (C.whole manager.new.children) → IsTrue (C.whole manager.old.children) }
         ensures honest { C.honest manager.new.children ≡ C.honest manager.old.children }
         ensures events { IsTrue (G.whole gate.new) → IsTrue (G.whole gate.old) }
@@ -228,9 +228,9 @@ pub fn serve<D: Disk, C: Children, G: Gate, M: Moments>(
     ensures serves { Trusts (C.honest manager.old.children) (C.whole manager.new.children) (G.honest gate.old) (G.whole gate.new) (M.honest clock.old) (M.whole clock.new)
         → (all : List Round) × IsCount result (length all) limit × Serves (place_in (D.honest (disk_in manager.old.keeper)) manager.old.keeper) all result
         (served (G.past gate.old) (M.given clock.old) rounds.old.is_owed rounds.old.pieces rounds.old.backlog rounds.old.was_busy rounds.old.turned
-        (now (state_in manager.old.keeper) (C.past manager.old.children) manager.old.marks manager.old.sessions.items (D.past (disk_in manager.old.keeper))))
+        (now_in manager.old.keeper (C.past manager.old.children) manager.old.marks manager.old.sessions.items (D.past (disk_in manager.old.keeper))))
         (served (G.past gate.new) (M.given clock.new) rounds.new.is_owed rounds.new.pieces rounds.new.backlog rounds.new.was_busy rounds.new.turned
-        (now (state_in manager.new.keeper) (C.past manager.new.children) manager.new.marks manager.new.sessions.items (D.past (disk_in manager.new.keeper)))) }
+        (now_in manager.new.keeper (C.past manager.new.children) manager.new.marks manager.new.sessions.items (D.past (disk_in manager.new.keeper)))) }
     ensures whole { IsTrue (C.whole manager.new.children) → IsTrue (C.whole manager.old.children) }
     ensures honest { C.honest manager.new.children ≡ C.honest manager.old.children }
     ensures events { IsTrue (G.whole gate.new) → IsTrue (G.whole gate.old) }

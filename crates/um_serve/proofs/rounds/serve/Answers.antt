@@ -1,8 +1,8 @@
 use Rattle.std.proofs.Common.{◌≡◌, ◌∙◌, ◌+◌, ◌≤◌, ◌∷◌, [], length, Ok, Err, refl, sym, subst, inl, rules, arith}
 use Rattle.std.specs.Bool.{IsTrue}
-use Rattle.um_keeper.specs.Keepers.{disk_in, state_in}
+use Rattle.um_keeper.specs.Keepers.{disk_in}
 use Rattle.um_manager.specs.Places.{Place, place_in}
-use Rattle.um_manager.specs.Turns.{now}
+use Rattle.um_manager.specs.Turns.{now_in}
 use Rattle.um_serve.specs.Rounds.{Round, Serves, IsRound, served}
 use Rattle.um_serve.proofs.RoundLaws.{round_of, last_of, same_place, same_failed}
 use Rattle.um_serve.proofs.rounds.serve.Goals as goal
@@ -18,9 +18,9 @@ loop-preserved g c =
     let there = place_in (D.honest (disk_in old)) old in
     let same : there ≡ start = same_place inv.place.size inv.place.layout inv.disk inv.failed in
     let before = served (g.G.Gate.past c.loop.gate) (g.M.Moments.given c.loop.clock) c.loop.rounds.is_owed c.loop.rounds.pieces c.loop.rounds.backlog c.loop.rounds.was_busy c.loop.rounds.turned
-    (now (state_in old) (g.C.Children.past c.loop.manager.children) c.loop.manager.marks c.loop.manager.sessions.items (D.past (disk_in old))) in
+    (now_in old (g.C.Children.past c.loop.manager.children) c.loop.manager.marks c.loop.manager.sessions.items (D.past (disk_in old))) in
     let after = served (g.G.Gate.past c.round.new.gate) (g.M.Moments.given c.round.new.clock) c.round.new.self.is_owed c.round.new.self.pieces c.round.new.self.backlog c.round.new.self.was_busy c.round.new.self.turned
-    (now (state_in m.keeper) (g.C.Children.past m.children) m.marks m.sessions.items (D.past (disk_in m.keeper))) in
+    (now_in m.keeper (g.C.Children.past m.children) m.marks m.sessions.items (D.past (disk_in m.keeper))) in
     record {
       done = λ rounds result y trust rest.
           let p = round_of there _ before after (c.in-Ok.ensures.serves (subst IsTrue (sym inv.honest) trust.0, trust.1, subst IsTrue (sym inv.gate) trust.2, trust.3, subst IsTrue (sym inv.clock) trust.4, trust.5)) in
@@ -56,9 +56,9 @@ returns-in-Err-clause-serves g c = λ trust.
     let there = place_in (D.honest (disk_in old)) old in
     let same : there ≡ start = same_place inv.place.size inv.place.layout inv.disk inv.failed in
     let before = served (g.G.Gate.past c.loop.gate) (g.M.Moments.given c.loop.clock) c.loop.rounds.is_owed c.loop.rounds.pieces c.loop.rounds.backlog c.loop.rounds.was_busy c.loop.rounds.turned
-    (now (state_in old) (g.C.Children.past c.loop.manager.children) c.loop.manager.marks c.loop.manager.sessions.items (D.past (disk_in old))) in
+    (now_in old (g.C.Children.past c.loop.manager.children) c.loop.manager.marks c.loop.manager.sessions.items (D.past (disk_in old))) in
     let after = served (g.G.Gate.past c.round.new.gate) (g.M.Moments.given c.round.new.clock) c.round.new.self.is_owed c.round.new.self.pieces c.round.new.self.backlog c.round.new.self.was_busy c.round.new.self.turned
-    (now (state_in m.keeper) (g.C.Children.past m.children) m.marks m.sessions.items (D.past (disk_in m.keeper))) in
+    (now_in m.keeper (g.C.Children.past m.children) m.marks m.sessions.items (D.past (disk_in m.keeper))) in
     let last = last_of there c.in-Err.refusal before after
     (c.in-Err.ensures.serves (subst IsTrue (sym inv.honest) trust.0, trust.1, subst IsTrue (sym inv.gate) trust.2, trust.3, subst IsTrue (sym inv.clock) trust.4, trust.5)) in
     let p = inv.done last.0 (Err c.in-Err.refusal) after (trust.0, c.round.ensures.whole trust.1, trust.2, c.round.ensures.events trust.3, trust.4, c.round.ensures.moments trust.5)
