@@ -1,4 +1,4 @@
-ghost use Rattle.std.specs.Prelude.{◌≡◌, ◌≢◌, ◌⊎◌, ◌↔◌, ℕ, [], length, true, false, Err, IsTrue, IfOk, IfErr, slice_get};
+ghost use Rattle.std.specs.Prelude.{◌≡◌, ◌≢◌, ◌⊎◌, ◌↔◌, ◌++◌, ℕ, List, [], length, map, true, false, Err, IsTrue, IfOk, IfErr, slice_get};
 ghost use Rattle.std.specs.List.{AllByRecursion};
 ghost use Rattle.um_keeper.specs.Keepers.{disk_in, state_in, size_in, layout_in, has_failed, opened_in, IsSamePlace};
 ghost use Rattle.um_keeper.specs.Opening.{IsRead, IsSomeStore, IsUntaken, IsUnwritten};
@@ -10,7 +10,9 @@ ghost use Rattle.um_manager.specs.Scripts.{Runs};
 ghost use Rattle.um_manager.specs.Turns.{Turns, now_in};
 ghost use Rattle.um_model.specs.Disk.{seen, one_more, Images, During};
 ghost use Rattle.um_model.specs.Store.{body_limit};
+ghost use Rattle.um_model.specs.Children.{Tale};
 ghost use Rattle.um_model.specs.declared.layout.Layout.{Layout};
+ghost use Rattle.um_fates.specs.Fates.{asks_for};
 ghost use Rattle.um_sector.specs.Refused.{CountsDevice, IsLost};
 ghost use Rattle.um_state.specs.View.{state_of};
 
@@ -54,7 +56,7 @@ impl<D: Disk, C: Children> Manager<D, C> {
     /// told, and ends those that were being ended. It starts nothing by itself. A refusal hands disk and children back.
     ///
     /// Its refusals are those of `Keeper::open`, for the same causes. Behind each but E15 and E16 nothing was written. E16 comes exactly where the
-    /// count of the disk's failures rises; behind each of the others nothing was asked of the children.
+    /// count of the disk's failures rises; then fates may have been asked, and nothing else, and behind each of the others not even these.
     pub fn open(
         alloc: Global,
         disk: D,
@@ -62,8 +64,8 @@ impl<D: Disk, C: Children> Manager<D, C> {
         boot: BootId,
         moment: Moment,
     ) -> Result<Manager<D, C>, (Refusal, D, C)>
-        ensures opened { IfOk result (λ m. IsTrue (C.honest children) → IsTrue (C.whole m.children)
-            → Opened (place (size_in m.keeper) (layout_in m.keeper) (D.honest disk)) moment boot m.adopted (D.size disk) (D.past disk) (C.past children)
+        ensures opened { IfOk result (λ m. Opened (place (size_in m.keeper) (layout_in m.keeper) (D.honest disk)) (C.honest children) (C.whole m.children)
+            moment boot m.adopted (D.size disk) (D.past disk) (C.past children)
             (now_in m.keeper (C.past m.children) m.marks [] (D.past (disk_in m.keeper)))) }
         ensures read { IfOk result (λ m. IsTrue (D.honest disk) → IsRead (layout_in m.keeper) (seen (D.past disk)) (opened_in m.keeper)) }
         ensures anew { IfOk result (λ m. AllByRecursion IsNew m.sessions.items) }
@@ -71,9 +73,11 @@ impl<D: Disk, C: Children> Manager<D, C> {
         ensures sized { IfOk result (λ m. size_in m.keeper ≡ body_limit (layout_in m.keeper)) }
         ensures same { IfOk result (λ m. (D.honest (disk_in m.keeper) ≡ D.honest disk) × (C.honest m.children ≡ C.honest children)) }
         ensures whole { IfOk result (λ m. IsTrue (C.whole m.children) → IsTrue (C.whole children)) }
-        ensures err { IfErr result (λ e. IsTrue (C.honest children) → IsTrue (C.whole e.2) → IsTrue (D.honest disk) → (layout : Layout)
-            → Images (D.past disk) (IsSomeStore layout) → During (D.past disk) (D.past e.1)
-            (IsOfRefused layout moment boot (D.size disk) (D.past disk) (C.past children) (C.past e.2))) }
+        ensures err { IfErr result (λ e. IsTrue (D.honest disk) → (layout : Layout) → Images (D.past disk) (IsSomeStore layout)
+            → During (D.past disk) (D.past e.1)
+            (IsOfRefused layout moment boot (D.size disk) (D.past disk) (C.honest children) (C.whole e.2) (C.past children) (C.past e.2))) }
+        ensures silent { IfErr result (λ e. IsTrue (C.honest children) → IsTrue (C.whole e.2)
+            → (told : List Tale) × (C.past e.2 ≡ C.past children ++ map asks_for told)) }
         ensures refused { IfErr result (λ e. IsLost e.0 ⊎ (IsTrue (D.honest disk) → IsUntaken (D.size disk) (seen (D.past disk)) e.0)) }
         ensures unwritten { IfErr result (λ e. IsTrue (D.honest disk) → IsLost e.0 ⊎ IsUnwritten (D.past disk) (D.past e.1)) }
         ensures device { IfErr result (λ e. ((e.0 ≡ Refusal.Device) × (D.failures e.1 ≡ one_more (D.failures disk)))
@@ -139,8 +143,8 @@ impl<D: Disk, C: Children> Manager<D, C> {
 
     /// One turn a step, until one is refused, for the causes of `turn`.
     pub fn run_script(&mut self, steps: &[Step]) -> Result<(), Refusal>
-        ensures runs { IsTrue (C.honest self.old.children) → IsTrue (C.whole self.new.children)
-            → Runs (place_in (D.honest (disk_in self.old.keeper)) self.old.keeper) steps.now result
+        ensures runs { Runs (place_in (D.honest (disk_in self.old.keeper)) self.old.keeper) (C.honest self.old.children) (C.whole self.new.children)
+            steps.now result
             (now_in self.old.keeper (C.past self.old.children) self.old.marks self.old.sessions.items (D.past (disk_in self.old.keeper)))
             (now_in self.new.keeper (C.past self.new.children) self.new.marks self.new.sessions.items (D.past (disk_in self.new.keeper))) }
         ensures refused { IfErr result (λ e. IsLost e ⊎ (e ≡ Refusal.Reopen)) }

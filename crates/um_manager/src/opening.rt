@@ -5,9 +5,9 @@ ghost use Rattle.std.specs.List.{AllByRecursion};
 ghost use Rattle.um_keeper.specs.Keepers.{disk_in, state_in, size_in, layout_in, has_failed, IsSamePlace, HasNoRoom};
 ghost use Rattle.um_keeper.specs.Keeping.{IsBegun};
 ghost use Rattle.um_manager.specs.Connections.{IsNew};
-ghost use Rattle.um_fates.specs.Fates.{Hears, inputs_in, lost};
+ghost use Rattle.um_fates.specs.Fates.{Heard, inputs_in, lost};
 ghost use Rattle.um_fates.specs.Live.{AreLive, has};
-ghost use Rattle.um_manager.specs.Opening.{Adopts, Began, Refuses, Signalled, boot_at};
+ghost use Rattle.um_manager.specs.Opening.{Adopted, Began, Refuses, Signalled, boot_at};
 ghost use Rattle.um_manager.specs.Places.{place_in, is_trusted};
 ghost use Rattle.um_manager.specs.Turns.{now_in};
 ghost use Rattle.um_model.specs.Disk.{During};
@@ -99,7 +99,7 @@ fn claim_live<C: Children>(
     inputs: &mut Vec<Input>,
 )
     requires { vec_len inputs.old + 2 * length live.now ≤ vec_capacity inputs.old }
-    ensures hears { Hears lost moment (λ n. true) (C.honest children.old) (C.whole children.new) (C.past children.old) (C.past children.new) live.now
+    ensures hears { Heard lost moment (λ n. true) (C.honest children.old) (C.whole children.new) (C.past children.old) (C.past children.new) live.now
         (inputs_in inputs.old.items) (inputs_in inputs.new.items) }
     ensures len { vec_len inputs.new ≤ vec_len inputs.old + 2 * length live.now }
     ensures capacity { vec_capacity inputs.old ≤ vec_capacity inputs.new }
@@ -126,7 +126,8 @@ fn kill_all<C: Children>(children: &mut C, units: &Units, numbers: &[ProcessNumb
     forget_ended(children, units, numbers);
 }
 
-/// Adopts the live numbers: it asks the fate of each with a claim, offers what is told, and ends those that were being ended.
+/// Adopts the live numbers: it asks the fate of each with a claim, offers what is told, and, where the store took it, ends those that were being
+/// ended.
 fn adopt<D: Disk, C: Children>(
     keeper: &mut Keeper<D>,
     children: &mut C,
@@ -145,7 +146,7 @@ fn adopt<D: Disk, C: Children>(
     requires replies_room { 2 * length live.now ≤ vec_capacity replies.old }
     ensures refused { IfErr result (λ e. e ≡ Refusal.Device) }
     ensures device { CountsDevice result (D.failures (disk_in keeper.old)) (D.failures (disk_in keeper.new)) }
-    ensures adopts { Adopts (place_in (D.honest (disk_in keeper.old)) keeper.old) result (C.honest children.old) (C.whole children.new) moment
+    ensures adopts { Adopted (place_in (D.honest (disk_in keeper.old)) keeper.old) (C.honest children.old) (C.whole children.new) result moment
         (now_in keeper.old (C.past children.old) marks.old [] (D.past (disk_in keeper.old)))
         (now_in keeper.new (C.past children.new) marks.new [] (D.past (disk_in keeper.new))) }
     ensures whole { IsTrue (C.whole children.new) → IsTrue (C.whole children.old) }
@@ -157,11 +158,11 @@ fn adopt<D: Disk, C: Children>(
     let mut inputs = inputs;
     let next = keeper.state().next();
     claim_live(children, live, next, moment, &mut inputs);
-    let submitted = submit(keeper, children, marks, inputs, replies);
+    submit(keeper, children, marks, inputs, replies)?;
     let units = keeper.state().units();
     signal_all(children, units, SubState::StopSigterm, Signal::Term, live);
     kill_all(children, units, live);
-    submitted
+    Ok(())
 }
 
 /// Offers the boot, which asks for nothing.
@@ -209,12 +210,12 @@ pub fn begin<D: Disk, C: Children>(
     moment: Moment,
 ) -> Result<Held, Refusal>
     requires { has_failed keeper.old ≡ false }
-    ensures began { IfOk result (λ held. IsTrue (C.honest children.old) → IsTrue (C.whole children.new)
-        → Began (place_in (D.honest (disk_in keeper.old)) keeper.old) (Ok tt) moment boot held.adopted
+    ensures began { IfOk result (λ held.
+        Began (place_in (D.honest (disk_in keeper.old)) keeper.old) (C.honest children.old) (C.whole children.new) (Ok tt) moment boot held.adopted
         (now_in keeper.old (C.past children.old) [] [] (D.past (disk_in keeper.old)))
         (now_in keeper.new (C.past children.new) held.marks [] (D.past (disk_in keeper.new)))) }
-    ensures refuses { IfErr result (λ e. IsTrue (C.honest children.old) → IsTrue (C.whole children.new)
-        → (marks : List ℕ) × Refuses (place_in (D.honest (disk_in keeper.old)) keeper.old) e moment boot
+    ensures refuses { IfErr result (λ e. (marks : List ℕ)
+        × Refuses (place_in (D.honest (disk_in keeper.old)) keeper.old) (C.honest children.old) (C.whole children.new) e moment boot
         (now_in keeper.old (C.past children.old) [] [] (D.past (disk_in keeper.old)))
         (now_in keeper.new (C.past children.new) marks [] (D.past (disk_in keeper.new)))) }
     ensures sessions { IfOk result (λ held. length held.sessions.items ≡ 64) }

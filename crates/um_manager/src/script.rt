@@ -35,8 +35,7 @@ pub fn run<D: Disk, C: Children>(
     steps: &[Step],
 ) -> Result<(), Refusal>
     requires { length sessions.old ≡ 64 }
-    ensures runs { IsTrue (C.honest children.old) → IsTrue (C.whole children.new)
-        → Runs (place_in (D.honest (disk_in keeper.old)) keeper.old) steps.now result
+    ensures runs { Runs (place_in (D.honest (disk_in keeper.old)) keeper.old) (C.honest children.old) (C.whole children.new) steps.now result
         (now_in keeper.old (C.past children.old) marks.old sessions.old (D.past (disk_in keeper.old)))
         (now_in keeper.new (C.past children.new) marks.new sessions.new (D.past (disk_in keeper.new))) }
     ensures refused { IfErr result (λ e. IsLost e ⊎ (e ≡ Refusal.Reopen)) }

@@ -20,7 +20,7 @@ adopt-requires-clause-live g c =
     (live_after (size_in c.args.keeper.now) c.args.moment c.args.boot (state_in c.args.keeper.now) (state_in c.offer_boot.new.keeper) booted.0 [] c.in_ok-live.live.items booted.1 same other)
 
 pub returns-clause-began : goal.returns-clause-began
-returns-clause-began g c = λ honest whole.
+returns-clause-began g c =
     let booted = c.in_ok-offer_boot.ensures.booted in
     let live = subst (λ l. AreLive (state_in c.offer_boot.new.keeper).units l) (sym c.as_slice-live.ensures.value)
     (live_after (size_in c.args.keeper.now) c.args.moment c.args.boot (state_in c.args.keeper.now) (state_in c.offer_boot.new.keeper) booted.0 [] c.in_ok-live.live.items booted.1
@@ -42,8 +42,8 @@ returns-clause-began g c = λ honest whole.
       asked_none = refl;
       left = c.offer_boot.ensures.left;
       adopted =
-          subst (λ (p : Place). Adopted p (Ok tt) c.args.moment before after) same
-          (subst (λ r. Adopted there r c.args.moment before after) c.in_ok-adopt.was (c.adopt.ensures.adopts honest whole));
+          subst (λ (p : Place). Adopted p (g.C.Children.honest c.args.children.now) (g.C.Children.whole c.adopt.new.children) (Ok tt) c.args.moment before after) same
+          (subst (λ r. Adopted there (g.C.Children.honest c.args.children.now) (g.C.Children.whole c.adopt.new.children) r c.args.moment before after) c.in_ok-adopt.was c.adopt.ensures.adopts);
       numbers = c.as_slice-live.result.now;
       numbers_are = live;
       count_is = refl;
@@ -101,10 +101,9 @@ returns-in_err-adopt-clause-refuses g c =
     let there = place_in (D.honest (disk_in mid)) mid in
     let here = place_in (D.honest (disk_in old)) old in
     let same : there ≡ here = same_place c.offer_boot.ensures.place.size c.offer_boot.ensures.place.layout c.offer_boot.ensures.disk (same_failed c.in_ok-offer_boot.was c.offer_boot.ensures.failed) in
-    if_err_same _ (λ e. IsTrue (g.C.Children.honest c.args.children.now) → IsTrue (g.C.Children.whole c.adopt.new.children)
-    → (marks : List ℕ) × Refuses here e c.args.moment c.args.boot start (now_in new (g.C.Children.past c.adopt.new.children) marks [] (D.past (disk_in new))))
+    if_err_same _ (λ e. (marks : List ℕ) × Refuses here (g.C.Children.honest c.args.children.now) (g.C.Children.whole c.adopt.new.children) e c.args.moment c.args.boot start (now_in new (g.C.Children.past c.adopt.new.children) marks [] (D.past (disk_in new))))
     c.in_err-adopt.field-0.0 c.from_residual-in_err-adopt.ensures.1
-    (λ honest whole. (
+    (
       c.adopt.new.marks,
       unadopted c.in_err-adopt.ensures.refused (record {
         mid = before;
@@ -113,10 +112,10 @@ returns-in_err-adopt-clause-refuses g c =
         asked_none = refl;
         left = c.offer_boot.ensures.left;
         adopted =
-            subst (λ (p : Place). Adopted p (Err c.in_err-adopt.field-0.0) c.args.moment before after) same
-            (subst (λ r. Adopted there r c.args.moment before after) c.in_err-adopt.was (c.adopt.ensures.adopts honest whole));
+            subst (λ (p : Place). Adopted p (g.C.Children.honest c.args.children.now) (g.C.Children.whole c.adopt.new.children) (Err c.in_err-adopt.field-0.0) c.args.moment before after) same
+            (subst (λ r. Adopted there (g.C.Children.honest c.args.children.now) (g.C.Children.whole c.adopt.new.children) r c.args.moment before after) c.in_err-adopt.was c.adopt.ensures.adopts);
         numbers = c.as_slice-live.result.now;
         numbers_are = live;
         count_is = refl;
       }),
-    ))
+    )

@@ -6,7 +6,7 @@ use Rattle.um_manager.specs.Places.{Place, place_in}
 use Rattle.um_manager.specs.Scripts.{Runs, Stops}
 use Rattle.um_manager.specs.Turns.{Turned, now_in}
 use Rattle.um_manager.proofs.Placing.{same_place, same_failed, same_err, refused_not_ok, counted_ok, works, all_worked, last_reopen}
-use Rattle.um_manager.proofs.Turning.{not_refused}
+use Rattle.um_manager.proofs.Turning.{not_refused, turned_less}
 use Rattle.um_sector.specs.Refused.{CountsDevice, IsLost}
 use Rattle.um_wire.specs.declared.refusal.Refusal.TheVariants.{Reopen}
 use Rattle.std.specs.Prelude.{◌⊎◌, IfErr}
@@ -27,15 +27,17 @@ loop-step-preserved g c =
     let item : drop c.loop-step.step-index c.args.steps.now ≡ c.step-item.result ∷ drop (c.loop-step.step-index + 1) c.args.steps.now =
     drop_more c.args.steps.now c.loop-step.step-index c.step-item.result c.loop-step-test.true ∙ ap (λ s. s ∷ drop (c.loop-step.step-index + 1) c.args.steps.now) (search (rules, c.step-item.is)) in
     record {
-      done = λ result b w h rest.
-          let turned = c.turn.ensures.turns.1 (not_refused c.turn.result _ _ c.in_ok-turn.was) (subst IsTrue (sym inv.honest) h) w in
-          inv.done result b (c.turn.ensures.whole w) h
-          (subst (λ l. Runs start l result before b) (sym item)
+      done = λ result b w still rest.
+          let turned = c.turn.ensures.turns.1 (not_refused c.turn.result _ _ c.in_ok-turn.was) in
+          let honest = g.C.Children.honest c.args.children.now in
+          inv.done result b w (λ x. c.turn.ensures.whole (still x))
+          (subst (λ l. Runs start honest w l result before b) (sym item)
           (inr (
             after,
-            subst (λ (p : Place). Turned p (Ok tt) c.step-item.result.moment c.step-item.result.pieces before after) place
-                (subst (λ r. Turned there r c.step-item.result.moment c.step-item.result.pieces before after) c.in_ok-turn.was
-                (subst (λ pieces. Turned there c.turn.result c.step-item.result.moment pieces before after) c.as_slice-pieces.ensures.pieces turned)),
+            subst (λ (p : Place). Turned p honest w (Ok tt) c.step-item.result.moment c.step-item.result.pieces before after) place
+                (subst (λ r. Turned there honest w r c.step-item.result.moment c.step-item.result.pieces before after) c.in_ok-turn.was
+                (subst (λ pieces. Turned there honest w c.turn.result c.step-item.result.moment pieces before after) c.as_slice-pieces.ensures.pieces
+                (subst (λ h. Turned there h w c.turn.result c.step-item.result.moment c.as_slice-pieces.result.now before after) inv.honest (turned_less still turned)))),
             rest,
           )));
       whole = search rules;
@@ -49,7 +51,7 @@ loop-step-preserved g c =
     }
 
 pub returns-in_err-turn-clause-runs : goal.returns-in_err-turn-clause-runs
-returns-in_err-turn-clause-runs g c = λ h w.
+returns-in_err-turn-clause-runs g c =
     let D = g.D.Disk in
     let first = c.args.keeper.now in
     let old = c.loop-step.keeper in
@@ -63,14 +65,16 @@ returns-in_err-turn-clause-runs g c = λ h w.
     let item : drop c.loop-step.step-index c.args.steps.now ≡ c.step-item.result ∷ drop (c.loop-step.step-index + 1) c.args.steps.now =
     drop_more c.args.steps.now c.loop-step.step-index c.step-item.result c.loop-step-test.true ∙ ap (λ s. s ∷ drop (c.loop-step.step-index + 1) c.args.steps.now) (search (rules, c.step-item.is)) in
     let same : c.from_residual.result ≡ c.turn.result = same_err c.from_residual.result c.turn.result _ c.from_residual.ensures.1 c.in_err-turn.was in
-    inv.done c.from_residual.result after (c.turn.ensures.whole w) h
-    (subst (λ l. Runs start l c.from_residual.result before after) (sym item)
-    (inl (subst (λ r. Stops start c.step-item.result r before after) (sym same)
-    (subst (λ (p : Place). Stops p c.step-item.result c.turn.result before after) place (
+    let honest = g.C.Children.honest c.args.children.now in
+    let whole = g.C.Children.whole c.turn.new.children in
+    inv.done c.from_residual.result after whole c.turn.ensures.whole
+    (subst (λ l. Runs start honest whole l c.from_residual.result before after) (sym item)
+    (inl (subst (λ r. Stops start honest whole c.step-item.result r before after) (sym same)
+    (subst (λ (p : Place). Stops p honest whole c.step-item.result c.turn.result before after) place (
       refused_not_ok c.in_err-turn.was,
       c.turn.ensures.turns.0,
-      λ differs. subst (λ pieces. Turned there c.turn.result c.step-item.result.moment pieces before after) c.as_slice-pieces.ensures.pieces
-          (c.turn.ensures.turns.1 differs (subst IsTrue (sym inv.honest) h) w),
+      λ differs. subst (λ pieces. Turned there honest whole c.turn.result c.step-item.result.moment pieces before after) c.as_slice-pieces.ensures.pieces
+          (subst (λ h. Turned there h whole c.turn.result c.step-item.result.moment c.as_slice-pieces.result.now before after) inv.honest (c.turn.ensures.turns.1 differs)),
     )))))
 
 pub returns-clause-reopen : goal.returns-clause-reopen

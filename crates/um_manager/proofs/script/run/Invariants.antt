@@ -1,4 +1,4 @@
-use Rattle.std.proofs.Common.{◌≡◌, ◌<◌, false, drop, length, IsTrue, Result}
+use Rattle.std.proofs.Common.{◌≡◌, ◌<◌, Bool, false, drop, length, IsTrue, Result}
 use Rattle.um_keeper.specs.Keepers.{disk_in, has_failed, IsSamePlace}
 use Rattle.um_manager.specs.Places.{place_in}
 use Rattle.um_manager.specs.Scripts.{Runs}
@@ -8,10 +8,10 @@ use Rattle.um_manager.proofs.script.run.Given as goal
 
 abbrev pub invariant-loop-step : goal.invariant-loop-step
 invariant-loop-step g l = record {
-  done : (result : Result Unit Refusal) (b : Now) → IsTrue (g.C.Children.whole l.children) → IsTrue (g.C.Children.honest l.initial.children)
-      → Runs (place_in (g.D.Disk.honest (disk_in l.initial.keeper)) l.initial.keeper) (drop l.step-index l.steps) result
+  done : (result : Result Unit Refusal) (b : Now) (w : Bool) → (IsTrue w → IsTrue (g.C.Children.whole l.children))
+      → Runs (place_in (g.D.Disk.honest (disk_in l.initial.keeper)) l.initial.keeper) (g.C.Children.honest l.initial.children) w (drop l.step-index l.steps) result
       (now_in l.keeper (g.C.Children.past l.children) l.marks l.sessions (g.D.Disk.past (disk_in l.keeper))) b
-      → Runs (place_in (g.D.Disk.honest (disk_in l.initial.keeper)) l.initial.keeper) l.steps result
+      → Runs (place_in (g.D.Disk.honest (disk_in l.initial.keeper)) l.initial.keeper) (g.C.Children.honest l.initial.children) w l.steps result
       (now_in l.initial.keeper (g.C.Children.past l.initial.children) l.initial.marks l.initial.sessions (g.D.Disk.past (disk_in l.initial.keeper))) b;
   whole : IsTrue (g.C.Children.whole l.children) → IsTrue (g.C.Children.whole l.initial.children);
   honest : g.C.Children.honest l.children ≡ g.C.Children.honest l.initial.children;
