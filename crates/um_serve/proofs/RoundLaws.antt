@@ -151,7 +151,8 @@ done_round {h} {w} {again} {honest} {whole} {busy} {stirred} {changed} {pieces} 
         forgets = p.1.forgets;
       };
       turn = b;
-      turned = subst (λ m. Turned at result m p.0.pieces a b) (sym p.1.moment_is) (subst (λ ps. Turned at result moment ps a b) (sym p.1.pieces_are) (turns.1 not tc tl));
+      turned = subst (λ m. Turned at true true result m p.0.pieces a b) (sym p.1.moment_is) (subst (λ ps. Turned at true true result moment ps a b) (sym p.1.pieces_are)
+          (subst (λ w. Turned at true w result moment pieces a b) tl (subst (λ h. Turned at h whole result moment pieces a b) tc (turns.1 not))));
       says = says;
       empties = empties;
       rest = rest;

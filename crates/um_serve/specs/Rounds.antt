@@ -179,7 +179,7 @@ pub record IsRound (place : Place) (store : Result Unit Refusal) (r : Round) (x 
   pub waits : List Waits
   pub hears : Hears r said waits x y
   pub turn : Now
-  pub turned : Turned place store r.moment r.pieces x.now turn
+  pub turned : Turned place true true store r.moment r.pieces x.now turn
   pub says : SaysBelow 64 turn.sessions waits said y.waits
   pub empties : EmptiesAll turn.sessions y.now.sessions
   pub rest : y.now ≡ record turn { sessions = y.now.sessions }
