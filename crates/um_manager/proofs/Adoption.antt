@@ -154,7 +154,7 @@ no_fault (and_next one more) (inr later) = no_fault more later
 asks_none : (place : Place) (size : ℕ) (s t : State) (inputs : List Input) (answers : List Answer) → Answers place s inputs answers t → HasFault answers → all_asked answers ≡ []
 asks_none place size s t inputs answers (each are) fault = absurd (no_fault are (among_contained answers (Err Device) fault))
 asks_none place size s t inputs answers (fell back) fault = ap all_asked back.are ∙ none_asked back.meant (length back.rest)
-asks_none place size s t inputs answers (reopen lost are same) fault = ap all_asked are ∙ none_again (length inputs) Reopen
+asks_none place size s t inputs answers (reopen untrusted are same) fault = ap all_asked are ∙ none_again (length inputs) Reopen
 
 -- where the store failed the fates were asked, and nothing else
 pub unadopted_calls : (place : Place) (store : Result Unit Refusal) (moment : ℕ) (s t : State) (old heard new : List Call) (live marks marked : List ℕ) (d e : Past) (p q : LogEnd) (inputs : List Input)
