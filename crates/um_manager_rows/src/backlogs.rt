@@ -1,9 +1,9 @@
 //! Backlogs over a gate.
+use crate::asserts::same;
 use crate::gates::{add_client, bytes, what_was_taken, with_client};
 use std::process::Abort;
 use um_backlog::Backlog;
 use um_gate::Gate;
-use um_rows_shared::same;
 
 /// Bytes that are put for a client, and whether they are its last; then what the gate has taken for it, in how many writes, and
 /// whether it was given up.

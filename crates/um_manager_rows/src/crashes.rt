@@ -1,4 +1,5 @@
 //! Managers that are opened behind a crash.
+use crate::asserts::same;
 use crate::managers::{
     DONE, InMemory, PUT, RELOAD, SHOW, START, boot, frames, has_output, new_store, over, play,
     started,
@@ -8,7 +9,6 @@ use um_children::{Call, Fate};
 use um_keeper::Keeper;
 use um_model::{JobMode, Moment, UnitVerb};
 use um_name::UnitName;
-use um_rows_shared::same;
 use um_sector::{Disk, Fuse, MemDisk};
 use um_state::{Command, Event, Happening, Input};
 use um_wire::Refusal;

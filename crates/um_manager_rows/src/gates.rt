@@ -1,7 +1,7 @@
 //! Gates in memory, and what they took.
+use crate::asserts::same;
 use std::process::Abort;
 use um_gate::{FakeGate, Gate, MOST_BYTES, Note};
-use um_rows_shared::same;
 
 /// These bytes.
 pub fn bytes(rt: &(impl AllocGlobal + Abort), text: &[u8]) -> Vec<u8> {

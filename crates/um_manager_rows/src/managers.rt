@@ -1,10 +1,10 @@
 //! Managers over a disk and children in memory, and what is sent to them.
+use crate::asserts::same;
 use std::process::Abort;
 use um_children::{Call, FakeChildren};
 use um_keeper::create;
 use um_manager::{Connection, Manager, Piece, Pieces, Step};
 use um_model::{Layout, Moment};
-use um_rows_shared::same;
 use um_sector::MemDisk;
 use um_state::BootId;
 

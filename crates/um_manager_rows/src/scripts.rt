@@ -1,9 +1,9 @@
 //! Scripts of turns.
+use crate::asserts::same;
 use crate::managers::{
     DONE, PUT, RELOAD, SHOW, START, frames, has_output, new_store, over, pieces, play, started,
 };
 use um_model::Moment;
-use um_rows_shared::same;
 
 const RUNNING: &str =
     r#"{"ok":true,"value":{"ActiveState":"active","Description":"","Id":"a.service","LoadState":"loaded","MainNumber":1,"Result":"success","SubState":"running","Warnings":[]}}"#;

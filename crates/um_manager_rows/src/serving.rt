@@ -1,9 +1,9 @@
 //! Rounds of a manager in memory over a gate in memory.
+use crate::asserts::same;
 use crate::gates::{add_client, what_was_taken};
 use crate::managers::{new_store, over};
 use um_gate::{FakeGate, FakeMoments, Note};
 use um_model::Moment;
-use um_rows_shared::same;
 use um_serve::{Rounds, serve};
 
 /// Requests of two clients: to load the tree, and to list the jobs.

@@ -1,11 +1,11 @@
 //! A reader that gives little at a time, and a writer that fails.
+use crate::asserts::{same, same_at};
 use crate::script::{frames, front};
 use crate::texts::{DONE, RELOAD};
 use std::io;
 use std::io::{ErrorKind, Read, Write};
 use std::process::Abort;
 use um_bin::{Ending, Fault, memory};
-use um_rows_shared::{same, same_at};
 
 /// A reader that gives its bytes one at a time.
 #[derive(Drop)]

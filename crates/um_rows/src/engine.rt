@@ -1,9 +1,9 @@
 //! Steps of the machine, taken, taken back and refused.
 use crate::answers::{at, told};
+use crate::asserts::{same, same_at, text, unit};
 use std::process::Abort;
 use um_engine::Engine;
 use um_model::{End, JobMode, SubState, UnitState, UnitVerb};
-use um_rows_shared::{same, same_at, text, unit};
 use um_state::{BootId, Command, Event, Happening, Input, Query, Reply, State};
 
 /// The size of a store, in bytes.

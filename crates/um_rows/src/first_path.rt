@@ -1,7 +1,7 @@
 //! From a file that is put to a unit that is shown.
+use crate::asserts::same;
 use crate::script::{Script, frames, front, play_all, rest, served};
 use crate::texts::{BAD_REQUEST, DEAD_A, DONE, NO_A, PUT_A, RELOAD, SHOW_A};
-use um_rows_shared::same;
 
 /// What is asked in turn, and replied.
 const SCRIPTS: &[Script] = &[

@@ -1,10 +1,10 @@
 //! Where the frames of a stream begin and end.
+use crate::asserts::{same, same_at};
 use crate::devices::Slow;
 use crate::script::{frames, front, has_replies, rest, served};
 use crate::texts::{BAD_REQUEST, DONE, RELOAD};
 use std::process::Abort;
 use um_bin::{Ending, memory};
-use um_rows_shared::{same, same_at};
 
 /// The longest frame, in bytes.
 const FRAME_LIMIT: usize = 524_288;

@@ -1,10 +1,10 @@
 //! The pending jobs of the units of a graph.
 use crate::answers::WAITS_TO_START;
+use crate::asserts::{is_refused, same, unit};
 use std::process::Abort;
 use um_graph::Graph;
 use um_jobs::Jobs;
 use um_model::{DependencyKind, JobKind, JobState, UnitJobs};
-use um_rows_shared::{is_refused, same, unit};
 use um_tree::Tree;
 
 /// b comes after a and requires it.

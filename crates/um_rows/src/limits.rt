@@ -1,10 +1,10 @@
 //! The limits of a store's room and of known units.
 use crate::answers::{WAITS_TO_START, at};
+use crate::asserts::{is_refused, same, same_at, text, unit};
 use crate::script::play;
 use crate::texts::{DONE, RELOAD, START_B, TOO_MANY_UNITS};
 use std::process::Abort;
 use um_engine::Engine;
-use um_rows_shared::{is_refused, same, same_at, text, unit};
 use um_state::{Command, Event, Input, State};
 
 /// The size of a store, in bytes.

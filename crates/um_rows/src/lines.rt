@@ -1,7 +1,7 @@
 //! What the words of a command line ask for.
+use crate::asserts::{same_at, text};
 use std::process::Abort;
 use um_line::{Line, read_line};
-use um_rows_shared::{same_at, text};
 
 /// The words of the text, the first of which is the program's name.
 fn words_of(rt: &(impl AllocGlobal + Abort), line: &str) -> Vec<String> {

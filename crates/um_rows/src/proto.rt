@@ -1,8 +1,8 @@
 //! Requests and replies as JSON.
+use crate::asserts::{is_refused, same, text};
 use std::process::Abort;
 use um_proto::{Asked, Mode, Request, read_request, write_reply};
 use um_resolve::UnitFile;
-use um_rows_shared::{is_refused, same, text};
 use um_state::{Command, Event, Reply};
 
 /// Asserts that this is the whole text of the reply.

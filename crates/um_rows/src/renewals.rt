@@ -1,9 +1,9 @@
 //! More inputs than lie between two renewals of the store in memory: state, numbers and replies go on.
+use crate::asserts::same;
 use crate::script::{push_frame, served};
 use crate::texts::{ACTIONS, DONE, RELOAD, SHOW_A, START_A};
 use std::alloc::{AllocError, Global};
 use um_bin::Ending;
-use um_rows_shared::same;
 
 /// A service that may be started any number of times.
 const PUT: &str =

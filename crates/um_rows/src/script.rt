@@ -1,8 +1,8 @@
 //! Scripts of requests with the replies that are wanted for them.
+use crate::asserts::same_at;
 use std::alloc::{AllocError, Global};
 use std::process::Abort;
 use um_bin::{Ending, Fault, memory};
-use um_rows_shared::same_at;
 
 /// A script: what it shows, and its requests, each with the reply that is wanted for it.
 pub struct Script {

@@ -1,9 +1,9 @@
 //! What follows for a unit from what happens to it.
 use crate::answers::{at, told};
+use crate::asserts::{same, same_at, text};
 use std::process::Abort;
 use std::rc::Rc;
 use um_model::{End, SubState, UnitResult, UnitState};
-use um_rows_shared::{same, same_at, text};
 use um_service::{Around, NextNumber, Service, ServiceSettings, StartJob, UnitEvent, UnitKind};
 use um_words::Command;
 

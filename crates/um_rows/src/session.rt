@@ -1,8 +1,8 @@
 //! A client's session by its public calls.
+use crate::asserts::{same, same_at, text};
 use crate::script::{front, rest};
 use std::process::Abort;
 use um_proto::{Asked, Request};
-use um_rows_shared::{same, same_at, text};
 use um_session::Session;
 use um_state::{Command, Event};
 

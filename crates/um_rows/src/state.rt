@@ -1,8 +1,8 @@
 //! The state: its units and pending jobs.
 use crate::answers::WAITS_TO_START;
+use crate::asserts::{same, unit};
 use std::process::Abort;
 use um_model::{Deadline, ProcessNumber, SubState, UnitJobs, UnitState};
-use um_rows_shared::{same, unit};
 use um_state::{Pending, State, Units};
 use um_timer::Timers;
 

@@ -1,6 +1,6 @@
 //! Answers and sectors as values that can be compared and shown, and what rows are made of.
+use crate::asserts::same;
 use std::process::Abort;
-use um_rows_shared::same;
 use um_sector::{Disk, Fault, Sector};
 use um_wire::Refusal;
 

@@ -1,4 +1,5 @@
 //! Canonical bytes: how values are spelled, and what is no spelling.
+use crate::asserts::{same, text};
 use crate::spelled::{are_not_read, are_read, are_spelled, is_spelled};
 use std::collections::BTreeMap;
 use std::process::Abort;
@@ -6,7 +7,6 @@ use um_model::{
     Counted, Deadline, End, JobKind, JobMode, JobState, Moment, NextNumber, ProcessNumber,
     SubState, UnitResult, UnitState,
 };
-use um_rows_shared::{same, text};
 use um_wire::{Canon, get_tag, put_tag, read_whole};
 
 const BYTES: &[(u8, &[u8])] = &[(7, &[7])];

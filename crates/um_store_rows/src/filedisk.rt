@@ -1,5 +1,6 @@
 //! A file as a disk: what the system keeps of it.
 use crate::answers::fails;
+use crate::asserts::{same, same_at};
 use crate::marks::marked_byte;
 use std::fs::{File, Files, OpenOptions};
 use std::os::unix::fs::MetadataExt;
@@ -8,7 +9,6 @@ use std::process::Abort;
 use std::test::Fail;
 use std::{env, fs, process};
 use um_filedisk::{DirectoryLock, FileDisk, FileFault, is_same_place};
-use um_rows_shared::{same, same_at};
 use um_sector::{Disk, Sector};
 
 /// A place for a test's file, free of what an earlier process left there.

@@ -1,8 +1,8 @@
 //! The canonical bytes of inputs: each of the 18, typed from the format, and what is no input.
+use crate::asserts::{same, text, unit};
 use crate::spelled::{hex, is_not_read, is_spelled};
 use std::process::Abort;
 use um_model::{End, InstallVerb, JobMode, Moment, UnitVerb};
-use um_rows_shared::{same, text, unit};
 use um_state::{BootId, Command, Event, Happening, Input};
 use um_tree::Tree;
 use um_wire::spell;

@@ -1,9 +1,9 @@
 //! Keepers over disks in memory, what a crash leaves of them, and the calls that they make.
 use crate::answers::sector_at;
+use crate::asserts::same;
 use std::process::Abort;
 use um_keeper::{Keeper, create};
 use um_model::Layout;
-use um_rows_shared::same;
 use um_sector::{Disk, Fuse, MemDisk, Sector};
 
 /// Asserts that a sector has these bytes in front and zeros behind them.

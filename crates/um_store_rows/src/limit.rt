@@ -1,8 +1,8 @@
 //! The start limit of a unit.
+use crate::asserts::same_at;
 use std::process::Abort;
 use um_limit::{Counted, Window};
 use um_model::{Moment, Span};
-use um_rows_shared::same_at;
 
 /// What a window has counted before and after these starts: since which moment, and how many. Of each start its moment, and whether
 /// the window lets it through.

@@ -1,12 +1,12 @@
 //! Lists of inputs that a keeper takes one behind the other.
 use crate::answers::is_refused;
+use crate::asserts::same;
 use crate::inputs::{A, B, input, put, starts};
 use crate::keepers::{calls_since, crash, files_in, files_on, opened};
 use std::process::Abort;
 use um_keeper::{Keeper, Receipt};
 use um_model::{JobMode, UnitVerb};
 use um_name::UnitName;
-use um_rows_shared::same;
 use um_sector::Disk;
 use um_state::{Command, Event, Happening, Input};
 use um_wire::Refusal;

@@ -1,9 +1,9 @@
 //! The log of a store: its records and what a crash leaves of them.
 use crate::answers::{change, filled, is_refused, sector_at};
+use crate::asserts::{same, same_at};
 use std::fmt::Debug;
 use std::process::Abort;
 use um_log::{Layout, Log, scan};
-use um_rows_shared::{same, same_at};
 use um_sector::{Disk, Fuse, MemDisk};
 
 /// The first sector of the log, of slots of 64 sectors.

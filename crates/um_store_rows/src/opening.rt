@@ -1,10 +1,10 @@
 //! Stores that are made and opened: what stands there, and what is refused with which sector.
 use crate::answers::{is_refused, sector_at};
+use crate::asserts::same;
 use crate::inputs::{A, put, take};
 use crate::keepers::{calls_of_open, crash, files_on, has_layout, made, over};
 use std::process::Abort;
 use um_keeper::Keeper;
-use um_rows_shared::same;
 use um_sector::{Disk, Fuse, MemDisk, Sector};
 
 /// Writes a sector.

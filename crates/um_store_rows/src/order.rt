@@ -1,7 +1,7 @@
 //! Numberings along pairs, and cycles.
+use crate::asserts::same;
 use std::process::Abort;
 use um_order::{Order, check};
-use um_rows_shared::same;
 
 /// Nodes, pairs, and how many nodes are numbered where they can be; else the cycles of which one is told.
 struct Row {

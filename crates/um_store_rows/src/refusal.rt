@@ -1,7 +1,7 @@
 //! The numbers and names of refusals, and how they print.
+use crate::asserts::{same, same_at, text};
 use std::alloc::{AllocError, Global};
 use std::process::Abort;
-use um_rows_shared::{same, same_at, text};
 use um_wire::{
     Limit, Refusal, Texts, bad_name, bad_path, bad_setting, clash, exists_at, job_conflict, masked,
     no_such_job, not_found, not_loaded, unknown_verb,

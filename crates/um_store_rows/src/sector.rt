@@ -1,8 +1,8 @@
 //! A disk in memory, its crashes, and a disk that fails a call.
 use crate::answers::{fails, sector_at};
+use crate::asserts::{same, same_at};
 use std::fmt::Debug;
 use std::process::Abort;
-use um_rows_shared::{same, same_at};
 use um_sector::{
     Disk, Fault, Fields, Fuse, MemDisk, Sector, u32_at, u64_at, write_blank, write_run_synced,
 };

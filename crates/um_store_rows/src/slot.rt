@@ -1,8 +1,8 @@
 //! The two slots of a store and its sector 0.
 use crate::answers::{change, filled, is_refused, sector_at};
+use crate::asserts::{same, same_at};
 use std::fmt::Debug;
 use std::process::Abort;
-use um_rows_shared::{same, same_at};
 use um_sector::{Disk, Fuse, MemDisk};
 use um_slot::{Home, Layout, Slot, newest, read_superblock, superblock, write_first, write_other};
 

@@ -1,7 +1,7 @@
 //! Values and the bytes that spell them.
+use crate::asserts::{same, same_at};
 use std::fmt::Debug;
 use std::process::Abort;
-use um_rows_shared::{same, same_at};
 use um_wire::{Canon, spell};
 
 /// Asserts that the value is spelled by these bytes.

@@ -1,4 +1,5 @@
 //! The canonical bytes of the state: typed from the format, and each condition broken by one byte.
+use crate::asserts::{same, same_at, text, unit};
 use crate::spelled::{are_not_read, are_read, followed, hex, is_spelled};
 use std::process::Abort;
 use um_model::{
@@ -6,7 +7,6 @@ use um_model::{
     UnitResult, UnitState,
 };
 use um_name::UnitName;
-use um_rows_shared::{same, same_at, text, unit};
 use um_state::{BootId, State};
 use um_tree::Tree;
 use um_wire::{Canon, spell};

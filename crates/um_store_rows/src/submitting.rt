@@ -1,12 +1,12 @@
 //! Inputs that a keeper takes: what it writes of them, what a crash leaves, what it refuses.
 use crate::answers::{is_refused, sector_at};
+use crate::asserts::same;
 use crate::inputs::{A, B, input, put, put_long, submit, take};
 use crate::keepers::{calls_since, crash, files_in, files_on, has_layout, opened, over};
 use std::process::Abort;
 use um_keeper::{Keeper, OpenedStore};
 use um_model::{End, JobMode, Moment, UnitVerb};
 use um_name::UnitName;
-use um_rows_shared::same;
 use um_sector::{Disk, Fuse, MemDisk, Sector};
 use um_state::{Command, Event, Happening};
 use um_wire::spell;

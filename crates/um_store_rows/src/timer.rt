@@ -1,7 +1,7 @@
 //! Deadlines by unit.
+use crate::asserts::{same, unit};
 use std::process::Abort;
 use um_model::Deadline;
-use um_rows_shared::{same, unit};
 use um_timer::Timers;
 
 /// Sets these deadlines, each of the unit of this name, one after another.

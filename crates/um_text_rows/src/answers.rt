@@ -1,6 +1,6 @@
 //! What texts and units are read as, and the trees that rows stand on.
+use crate::asserts::text;
 use std::process::Abort;
-use um_rows_shared::text;
 use um_tree::{Entry, Tree};
 use um_wire::Refusal;
 use um_words::{Command, Variable};

@@ -1,8 +1,8 @@
 //! What each verb that changes the links of a unit makes and removes.
 use crate::answers::{list, tree_of};
+use crate::asserts::{same_at, unit};
 use std::process::Abort;
 use um_install::{Installed, disable, enable, mask, unmask};
-use um_rows_shared::{same_at, unit};
 use um_tree::{Entry, Tree};
 use um_wire::Refusal;
 

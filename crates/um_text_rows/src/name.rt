@@ -1,9 +1,9 @@
 //! Unit names, their parts and escapes.
 use crate::answers::repeated;
+use crate::asserts::{is_refused, same, same_at, unit};
 use std::collections::BTreeMap;
 use std::process::Abort;
 use um_name::{Suffix, UnitName, escape, is_unit_name, suffix_of, unescape};
-use um_rows_shared::{is_refused, same, same_at, unit};
 
 /// Names.
 const TAKEN: &[&str] = &[

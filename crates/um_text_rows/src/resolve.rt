@@ -1,8 +1,8 @@
 //! Where a unit's name leads, and the files that it is read from.
 use crate::answers::{list, tree_of};
+use crate::asserts::{same_at, text, unit};
 use std::process::Abort;
 use um_resolve::{Files, UnitFile, files_of};
-use um_rows_shared::{same_at, text, unit};
 use um_tree::Entry;
 
 /// A tree of templates, links and masks.

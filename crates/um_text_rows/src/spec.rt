@@ -1,5 +1,5 @@
 //! Specifiers in a text, under the name of a unit.
-use um_rows_shared::{same_at, unit};
+use crate::asserts::{same_at, unit};
 use um_spec::expand;
 
 /// A text, and what it is expanded to under the name, where it has an expansion.

@@ -1,7 +1,7 @@
 //! What the lines of a unit file say.
 use crate::answers::repeated;
+use crate::asserts::{same, same_at};
 use std::process::Abort;
-use um_rows_shared::{same, same_at};
 use um_syntax::{Item, WarningKind, parse};
 
 /// What a line says, with its number first.

@@ -1,5 +1,5 @@
 //! Spaces and tabs, and runs of a class of characters.
-use um_rows_shared::{same, same_at};
+use crate::asserts::{same, same_at};
 use um_text::{Class, is_blank, split_run, trim, trim_end, trim_start};
 
 /// A text, what is left of it where its start, its end and both are trimmed, and whether it is blank.

@@ -1,7 +1,7 @@
 //! Served paths, and the tree of files and links.
 use crate::answers::{put, repeated, tree_of};
+use crate::asserts::{is_refused, same, same_at};
 use std::process::Abort;
-use um_rows_shared::{is_refused, same, same_at};
 use um_tree::{Entry, Layer, Place, ServedPath, Tree};
 
 /// Paths, and whether they are served.

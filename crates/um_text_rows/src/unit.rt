@@ -1,8 +1,8 @@
 //! Units by their files: settings, warnings, and why they can't be loaded.
 use crate::answers::{Wanted, commands_of, list, put, variables_of};
+use crate::asserts::{same_at, unit};
 use std::process::Abort;
 use um_model::{End, RestartPolicy, Span, UnitKind};
-use um_rows_shared::{same_at, unit};
 use um_tree::{Entry, Tree};
 use um_unit::{InstallSettings, LoadedUnit, Loading, ServiceSettings, Warning, load};
 use um_value::ExitSet;

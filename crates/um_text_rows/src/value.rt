@@ -1,7 +1,7 @@
 //! Truth values, numbers, time spans, sets of exits and restart policies.
+use crate::asserts::{same, same_at};
 use std::process::Abort;
 use um_model::{End, Span};
-use um_rows_shared::{same, same_at};
 use um_value::{ExitSet, RestartPolicy, TimeSpan, boolean, exit_set, number, restart, span};
 
 /// Texts, and the truth value of each; None where it has none.

@@ -1,7 +1,7 @@
 //! Words, commands and the variables in them.
 use crate::answers::{Wanted, commands_of, list, variables_of};
+use crate::asserts::same_at;
 use std::process::Abort;
-use um_rows_shared::same_at;
 use um_words::{Command, Room, commands, is_executable_word, names, room_after, substitute, words};
 
 /// A text, and the words or names in it; None where it can't be read.

@@ -1,6 +1,4 @@
-//! Answers as values that can be compared and shown, and what rows are made of.
-ghost use Rattle.std.specs.Prelude.{◌≡◌, string_bytes};
-
+//! What rows assert, and what they are made of.
 use std::fmt::Debug;
 use std::process::Abort;
 use um_name::UnitName;
@@ -46,15 +44,11 @@ fn prints<R: Debug + Drop>(
 }
 
 /// A text of its own.
-pub fn text(rt: &(impl AllocGlobal + Abort), text: &str) -> String
-    ensures { string_bytes result ≡ text.now }
-{
+pub fn text(rt: &(impl AllocGlobal + Abort), text: &str) -> String {
     String::from_str(rt.alloc(), text).expect(rt, "no memory")
 }
 
 /// The unit of this name.
-pub fn unit(rt: &(impl AllocGlobal + Abort), text: &str) -> UnitName
-    ensures { result ≡ text.now }
-{
+pub fn unit(rt: &(impl AllocGlobal + Abort), text: &str) -> UnitName {
     UnitName::parse(rt.alloc(), text).expect(rt, "no unit")
 }
