@@ -1,5 +1,10 @@
 -- What a boot does to the live processes, and that it asks for nothing.
-use Rattle.std.proofs.Common.{◌≡◌, ◌≢◌, ◌⊎◌, ◌+◌, ◌≤◌, ℕ, List, [], length, length-append, None, unwrap_or, refl, sym, subst, inl, inr, arith}
+use Rattle.std.proofs.Common.{◌≡◌, ◌≢◌, ◌⊎◌, ◌↔◌, ◌+◌, ◌≤◌, ◌∙◌, ℕ, List, [], length, length-append, Bool, true, false, true≢false, None, unwrap_or, Result, Ok, Err, refl, sym, ap, subst, inl, inr, arith}
+use Rattle.um_engine.specs.OfStore.{is_of_store}
+use Rattle.um_sector.specs.Refused.{IsLost}
+use Rattle.um_wire.specs.Refusal.{refused_of}
+use Rattle.um_wire.specs.declared.refusal.Refusal as declared
+use Rattle.um_wire.specs.declared.refusal.Refusal.TheVariants.{Reopen, GenerationsSpent}
 use Rattle.std.specs.Bool.{⊤}
 use Rattle.std.specs.FinMap as map
 use Rattle.byteorder.specs.Endian.{big_bytes}
@@ -101,6 +106,16 @@ is_answered size moment boot s t r actions step = isnt_done (done size s t (happ
   where
     isnt_done : Refusal r ≡ Done → ⊥
     isnt_done e = cc
+
+-- so what refuses a boot of a store that didn't fail before is want of memory, the disk, or that it has no room
+pub boot_refused : {T : Type 0} {r : Result T declared.Refusal} {failed : Bool} (size moment : ℕ) (boot : List ℕ) (s : State) (e : declared.Refusal) → r ≡ Err e → failed ≡ false
+    → ((r ≡ Err Reopen) ↔ (failed ≡ true))
+    → (IsLost e ⊎ (e ≡ Reopen) ⊎ (e ≡ GenerationsSpent) ⊎ ((is_of_store e ≡ false) × Step size s (happens_at moment (Booted boot)) (Refusal (refused_of e)) [] s))
+    → IsLost e ⊎ (e ≡ GenerationsSpent)
+boot_refused size moment boot s e is works reopen (inl lost) = inl lost
+boot_refused size moment boot s e is works reopen (inr (inl again)) = absurd (true≢false (sym (reopen.0 (is ∙ ap Err again)) ∙ works))
+boot_refused size moment boot s e is works reopen (inr (inr (inl spent))) = inr spent
+boot_refused size moment boot s e is works reopen (inr (inr (inr own))) = absurd (is_answered size moment boot s s (refused_of e) [] own.1)
 
 -- ---- its record
 
