@@ -22,8 +22,8 @@ jobs-preserved c =
     let known = known_by c.args.graph.now c.in-Some.next.unit c.in-Some.next.name number in
     let begins = c.in_ok-begin_job.ensures.begun c.args.graph.now c.jobs.invariant.tells number in
     record {
-      tells = c.in_ok-tell_anew.ensures (state_of c.begin_job.new.state) (c.in_ok-begin_job.ensures.tells c.args.graph.now c.jobs.invariant.tells number) number
-          (λ none. (c.in_ok-spreads.ensures.others none, c.in_ok-spreads.ensures.ends none));
+      tells = c.tell_anew.ensures (state_of c.begin_job.new.state) (c.in_ok-begin_job.ensures.tells c.args.graph.now c.jobs.invariant.tells number) number
+          c.in_ok-spreads.ensures.others;
       whole = λ serves.
           let (whole, serves_now) = c.jobs.invariant.whole serves in
           let begun = serves_begun c.args.graph.now (state_of c.jobs.state) (state_of c.begin_job.new.state) job serves_now known begins in
