@@ -1,5 +1,6 @@
 ghost use Rattle.um_falling.specs.Carrying.{Adds};
-ghost use Rattle.std.specs.Prelude.{◌≡◌, false, map, Contains, Some, IfOk, IfSome, OnOk, MatchOption};
+ghost use Rattle.std.specs.Prelude.{◌≡◌, ◌↔◌, false, map, Contains, Some, IfOk, IfSome, IsTrue, OnOk, MatchOption};
+ghost use Rattle.std.specs.FinMap as finite;
 ghost use Rattle.um_engine.specs.Engine.{waits_to_restart, IsDue, NoneIsDue};
 ghost use Rattle.um_engine.specs.Filled.{Tells};
 ghost use Rattle.um_falling.specs.Carrying.{KeepsOthers};
@@ -20,7 +21,7 @@ use um_graph::Graph;
 use um_jobs::Jobs;
 use um_model::{Deadline, JobKind, Moment, SubState, UnitEvent};
 use um_name::UnitName;
-use um_state::{Action, State};
+use um_state::{Action, Pending, State};
 use um_timer::Timers;
 
 /// A job that begins: its unit's number and name, and what it does.
@@ -75,6 +76,13 @@ fn tell_anew(jobs: &mut Jobs<'_>, graph: &Graph, state: &State, next: &NextJob, 
     }
 }
 
+/// Whether no job is pending. It takes no memory.
+fn is_at_rest(alloc: Global, state: &State) -> bool
+    ensures { IsTrue result ↔ ((state_of state.now).pending ≡ finite.empty) }
+{
+    state.pending().is_same(&Pending::new(alloc))
+}
+
 /// Lets jobs begin at the moment, one after another, until none is ready. Where memory is refused the state is of no use.
 pub fn settle(
     alloc: Global,
@@ -87,6 +95,9 @@ pub fn settle(
         → Adds (model.Settles moment (state_of state.old)) (map action_of actions.old.items) (state_of state.new) (map action_of actions.new.items)
         × Serves graph.now (state_of state.new)) }
 {
+    if is_at_rest(alloc, state) {
+        return Ok(());
+    }
     let mut jobs = jobs_in(alloc, graph, state)?;
     'jobs: while let Some(next) = next_job(graph, &jobs)? {
         begin_job(&mut jobs, state, &next)?;
