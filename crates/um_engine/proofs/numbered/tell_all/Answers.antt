@@ -8,8 +8,8 @@ loop-unit-init c before tells = none_first c.args.graph.now before (state_of c.a
 
 pub loop-unit-preserved : goal.loop-unit-preserved
 loop-unit-preserved c before tells =
-    more_first c.args.graph.now (state_of c.args.state.now) c.loop-unit.unit c.loop-unit.jobs c.tell.new.jobs
-    (omega (arith, c.loop-unit-test.true, c.len-unit-end.ensures.len)) (c.loop-unit.invariant before tells) c.tell.ensures
+    more_first c.args.graph.now (state_of c.args.state.now) c.loop-unit.unit c.loop-unit.jobs
+    (omega (arith, c.loop-unit-test.true, c.len-unit-end.ensures.len)) (c.loop-unit.invariant before tells) c.tell.new.jobs c.tell.ensures
 
 pub returns : goal.returns
 returns c before tells =
