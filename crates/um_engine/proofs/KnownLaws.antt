@@ -14,7 +14,6 @@ use Rattle.um_model.specs.Live.{HoldsNoMore}
 use Rattle.um_model.proofs.KnownLaws.{more_known}
 use Rattle.um_model.proofs.SceneLaws.{one_count}
 use Rattle.um_model.proofs.TreeLaws.{without_run_twice}
-use Rattle.um_answer.specs.Loaded.{Loads}
 use Rattle.um_graph.specs.Graph.{GraphView, IsGraphOf}
 use Rattle.um_engine.specs.Known.{AreLasting, IsHeldWith, IsGraphFor, KnownView, KnowsFor}
 use Rattle.um_falling.specs.Over.{Serves}
@@ -45,14 +44,6 @@ module _ (s : State) (k : KnownView) (named : Option (List ℕ)) (knows : KnowsF
 pub exact_for : (s : State) (k : KnownView) → KnowsFor k s → ((x : List ℕ) → Contains k.extra x → IsHeld s x) → IsGraphOf s.loaded (IsHeld s) k.graph
 exact_for s k knows made =
     graph_too s.loaded (Contains k.extra) (IsHeld s) (same_here s k None knows made (λ x e. absurd (none-some x e))) k.graph knows.made.of
-
--- so it is of what was read off the state and what is known for it
-module _ (s t : State) (k l : KnownView) (g : GraphView) (knows : KnowsFor k s) (state : t ≡ s) (known : l ≡ k) (graph : g ≡ l.graph) where
-  pub loads_by : Loads g t.loaded
-  loads_by = subst (λ h. Loads h t.loaded) (sym (graph ∙ ap (λ (v : KnownView). v.graph) known)) (subst (λ (x : State). Loads k.graph x.loaded) (sym state) knows.made.of.loaded)
-
-  pub exact_by : (KnowsFor l t → IsGraphOf t.loaded (IsHeld t) l.graph) → IsGraphOf t.loaded (IsHeld t) g
-  exact_by exact = subst (IsGraphOf t.loaded (IsHeld t)) (sym graph) (exact (subst (KnowsFor l) (sym state) (subst (λ v. KnowsFor v s) (sym known) knows)))
 
 -- what is known for a state serves for it
 pub serves_for : (k : KnownView) (s : State) → KnowsFor k s → Serves k.graph s
