@@ -104,12 +104,7 @@ fn show_by(
 
 /// How the unit stands that counts for the name that was asked for. Of a name that the graph of the loaded tree knows no file is read.
 #[tactic(auto, using(um_model::proofs::OwnNameLaws::named_by_loading))]
-fn show(
-    alloc: Global,
-    state: &State,
-    graph: &Graph,
-    asked: &UnitName,
-) -> Result<Reply, AllocError>
+fn show(alloc: Global, state: &State, graph: &Graph, asked: &UnitName) -> Result<Reply, AllocError>
     ensures { Loads graph.now (state_of state.now).loaded → IfOk result (λ reply. reply_of reply
         ≡ model.Shown (model.shown_of asked.now (load_in (state_of state.now).loaded asked.now) (model.state_asked (state_of state.now) asked.now))) }
 {
