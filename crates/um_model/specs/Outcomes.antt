@@ -1,6 +1,6 @@
 -- When two outcomes of one step, and two texts written for one stream, are the same but for the cycles that refusals name.
 -- Follows no manual page: which cycle a refusal names is left open.
--- The laws of one outcome in um_engine and um_bin depend on this file.
+-- The laws of one outcome in um_engine and um_memory depend on this file.
 use Rattle.std.specs.Prelude.{◌≡◌, ℕ, List, ◌++◌}
 use Rattle.um_model.specs.Frames.{frame_of, last_reply}
 use Rattle.um_model.specs.Machine.{State, Reply, Refusal}

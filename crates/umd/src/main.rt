@@ -18,11 +18,10 @@ use std::net::Net;
 use std::process::{ExitCode, Processes};
 use std::time::Clock;
 use std::{env, io};
-use um_bin::{line, memory};
 use um_create::{Layout, create_store};
 use um_ctl::{Told, Words, ask, meaning_line, shown};
-use um_line::{CreateLine, CtlLine, Line};
-use um_memory::{Ending, Fault};
+use um_line::{CreateLine, CtlLine, Line, read_line};
+use um_memory::{Ending, Fault, memory};
 use um_runner::{Folder, FolderFault, RunnerLine};
 
 fn serve_memory<R: Input + Print>(rt: &R, alloc: Global) -> Result<u8, Fault> {
@@ -113,7 +112,7 @@ fn explain<R: Print>(rt: &R, alloc: Global, number: u32) -> Result<u8, Fault> {
 
 /// What the words ask for. What is told of wrong words is told of them as they are shown, without control characters.
 fn read<'a>(alloc: Global, words: &'a [String]) -> Result<Line<'a>, AllocError> {
-    match line(alloc, words)? {
+    match read_line(alloc, words)? {
         Line::Wrong(_) => {}
         asked => return Ok(asked),
     }
@@ -121,7 +120,7 @@ fn read<'a>(alloc: Global, words: &'a [String]) -> Result<Line<'a>, AllocError> 
     for word in words {
         others.push(shown(alloc, word.as_str())?)?;
     }
-    let text = match line(alloc, others.as_slice())? {
+    let text = match read_line(alloc, others.as_slice())? {
         Line::Wrong(text) => text,
         _ => String::from_str(alloc, "error: a word holds a control character\n")?,
     };

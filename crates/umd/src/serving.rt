@@ -9,7 +9,6 @@ use std::fs::{File, Files};
 use std::net::Net;
 use std::process::Processes;
 use std::time::Clock;
-use um_bin::serve;
 use um_children::Children;
 use um_gate::{Moments, SocketGate, SystemMoments, system_moment};
 use um_keeper::OpenedStore;
@@ -17,7 +16,7 @@ use um_line::ServeLine;
 use um_manager::Manager;
 use um_model::{Deadline, Moment};
 use um_sector::Disk;
-use um_serve::{Buffered, Pace};
+use um_serve::{Buffered, Pace, serve};
 use um_state::BootId;
 use um_wire::Refusal;
 
