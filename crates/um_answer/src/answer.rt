@@ -1,25 +1,27 @@
-ghost use Rattle.std.specs.Prelude.{◌≡◌, IfOk};
+ghost use Rattle.std.specs.Prelude.{◌≡◌, IfOk, map};
 ghost use Rattle.um_model.specs.Install.{IsEnabledAs};
 ghost use Rattle.um_model.specs.Jobs.{jobs_shown};
 ghost use Rattle.um_model.specs.Machine as model;
 ghost use Rattle.um_model.specs.Resolution.{resolution_of};
-ghost use Rattle.um_model.specs.Service.{active_state_of};
-ghost use Rattle.um_model.specs.Units.{load as load_in};
+ghost use Rattle.um_model.specs.Service.{active_state_of, state_of_unit};
+ghost use Rattle.um_model.specs.Units.{load as load_in, name_in};
 ghost use Rattle.um_state.specs.View.{state_of, query_of, reply_of, shown_of as shown_view};
 ghost use Rattle.um_model.specs.declared.install.Enabling.{Enabling};
-ghost use Rattle.um_unit.specs.View.{loading_of, unit_of};
+ghost use Rattle.um_unit.specs.View.{loading_of, unit_of, warning_of};
+ghost use Rattle.um_answer.specs.Loaded.{Loads};
 ghost use Rattle.um_answer.specs.Shown.{shown_of_loaded};
 
 use crate::listing::list_units;
-use crate::names::name_in;
+use crate::names::{Asked, loading_in, name_in};
 use std::alloc::{AllocError, Global};
+use um_graph::Graph;
 use um_install::is_enabled;
 use um_model::{LoadState, UnitState};
 use um_name::UnitName;
 use um_resolve::{Files, files_of};
 use um_state::{Query, Reply, State, UnitShown};
 use um_tree::Tree;
-use um_unit::{LoadedUnit, Loading, load};
+use um_unit::{LoadedUnit, Loading, Warning, load};
 use um_wire::{masked, not_found};
 
 /// A unit that isn't loaded is shown with no description and no warning.
@@ -40,20 +42,29 @@ fn shown_without_settings(
     })
 }
 
-fn shown_loaded(alloc: Global, unit: LoadedUnit, state: UnitState) -> Result<UnitShown, AllocError>
-    ensures { IfOk result (λ u. shown_view u ≡ shown_of_loaded (unit_of unit) state) }
+/// The same warnings again.
+fn copied(alloc: Global, warnings: &[Warning]) -> Result<Vec<Warning>, AllocError>
+    ensures { IfOk result (λ copies. map warning_of copies.items ≡ map warning_of warnings.now) }
 {
-    let LoadedUnit {
-        name,
-        settings,
-        warnings,
-        ..
-    } = unit;
+    let mut copies = Vec::new(alloc);
+    for warning in warnings {
+        copies.push(Warning {
+            kind: warning.kind,
+            path: warning.path.clone()?,
+            line: warning.line,
+        })?;
+    }
+    Ok(copies)
+}
+
+fn shown_loaded(alloc: Global, unit: &LoadedUnit, state: UnitState) -> Result<UnitShown, AllocError>
+    ensures { IfOk result (λ u. shown_view u ≡ shown_of_loaded (unit_of unit.now) state) }
+{
     Ok(UnitShown {
-        id: String::from_str(alloc, name.as_str())?,
+        id: unit.name.text()?,
         load: LoadState::Loaded,
-        description: settings.description,
-        warnings,
+        description: unit.settings.description.clone()?,
+        warnings: copied(alloc, &unit.warnings)?,
         state,
     })
 }
@@ -61,40 +72,60 @@ fn shown_loaded(alloc: Global, unit: LoadedUnit, state: UnitState) -> Result<Uni
 fn shown(
     alloc: Global,
     asked: &UnitName,
-    loading: Loading,
+    loading: &Loading,
     state: UnitState,
 ) -> Result<UnitShown, AllocError>
-    ensures { IfOk result (λ u. shown_view u ≡ model.shown_of asked.now (loading_of loading) state) }
+    ensures { IfOk result (λ u. shown_view u ≡ model.shown_of asked.now (loading_of loading.now) state) }
 {
     match loading {
         Loading::Found(loaded) => shown_loaded(alloc, loaded, state),
-        Loading::Masked { unit } => shown_without_settings(alloc, &unit, LoadState::Masked, state),
+        Loading::Masked { unit } => shown_without_settings(alloc, unit, LoadState::Masked, state),
         Loading::NotFound => shown_without_settings(alloc, asked, LoadState::NotFound, state),
         Loading::BadSetting { unit, .. } => {
-            shown_without_settings(alloc, &unit, LoadState::BadSetting, state)
+            shown_without_settings(alloc, unit, LoadState::BadSetting, state)
         }
     }
 }
 
-/// How the unit stands that counts for the name that was asked for.
-#[tactic(auto, using(um_model::proofs::OwnNameLaws::named_by_loading))]
-fn show(alloc: Global, state: &State, asked: &UnitName) -> Result<Reply, AllocError>
-    ensures { IfOk result (λ reply. reply_of reply
-        ≡ model.Shown (model.shown_of asked.now (load_in (state_of state.now).loaded asked.now) (model.state_asked (state_of state.now) asked.now))) }
+/// How the unit stands that counts for the name that was asked for, by what became of the look for it.
+fn show_by(
+    alloc: Global,
+    state: &State,
+    asked: &UnitName,
+    loading: &Loading,
+) -> Result<Reply, AllocError>
+    ensures { IfOk result (λ reply. reply_of reply ≡ model.Shown (model.shown_of asked.now (loading_of loading.now)
+        (state_of_unit (state_of state.now).units (name_in asked.now (loading_of loading.now))))) }
 {
-    let loading = load(alloc, state.loaded(), asked)?;
-    let stands = state.units().get(name_in(asked, &loading));
+    let stands = state.units().get(name_in(asked, loading));
     let shown = shown(alloc, asked, loading, stands)?;
     Ok(Reply::Shown(Box::new(alloc, shown)?))
 }
 
-/// The active state of that unit.
+/// How the unit stands that counts for the name that was asked for. Of a name that the graph of the loaded tree knows no file is read.
 #[tactic(auto, using(um_model::proofs::OwnNameLaws::named_by_loading))]
-fn activity(alloc: Global, state: &State, asked: &UnitName) -> Result<Reply, AllocError>
-    ensures { IfOk result (λ reply. reply_of reply ≡ model.Activity (active_state_of (model.state_asked (state_of state.now) asked.now).sub)) }
+fn show(alloc: Global, state: &State, graph: &Graph, asked: &UnitName) -> Result<Reply, AllocError>
+    ensures { Loads graph.now (state_of state.now).loaded → IfOk result (λ reply. reply_of reply
+        ≡ model.Shown (model.shown_of asked.now (load_in (state_of state.now).loaded asked.now) (model.state_asked (state_of state.now) asked.now))) }
 {
-    let loading = load(alloc, state.loaded(), asked)?;
-    let stands = state.units().get(name_in(asked, &loading));
+    if let Some(loading) = loading_in(graph, asked) {
+        return show_by(alloc, state, asked, loading);
+    }
+    show_by(alloc, state, asked, &load(alloc, state.loaded(), asked)?)
+}
+
+/// The active state of that unit.
+fn activity(
+    alloc: Global,
+    state: &State,
+    graph: &Graph,
+    asked: &UnitName,
+) -> Result<Reply, AllocError>
+    ensures { Loads graph.now (state_of state.now).loaded
+        → IfOk result (λ reply. reply_of reply ≡ model.Activity (active_state_of (model.state_asked (state_of state.now) asked.now).sub)) }
+{
+    let leads = Asked::of(alloc, graph, state.loaded(), asked)?;
+    let stands = state.units().get(&leads.unit);
     Ok(Reply::Activity(stands.sub.active_state()))
 }
 
@@ -123,13 +154,19 @@ fn list_jobs(state: &State) -> Result<Reply, AllocError>
     Ok(Reply::Jobs(state.pending().shown()?))
 }
 
-/// The reply to a query.
-pub fn reply_to(alloc: Global, state: &State, query: &Query) -> Result<Reply, AllocError>
-    ensures { IfOk result (λ reply. model.IsReplyTo (state_of state.now) (query_of query.now) (reply_of reply)) }
+/// The reply to a query, by a graph that holds what the loaded tree tells of its units: of these no file is read. The units are listed
+/// anew, since the graph may know more of them.
+pub fn reply_to(
+    alloc: Global,
+    state: &State,
+    graph: &Graph,
+    query: &Query,
+) -> Result<Reply, AllocError>
+    ensures { Loads graph.now (state_of state.now).loaded → IfOk result (λ reply. model.IsReplyTo (state_of state.now) (query_of query.now) (reply_of reply)) }
 {
     match query {
-        Query::Show { unit } => show(alloc, state, unit),
-        Query::IsActive { unit } | Query::IsFailed { unit } => activity(alloc, state, unit),
+        Query::Show { unit } => show(alloc, state, graph, unit),
+        Query::IsActive { unit } | Query::IsFailed { unit } => activity(alloc, state, graph, unit),
         Query::Cat { unit } => cat(alloc, state.tree(), unit),
         Query::IsEnabled { unit } => enabled_as(alloc, state.tree(), unit),
         Query::ListUnits => list_units(alloc, state),

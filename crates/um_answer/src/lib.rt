@@ -7,5 +7,6 @@ mod missing;
 mod names;
 
 pub use answer::reply_to;
+pub use listing::list_known;
 pub use missing::check_missing;
 pub use names::Asked;

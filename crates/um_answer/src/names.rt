@@ -1,7 +1,8 @@
 //! The name that counts for the one that was asked for.
 
-ghost use Rattle.std.specs.Prelude.{◌≡◌, IfOk, Contains};
+ghost use Rattle.std.specs.Prelude.{◌≡◌, IfOk, IfSome, Contains};
 ghost use Rattle.um_answer.specs.Loaded.{Loads, is_found};
+ghost use Rattle.um_model.specs.Tree.{Tree};
 ghost use Rattle.um_model.specs.Units.{load as load_in, name_in, unit_named};
 ghost use Rattle.um_unit.specs.View.{loading_of};
 
@@ -37,6 +38,13 @@ fn is_found(loading: &Loading) -> bool
     !matches!(loading, Loading::NotFound)
 }
 
+/// What became of the look for a name, where the graph knows it.
+pub(crate) fn loading_in<'g>(graph: &'g Graph, asked: &UnitName) -> Option<&'g Loading>
+    ensures { (tree : Tree) → Loads graph.now tree → IfSome result (λ loading. loading_of loading.now ≡ load_in tree asked.now) }
+{
+    graph.loading(graph.number(asked)?)
+}
+
 /// What a name that was asked for leads to.
 #[derive(Drop)]
 pub struct Asked {
@@ -69,10 +77,8 @@ impl Asked {
         ensures unit { Loads graph.now tree.now → IfOk result (λ a. a.unit ≡ unit_named tree.now asked.now) }
         ensures found { Loads graph.now tree.now → IfOk result (λ a. a.is_found ≡ is_found (load_in tree.now asked.now)) }
     {
-        if let Some(unit) = graph.number(asked) {
-            if let Some(loading) = graph.loading(unit) {
-                return Asked::by(asked, loading);
-            }
+        if let Some(loading) = loading_in(graph, asked) {
+            return Asked::by(asked, loading);
         }
         Asked::by(asked, &load(alloc, tree, asked)?)
     }

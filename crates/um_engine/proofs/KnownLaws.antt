@@ -1,7 +1,7 @@
 -- What is known for a state, by what the tests of it tell.
 use Rattle.std.proofs.Common.{◌≡◌, ◌⊎◌, ◌↔◌, ◌∙◌, ◌<◌, ◌≤◌, ℕ, List, Contains, Option, Some, None, Result, Ok, Err, is_some, Bool, true, true≢false, refl, sym, ap, subst, inl, inr, arith}
 use Rattle.std.specs.Prelude.{IfOk, MatchOption, slice_get, unwrap_or}
-use Rattle.std.proofs.lemmas.Option.{get_or_from_slice_get}
+use Rattle.std.proofs.lemmas.Option.{get_or_from_slice_get, none-some}
 use Rattle.um_graph.proofs.NamedLaws.{got_within}
 use Rattle.um_model.specs.Dependencies.{CountsFor, IsKnown, KnowsTooMany, extra}
 use Rattle.um_model.specs.Servable.{IsFew}
@@ -17,7 +17,7 @@ use Rattle.um_model.proofs.TreeLaws.{without_run_twice}
 use Rattle.um_graph.specs.Graph.{GraphView, IsGraphOf}
 use Rattle.um_engine.specs.Known.{AreLasting, IsHeldWith, IsGraphFor, KnownView, KnowsFor}
 use Rattle.um_falling.specs.Over.{Serves}
-use Rattle.um_engine.proofs.SameUnitsLaws.{KnowsSame, count_by, graph_same}
+use Rattle.um_engine.proofs.SameUnitsLaws.{KnowsSame, count_by, graph_same, graph_too}
 
 module _ (s : State) (k : KnownView) (named : Option (List ℕ)) (knows : KnowsFor k s) (made : (x : List ℕ) → Contains k.extra x → IsHeldWith s named x)
     (known : (x : List ℕ) → named ≡ Some x → Contains k.graph.names x) where
@@ -39,6 +39,11 @@ module _ (s : State) (k : KnownView) (named : Option (List ℕ)) (knows : KnowsF
     -- the graph is exactly that of the units that count
     pub fits_for : IsGraphFor s.loaded (IsHeldWith s named) k.graph
     fits_for = graph_same s.loaded (Contains k.extra) (IsHeldWith s named) same_here same_without k.graph knows.made
+
+-- where the state holds all for which the graph was made, it is that of just the units that are known for the state
+pub exact_for : (s : State) (k : KnownView) → KnowsFor k s → ((x : List ℕ) → Contains k.extra x → IsHeld s x) → IsGraphOf s.loaded (IsHeld s) k.graph
+exact_for s k knows made =
+    graph_too s.loaded (Contains k.extra) (IsHeld s) (same_here s k None knows made (λ x e. absurd (none-some x e))) k.graph knows.made.of
 
 -- what is known for a state serves for it
 pub serves_for : (k : KnownView) (s : State) → KnowsFor k s → Serves k.graph s

@@ -198,6 +198,13 @@ module _ (g : GraphView) (s : State) (serves : Serves g s) (v : JobsView) (tells
     first = λ other ready apart. least.first other (ready_there other ready) apart;
   })
 
+-- where no job is pending none is ready
+pub still_empty : (s : State) → s.pending ≡ map.empty → IsStill s
+still_empty s empty j ready = none-some Waiting (sym none_pending ∙ ready.waits)
+  where
+    none_pending : state_of_job s.pending j ≡ None
+    none_pending = ap (λ p. state_of_job p j) empty ∙ (ap (λ o. job_of j.kind (unwrap_or o no_jobs)) (map.get-empty _ j.unit) ∙ no_job j.kind)
+
 -- ---- a job that begins is one fewer that waits
 
 abbrev pub waiting_in : GraphView → State → ℕ

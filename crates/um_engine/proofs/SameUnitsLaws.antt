@@ -59,7 +59,7 @@ module _ (tree : Tree) (E F : List ℕ → Type 0) (h : KnowsSame tree E F) wher
   }
 
 module _ (tree : Tree) (E F : List ℕ → Type 0) (h : KnowsSame tree E F) where
-  graph_too : (g : GraphView) → IsGraphOf tree E g → IsGraphOf tree F g
+  pub graph_too : (g : GraphView) → IsGraphOf tree E g → IsGraphOf tree F g
   graph_too g of =
       let b = same_back tree E F h in
       record {

@@ -21,7 +21,7 @@ use crate::settling::settle;
 use std::alloc::{AllocError, Global};
 use std::mem;
 use std::rc::Rc;
-use um_answer::reply_to;
+use um_answer::{list_known, reply_to};
 use um_model::Moment;
 use um_state::{Action, Command, Event, Input, Query, Reply, State};
 use um_wire::Refusal;
@@ -233,7 +233,14 @@ impl Engine {
     pub fn query(&self, query: &Query) -> Result<Reply, AllocError>
         ensures { IfOk result (λ reply. model.IsReplyTo (state_in self.now) (query_of query.now) (reply_of reply)) }
     {
-        reply_to(self.alloc, self.served.state(), query)
+        let state = self.served.state();
+        let known = self.served.known();
+        match query {
+            Query::ListUnits if known.is_exact(state) => {
+                list_known(self.alloc, state, known.graph())
+            }
+            _ => reply_to(self.alloc, state, known.graph(), query),
+        }
     }
 }
 

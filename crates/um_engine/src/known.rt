@@ -4,7 +4,7 @@ ghost use Rattle.std.specs.Prelude.{◌≡◌, ◌↔◌, ℕ, List, Contains, I
 ghost use Rattle.um_engine.specs.Known.{AreLasting, IsFull, IsGraphFor, IsHeldWith, KnowsFor, KnownView};
 ghost use Rattle.um_model.specs.Dependencies.{IsKnown};
 ghost use Rattle.um_model.specs.Tree.{without_run};
-ghost use Rattle.um_graph.specs.Graph.{IsNumberOf};
+ghost use Rattle.um_graph.specs.Graph.{IsGraphOf, IsNumberOf};
 ghost use Rattle.um_model.specs.Machine.{IsHeld};
 ghost use Rattle.um_state.specs.View.{state_of};
 ghost use Rattle.um_wire.specs.declared.refusal.Refusal.TheVariants as refusals;
@@ -188,6 +188,14 @@ impl Known {
             Some(unit) => !holds_with(state, named, unit) || self.lasts(unit),
             None => true,
         }
+    }
+
+    /// Whether the units of the graph are exactly those that are known for the state: it holds each one for which the graph was made.
+    pub fn is_exact(&self, state: &State) -> bool
+        ensures { IsTrue result → KnowsFor self.now (state_of state.now)
+            → IsGraphOf (state_of state.now).loaded (IsHeld (state_of state.now)) self.now.graph }
+    {
+        self.is_made_for(state, None)
     }
 
     /// Whether what is known for a state is exactly what counts by its loaded tree, with the units that it holds and the one that

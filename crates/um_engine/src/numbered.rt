@@ -1,18 +1,20 @@
 //! The pending jobs of a state by the numbers of a graph's units, with what of them counts as deactivating, and again by their names.
 
-ghost use Rattle.std.specs.Prelude.{◌≡◌, ℕ, List, IfOk, OnOk, length};
-ghost use Rattle.um_engine.specs.Filled.{Tells, deactivates, is_deactivating};
+ghost use Rattle.std.specs.Prelude.{◌≡◌, ℕ, List, IfOk, MatchOption, OnOk, length};
+ghost use Rattle.um_engine.specs.Filled.{Tells, deactivates, is_deactivating, told_of};
 ghost use Rattle.um_engine.specs.Planned.{ArePending};
 ghost use Rattle.um_graph.specs.Graph.{IsGraph, IsNumberOf};
+ghost use Rattle.um_jobs.specs.Jobs.{with_jobs_at, without_job};
 ghost use Rattle.um_jobs.specs.Named.{jobs_at, jobs_by};
-ghost use Rattle.um_model.specs.Jobs.{jobs_of_unit, with_jobs};
+ghost use Rattle.um_model.specs.Jobs.{jobs_of_unit, with_job, with_jobs};
+ghost use Rattle.um_model.specs.Machine as model;
 ghost use Rattle.um_model.specs.Service.{active_state_of};
 ghost use Rattle.um_state.specs.View.{state_of};
 
 use std::alloc::{AllocError, Global};
 use um_graph::Graph;
 use um_jobs::Jobs;
-use um_model::{ActiveState, UnitJobs, UnitState};
+use um_model::{ActiveState, JobKind, JobState, UnitJobs, UnitState};
 use um_state::{Pending, State};
 
 /// The pending jobs of the unit with this number.
@@ -43,7 +45,7 @@ pub fn pending_by_number(
 }
 
 /// Whether a unit that stands so counts as deactivating.
-pub fn is_deactivating(stands: UnitState) -> bool
+fn is_deactivating(stands: UnitState) -> bool
     ensures { result ≡ is_deactivating (active_state_of stands.sub) }
 {
     matches!(stands.sub.active_state(), ActiveState::Deactivating)
@@ -69,6 +71,44 @@ pub fn jobs_in<'g>(alloc: Global, graph: &'g Graph, state: &State) -> Result<Job
         jobs.hold(unit, deactivates(graph, state, unit));
     }
     Ok(jobs)
+}
+
+/// Tells of the job of this kind of the unit with this number.
+fn tell_job(jobs: &mut Jobs<'_>, unit: usize, kind: JobKind, job: Option<JobState>)
+    ensures { MatchOption job
+        (jobs.new ≡ with_jobs_at jobs.old unit (without_job kind (jobs_at jobs.old.units unit)))
+        (λ state. jobs.new ≡ with_jobs_at jobs.old unit (with_job kind state (jobs_at jobs.old.units unit))) }
+{
+    match job {
+        Some(JobState::Waiting) => jobs.put(unit, kind),
+        Some(JobState::Running) => jobs.begin(unit, kind),
+        None => jobs.finish(unit, kind),
+    }
+}
+
+/// Tells of the unit with this number that it has just these jobs.
+fn tell_jobs(jobs: &mut Jobs<'_>, unit: usize, told: UnitJobs)
+    ensures { jobs.new ≡ with_jobs_at jobs.old unit told }
+{
+    tell_job(jobs, unit, JobKind::Stop, told.stop);
+    tell_job(jobs, unit, JobKind::Start, told.start);
+}
+
+/// Tells of the unit with this number what the state holds of it.
+pub fn tell(jobs: &mut Jobs<'_>, graph: &Graph, state: &State, unit: usize)
+    ensures { (x : List ℕ) → IsNumberOf graph.now unit x → jobs.new ≡ told_of (state_of state.now) unit x jobs.old }
+{
+    tell_jobs(jobs, unit, jobs_of(graph, state, unit));
+    jobs.hold(unit, deactivates(graph, state, unit));
+}
+
+/// Tells of each unit what the state holds of it, where that of another state was told. It takes no memory.
+pub fn tell_all(jobs: &mut Jobs<'_>, graph: &Graph, state: &State)
+    ensures { (before : model.State) → Tells graph.now before jobs.old → Tells graph.now (state_of state.now) jobs.new }
+{
+    for unit in 0..graph.len() {
+        tell(jobs, graph, state, unit);
+    }
 }
 
 /// Puts the jobs of the unit with this number under its name.

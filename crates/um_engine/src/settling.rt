@@ -1,57 +1,28 @@
 ghost use Rattle.um_falling.specs.Carrying.{Adds};
-ghost use Rattle.std.specs.Prelude.{◌≡◌, false, map, Contains, Some, IfOk, IfSome, OnOk, MatchOption, is_some, true};
+ghost use Rattle.std.specs.Prelude.{◌≡◌, ◌↔◌, false, map, Contains, Some, IfOk, IfSome, IsTrue, OnOk, MatchOption};
+ghost use Rattle.std.specs.FinMap as finite;
 ghost use Rattle.um_engine.specs.Engine.{waits_to_restart, IsDue, NoneIsDue};
-ghost use Rattle.um_engine.specs.Filled.{Tells, told_of};
-ghost use Rattle.um_falling.specs.Carrying.{KeepsOthers, OnlyEnds};
+ghost use Rattle.um_engine.specs.Filled.{Tells};
+ghost use Rattle.um_falling.specs.Carrying.{KeepsOthers};
 ghost use Rattle.um_falling.specs.Over.{Serves};
 ghost use Rattle.um_graph.specs.Graph.{GraphView, IsNumberOf};
-ghost use Rattle.um_jobs.specs.Jobs.{with_jobs_at, without_job};
-ghost use Rattle.um_jobs.specs.Named.{jobs_at};
-ghost use Rattle.um_model.specs.Jobs.{BeginsNext, Job, jobs_of_unit, state_of_job};
+ghost use Rattle.um_model.specs.Jobs.{BeginsNext, Job, state_of_job};
 ghost use Rattle.um_model.specs.Machine as model;
 ghost use Rattle.um_model.specs.declared.jobs.JobState.TheVariants.{Waiting};
 ghost use Rattle.um_model.specs.Machine.{begun, IsBefore, IsStill};
 ghost use Rattle.um_state.specs.View.{state_of, action_of};
 
 use crate::jobs::begins;
-use crate::numbered::{is_deactivating, jobs_in};
+use crate::numbered::{jobs_in, tell, tell_all};
 use crate::restarting::restart;
 use std::alloc::{AllocError, Global};
 use um_falling::happen;
 use um_graph::Graph;
 use um_jobs::Jobs;
-use um_model::{Deadline, JobKind, JobState, Moment, SubState, UnitEvent, UnitJobs};
+use um_model::{Deadline, JobKind, Moment, SubState, UnitEvent};
 use um_name::UnitName;
-use um_state::{Action, State};
+use um_state::{Action, Pending, State};
 use um_timer::Timers;
-
-/// Ends the job of this kind of the unit with this number, where nothing of it is left.
-fn end_unless_left(jobs: &mut Jobs<'_>, unit: usize, kind: JobKind, left: Option<JobState>)
-    ensures over { is_some left ≡ false → jobs.new ≡ with_jobs_at jobs.old unit (without_job kind (jobs_at jobs.old.units unit)) }
-    ensures stays { is_some left ≡ true → jobs.new ≡ jobs.old }
-{
-    if left.is_some() {
-        return;
-    }
-    jobs.finish(unit, kind);
-}
-
-/// Ends those jobs of the unit with this number that aren't left: what is left of each was there before.
-fn end_jobs(jobs: &mut Jobs<'_>, unit: usize, left: UnitJobs)
-    ensures { OnlyEnds (jobs_at jobs.old.units unit) left → jobs.new ≡ with_jobs_at jobs.old unit left }
-{
-    end_unless_left(jobs, unit, JobKind::Stop, left.stop);
-    end_unless_left(jobs, unit, JobKind::Start, left.start);
-}
-
-/// Tells of the unit with this number and name what the state holds of it, where jobs of it have only ended.
-fn tell(jobs: &mut Jobs<'_>, state: &State, unit: usize, name: &UnitName)
-    ensures { OnlyEnds (jobs_at jobs.old.units unit) (jobs_of_unit (state_of state.now).pending name.now)
-        → jobs.new ≡ told_of (state_of state.now) unit name.now jobs.old }
-{
-    end_jobs(jobs, unit, state.pending().get(name));
-    jobs.hold(unit, is_deactivating(state.units().get(name)));
-}
 
 /// A job that begins: its unit's number and name, and what it does.
 #[derive(Drop)]
@@ -93,25 +64,23 @@ fn begin_job(jobs: &mut Jobs<'_>, state: &mut State, next: &NextJob) -> Result<(
 }
 
 /// Tells anew what the state holds of units, after a job of one of them began: of that one, or of all where others may have changed.
-fn tell_anew<'g>(
-    alloc: Global,
-    graph: &'g Graph,
-    jobs: &mut Jobs<'g>,
-    state: &State,
-    next: &NextJob,
-    spreads: bool,
-) -> Result<(), AllocError>
-    ensures { OnOk result ((before : model.State) → Tells graph.now before jobs.old → IsNumberOf graph.now next.now.unit next.now.name
-        → (spreads ≡ false → KeepsOthers next.now.name before (state_of state.now)
-        × OnlyEnds (jobs_of_unit before.pending next.now.name) (jobs_of_unit (state_of state.now).pending next.now.name))
-        → Tells graph.now (state_of state.now) jobs.new) }
+/// It takes no memory.
+fn tell_anew(jobs: &mut Jobs<'_>, graph: &Graph, state: &State, next: &NextJob, spreads: bool)
+    ensures { (before : model.State) → Tells graph.now before jobs.old → IsNumberOf graph.now next.now.unit next.now.name
+        → (spreads ≡ false → KeepsOthers next.now.name before (state_of state.now)) → Tells graph.now (state_of state.now) jobs.new }
 {
     if spreads {
-        *jobs = jobs_in(alloc, graph, state)?;
+        tell_all(jobs, graph, state);
     } else {
-        tell(jobs, state, next.unit, &next.name);
+        tell(jobs, graph, state, next.unit);
     }
-    Ok(())
+}
+
+/// Whether no job is pending. It takes no memory.
+fn is_at_rest(alloc: Global, state: &State) -> bool
+    ensures { IsTrue result ↔ ((state_of state.now).pending ≡ finite.empty) }
+{
+    state.pending().is_same(&Pending::new(alloc))
 }
 
 /// Lets jobs begin at the moment, one after another, until none is ready. Where memory is refused the state is of no use.
@@ -126,12 +95,15 @@ pub fn settle(
         → Adds (model.Settles moment (state_of state.old)) (map action_of actions.old.items) (state_of state.new) (map action_of actions.new.items)
         × Serves graph.now (state_of state.new)) }
 {
+    if is_at_rest(alloc, state) {
+        return Ok(());
+    }
     let mut jobs = jobs_in(alloc, graph, state)?;
     'jobs: while let Some(next) = next_job(graph, &jobs)? {
         begin_job(&mut jobs, state, &next)?;
         let event = begins(next.kind);
         let spreads = happen(alloc, graph, state, actions, moment, &next.name, event)?;
-        tell_anew(alloc, graph, &mut jobs, state, &next, spreads)?;
+        tell_anew(&mut jobs, graph, state, &next, spreads);
     }
     Ok(())
 }

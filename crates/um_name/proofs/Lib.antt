@@ -1,2 +1,3 @@
+pub mod Clones
 pub mod Splits
 pub mod Stems

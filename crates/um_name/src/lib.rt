@@ -5,7 +5,6 @@
 mod escapes;
 mod keys;
 mod laws;
-mod maps;
 mod order;
 mod suffixes;
 mod text;
@@ -17,7 +16,6 @@ pub use laws::{
     an_escaped_text_has_one_reading, an_instance_takes_its_place, escaped_bytes_are_read_back,
     parts_are_found_in_their_name,
 };
-pub use maps::copy_by_name;
 pub use suffixes::suffix_of;
 pub use text::{is_template, with_instance};
 pub use um_model::Suffix;

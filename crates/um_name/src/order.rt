@@ -1,13 +1,18 @@
-//! Unit names print and compare as their text, by its bytes.
-ghost use Rattle.std.specs.Prelude.{Some, refl, bytes_eq};
+//! Unit names print, compare, hash and are cloned as their text, by its bytes.
+ghost use Rattle.std.specs.Prelude.{◌≡◌, Some, refl, bytes_eq};
 ghost use Rattle.std.specs.Fmt.{debug_str};
 ghost use Rattle.std.specs.Ordering.{nat_cmp};
 ghost use Rattle.std.specs.Cmp.{partial_equiv_from_equiv};
 ghost use Rattle.std.specs.Cmp.Lexicographic.{slice_cmp, nat_list_eq_equiv, nat_list_cmp_total, texts_ties, texts_po};
+ghost use Rattle.std.specs.Cmp.Rules.{hashing};
+ghost use Rattle.std.specs.Hash as fed;
+ghost use Rattle.std.proofs.Common.{rules};
 
 use crate::UnitName;
+use std::alloc::AllocError;
 use std::cmp::Ordering;
 use std::fmt;
+use std::hash::{Hash, Hasher};
 
 impl fmt::Display for UnitName {
     ghost output = { λ name. Some name };
@@ -37,6 +42,24 @@ impl PartialEq for UnitName {
 
 impl Eq for UnitName {
     ghost laws = { nat_list_eq_equiv };
+}
+
+impl Clone for UnitName {
+    ghost is_clone = { λ name again. again ≡ name };
+
+    fn clone(&self) -> Result<UnitName, AllocError> {
+        self.copy()
+    }
+}
+
+impl Hash for UnitName {
+    ghost hash_input = { λ name. fed.str name };
+
+    ghost respects_eq = { Prim.search (hashing, rules) };
+
+    fn hash<H: Hasher>(&self, state: &mut H) {
+        self.as_str().hash(state);
+    }
 }
 
 impl PartialOrd for UnitName {

@@ -21,7 +21,7 @@ use std::alloc::{AllocError, Global};
 use std::collections::BTreeMap;
 use std::marker::Model;
 use um_model::{JobKind, JobState, UnitJobs, UnitState};
-use um_name::{UnitName, copy_by_name};
+use um_name::UnitName;
 use um_timer::Timers;
 
 /// Adds the names behind the others, ascending.
@@ -218,7 +218,7 @@ impl Units {
     pub fn copy(&self) -> Result<Units, AllocError>
         ensures { IfOk result (λ u. u ≡ self.now) }
     {
-        let entries = copy_by_name(self.alloc, &self.entries)?;
+        let entries = self.entries.clone()?;
         Ok(Units {
             alloc: self.alloc,
             finder: Finder::of(self.alloc, &entries)?,
@@ -343,7 +343,7 @@ impl Pending {
     {
         Ok(Pending {
             alloc: self.alloc,
-            entries: copy_by_name(self.alloc, &self.entries)?,
+            entries: self.entries.clone()?,
         })
     }
 }

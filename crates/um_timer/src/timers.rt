@@ -8,7 +8,7 @@ use std::alloc::{AllocError, Global};
 use std::collections::BTreeMap;
 use std::marker::Model;
 use um_model::Deadline;
-use um_name::{UnitName, copy_by_name};
+use um_name::UnitName;
 
 /// For each unit with a timer its deadline.
 #[derive(Drop)]
@@ -80,7 +80,7 @@ impl Timers {
     {
         Ok(Timers {
             alloc: self.alloc,
-            deadlines: copy_by_name(self.alloc, &self.deadlines)?,
+            deadlines: self.deadlines.clone()?,
         })
     }
 }

@@ -1,10 +1,16 @@
-use Rattle.std.proofs.Common.{map}
+use Rattle.std.proofs.Common.{◌≡◌, true, map, rules}
 use Rattle.um_falling.proofs.AlongLaws.{known_by}
-use Rattle.um_engine.proofs.ReadyLaws.{begun_drops, serves_begun}
+use Rattle.um_engine.proofs.ReadyLaws.{begun_drops, serves_begun, still_empty}
 use Rattle.um_engine.proofs.Steps.{settled, settles_more}
 use Rattle.um_model.specs.Jobs.{Job}
 use Rattle.um_state.specs.View.{state_of, action_of}
 use Rattle.um_engine.proofs.settling.settle.Goals as goal
+
+pub returns-then-is_at_rest : goal.returns-then-is_at_rest
+returns-then-is_at_rest c = λ serves.
+    let rests : c.is_at_rest.result ≡ true = search rules in
+    let none = still_empty (state_of c.args.state.now) (c.is_at_rest.ensures.0 rests) in
+    (settled c.args.moment (state_of c.args.state.now) (map action_of c.args.actions.now.items) none, serves)
 
 pub jobs-smaller : goal.jobs-smaller
 jobs-smaller c =
@@ -22,8 +28,8 @@ jobs-preserved c =
     let known = known_by c.args.graph.now c.in-Some.next.unit c.in-Some.next.name number in
     let begins = c.in_ok-begin_job.ensures.begun c.args.graph.now c.jobs.invariant.tells number in
     record {
-      tells = c.in_ok-tell_anew.ensures (state_of c.begin_job.new.state) (c.in_ok-begin_job.ensures.tells c.args.graph.now c.jobs.invariant.tells number) number
-          (λ none. (c.in_ok-spreads.ensures.others none, c.in_ok-spreads.ensures.ends none));
+      tells = c.tell_anew.ensures (state_of c.begin_job.new.state) (c.in_ok-begin_job.ensures.tells c.args.graph.now c.jobs.invariant.tells number) number
+          c.in_ok-spreads.ensures.others;
       whole = λ serves.
           let (whole, serves_now) = c.jobs.invariant.whole serves in
           let begun = serves_begun c.args.graph.now (state_of c.jobs.state) (state_of c.begin_job.new.state) job serves_now known begins in

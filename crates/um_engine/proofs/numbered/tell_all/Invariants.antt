@@ -1,0 +1,8 @@
+use Rattle.um_model.specs.Machine.{State}
+use Rattle.um_state.specs.View.{state_of}
+use Rattle.um_engine.specs.Filled.{Tells}
+use Rattle.um_engine.proofs.TellingLaws.{TellsFirst}
+use Rattle.um_engine.proofs.numbered.tell_all.Given as goal
+
+abbrev pub invariant-loop-unit : goal.invariant-loop-unit
+invariant-loop-unit l = (before : State) → Tells l.graph before l.initial.jobs → TellsFirst l.graph (state_of l.state) l.unit l.jobs
