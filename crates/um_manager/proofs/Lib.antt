@@ -5,6 +5,7 @@ pub mod Booting
 pub mod Carrying
 pub mod Clients
 pub mod Crashing
+pub mod FewLive
 pub mod Gathering
 pub mod Offering
 pub mod Placing

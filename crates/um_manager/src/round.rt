@@ -1,10 +1,11 @@
 //! One turn.
 
-ghost use Rattle.std.specs.Prelude.{◌≡◌, ◌⊎◌, ◌↔◌, ◌≤◌, true, Err, IsTrue, length, drop};
+ghost use Rattle.std.specs.Prelude.{◌≡◌, ◌≢◌, ◌⊎◌, ◌↔◌, ◌≤◌, true, Err, IfErr, IsTrue, length, drop};
 ghost use Rattle.um_keeper.specs.Keepers.{disk_in, state_in, has_failed, IsSamePlace};
 ghost use Rattle.um_fates.specs.Fates.{tick_at};
 ghost use Rattle.um_manager.specs.Places.{place_in};
-ghost use Rattle.um_manager.specs.Turns.{Turns, now};
+ghost use Rattle.um_manager.specs.Turns.{Turns, now_in};
+ghost use Rattle.um_sector.specs.Refused.{CountsDevice, IsLost};
 ghost use Rattle.um_state.specs.View.{input_of};
 
 use crate::connection::CONNECTIONS;
@@ -77,8 +78,11 @@ pub fn turn<D: Disk, C: Children>(
     requires as_many { length sessions.old ≡ length pieces.now }
     requires few { length sessions.old ≤ 64 }
     ensures turns { Turns (place_in (D.honest (disk_in keeper.old)) keeper.old) result (C.honest children.old) (C.whole children.new) moment pieces.now
-        (now (state_in keeper.old) (C.past children.old) marks.old sessions.old (D.past (disk_in keeper.old)))
-        (now (state_in keeper.new) (C.past children.new) marks.new sessions.new (D.past (disk_in keeper.new))) }
+        (now_in keeper.old (C.past children.old) marks.old sessions.old (D.past (disk_in keeper.old)))
+        (now_in keeper.new (C.past children.new) marks.new sessions.new (D.past (disk_in keeper.new))) }
+    ensures refused { IfErr result (λ e. IsLost e ⊎ (e ≡ Refusal.Reopen)) }
+    ensures device { CountsDevice result (D.failures (disk_in keeper.old)) (D.failures (disk_in keeper.new)) }
+    ensures reopen { result ≢ Err Refusal.NoMemory → (result ≡ Err Refusal.Reopen) ↔ (has_failed keeper.old ≡ true) }
     ensures whole { IsTrue (C.whole children.new) → IsTrue (C.whole children.old) }
     ensures honest { C.honest children.new ≡ C.honest children.old }
     ensures place { IsSamePlace keeper.old keeper.new }
