@@ -5,7 +5,9 @@ use Rattle.um_engine.specs.OfStore.{is_of_store}
 use Rattle.um_keeper.specs.Answering.{Answer, Answered, accepted, refused as declined, turned_away, AreAnswered, all_answered, and_next, FellBack, HasFault, denied, is_turned_away, all_asked}
 use Rattle.um_model.proofs.AmongLaws.{among_contained}
 use Rattle.um_model.proofs.LeastLaws.{Among}
-use Rattle.um_model.specs.Children.{Call, Signalled as sent, orders, tales, refused}
+use Rattle.std.specs.List.{list_any}
+use Rattle.um_children.specs.History.{lets_any}
+use Rattle.um_model.specs.Children.{Call, ForgotOthers, Signalled as sent, orders, tales, refused}
 use Rattle.um_model.specs.Disk.{Past}
 use Rattle.um_model.specs.Machine.{State, Input, Reply}
 use Rattle.um_model.specs.Service.{ByUnit, Action, SendSignal}
@@ -16,12 +18,12 @@ use Rattle.um_model.specs.declared.service.SubState.TheVariants.{StopSigterm, St
 use Rattle.um_model.specs.declared.service.UnitState.{UnitState}
 use Rattle.um_wire.specs.declared.refusal.Refusal.{Refusal}
 use Rattle.um_wire.specs.declared.refusal.Refusal.TheVariants.{Device, Reopen}
-use Rattle.um_fates.specs.Fates.{Heard, lost}
+use Rattle.um_fates.specs.Fates.{Heard, asks_for, lost}
 use Rattle.um_fates.specs.Live.{has, AreLive, HasFewLive, IsIn, AreIn, none, chosen_next, passed_over}
 use Rattle.um_manager.proofs.Carrying.{grew_more, none_given}
 use Rattle.um_manager.proofs.Offering.{same_refusal}
 use Rattle.um_manager.proofs.Turning.{called}
-use Rattle.um_manager.specs.Opening.{Signalled, Adopted, CallsOf}
+use Rattle.um_manager.specs.Opening.{Signalled, Adopted, CallsOf, Ends}
 use Rattle.um_manager.specs.Orders.{Grew, signals}
 use Rattle.um_manager.specs.Places.{Place, LogEnd}
 use Rattle.um_manager.specs.Stores.{Submits}
@@ -66,6 +68,10 @@ sent_refusals : (signal : Signal) (ns : List ℕ) → refused (map (λ n. sent n
 sent_refusals signal [] = refl
 sent_refusals signal (n ∷ ns) = sent_refusals signal ns
 
+sent_kept : (signal : Signal) (ns : List ℕ) → list_any lets_any (map (λ n. sent n signal) ns) ≡ false
+sent_kept signal [] = refl
+sent_kept signal (n ∷ ns) = sent_kept signal ns
+
 or_false : (a : Bool) → (a || false) ≡ a
 or_false true = refl
 or_false false = refl
@@ -77,6 +83,7 @@ grew_signals units signal ns a b marks is = record {
   past_is = is;
   orders_are = sent_orders signal ns;
   no_tale = sent_tales signal ns;
+  kept = sent_kept signal ns;
   marks_are = λ few n live. sym (ap (λ l. has n marks || has n l) (sent_refusals signal ns) ∙ or_false (has n marks));
 }
 
@@ -88,18 +95,32 @@ marked_live same grew = record {
   past_is = grew.past_is;
   orders_are = grew.orders_are;
   no_tale = grew.no_tale;
+  kept = grew.kept;
   marks_are = λ few n live. grew.marks_are few n live ∙ ap (λ b. b || has n (refused grew.given)) (same n);
 }
 
 -- ---- adoption
 
-pub adopted : (place : Place) (moment : ℕ) (s t : State) (old heard grown termed new : List Call) (live marks marked : List ℕ) (d e : Past) (p q : LogEnd) (inputs : List Input) (replies : List Reply)
-    (h k l w v m : Bool) → AreLive s.units live → HasFewLive t.units → ((n : ℕ) → has n marks ≡ has n live) → Heard lost moment (λ n. true) h m old heard live [] inputs
+-- fates that were asked behind another call
+pub heard_behind : (moment : ℕ) (claims : ℕ → Bool) (h k w v : Bool) (a b c : List Call) (ns : List ℕ) (x y : List Input) → (IsTrue h → IsTrue k) → (IsTrue w → IsTrue v)
+    → (IsTrue h → IsTrue v → b ≡ a) → Heard lost moment claims k w b c ns x y → Heard lost moment claims h w a c ns x y
+heard_behind moment claims h k w v a b c ns x y same fewer is heard = record {
+  told = heard.told;
+  of_live = heard.of_live;
+  inputs_are = heard.inputs_are;
+  past_is = λ honest whole. heard.past_is (same honest) whole ∙ ap (λ l. l ++ map asks_for heard.told) (is honest (fewer whole));
+}
+
+ok_isnt_err : {e : Refusal} → Ok tt ≡ Err e → ⊥
+ok_isnt_err is = cc
+
+pub adopted : (place : Place) (moment : ℕ) (s t : State) (old heard grown new : List Call) (live marks marked : List ℕ) (d e : Past) (p q : LogEnd) (inputs : List Input) (replies : List Reply)
+    (h k l w v m : Bool) → AreLive s.units live → HasFewLive t.units → ((n : ℕ) → has n marks ≡ has n live) → Heard lost moment (λ n. true) h m (old ++ ForgotOthers live ∷ []) heard live [] inputs
     → Submits place (Ok tt) inputs replies k v (now s heard marks [] d p) (now t grown marked [] e q)
-    → (IsTrue l → IsTrue w → Signalled t.units StopSigterm Term live grown termed) → (IsTrue l → IsTrue w → Signalled t.units StopSigkill Kill live termed new)
+    → (IsTrue l → IsTrue w → Ends t.units live grown new)
     → (IsTrue h → IsTrue k) → (IsTrue h → IsTrue l) → (IsTrue w → IsTrue v) → (IsTrue v → IsTrue m)
     → Adopted place h w (Ok tt) moment (now s old marks [] d p) (now t new marked [] e q)
-adopted place moment s t old heard grown termed new live marks marked d e p q inputs replies h k l w v m are_live few marks_live told submits terms kills hk hl wv vm =
+adopted place moment s t old heard grown new live marks marked d e p q inputs replies h k l w v m are_live few marks_live told submits ends hk hl wv vm =
     let sub = submits.1 in
     record {
       live = live;
@@ -114,19 +135,21 @@ adopted place moment s t old heard grown termed new live marks marked d e p q in
       left = λ x. subst (λ l. Leaves place s l sub.answers d e) told.inputs_are (sub.left x);
       stored = sub.stored;
       called = λ honest whole.
-          let term = terms (hl honest) whole in
-          let kill = kills (hl honest) whole in
+          let end = ends (hl honest) whole in
+          let term = end.terms in
+          let kill = end.kills in
           let grew = marked_live marks_live (sub.grew (hk honest) (wv whole)) in
           record {
             termed = term.chosen;
             are_termed = term.are;
             killed = kill.chosen;
             are_killed = kill.are;
-            called = called t.units told.told (all_asked sub.answers ++ (signals Term term.chosen ++ signals Kill kill.chosen)) old heard new live marked few
-                (told.past_is honest (vm (wv whole)))
-                (grew_more t.units heard grown new live marked marked (all_asked sub.answers) (signals Term term.chosen ++ signals Kill kill.chosen) grew
-                (grew_more t.units grown termed new marked marked marked (signals Term term.chosen) (signals Kill kill.chosen)
-                (grew_signals t.units Term term.chosen grown termed marked term.past_is) (grew_signals t.units Kill kill.chosen termed new marked kill.past_is)));
+            called = called t.units (Ok tt) told.told (all_asked sub.answers ++ (signals Term term.chosen ++ signals Kill kill.chosen)) (old ++ ForgotOthers live ∷ []) heard end.killed new live
+                marked few (told.past_is honest (vm (wv whole)))
+                (grew_more t.units heard grown end.killed live marked marked (all_asked sub.answers) (signals Term term.chosen ++ signals Kill kill.chosen) grew
+                (grew_more t.units grown end.termed end.killed marked marked marked (signals Term term.chosen) (signals Kill kill.chosen)
+                (grew_signals t.units Term term.chosen grown end.termed marked term.past_is) (grew_signals t.units Kill kill.chosen end.termed end.killed marked kill.past_is)))
+                end.let_go (λ x is. absurd (ok_isnt_err is));
           };
     }
 
@@ -156,9 +179,9 @@ asks_none place size s t inputs answers (each are) fault = absurd (no_fault are 
 asks_none place size s t inputs answers (fell back) fault = ap all_asked back.are ∙ none_asked back.meant (length back.rest)
 asks_none place size s t inputs answers (reopen untrusted are same) fault = ap all_asked are ∙ none_again (length inputs) Reopen
 
--- where the store failed the fates were asked, and nothing else
+-- where the store failed all but the live numbers were let go, the fates were asked, and nothing else
 pub unadopted_calls : (place : Place) (store : Result Unit Refusal) (moment : ℕ) (s t : State) (old heard new : List Call) (live marks marked : List ℕ) (d e : Past) (p q : LogEnd) (inputs : List Input)
-    (replies : List Reply) (h k w v m : Bool) → AreLive s.units live → Heard lost moment (λ n. true) h m old heard live [] inputs
+    (replies : List Reply) (h k w v m : Bool) → AreLive s.units live → Heard lost moment (λ n. true) h m (old ++ ForgotOthers live ∷ []) heard live [] inputs
     → Submits place store inputs replies k v (now s heard marks [] d p) (now t new marked [] e q) → store ≡ Err Device
     → (IsTrue h → IsTrue k) → (IsTrue w → IsTrue v) → (IsTrue v → IsTrue m)
     → Adopted place h w store moment (now s old marks [] d p) (now t new marked [] e q)
@@ -178,7 +201,8 @@ unadopted_calls place store moment s t old heard new live marks marked d e p q i
       stored = sub.stored;
       called = λ honest whole.
           let grew = sub.grew (hk honest) (wv whole) in
-          let none = none_given grew.given (grew.orders_are ∙ asks_none place place.size s t inputs sub.answers sub.answered (sub.tells.device.0 device)) grew.no_tale in
+          let none = none_given grew.given (grew.orders_are ∙ asks_none place place.size s t inputs sub.answers sub.answered (sub.tells.device.0 device)) grew.no_tale grew.kept in
           subst (λ r. CallsOf r t.units live told.told (all_asked sub.answers) old new marked) (sym device)
-          (grew.past_is ∙ ap (λ l. heard ++ l) none ∙ append-nil heard ∙ told.past_is honest (vm (wv whole)));
+          (grew.past_is ∙ ap (λ l. heard ++ l) none ∙ append-nil heard ∙ told.past_is honest (vm (wv whole))
+          ∙ append_assoc old (ForgotOthers live ∷ []) (map asks_for told.told));
     }

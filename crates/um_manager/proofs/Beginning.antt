@@ -1,5 +1,5 @@
 -- What the parts of an opening come to together.
-use Rattle.std.proofs.Common.{◌≡◌, ◌≤◌, arith, inl, inr, ◌∙◌, ◌++◌, ℕ, zero, suc, List, [], ◌∷◌, length, map, take, Bool, true, false, if◌then◌else◌, Result, Ok, Err, append-nil, refl, sym, ap, subst}
+use Rattle.std.proofs.Common.{◌≡◌, ◌⊎◌, ◌≤◌, arith, inl, inr, ◌∙◌, ◌++◌, ℕ, zero, suc, List, [], ◌∷◌, length, map, take, Bool, true, false, if◌then◌else◌, Result, Ok, Err, append-nil, refl, sym, ap, subst}
 use Rattle.std.specs.Bool.{IsTrue}
 use Rattle.std.specs.Prelude.{IfErr}
 use Rattle.std.proofs.lemmas.Result.{err_from_is_err_and}
@@ -8,7 +8,7 @@ use Rattle.um_keeper.specs.Answering.{Answer, is_turned_away, where_step, taken}
 use Rattle.um_keeper.specs.Keeping.{IsBegun, Keeps}
 use Rattle.um_keeper.specs.Opening.{IsAsBefore}
 use Rattle.um_model.proofs.DiskLaws.{weaker, followed}
-use Rattle.um_model.specs.Children.{Call, Tale}
+use Rattle.um_model.specs.Children.{Call, Tale, ForgotOthers}
 use Rattle.um_log.specs.Reading.{Fits}
 use Rattle.um_model.specs.Disk.{Past, Image, During, seen}
 use Rattle.um_model.specs.InputSpellings.{input_spelling}
@@ -21,7 +21,7 @@ use Rattle.um_model.specs.declared.layout.Layout.{Layout}
 use Rattle.um_wire.specs.declared.refusal.Refusal.{Refusal}
 use Rattle.um_fates.specs.Fates.{asks_for}
 use Rattle.um_manager.proofs.Booting.{boot_fits}
-use Rattle.um_manager.specs.Opening.{adoptions, boot_at, Refuses, unbooted, unadopted, IsFound, IsOfOpening, IsOfRefused}
+use Rattle.um_manager.specs.Opening.{adoptions, boot_at, Began, Refuses, unbooted, unadopted, AsksAlone, IsSilentIn, IsSilent, IsFound, IsOfOpening, IsOfRefused}
 use Rattle.um_manager.specs.Places.{Place, LogEnd, place, is_trusted}
 use Rattle.um_manager.specs.Turns.{Now, now}
 
@@ -92,35 +92,47 @@ taken_had (input ∷ inputs) [] = none_had (input ∷ inputs)
 taken_had (input ∷ inputs) (answer ∷ answers) = had_more answer input (taken inputs answers) inputs (taken_had inputs answers)
 
 cut_short : (place : Place) (h w : Bool) (moment : ℕ) (boot : List ℕ) (sectors : ℕ) (first : Past) (a b : Now) (told : List Tale) (some : List Input) → IsFound sectors first place.layout a.state
-    → (IsTrue h → IsTrue w → b.past ≡ a.past ++ map asks_for told) → HasInOrder some (adoptions moment told) → During first a.disk (IsAsBefore place.layout first)
+    → (IsTrue h → IsTrue w → IsSilentIn (body_limit place.layout) a.state moment boot told a.past b.past) → HasInOrder some (adoptions moment told) → During first a.disk (IsAsBefore place.layout first)
     → During a.disk b.disk (IsBegun place.layout a.state (boot_at moment boot ∷ some)) → During first b.disk (IsOfRefused place.layout moment boot sectors first h w a.past b.past)
-cut_short place h w moment boot sectors first a b told some found past_is are before more =
+cut_short place h w moment boot sectors first a b told some found asked are before more =
     followed first a.disk b.disk (IsOfRefused place.layout moment boot sectors first h w a.past b.past)
     (weaker first a.disk (IsAsBefore place.layout first) (IsOfRefused place.layout moment boot sectors first h w a.past b.past) (λ image is. inl is) before)
     (weaker a.disk b.disk (IsBegun place.layout a.state (boot_at moment boot ∷ some)) (IsOfRefused place.layout moment boot sectors first h w a.past b.past)
-    (λ image is. inr (record { state = a.state; found = found; told = told; past_is = past_is; some = some; are = are; begun = is })) more)
+    (λ image is. inr (record { state = a.state; found = found; told = told; asked = asked; some = some; are = are; begun = is })) more)
+
+asks_alone : {place : Place} {h w : Bool} {e : Refusal} {moment : ℕ} {boot : List ℕ} {count : ℕ} {a b : Now} → place.size ≡ body_limit place.layout
+    → (began : Began place h w (Err e) moment boot count a b) → IsTrue h → IsTrue w → AsksAlone (body_limit place.layout) a.state moment boot began.adopted.told a.past b.past
+asks_alone {moment = moment} {boot = boot} {a = a} on began honest whole = record {
+  reply = began.reply;
+  booted = began.mid.state;
+  boots = subst (λ n. Step n a.state (boot_at moment boot) began.reply [] began.mid.state) on began.booted;
+  live = began.adopted.live;
+  are_live = began.adopted.are_live;
+  past_is = began.adopted.called honest whole ∙ ap (λ l. l ++ (ForgotOthers began.adopted.live ∷ map asks_for began.adopted.told)) began.asked_none;
+}
 
 -- what a crash leaves of an opening that is refused once the store is taken up
 pub refused_left : (place : Place) (h w : Bool) (moment : ℕ) (boot : List ℕ) (sectors : ℕ) (first : Past) (a b : Now) (e : Refusal) → place.size ≡ body_limit place.layout → IsTrue place.trusted
     → IsFound sectors first place.layout a.state → During first a.disk (IsAsBefore place.layout first) → Refuses place h w e moment boot a b
     → During first b.disk (IsOfRefused place.layout moment boot sectors first h w a.past b.past)
 refused_left place h w moment boot sectors first a b e on sure found before (unbooted same past left) =
-    cut_short place h w moment boot sectors first a b [] [] found (λ honest whole. past ∙ sym (append-nil a.past)) no_others before (left sure)
+    cut_short place h w moment boot sectors first a b [] [] found (λ honest whole. inl (refl, past)) no_others before (left sure)
 refused_left place h w moment boot sectors first a b e on sure found before (unadopted device began) =
     let mid = began.mid in
     let adopted = began.adopted in
     let inputs = adoptions moment adopted.told in
     let some = taken inputs adopted.answers in
     cut_short place h w moment boot sectors first a b adopted.told some found
-    (λ honest whole. adopted.called honest whole ∙ ap (λ l. l ++ map asks_for adopted.told) began.asked_none) (taken_had inputs adopted.answers) before
+    (λ honest whole. inr (asks_alone on began honest whole)) (taken_had inputs adopted.answers) before
     (boot_then place a.state mid.state (boot_at moment boot) began.reply some a.disk mid.disk b.disk on began.booted (began.left sure) (adopted.left sure))
 
--- it asked for fates alone
-pub asked_alone : (place : Place) (h w : Bool) (moment : ℕ) (boot : List ℕ) (a b : Now) (e : Refusal) → Refuses place h w e moment boot a b → IsTrue h → IsTrue w
-    → (told : List Tale) × (b.past ≡ a.past ++ map asks_for told)
-asked_alone place h w moment boot a b e (unbooted same past left) honest whole = ([], past ∙ sym (append-nil a.past))
-asked_alone place h w moment boot a b e (unadopted device began) honest whole =
-    (began.adopted.told, began.adopted.called honest whole ∙ ap (λ l. l ++ map asks_for began.adopted.told) began.asked_none)
+-- it asked for fates alone, or nothing
+pub asked_alone : (place : Place) (h w honest : Bool) (moment : ℕ) (boot : List ℕ) (sectors : ℕ) (first : Past) (a b : Now) (e : Refusal) → place.size ≡ body_limit place.layout
+    → (IsTrue honest → IsFound sectors first place.layout a.state) → Refuses place h w e moment boot a b → IsTrue h → IsTrue w
+    → (b.past ≡ a.past) ⊎ IsSilent sectors first honest moment boot a.past b.past
+asked_alone place h w honest moment boot sectors first a b e on found (unbooted same past left) sure whole = inl past
+asked_alone place h w honest moment boot sectors first a b e on found (unadopted device began) sure whole =
+    inr (record { layout = place.layout; state = a.state; found = found; told = began.adopted.told; asked = asks_alone on began sure whole })
 
 pub opened_place : {m n : ℕ} {k l : Layout} {h i f : Bool} → n ≡ m → l ≡ k → i ≡ h → f ≡ false → place m k (is_trusted i f) ≡ place n l h
 opened_place {m} {n} {k} {l} {h} {i} {f} size layout honest working =

@@ -1,11 +1,13 @@
 -- What it comes to that actions are carried out one behind the other.
-use Rattle.std.proofs.Common.{◌≡◌, ℕ, List, [], ◌∷◌, ◌++◌, Bool, true, false, ◌||◌, IsTrue, Result, Ok, Err, refl, sym, ap, ◌∙◌, append_assoc, append-nil, subst, length, arith}
+use Rattle.std.proofs.Common.{◌≡◌, ℕ, List, [], ◌∷◌, ◌++◌, Bool, true, false, ◌||◌, IsTrue, true≢false, Result, Ok, Err, refl, sym, ap, ◌∙◌, append_assoc, append-nil, subst, length, arith}
 use Rattle.std.proofs.lemmas.List.Folds.{list_any-append}
 use Rattle.std.proofs.lemmas.List.Concat.{flat_map-append}
 use Rattle.um_children.specs.Faults.{KeepsWhole}
 use Rattle.um_children.specs.declared.fault.ChildFault.{ChildFault}
 use Rattle.um_children.specs.declared.fault.ChildFault.TheVariants as fault
-use Rattle.um_model.specs.Children.{Call, Spawn, Spawned, Signalled, Asked, spawn_action, orders, orders_in, tales, tales_in, refused, refusals_in}
+use Rattle.std.specs.List.{list_any}
+use Rattle.um_children.specs.History.{lets_any}
+use Rattle.um_model.specs.Children.{Call, Spawn, Spawned, Signalled, Asked, Forgot, ForgotOthers, spawn_action, orders, orders_in, tales, tales_in, refused, refusals_in}
 use Rattle.um_model.specs.Service.{ByUnit, Action, SendSignal}
 use Rattle.um_model.specs.declared.service.Signal.{Signal}
 use Rattle.um_model.specs.declared.service.UnitState.{UnitState}
@@ -31,7 +33,7 @@ or_assoc true b c = refl
 or_assoc false b c = refl
 
 pub grew_none : (units : ByUnit UnitState) (past : List Call) (marks : List ℕ) → Grew units past past marks marks []
-grew_none units past marks = record { given = []; past_is = sym (append-nil past); orders_are = refl; no_tale = refl; marks_are = λ few n h. sym (or_false (has n marks)) }
+grew_none units past marks = record { given = []; past_is = sym (append-nil past); orders_are = refl; no_tale = refl; kept = refl; marks_are = λ few n h. sym (or_false (has n marks)) }
 
 pub grew_more : (units : ByUnit UnitState) (a b c : List Call) (k l m : List ℕ) (xs ys : List Action) → Grew units a b k l xs → Grew units b c l m ys → Grew units a c k m (xs ++ ys)
 grew_more units a b c k l m xs ys p q = record {
@@ -39,6 +41,7 @@ grew_more units a b c k l m xs ys p q = record {
   past_is = q.past_is ∙ ap (λ l. l ++ q.given) p.past_is ∙ append_assoc a p.given q.given;
   orders_are = flat_map-append orders_in p.given q.given ∙ ap (λ l. l ++ orders q.given) p.orders_are ∙ ap (λ l. xs ++ l) q.orders_are;
   no_tale = flat_map-append tales_in p.given q.given ∙ ap (λ l. l ++ tales q.given) p.no_tale ∙ q.no_tale;
+  kept = list_any-append lets_any p.given q.given ∙ ap (λ b. b || list_any lets_any q.given) p.kept ∙ q.kept;
   marks_are = λ few n h. q.marks_are few n h ∙ ap (λ b. b || has n (refused q.given)) (p.marks_are few n h) ∙ or_assoc (has n k) (has n (refused p.given)) (has n (refused q.given))
       ∙ ap (λ b. has n k || b) (sym (list_any-append _ (refused p.given) (refused q.given)) ∙ ap (has n) (sym (flat_map-append refusals_in p.given q.given)));
 }
@@ -50,6 +53,7 @@ grew_taken units a b s starts marks e = record {
   past_is = e;
   orders_are = refl;
   no_tale = refl;
+  kept = refl;
   marks_are = λ few n h. sym (or_false (has n marks));
 }
 
@@ -61,6 +65,7 @@ grew_refused units a b s starts k m e marked = record {
   past_is = e;
   orders_are = refl;
   no_tale = refl;
+  kept = refl;
   marks_are = marked;
 }
 
@@ -70,15 +75,18 @@ grew_signal units a b n signal marks e = record {
   past_is = e;
   orders_are = refl;
   no_tale = refl;
+  kept = refl;
   marks_are = λ few n h. sym (or_false (has n marks));
 }
 
--- where no order was given and no fate was asked there was no call
-pub none_given : (calls : List Call) → orders calls ≡ [] → tales calls ≡ [] → calls ≡ []
-none_given [] no_order no_tale = refl
-none_given (Spawned s is_taken starts ∷ calls) no_order no_tale = absurd (cons≢nil no_order)
-none_given (Signalled n signal ∷ calls) no_order no_tale = absurd (cons≢nil no_order)
-none_given (Asked n claim told ∷ calls) no_order no_tale = absurd (cons≢nil no_tale)
+-- where no order was given, no fate was asked and nothing was let go there was no call
+pub none_given : (calls : List Call) → orders calls ≡ [] → tales calls ≡ [] → list_any lets_any calls ≡ false → calls ≡ []
+none_given [] no_order no_tale kept = refl
+none_given (Spawned s is_taken starts ∷ calls) no_order no_tale kept = absurd (cons≢nil no_order)
+none_given (Signalled n signal ∷ calls) no_order no_tale kept = absurd (cons≢nil no_order)
+none_given (Asked n claim told ∷ calls) no_order no_tale kept = absurd (cons≢nil no_tale)
+none_given (Forgot n ∷ calls) no_order no_tale kept = absurd (true≢false kept)
+none_given (ForgotOthers live ∷ calls) no_order no_tale kept = absurd (true≢false kept)
 
 pub nil_of : {X : Type 0} (xs : List X) → length xs ≡ 0 → xs ≡ []
 nil_of [] e = refl

@@ -7,6 +7,7 @@ pub mod Clients
 pub mod Crashing
 pub mod FewLive
 pub mod Gathering
+pub mod Letting
 pub mod Offering
 pub mod Placing
 pub mod Turning

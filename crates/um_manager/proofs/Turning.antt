@@ -1,8 +1,8 @@
 -- What the parts of a turn come to together.
 use Rattle.std.specs.Prelude.{IfErr}
-use Rattle.std.proofs.Common.{◌≡◌, ◌⊎◌, inl, inr, ℕ, List, [], ◌∷◌, ◌++◌, length, drop, map, flat_map, Bool, IsTrue, Option, Result, Ok, Err, cond, refl, sym, ap, subst, ◌∙◌, append_assoc}
+use Rattle.std.proofs.Common.{◌≡◌, ◌⊎◌, ◌||◌, inl, inr, ℕ, List, [], ◌∷◌, ◌++◌, length, drop, map, flat_map, Bool, IsTrue, Option, Result, Ok, Err, cond, refl, sym, ap, subst, ◌∙◌, append_assoc, append-nil}
 use Rattle.um_keeper.specs.Answering.{all_asked}
-use Rattle.um_model.specs.Children.{Call, Tale}
+use Rattle.um_model.specs.Children.{Call, Tale, orders, orders_in, tales, tales_in, refused, refusals_in}
 use Rattle.um_model.specs.Service.{ByUnit, Action}
 use Rattle.um_model.specs.declared.service.UnitState.{UnitState}
 use Rattle.um_model.specs.Machine.{Input, Reply}
@@ -14,7 +14,12 @@ use Rattle.um_wire.specs.declared.refusal.Refusal.TheVariants.{Device, Reopen}
 use Rattle.um_manager.specs.Connections.{AllSame, TakesPiece, CutsAll, Took, inputs_asked, due_of}
 use Rattle.um_fates.specs.Fates.{Heard, asks_for, unexecuted, tick_at}
 use Rattle.um_fates.specs.Live.{has, AreLive, HasFewLive}
-use Rattle.um_manager.specs.Orders.{Grew}
+use Rattle.um_children.specs.History.{lets_go, lets_any}
+use Rattle.um_manager.specs.Orders.{Grew, LetGo}
+use Rattle.um_manager.proofs.Letting.{spares_all, nothing_came}
+use Rattle.std.specs.List.{list_any}
+use Rattle.std.proofs.lemmas.List.Concat.{flat_map-append}
+use Rattle.std.proofs.lemmas.List.Folds.{list_any-append}
 use Rattle.um_manager.specs.Places.{Place}
 use Rattle.um_manager.specs.Replies.{PaysAll}
 use Rattle.um_manager.specs.Stores.{Submits}
@@ -51,25 +56,30 @@ nothing_more : (store : Result Unit Refusal) → store ≡ first_refusal store (
 nothing_more (Ok tt) = refl
 nothing_more (Err e) = refl
 
--- the calls of a turn: those that ask and those that order
-pub called : (units : ByUnit UnitState) (told : List Tale) (actions : List Action) (old heard new : List Call) (marks marked : List ℕ) → HasFewLive units
-    → heard ≡ old ++ map asks_for told → Grew units heard new marks marked actions → Called units told actions old new marks marked
-called units told actions old heard new marks marked few asked grew = record {
-  given = grew.given;
-  past_is = grew.past_is ∙ ap (λ l. l ++ grew.given) asked ∙ append_assoc old (map asks_for told) grew.given;
-  orders_are = grew.orders_are;
-  no_tale = grew.no_tale;
-  marks_are = grew.marks_are few;
+-- the calls of a turn: those that ask, those that order, and those that let numbers go
+pub called : (units : ByUnit UnitState) (store : Result Unit Refusal) (told : List Tale) (actions : List Action) (old heard grown new : List Call) (marks marked : List ℕ) → HasFewLive units
+    → heard ≡ old ++ map asks_for told → Grew units heard grown marks marked actions → LetGo units grown new → ((e : Refusal) → store ≡ Err e → new ≡ grown)
+    → Called units store told actions old new marks marked
+called units store told actions old heard grown new marks marked few asked grew let_go still = record {
+  given = grew.given ++ let_go.given;
+  past_is = let_go.past_is ∙ ap (λ l. l ++ let_go.given) (grew.past_is ∙ ap (λ l. l ++ grew.given) asked ∙ append_assoc old (map asks_for told) grew.given)
+      ∙ append_assoc old (map asks_for told ++ grew.given) let_go.given ∙ ap (λ l. old ++ l) (append_assoc (map asks_for told) grew.given let_go.given);
+  orders_are = flat_map-append orders_in grew.given let_go.given ∙ ap (λ l. l ++ orders let_go.given) grew.orders_are ∙ ap (λ l. actions ++ l) let_go.no_order ∙ append-nil actions;
+  no_tale = flat_map-append tales_in grew.given let_go.given ∙ ap (λ l. l ++ tales let_go.given) grew.no_tale ∙ let_go.no_tale;
+  spared = λ n live. list_any-append (lets_go n) grew.given let_go.given ∙ ap (λ b. b || list_any (lets_go n) let_go.given) (spares_all n grew.given grew.kept) ∙ let_go.spared n live;
+  kept = λ e is. ap (λ l. list_any lets_any (grew.given ++ l)) (nothing_came grown let_go.given (sym (still e is) ∙ let_go.past_is)) ∙ ap (list_any lets_any) (append-nil grew.given) ∙ grew.kept;
+  marks_are = λ n live. grew.marks_are few n live ∙ ap (λ l. has n marks || has n l)
+      (sym (flat_map-append refusals_in grew.given let_go.given ∙ ap (λ l. refused grew.given ++ l) let_go.no_refusal ∙ append-nil (refused grew.given)));
 }
 
-pub turned : (place : Place) (store : Result Unit Refusal) (moment : ℕ) (pieces : List Piece) (a b : Now) (live : List ℕ) (past : List Call) (roomy cut : List Session)
+pub turned : (place : Place) (store : Result Unit Refusal) (moment : ℕ) (pieces : List Piece) (a b : Now) (live : List ℕ) (past grown : List Call) (roomy cut : List Session)
     (heard ticked inputs : List Input) (count : ℕ) (owed : List Due) (replies rest : List Reply) (h k w m y : Bool)
     → AreLive a.state.units live → HasFewLive b.state.units → AllSame a.sessions roomy
     → Heard unexecuted moment (λ n. has n a.marks) h m a.past past live [] heard → ticked ≡ heard ++ tick_at moment ∷ [] → count ≡ length ticked
     → Took moment roomy pieces cut ticked inputs [] owed
-    → Submits place store inputs replies k w (now a.state past a.marks [] a.disk a.log) (now b.state b.past b.marks [] b.disk b.log)
-    → rest ≡ drop count replies → PaysAll b.state owed rest cut b.sessions → k ≡ h → (IsTrue w → IsTrue m) → (IsTrue y → IsTrue w) → Turned place h y store moment pieces a b
-turned place store moment pieces a b live past roomy cut heard ticked inputs count owed replies rest h k w m y are_live few room told tick counted took submits rest_is pays same fewer still =
+    → Submits place store inputs replies k w (now a.state past a.marks [] a.disk a.log) (now b.state grown b.marks [] b.disk b.log)
+    → (IsTrue k → IsTrue y → LetGo b.state.units grown b.past) → ((e : Refusal) → store ≡ Err e → b.past ≡ grown) → rest ≡ drop count replies → PaysAll b.state owed rest cut b.sessions → k ≡ h → (IsTrue w → IsTrue m) → (IsTrue y → IsTrue w) → Turned place h y store moment pieces a b
+turned place store moment pieces a b live past grown roomy cut heard ticked inputs count owed replies rest h k w m y are_live few room told tick counted took submits lets still_there rest_is pays same fewer still =
     let sub = submits.1 in
     let first : ticked ≡ firsts moment told.told = tick ∙ ap (λ l. l ++ tick_at moment ∷ []) told.inputs_are in
     let all : inputs ≡ inputs_of moment told.told took.requests = took.inputs_are ∙ ap (λ l. l ++ flat_map (inputs_asked moment) took.requests) first in
@@ -96,8 +106,8 @@ turned place store moment pieces a b live past roomy cut heard ticked inputs cou
       left = λ t. subst (λ l. Leaves place a.state l sub.answers a.disk b.disk) all (sub.left t);
       stored = sub.stored;
       called = λ honest whole.
-          called b.state.units told.told (all_asked sub.answers) a.past past b.past a.marks b.marks few (told.past_is honest (fewer (still whole)))
-          (sub.grew (subst IsTrue (sym same) honest) (still whole));
+          called b.state.units store told.told (all_asked sub.answers) a.past past grown b.past a.marks b.marks few (told.past_is honest (fewer (still whole)))
+          (sub.grew (subst IsTrue (sym same) honest) (still whole)) (lets (subst IsTrue (sym same) honest) whole) still_there;
     }
 
 -- the same turn, of a history of which less is known

@@ -5,13 +5,14 @@ use Rattle.std.specs.Prelude.{◌≡◌, ◌⊎◌, ℕ, List, [], ◌∷◌, �
 use Rattle.um_keeper.specs.Answering.{Answer, all_asked, taken}
 use Rattle.um_keeper.specs.Keeping.{IsBegun}
 use Rattle.um_keeper.specs.Opening.{IsTakenUp, IsSomeStore, IsAsBefore}
-use Rattle.um_model.specs.Children.{Call, Tale}
+use Rattle.um_model.specs.Children.{Call, Tale, ForgotOthers}
 use Rattle.um_model.specs.Children.{Signalled as Sent}
 use Rattle.um_model.specs.Disk.{Image, Past, Images, During, seen}
 use Rattle.um_model.specs.Lives.{HasInOrder}
 use Rattle.um_model.specs.Machine.{State, Input, Reply, Step, Booted}
 use Rattle.um_model.specs.Service.{ByUnit, Action}
 use Rattle.um_model.specs.Stands.{StandsFor}
+use Rattle.um_model.specs.Store.{body_limit}
 use Rattle.um_model.specs.declared.layout.Layout.{Layout}
 use Rattle.um_model.specs.declared.layout.Slot.{Slot}
 use Rattle.um_model.specs.declared.service.Signal.{Signal}
@@ -24,7 +25,7 @@ use Rattle.um_wire.specs.declared.refusal.Refusal.{Refusal}
 use Rattle.um_wire.specs.declared.refusal.Refusal.TheVariants.{Device}
 use Rattle.um_fates.specs.Fates.{AreTalesOf, asks_for, inputs_of_tale, lost, happens_at}
 use Rattle.um_fates.specs.Live.{AreLive, AreIn}
-use Rattle.um_manager.specs.Orders.{signals}
+use Rattle.um_manager.specs.Orders.{LetGo, signals}
 use Rattle.um_manager.specs.Places.{Place}
 use Rattle.um_manager.specs.Turns.{Now, Answers, Tells, AreSpent, Leaves, Holds, Called}
 
@@ -36,21 +37,23 @@ adoptions moment told = flat_map (inputs_of_tale lost moment) told
 abbrev pub boot_at : ℕ → List ℕ → Input
 boot_at moment boot = happens_at moment (Booted boot)
 
--- What the children's calls were: each fate that was told was asked, then the orders were given, which are these actions, and then of the
--- adopted numbers TERM to those whose unit is in stop-sigterm, and KILL to those whose unit is in stop-sigkill.
+-- What the children's calls were: what is kept of all but the live numbers was let go, each fate that was told was asked, then the orders were
+-- given, which are these actions, and then of the adopted numbers TERM to those whose unit is in stop-sigterm, and KILL to those whose unit is in
+-- stop-sigkill.
 pub record Ended (units : ByUnit UnitState) (live : List ℕ) (told : List Tale) (actions : List Action) (old new : List Call) (marked : List ℕ) : Type 0 where
   pub termed : List ℕ
   pub are_termed : AreIn units StopSigterm live termed
   pub killed : List ℕ
   pub are_killed : AreIn units StopSigkill live killed
-  pub called : Called units told (actions ++ (signals Term termed ++ signals Kill killed)) old new live marked
+  pub called : Called units (Ok tt) told (actions ++ (signals Term termed ++ signals Kill killed)) (old ++ ForgotOthers live ∷ []) new live marked
 
--- so it is where the store took the inputs; where it failed the fates were asked, and nothing else
+-- so it is where the store took the inputs; where it failed all but the live numbers were let go, the fates were asked, and nothing else
 abbrev pub CallsOf : Result Unit Refusal → ByUnit UnitState → List ℕ → List Tale → List Action → (old new : List Call) → List ℕ → Type 0
 CallsOf (Ok done) units live told actions old new marked = Ended units live told actions old new marked
-CallsOf (Err e) units live told actions old new marked = new ≡ old ++ map asks_for told
+CallsOf (Err e) units live told actions old new marked = new ≡ old ++ (ForgotOthers live ∷ map asks_for told)
 
--- What adoption did. It asked the fate of each live number once, ascending, with a claim, and offered what was told; an absent number is lost.
+-- What adoption did. It let go what is kept of all but the live numbers, asked the fate of each of these once, ascending, with a claim, and
+-- offered what was told; an absent number is lost.
 -- Marked are the numbers that were live and those whose start was refused.
 pub record Adopted (place : Place) (honest whole : Bool) (store : Result Unit Refusal) (moment : ℕ) (a b : Now) : Type 0 where
   pub live : List ℕ
@@ -110,13 +113,35 @@ pub record Opened (place : Place) (honest whole : Bool) (moment : ℕ) (boot : L
   pub left : IsTrue place.trusted → Images disk (IsSomeStore place.layout) → During disk b.disk (IsOfOpening place.layout disk a.state
       (boot_at moment boot ∷ taken (adoptions moment began.adopted.told) began.adopted.answers))
 
+-- What an opening asks of the children that is refused behind the boot of this state: what is kept of all but the numbers that are live then is let
+-- go, and fates are asked.
+pub record AsksAlone (size : ℕ) (s : State) (moment : ℕ) (boot : List ℕ) (told : List Tale) (old new : List Call) : Type 0 where
+  pub reply : Reply
+  pub booted : State
+  pub boots : Step size s (boot_at moment boot) reply [] booted
+  pub live : List ℕ
+  pub are_live : AreLive booted.units live
+  pub past_is : new ≡ old ++ (ForgotOthers live ∷ map asks_for told)
+
+-- nothing at all is asked, or so it is
+abbrev pub IsSilentIn : ℕ → State → ℕ → List ℕ → List Tale → List Call → List Call → Type 0
+IsSilentIn size s moment boot told old new = ((told ≡ []) × (new ≡ old)) ⊎ AsksAlone size s moment boot told old new
+
+-- the same of the state that the disk is read as
+pub record IsSilent (sectors : ℕ) (disk : Past) (honest : Bool) (moment : ℕ) (boot : List ℕ) (old new : List Call) : Type 0 where
+  pub layout : Layout
+  pub state : State
+  pub found : IsTrue honest → IsFound sectors disk layout state
+  pub told : List Tale
+  pub asked : AsksAlone (body_limit layout) state moment boot told old new
+
 -- a store of a state that the boot and some of adoption's inputs give, of those that the children told meanwhile
 pub record IsCutShort (layout : Layout) (moment : ℕ) (boot : List ℕ) (sectors : ℕ) (disk : Past) (honest whole : Bool) (old new : List Call)
     (image : Image) : Type 0 where
   pub state : State
   pub found : IsFound sectors disk layout state
   pub told : List Tale
-  pub past_is : IsTrue honest → IsTrue whole → new ≡ old ++ map asks_for told
+  pub asked : IsTrue honest → IsTrue whole → IsSilentIn (body_limit layout) state moment boot told old new
   pub some : List Input
   pub are : HasInOrder some (adoptions moment told)
   pub begun : IsBegun layout state (boot_at moment boot ∷ some) image
@@ -131,3 +156,12 @@ pub record Signalled (units : ByUnit UnitState) (sub : SubState) (signal : Signa
   pub chosen : List ℕ
   pub are : AreIn units sub numbers chosen
   pub past_is : new ≡ old ++ map (λ n. Sent n signal) chosen
+
+-- TERM was sent to those of these numbers whose unit is in stop-sigterm, then KILL to those whose unit is in stop-sigkill, and then numbers that
+-- aren't live were let go.
+pub record Ends (units : ByUnit UnitState) (numbers : List ℕ) (old new : List Call) : Type 0 where
+  pub termed : List Call
+  pub terms : Signalled units StopSigterm Term numbers old termed
+  pub killed : List Call
+  pub kills : Signalled units StopSigkill Kill numbers termed killed
+  pub let_go : LetGo units killed new

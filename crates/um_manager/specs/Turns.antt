@@ -2,6 +2,8 @@
 -- No manual page has this: it is the project's own (docs/ARCHITECTURE.md, "The way of one input").
 -- The manager's calls stand on this file.
 use Rattle.std.specs.Prelude.{◌≡◌, ◌≢◌, ◌↔◌, ◌||◌, ℕ, List, [], ◌∷◌, ◌++◌, length, drop, map, flat_map, replicate, Bool, true, false, IsTrue, Option, Result, Ok, Err}
+use Rattle.std.specs.List.{list_any}
+use Rattle.um_children.specs.History.{lets_any, Spares}
 use Rattle.um_keeper.specs.Answering.{Answer, AreAnswered, FellBack, HasFault, AreSpentAt, all_asked, taken}
 use Rattle.um_keeper.specs.Keepers.{state_in}
 use Rattle.um_keeper.specs.Keeping.{IsBegun}
@@ -86,13 +88,16 @@ pub record Submitted (place : Place) (store : Result Unit Refusal) (inputs : Lis
   pub left : IsTrue place.trusted → Leaves place a.state inputs answers a.disk b.disk
   pub stored : IsTrue place.trusted → store ≡ Ok tt → Holds place b.state b.disk
 
--- What the children's calls were: each fate that was told was asked, and then the orders were given, which are these actions. Of the live
--- numbers those whose start was refused are marked beside the others.
-pub record Called (units : ByUnit UnitState) (told : List Tale) (actions : List Action) (old new : List Call) (marks marked : List ℕ) : Type 0 where
+-- What the children's calls were: each fate that was told was asked, and then the orders were given, which are these actions. What is kept of a
+-- live number isn't let go, and where the store failed nothing is. Of the live numbers those whose start was refused are marked beside the others.
+pub record Called (units : ByUnit UnitState) (store : Result Unit Refusal) (told : List Tale) (actions : List Action) (old new : List Call)
+    (marks marked : List ℕ) : Type 0 where
   pub given : List Call
   pub past_is : new ≡ old ++ (map asks_for told ++ given)
   pub orders_are : orders given ≡ actions
   pub no_tale : tales given ≡ []
+  pub spared : Spares (is_live units) given
+  pub kept : (e : Refusal) → store ≡ Err e → list_any lets_any given ≡ false
   pub marks_are : (n : ℕ) → is_live units n ≡ true → has n marked ≡ (has n marks || has n (refused given))
 
 -- the inputs that a turn offers: those of the fates told, a tick, and those of the requests, in this order
@@ -129,7 +134,7 @@ pub record Turned (place : Place) (honest whole : Bool) (result : Result Unit Re
   pub paid : PaysAll b.state (map due_of requests) (drop (length (firsts moment told)) (map reply_in answers)) cut b.sessions
   pub left : IsTrue place.trusted → Leaves place a.state (inputs_of moment told requests) answers a.disk b.disk
   pub stored : IsTrue place.trusted → store ≡ Ok tt → Holds place b.state b.disk
-  pub called : IsTrue honest → IsTrue whole → Called b.state.units told (all_asked answers) a.past b.past a.marks b.marks
+  pub called : IsTrue honest → IsTrue whole → Called b.state.units store told (all_asked answers) a.past b.past a.marks b.marks
 
 -- nothing was taken, asked or offered
 pub record Untouched (a b : Now) : Type 0 where

@@ -1,18 +1,16 @@
-ghost use Rattle.std.specs.Prelude.{◌≡◌, ◌≢◌, ◌⊎◌, ◌↔◌, ◌++◌, ℕ, List, [], length, map, true, false, Err, IsTrue, IfOk, IfErr, slice_get};
+ghost use Rattle.std.specs.Prelude.{◌≡◌, ◌≢◌, ◌⊎◌, ◌↔◌, ℕ, [], length, true, false, Err, IsTrue, IfOk, IfErr, slice_get};
 ghost use Rattle.std.specs.List.{AllByRecursion};
 ghost use Rattle.um_keeper.specs.Keepers.{disk_in, state_in, size_in, layout_in, has_failed, opened_in, IsSamePlace};
 ghost use Rattle.um_keeper.specs.Opening.{IsRead, IsSomeStore, IsUntaken, IsUnwritten};
 ghost use Rattle.um_manager.specs.Connections.{IsNew, HoldsFrameAt};
-ghost use Rattle.um_manager.specs.Opening.{Opened, IsOfRefused};
+ghost use Rattle.um_manager.specs.Opening.{Opened, IsOfRefused, IsSilent};
 ghost use Rattle.um_manager.specs.Places.{place, place_in};
 ghost use Rattle.um_manager.specs.Replies.{IsOutput};
 ghost use Rattle.um_manager.specs.Scripts.{Runs};
 ghost use Rattle.um_manager.specs.Turns.{Turns, now_in};
 ghost use Rattle.um_model.specs.Disk.{seen, one_more, Images, During};
 ghost use Rattle.um_model.specs.Store.{body_limit};
-ghost use Rattle.um_model.specs.Children.{Tale};
 ghost use Rattle.um_model.specs.declared.layout.Layout.{Layout};
-ghost use Rattle.um_fates.specs.Fates.{asks_for};
 ghost use Rattle.um_sector.specs.Refused.{CountsDevice, IsLost};
 ghost use Rattle.um_state.specs.View.{state_of};
 
@@ -56,7 +54,8 @@ impl<D: Disk, C: Children> Manager<D, C> {
     /// told, and ends those that were being ended. It starts nothing by itself. A refusal hands disk and children back.
     ///
     /// Its refusals are those of `Keeper::open`, for the same causes. Behind each but E15 and E16 nothing was written. E16 comes exactly where the
-    /// count of the disk's failures rises; then fates may have been asked, and nothing else, and behind each of the others not even these.
+    /// count of the disk's failures rises; then what is kept of numbers that aren't live behind the boot may have been let go, and fates asked, and
+    /// nothing else, and behind each of the others not even these.
     pub fn open(
         alloc: Global,
         disk: D,
@@ -77,7 +76,7 @@ impl<D: Disk, C: Children> Manager<D, C> {
             → During (D.past disk) (D.past e.1)
             (IsOfRefused layout moment boot (D.size disk) (D.past disk) (C.honest children) (C.whole e.2) (C.past children) (C.past e.2))) }
         ensures silent { IfErr result (λ e. IsTrue (C.honest children) → IsTrue (C.whole e.2)
-            → (told : List Tale) × (C.past e.2 ≡ C.past children ++ map asks_for told)) }
+            → (C.past e.2 ≡ C.past children) ⊎ IsSilent (D.size disk) (D.past disk) (D.honest disk) moment boot (C.past children) (C.past e.2)) }
         ensures refused { IfErr result (λ e. IsLost e.0 ⊎ (IsTrue (D.honest disk) → IsUntaken (D.size disk) (seen (D.past disk)) e.0)) }
         ensures unwritten { IfErr result (λ e. IsTrue (D.honest disk) → IsLost e.0 ⊎ IsUnwritten (D.past disk) (D.past e.1)) }
         ensures device { IfErr result (λ e. ((e.0 ≡ Refusal.Device) × (D.failures e.1 ≡ one_more (D.failures disk)))

@@ -1,15 +1,16 @@
 //! Opening: the boot, and then the processes that are live are adopted.
 
-ghost use Rattle.std.specs.Prelude.{◌≡◌, ◌≢◌, ◌⊎◌, ◌↔◌, ◌+◌, ◌*◌, ◌≤◌, ◌∷◌, [], ℕ, List, true, false, Ok, Err, IsTrue, IfOk, IfErr, OnOk, OnErr, length, vec_len, vec_capacity};
+ghost use Rattle.std.specs.Prelude.{◌≡◌, ◌≢◌, ◌⊎◌, ◌↔◌, ◌+◌, ◌*◌, ◌≤◌, ◌++◌, ◌∷◌, [], ℕ, List, true, false, Ok, Err, IsTrue, IfOk, IfErr, OnOk, OnErr, length, vec_len, vec_capacity};
 ghost use Rattle.std.specs.List.{AllByRecursion};
 ghost use Rattle.um_keeper.specs.Keepers.{disk_in, state_in, size_in, layout_in, has_failed, IsSamePlace, HasNoRoom};
 ghost use Rattle.um_keeper.specs.Keeping.{IsBegun};
 ghost use Rattle.um_manager.specs.Connections.{IsNew};
 ghost use Rattle.um_fates.specs.Fates.{Heard, inputs_in, lost};
 ghost use Rattle.um_fates.specs.Live.{AreLive, has};
-ghost use Rattle.um_manager.specs.Opening.{Adopted, Began, Refuses, Signalled, boot_at};
+ghost use Rattle.um_manager.specs.Opening.{Adopted, Began, Ends, Refuses, Signalled, boot_at};
 ghost use Rattle.um_manager.specs.Places.{place_in, is_trusted};
 ghost use Rattle.um_manager.specs.Turns.{now_in};
+ghost use Rattle.um_model.specs.Children.{ForgotOthers};
 ghost use Rattle.um_model.specs.Disk.{During};
 ghost use Rattle.um_model.specs.InputSpellings.{input_spelling};
 ghost use Rattle.um_model.specs.Machine as model;
@@ -99,8 +100,8 @@ fn claim_live<C: Children>(
     inputs: &mut Vec<Input>,
 )
     requires { vec_len inputs.old + 2 * length live.now ≤ vec_capacity inputs.old }
-    ensures hears { Heard lost moment (λ n. true) (C.honest children.old) (C.whole children.new) (C.past children.old) (C.past children.new) live.now
-        (inputs_in inputs.old.items) (inputs_in inputs.new.items) }
+    ensures hears { Heard lost moment (λ n. true) (C.honest children.old) (C.whole children.new)
+        (C.past children.old ++ ForgotOthers live.now ∷ []) (C.past children.new) live.now (inputs_in inputs.old.items) (inputs_in inputs.new.items) }
     ensures len { vec_len inputs.new ≤ vec_len inputs.old + 2 * length live.now }
     ensures capacity { vec_capacity inputs.old ≤ vec_capacity inputs.new }
     ensures whole { IsTrue (C.whole children.new) → IsTrue (C.whole children.old) }
@@ -110,12 +111,20 @@ fn claim_live<C: Children>(
     claim_all(children, live, moment, inputs);
 }
 
-/// Kills the numbers whose unit is in stop-sigkill, and lets go what is kept of those that aren't live any more.
-fn kill_all<C: Children>(children: &mut C, units: &Units, numbers: &[ProcessNumber])
-    ensures signals { IsTrue (C.honest children.old) → IsTrue (C.whole children.new) → Signalled units.now.held SubState.StopSigkill Signal.Kill numbers.now (C.past children.old) (C.past children.new) }
+/// Sends TERM to those of these numbers whose unit is in stop-sigterm, and KILL to those whose unit is in stop-sigkill, and lets go what is kept of
+/// those that aren't live any more.
+fn end_all<C: Children>(children: &mut C, units: &Units, numbers: &[ProcessNumber])
+    ensures ends { IsTrue (C.honest children.old) → IsTrue (C.whole children.new) → Ends units.now.held numbers.now (C.past children.old) (C.past children.new) }
     ensures whole { IsTrue (C.whole children.new) → IsTrue (C.whole children.old) }
     ensures honest { C.honest children.new ≡ C.honest children.old }
 {
+    signal_all(
+        children,
+        units,
+        SubState::StopSigterm,
+        Signal::Term,
+        numbers,
+    );
     signal_all(
         children,
         units,
@@ -159,9 +168,7 @@ fn adopt<D: Disk, C: Children>(
     let next = keeper.state().next();
     claim_live(children, live, next, moment, &mut inputs);
     submit(keeper, children, marks, inputs, replies)?;
-    let units = keeper.state().units();
-    signal_all(children, units, SubState::StopSigterm, Signal::Term, live);
-    kill_all(children, units, live);
+    end_all(children, keeper.state().units(), live);
     Ok(())
 }
 

@@ -1,4 +1,4 @@
-use Rattle.std.proofs.Common.{◌≡◌, ◌∷◌, [], inl, inr, refl, sym, subst, append-nil}
+use Rattle.std.proofs.Common.{◌≡◌, ◌∷◌, [], inl, inr, refl, sym, subst}
 use Rattle.std.specs.Bool.{IsTrue}
 use Rattle.um_keeper.specs.Keepers.{disk_in, state_in, layout_in, has_failed, opened_in}
 use Rattle.um_keeper.specs.Opening.{IsRead, IsSomeStore}
@@ -102,7 +102,18 @@ pub returns-in-Err-clause-unwritten : goal.returns-in-Err-clause-unwritten
 returns-in-Err-clause-unwritten g c = λ h. elim (c.in-Err.ensures.unwritten h) [ inl unwritten ↦ inr unwritten | inr lost ↦ inl lost.0 ]
 
 pub returns-in-Err-begin-clause-silent : goal.returns-in-Err-begin-clause-silent
-returns-in-Err-begin-clause-silent g c = λ h w. let (marks, refuses) = c.in-Err-begin.ensures.refuses in asked_alone _ _ _ _ _ _ _ _ refuses h w
+returns-in-Err-begin-clause-silent g c = λ h w.
+    let D = g.D.Disk in
+    let first = D.past c.args.disk in
+    let k = c.in-Ok.keeper in
+    let l = c.begin.new.keeper in
+    let (marks, refuses) = c.in-Err-begin.ensures.refuses in
+    let a = now_in k (g.C.Children.past c.args.children) [] [] (D.past (disk_in k)) in
+    let b = now_in l (g.C.Children.past c.begin.new.children) marks [] (D.past (disk_in l)) in
+    asked_alone (place_in (D.honest (disk_in k)) k) _ _ (D.honest c.args.disk) c.args.moment c.args.boot (D.size c.args.disk) first a b _ c.in-Ok.ensures.sized
+    (λ sure.
+    let next = c.in-Ok.ensures.taken sure in
+    record { slot = next.before; generation = next.earlier; taken_up = next.taken; stands = c.in-Ok.ensures.stands sure }) refuses h w
 
 pub returns-in-Err-clause-silent : goal.returns-in-Err-clause-silent
-returns-in-Err-clause-silent g c = λ h w. ([], sym (append-nil _))
+returns-in-Err-clause-silent g c = λ h w. inl refl
