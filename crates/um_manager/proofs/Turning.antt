@@ -111,9 +111,9 @@ turned place store moment pieces a b live past grown roomy cut heard ticked inpu
     }
 
 -- the same turn, of a history of which less is known
-pub turned_less : {place : Place} {h w v : Bool} {result : Result Unit Refusal} {moment : ℕ} {pieces : List Piece} {a b : Now} → (IsTrue v → IsTrue w)
-    → Turned place h w result moment pieces a b → Turned place h v result moment pieces a b
-turned_less fewer t = record {
+pub turned_less : {place : Place} {h k w v : Bool} {result : Result Unit Refusal} {moment : ℕ} {pieces : List Piece} {a b : Now} → (IsTrue k → IsTrue h) → (IsTrue v → IsTrue w)
+    → Turned place h w result moment pieces a b → Turned place k v result moment pieces a b
+turned_less less fewer t = record {
   live = t.live;
   are_live = t.are_live;
   told = t.told;
@@ -133,7 +133,7 @@ turned_less fewer t = record {
   paid = t.paid;
   left = t.left;
   stored = t.stored;
-  called = λ honest whole. t.called honest (fewer whole);
+  called = λ honest whole. t.called (less honest) (fewer whole);
 }
 
 -- a refusal of the store is one of the turn

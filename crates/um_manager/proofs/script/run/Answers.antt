@@ -37,7 +37,7 @@ loop-step-preserved g c =
             subst (λ (p : Place). Turned p honest w (Ok tt) c.step-item.result.moment c.step-item.result.pieces before after) place
                 (subst (λ r. Turned there honest w r c.step-item.result.moment c.step-item.result.pieces before after) c.in_ok-turn.was
                 (subst (λ pieces. Turned there honest w c.turn.result c.step-item.result.moment pieces before after) c.as_slice-pieces.ensures.pieces
-                (subst (λ h. Turned there h w c.turn.result c.step-item.result.moment c.as_slice-pieces.result.now before after) inv.honest (turned_less still turned)))),
+                (subst (λ h. Turned there h w c.turn.result c.step-item.result.moment c.as_slice-pieces.result.now before after) inv.honest (turned_less (λ x. x) still turned)))),
             rest,
           )));
       whole = search rules;
