@@ -80,10 +80,10 @@ fn forget_recorded<C: Children>(
     children: &mut C,
     units: &Units,
     numbers: &[ProcessNumber],
-    submitted: Result<(), Refusal>,
+    submitted: &Result<(), Refusal>,
 )
     ensures let_go { IsTrue (C.honest children.old) → IsTrue (C.whole children.new) → LetGo units.now.held (C.past children.old) (C.past children.new) }
-    ensures kept { IfErr submitted (λ e. C.past children.new ≡ C.past children.old) }
+    ensures kept { IfErr submitted.now (λ e. C.past children.new ≡ C.past children.old) }
     ensures whole { IsTrue (C.whole children.new) → IsTrue (C.whole children.old) }
     ensures honest { C.honest children.new ≡ C.honest children.old }
 {
@@ -157,7 +157,7 @@ pub fn turn<D: Disk, C: Children>(
         children,
         keeper.state().units(),
         ended.as_slice(),
-        submitted,
+        &submitted,
     );
     submitted
 }
