@@ -232,7 +232,7 @@ fn push_wanted(
     requires graph { IsGraph graph.now }
     requires within { neighbour.unit < length graph.now.names }
     requires tested { AreTested graph.now activity.now tested.old.items }
-    ensures { OnOk result (AddsWanted graph.now activity.now neighbour found.old.items found.new.items) }
+    ensures adds { OnOk result (AddsWanted graph.now activity.now neighbour found.old.items found.new.items) }
     ensures tested { AreTested graph.now activity.now tested.new.items }
 {
     if !neighbour.kinds.has(DependencyKind::Wants) {
