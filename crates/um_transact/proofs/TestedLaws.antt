@@ -1,5 +1,5 @@
 -- What was tested of units is so: nothing at first, and one answer more.
-use Rattle.std.proofs.Common.{◌≡◌, ◌<◌, ℕ, zero, suc, Bool, List, [], ◌∷◌, Option, None, Some, length, set, replicate, refl, sym, ap, ◌∙◌, subst, arith}
+use Rattle.std.proofs.Common.{◌≡◌, ◌<◌, ℕ, zero, suc, Bool, false, List, [], ◌∷◌, Option, None, Some, length, set, replicate, refl, sym, ap, ◌∙◌, subst, arith}
 use Rattle.std.proofs.lemmas.List.{length-set, length-replicate}
 use Rattle.std.specs.Bool.{Decides}
 use Rattle.um_model.specs.declared.service.ActiveState.{ActiveState}
@@ -11,7 +11,7 @@ none_at zero u = refl
 none_at (suc n) zero = refl
 none_at (suc n) (suc u) = none_at n u
 
-answer_of : Option Bool → Bool
+abbrev answer_of : Option Bool → Bool
 answer_of None = false
 answer_of (Some b) = b
 

@@ -1,7 +1,7 @@
 //! What a demand on a unit brings with it (systemd.unit(5), "Requires=", "BindsTo=", "PartOf=", "Conflicts=", "Wants=").
 
 ghost use Rattle.std.specs.Bool.{Decides};
-ghost use Rattle.std.specs.Prelude.{◌≡◌, ◌<◌, ◌++◌, ◌↔◌, true, Contains, IfOk, OnOk, length, vec_len, is_some};
+ghost use Rattle.std.specs.Prelude.{◌≡◌, ◌<◌, ◌++◌, ◌↔◌, true, Contains, None, IfOk, OnOk, length, replicate, vec_len, is_some};
 ghost use Rattle.um_graph.specs.Graph.{IsGraph, row_of};
 ghost use Rattle.um_graph.specs.Kinds.{has, bit_of};
 ghost use Rattle.um_model.specs.Dependencies.{loadable_of};
@@ -274,6 +274,13 @@ fn brought_along(
     Ok(found)
 }
 
+/// Nothing was tested yet, of so many units.
+fn untested(alloc: Global, units: usize) -> Result<Vec<Option<bool>>, AllocError>
+    ensures { IfOk result (λ tested. tested.items ≡ replicate units None) }
+{
+    vec![in alloc; None; units]
+}
+
 /// Marks each demand that the demand on the unit brings with it.
 pub fn demanded(
     alloc: Global,
@@ -286,7 +293,7 @@ pub fn demanded(
     ensures long { IfOk result (λ marks. vec_len marks ≡ length graph.now.names) }
     ensures marks { IfOk result (λ marks. (q : Demanded) → IsMarked marks.items q ↔ IsDemandedBy graph.now activity.now root q) }
 {
-    let mut tested = vec![in alloc; None; graph.len()]?;
+    let mut tested = untested(alloc, graph.len())?;
     let mut walk = Walk::new(alloc, graph.len())?;
     walk.meet(root)?;
     while let Some(demand) = walk.list.pop() {

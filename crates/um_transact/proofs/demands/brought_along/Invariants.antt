@@ -1,4 +1,3 @@
-use Rattle.std.proofs.Common.{◌×◌}
 use Rattle.um_transact.specs.Situation.{AreTested}
 use Rattle.um_transact.proofs.AlongLaws.{FoundAlong}
 use Rattle.um_transact.proofs.demands.brought_along.Given as goal

@@ -1,4 +1,4 @@
-use Rattle.std.proofs.Common.{◌×◌, ◌+◌, sum_by, length}
+use Rattle.std.proofs.Common.{◌+◌, sum_by, length}
 use Rattle.um_transact.specs.Situation.{AreTested, LeadsAlongBy}
 use Rattle.um_transact.specs.Walk.{unmarked}
 use Rattle.um_transact.proofs.WalkLaws.{IsUnderWay}
