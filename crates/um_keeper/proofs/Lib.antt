@@ -1,4 +1,5 @@
 mod Batching
+mod Inspecting
 pub mod Kept
 mod Reopening
 mod Repeating
