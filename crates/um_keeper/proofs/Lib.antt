@@ -1,5 +1,5 @@
 mod Batching
-mod Inspecting
+mod Looking
 pub mod Kept
 mod Reopening
 mod Repeating

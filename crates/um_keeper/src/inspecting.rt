@@ -56,8 +56,8 @@ pub fn inspect<D: Disk>(alloc: Global, disk: &mut D) -> Result<Summary, Refusal>
     ensures size { D.size disk.new ≡ D.size disk.old }
     ensures honest { D.honest disk.new ≡ D.honest disk.old }
 {
-    let found = take_up(alloc, disk)?;
-    Ok(summary_of(&found))
+    let taken = take_up(alloc, disk)?;
+    Ok(summary_of(&taken))
 }
 
 /// What the store on a disk stands for, in short, with its state. It reads as `inspect` does and is refused as that is.
