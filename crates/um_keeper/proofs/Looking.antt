@@ -1,5 +1,5 @@
 -- What a summary makes of what was taken up.
-use Rattle.std.proofs.Common.{◌≡◌, ◌∙◌, ℕ, List, [], ◌∷◌, length, Some, ap, arith}
+use Rattle.std.proofs.Common.{◌≡◌, ◌∙◌, ℕ, List, [], ◌∷◌, length, Some, sym, ap, arith}
 use Rattle.std.proofs.lemmas.Option.{same_Some}
 use Rattle.um_model.specs.Bytes.{◌>>=◌, nothing_left}
 use Rattle.um_model.specs.Disk.{Image}
@@ -9,11 +9,12 @@ use Rattle.um_model.specs.Stands.{inputs_of}
 use Rattle.um_model.specs.Store as sectors
 use Rattle.um_model.specs.declared.layout.Layout.{Layout}
 use Rattle.um_model.specs.declared.layout.Slot.{Slot}
-use Rattle.um_model.proofs.StandsLaws.{bound}
+use Rattle.um_model.proofs.StandsLaws.{bound, has_contents}
+use Rattle.um_model.proofs.StoreLaws.{same_newest}
 use Rattle.um_keeper.specs.Inspecting.{IsSummed}
 use Rattle.um_keeper.specs.Opening.{IsTakenUp, IsBehind}
 use Rattle.um_keeper.specs.declared.inspecting.Summary.{Summary}
-use Rattle.um_keeper.proofs.Reopening.{taken_comes, taken_stands}
+use Rattle.um_keeper.proofs.Reopening.{taken_stands}
 
 -- records spell as many inputs
 pub same_count : (records : List (List ℕ)) (inputs : List Input) → inputs_of records ≡ Some inputs → length records ≡ length inputs
@@ -30,13 +31,16 @@ pub summed : {count : ℕ} {image : Image} {layout : Layout} {slot : Slot} {gene
     → IsTakenUp count image layout slot generation s → IsBehind layout generation image number next
     → m.generation ≡ generation → m.records ≡ number → m.clock ≡ s.clock → m.next ≡ s.next → IsSummed count image m s
 summed {image = image} {layout = layout} {generation = generation} m taken behind of_generation of_number of_clock of_next =
-    let (inputs, comes) = taken_comes taken in
+    let stands = taken_stands taken in
+    let holds = has_contents layout image stands.contents stands.holds in
+    let same : stands.contents.generation ≡ generation = (same_newest holds.newest taken.newest).1 in
     record {
       layout = layout;
       room = taken.has.room;
-      stands = taken_stands taken;
-      generation_is = of_generation;
-      records_are = of_number ∙ behind.count ∙ same_count (sectors.records_of layout generation image) inputs comes.inputs_are;
+      stands = stands;
+      generation_is = of_generation ∙ sym same;
+      records_are = of_number ∙ behind.count ∙ ap (λ (g : ℕ). length (sectors.records_of layout g image)) (sym same)
+          ∙ same_count (sectors.records_of layout stands.contents.generation image) stands.contents.inputs holds.inputs_are;
       clock_is = of_clock;
       next_is = of_next;
     }
