@@ -9,8 +9,7 @@ use Rattle.um_model.specs.Store.{store_sectors}
 use Rattle.um_model.specs.declared.layout.Layout.{Layout}
 use Rattle.um_keeper.specs.declared.inspecting.Summary.{Summary}
 
--- A disk of so many sectors has room for the store, which stands for the state: the summary tells the generation and the count of the
--- records that count, and the clock and the next number of that state.
+-- The summary tells of a store, for which a disk of so many sectors has room, and of the state for which the store stands.
 pub record IsSummed (count : ℕ) (image : Image) (m : Summary) (s : State) : Type 0 where
   pub layout : Layout
   pub room : store_sectors layout ≤ count
@@ -20,7 +19,7 @@ pub record IsSummed (count : ℕ) (image : Image) (m : Summary) (s : State) : Ty
   pub clock_is : m.clock ≡ s.clock
   pub next_is : m.next ≡ s.next
 
--- it is so of some state
+-- it tells so of some state
 pub record IsSomeSummed (count : ℕ) (image : Image) (m : Summary) : Type 0 where
   pub state : State
   pub summed : IsSummed count image m state
