@@ -1,4 +1,5 @@
 mod Batching
+mod Looking
 pub mod Kept
 mod Reopening
 mod Repeating

@@ -3,11 +3,13 @@
 
 mod batch;
 mod creating;
+mod inspecting;
 mod keeper;
 pub mod laws;
 mod opening;
 mod receipt;
 
 pub use creating::create;
+pub use inspecting::{Summary, inspect, look};
 pub use keeper::{Keeper, OpenedStore};
 pub use receipt::{Handed, Receipt, SpawnOrder};
