@@ -7,3 +7,4 @@ mod Results
 mod Spent
 mod Wiping
 mod Meanwhile
+mod Underway

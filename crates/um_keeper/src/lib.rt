@@ -1,12 +1,14 @@
 //! The engine over a disk: what it answers outlives a crash.
 #![tactic(auto)]
 
+mod ahead;
 mod batch;
 mod creating;
 mod keeper;
 pub mod laws;
 mod opening;
 mod receipt;
+mod recording;
 
 pub use creating::create;
 pub use keeper::{Keeper, OpenedStore};
