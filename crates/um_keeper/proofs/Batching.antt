@@ -228,8 +228,9 @@ denied_fault : (answers : List Answer) → HasReceipt answers → HasFault (map 
 denied_fault [] (given, has) = absurd (omega (arith, has.1))
 denied_fault (Ok first ∷ answers) has = (0, omega arith, refl)
 denied_fault (Err e ∷ answers) (given, has) = elim (Contains-append_cases (Err e ∷ []) answers (Ok given) has) [
-    inl here ↦ elim (Contains-push_cases [] (Err e) (Ok given) here) [ inl none ↦ absurd (omega (arith, none.1)) | inr is ↦ cc ]
-    | inr there ↦ Contains-append_right (Err e ∷ []) (map denied answers) (Err Device) (denied_fault answers (given, there)) ]
+  | inl here ↦ elim (Contains-push_cases [] (Err e) (Ok given) here) [ inl none ↦ absurd (omega (arith, none.1)) | inr is ↦ cc ]
+  | inr there ↦ Contains-append_right (Err e ∷ []) (map denied answers) (Err Device) (denied_fault answers (given, there))
+]
 
 -- the answers before those that it leaves without one
 module _ {size : ℕ} {s : State} {inputs : List Input} {meant : List Answer} (stopped : StopsAt size s inputs meant) where
@@ -256,8 +257,9 @@ module _ {size : ℕ} {s : State} {inputs : List Input} {meant : List Answer} (s
 
     pub fell_told : HasFault told
     fell_told = subst HasFault (sym are) (elim stopped.some [
-      inl left ↦ Contains-append_right (map denied meant) (replicate (length stopped.rest) (Err Device)) (Err Device) (some_fault (length stopped.rest) left)
-      | inr given ↦ Contains-append_left (map denied meant) (replicate (length stopped.rest) (Err Device)) (Err Device) (denied_fault meant given) ])
+      | inl left ↦ Contains-append_right (map denied meant) (replicate (length stopped.rest) (Err Device)) (Err Device) (some_fault (length stopped.rest) left)
+      | inr given ↦ Contains-append_left (map denied meant) (replicate (length stopped.rest) (Err Device)) (Err Device) (denied_fault meant given)
+    ])
 
     -- a crash leaves a beginning of what isn't turned away
     all_taken : taken inputs told ≡ taken stopped.judged meant ++ stopped.rest

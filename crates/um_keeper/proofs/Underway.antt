@@ -76,7 +76,6 @@ underway_kept unsynced here k = nothing_behind unsynced here (unpacked k).goes_o
 
 module _ {layout : Layout} {s : State} {taken : List Input} {past : Past} {slot : Slot} {generation number next : ℕ} {unsynced : Bool} {state : State}
     (under : IsUnderway layout s taken past slot generation number next unsynced state) where
-
   -- ---- what a crash leaves
 
   some_begun : (image : Image) → HasSome layout slot generation under.body under.records under.more image → IsBegun layout s taken image
@@ -214,13 +213,13 @@ may_hold {s = s} held = subst (λ n. IsServable n s) held.size_is held.servable
 -- a step over a store of the layout
 pub step_on : {layout : Layout} {size : ℕ} {s t u : State} {input : Input} {reply : Reply} {actions : List Action} → MayHold layout size s → Step size s input reply actions u → u ≡ t
     → Step (body_limit layout) s input reply actions t
-step_on {layout} {size} {s} {input = input} {reply} {actions} held step is =
-    subst (λ (z : State). Step (body_limit layout) s input reply actions z) is (subst (λ n. Step n s input reply actions _) held.size_is step)
+step_on {layout} {size} {s} {u = u} {input = input} {reply} {actions} held step is =
+    subst (λ (z : State). Step (body_limit layout) s input reply actions z) is (subst (λ n. Step n s input reply actions u) held.size_is step)
 
 -- one of two, of the same layout
-pub then_begun : {old mid new : Past} {layout l : Layout} {s : State} {taken more : List Input} → l ≡ layout → During old mid (IsBegun layout s taken) → During mid new (IsBegun l s (taken ++ more))
+pub then_begun : {old mid new : Past} {layout l : Layout} {s : State} {taken : List Input} (more : List Input) → l ≡ layout → During old mid (IsBegun layout s taken) → During mid new (IsBegun l s (taken ++ more))
     → During old new (IsBegun layout s (taken ++ more))
-then_begun {old} {mid} {new} {layout} {l} {s} {taken} {more} same first second = followed old mid new _ (weaker old mid _ _ (begun_longer taken more) first)
+then_begun {old} {mid} {new} {layout} {l} {s} {taken} more same first second = followed old mid new _ (weaker old mid _ _ (begun_longer taken more) first)
     (subst (λ (z : Layout). During mid new (IsBegun z s (taken ++ more))) same second)
 
 pub then_settled : {old mid new : Past} {layout l : Layout} {s : State} {taken : List Input} → l ≡ layout → During old mid (IsBegun layout s taken) → During mid new (IsBegun l s taken)
@@ -242,13 +241,13 @@ underway_refused {layout} {s} {taken} {past} {slot} {generation} {number} {next}
     by false is (inr step) = subst (λ away. IsUnderway layout s (taken ++ (if away then [] else input ∷ [])) past slot generation number next unsynced state) (sym is) (underway_stayed under step.1)
 
 -- the cause of a refusal that isn't the disk's
-pub cause_of : {size : ℕ} {state : State} {layout : Layout} {input : Input} {e : declared.Refusal} → size ≡ body_limit layout → ¬ (e ≡ Device)
+pub cause_of : (layout : Layout) {size : ℕ} {state : State} {input : Input} {e : declared.Refusal} → size ≡ body_limit layout → ¬ (e ≡ Device)
     → IsLost e ⊎ (e ≡ GenerationsSpent) ⊎ ((is_of_store e ≡ false) × Step size state input (Refusal (refused_of e)) [] state)
     → (is_turned_away e ≡ true) ⊎ ((r : Refused) × Step (body_limit layout) state input (Refusal r) [] state)
-cause_of same other (inl (inl memory)) = inl (ap is_turned_away memory)
-cause_of same other (inl (inr device)) = absurd (other device)
-cause_of same other (inr (inl spent)) = inl (ap is_turned_away spent)
-cause_of {state = state} {input = input} {e = e} same other (inr (inr told)) = inr (refused_of e, subst (λ n. Step n state input (Refusal (refused_of e)) [] state) same told.1)
+cause_of layout same other (inl (inl memory)) = inl (ap is_turned_away memory)
+cause_of layout same other (inl (inr device)) = absurd (other device)
+cause_of layout same other (inr (inl spent)) = inl (ap is_turned_away spent)
+cause_of layout {state = state} {input = input} {e = e} same other (inr (inr told)) = inr (refused_of e, subst (λ n. Step n state input (Refusal (refused_of e)) [] state) same told.1)
 
 -- a count of calls with what is owed
 pub owed_most : (b : Bool) → owed b ≤ 1

@@ -58,7 +58,7 @@ UnderwayIn s taken past a state = IsUnderway a.log.layout s taken past a.home.sl
 
 -- all of it is synced, and each image is a store of the state
 abbrev pub KeptIn : Past → ℕ → Ahead → State → Type 0
-KeptIn past sectors a state = Keeps past sectors a.log.layout a.home.slot a.home.generation a.log.number a.log.next state
+KeptIn past sectors a state = Keeps past sectors a.log.layout a.home.slot a.log.generation a.log.number a.log.next state
 
 -- one disk call is owed where something is to be synced
 abbrev pub owed : Bool → ℕ

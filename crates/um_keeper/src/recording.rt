@@ -127,7 +127,6 @@ fn append<D: Disk>(
     ensures next { OnOk result (ahead.new.log.next ≡ ahead.old.log.next + part_count (length (input_spelling (input_of input.now)))) }
     ensures unsynced { OnOk result (ahead.new.unsynced ≡ true) }
     ensures of { (ahead.new.log.layout ≡ ahead.old.log.layout) × (ahead.new.log.generation ≡ ahead.old.log.generation) }
-    ensures same { OnErr result (ahead.new ≡ ahead.old) }
     ensures refused { IfErr result (λ e. e ≡ Refusal.Device) }
     ensures syncs { IsTrue (D.honest disk.old) → sync_count (D.past disk.new) ≡ sync_count (D.past disk.old) }
     ensures calls { D.calls disk.new ≤ D.calls disk.old + part_count (length (input_spelling (input_of input.now))) }

@@ -89,7 +89,7 @@ returns-in_err-take_all-clause-unwritten g c = err_from c.from_residual.result (
 pub returns-clause-one_sync : goal.returns-clause-one_sync
 returns-clause-one_sync g c = ok_from c.settle.result (λ synced h room some.
     let fitted = c.in_ok-take_all.ensures.fitted room in
-    let is : c.take_all.new.ahead.unsynced ≡ true = elim (cases_Bool c.take_all.new.ahead.unsynced) [ inl yes ↦ yes | inr no ↦ absurd (some (c.in_ok-take_all.ensures.clean no)) ] in
+    let is : c.take_all.new.ahead.unsynced ≡ true = elim (cases_Bool c.take_all.new.ahead.unsynced) [ inl is_so ↦ is_so | inr not_so ↦ absurd (some (c.in_ok-take_all.ensures.clean not_so)) ] in
     one_more c.take_all.new.ahead.unsynced _ _ _ is (synced (c.take_all.ensures.honest ∙ h)) (fitted.0 h)) c.settle.ensures.syncs
 
 pub returns-clause-few_calls : goal.returns-clause-few_calls
@@ -97,3 +97,6 @@ returns-clause-few_calls g c = ok_always c.settle.result (λ room.
     let fitted = c.in_ok-take_all.ensures.fitted room in
     let owes = owed_most c.take_all.new.ahead.unsynced in
     omega (arith, c.settle.ensures.calls, owes, fitted.1))
+
+pub returns-in_err-take_all-clause-lost : goal.returns-in_err-take_all-clause-lost
+returns-in_err-take_all-clause-lost g c = err_from c.from_residual.result c.in_err-take_all.ensures.lost

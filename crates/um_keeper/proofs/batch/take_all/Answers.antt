@@ -119,8 +119,8 @@ loop-input-preserved g c =
     let input = input_of c.input-item.result in
     let answer = c.in_ok-answer.answer in
     let told = c.in_ok-answer.ensures in
-    let call = c.take_one-answer.ensures in
-    let made = c.take_one-answer.new in
+    let call = c.take_one.ensures in
+    let made = c.take_one.new in
     let answers = c.note.new.answers.items in
     let left = one_more c.args.inputs.now at.input-index c.input-item.result c.loop-input-test.true c.input-item.is in
     let step = ap (map input_of) left in
@@ -137,7 +137,7 @@ loop-input-preserved g c =
           (subst (λ l. AreAnswered (size_in first) (state_in first) (front ++ input ∷ []) l (state_in made.engine)) (sym c.note.ensures.items)
           (answered_more inv.answered (subst (λ n. Answered n (state_in at.engine) input answer (state_in made.engine)) inv.sized told.ok)));
       during = λ h k. subst (λ l. During (D.past c.args.disk.now) (D.past made.disk) (IsBegun layout (state_in first) l)) (sym sum)
-          (then_begun inv.layout (inv.during h k) (told.during (inv.honest ∙ h) (state_in first) (taken front at.answers.items) (inv.under h k)));
+          (then_begun (where_step answer input) inv.layout (inv.during h k) (told.during (inv.honest ∙ h) (state_in first) (taken front at.answers.items) (inv.under h k)));
       under = λ h k. subst (λ l. UnderwayIn (state_in first) l (D.past made.disk) made.ahead (state_in made.engine)) (sym sum)
           (told.under (inv.honest ∙ h) (state_in first) (taken front at.answers.items) (inv.under h k));
       back = call.back ∙ inv.back;
@@ -153,11 +153,12 @@ loop-input-preserved g c =
           (same.0 ∙ d, same.1 ∙ a, same.2 ∙ s, others);
       clean = λ is.
           let (before, one) = told.clean is in
-          let (all_before, s) = inv.clean before in
-          (subst (λ l. HaveNoRecord (state_in first) l answers) (sym further)
-          (subst (HaveNoRecord (state_in first) (front ++ input ∷ [])) (sym c.note.ensures.items)
-          (no_record_more (state_in first) front at.answers.items input answer size all_before (subst (λ z. HasNoRecord z input answer) s one))),
-          (told.unrecorded one).2 ∙ s);
+          let (all_before, s) = inv.clean before in (
+            subst (λ l. HaveNoRecord (state_in first) l answers) (sym further)
+                (subst (HaveNoRecord (state_in first) (front ++ input ∷ [])) (sym c.note.ensures.items)
+                (no_record_more (state_in first) front at.answers.items input answer size all_before (subst (λ z. HasNoRecord z input answer) s one))),
+            (told.unrecorded one).2 ∙ s,
+          );
       dirty = receipt_more (state_in at.engine) input at.answers.items answer answers at.ahead.unsynced made.ahead.unsynced c.note.ensures.items
           (λ none. ap (λ (x : Ahead). x.unsynced) (told.unrecorded none).1) inv.dirty;
       fitted = λ rest room.
@@ -168,7 +169,7 @@ loop-input-preserved g c =
             (λ h. one.0 (inv.honest ∙ h) ∙ syncs h),
             rest_has_room at.ahead.log.next made.ahead.log.next (sectors_for answer input) _ _ _ sum_of one.1 next,
             subst (λ l. D.calls made.disk + all_sectors (map input_of (drop (at.input-index + 1) c.args.inputs.now)) rest ≤ D.calls c.args.disk.now + all_sectors all l) (sym (more rest))
-            (rest_has_room (D.calls at.disk) (D.calls made.disk) (sectors_for answer input) _ _ _ sum_of one.2 calls),
+                (rest_has_room (D.calls at.disk) (D.calls made.disk) (sectors_for answer input) _ _ _ sum_of one.2 calls),
           );
       spent = λ from free.
           let (here, is_free, so_far) = inv.spent from free in (
@@ -297,8 +298,8 @@ returns-in_err-answer-clause-lost g c =
     let all : taken (map input_of inputs) (at.answers.items ++ Err Device ∷ []) ≡ taken front at.answers.items ++ input ∷ [] =
     ap (λ l. taken l (at.answers.items ++ Err Device ∷ [])) parts ∙ taken_more front at.answers.items input rest (Err Device) (same_length inv.answered) in
     err_from c.from_residual.result (λ h k.
-    subst (λ l. During (D.past c.args.disk.now) (D.past c.take_one-answer.new.disk) (IsBegun c.args.ahead.now.log.layout (state_in first) l)) (sym all)
-    (then_begun inv.layout (inv.during h k) (c.in_err-answer.ensures.lost (inv.honest ∙ h) (state_in first) (taken front at.answers.items) (inv.under h k))))
+    subst (λ l. During (D.past c.args.disk.now) (D.past c.take_one.new.disk) (IsBegun c.args.ahead.now.log.layout (state_in first) l)) (sym all)
+    (then_begun (input ∷ []) inv.layout (inv.during h k) (c.in_err-answer.ensures.lost (inv.honest ∙ h) (state_in first) (taken front at.answers.items) (inv.under h k))))
 
 pub returns-in_err-answer-clause-idle : goal.returns-in_err-answer-clause-idle
 returns-in_err-answer-clause-idle g c none =
@@ -306,7 +307,7 @@ returns-in_err-answer-clause-idle g c none =
     let left = ap (map input_of) (one_more c.args.inputs.now at.input-index c.input-item.result c.loop-input-test.true c.input-item.is) in
     let (d, a, s, here) = at.invariant.idle none in
     let (one, others) = idle_left (state_in c.args.engine.now) left here in
-    let same = c.take_one-answer.ensures.idle (subst (λ z. IsIdle z (input_of c.input-item.result)) (sym s) one) in
+    let same = c.take_one.ensures.idle (subst (λ z. IsIdle z (input_of c.input-item.result)) (sym s) one) in
     (same.0 ∙ d, same.1 ∙ a)
 
 pub returns-in_err-answer-clause-unwritten : goal.returns-in_err-answer-clause-unwritten
@@ -319,14 +320,14 @@ returns-in_err-answer-clause-unwritten g c =
     err_from c.from_residual.result (λ rest none.
     let (d, a, s, here) = at.invariant.unrecorded (Err Device ∷ rest) (need_no_record (state_in first) all (at.answers.items ++ Err Device ∷ rest) none) in
     let idle : IsIdle (state_in first) input = idle_there (state_in first) all (at.answers.items) rest (map input_of (take at.input-index c.args.inputs.now)) input (map input_of (drop (at.input-index + 1) c.args.inputs.now))
-        (ap (map input_of) (sym (take-append-drop at.input-index c.args.inputs.now)) ∙ map-append input_of (take at.input-index c.args.inputs.now) (drop at.input-index c.args.inputs.now) ∙ ap (λ l. map input_of (take at.input-index c.args.inputs.now) ++ l) left)
-        (same_length at.invariant.answered) none in
-    (c.take_one-answer.ensures.idle (subst (λ z. IsIdle z input) (sym s) idle)).0 ∙ d)
+    (ap (map input_of) (sym (take-append-drop at.input-index c.args.inputs.now)) ∙ map-append input_of (take at.input-index c.args.inputs.now) (drop at.input-index c.args.inputs.now) ∙ ap (λ l. map input_of (take at.input-index c.args.inputs.now) ++ l) left)
+    (same_length at.invariant.answered) none in
+    (c.take_one.ensures.idle (subst (λ z. IsIdle z input) (sym s) idle)).0 ∙ d)
 
 pub returns-in_err-answer-clause-spent : goal.returns-in_err-answer-clause-spent
 returns-in_err-answer-clause-spent g c count from free =
     let at = c.loop-input in
     let layout = c.args.ahead.now.log.layout in
     let (here, is_free, so_far) = at.invariant.spent from free in
-    so_far c.take_one-answer.new.ahead.log.generation c.take_one-answer.ensures.grows (replicate count (Err Device))
-    (faults_spent layout c.take_one-answer.new.ahead.log.generation here (map input_of (drop at.input-index c.args.inputs.now)) count)
+    so_far c.take_one.new.ahead.log.generation c.take_one.ensures.grows (replicate count (Err Device))
+    (faults_spent layout c.take_one.new.ahead.log.generation here (map input_of (drop at.input-index c.args.inputs.now)) count)

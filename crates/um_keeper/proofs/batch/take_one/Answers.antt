@@ -8,12 +8,14 @@ use Rattle.um_model.specs.Store.{part_count}
 use Rattle.um_state.specs.View.{input_of}
 use Rattle.um_keeper.specs.Answering.{Answered, accepted, where_step, sectors_for, state_before_all}
 use Rattle.um_keeper.specs.Keeping.{IsBegun}
-use Rattle.um_keeper.specs.Underway.{IsFreeAt}
+use Rattle.um_keeper.specs.Underway.{UnderwayIn}
+use Rattle.um_keeper.specs.declared.ahead.Ahead.{Ahead}
 use Rattle.um_keeper.proofs.Batching.{answered_refused, back_append, done_answered}
 use Rattle.um_keeper.proofs.Kept.{calls_at_most}
 use Rattle.um_keeper.proofs.Results.{the_other}
 use Rattle.um_keeper.proofs.Spent.{free_at_more}
 use Rattle.um_keeper.proofs.Underway.{still_longer, underway_stayed, underway_refused, cause_of, step_on}
+use Rattle.um_wire.specs.declared.refusal.Refusal.TheVariants.{Device}
 use Rattle.um_keeper.proofs.batch.take_one.Goals as goal
 
 -- ---- one that is known to have no effect
@@ -63,6 +65,19 @@ returns-else-is_fault-clause-during g c h s before under =
     let D = g.D.Disk in
     subst (λ d. During (D.past c.args.disk.now) (D.past d) (IsBegun c.args.ahead.now.log.layout s (before ++ where_step (Err c.in-Err.refusal) (input_of c.args.input.now)))) (sym same.0)
     (still_longer under (where_step (Err c.in-Err.refusal) (input_of c.args.input.now)))
+
+pub returns-else-is_fault-clause-under : goal.returns-else-is_fault-clause-under
+returns-else-is_fault-clause-under g c h s before under =
+    let D = g.D.Disk in
+    let made = c.take_step.new in
+    let input = input_of c.args.input.now in
+    let l = before ++ where_step (Err c.in-Err.refusal) input in
+    let other : ¬ (c.in-Err.refusal ≡ Device) = λ d. false≢true (sym c.if-is_fault.false ∙ c.is_fault.ensures.1 d) in
+    let same = the_other other c.in-Err.ensures.kept in
+    let cause = cause_of c.args.ahead.now.log.layout c.requires.held.size_is other c.in-Err.ensures.refused in
+    subst (λ (e : Engine). UnderwayIn s l (D.past made.disk) made.ahead (state_in e)) (sym c.in-Err.ensures.state)
+    (subst (λ (a : Ahead). UnderwayIn s l (D.past made.disk) a (state_in c.args.engine.now)) (sym same.1)
+    (subst (λ d. UnderwayIn s l (D.past d) c.args.ahead.now (state_in c.args.engine.now)) (sym same.0) (underway_refused c.in-Err.refusal under cause)))
 
 pub returns-else-is_fault-clause-calls : goal.returns-else-is_fault-clause-calls
 returns-else-is_fault-clause-calls g c = calls_at_most c.requires.held _ _ _ c.take_step.ensures.calls

@@ -10,7 +10,7 @@ use Rattle.um_keeper.proofs.Underway.{during_recorded, underway_recorded, step_o
 use Rattle.um_keeper.proofs.recording.append.Goals as goal
 
 pub invariant_of-ahead : goal.invariant_of-ahead
-invariant_of-ahead g c = c.write.ensures.of.1 ∙ c.args.ahead.now.same
+invariant_of-ahead g c = record { same = c.write.ensures.of.1 ∙ c.args.ahead.now.same }
 
 pub returns-in-Ok-true-clause-during : goal.returns-in-Ok-true-clause-during
 returns-in-Ok-true-clause-during g c h s taken under =

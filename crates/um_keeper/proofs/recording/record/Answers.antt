@@ -21,7 +21,7 @@ returns-in_err-make_room-clause-during g c h s taken under =
 
 pub returns-clause-during : goal.returns-clause-during
 returns-clause-during g c h s taken under =
-    then_begun c.make_room.ensures.layout (c.make_room.ensures.during h s taken under)
+    then_begun (input_of c.args.input.now ∷ []) c.make_room.ensures.layout (c.make_room.ensures.during h s taken under)
     (c.append.ensures.during (c.make_room.ensures.honest ∙ h) s taken (c.in_ok-make_room.ensures.ok h s taken under))
 
 pub returns-clause-under : goal.returns-clause-under

@@ -18,7 +18,7 @@ returns-in-Ok-Some-clause-during g c h s taken under =
 pub returns-in-Ok-Some-clause-ok : goal.returns-in-Ok-Some-clause-ok
 returns-in-Ok-Some-clause-ok g c h s taken under =
     underway_renewed under (subst FitState c.state.ensures c.in_ok-body.ensures.fits) (may_hold c.requires.held) (g.met.D.Disk.seen_is_image c.write_other.new.disk (c.write_other.ensures.honest ∙ h))
-    c.new-ahead.ensures.of.0 c.new-ahead.ensures.of.1 c.new-ahead.ensures.empty.0 c.new-ahead.ensures.empty.1
+    c.new.ensures.of.0 c.new.ensures.of.1 c.new.ensures.empty.0 c.new.ensures.empty.1
     (c.deref.ensures.value ∙ c.in_ok-body.ensures.bytes ∙ ap state_spelling c.state.ensures)
     (at_some _ c.write_other.result c.in-Ok-Some.field-0 c.in-Ok-Some.home c.write_other.ensures.ok c.in-Ok-Some.is c.in-Ok-Some.field-0-is h under.body (each_has under (sym c.args.ahead.now.same)))
 
