@@ -282,7 +282,11 @@ fn a_crash_before_the_sync_leaves_a_beginning_of_the_list(rt: HostRuntime) {
         let again = over(&rt, crash(&rt, unsynced(&rt), &picks));
         same_at(&rt, files_in(&again), files, number);
         let tree = again.state().tree();
-        let has = (tree.get(A).is_some(), tree.get(B).is_some(), tree.get(C).is_some());
+        let has = (
+            tree.get(A).is_some(),
+            tree.get(B).is_some(),
+            tree.get(C).is_some(),
+        );
         same_at(&rt, has, (files > 0, files > 1, files > 2), number);
         met[files.min(3)] += 1;
     }
