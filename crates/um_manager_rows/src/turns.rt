@@ -31,7 +31,7 @@ fn all_put(rt: &(impl AllocGlobal + Abort)) -> Pieces {
 }
 
 /// The number of syncs of its disk.
-fn syncs(manager: InMemory) -> u64 {
+fn syncs(manager: InMemory) -> usize {
     let (disk, _) = manager.into_parts();
     disk.syncs()
 }

@@ -85,7 +85,7 @@ fn answered<D: Disk>(
 
 /// Lists, what their inputs are answered, how many files there are then, how many disk calls it took, and how many syncs: a record of
 /// one sector for each accepted input with an effect, and a sync behind them all.
-const LISTS: &[(&[Coming], &str, usize, u64, u64)] = &[
+const LISTS: &[(&[Coming], &str, usize, u64, usize)] = &[
     (&[Coming::Put(A)], "done; ", 1, 2, 1),
     (&[Coming::Put(A), Coming::Put(B)], "done; done; ", 2, 3, 1),
     // a refused input touches no other
