@@ -8,3 +8,4 @@ mod Results
 mod Spent
 mod Wiping
 mod Meanwhile
+mod Underway

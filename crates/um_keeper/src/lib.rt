@@ -1,6 +1,7 @@
 //! The engine over a disk: what it answers outlives a crash.
 #![tactic(auto)]
 
+mod ahead;
 mod batch;
 mod creating;
 mod inspecting;
@@ -8,6 +9,7 @@ mod keeper;
 pub mod laws;
 mod opening;
 mod receipt;
+mod recording;
 
 pub use creating::create;
 pub use inspecting::{Summary, inspect, look};
