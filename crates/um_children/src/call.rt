@@ -30,9 +30,13 @@ pub enum Call {
         told: Option<Fate>,
     },
     /// What is kept of a number was let go.
-    Forgot { number: ProcessNumber },
+    Forgot {
+        number: ProcessNumber,
+    },
     /// What is kept of each other number that has ended was let go.
-    ForgotOthers { live: Vec<ProcessNumber> },
+    ForgotOthers {
+        live: Vec<ProcessNumber>,
+    },
 }
 
 /// Whether absence was told.

@@ -124,7 +124,7 @@ pub boot_fits : (layout : Layout) (generation next moment : ℕ) (boot : List �
     → Fits layout generation next (length (input_spelling (happens_at moment (Booted boot))))
 boot_fits layout generation next moment boot short empty =
     let spelled : length (input_spelling (happens_at moment (Booted boot))) ≡ 14 + length boot =
-        omega (arith, length-append (big_bytes 8 moment) (text_spelling boot), number_long 8 moment, text_long boot) in
+    omega (arith, length-append (big_bytes 8 moment) (text_spelling boot), number_long 8 moment, text_long boot) in
     record {
       some = omega (arith, spelled);
       short = omega (arith, spelled, short);

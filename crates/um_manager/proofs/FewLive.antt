@@ -70,17 +70,17 @@ few_units s few =
     let (weight, weighs) = a_weight s in
     let known : KnowsSoMany s.loaded (IsHeld s) weighs.count.held = weighs.count.by_tree in
     let held : length (map.entries s.units) ≤ length known.names =
-        entries_few s.units known.names (λ k there. among_contained known.names k ((known.whole k).1 (first (extra (inl there))))) in
+    entries_few s.units known.names (λ k there. among_contained known.names k ((known.whole k).1 (first (extra (inl there))))) in
     let bounded : ¬ (unit_limit < length known.names) =
-        λ many. few _ (record {
-          many = inl (record {
-            names = known.names;
-            known = λ k d within. (known.whole (get_or known.names k d)).0 (contains_among known.names (get_or known.names k d) (among_at known.names k d within));
-            apart = known.apart;
-            many = many;
-          });
-          refusal = refl;
-        }) in
+    λ many. few _ (record {
+      many = inl (record {
+        names = known.names;
+        known = λ k d within. (known.whole (get_or known.names k d)).0 (contains_among known.names (get_or known.names k d) (among_at known.names k d within));
+        apart = known.apart;
+        many = many;
+      });
+      refusal = refl;
+    }) in
     omega (arith, held, bounded)
 
 -- a store in memory has few live numbers

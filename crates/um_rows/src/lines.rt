@@ -36,7 +36,11 @@ const LINES: &[(&str, &str, &str)] = &[
     ("umd --version", "to be told", "umd 0.1.0"),
     ("umd run --help", "to be told", "--number 7"),
     ("umd ctl --help", "to be told", "\n  reset-failed [unit]\n"),
-    ("umd check --help", "to be told", "umd check /var/lib/umd/store"),
+    (
+        "umd check --help",
+        "to be told",
+        "umd check /var/lib/umd/store",
+    ),
     ("umd check f", "check", "f"),
     ("umd check --units f", "units", "f"),
     ("umd check f --units", "units", "f"),

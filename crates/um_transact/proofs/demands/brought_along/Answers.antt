@@ -24,9 +24,11 @@ pub loop-neighbour-preserved : goal.loop-neighbour-preserved
 loop-neighbour-preserved c =
     let ns = c.neighbours-neighbour-items.result.now in
     let i = c.loop-neighbour.neighbour-index in
-    let n = get_or ns i (record { unit = 0; kinds = record { 0 = 0 } }) in
-    (along_more c.args.graph.now c.args.activity.now c.args.demand ns i n c.loop-neighbour.found.items c.push_wanted.new.found.items (is_start c.args.demand.0 (sym c.is_starting.ensures ∙ c.if-not-is_starting.false))
-    c.neighbours-neighbour-items.ensures c.loop-neighbour-test.true (get_or_default ns i (record { unit = 0; kinds = record { 0 = 0 } }) n c.loop-neighbour-test.true) c.loop-neighbour.invariant.0 c.in_ok-push_wanted.ensures.adds, c.push_wanted.ensures.tested)
+    let n = get_or ns i (record { unit = 0; kinds = record { 0 = 0 } }) in (
+      along_more c.args.graph.now c.args.activity.now c.args.demand ns i n c.loop-neighbour.found.items c.push_wanted.new.found.items (is_start c.args.demand.0 (sym c.is_starting.ensures ∙ c.if-not-is_starting.false))
+          c.neighbours-neighbour-items.ensures c.loop-neighbour-test.true (get_or_default ns i (record { unit = 0; kinds = record { 0 = 0 } }) n c.loop-neighbour-test.true) c.loop-neighbour.invariant.0 c.in_ok-push_wanted.ensures.adds,
+      c.push_wanted.ensures.tested,
+    )
 
 pub returns-clause-found : goal.returns-clause-found
 returns-clause-found c =
