@@ -1,7 +1,7 @@
 //! What the words of a command line ask for.
 use crate::asserts::{same, same_at, text};
 use std::process::Abort;
-use um_line::{Line, a_runner_s_words_are_run, read_line};
+use um_line::{CheckLine, Line, a_runner_s_words_are_run, read_line};
 
 /// The words of the text, the first of which is the program's name.
 fn words_of(rt: &(impl AllocGlobal + Abort), line: &str) -> Vec<String> {
@@ -12,13 +12,17 @@ fn words_of(rt: &(impl AllocGlobal + Abort), line: &str) -> Vec<String> {
     words
 }
 
+/// What of a store is asked for.
+fn looked_at(line: &CheckLine<'_>) -> &'static str {
+    if line.units { "units" } else { "check" }
+}
+
 /// What is asked for, and what is told where nothing more is asked for.
 fn asked<'a>(line: &'a Line<'_>) -> (&'static str, &'a str) {
     match line {
         Line::Memory => ("memory", ""),
         Line::Run(_) => ("run", ""),
-        Line::Check(line) if line.units => ("units", line.file),
-        Line::Check(line) => ("check", line.file),
+        Line::Check(line) => (looked_at(line), line.file),
         Line::Told(told) => ("to be told", told.as_str()),
         Line::Wrong(told) => ("wrong", told.as_str()),
         Line::Help(1) => ("E1", ""),
