@@ -6,28 +6,35 @@ use crate::keepers::{files_on, made, over};
 use crate::submitting::ended;
 use std::process::Abort;
 use um_keeper::{Keeper, Summary, inspect, look};
-use um_model::{Moment, NextNumber};
 use um_sector::{Disk, Fuse, MemDisk};
 use um_state::{Event, Happening};
 use um_wire::spell;
 
-/// The summary of these numbers.
-fn summary(rt: &impl Abort, generation: u64, records: usize, clock: u64, next: u64) -> Summary {
-    Summary {
-        generation,
-        records,
-        clock: Moment::new(clock).expect(rt, "no moment"),
-        next: NextNumber::new(next).expect(rt, "no number"),
-    }
+/// The numbers of a summary.
+fn numbers_of(summary: &Summary) -> (u64, usize, u64, u64) {
+    (
+        summary.generation,
+        summary.records,
+        summary.clock.micros(),
+        summary.next.get(),
+    )
 }
 
 /// Asserts that a look tells these numbers, with as many syncs as before.
-fn tells(rt: &(impl AllocGlobal + Abort), disk: &mut MemDisk, wanted: Summary) {
+fn tells(
+    rt: &(impl AllocGlobal + Abort),
+    disk: &mut MemDisk,
+    generation: u64,
+    records: usize,
+    clock: u64,
+    next: u64,
+) {
     let syncs = disk.syncs();
     let told = inspect(rt.alloc(), disk).expect(rt, "not read");
-    same(rt, (told, disk.syncs()), (wanted, syncs));
+    same(rt, numbers_of(&told), (generation, records, clock, next));
     let (told, _) = look(rt.alloc(), disk).expect(rt, "not read");
-    same(rt, (told, disk.syncs()), (wanted, syncs));
+    same(rt, numbers_of(&told), (generation, records, clock, next));
+    same(rt, disk.syncs(), syncs);
 }
 
 /// A store whose service ended and was started again: five records of generation 2.
@@ -40,11 +47,12 @@ fn restarted(rt: &(impl AllocGlobal + Abort)) -> Keeper<Fuse<MemDisk>> {
 
 #[test]
 fn a_summary_tells_what_the_image_stands_for(rt: HostRuntime) {
-    tells(&rt, &mut made(&rt), summary(&rt, 1, 0, 0, 1));
+    let mut disk = made(&rt);
+    tells(&rt, &mut disk, 1, 0, 0, 1);
     let mut disk = over(&rt, made(&rt)).into_disk();
-    tells(&rt, &mut disk, summary(&rt, 2, 0, 0, 1));
+    tells(&rt, &mut disk, 2, 0, 0, 1);
     let mut disk = restarted(&rt).into_disk().into_inner();
-    tells(&rt, &mut disk, summary(&rt, 2, 5, 1_100_000, 3));
+    tells(&rt, &mut disk, 2, 5, 1_100_000, 3);
     // and it is opened as if nobody had looked
     same(&rt, files_on(&rt, disk), 1);
 }
@@ -64,10 +72,10 @@ fn a_torn_record_is_not_counted(rt: HostRuntime) {
     let mut keeper = over(&rt, made(&rt));
     take(&rt, &mut keeper, put_long(&rt, A, 600));
     let mut disk = keeper.into_disk();
-    tells(&rt, &mut disk, summary(&rt, 2, 1, 0, 1));
+    tells(&rt, &mut disk, 2, 1, 0, 1);
     // its second part
     disk.write(130, &filled(&[])).expect(&rt, "not written");
-    tells(&rt, &mut disk, summary(&rt, 2, 0, 0, 1));
+    tells(&rt, &mut disk, 2, 0, 0, 1);
 }
 
 #[test]
@@ -78,7 +86,7 @@ fn a_failing_read_is_no_summary(rt: HostRuntime) {
         let mut fuse = Fuse::new(disk, call);
         is_refused(&rt, inspect(rt.alloc(), &mut fuse), "E16 Device");
         let mut disk = fuse.into_inner();
-        tells(&rt, &mut disk, summary(&rt, 2, 5, 1_100_000, 3));
+        tells(&rt, &mut disk, 2, 5, 1_100_000, 3);
     }
 }
 
@@ -86,7 +94,7 @@ fn a_failing_read_is_no_summary(rt: HostRuntime) {
 fn a_look_leaves_each_sector(rt: HostRuntime) {
     let mut before = restarted(&rt).into_disk().into_inner();
     let mut disk = restarted(&rt).into_disk().into_inner();
-    tells(&rt, &mut disk, summary(&rt, 2, 5, 1_100_000, 3));
+    tells(&rt, &mut disk, 2, 5, 1_100_000, 3);
     for k in 0..641 {
         let sector = sector_at(&rt, &mut disk, k);
         same(&rt, sector, sector_at(&rt, &mut before, k));

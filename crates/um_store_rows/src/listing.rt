@@ -275,7 +275,7 @@ fn unsynced(rt: &(impl AllocGlobal + Abort)) -> Fuse<MemDisk> {
 
 #[test]
 fn a_crash_before_the_sync_leaves_a_beginning_of_the_list(rt: HostRuntime) {
-    let mut met = [0; 4];
+    let mut met = [0_usize; 4];
     for number in 0..64 {
         let picks = bits_of(number);
         let files = whole(&picks);
@@ -288,7 +288,8 @@ fn a_crash_before_the_sync_leaves_a_beginning_of_the_list(rt: HostRuntime) {
             tree.get(C).is_some(),
         );
         same_at(&rt, has, (files > 0, files > 1, files > 2), number);
-        met[files.min(3)] += 1;
+        let place = files.min(3);
+        met[place] = met[place].saturating_add(1);
     }
     // without the first 48 of 64, with it and without the second 12, with both and without the third 3, with all 1
     same(&rt, met, [48, 12, 3, 1]);
