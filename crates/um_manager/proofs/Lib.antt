@@ -9,5 +9,6 @@ pub mod FewLive
 pub mod Gathering
 pub mod Letting
 pub mod Offering
+pub mod Outliving
 pub mod Placing
 pub mod Turning
