@@ -65,35 +65,35 @@ place_of layout on = place (body_limit layout) layout on.disk
 
 -- A life so far, over a disk and children as they were before it: what it offered, and the manager now. It was opened, and then each turn was answered
 -- Ok, or found no memory and did nothing; and what was put out for a client may have been taken.
-pub data Lives (layout : Layout) (on : Reliance) (disk : Past) (before : List Call) : List Offer → Now → Type 0 where
+pub data HasLived (layout : Layout) (on : Reliance) (disk : Past) (before : List Call) : List Offer → Now → Type 0 where
   opens : {moment : ℕ} {boot : List ℕ} {count sectors : ℕ} {b : Now}
       (opened : Opened (place_of layout on) on.children on.history moment boot count sectors disk before b)
-      → Lives layout on disk before (offers_of_opening opened) b
-  turns : {offered : List Offer} {moment : ℕ} {pieces : List Piece} {a b : Now} → Lives layout on disk before offered a
+      → HasLived layout on disk before (offers_of_opening opened) b
+  turns : {offered : List Offer} {moment : ℕ} {pieces : List Piece} {a b : Now} → HasLived layout on disk before offered a
       → (turned : Turned (place_of layout on) on.children on.history (Ok tt) moment pieces a b)
-      → Lives layout on disk before (offered ++ offers (offered_in turned) turned.answers) b
-  waits : {offered : List Offer} {a b : Now} → Lives layout on disk before offered a → b ≡ record a { sessions = b.sessions }
-      → Lives layout on disk before offered b
+      → HasLived layout on disk before (offered ++ offers (offered_in turned) turned.answers) b
+  waits : {offered : List Offer} {a b : Now} → HasLived layout on disk before offered a → b ≡ record a { sessions = b.sessions }
+      → HasLived layout on disk before offered b
 
 -- A life from its opening to a stop at any moment of any call.
 pub data IsLife (layout : Layout) (on : Reliance) : Life → Type 0 where
   -- It stopped between two calls, or in one behind the answer of its store: what that asks of the children is asked as far as the call came.
-  behind : {disk : Past} {before calls : List Call} {offered : List Offer} {b : Now} (rest : List Call) → Lives layout on disk before offered b
+  behind : {disk : Past} {before calls : List Call} {offered : List Offer} {b : Now} (rest : List Call) → HasLived layout on disk before offered b
       → b.past ≡ calls ++ rest → IsLife layout on (record { disk = disk; before = before; offers = offered; stop = b.disk; calls = calls })
   -- It stopped in a turn before that, or its store failed: no order was given.
-  in_turn : {disk stop : Past} {before calls : List Call} {offered : List Offer} {result : Result Unit Refusal} {moment : ℕ} {pieces : List Piece} {a b : Now}
-      → Lives layout on disk before offered a → (turned : Turned (place_of layout on) on.children on.history result moment pieces a b)
-      → IsMeanwhile a.disk b.disk stop → orders calls ≡ []
+  in_turn : {disk stop : Past} {before : List Call} {offered : List Offer} {result : Result Unit Refusal} {moment : ℕ} {pieces : List Piece} {a b : Now}
+      (more : List Call) → HasLived layout on disk before offered a
+      → (turned : Turned (place_of layout on) on.children on.history result moment pieces a b) → IsMeanwhile a.disk b.disk stop → orders more ≡ []
       → IsLife layout on (record { disk = disk; before = before; offers = offered ++ untold_offers (offered_in turned) turned.answers; stop = stop;
-      calls = a.past ++ calls })
+      calls = a.past ++ more })
   -- It stopped so in its opening.
-  in_opening : {disk stop : Past} {before calls : List Call} {moment : ℕ} {boot : List ℕ} {count sectors : ℕ} {b : Now}
-      (opened : Opened (place_of layout on) on.children on.history moment boot count sectors disk before b) → IsMeanwhile disk b.disk stop → orders calls ≡ []
-      → IsLife layout on (record { disk = disk; before = before; offers = untold_of_opening opened; stop = stop; calls = before ++ calls })
+  in_opening : {disk stop : Past} {before : List Call} {moment : ℕ} {boot : List ℕ} {count sectors : ℕ} {b : Now} (more : List Call)
+      (opened : Opened (place_of layout on) on.children on.history moment boot count sectors disk before b) → IsMeanwhile disk b.disk stop → orders more ≡ []
+      → IsLife layout on (record { disk = disk; before = before; offers = untold_of_opening opened; stop = stop; calls = before ++ more })
   -- Its opening was refused, or it stopped in such a one.
-  in_refused : {disk left stop : Past} {before told calls : List Call} {moment : ℕ} {boot : List ℕ} {sectors : ℕ}
-      (refused : IsRefused layout on.children on.history moment boot sectors disk left before told) → IsMeanwhile disk left stop → orders calls ≡ []
-      → IsLife layout on (record { disk = disk; before = before; offers = untold_of_refused refused; stop = stop; calls = before ++ calls })
+  in_refused : {disk left stop : Past} {before told : List Call} {moment : ℕ} {boot : List ℕ} {sectors : ℕ} (more : List Call)
+      (refused : IsRefused layout on.children on.history moment boot sectors disk left before told) → IsMeanwhile disk left stop → orders more ≡ []
+      → IsLife layout on (record { disk = disk; before = before; offers = untold_of_refused refused; stop = stop; calls = before ++ more })
 
 -- What is taken for granted of all lives of managers over one store, up to the last stop.
 pub record Premises (layout : Layout) (lives : List Life) (stop : Past) (calls : List Call) : Type 0 where
