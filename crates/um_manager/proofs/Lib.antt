@@ -8,6 +8,7 @@ pub mod Crashing
 pub mod FewLive
 pub mod Gathering
 pub mod Letting
+pub mod Living
 pub mod Offering
 pub mod Outliving
 pub mod Placing

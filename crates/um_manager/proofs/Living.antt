@@ -89,6 +89,12 @@ at_moment old new at P during while image there =
         longer [] ys = omega arith
         longer (x ∷ xs) ys = omega (arith, longer xs ys)
 
+-- none of the answers of a store that is relied on is E17
+pub none_again : (at : Place) → IsTrue at.trusted → (s t : State) (inputs : List Input) (answers : List Answer) → Answers at s inputs answers t → NoReopen answers
+none_again at trusted s t inputs answers (each are) = each_stays are
+none_again at trusted s t inputs answers (fell back) = fell_stays back
+none_again at trusted s t inputs answers (reopen failed are same) = absurd (true≢false (sym trusted ∙ failed))
+
 -- a turn that ended Ok had its store's Ok
 pub store_ok : (store later : Result Unit Refusal) → Ok tt ≡ first_refusal store later → store ≡ Ok tt
 store_ok (Ok tt) later is = refl
@@ -222,12 +228,6 @@ module _ (layout : Layout) (on : Reliance) (sure : IsTrue on.disk) (honest : IsT
     where
       stood : Stood layout disk before offered b
       stood = lived_stood disk before offered b lived
-
-  -- none of the answers of a store that is relied on is E17
-  none_again : (at : Place) → IsTrue at.trusted → (s t : State) (inputs : List Input) (answers : List Answer) → Answers at s inputs answers t → NoReopen answers
-  none_again at trusted s t inputs answers (each are) = each_stays are
-  none_again at trusted s t inputs answers (fell back) = fell_stays back
-  none_again at trusted s t inputs answers (reopen failed are same) = absurd (true≢false (sym trusted ∙ failed))
 
   -- a stop in a turn before its store answered
   turn_leads : (disk stop : Past) (before calls : List Call) (offered : List Offer) {result : Result Unit Refusal} {moment : ℕ} {pieces : List Piece} (a b : Now)
