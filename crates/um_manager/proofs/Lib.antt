@@ -4,6 +4,7 @@ pub mod Beginning
 pub mod Booting
 pub mod Carrying
 pub mod Clients
+pub mod Continuing
 pub mod Crashing
 pub mod FewLive
 pub mod Gathering

@@ -1,7 +1,7 @@
 -- A life of a manager by what its calls promise: an opening, turns, and a stop at any moment; and what is taken for granted of all lives.
 -- No manual page has it: crash safety is this project's own promise (docs/HEADLINE.md reads the theorem line by line).
 -- The theorem of managers that outlive crashes stands on this file.
-use Rattle.std.specs.Prelude.{◌≡◌, ℕ, List, [], ◌∷◌, ◌++◌, Bool, IsTrue, Result, Ok}
+use Rattle.std.specs.Prelude.{◌≡◌, ◌≢◌, ℕ, List, [], ◌∷◌, ◌++◌, Bool, IsTrue, Result, Ok}
 use Rattle.std.specs.List.{AllByRecursion}
 use Rattle.um_keeper.specs.Creating.{IsEmptyStore}
 use Rattle.um_keeper.specs.Offers.{offers, untold_offers}
@@ -94,6 +94,15 @@ pub data IsLife (layout : Layout) (on : Reliance) : Life → Type 0 where
   in_refused : {disk left stop : Past} {before told : List Call} {moment : ℕ} {boot : List ℕ} {sectors : ℕ} (more : List Call)
       (refused : IsRefused layout on.children on.history moment boot sectors disk left before told) → IsMeanwhile disk left stop → orders more ≡ []
       → IsLife layout on (record { disk = disk; before = before; offers = untold_of_refused refused; stop = stop; calls = before ++ more })
+
+-- How a life stands behind calls that were answered so: it goes on from where they ended; or its store refused the last of them, and there it has
+-- stopped.
+pub data Continues (layout : Layout) (on : Reliance) (disk : Past) (before : List Call) (offered : List Offer) (result : Result Unit Refusal) (b : Now)
+    : Type 0 where
+  goes_on : (more : List Offer) → HasLived layout on disk before (offered ++ more) b → Continues layout on disk before offered result b
+  has_stopped : (more : List Offer) → result ≢ Ok tt
+      → IsLife layout on (record { disk = disk; before = before; offers = offered ++ more; stop = b.disk; calls = b.past })
+      → Continues layout on disk before offered result b
 
 -- What is taken for granted of all lives of managers over one store, up to the last stop.
 pub record Premises (layout : Layout) (lives : List Life) (stop : Past) (calls : List Call) : Type 0 where
