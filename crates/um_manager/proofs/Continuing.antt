@@ -1,5 +1,5 @@
 -- A life goes on with the calls of its manager.
-use Rattle.std.proofs.Common.{◌≡◌, ◌≢◌, ◌⊎◌, ◌∙◌, inl, inr, ℕ, List, [], ◌∷◌, ◌++◌, map, Result, Ok, Err, append_assoc, append-nil, refl, sym, ap, subst}
+use Rattle.std.proofs.Common.{◌≡◌, ◌≢◌, ◌⊎◌, ◌∙◌, inl, inr, ℕ, List, [], ◌∷◌, ◌++◌, map, length, Result, Ok, Err, append_assoc, append-nil, refl, sym, ap, subst}
 use Rattle.std.specs.Bool.{IsTrue}
 use Rattle.um_fates.specs.Fates.{asks_for}
 use Rattle.um_keeper.specs.Answering.{Answer, all_asked}
@@ -42,7 +42,7 @@ nothing_asked : (place : Place) (size : ℕ) (s t : State) (inputs : List Input)
     → Answers place s inputs answers t → Tells store size s inputs answers t → store ≡ Err e → all_asked answers ≡ []
 nothing_asked place size s t inputs answers store e told tells is = elim (is_device e) [
   | inl device ↦ asks_none place size s t inputs answers told (tells.device.0 (is ∙ ap Err device))
-  | inr other ↦ ap all_asked (tells.other e is other).0 ∙ none_again _ e
+  | inr other ↦ ap all_asked (tells.other e is other).0 ∙ none_again (length inputs) e
 ]
 
 module _ (layout : Layout) (on : Reliance) (sure : IsTrue on.disk) (honest : IsTrue on.children) (whole : IsTrue on.history) where

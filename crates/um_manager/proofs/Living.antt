@@ -38,10 +38,10 @@ use Rattle.um_manager.specs.declared.pieces.Piece.{Piece}
 
 -- ---- what is started
 
-orders_both : (a b : List Call) → orders (a ++ b) ≡ orders a ++ orders b
+pub orders_both : (a b : List Call) → orders (a ++ b) ≡ orders a ++ orders b
 orders_both a b = flat_map-append _ a b
 
-orders_told : (told : List Tale) → orders (map asks_for told) ≡ []
+pub orders_told : (told : List Tale) → orders (map asks_for told) ≡ []
 orders_told [] = refl
 orders_told (tale ∷ told) = orders_told told
 
