@@ -111,7 +111,7 @@ heard_behind moment claims h k w v a b c ns x y same fewer is heard = record {
   past_is = λ honest whole. heard.past_is (same honest) whole ∙ ap (λ l. l ++ map asks_for heard.told) (is honest (fewer whole));
 }
 
-ok_isnt_err : {e : Refusal} → Ok tt ≡ Err e → ⊥
+ok_isnt_err : {e : Refusal} → (◌≡◌ {A = Result Unit Refusal} (Ok tt) (Err e)) → ⊥
 ok_isnt_err is = cc
 
 pub adopted : (place : Place) (moment : ℕ) (s t : State) (old heard grown new : List Call) (live marks marked : List ℕ) (d e : Past) (p q : LogEnd) (inputs : List Input) (replies : List Reply)

@@ -93,7 +93,7 @@ fn told_absent(rt: &impl Abort, calls: &[Call]) {
     };
     same(rt, number.get(), 1);
     same(rt, forgotten.get(), 1);
-    same(rt, live.as_slice() == [*number], true);
+    same(rt, live.as_slice(), [*number].as_slice());
 }
 
 /// The manager that is opened behind the crash.

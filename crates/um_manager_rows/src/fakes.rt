@@ -63,7 +63,7 @@ fn are_noted(rt: &(impl AllocGlobal + Abort), calls: &[Call]) {
         rt.abort()
     };
     assert_eq!(rt; *forgotten, number(rt, 1));
-    assert_eq!(rt; live.as_slice(), [number(rt, 2)]);
+    assert_eq!(rt; live.as_slice(), [number(rt, 2)].as_slice());
     let words = start.words(rt.alloc()).expect(rt, "no memory");
     sleeps(rt, words.as_slice());
 }

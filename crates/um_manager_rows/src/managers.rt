@@ -103,7 +103,7 @@ pub fn has_output<D: Disk>(
 }
 
 /// The numbers that were started, in their order.
-pub fn started<D: Disk>(
+pub fn started<D: Disk + Drop>(
     rt: &(impl AllocGlobal + Abort),
     manager: Manager<D, FakeChildren>,
 ) -> Vec<u64> {

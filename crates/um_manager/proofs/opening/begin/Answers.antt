@@ -84,6 +84,14 @@ returns-in_err-replies-clause-refuses g c =
     refuses_boot _ _ _ (place_in (D.honest (disk_in old)) old) c.args.moment c.args.boot (state_in old) (state_in old) (g.C.Children.past c.args.children.now) (D.past (disk_in old)) (D.past (disk_in old)) (log_in old) (log_in old) refl
     (λ t. let (h, f) = trusts (D.honest (disk_in old)) (has_failed old) t in not_begun (boot_at c.args.moment c.args.boot ∷ []) (c.is_stored.ensures.stored f h))
 
+pub returns-in_err-offer_boot-clause-refuses : goal.returns-in_err-offer_boot-clause-refuses
+returns-in_err-offer_boot-clause-refuses g c =
+    let D = g.D.Disk in
+    let old = c.args.keeper.now in
+    let new = c.offer_boot.new.keeper in
+    refuses_boot _ _ _ (place_in (D.honest (disk_in old)) old) c.args.moment c.args.boot (state_in old) (state_in new) (g.C.Children.past c.args.children.now) (D.past (disk_in old)) (D.past (disk_in new)) (log_in old) (log_in new)
+    c.in_err-offer_boot.ensures.state c.offer_boot.ensures.left
+
 pub returns-in_err-adopt-clause-refuses : goal.returns-in_err-adopt-clause-refuses
 returns-in_err-adopt-clause-refuses g c =
     let booted = c.in_ok-offer_boot.ensures.booted in

@@ -27,7 +27,6 @@ returns-clause-turns g c =
     let here = place_in (D.honest (disk_in old)) old in
     let grown = g.C.Children.past c.submit-submitted.new.children in
     let after = g.C.Children.past c.forget_recorded.new.children in
-    let lets = λ h w. subst (λ units. LetGo units grown after) (c.units-2.ensures ∙ ap (λ s. s.units) c.state-2.ensures) (c.forget_recorded.ensures.let_go (subst IsTrue (sym c.submit-submitted.ensures.honest) h) w) in
     let rest = ap (map reply_of) (c.behind-replies.ensures ∙ ap (drop c.len-firsts.result) c.as_slice-2.ensures.value) ∙ sym (drop-map reply_of c.len-firsts.result c.submit-submitted.new.replies.items) in
     let pays = subst (λ l. PaysAll (state_in c.submit-submitted.new.keeper) l (map reply_of c.behind-replies.result.now) c.take_all.new.sessions c.pay_all.new.sessions) c.as_slice-3.ensures.value c.pay_all.ensures in (
       (λ e. absurd (c.submit-submitted.ensures.submits.0 e)),
@@ -43,7 +42,9 @@ returns-clause-turns g c =
           live (few_live (state_in new) new.holds.servable.few) c.room_all.ensures.same
           (subst (λ xs. Heard unexecuted c.args.moment (λ n. has n c.args.marks.now) (g.C.Children.honest c.args.children.now) (g.C.Children.whole c.hear.new.children) (g.C.Children.past c.args.children.now) (g.C.Children.past c.hear.new.children) c.in-Ok.live.items xs (inputs_in c.hear.new.inputs.items)) (ap inputs_in c.in-Ok-with_capacity.ensures.items)
           (subst (λ l. Heard unexecuted c.args.moment (λ n. has n c.args.marks.now) (g.C.Children.honest c.args.children.now) (g.C.Children.whole c.hear.new.children) (g.C.Children.past c.args.children.now) (g.C.Children.past c.hear.new.children) l (inputs_in c.in-Ok-with_capacity.inputs.items) (inputs_in c.hear.new.inputs.items)) c.as_slice.ensures.value c.hear.ensures.hears))
-          tick (count ∙ sym (length-map c.put.new.inputs.items input_of)) took c.submit-submitted.ensures.submits lets
+          tick (count ∙ sym (length-map c.put.new.inputs.items input_of)) took c.submit-submitted.ensures.submits
+          (λ h w. subst (λ units. LetGo units grown after) (c.units-2.ensures ∙ ap (λ s. s.units) c.state-2.ensures)
+          (c.forget_recorded.ensures.let_go (subst IsTrue (sym c.submit-submitted.ensures.honest) h) w))
           (λ e is. subst (λ r. IfErr r (λ x. after ≡ grown)) is c.forget_recorded.ensures.kept) rest pays c.hear.ensures.honest c.submit-submitted.ensures.whole c.forget_recorded.ensures.whole),
     )
 
