@@ -2,6 +2,7 @@ mod BelowLaws
 mod ClientLaws
 mod HeldLaws
 mod JoinLaws
+mod LifeLaws
 mod RoundLaws
 mod SaidLaws
 mod ScanLaws
