@@ -13,4 +13,5 @@ pub mod Living
 pub mod Offering
 pub mod Outliving
 pub mod Placing
+pub mod Talking
 pub mod Turning

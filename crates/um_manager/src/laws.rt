@@ -1,6 +1,6 @@
 //! What the turns of a script say together, as functions that do nothing.
 ghost use Rattle.std.specs.Prelude.{◌≡◌, ℕ, List, [], Bool, false, Some, Result, Ok, IsTrue, slice_get};
-ghost use Rattle.um_manager.specs.Clients.{AllTurned, StaysOpen, HasItsOwn};
+ghost use Rattle.um_manager.specs.Clients.{AllTurned, StaysOpen, HasItsOwn, HasHad, IsServed};
 ghost use Rattle.um_manager.specs.Crashes.{all_offers, IsLeft};
 ghost use Rattle.um_manager.specs.Living.{HasLived, Continues, Premises, Reliance, place_of, offered_in};
 ghost use Rattle.um_manager.specs.Lives.{Life, Outlives};
@@ -26,6 +26,13 @@ pub fn each_client_has_its_own_replies()
         → (turns : AllTurned place honest whole steps a b)
         × ((k : ℕ) (t : Session) → slice_get a.sessions k ≡ Some t → t.rest ≡ [] → t.failed ≡ false → StaysOpen k steps
         → (u : Session) × (slice_get b.sessions k ≡ Some u) × HasItsOwn k turns t u) }
+{}
+
+/// Each connection is served from its opening on, over any calls and whatever these answer, with what is put out taken at any moment: the requests
+/// taken of it are those of the frames of all its bytes, in their order, and what was put out for it, taken out or not, are the frames of the
+/// replies to just these, one each, in their order. Only the last may be wanting, where the session failed for want of memory.
+pub fn each_connection_is_served()
+    ensures { (k : ℕ) (bytes taken : List ℕ) (a : Now) (had : HasHad k bytes taken a) → (t : Session) × (slice_get a.sessions k ≡ Some t) × IsServed had t }
 {}
 
 /// What a crash leaves of a script. Behind turns that ended Ok, each image of each moment of the next one, however that ends, is what a life of
