@@ -92,7 +92,7 @@ out_at (Some t) (Some u) out failed x at output = (u, refl, subst (λ z. Does z 
     unfolding or_else
     some_same e = ap (or_else t) e
 
-same_at : (t u : Option Session) (x : Session) → t ≡ Some x → IsSameAt t u → (y : Session) × (u ≡ Some y) × Does x Room y
+pub same_at : (t u : Option Session) (x : Session) → t ≡ Some x → IsSameAt t u → (y : Session) × (u ≡ Some y) × Does x Room y
 same_at None u x at same = cc
 same_at (Some t) None x at same = absurd same
 same_at (Some t) (Some u) x at same = (u, refl, subst (λ z. Does z Room u) (some_same at) same)

@@ -1,5 +1,6 @@
 mod BelowLaws
 mod ClientLaws
+mod GotLaws
 mod HeldLaws
 mod JoinLaws
 mod LifeLaws
