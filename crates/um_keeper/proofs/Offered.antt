@@ -264,3 +264,56 @@ opening_leaves layout s before old new left = weaker old new (IsAsBefore layout 
 
 pub some_stores : (layout : Layout) (s : State) (before : List Offer) (old : Past) → Images old (MayLeave layout s before) → Images old (IsSomeStore layout)
 some_stores layout s before old left image there = leaves_some layout s before image (left image there)
+
+-- ---- one input that is refused
+
+-- each refusal turns the input away, or doesn't
+away_or_not : (b : Bool) → (b ≡ true) ⊎ (b ≡ false)
+away_or_not true = inl refl
+away_or_not false = inr refl
+
+not_taken : (input : Input) (e : Refusal) → e ≡ Device → where_step (Err e) input ≡ [] → ⊥
+not_taken input e device none = cons_not (sym (ap (λ (d : Refusal). where_step (Err d) input) device) ∙ none)
+  where
+    cons_not : {x : Input} {l : List Input} → x ∷ l ≡ [] → ⊥
+    cons_not is = cc
+
+-- A refused input is a part of a life: with E15 and E20 it is no step, with E16 it isn't known, and else it is a step that is refused.
+pub refused_goes_on : (layout : Layout) (s t u : State) (before : List Offer) (input : Input) (e : Refusal) (old new : Past) (failed : Bool)
+    → HasCome layout s before t → During old new (IsBegun layout t (input ∷ []))
+    → ((e ≡ Device) ⊎ During old new (λ image. IsStoreOf layout image t))
+    → (((e ≡ NoMemory) ⊎ (e ≡ Device)) ⊎ ((e ≡ GenerationsSpent) ⊎ ((is_of_store e ≡ false) × machine.Step (body_limit layout) t input (machine.Refusal (refused_of e)) [] t)))
+    → (e ≡ Device → failed ≡ true) → (failed ≡ false → Images new (λ image. IsStoreOf layout image u)) → u ≡ t
+    → GoesOn layout s before (input ∷ []) (Err e ∷ []) old new failed u
+refused_goes_on layout s t u before input e old new failed come during kept cause faults stored same =
+    one_goes_on layout s t u before input (Err e) old new failed come stays during where_kept told stored
+  where
+    stays : ◌≡◌ {A = Answer} (Err e) (Err Reopen) → ⊥
+    stays is = elim cause [
+      | inl lost ↦ elim lost [ inl memory ↦ differs NoMemory memory (λ q. cc) | inr device ↦ differs Device device (λ q. cc) ]
+      | inr other ↦ elim other [ inl spent ↦ differs GenerationsSpent spent (λ q. cc) | inr own ↦ false≢true (sym own.0 ∙ ap is_of_store (same_refusal is)) ]
+    ]
+      where
+        differs : (d : Refusal) → e ≡ d → (d ≡ Reopen → ⊥) → ⊥
+        differs d same_one not = not (sym same_one ∙ same_refusal is)
+
+    where_kept : where_step (Err e) input ≡ [] → During old new (λ image. IsStoreOf layout image t)
+    where_kept none = elim kept [ inl device ↦ absurd (not_taken input e device none) | inr still_so ↦ still_so ]
+
+    away : is_turned_away e ≡ true → Answered (body_limit layout) t input (Err e) u
+    away is = subst (λ v. Answered (body_limit layout) t input (Err e) v) (sym same) (turned_away is)
+
+    told : failed ≡ false → Answered (body_limit layout) t input (Err e) u
+    told works = elim cause [
+      | inl lost ↦ elim lost [
+        | inl memory ↦ away (ap is_turned_away memory)
+        | inr device ↦ absurd (true≢false (sym (faults device) ∙ works))
+      ]
+      | inr other ↦ elim other [
+        | inl spent ↦ away (ap is_turned_away spent)
+        | inr own ↦ elim (away_or_not (is_turned_away e)) [
+          | inl is ↦ away is
+          | inr isnt ↦ subst (λ v. Answered (body_limit layout) t input (Err e) v) (sym same) (refused own.0 isnt own.1)
+        ]
+      ]
+    ]

@@ -37,7 +37,7 @@ offers_of_opening {moment = moment} {boot = boot} opened =
 abbrev pub boot_untold : ℕ → List ℕ → Offer
 boot_untold moment boot = record { input = boot_at moment boot; outcome = unanswered }
 
--- the same where the machine stops before it is answered
+-- what an opening offered, where the machine stops before any of it is answered
 abbrev pub untold_of_opening : {place : Place} {honest whole : Bool} {moment : ℕ} {boot : List ℕ} {count sectors : ℕ} {disk : Past} {past : List Call} {b : Now}
     → Opened place honest whole moment boot count sectors disk past b → List Offer
 untold_of_opening {moment = moment} {boot = boot} opened =
