@@ -33,14 +33,14 @@ use Rattle.um_manager.specs.declared.script.Step.{Step}
 use Rattle.um_manager.specs.declared.taking.Due.{Due}
 use Rattle.um_manager.specs.declared.taking.Due.TheVariants as owes
 
-none_some : {X : Type 0} {x : X} → None ≡ Some x → ⊥
+pub none_some : {X : Type 0} {x : X} → None ≡ Some x → ⊥
 none_some e = cc
 
 abbrev or_else : {X : Type 0} → X → Option X → X
 or_else d (Some x) = x
 or_else d None = d
 
-some_same : {X : Type 0} {x y : X} → Some x ≡ Some y → x ≡ y
+pub some_same : {X : Type 0} {x y : X} → Some x ≡ Some y → x ≡ y
 some_same {x = x} e = ap (or_else x) e
 
 -- ---- of all connections that of one

@@ -6,7 +6,7 @@ use Rattle.um_model.specs.Sessions.{Session, Deed, Room, Take, Does, Lives, goes
 use Rattle.um_model.specs.Sessions as model
 use Rattle.um_model.proofs.SessionsLaws.{session_reads}
 use Rattle.um_wire.specs.declared.refusal.Refusal.{Refusal}
-use Rattle.um_manager.proofs.Clients.{joined, one_turn, closed_turn, Story, put_more, given_join, map_join}
+use Rattle.um_manager.proofs.Clients.{none_some, some_same, joined, one_turn, closed_turn, Story, put_more, given_join, map_join}
 use Rattle.um_manager.specs.Clients.{Exchange, AreGiven, frame_in, ArePut, bytes_in, IsSameAt, HasHad, opens, closes, turns, takes, rests, AreHad, with_taken, IsServed}
 use Rattle.um_manager.specs.Connections.{IsNew}
 use Rattle.um_manager.specs.Replies.{IsOutput}
@@ -80,31 +80,13 @@ record At {k : ℕ} {bytes taken : List ℕ} {a : Now} (had : HasHad k bytes tak
 
 out_at : (t u : Option Session) (out : List ℕ) (failed : Bool) (x : Session) → t ≡ Some x → IsOutput t out failed u
     → (y : Session) × (u ≡ Some y) × Does x (Take out) y
-out_at None u out failed x at output = cc
+out_at None u out failed x at output = absurd (none_some at)
 out_at (Some t) None out failed x at output = absurd output
 out_at (Some t) (Some u) out failed x at output = (u, refl, subst (λ z. Does z (Take out) u) (some_same at) output.0)
-  where
-    or_else : Session → Option Session → Session
-    or_else d (Some z) = z
-    or_else d None = d
-
-    some_same : Some t ≡ Some x → t ≡ x
-    unfolding or_else
-    some_same e = ap (or_else t) e
-
 pub same_at : (t u : Option Session) (x : Session) → t ≡ Some x → IsSameAt t u → (y : Session) × (u ≡ Some y) × Does x Room y
-same_at None u x at same = cc
+same_at None u x at same = absurd (none_some at)
 same_at (Some t) None x at same = absurd same
 same_at (Some t) (Some u) x at same = (u, refl, subst (λ z. Does z Room u) (some_same at) same)
-  where
-    or_else : Session → Option Session → Session
-    or_else d (Some z) = z
-    or_else d None = d
-
-    some_same : Some t ≡ Some x → t ≡ x
-    unfolding or_else
-    some_same e = ap (or_else t) e
-
 had_at : {k : ℕ} {bytes taken : List ℕ} {a : Now} (had : HasHad k bytes taken a) → At had
 had_at (opens {t = t} there new) = record { t = t; at = there; all = []; are = refl; known = known_new t new }
 had_at {k = k} (closes had turned closed) =

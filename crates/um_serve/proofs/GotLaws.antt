@@ -1,7 +1,7 @@
 -- What a client has of rounds since it was opened.
 use Rattle.std.proofs.Common.{◌≡◌, ◌≢◌, ◌<◌, ◌∙◌, ℕ, List, [], ◌∷◌, ◌++◌, Bool, true, false, Option, Some, None, slice_get, append-nil, refl, sym, ap, subst}
 use Rattle.um_backlog.specs.Backlog.{Waits, nothing}
-use Rattle.um_manager.proofs.Clients.{closed_turn}
+use Rattle.um_manager.proofs.Clients.{none_some, closed_turn}
 use Rattle.um_manager.proofs.Talking.{is_served, same_at}
 use Rattle.um_manager.specs.Clients.{HasHad, IsSameAt, IsServed}
 use Rattle.um_manager.specs.Clients as connections
@@ -29,7 +29,7 @@ emptied (Some t) None empties = absurd empties
 emptied (Some t) (Some u) empties = (u.failed, empties, refl)
 
 all_same_at : (ts us : List Session) (k : ℕ) (t : Session) → AllSame ts us → slice_get ts k ≡ Some t → IsSameAt (slice_get ts k) (slice_get us k)
-all_same_at [] us k t same at = cc
+all_same_at [] us k t same at = absurd (none_some at)
 all_same_at (s ∷ ts) [] k t same at = absurd same
 all_same_at (s ∷ ts) (u ∷ us) Prim.Native.Nat.zero t same at = same.0
 all_same_at (s ∷ ts) (u ∷ us) (Prim.Native.Nat.suc k) t same at = all_same_at ts us k t same.1 at
