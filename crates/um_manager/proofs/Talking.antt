@@ -103,7 +103,7 @@ had_at {k = k} (turns {pieces = pieces} {bytes = bytes} {taken = taken} had turn
       are = (here.all, one.here, here.are, one.is, refl);
       known = known_turn bytes taken (bytes_in (slice_get pieces k)) here.all one.here here.t u here.known one.story;
     }
-had_at {k = k} (takes {bytes} {taken} {out} {failed} {a} {b} had output) =
+had_at {k = k} (takes {bytes} {taken} {a} {b} out failed had output) =
     let here = had_at had in
     let (u, at, does) = out_at (slice_get a.sessions k) (slice_get b.sessions k) out failed here.t here.at output in
     record {

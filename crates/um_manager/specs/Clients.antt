@@ -126,7 +126,7 @@ pub data HasHad (k : ℕ) : (bytes taken : List ℕ) → Now → Type 0 where
       → HasHad k bytes taken a → Turned place honest whole result moment pieces a b → slice_get pieces k ≢ Some Closed
       → HasHad k (bytes ++ bytes_in (slice_get pieces k)) taken b
   -- what was put out for it was taken
-  takes : {bytes taken out : List ℕ} {failed : Bool} {a b : Now} → HasHad k bytes taken a
+  takes : {bytes taken : List ℕ} {a b : Now} (out : List ℕ) (failed : Bool) → HasHad k bytes taken a
       → IsOutput (slice_get a.sessions k) out failed (slice_get b.sessions k) → HasHad k bytes (taken ++ out) b
   -- nothing was: a turn found no memory, or what was put out for another was taken
   rests : {bytes taken : List ℕ} {a b : Now} → HasHad k bytes taken a → IsSameAt (slice_get a.sessions k) (slice_get b.sessions k) → HasHad k bytes taken b
@@ -138,7 +138,7 @@ AreHad (closes had turned closed) all = all ≡ []
 AreHad {k = k} (turns {b = b} had turned open_still) all =
     (earlier : List Exchange) × (here : List Exchange) × AreHad had earlier
     × IsExchange b.state turned.answers (place_of turned k) (slice_get turned.requests k) here × (all ≡ earlier ++ here)
-AreHad (takes had out) all = AreHad had all
+AreHad (takes out failed had output) all = AreHad had all
 AreHad (rests had same) all = AreHad had all
 
 -- the session, as if nothing had been taken out

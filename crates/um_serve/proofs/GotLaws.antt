@@ -51,7 +51,7 @@ got k low (closes {result = result} {r = r} {x = x} {y = y} before ok round clos
     let none : taken_of k round.said ≡ [] = nothing_taken (taken_of k round.said) story.rest story.all in
     let (failed, empties) = emptied (slice_get round.turn.sessions k) (slice_get y.now.sessions k) (round.empties k low) in
     record {
-      had = subst (λ l. HasHad k [] l y.now) silent (connections.takes (connections.closes g.had turned closed) empties);
+      had = subst (λ l. HasHad k [] l y.now) silent (connections.takes (output_in (slice_get round.turn.sessions k)) failed (connections.closes g.had turned closed) empties);
       w = here.0;
       at = here.1;
       story = subst (λ l. Story nothing here.0 l []) none story;
@@ -63,7 +63,7 @@ got k low (rounds {r = r} {bytes = bytes} {out = out} {took = took} {x = x} {y =
         (kept k r.pieces x.waits round.waits open_still round.hears.forgets ∙ g.at) round.says in
     let (failed, empties) = emptied (slice_get round.turn.sessions k) (slice_get y.now.sessions k) (round.empties k low) in
     record {
-      had = connections.takes (connections.turns g.had turned open_still) empties;
+      had = connections.takes (output_in (slice_get round.turn.sessions k)) failed (connections.turns g.had turned open_still) empties;
       w = here.0;
       at = here.1;
       story = story_either g.w.is_over nothing g.w here.0 took (taken_of k round.said) out (output_in (slice_get round.turn.sessions k)) refl g.story here.2;
