@@ -83,7 +83,7 @@ returns-in-Err-clause-refused g c = c.in-Err.ensures.refused
 
 pub returns-in-Err-clause-device : goal.returns-in-Err-clause-device
 returns-in-Err-clause-device g c =
-    subst (λ n. CountsDevice (Err c.in-Err.refusal) n (g.D.Disk.failures (disk_in c.round.new.manager.keeper))) c.loop.invariant.failures c.in-Err.ensures.device
+    subst (λ n. CountsDevice {T = Unit} (Err c.in-Err.refusal) n (g.D.Disk.failures (disk_in c.round.new.manager.keeper))) c.loop.invariant.failures c.in-Err.ensures.device
 
 pub returns-in-Err-clause-reopen : goal.returns-in-Err-clause-reopen
 returns-in-Err-clause-reopen g c = last_round c.args.limit c.loop.counter c.loop.invariant.failed c.loop-test.true c.in-Err.ensures.reopen
