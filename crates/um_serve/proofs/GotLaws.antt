@@ -26,7 +26,7 @@ record Got (k : ℕ) (bytes out took : List ℕ) (x : Served) : Type 0 where
 emptied : (t u : Option Session) → Empties t u → (failed : Bool) × IsOutput t (output_in t) failed u
 emptied None u empties = absurd empties
 emptied (Some t) None empties = absurd empties
-emptied (Some t) (Some u) empties = (u.failed, empties, refl)
+emptied (Some t) (Some u) empties = (u.failed, (empties, refl))
 
 all_same_at : (ts us : List Session) (k : ℕ) (t : Session) → AllSame ts us → slice_get ts k ≡ Some t → IsSameAt (slice_get ts k) (slice_get us k)
 all_same_at [] us k t same at = absurd (none_some at)
