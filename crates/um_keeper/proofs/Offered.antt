@@ -273,7 +273,7 @@ away_or_not true = inl refl
 away_or_not false = inr refl
 
 not_taken : (input : Input) (e : Refusal) → e ≡ Device → where_step (Err e) input ≡ [] → ⊥
-not_taken input e device none = cons_not (sym (ap (λ (d : Refusal). where_step (Err d) input) device) ∙ none)
+not_taken input e device nothing = cons_not (sym (ap (λ (d : Refusal). where_step (Err d) input) device) ∙ nothing)
   where
     cons_not : {x : Input} {l : List Input} → x ∷ l ≡ [] → ⊥
     cons_not is = cc
@@ -290,7 +290,7 @@ refused_goes_on layout s t u before input e old new failed come during kept caus
   where
     stays : ◌≡◌ {A = Answer} (Err e) (Err Reopen) → ⊥
     stays is = elim cause [
-      | inl lost ↦ elim lost [ inl memory ↦ differs NoMemory memory (λ q. cc) | inr device ↦ differs Device device (λ q. cc) ]
+      | inl either ↦ elim either [ inl memory ↦ differs NoMemory memory (λ q. cc) | inr device ↦ differs Device device (λ q. cc) ]
       | inr other ↦ elim other [ inl spent ↦ differs GenerationsSpent spent (λ q. cc) | inr own ↦ false≢true (sym own.0 ∙ ap is_of_store (same_refusal is)) ]
     ]
       where
@@ -298,14 +298,14 @@ refused_goes_on layout s t u before input e old new failed come during kept caus
         differs d same_one not = not (sym same_one ∙ same_refusal is)
 
     where_kept : where_step (Err e) input ≡ [] → During old new (λ image. IsStoreOf layout image t)
-    where_kept none = elim kept [ inl device ↦ absurd (not_taken input e device none) | inr still_so ↦ still_so ]
+    where_kept nothing = elim kept [ inl device ↦ absurd (not_taken input e device nothing) | inr still_so ↦ still_so ]
 
     away : is_turned_away e ≡ true → Answered (body_limit layout) t input (Err e) u
     away is = subst (λ v. Answered (body_limit layout) t input (Err e) v) (sym same) (turned_away is)
 
     told : failed ≡ false → Answered (body_limit layout) t input (Err e) u
     told works = elim cause [
-      | inl lost ↦ elim lost [
+      | inl either ↦ elim either [
         | inl memory ↦ away (ap is_turned_away memory)
         | inr device ↦ absurd (true≢false (sym (faults device) ∙ works))
       ]
