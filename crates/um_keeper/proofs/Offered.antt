@@ -291,7 +291,7 @@ refused_goes_on layout s t u before input e old new failed come during kept caus
     stays : ◌≡◌ {A = Answer} (Err e) (Err Reopen) → ⊥
     stays is = elim cause [
       | inl either ↦ elim either [ inl memory ↦ differs NoMemory memory (λ q. cc) | inr device ↦ differs Device device (λ q. cc) ]
-      | inr other ↦ elim other [ inl spent ↦ differs GenerationsSpent spent (λ q. cc) | inr own ↦ false≢true (sym own.0 ∙ ap is_of_store (same_refusal is)) ]
+      | inr other ↦ elim other [ inl spent ↦ differs GenerationsSpent spent (λ q. cc) | inr step ↦ false≢true (sym step.0 ∙ ap is_of_store (same_refusal is)) ]
     ]
       where
         differs : (d : Refusal) → e ≡ d → (d ≡ Reopen → ⊥) → ⊥
@@ -311,9 +311,9 @@ refused_goes_on layout s t u before input e old new failed come during kept caus
       ]
       | inr other ↦ elim other [
         | inl spent ↦ away (ap is_turned_away spent)
-        | inr own ↦ elim (away_or_not (is_turned_away e)) [
+        | inr step ↦ elim (away_or_not (is_turned_away e)) [
           | inl is ↦ away is
-          | inr isnt ↦ subst (λ v. Answered (body_limit layout) t input (Err e) v) (sym same) (refused own.0 isnt own.1)
+          | inr isnt ↦ subst (λ v. Answered (body_limit layout) t input (Err e) v) (sym same) (refused step.0 isnt step.1)
         ]
       ]
     ]
