@@ -56,9 +56,9 @@ module _ (layout : Layout) (on : Reliance) (sure : IsTrue on.disk) (honest : IsT
       let given = map asks_for turned.told ++ called.given in
       let refused = refused_store turned.store turned.behind e turned.nothing_behind turned.result_is in
       let none : all_asked turned.answers ≡ [] =
-          nothing_asked (place_of layout on) _ a.state b.state (offered_in turned) turned.answers turned.store e turned.answered turned.tells refused in
+      nothing_asked (place_of layout on) _ a.state b.state (offered_in turned) turned.answers turned.store e turned.answered turned.tells refused in
       let silent : orders given ≡ [] =
-          orders_both (map asks_for turned.told) called.given ∙ ap (λ l. l ++ orders called.given) (orders_told turned.told) ∙ called.orders_are ∙ none in
+      orders_both (map asks_for turned.told) called.given ∙ ap (λ l. l ++ orders called.given) (orders_told turned.told) ∙ called.orders_are ∙ none in
       subst (λ l. IsLife layout on (record { disk = disk; before = before; offers = offered ++ untold_offers (offered_in turned) turned.answers; stop = b.disk; calls = l }))
       (sym called.past_is)
       (in_turn given lived turned (record { calls = left.calls; later = []; at_is = left.is; new_is = refl }) silent)

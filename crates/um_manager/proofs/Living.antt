@@ -126,8 +126,8 @@ module _ (layout : Layout) (on : Reliance) (sure : IsTrue on.disk) (honest : IsT
       let called = ended.called in
       let last = signals_start ended.termed ended.killed in
       let starts : started_numbers (orders (ForgotOthers adopted.live ∷ (map asks_for adopted.told ++ called.given))) ≡ started_numbers (all_asked adopted.answers) =
-          called_start adopted.told called.given _ called.orders_are ∙ started_both (all_asked adopted.answers) _
-          ∙ ap (λ l. started_numbers (all_asked adopted.answers) ++ l) last ∙ append-nil (started_numbers (all_asked adopted.answers)) in
+      called_start adopted.told called.given _ called.orders_are ∙ started_both (all_asked adopted.answers) _
+      ∙ ap (λ l. started_numbers (all_asked adopted.answers) ++ l) last ∙ append-nil (started_numbers (all_asked adopted.answers)) in
       record {
         s = a.state;
         found = (opened.found sure).stands;
@@ -156,7 +156,7 @@ module _ (layout : Layout) (on : Reliance) (sure : IsTrue on.disk) (honest : IsT
       let called = turned.called honest whole in
       let given = map asks_for turned.told ++ called.given in
       let starts : started_numbers (orders given) ≡ started_numbers (all_asked turned.answers) =
-          called_start turned.told called.given (all_asked turned.answers) called.orders_are in
+      called_start turned.told called.given (all_asked turned.answers) called.orders_are in
       record {
         s = stood.s;
         found = stood.found;

@@ -166,7 +166,7 @@ lead_all layout disk calls (life ∷ lives) stop all stores new follow lead =
     let found = follow.0 in
     let leads : Leads layout life = lead.0 (λ image there. stores image (found.no_other image there)) found.read in
     let before : AreStarted layout life.disk life.before =
-        subst (λ c. AreStarted layout life.disk c) (sym follow.1) (λ image there s store. new image (found.no_other image there) s store) in
+    subst (λ c. AreStarted layout life.disk c) (sym follow.1) (λ image there s store. new image (found.no_other image there) s store) in
     let rest = lead_all layout life.stop life.calls lives stop all (left_stores layout life leads) (leads.started before) follow.2 lead.1 in
     record {
       each = λ last there. one_more layout disk life lives last found leads (rest.each last there);
@@ -196,9 +196,9 @@ pub outlives : (layout : Layout) (made : Past) (first : List Call) (lives : List
 outlives layout made first lives stop calls created unstarted follow lead image there =
     let stores : HasStores layout made = λ one was. (empty_state, (created one was).store) in
     let new : AreStarted layout made first = λ one was s store.
-        let same : empty_state ≡ s = one_state layout one empty_state s (created one was).store.stands store.stands in
-        subst (λ (u : State). AreNew empty_state.next u.next (started_numbers (orders first))) same
-        (subst (λ l. AreNew empty_state.next empty_state.next l) (sym unstarted) (none_new empty_state.next)) in
+    let same : empty_state ≡ s = one_state layout one empty_state s (created one was).store.stands store.stands in
+    subst (λ (u : State). AreNew empty_state.next u.next (started_numbers (orders first))) same
+    (subst (λ l. AreNew empty_state.next empty_state.next l) (sym unstarted) (none_new empty_state.next)) in
     let all = lead_all layout made first lives stop calls stores new follow lead in
     let come = all.each image there in
     let same : come.s ≡ empty_state = one_state layout come.first come.s empty_state come.begun.stands (created come.first come.was).store.stands in

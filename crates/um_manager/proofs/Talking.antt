@@ -83,10 +83,12 @@ out_at : (t u : Option Session) (out : List ℕ) (failed : Bool) (x : Session) �
 out_at None u out failed x at output = absurd (none_some at)
 out_at (Some t) None out failed x at output = absurd output
 out_at (Some t) (Some u) out failed x at output = (u, refl, subst (λ z. Does z (Take out) u) (some_same at) output.0)
+
 pub same_at : (t u : Option Session) (x : Session) → t ≡ Some x → IsSameAt t u → (y : Session) × (u ≡ Some y) × Does x Room y
 same_at None u x at same = absurd (none_some at)
 same_at (Some t) None x at same = absurd same
 same_at (Some t) (Some u) x at same = (u, refl, subst (λ z. Does z Room u) (some_same at) same)
+
 had_at : {k : ℕ} {bytes taken : List ℕ} {a : Now} (had : HasHad k bytes taken a) → At had
 had_at (opens {t = t} there new) = record { t = t; at = there; all = []; are = refl; known = known_new t new }
 had_at {k = k} (closes had turned closed) =

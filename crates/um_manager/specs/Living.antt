@@ -84,8 +84,13 @@ pub data IsLife (layout : Layout) (on : Reliance) : Life → Type 0 where
   in_turn : {disk stop : Past} {before : List Call} {offered : List Offer} {result : Result Unit Refusal} {moment : ℕ} {pieces : List Piece} {a b : Now}
       (more : List Call) → HasLived layout on disk before offered a
       → (turned : Turned (place_of layout on) on.children on.history result moment pieces a b) → IsMeanwhile a.disk b.disk stop → orders more ≡ []
-      → IsLife layout on (record { disk = disk; before = before; offers = offered ++ untold_offers (offered_in turned) turned.answers; stop = stop;
-      calls = a.past ++ more })
+      → IsLife layout on (record {
+        disk = disk;
+        before = before;
+        offers = offered ++ untold_offers (offered_in turned) turned.answers;
+        stop = stop;
+        calls = a.past ++ more;
+      })
   -- It stopped so in its opening.
   in_opening : {disk stop : Past} {before : List Call} {moment : ℕ} {boot : List ℕ} {count sectors : ℕ} {b : Now} (more : List Call)
       (opened : Opened (place_of layout on) on.children on.history moment boot count sectors disk before b) → IsMeanwhile disk b.disk stop → orders more ≡ []

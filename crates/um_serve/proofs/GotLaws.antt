@@ -45,7 +45,7 @@ got k low (closes {result = result} {r = r} {x = x} {y = y} before ok round clos
     let (t, t_at, served) = is_served k _ _ x.now g.had in
     let (u, u_at, new) = closed_turn turned k t t_at closed in
     let here = own_below 64 k round.turn.sessions round.waits round.said y.waits nothing low
-        (round.hears.forgets k ∙ gone_at g.w (slice_get x.waits k) (slice_get r.pieces k) g.at closed) round.says in
+    (round.hears.forgets k ∙ gone_at g.w (slice_get x.waits k) (slice_get r.pieces k) g.at closed) round.says in
     let silent : output_in (slice_get round.turn.sessions k) ≡ [] = ap output_in u_at ∙ new.1 in
     let story : Story nothing here.0 (taken_of k round.said) [] = subst (λ l. Story nothing here.0 (taken_of k round.said) l) silent here.2 in
     let none : taken_of k round.said ≡ [] = nothing_taken (taken_of k round.said) story.rest story.all in
@@ -60,7 +60,7 @@ got k low (rounds {r = r} {bytes = bytes} {out = out} {took = took} {x = x} {y =
     let g = got k low before in
     let turned = round.turns.1 ok in
     let here = own_below 64 k round.turn.sessions round.waits round.said y.waits g.w low
-        (kept k r.pieces x.waits round.waits open_still round.hears.forgets ∙ g.at) round.says in
+    (kept k r.pieces x.waits round.waits open_still round.hears.forgets ∙ g.at) round.says in
     let (failed, empties) = emptied (slice_get round.turn.sessions k) (slice_get y.now.sessions k) (round.empties k low) in
     record {
       had = connections.takes (output_in (slice_get round.turn.sessions k)) failed (connections.turns g.had turned open_still) empties;
