@@ -9,19 +9,17 @@ use Rattle.std.proofs.lemmas.Map.Views.{list_any-from_Contains}
 use Rattle.um_model.proofs.AmongLaws.{contains_among}
 use Rattle.um_model.proofs.TimersLaws.{among_keys}
 use Rattle.um_model.specs.Service.{ByUnit}
-use Rattle.um_model.specs.Standing.{Table}
-use Rattle.um_state.specs.Held.{table_of}
 
 some_there : {A : Type 0} (o : Option A) → o ≢ None → is_some o ≡ true
 some_there None h = absurd (h refl)
 some_there (Some x) h = refl
 
-key_there : {A : Type 0} (m : ByUnit A) (unit : List ℕ) → Contains (map.keys m) unit → map.get m unit ≢ None
+pub key_there : {A : Type 0} (m : ByUnit A) (unit : List ℕ) → Contains (map.keys m) unit → map.get m unit ≢ None
 key_there m unit key = λ none.
     let some : is_some (map.get m unit) ≡ true = map.contains_key-keys m unit ∙ list_any-from_Contains (eq_by_cmp_equiv nat_list_cmp_total) unit (map.keys m) key in
     true≢false (sym some ∙ ap is_some none)
 
-there_key : {A : Type 0} (m : ByUnit A) (unit : List ℕ) → map.get m unit ≢ None → Contains (map.keys m) unit
+pub there_key : {A : Type 0} (m : ByUnit A) (unit : List ℕ) → map.get m unit ≢ None → Contains (map.keys m) unit
 there_key m unit there = contains_among (map.keys m) unit (among_keys m unit (some_there (map.get m unit) there))
 
 -- the names of two maps are those that one of them holds
@@ -36,7 +34,3 @@ keys_held m n unit = (
     | inr other ↦ Contains-append_right (map.keys m) (map.keys n) unit (there_key n unit other)
   ],
 )
-
--- a table holds what it was made of
-pub same_held : {A : Type 0} {held : ByUnit A} {table : Table A} → table_of held ≡ table → held ≡ table.held
-same_held e = ap (λ t. t.held) e

@@ -1,11 +1,17 @@
 pub mod AwaitingLaws
+pub mod BackLaws
 pub mod DueLaws
 pub mod Distinct
+pub mod EntryLaws
 pub mod FindingLaws
 pub mod Fronts
 pub mod HeldLaws
 pub mod InputArms
 pub mod JobLists
+pub mod PutLaws
+pub mod RenumberLaws
+pub mod SameLaws
 pub mod StateFields
+pub mod TableLaws
 pub mod UnitScans
 pub mod UnitsRead
