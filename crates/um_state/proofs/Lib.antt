@@ -11,6 +11,7 @@ pub mod JobLists
 pub mod PutLaws
 pub mod RenumberLaws
 pub mod SameLaws
+pub mod SetLaws
 pub mod StateFields
 pub mod TableLaws
 pub mod UnitScans

@@ -116,7 +116,8 @@ fn pending_of(alloc: Global, jobs: Vec<JobShown>) -> Result<Pending, AllocError>
     ensures { IfOk result (λ pending. pending.held ≡ pending_of (map job_of jobs.items)) }
 {
     let entries = map_of(alloc, jobs)?;
-    Pending::of_map(alloc, &entries)
+    let pending = Pending::of_map(alloc, &entries)?;
+    Ok(pending)
 }
 
 impl Canon for Pending {

@@ -1,4 +1,4 @@
-ghost use Rattle.std.specs.Prelude.{◌≡◌, ◌↔◌, ◌++◌, ◌<◌, false, ℕ, List, length, map, vec_len, is_some, IsTrue, MatchOption, IfOk, IfSome, OnOk, OnErr, set as with_item};
+ghost use Rattle.std.specs.Prelude.{◌≡◌, ◌↔◌, ◌++◌, ◌<◌, false, ℕ, List, length, map, vec_len, is_some, IsTrue, MatchOption, IfOk, OnOk, OnErr, set as with_item};
 ghost use Rattle.std.specs.Coded.{codes};
 ghost use Rattle.std.specs.Cmp.Lexicographic.{slice_cmp};
 ghost use Rattle.std.specs.FinMap as maps;
@@ -9,9 +9,9 @@ ghost use Rattle.um_model.specs.Service.{AreTidyUnits, dead_unit, state_of_unit,
 ghost use Rattle.um_model.specs.Standing.{Table};
 ghost use Rattle.um_model.specs.declared.jobs.UnitJobs as unit_jobs;
 ghost use Rattle.um_model.specs.declared.service.UnitState as unit;
-ghost use Rattle.um_name.specs.Names.{AreAscending, HasPlace, IsApart, name_at};
+ghost use Rattle.um_name.specs.Names.{AreAscending, IsApart, name_at};
 ghost use Rattle.um_state.specs.Awaiting.{HasAll, IsUnawaited};
-ghost use Rattle.um_state.specs.Finding.{Finds, IsFirstWith, NoneHas};
+ghost use Rattle.um_state.specs.Finding.{Finds};
 ghost use Rattle.um_state.specs.Shown.{job_of};
 ghost use Rattle.um_state.specs.Tables.{jobs_by, jobs_put, unit_put, units_by};
 
@@ -20,7 +20,10 @@ use crate::finder::{Finder, row_in};
 use crate::maps::{hold, hold_jobs, push_keys};
 use crate::named::names_with;
 use crate::reply::JobShown;
-use crate::rows::{deadlines_of, first_with, job_map_of, job_rows_in, jobs_told_by, push_held_jobs, push_held_units, shown_of, unit_map_of, unit_rows_in, units_told_by};
+use crate::rows::{
+    deadlines_of, first_with, job_map_of, job_rows_in, jobs_told_by, push_held_jobs,
+    push_held_units, shown_of, unit_map_of, unit_rows_in, units_told_by,
+};
 use std::alloc::{AllocError, Global};
 use std::collections::BTreeMap;
 use std::marker::Model;
@@ -131,7 +134,8 @@ impl Units {
         let mut keys = Vec::new(alloc);
         push_keys(&mut keys, entries)?;
         let names = Names::of(alloc, &keys)?;
-        Units::over(alloc, names, entries)
+        let units = Units::over(alloc, names, entries)?;
+        Ok(units)
     }
 
     /// The units by name, of which it holds anything.
@@ -149,7 +153,9 @@ impl Units {
         ensures held { IfOk result (λ u. ((x : List ℕ) → IsApart names.now x → state_of_unit self.now.held x ≡ dead_unit) → u.held ≡ self.now.held) }
     {
         let entries = self.to_map()?;
-        Units::over(self.alloc, names.copy()?, &entries)
+        let names = names.copy()?;
+        let units = Units::over(self.alloc, names, &entries)?;
+        Ok(units)
     }
 
     /// The names with their numbers.
@@ -217,7 +223,8 @@ impl Units {
     pub(crate) fn push_names(&self, names: &mut Vec<UnitName>) -> Result<(), AllocError>
         ensures { OnOk result (names.new.items ≡ names.old.items ++ maps.keys self.now.held) }
     {
-        push_held_units(names, &self.names, &self.states)
+        push_held_units(names, &self.names, &self.states)?;
+        Ok(())
     }
 
     /// The units of which it holds anything, by name.
@@ -236,14 +243,14 @@ impl Units {
         let mut entries = self.to_map()?;
         hold(&mut entries, unit, state)?;
         let names = names_with(self.alloc, &self.names, unit)?;
-        Units::over(self.alloc, names, &entries)
+        let units = Units::over(self.alloc, names, &entries)?;
+        Ok(units)
     }
 
     /// Sets how the unit stands; a dead one of which nothing is known isn't held. Where memory is refused, all is as before.
     pub fn set(&mut self, unit: &UnitName, state: UnitState) -> Result<(), AllocError>
         ensures ok { OnOk result (self.new.held ≡ with_unit self.old.held unit.now state) }
         ensures err { OnErr result (self.new ≡ self.old) }
-        ensures names { (i : ℕ) → HasPlace self.old.names unit.now i → self.new.names ≡ self.old.names }
     {
         let mut state = state;
         match self.names.number(unit) {
@@ -255,8 +262,7 @@ impl Units {
 
     /// The first row that has the number.
     fn place(&self, number: u64) -> Option<usize>
-        ensures over { result ≡ None → IsOver self.now.held number }
-        ensures is { IfSome result (λ i. (i < length self.now.names) × IsProcessOf self.now.held number (name_at self.now.names i)) }
+        ensures { MatchOption result (IsOver self.now.held number) (λ i. (i < length self.now.names) × IsProcessOf self.now.held number (name_at self.now.names i)) }
     {
         if self.finder.is_partial {
             return first_with(&self.states, number);
@@ -272,7 +278,10 @@ impl Units {
         ensures { MatchOption result (IsOver self.now.held number) (λ unit. IsProcessOf self.now.held number unit.now) }
     {
         match self.place(number) {
-            Some(i) => self.names.name(i),
+            Some(i) => match self.names.name(i) {
+                Some(unit) => Some(unit),
+                None => unreachable!(),
+            },
             None => None,
         }
     }
@@ -365,7 +374,8 @@ impl Pending {
         let mut keys = Vec::new(alloc);
         push_keys(&mut keys, entries)?;
         let names = Names::of(alloc, &keys)?;
-        Pending::over(alloc, names, entries)
+        let pending = Pending::over(alloc, names, entries)?;
+        Ok(pending)
     }
 
     /// The jobs by name, of the units of which one is pending.
@@ -383,13 +393,16 @@ impl Pending {
         ensures held { IfOk result (λ p. ((x : List ℕ) → IsApart names.now x → jobs_of_unit self.now.held x ≡ no_jobs) → p.held ≡ self.now.held) }
     {
         let entries = self.to_map()?;
-        Pending::over(self.alloc, names.copy()?, &entries)
+        let names = names.copy()?;
+        let pending = Pending::over(self.alloc, names, &entries)?;
+        Ok(pending)
     }
 
     /// The names with their numbers.
     pub fn numbers(&self) -> &Names
         ensures names { result.now ≡ self.now.names }
         ensures ascending { AreAscending self.now.names }
+        ensures tidy { AreTidyJobs self.now.held }
     {
         &self.names
     }
@@ -436,7 +449,8 @@ impl Pending {
     pub(crate) fn push_names(&self, names: &mut Vec<UnitName>) -> Result<(), AllocError>
         ensures { OnOk result (names.new.items ≡ names.old.items ++ maps.keys self.now.held) }
     {
-        push_held_jobs(names, &self.names, &self.jobs)
+        push_held_jobs(names, &self.names, &self.jobs)?;
+        Ok(())
     }
 
     /// The same with the jobs of a unit that has no number, with all numbers anew.
@@ -446,7 +460,8 @@ impl Pending {
         let mut entries = self.to_map()?;
         hold_jobs(&mut entries, unit, jobs)?;
         let names = names_with(self.alloc, &self.names, unit)?;
-        Pending::over(self.alloc, names, &entries)
+        let pending = Pending::over(self.alloc, names, &entries)?;
+        Ok(pending)
     }
 
     /// Sets the pending jobs of the unit. Where memory is refused, all is as before.
