@@ -13,6 +13,7 @@ pub mod RenumberLaws
 pub mod SameLaws
 pub mod SetLaws
 pub mod StateFields
+pub mod StateRows
 pub mod TableLaws
 pub mod UnitScans
 pub mod UnitsRead
