@@ -1,7 +1,7 @@
 //! What the words of a command line ask for.
 use crate::asserts::{same, same_at, text};
 use std::process::Abort;
-use um_line::{CheckLine, Line, a_runner_s_words_are_run, read_line};
+use um_line::{Line, a_runner_s_words_are_run, read_line};
 
 /// The words of the text, the first of which is the program's name.
 fn words_of(rt: &(impl AllocGlobal + Abort), line: &str) -> Vec<String> {
@@ -12,17 +12,12 @@ fn words_of(rt: &(impl AllocGlobal + Abort), line: &str) -> Vec<String> {
     words
 }
 
-/// What of a store is asked for.
-fn looked_at(line: &CheckLine<'_>) -> &'static str {
-    if line.units { "units" } else { "check" }
-}
-
 /// What is asked for, and what is told where nothing more is asked for.
 fn asked<'a>(line: &'a Line<'_>) -> (&'static str, &'a str) {
     match line {
         Line::Memory => ("memory", ""),
         Line::Run(_) => ("run", ""),
-        Line::Check(line) => (looked_at(line), line.file),
+        Line::Check(_) => ("check", ""),
         Line::Told(told) => ("to be told", told.as_str()),
         Line::Wrong(told) => ("wrong", told.as_str()),
         Line::Help(1) => ("E1", ""),
@@ -45,9 +40,9 @@ const LINES: &[(&str, &str, &str)] = &[
         "to be told",
         "umd check /var/lib/umd/store",
     ),
-    ("umd check f", "check", "f"),
-    ("umd check --units f", "units", "f"),
-    ("umd check f --units", "units", "f"),
+    ("umd check f", "check", ""),
+    ("umd check --units f", "check", ""),
+    ("umd check f --units", "check", ""),
     ("umd check", "wrong", "umd check"),
     ("umd check --units", "wrong", "umd check"),
     ("umd check f f", "wrong", ""),
@@ -114,4 +109,21 @@ fn a_runner_s_words_are_run_under_its_number(rt: HostRuntime) {
         rt.abort()
     };
     same(&rt, (line.folder, line.number.get()), ("d", 7));
+}
+
+/// Asserts that the words ask for a look at the file `f`, and for its units or not.
+fn looks(rt: &(impl AllocGlobal + Abort), text: &str, units: bool) {
+    let words = words_of(rt, text);
+    let Line::Check(line) = read_line(rt.alloc(), words.as_slice()).expect(rt, "no memory") else {
+        rt.abort()
+    };
+    same(rt, line.units, units);
+    same(rt, line.file, "f");
+}
+
+#[test]
+fn a_store_is_looked_at(rt: HostRuntime) {
+    looks(&rt, "umd check f", false);
+    looks(&rt, "umd check --units f", true);
+    looks(&rt, "umd check f --units", true);
 }
