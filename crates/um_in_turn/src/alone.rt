@@ -174,7 +174,8 @@ pub fn course_of(alloc: Global, rows: &[Row]) -> Result<Course, Wrong> {
 pub fn course_onward(alloc: Global, rows: &[Row]) -> Result<Course, Wrong> {
     let mut course = course_of(alloc, rows)?;
     for count in 0..=rows.len() {
-        course.onward.push(onward(alloc, &rows[..count])?)?;
+        let beginning = rows.get(..count).unwrap_or(&[]);
+        course.onward.push(onward(alloc, beginning)?)?;
     }
     Ok(course)
 }

@@ -241,7 +241,7 @@ fn are_carried_out(done: &[Order], orders: &[Order], is_opening: bool) -> Result
     if !done.starts_with(orders) {
         return Err(found("other orders than those that are due"));
     }
-    for order in &done[orders.len().min(done.len())..] {
+    for order in done.iter().skip(orders.len()) {
         if !is_opening || order.signal.is_none() {
             return Err(found("more orders than those that are due"));
         }
@@ -264,14 +264,15 @@ fn left_untold(
     Ok(left)
 }
 
-impl Watched {
-    fn calls(&self) -> &[Call] {
-        &self.manager.children().notes()[self.seen.min(self.manager.children().notes().len())..]
-    }
+/// The calls of a manager's children behind so many.
+fn calls_behind(manager: &Running, seen: usize) -> &[Call] {
+    manager.children().notes().get(seen..).unwrap_or(&[])
+}
 
+impl Watched {
     /// Looks at what a turn or an opening did beside what was told and taken, by the orders of the engine alone.
     fn look(&mut self, alloc: Global, orders: &[Order], is_opening: bool) -> Result<(), Wrong> {
-        let calls = self.calls();
+        let calls = calls_behind(&self.manager, self.seen);
         let done = ordered(alloc, calls)?;
         are_carried_out(done.as_slice(), orders, is_opening)?;
         are_claimed(calls, self.claimed.as_slice())?;
@@ -310,7 +311,7 @@ impl Watched {
         self.manager.turn(moment(0)?, &pieces)?;
         let output = self.manager.output(connection);
         let mut orders = Vec::new(alloc);
-        let calls = &self.manager.children().notes()[self.seen..];
+        let calls = calls_behind(&self.manager, self.seen);
         hear(&mut self.alone, calls, End::Code(203), &mut orders)?;
         let tick = self.alone.take_row((0, Coming::Tick))?;
         orders.extend_from_slice(tick.orders.as_slice())?;
@@ -347,20 +348,15 @@ fn asked(alloc: Global, calls: &[Call]) -> Result<Vec<ProcessNumber>, Wrong> {
     Ok(numbers)
 }
 
-/// The numbers of which these calls told nothing.
-fn silent_of(calls: &[Call], numbers: &[ProcessNumber], alloc: Global) -> Result<Vec<ProcessNumber>, Wrong> {
-    left_untold(alloc, calls, numbers)
-}
-
 /// What an opening made of a manager, where the engine alone stood so before.
 fn watch(alloc: Global, manager: Running, alone: Alone, seen: usize) -> Result<Watched, Wrong> {
     let mut alone = alone;
     let mut orders = Vec::new(alloc);
     alone.take_row((0, Coming::Booted(BOOT)))?;
-    let calls = &manager.children().notes()[seen.min(manager.children().notes().len())..];
+    let calls = calls_behind(&manager, seen);
     hear(&mut alone, calls, End::Lost, &mut orders)?;
     let claimed = asked(alloc, calls)?;
-    let untold = silent_of(calls, claimed.as_slice(), alloc)?;
+    let untold = left_untold(alloc, calls, claimed.as_slice())?;
     let mut watched = Watched {
         manager,
         alone,
@@ -475,17 +471,23 @@ fn both_ways(alloc: Global, life: &Life, place: usize, fails: u64) -> Result<u64
     Ok(2)
 }
 
+/// Each call of the children fails in turn, with an opening before the doing of that number; tells how many cases were tried.
+pub fn each_call_at(alloc: Global, life: &Life, place: usize) -> Result<u64, Wrong> {
+    let mut cases: u64 = 0;
+    for fails in 1..=run(alloc, life, place, 0, false)?.calls {
+        match both_ways(alloc, life, place, fails) {
+            Ok(count) => cases = cases.saturating_add(count),
+            Err(wrong) => return Err(wrong.at(fails, life.name)),
+        }
+    }
+    Ok(cases)
+}
+
 /// Each call of the children fails in turn, with an opening before each doing; tells how many cases were tried.
 pub fn each_call(alloc: Global, life: &Life) -> Result<u64, Wrong> {
     let mut cases: u64 = 0;
     for place in 0..=life.doings.len() {
-        let calls = run(alloc, life, place, 0, false)?.calls;
-        for fails in 1..=calls {
-            match both_ways(alloc, life, place, fails) {
-                Ok(count) => cases = cases.saturating_add(count),
-                Err(wrong) => return Err(wrong.at(fails, life.name)),
-            }
-        }
+        cases = cases.saturating_add(each_call_at(alloc, life, place)?);
     }
     Ok(cases)
 }

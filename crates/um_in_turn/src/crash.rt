@@ -4,10 +4,10 @@ use crate::alone::{Course, ONWARD, course_onward, spent};
 use crate::disk::RESTART;
 use crate::rows::{Coming, Row, input_of};
 use crate::scripts::{Deed, Outcome, Script};
-use crate::stores::{blank, bytes_of, layout, made, newest, oldest, opened, state_on};
+use crate::stores::{blank, bytes_of, create_on, made, newest, oldest, opened, state_on};
 use crate::wrong::{Wrong, found};
 use std::alloc::Global;
-use um_keeper::{Keeper, create};
+use um_keeper::Keeper;
 use um_sector::{Disk, Fuse, MemDisk};
 use um_wire::Refusal;
 
@@ -19,7 +19,8 @@ const SIZES: &[Row] = &[
     (3_000_000, Coming::Long("lib/b.service", 450)),
     (3_000_001, Coming::Ended(3, 1)),
     (3_200_000, Coming::Tick),
-    (3_200_001, Coming::Long("lib/b.service", 1_200)),
+    (3_200_001, Coming::Long("lib/b.service", 1_700)),
+    (3_200_002, Coming::Long("lib/b.service", 1_200)),
 ];
 
 /// More of them, behind a checkpoint.
@@ -36,6 +37,13 @@ pub fn script(alloc: Global) -> Result<Script, Wrong> {
     script.each(SIZES)?;
     script.deed(Deed::Checkpoint)?;
     script.each(MORE)?;
+    Ok(script)
+}
+
+/// A record of two sectors behind one of one, for a selection.
+pub fn short(alloc: Global) -> Result<Script, Wrong> {
+    let mut script = Script::new(alloc);
+    script.each(&[(1, Coming::Reload), (2, Coming::Long("lib/b.service", 450))])?;
     Ok(script)
 }
 
@@ -230,7 +238,7 @@ fn stopped(
 /// The number of disk calls of a creation.
 fn calls_of_create(alloc: Global) -> Result<u64, Wrong> {
     let mut disk = Fuse::new(blank(alloc)?, 0);
-    create(alloc, &mut disk, layout()?)?;
+    create_on(alloc, &mut disk)?;
     Ok(disk.calls())
 }
 
@@ -287,7 +295,7 @@ fn creation(
     fails: u64,
 ) -> Result<(), Wrong> {
     let mut disk = Fuse::new(oldest(alloc, base)?, fails);
-    match create(alloc, &mut disk, layout()?) {
+    match create_on(alloc, &mut disk) {
         Err(Refusal::Device) => {}
         _ => return Err(found("a creation whose call failed is done")),
     }

@@ -3,10 +3,10 @@
 use crate::alone::{Course, course_of, spent};
 use crate::rows::{Coming, Row, input_of};
 use crate::scripts::{Deed, Failing, Outcome, Script, let_go};
-use crate::stores::{blank, bytes_of, layout, newest, oldest, opened, state_on};
+use crate::stores::{blank, bytes_of, create_on, newest, oldest, opened, state_on};
 use crate::wrong::{Wrong, found};
 use std::alloc::Global;
-use um_keeper::{Keeper, create};
+use um_keeper::Keeper;
 use um_model::UnitVerb;
 use um_sector::{Disk, Fuse, MemDisk};
 use um_wire::Refusal;
@@ -36,6 +36,18 @@ pub fn restart(alloc: Global) -> Result<Script, Wrong> {
     script.deed(Deed::Open)?;
     script.each(&[(3_000_002, Coming::Put("lib/b.service", AGAIN))])?;
     Ok(script)
+}
+
+/// The automatic restart alone, for a selection.
+pub fn short(alloc: Global) -> Result<Script, Wrong> {
+    let mut script = Script::new(alloc);
+    script.each(RESTART)?;
+    Ok(script)
+}
+
+/// The number of disk calls of a creation and the opening behind it.
+pub fn calls_before(alloc: Global) -> Result<u64, Wrong> {
+    Script::new(alloc).calls(alloc, blank(alloc)?)
 }
 
 /// So many records of a file of so many bytes, from this microsecond on.
@@ -134,7 +146,7 @@ fn is_created_again(alloc: Global, course: &Course, disk: MemDisk) -> Result<(),
         }
     }
     let mut disk = disk;
-    create(alloc, &mut disk, layout()?)?;
+    create_on(alloc, &mut disk)?;
     are_beginnings(alloc, course, disk, 0, 0)
 }
 

@@ -132,7 +132,8 @@ fn whole(alloc: Global, bytes: &[u8], texts: &[&str]) -> Result<usize, Wrong> {
     }
     let mut count: usize = 0;
     for end in 0..=texts.len() {
-        if frames(alloc, &texts[..end])?.len() <= bytes.len() {
+        let front = texts.get(..end).unwrap_or(&[]);
+        if frames(alloc, front)?.len() <= bytes.len() {
             count = end;
         }
     }

@@ -3,11 +3,11 @@
 use crate::alone::{Answer, Course, course_of, refused, spent};
 use crate::rows::{Coming, Row, boot_of, input_of, moment};
 use crate::sessions::{frame, pieces};
-use crate::stores::{blank, bytes_of, layout, newest, oldest, opened, state_on};
+use crate::stores::{blank, bytes_of, create_on, newest, oldest, opened, state_on};
 use crate::wrong::{Wrong, found};
 use std::alloc::Global;
 use um_children::FakeChildren;
-use um_keeper::{Keeper, create};
+use um_keeper::Keeper;
 use um_manager::{Connection, Manager, Output};
 use um_model::{InstallVerb, UnitVerb};
 use um_sector::MemDisk;
@@ -97,7 +97,7 @@ fn at(alloc: Global, keeper: Keeper<MemDisk>, bytes: &[u8]) -> Result<Keeper<Mem
 /// A disk that holds a new store. A creation that found no memory has written nothing; one whose disk found none is made again.
 fn new_store(alloc: Global) -> Result<MemDisk, Wrong> {
     let mut disk = blank(alloc)?;
-    match create(alloc, &mut disk, layout()?) {
+    match create_on(alloc, &mut disk) {
         Ok(()) => return Ok(disk),
         Err(Refusal::NoMemory) => {
             if disk.syncs() != 0 || !disk.unsynced(alloc)?.is_empty() {
@@ -107,7 +107,7 @@ fn new_store(alloc: Global) -> Result<MemDisk, Wrong> {
         Err(Refusal::Device) => {}
         Err(refusal) => return Err(Wrong::from(refusal)),
     }
-    create(alloc, &mut disk, layout()?)?;
+    create_on(alloc, &mut disk)?;
     Ok(disk)
 }
 
@@ -245,18 +245,20 @@ const RUNNING: &str =
 const DEAD: &str =
     r#"{"ok":true,"value":{"ActiveState":"inactive","Description":"","Id":"a.service","LoadState":"loaded","MainNumber":0,"Result":"success","SubState":"dead","Warnings":[]}}"#;
 
-/// What comes in before the turn of the two clients, and the start that is theirs.
+/// What comes in before the turn of the two clients, the start that is theirs, and how that ends where the children fail.
 const TURNED: &[Row] = &[
     (0, Coming::Put("lib/a.service", SLEEPS)),
     (0, Coming::Reload),
     (0, Coming::Booted("one")),
     (0, Coming::Verb(UnitVerb::Start, "a.service")),
+    // where the children find no memory for the start
+    (0, Coming::Ended(1, 203)),
 ];
 
 /// A store of the first two of these rows.
 fn loaded(alloc: Global, course: &Course) -> Result<MemDisk, Wrong> {
     let mut keeper = open_at(alloc, new_store(alloc)?, state_at(course, 0)?)?;
-    for (place, row) in TURNED[..2].iter().enumerate() {
+    for (place, row) in TURNED.iter().enumerate().take(2) {
         keeper = take(alloc, course, keeper, place, *row)?;
     }
     Ok(keeper.into_disk())
@@ -302,11 +304,12 @@ fn reply_among(alloc: Global, output: &Output, texts: &[&str]) -> Result<Option<
     Err(found("another reply than one of those that may come"))
 }
 
-/// The state of the manager, before or behind the start.
+/// Whether the state of the manager is that behind the start, or, where the children failed, that behind its end.
 fn has_started(alloc: Global, course: &Course, manager: &InMemory) -> Result<bool, Wrong> {
     let bytes = spell(alloc, manager.state())?;
-    match course.place(3, 4, bytes.as_slice()) {
-        Some(place) => Ok(place == 4),
+    let last = if manager.children().failures() == 0 { 4 } else { 5 };
+    match course.place(3, last, bytes.as_slice()) {
+        Some(place) => Ok(place >= 4),
         None => Err(found("a state that isn't that before or behind the start")),
     }
 }

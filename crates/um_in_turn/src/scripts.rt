@@ -2,10 +2,10 @@
 
 use crate::alone::spent;
 use crate::rows::{Row, input_of, inputs_of};
-use crate::stores::layout;
+use crate::stores::create_on;
 use crate::wrong::{Wrong, found};
 use std::alloc::Global;
-use um_keeper::{Keeper, Receipt, create};
+use um_keeper::{Keeper, Receipt};
 use um_sector::{Fuse, MemDisk};
 use um_wire::Refusal;
 
@@ -201,7 +201,7 @@ impl Script {
     /// The whole script over this disk.
     pub fn play(&self, alloc: Global, disk: Failing) -> Result<Outcome, Wrong> {
         let mut disk = disk;
-        match create(alloc, &mut disk, layout()?) {
+        match create_on(alloc, &mut disk) {
             Ok(()) => {}
             Err(Refusal::Device) => return Ok(Outcome::Creating(disk.into_inner())),
             Err(refusal) => return Err(Wrong::from(refusal)),

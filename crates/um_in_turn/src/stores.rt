@@ -23,10 +23,18 @@ pub fn blank(alloc: Global) -> Result<MemDisk, Wrong> {
     Ok(MemDisk::new(alloc, SECTORS)?)
 }
 
+/// Makes a new store on a disk that has room for it.
+pub fn create_on<D: Disk>(alloc: Global, disk: &mut D) -> Result<(), Refusal> {
+    match Layout::new(64, 512) {
+        Some(layout) if layout.sectors() <= disk.sectors() => create(alloc, disk, layout),
+        _ => Err(Refusal::BadRequest),
+    }
+}
+
 /// A disk that holds a new store.
 pub fn made(alloc: Global) -> Result<MemDisk, Wrong> {
     let mut disk = blank(alloc)?;
-    create(alloc, &mut disk, layout()?)?;
+    create_on(alloc, &mut disk)?;
     Ok(disk)
 }
 
