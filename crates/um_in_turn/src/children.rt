@@ -181,7 +181,7 @@ fn ordered(alloc: Global, calls: &[Call]) -> Result<Vec<Order>, Wrong> {
                 number: *number,
                 signal: Some(*signal),
             })?,
-            Call::Asked { .. } => {}
+            _ => {}
         }
     }
     Ok(orders)
