@@ -9,9 +9,11 @@
 # make serve-rows: plays the rows of a served store against the proved program, with real processes, sockets and files.
 # make ctl-rows: plays the rows of the command line against the proved program: create and ctl, their faults, statuses, help and what is printed.
 # make memory-rows: lets each single allocation of a manager in memory fail in turn, and asserts that nothing changes (it needs cc).
+# make in-turn: refuses everything that can be refused, one after another, and asserts what must hold each time (it needs cc; README.md has its
+# time). `tools/in-turn --wrong` plays wrong programs in the same way, each of which must fail.
 # make bench: measures the proved program, and the writing and reading of states (um_bench); the figures that a document calls
 # measured come from it. It ends with an error where a wanted ratio isn't met, that of queries while services run (docs/DECISIONS.md, "Serving").
-.PHONY: run umd unproved test edits bench runner-rows serve-rows ctl-rows memory-rows
+.PHONY: run umd unproved test edits bench runner-rows serve-rows ctl-rows memory-rows in-turn
 run:
 	@sh tools/show
 
@@ -56,3 +58,6 @@ ctl-rows: umd
 
 memory-rows:
 	@tools/memory-rows
+
+in-turn:
+	@tools/in-turn

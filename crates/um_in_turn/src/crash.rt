@@ -28,6 +28,8 @@ const MORE: &[Row] = &[
     (4_000_000, Coming::Long("lib/b.service", 1_700)),
     (4_000_001, Coming::Ended(4, 1)),
     (4_000_002, Coming::Long("lib/b.service", 1_000)),
+    (4_000_003, Coming::Long("lib/b.service", 1_600)),
+    (4_000_004, Coming::Long("lib/b.service", 900)),
 ];
 
 /// The automatic restart, records of one to four sectors, a checkpoint, and more records.
