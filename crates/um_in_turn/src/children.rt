@@ -51,7 +51,10 @@ pub const TORN: Life = Life {
     name: " of the torn start",
     rows: &[
         (0, Coming::Booted(BOOT)),
-        (0, Coming::Put("lib/a.service", "[Service]\nExecStart=/bin/sleep 9\n")),
+        (
+            0,
+            Coming::Put("lib/a.service", "[Service]\nExecStart=/bin/sleep 9\n"),
+        ),
         (0, Coming::Reload),
         STARTS,
     ],

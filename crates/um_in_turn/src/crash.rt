@@ -106,7 +106,11 @@ fn picks_but_one(
     let mut picks = Vec::new(alloc);
     for (place, (_, count)) in unsynced.iter().enumerate() {
         let is_newest = is_new != (place == other);
-        let pick = if is_newest { count.saturating_sub(1) } else { 0 };
+        let pick = if is_newest {
+            count.saturating_sub(1)
+        } else {
+            0
+        };
         picks.push(pick)?;
     }
     Ok(picks)
@@ -302,7 +306,11 @@ fn creation(
         _ => return Err(found("a creation whose call failed is done")),
     }
     let disk = disk.into_inner();
-    let stood = if disk.syncs() == 0 { Some(before) } else { None };
+    let stood = if disk.syncs() == 0 {
+        Some(before)
+    } else {
+        None
+    };
     is_created(alloc, oldest(alloc, &disk)?, stood, empty)?;
     is_created(alloc, newest(alloc, &disk)?, stood, empty)
 }

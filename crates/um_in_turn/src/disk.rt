@@ -32,7 +32,10 @@ pub fn restart(alloc: Global) -> Result<Script, Wrong> {
     let mut script = Script::new(alloc);
     script.each(RESTART)?;
     script.deed(Deed::Checkpoint)?;
-    script.each(&[(3_000_000, Coming::Ended(3, 0)), (3_000_001, Coming::Reload)])?;
+    script.each(&[
+        (3_000_000, Coming::Ended(3, 0)),
+        (3_000_001, Coming::Reload),
+    ])?;
     script.deed(Deed::Open)?;
     script.each(&[(3_000_002, Coming::Put("lib/b.service", AGAIN))])?;
     Ok(script)

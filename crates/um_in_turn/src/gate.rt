@@ -28,7 +28,10 @@ const COMMANDS: &[&str] = &[
 
 const ROWS: &[Row] = &[
     (0, Coming::Booted("one")),
-    (0, Coming::Put("lib/a.service", "[Service]\nExecStart=/bin/sleep 9\n")),
+    (
+        0,
+        Coming::Put("lib/a.service", "[Service]\nExecStart=/bin/sleep 9\n"),
+    ),
     (0, Coming::Reload),
     (0, Coming::Verb(UnitVerb::Start, "a.service")),
     (0, Coming::Verb(UnitVerb::Stop, "a.service")),
@@ -141,12 +144,7 @@ fn whole(alloc: Global, bytes: &[u8], texts: &[&str]) -> Result<usize, Wrong> {
 }
 
 /// What a client must have: all its replies, or, where its call failed, a beginning. Tells how many whole ones.
-fn has(
-    alloc: Global,
-    gate: &FaultyGate,
-    number: usize,
-    texts: &[&str],
-) -> Result<usize, Wrong> {
+fn has(alloc: Global, gate: &FaultyGate, number: usize, texts: &[&str]) -> Result<usize, Wrong> {
     let bytes = taken(alloc, gate.notes(), number)?;
     let count = whole(alloc, bytes.as_slice(), texts)?;
     if gate.hit() != Some(number) && count != texts.len() {

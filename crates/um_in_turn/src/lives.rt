@@ -307,7 +307,11 @@ fn reply_among(alloc: Global, output: &Output, texts: &[&str]) -> Result<Option<
 /// Whether the state of the manager is that behind the start, or, where the children failed, that behind its end.
 fn has_started(alloc: Global, course: &Course, manager: &InMemory) -> Result<bool, Wrong> {
     let bytes = spell(alloc, manager.state())?;
-    let last = if manager.children().failures() == 0 { 4 } else { 5 };
+    let last = if manager.children().failures() == 0 {
+        4
+    } else {
+        5
+    };
     match course.place(3, last, bytes.as_slice()) {
         Some(place) => Ok(place >= 4),
         None => Err(found("a state that isn't that before or behind the start")),
@@ -324,7 +328,12 @@ enum Turned {
 }
 
 /// The turn of two clients: one shows, the other one starts.
-fn both(alloc: Global, course: &Course, manager: &mut InMemory, first: usize) -> Result<Turned, Wrong> {
+fn both(
+    alloc: Global,
+    course: &Course,
+    manager: &mut InMemory,
+    first: usize,
+) -> Result<Turned, Wrong> {
     let second = first.saturating_add(1);
     let sent = pieces(alloc, &[(first, SHOW), (second, START)])?;
     let turned = manager.turn(moment(0)?, &sent);
@@ -349,7 +358,11 @@ fn both(alloc: Global, course: &Course, manager: &mut InMemory, first: usize) ->
         }
         Err(refusal) => return Err(Wrong::from(refusal)),
     }
-    let told = reply_among(alloc, &shown, &[if is_behind { RUNNING } else { DEAD }, WANTING])?;
+    let told = reply_among(
+        alloc,
+        &shown,
+        &[if is_behind { RUNNING } else { DEAD }, WANTING],
+    )?;
     let _may_fail = told;
     let is_done = match reply_among(alloc, &started, &[DONE, WANTING])? {
         Some(0) => true,
@@ -360,11 +373,20 @@ fn both(alloc: Global, course: &Course, manager: &mut InMemory, first: usize) ->
     if is_done != is_behind {
         return Err(found("the reply to the start isn't what the state tells"));
     }
-    Ok(if is_done { Turned::Done } else { Turned::Undone })
+    Ok(if is_done {
+        Turned::Done
+    } else {
+        Turned::Undone
+    })
 }
 
 /// The jobs are listed, or for want of memory aren't.
-fn lists(alloc: Global, course: &Course, manager: &mut InMemory, number: usize) -> Result<bool, Wrong> {
+fn lists(
+    alloc: Global,
+    course: &Course,
+    manager: &mut InMemory,
+    number: usize,
+) -> Result<bool, Wrong> {
     let sent = pieces(alloc, &[(number, JOBS)])?;
     let turned = manager.turn(moment(0)?, &sent);
     let listed = output(manager, number)?;

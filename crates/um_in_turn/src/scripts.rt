@@ -106,10 +106,7 @@ fn submit(alloc: Global, keeper: Keeper<Failing>, row: Row) -> Result<Gone, Wron
 }
 
 /// How many of the answers are receipts, and how many are E16.
-fn counted(
-    alloc: Global,
-    answers: Vec<Result<Receipt, Refusal>>,
-) -> Result<(usize, usize), Wrong> {
+fn counted(alloc: Global, answers: Vec<Result<Receipt, Refusal>>) -> Result<(usize, usize), Wrong> {
     let (mut done, mut faults): (usize, usize) = (0, 0);
     let mut rest = answers.into_iter();
     while let Some(answer) = rest.next() {

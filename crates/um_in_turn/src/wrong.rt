@@ -13,7 +13,9 @@ pub enum Wrong {
     NoMemory,
     /// A refusal where none may come.
     #[error("refused with {refusal}")]
-    Refused { refusal: Refusal },
+    Refused {
+        refusal: Refusal,
+    },
     /// Something else than what must be, in this case.
     #[error("{what}, at {number}{way}")]
     Found {
@@ -36,7 +38,11 @@ impl Wrong {
     /// The same, in this case.
     pub fn at(self, case: u64, how: &'static str) -> Wrong {
         match self {
-            Wrong::Found { what, number: 0, .. } => Wrong::Found {
+            Wrong::Found {
+                what,
+                number: 0,
+                ..
+            } => Wrong::Found {
                 what,
                 number: case,
                 way: how,
