@@ -59,30 +59,41 @@ module _ (layout : Layout) (generation number next : ℕ) (bytes : List ℕ) (la
           (goes_on (record { some = some; short = short; within = room; parts = λ part below. let low : part < length run = omega (arith, below, count) in all part low ∙ each part low })
           (stops (λ x. none_of last free_behind (suc number) (next + size) x (omega arith))))
 
-      -- where a sector of it is old, no record stands there
-      torn : (i : ℕ) → i < length run → image (next + i) ≡ old (next + i) → (image (next + 0) ≡ old (next + 0)) ⊎ (image (next + 0) ≡ slice_index_or run 0 [])
-          → (x : List ℕ) → IsRecord layout generation image number next x → ⊥
-      torn i below kept zero_is x is = ⊎_elim {C = ⊥} (λ old_one. old_of 0 old_one (omega (arith, is.some))) (λ new. old_of i kept (omega (arith, below, count, same_size new))) zero_is
-        where
-          old_of : (k : ℕ) → image (next + k) ≡ old (next + k) → k < part_count (length x) → ⊥
-          old_of k as_before low =
-              let within = is.within in
-              let smaller : generation < generation = end.free generation (next + k) (omega arith) (omega (arith, low, within))
-              (subst (IsOf generation) (sym (is.parts k low) ∙ as_before) (is_of generation number k (length x) (part_of x k) last)) in
-              omega (arith, smaller)
+    -- where a sector of it is old, no record stands there
+    torn : (image : Image) (i : ℕ) → i < length run → image (next + i) ≡ old (next + i) → (image (next + 0) ≡ old (next + 0)) ⊎ (image (next + 0) ≡ slice_index_or run 0 [])
+        → (x : List ℕ) → IsRecord layout generation image number next x → ⊥
+    torn image i below kept zero_is x is = ⊎_elim {C = ⊥} (λ old_one. old_of 0 old_one (omega (arith, is.some))) (λ new. old_of i kept (omega (arith, below, count, same_size new))) zero_is
+      where
+        old_of : (k : ℕ) → image (next + k) ≡ old (next + k) → k < part_count (length x) → ⊥
+        old_of k as_before low =
+            let within = is.within in
+            let smaller : generation < generation = end.free generation (next + k) (omega arith) (omega (arith, low, within))
+            (subst (IsOf generation) (sym (is.parts k low) ∙ as_before) (is_of generation number k (length x) (part_of x k) last)) in
+            omega (arith, smaller)
 
-          same_size : image (next + 0) ≡ slice_index_or run 0 [] → length x ≡ length bytes
-          same_size new =
-              let here : next ≡ next + 0 = omega arith in
-              let sector : image next ≡ log_sector generation number 0 (length bytes) (part_of bytes 0) = ap image here ∙ new ∙ each 0 (omega (arith, below)) in
-              sym (record_size is) ∙ ap (λ (s : Sector). big_number 4 (drop 28 s)) sector ∙ log_size generation number 0 (length bytes) (part_of bytes 0) (omega (arith, short))
+        same_size : image (next + 0) ≡ slice_index_or run 0 [] → length x ≡ length bytes
+        same_size new =
+            let here : next ≡ next + 0 = omega arith in
+            let sector : image next ≡ log_sector generation number 0 (length bytes) (part_of bytes 0) = ap image here ∙ new ∙ each 0 (omega (arith, below)) in
+            sym (record_size is) ∙ ap (λ (s : Sector). big_number 4 (drop 28 s)) sector ∙ log_size generation number 0 (length bytes) (part_of bytes 0) (omega (arith, short))
+
+    -- the reading then ends with the records before it, whatever stands behind it
+    pub ends : (image other : Image) → MaybeLaid old next run image → (i : ℕ) → i < length run → image (next + i) ≡ old (next + i)
+        → ((j : ℕ) → log_start layout generation ≤ j → j < next + size → other j ≡ image j) → HasRecords layout generation other records
+    ends image other maybe i below kept same =
+        let here : (k : ℕ) → k < length run → other (next + k) ≡ image (next + k) = λ k low. same (next + k) (omega (arith, end.place)) (omega (arith, low, count)) in
+        let first : 0 < length run = omega (arith, count, some) in
+        let place = end.place in
+        subst (HasRecords layout generation other) (append-nil records)
+        (records_front 0 (log_start layout generation) records [] number next are (λ j low high. same j low (omega (arith, high, place)) ∙ maybe.outside j (inl (omega (arith, high, place)))) (omega (arith, end.count)) end.place
+        (stops (torn other i below (here i below ∙ kept) (⊎_elim (λ o. inl (here 0 first ∙ o)) (λ n. inr (here 0 first ∙ n)) (maybe.inside 0 first)))))
 
     -- While the record is written, it is there or it isn't.
     pub maybe_appended : (image : Image) → MaybeLaid old next run image → HasRecords layout generation image records ⊎ HasRecords layout generation image (records ++ bytes ∷ [])
     maybe_appended image maybe = ⊎_elim
         (λ all. inr (whole image maybe.outside all))
         (λ found. inl (subst (HasRecords layout generation image) (append-nil records)
-        (with_more image maybe.outside [] (stops (torn image maybe.outside found.0 found.1 found.2 (maybe.inside 0 (omega (arith, count, some))))))))
+        (with_more image maybe.outside [] (stops (torn image found.0 found.1 found.2 (maybe.inside 0 (omega (arith, count, some))))))))
         (all_or_one (length run) (λ i. image (next + i) ≡ slice_index_or run i []) (λ i. image (next + i) ≡ old (next + i)) (λ i below. ⊎_elim (λ o. inr o) (λ n. inl n) (maybe.inside i below)))
 
     -- Afterwards it is there, and the log goes on behind it.
@@ -97,41 +108,45 @@ module _ (layout : Layout) (generation number next : ℕ) (bytes : List ℕ) (la
       free = free_behind image laid.outside;
     }
 
-    -- no sector of the log is of a later generation
-    none_later : (image : Image) → MaybeLaid old next run image → IsFree layout (generation + 1) old (log_start layout (generation + 1)) → IsFree layout (generation + 1) image (log_start layout (generation + 1))
-    none_later image maybe before theirs j low high is = ⊎_elim
-        (λ under. before theirs j low high (subst (IsOf theirs) (maybe.outside j (inl under)) is))
-        (λ over. ⊎_elim
-        (λ inside. in_run (j - next) (omega (arith, inside, over)) (omega (arith, over)))
-        (λ behind_it. before theirs j low high (subst (IsOf theirs) (maybe.outside j (inr behind_it)) is))
-        (cases_lt j (next + length run)))
-        (cases_lt j next)
-      where
-        in_run : (i : ℕ) → i < length run → j ≡ next + i → theirs < generation + 1
-        in_run i below place = ⊎_elim
-            (λ old_one. before theirs j low high (subst (IsOf theirs) (ap image place ∙ old_one ∙ sym (ap old place)) is))
-            (λ new. let says = (subst (IsOf theirs) (ap image place ∙ new ∙ each i below) is).generation_is in
-            let ours : theirs ≡ generation = sym says ∙ log_generation generation number i (length bytes) (part_of bytes i) last in omega (arith, ours))
-            (maybe.inside i below)
+  -- no sector of the log is of a later generation
+  none_later : (old image : Image) → MaybeLaid old next run image → IsFree layout (generation + 1) old (log_start layout (generation + 1)) → IsFree layout (generation + 1) image (log_start layout (generation + 1))
+  none_later old image maybe before theirs j low high is = ⊎_elim
+      (λ under. before theirs j low high (subst (IsOf theirs) (maybe.outside j (inl under)) is))
+      (λ over. ⊎_elim
+      (λ inside. in_run (j - next) (omega (arith, inside, over)) (omega (arith, over)))
+      (λ behind_it. before theirs j low high (subst (IsOf theirs) (maybe.outside j (inr behind_it)) is))
+      (cases_lt j (next + length run)))
+      (cases_lt j next)
+    where
+      in_run : (i : ℕ) → i < length run → j ≡ next + i → theirs < generation + 1
+      in_run i below place = ⊎_elim
+          (λ old_one. before theirs j low high (subst (IsOf theirs) (ap image place ∙ old_one ∙ sym (ap old place)) is))
+          (λ new. let says = (subst (IsOf theirs) (ap image place ∙ new ∙ each i below) is).generation_is in
+          let ours : theirs ≡ generation = sym says ∙ log_generation generation number i (length bytes) (part_of bytes i) last in omega (arith, ours))
+          (maybe.inside i below)
 
   -- ---- the whole store meanwhile
 
+  -- the store with these records
+  pub with_records : (old : Image) (slot : Slot) (body : List ℕ) (records : List (List ℕ)) → IsStore layout old slot generation body records → log_start layout generation ≤ next
+      → (image : Image) (all : List (List ℕ)) → MaybeLaid old next run image → HasRecords layout generation image all → IsStore layout image slot generation body all
+  with_records old slot body records store low image all maybe are = record {
+    first = maybe.outside 0 (inl (omega (arith, low))) ∙ store.first;
+    newest = unread_newest layout old image (λ j read. maybe.outside j (inl (let under = read_below layout generation old j read in omega (arith, under, low)))) store.newest;
+    records_are = are;
+    none_later = none_later old image maybe store.none_later;
+  }
+
   module _ (old : Image) (slot : Slot) (body : List ℕ) (records : List (List ℕ)) (store : IsStore layout old slot generation body records) (end : IsLogEnd layout generation old records number next) where
-    -- the store with these records
-    with_records : (image : Image) (all : List (List ℕ)) → MaybeLaid old next run image → HasRecords layout generation image all → IsStore layout image slot generation body all
-    with_records image all maybe are = record {
-      first = maybe.outside 0 (inl (omega (arith, end.place))) ∙ store.first;
-      newest = unread_newest layout old image (λ j read. maybe.outside j (inl (let low = read_below layout generation old j read in omega (arith, low, end.place)))) store.newest;
-      records_are = are;
-      none_later = none_later old records end store.records_are image maybe store.none_later;
-    }
+    low : log_start layout generation ≤ next
+    low = omega (arith, end.place)
 
     pub either_record : (image : Image) → MaybeLaid old next run image → EitherRecord layout slot generation body records bytes image
-    either_record image maybe = ⊎_elim (λ are. inl (with_records image records maybe are)) (λ are. inr (with_records image (records ++ bytes ∷ []) maybe are))
+    either_record image maybe = ⊎_elim (λ are. inl (with_records old slot body records store low image records maybe are)) (λ are. inr (with_records old slot body records store low image (records ++ bytes ∷ []) maybe are))
         (maybe_appended old records end store.records_are image maybe)
 
     pub record_store : (image : Image) → IsLaid old next run image → IsStore layout image slot generation body (records ++ bytes ∷ [])
-    record_store image laid = with_records image (records ++ bytes ∷ []) (laid_maybe old next run image laid) (appended old records end store.records_are image laid)
+    record_store image laid = with_records old slot body records store low image (records ++ bytes ∷ []) (laid_maybe old next run image laid) (appended old records end store.records_are image laid)
 
   -- ---- the same of whole runs of calls
 

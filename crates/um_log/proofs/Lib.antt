@@ -1,2 +1,3 @@
 mod Scanning
 pub mod Appending
+pub mod Behind

@@ -1,3 +1,4 @@
 pub mod Reading
 pub mod Greatest
 pub mod Appending
+pub mod Ahead

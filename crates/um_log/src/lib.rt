@@ -2,6 +2,7 @@
 //! reads them again up to the first that isn't whole.
 #![tactic(auto)]
 
+mod ahead;
 mod greatest;
 mod laws;
 mod read;

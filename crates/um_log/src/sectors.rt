@@ -3,6 +3,7 @@ ghost use Rattle.um_model.specs.Disk.{seen, During, IsSettled};
 ghost use Rattle.um_model.specs.Store as store;
 ghost use Rattle.um_model.specs.Store.{part_count};
 ghost use Rattle.um_sector.specs.Runs.{CountsFailure, IsLaid, AfterRun};
+ghost use Rattle.um_sector.specs.Unsynced.{sync_count};
 ghost use Rattle.um_log.specs.Appending.{record_run};
 
 use um_sector::{Disk, Fault, Fields, Sector, next_chunk};
@@ -52,7 +53,7 @@ pub fn payload(sector: &Sector, left: u32) -> &[u8]
 /// Writes the sectors of a record one behind the other, from sector `at` on.
 ///
 /// Each image that a crash leaves during it is one of before, with any of these sectors in their places.
-fn write_record<D: Disk>(
+pub fn write_record<D: Disk>(
     disk: &mut D,
     at: usize,
     generation: u64,
@@ -64,6 +65,7 @@ fn write_record<D: Disk>(
     ensures during { IsTrue (D.honest disk.old) → During (D.past disk.old) (D.past disk.new) (AfterRun (D.past disk.old) at (record_run generation number bytes.now)) }
     ensures ok { OnOk result (IsTrue (D.honest disk.old) → IsLaid (seen (D.past disk.old)) at (record_run generation number bytes.now) (seen (D.past disk.new))) }
     ensures calls { D.calls disk.new ≤ D.calls disk.old + part_count (length bytes.now) }
+    ensures syncs { IsTrue (D.honest disk.old) → sync_count (D.past disk.new) ≡ sync_count (D.past disk.old) }
     ensures failures { CountsFailure result (D.failures disk.old) (D.failures disk.new) }
     ensures size { D.size disk.new ≡ D.size disk.old }
     ensures honest { D.honest disk.new ≡ D.honest disk.old }

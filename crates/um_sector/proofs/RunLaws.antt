@@ -1,11 +1,13 @@
 -- How the writing of a run goes on: each write and sync keeps what was shown of the run so far.
-use Rattle.std.specs.Prelude.{◌≡◌, ◌≢◌, ◌⊎◌, ◌+◌, ◌<◌, ◌≤◌, ℕ, zero, suc, List, [], length, take, Result, refl}
-use Rattle.std.proofs.Common.{get_or, length-take, sym, ◌∙◌, ap, subst, inl, inr, ⊎_elim, arith, add-one}
+use Rattle.std.specs.Prelude.{◌≡◌, ◌≢◌, ◌⊎◌, ◌+◌, ◌<◌, ◌≤◌, ℕ, zero, suc, List, [], length, take, Result, Ok, Err, refl}
+use Rattle.std.proofs.Common.{cond, get_or, length-take, sym, ◌∙◌, ap, subst, inl, inr, ⊎_elim, arith, add-one}
 use Rattle.std.proofs.lemmas.Bool.{cases_eq}
 use Rattle.std.proofs.lemmas.List.{get_or-take}
-use Rattle.um_model.specs.Disk.{Sector, Image, with_sector, Past, seen, IsImage, Wrote, Synced, During, IsSettled, one_more}
+use Rattle.um_model.specs.Disk.{Sector, Image, with_sector, Past, seen, IsImage, after, synced, Wrote, Synced, During, IsSettled, one_more}
 use Rattle.um_model.proofs.DiskLaws.{with_same, with_other, started, followed, weaker, at_end, during_write, during_sync}
 use Rattle.um_sector.specs.Runs.{IsLaid, MaybeLaid, AfterRun, more}
+use Rattle.std.proofs.lemmas.List.Sums.{sum_by-cons}
+use Rattle.um_sector.specs.Unsynced.{is_sync, sync_count}
 
 -- a run of which nothing was written yet
 pub laid_start : (d : Image) (at : ℕ) → IsLaid d at [] d
@@ -76,3 +78,13 @@ more-le count (suc n) = omega (arith, more-le count n)
 -- one call more
 pub more-add_one : (count n : ℕ) → more count (n + 1) ≡ one_more (more count n)
 more-add_one count n = ap (more count) (add-one n)
+
+-- a write, whatever it answers, is no sync
+pub wrote_syncs : {T E : Type 0} (result : Result T E) (past : Past) (k : ℕ) (v : Sector) (new : Past) → Wrote result past k v new → sync_count new ≡ sync_count past
+wrote_syncs (Ok x) past k v new is = ap sync_count is
+wrote_syncs (Err e) past k v new (inl same) = ap sync_count same
+wrote_syncs (Err e) past k v new (inr maybe) = ap sync_count maybe.is
+
+-- a sync that answers Ok is one more
+pub synced_syncs : (past new : Past) → new ≡ after synced past → sync_count new ≡ sync_count past + 1
+synced_syncs past new is = let one : sync_count (after synced past) ≡ 1 + sync_count past = sum_by-cons (λ call. cond (is_sync call) 1 0) synced past.calls in ap sync_count is ∙ omega (arith, one)

@@ -2,6 +2,7 @@ ghost use Rattle.std.specs.Prelude.{◌≡◌, ◌+◌, ◌<◌, ◌≤◌, leng
 ghost use Rattle.um_sector.specs.Noted.{blank};
 ghost use Rattle.um_model.specs.Disk.{seen, During, IsSettled};
 ghost use Rattle.um_sector.specs.Runs.{more, CountsFailure, IsLaid, MaybeLaid, AfterRun};
+ghost use Rattle.um_sector.specs.Unsynced.{sync_count};
 
 use crate::disk::{Disk, Sector};
 use crate::fault::Fault;
@@ -16,6 +17,7 @@ pub fn write_run<D: Disk>(disk: &mut D, at: usize, run: &[Sector]) -> Result<(),
     ensures ok { OnOk result (IsTrue (D.honest disk.old) → IsLaid (seen (D.past disk.old)) at run.now (seen (D.past disk.new))) }
     ensures calls { D.calls disk.new ≤ D.calls disk.old + length run.now }
     ensures all_calls { OnOk result (D.calls disk.new ≡ more (D.calls disk.old) (length run.now)) }
+    ensures syncs { IsTrue (D.honest disk.old) → sync_count (D.past disk.new) ≡ sync_count (D.past disk.old) }
     ensures failures { CountsFailure result (D.failures disk.old) (D.failures disk.new) }
     ensures size { D.size disk.new ≡ D.size disk.old }
     ensures honest { D.honest disk.new ≡ D.honest disk.old }

@@ -10,3 +10,4 @@ pub mod MarkedLaws
 pub mod OutcomeLaws
 pub mod PlanLaws
 pub mod TreeLaws
+pub mod TestedLaws

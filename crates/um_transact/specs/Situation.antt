@@ -1,7 +1,8 @@
 -- What is demanded as the rows of a graph say it, over the numbers of units.
 -- Follows the definitions of demands: it says them by numbers.
 -- The search for what is demanded stands on this file.
-use Rattle.std.specs.Prelude.{◌≡◌, ◌⊎◌, ℕ, ◌<◌, ◌||◌, ◌&&◌, Bool, true, false, not, List, Contains, is_some, slice_index_or}
+use Rattle.std.specs.Bool.{Decides}
+use Rattle.std.specs.Prelude.{◌≡◌, ◌⊎◌, ℕ, ◌<◌, ◌||◌, ◌&&◌, Bool, true, false, not, List, Contains, Option, None, Some, is_some, length, slice_index_or}
 use Rattle.um_model.specs.Demands.{IsStarting}
 use Rattle.um_model.specs.Dependencies.{loadable_of}
 use Rattle.um_model.specs.Reached.{Reached}
@@ -39,6 +40,15 @@ IsRequiredBy g activity root = Reached (λ p. p ≡ root) (LeadsBy g activity)
 pub record IsStartableBy (g : GraphView) (activity : List ActiveState) (w : ℕ) : Type 0 where
   pub loadable : (y : ℕ) → IsRequiredBy g activity (Start, w) (Start, y) → is_loadable_at g y ≡ true
   pub apart : (y : ℕ) → IsRequiredBy g activity (Start, w) (Start, y) → ¬ IsRequiredBy g activity (Start, w) (Stop, y)
+
+-- what was tested of a unit: whether it can be started along, or nothing yet
+abbrev pub tested_at : List (Option Bool) → ℕ → Option Bool
+tested_at tested u = slice_index_or tested u None
+
+-- each unit has its place, and what was tested of it is so
+pub record AreTested (g : GraphView) (activity : List ActiveState) (tested : List (Option Bool)) : Type 0 where
+  pub long : length tested ≡ length g.names
+  pub told : (u : ℕ) (b : Bool) → tested_at tested u ≡ Some b → Decides b (IsStartableBy g activity u)
 
 -- a unit that is started or restarted wants a neighbour, which can be started along
 pub record WantsBy (g : GraphView) (activity : List ActiveState) (p q : Demanded) : Type 0 where

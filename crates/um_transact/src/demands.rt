@@ -1,13 +1,13 @@
 //! What a demand on a unit brings with it (systemd.unit(5), "Requires=", "BindsTo=", "PartOf=", "Conflicts=", "Wants=").
 
 ghost use Rattle.std.specs.Bool.{Decides};
-ghost use Rattle.std.specs.Prelude.{◌≡◌, ◌<◌, ◌++◌, ◌↔◌, true, Contains, IfOk, OnOk, length, vec_len, is_some};
+ghost use Rattle.std.specs.Prelude.{◌≡◌, ◌<◌, ◌++◌, ◌↔◌, true, Contains, None, IfOk, OnOk, length, replicate, vec_len, is_some};
 ghost use Rattle.um_graph.specs.Graph.{IsGraph, row_of};
 ghost use Rattle.um_graph.specs.Kinds.{has, bit_of};
 ghost use Rattle.um_model.specs.Dependencies.{loadable_of};
 ghost use Rattle.um_model.specs.Jobs as jobs;
 ghost use Rattle.um_model.specs.declared.dependencies.DependencyKind.TheVariants.{Wants};
-ghost use Rattle.um_transact.specs.Situation.{AddsWanted, AreFine, IsDemandedBy, IsRequiredBy, IsStartableBy, LeadsAlongBy, is_fine_at, is_loadable_at, is_starting};
+ghost use Rattle.um_transact.specs.Situation.{AddsWanted, AreFine, AreTested, IsDemandedBy, IsRequiredBy, IsStartableBy, LeadsAlongBy, is_fine_at, is_loadable_at, is_starting, tested_at};
 ghost use Rattle.um_transact.specs.Walk as walks;
 ghost use Rattle.um_transact.specs.Walk.{Demanded, IsMarked, activity_at, brought_by, marks_at, one_if};
 ghost use Rattle.um_unit.specs.View.{loading_of};
@@ -191,22 +191,54 @@ fn is_startable(
     Ok(are_fine(graph, &marks))
 }
 
+/// What was tested of the unit with this number.
+fn tested_at(tested: &[Option<bool>], unit: usize) -> Option<bool>
+    ensures { result ≡ tested_at tested.now unit }
+{
+    tested.get(unit).copied().unwrap_or(None)
+}
+
+/// Whether the unit can be started along. It is tested once, however many units want it.
+fn can_start(
+    alloc: Global,
+    tested: &mut Vec<Option<bool>>,
+    graph: &Graph,
+    activity: &[ActiveState],
+    unit: usize,
+) -> Result<bool, AllocError>
+    requires graph { IsGraph graph.now }
+    requires unit { unit < length graph.now.names }
+    requires tested { AreTested graph.now activity.now tested.old.items }
+    ensures answer { IfOk result (λ b. Decides b (IsStartableBy graph.now activity.now unit)) }
+    ensures tested { AreTested graph.now activity.now tested.new.items }
+{
+    if let Some(known) = tested_at(tested, unit) {
+        return Ok(known);
+    }
+    let startable = is_startable(alloc, graph, activity, unit)?;
+    tested[unit] = Some(startable);
+    Ok(startable)
+}
+
 /// Adds the start of the neighbour, where it is wanted and can be started along.
 fn push_wanted(
     alloc: Global,
     found: &mut Vec<(Demand, usize)>,
+    tested: &mut Vec<Option<bool>>,
     graph: &Graph,
     activity: &[ActiveState],
     neighbour: Neighbour,
 ) -> Result<(), AllocError>
     requires graph { IsGraph graph.now }
     requires within { neighbour.unit < length graph.now.names }
-    ensures { OnOk result (AddsWanted graph.now activity.now neighbour found.old.items found.new.items) }
+    requires tested { AreTested graph.now activity.now tested.old.items }
+    ensures adds { OnOk result (AddsWanted graph.now activity.now neighbour found.old.items found.new.items) }
+    ensures tested { AreTested graph.now activity.now tested.new.items }
 {
     if !neighbour.kinds.has(DependencyKind::Wants) {
         return Ok(());
     }
-    if !is_startable(alloc, graph, activity, neighbour.unit)? {
+    if !can_start(alloc, tested, graph, activity, neighbour.unit)? {
         return Ok(());
     }
     found.push((Demand::Start, neighbour.unit))?;
@@ -222,21 +254,31 @@ fn is_starting(demand: Demand) -> bool
 /// What a demand on a unit brings, and the starts of what it wants along.
 fn brought_along(
     alloc: Global,
+    tested: &mut Vec<Option<bool>>,
     graph: &Graph,
     activity: &[ActiveState],
     demand: (Demand, usize),
 ) -> Result<Vec<(Demand, usize)>, AllocError>
     requires graph { IsGraph graph.now }
-    ensures { IfOk result (λ found. (q : Demanded) → Contains found.items q ↔ LeadsAlongBy graph.now activity.now demand q) }
+    requires tested { AreTested graph.now activity.now tested.old.items }
+    ensures tested { AreTested graph.now activity.now tested.new.items }
+    ensures found { IfOk result (λ found. (q : Demanded) → Contains found.items q ↔ LeadsAlongBy graph.now activity.now demand q) }
 {
     let mut found = brought(alloc, graph, activity, demand)?;
     if !is_starting(demand.0) {
         return Ok(found);
     }
     for neighbour in graph.neighbours(demand.1) {
-        push_wanted(alloc, &mut found, graph, activity, *neighbour)?;
+        push_wanted(alloc, &mut found, tested, graph, activity, *neighbour)?;
     }
     Ok(found)
+}
+
+/// Nothing was tested yet, of so many units.
+fn untested(alloc: Global, units: usize) -> Result<Vec<Option<bool>>, AllocError>
+    ensures { IfOk result (λ tested. tested.items ≡ replicate units None) }
+{
+    vec![in alloc; None; units]
 }
 
 /// Marks each demand that the demand on the unit brings with it.
@@ -251,10 +293,11 @@ pub fn demanded(
     ensures long { IfOk result (λ marks. vec_len marks ≡ length graph.now.names) }
     ensures marks { IfOk result (λ marks. (q : Demanded) → IsMarked marks.items q ↔ IsDemandedBy graph.now activity.now root q) }
 {
+    let mut tested = untested(alloc, graph.len())?;
     let mut walk = Walk::new(alloc, graph.len())?;
     walk.meet(root)?;
     while let Some(demand) = walk.list.pop() {
-        let found = brought_along(alloc, graph, activity, demand)?;
+        let found = brought_along(alloc, &mut tested, graph, activity, demand)?;
         walk.meet_all(&found)?;
     }
     Ok(walk.marks)

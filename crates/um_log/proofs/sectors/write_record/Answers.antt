@@ -3,7 +3,7 @@ use Rattle.std.proofs.lemmas.List.{drop-drop}
 use Rattle.um_model.specs.Disk.{Sector, seen}
 use Rattle.um_model.specs.Store.{log_sector, part_count, part_of}
 use Rattle.um_sector.specs.Runs.{IsLaid}
-use Rattle.um_sector.proofs.RunLaws.{laid_start, laid_write, run_start, run_step}
+use Rattle.um_sector.proofs.RunLaws.{laid_start, laid_write, run_start, run_step, wrote_syncs}
 use Rattle.um_log.specs.Appending.{record_run}
 use Rattle.um_log.proofs.Appending.{record_count, record_each}
 use Rattle.um_log.proofs.sectors.write_record.Goals as goal
@@ -28,6 +28,7 @@ loop-part-init g c =
       during = λ h. run_start past c.args.at (record_run c.args.generation c.args.number c.args.bytes.now);
       laid = λ h. laid_start (seen past) c.args.at;
       calls = omega arith;
+      syncs = λ h. refl;
       failures = refl;
       size = refl;
       honest = refl;
@@ -57,6 +58,7 @@ loop-part-preserved g c =
       laid = λ h. subst (λ p. IsLaid (seen (g.D.Disk.past c.args.disk.now)) c.args.at (take (part + 1) run) (seen p)) (sym (c.in_ok-write.ensures.past (c.loop-part.invariant.honest ∙ h)))
           (laid_write (seen (g.D.Disk.past c.args.disk.now)) c.args.at run (seen (g.D.Disk.past c.loop-part.disk)) part c.log_sector-sector.result below is (c.loop-part.invariant.laid h));
       calls = omega (arith, c.write.ensures.calls, c.loop-part.invariant.calls);
+      syncs = λ h. wrote_syncs c.write.result (g.D.Disk.past c.loop-part.disk) _ _ (g.D.Disk.past c.write.new.self) (c.write.ensures.past (c.loop-part.invariant.honest ∙ h)) ∙ c.loop-part.invariant.syncs h;
       failures = c.in_ok-write.ensures.failures ∙ c.loop-part.invariant.failures;
       size = c.write.ensures.size ∙ c.loop-part.invariant.size;
       honest = c.write.ensures.honest ∙ c.loop-part.invariant.honest;
@@ -67,3 +69,7 @@ returns-clause-ok g c h =
     let run = record_run c.args.generation c.args.number c.args.bytes.now in
     subst (λ r. IsLaid (seen (g.D.Disk.past c.args.disk.now)) c.args.at r (seen (g.D.Disk.past c.loop-part.disk)))
     (take_all c.loop-part.part run (omega (arith, record_count c.args.generation c.args.number c.args.bytes.now, c.loop-part-test.false, c.div_ceil-part-end.ensures))) (c.loop-part.invariant.laid h)
+
+pub returns-in_err-write-clause-syncs : goal.returns-in_err-write-clause-syncs
+returns-in_err-write-clause-syncs g c h =
+    wrote_syncs c.write.result (g.D.Disk.past c.loop-part.disk) _ _ (g.D.Disk.past c.write.new.self) (c.write.ensures.past (c.loop-part.invariant.honest ∙ h)) ∙ c.loop-part.invariant.syncs h

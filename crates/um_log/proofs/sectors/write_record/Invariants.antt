@@ -1,6 +1,7 @@
 use Rattle.std.specs.Prelude.{◌≡◌, ◌+◌, ◌*◌, ◌≤◌, take, drop, IsTrue}
 use Rattle.um_model.specs.Disk.{seen, During}
 use Rattle.um_sector.specs.Runs.{IsLaid, AfterRun}
+use Rattle.um_sector.specs.Unsynced.{sync_count}
 use Rattle.um_log.specs.Appending.{record_run}
 use Rattle.um_log.proofs.sectors.write_record.Given as goal
 
@@ -13,6 +14,7 @@ invariant-loop-part g l =
       during : IsTrue (g.D.Disk.honest l.fn.disk) → During (past l.fn.disk) (past l.disk) (AfterRun (past l.fn.disk) l.at run);
       laid : IsTrue (g.D.Disk.honest l.fn.disk) → IsLaid (seen (past l.fn.disk)) l.at (take l.part run) (seen (past l.disk));
       calls : g.D.Disk.calls l.disk ≤ g.D.Disk.calls l.fn.disk + l.part;
+      syncs : IsTrue (g.D.Disk.honest l.fn.disk) → sync_count (past l.disk) ≡ sync_count (past l.fn.disk);
       failures : g.D.Disk.failures l.disk ≡ g.D.Disk.failures l.fn.disk;
       size : g.D.Disk.size l.disk ≡ g.D.Disk.size l.fn.disk;
       honest : g.D.Disk.honest l.disk ≡ g.D.Disk.honest l.fn.disk;

@@ -2,7 +2,7 @@ use Rattle.std.proofs.Common.{◌+◌, refl, sym, ◌∙◌, ap, subst, take, ar
 use Rattle.um_model.specs.Disk.{seen}
 use Rattle.um_sector.specs.Runs.{IsLaid}
 use Rattle.um_model.specs.Disk.{one_more}
-use Rattle.um_sector.proofs.RunLaws.{laid_start, laid_write, run_start, run_step, more-add_one, more-le}
+use Rattle.um_sector.proofs.RunLaws.{laid_start, laid_write, run_start, run_step, more-add_one, more-le, wrote_syncs}
 use Rattle.um_sector.proofs.run.write_run.Goals as goal
 
 pub loop-i-init : goal.loop-i-init
@@ -12,6 +12,7 @@ loop-i-init g c =
       during = λ h. run_start past c.args.at c.args.run.now;
       laid = λ h. laid_start (seen past) c.args.at;
       calls = refl;
+      syncs = λ h. refl;
       failures = refl;
       size = refl;
       honest = refl;
@@ -29,6 +30,7 @@ loop-i-preserved g c = record {
   laid = λ h. subst (λ p. IsLaid (seen (g.D.Disk.past c.args.disk.now)) c.args.at (take (c.loop-i.i + 1) c.args.run.now) (seen p)) (sym (c.in_ok-write.ensures.past (c.loop-i.invariant.honest ∙ h)))
       (laid_write (seen (g.D.Disk.past c.args.disk.now)) c.args.at c.args.run.now (seen (g.D.Disk.past c.loop-i.disk)) c.loop-i.i _ c.loop-i-test.true refl (c.loop-i.invariant.laid h));
   calls = c.write.ensures.calls ∙ ap one_more c.loop-i.invariant.calls ∙ sym (more-add_one (g.D.Disk.calls c.args.disk.now) c.loop-i.i);
+  syncs = λ h. wrote_syncs c.write.result (g.D.Disk.past c.loop-i.disk) _ _ (g.D.Disk.past c.write.new.self) (c.write.ensures.past (c.loop-i.invariant.honest ∙ h)) ∙ c.loop-i.invariant.syncs h;
   failures = c.in_ok-write.ensures.failures ∙ c.loop-i.invariant.failures;
   size = c.write.ensures.size ∙ c.loop-i.invariant.size;
   honest = c.write.ensures.honest ∙ c.loop-i.invariant.honest;
@@ -41,3 +43,7 @@ returns-in_err-write-clause-calls g c =
 pub returns-clause-calls : goal.returns-clause-calls
 returns-clause-calls g c =
     omega (arith, c.loop-i.invariant.calls, more-le (g.D.Disk.calls c.args.disk.now) c.loop-i.i, c.loop-i.auto.i-end)
+
+pub returns-in_err-write-clause-syncs : goal.returns-in_err-write-clause-syncs
+returns-in_err-write-clause-syncs g c h =
+    wrote_syncs c.write.result (g.D.Disk.past c.loop-i.disk) _ _ (g.D.Disk.past c.write.new.self) (c.write.ensures.past (c.loop-i.invariant.honest ∙ h)) ∙ c.loop-i.invariant.syncs h

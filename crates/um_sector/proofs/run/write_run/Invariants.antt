@@ -2,6 +2,7 @@ use Rattle.std.proofs.Common.{◌≡◌, take}
 use Rattle.std.specs.Prelude.{IsTrue}
 use Rattle.um_model.specs.Disk.{seen, During}
 use Rattle.um_sector.specs.Runs.{IsLaid, AfterRun, more}
+use Rattle.um_sector.specs.Unsynced.{sync_count}
 use Rattle.um_sector.proofs.run.write_run.Given as goal
 
 abbrev pub invariant-loop-i : goal.invariant-loop-i
@@ -11,6 +12,7 @@ invariant-loop-i g l =
       during : IsTrue (g.D.Disk.honest l.fn.disk) → During (past l.fn.disk) (past l.disk) (AfterRun (past l.fn.disk) l.at l.run);
       laid : IsTrue (g.D.Disk.honest l.fn.disk) → IsLaid (seen (past l.fn.disk)) l.at (take l.i l.run) (seen (past l.disk));
       calls : g.D.Disk.calls l.disk ≡ more (g.D.Disk.calls l.fn.disk) l.i;
+      syncs : IsTrue (g.D.Disk.honest l.fn.disk) → sync_count (past l.disk) ≡ sync_count (past l.fn.disk);
       failures : g.D.Disk.failures l.disk ≡ g.D.Disk.failures l.fn.disk;
       size : g.D.Disk.size l.disk ≡ g.D.Disk.size l.fn.disk;
       honest : g.D.Disk.honest l.disk ≡ g.D.Disk.honest l.fn.disk;
