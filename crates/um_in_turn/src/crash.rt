@@ -77,7 +77,7 @@ pub struct Crashes<'a> {
 }
 
 /// The next combination of picks, of which each sector has so many; the first one behind the last.
-fn turn(picks: &mut [usize], unsynced: &[(usize, usize)]) {
+pub fn turn(picks: &mut [usize], unsynced: &[(usize, usize)]) {
     for (pick, (_, count)) in picks.iter_mut().zip(unsynced) {
         if pick.saturating_add(1) < *count {
             *pick = pick.saturating_add(1);
@@ -88,7 +88,7 @@ fn turn(picks: &mut [usize], unsynced: &[(usize, usize)]) {
 }
 
 /// How many combinations there are.
-fn combinations(unsynced: &[(usize, usize)]) -> usize {
+pub fn combinations(unsynced: &[(usize, usize)]) -> usize {
     let mut product: usize = 1;
     for (_, count) in unsynced {
         product = product.saturating_mul(*count);

@@ -1,9 +1,10 @@
 //! Lives in which any allocation may fail, once: what finds no memory is asked again.
 
 use crate::alone::{Answer, Course, course_of, refused, spent};
+use crate::crash::{combinations, turn};
 use crate::rows::{Coming, Row, boot_of, input_of, moment};
 use crate::sessions::{frame, pieces};
-use crate::stores::{blank, bytes_of, create_on, newest, oldest, opened, state_on};
+use crate::stores::{blank, bytes_of, create_on, opened, state_on};
 use crate::wrong::{Wrong, found};
 use std::alloc::Global;
 use um_children::FakeChildren;
@@ -70,6 +71,21 @@ pub const ENABLED: &[Row] = &[
     (0, Coming::Install(InstallVerb::Disable, "a.service")),
 ];
 
+/// Asserts that each image that a crash may leave of a disk is opened in this state.
+fn stand_for(alloc: Global, disk: &MemDisk, bytes: &[u8]) -> Result<(), Wrong> {
+    let unsynced = disk.unsynced(alloc)?;
+    let mut picks = vec![in alloc; 0; unsynced.len()]?;
+    for _ in 0..combinations(unsynced.as_slice()) {
+        let image = disk.crash(alloc, picks.as_slice())?;
+        match state_on(alloc, image)? {
+            Some(state) if state.as_slice() == bytes => {}
+            _ => return Err(found("an image of an opening without memory isn't that state")),
+        }
+        turn(picks.as_mut_slice(), unsynced.as_slice());
+    }
+    Ok(())
+}
+
 /// A keeper that is opened, or again where it found no memory: then each image stands for this state.
 fn open_at(alloc: Global, disk: MemDisk, bytes: &[u8]) -> Result<Keeper<MemDisk>, Wrong> {
     let disk = match Keeper::open(alloc, disk) {
@@ -77,12 +93,7 @@ fn open_at(alloc: Global, disk: MemDisk, bytes: &[u8]) -> Result<Keeper<MemDisk>
         Err((Refusal::NoMemory | Refusal::Device, disk)) => disk,
         Err((refusal, _)) => return Err(Wrong::from(refusal)),
     };
-    for image in [oldest(alloc, &disk)?, newest(alloc, &disk)?] {
-        match state_on(alloc, image)? {
-            Some(found) if found.as_slice() == bytes => {}
-            _ => return Err(found("an image of an opening without memory isn't that state")),
-        }
-    }
+    stand_for(alloc, &disk, bytes)?;
     at(alloc, opened(alloc, disk)?, bytes)
 }
 
