@@ -105,22 +105,40 @@ fn submit(alloc: Global, keeper: Keeper<Failing>, row: Row) -> Result<Gone, Wron
     }
 }
 
+/// What an answer of a list is.
+#[derive(Clone, Copy)]
+enum Told {
+    Done,
+    Fault,
+    Refused,
+}
+
+/// Spends an answer.
+fn told(alloc: Global, answer: Result<Receipt, Refusal>) -> Told {
+    match answer {
+        Ok(receipt) => {
+            let _answer = spent(alloc, receipt);
+            Told::Done
+        }
+        Err(Refusal::Device) => Told::Fault,
+        Err(_) => Told::Refused,
+    }
+}
+
 /// How many of the answers are receipts, and how many are E16.
-fn counted(alloc: Global, answers: Vec<Result<Receipt, Refusal>>) -> Result<(usize, usize), Wrong> {
-    let (mut done, mut faults): (usize, usize) = (0, 0);
+fn counted(alloc: Global, answers: Vec<Result<Receipt, Refusal>>) -> (usize, usize) {
+    let mut done: usize = 0;
+    let mut faults: usize = 0;
     let mut rest = answers.into_iter();
     while let Some(answer) = rest.next() {
-        match answer {
-            Ok(receipt) => {
-                let _answer = spent(alloc, receipt);
-                done = done.saturating_add(1);
-            }
-            Err(Refusal::Device) => faults = faults.saturating_add(1),
-            Err(_) => {}
+        match told(alloc, answer) {
+            Told::Done => done = done.saturating_add(1),
+            Told::Fault => faults = faults.saturating_add(1),
+            Told::Refused => {}
         }
     }
     rest.destroy_empty();
-    Ok((done, faults))
+    (done, faults)
 }
 
 /// Lets go of the answers to a list.
@@ -135,7 +153,7 @@ fn submit_all(alloc: Global, keeper: Keeper<Failing>, rows: &[Row]) -> Result<Go
         let_go(alloc, answers);
         return Err(found("a list without an answer each"));
     }
-    match counted(alloc, answers)? {
+    match counted(alloc, answers) {
         (_, 0) => Ok(Gone::On(keeper, rows.len())),
         (0, _) => Ok(Gone::Refused(keeper, rows.len())),
         (_, _) => Err(found("a receipt beside E16")),
