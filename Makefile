@@ -9,11 +9,13 @@
 # make serve-rows: plays the rows of a served store against the proved program, with real processes, sockets and files.
 # make ctl-rows: plays the rows of the command line against the proved program: create and ctl, their faults, statuses, help and what is printed.
 # make memory-rows: lets each single allocation of a manager in memory fail in turn, and asserts that nothing changes (it needs cc).
+# make mutated: plays 200,000 frames, 50,000 unit files, 20,000 images and 5,000 folders of runners that were changed at random through the proved
+# program, outside the gate (tools/mutated --help); the gate plays a selection of them.
 # make in-turn: refuses everything that can be refused, one after another, and asserts what must hold each time (it needs cc; README.md has its
 # time). `tools/in-turn --wrong` plays wrong programs in the same way, each of which must fail.
 # make bench: measures the proved program, and the writing and reading of states (um_bench); the figures that a document calls
 # measured come from it. It ends with an error where a wanted ratio isn't met, that of queries while services run (docs/DECISIONS.md, "Serving").
-.PHONY: run umd unproved test edits bench runner-rows serve-rows ctl-rows memory-rows in-turn
+.PHONY: run umd unproved test edits bench runner-rows serve-rows ctl-rows memory-rows mutated in-turn
 run:
 	@sh tools/show
 
@@ -28,6 +30,7 @@ test:
 	@tools/runner-rows out/unproved/umd
 	@tools/ctl-rows out/unproved/umd
 	@tools/serve-rows out/unproved/umd
+	@tools/mutated out/unproved/umd --part 200
 	rt ci
 
 # the words behind 'edits' name crates, and aren't built
@@ -55,6 +58,9 @@ serve-rows: umd
 
 ctl-rows: umd
 	@tools/ctl-rows crates/umd/out/umd
+
+mutated: umd
+	@tools/mutated crates/umd/out/umd
 
 memory-rows:
 	@tools/memory-rows

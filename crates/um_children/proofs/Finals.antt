@@ -3,7 +3,7 @@ use Rattle.std.proofs.Common.{Option, ◌≡◌, ℕ, Bool, true, false, ◌||�
 use Rattle.std.proofs.lemmas.Bool.{and_parts, eqb-true, true≢false}
 use Rattle.std.proofs.lemmas.List.{map-append}
 use Rattle.std.proofs.lemmas.List.Folds.{list_any-append}
-use Rattle.um_model.specs.Children.{Call, Spawned, Signalled, Asked, Spawn}
+use Rattle.um_model.specs.Children.{Call, Spawned, Signalled, Asked, Forgot, ForgotOthers, Spawn}
 use Rattle.um_model.specs.declared.children.Fate.{Fate}
 use Rattle.um_model.specs.declared.service.Signal.{Signal}
 use Rattle.um_children.specs.History.{tells_absent, is_start, is_absence, has_started, was_absent, IsFinal}
@@ -24,6 +24,8 @@ not_both : (n : ℕ) (call : Call) → is_absence n call ≡ true → is_start n
 not_both n (Spawned spawn taken b) t = absurd (true≢false (sym t))
 not_both n (Signalled number signal) t = refl
 not_both n (Asked number claim told) t = refl
+not_both n (Forgot number) t = refl
+not_both n (ForgotOthers live) t = refl
 
 final_noted : (call : Call) (calls : List Call) → IsFinal calls → Fits call calls → IsFinal (calls ++ call ∷ [])
 final_noted call calls kept fits n t =
@@ -33,6 +35,12 @@ final_noted call calls kept fits n t =
 
 pub fits_signal : (number : ℕ) (signal : Signal) (calls : List Call) → Fits (Signalled number signal) calls
 fits_signal number signal calls n = (λ _. refl, λ t. absurd (true≢false (sym t)))
+
+pub fits_forgot : (number : ℕ) (calls : List Call) → Fits (Forgot number) calls
+fits_forgot number calls n = (λ _. refl, λ t. absurd (true≢false (sym t)))
+
+pub fits_forgot_others : (live : List ℕ) (calls : List Call) → Fits (ForgotOthers live) calls
+fits_forgot_others live calls n = (λ _. refl, λ t. absurd (true≢false (sym t)))
 
 pub fits_asked : (number : ℕ) (claim : Bool) (told : Option Fate) (calls : List Call) → (tells_absent told ≡ true → has_started calls number ≡ false) → Fits (Asked number claim told) calls
 fits_asked number claim told calls h n = (λ _. refl, λ t. let p = and_parts _ _ t in subst (λ m. has_started calls m ≡ false) (eqb-true number n p.1) (h p.0))

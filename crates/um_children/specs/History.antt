@@ -1,9 +1,9 @@
 -- What each call adds to the history of calls, and what the history says of a number.
-use Rattle.std.specs.Prelude.{◌≡◌, ◌&&◌, ◌==◌, ◌++◌, ◌∷◌, [], ℕ, List, Bool, true, false, Option, Result}
+use Rattle.std.specs.Prelude.{◌≡◌, ◌&&◌, ◌==◌, ◌++◌, ◌∷◌, [], ℕ, List, Bool, true, false, not, Option, Result}
 use Rattle.std.specs.List.{list_any}
 use Rattle.std.specs.Option.{option_map_or}
 use Rattle.std.specs.Result.{is_ok, result_ok}
-use Rattle.um_model.specs.Children.{Spawn, Call, Spawned, Signalled, Asked}
+use Rattle.um_model.specs.Children.{Spawn, Call, Spawned, Signalled, Asked, Forgot, ForgotOthers}
 use Rattle.um_model.specs.declared.children.Fate.{Fate}
 use Rattle.um_model.specs.declared.children.Fate.TheVariants.{Absent}
 use Rattle.um_model.specs.declared.service.Signal.{Signal}
@@ -49,3 +49,27 @@ Signals number signal old new = new ≡ old ++ Signalled number signal ∷ []
 -- a fate that was asked is one call more, with what was told
 abbrev pub Asks : {E : Type 0} → ℕ → Bool → Result Fate E → List Call → List Call → Type 0
 Asks number claim result old new = new ≡ old ++ Asked number claim (result_ok result) ∷ []
+
+-- that what is kept of a number is let go is one call more, whatever it answered
+abbrev pub Forgets : ℕ → List Call → List Call → Type 0
+Forgets number old new = new ≡ old ++ Forgot number ∷ []
+
+-- that what is kept of all others is let go is one call more, whatever it answered
+abbrev pub ForgetsOthers : List ℕ → List Call → List Call → Type 0
+ForgetsOthers live old new = new ≡ old ++ ForgotOthers live ∷ []
+
+-- whether a call lets go what is kept of the number
+abbrev pub lets_go : ℕ → Call → Bool
+lets_go n (Forgot number) = number == n
+lets_go n (ForgotOthers live) = not (list_any (λ m. m == n) live)
+lets_go n other = false
+
+-- whether a call lets anything go
+abbrev pub lets_any : Call → Bool
+lets_any (Forgot number) = true
+lets_any (ForgotOthers live) = true
+lets_any other = false
+
+-- of no number that passes the test these calls let go what is kept
+abbrev pub Spares : (ℕ → Bool) → List Call → Type 0
+Spares test calls = (n : ℕ) → test n ≡ true → list_any (lets_go n) calls ≡ false

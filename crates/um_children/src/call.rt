@@ -2,7 +2,7 @@ ghost use Rattle.std.specs.Prelude.{◌≡◌, ◌&&◌, false, IfOk};
 ghost use Rattle.um_children.specs.History.{tells_absent, is_start, is_absence};
 ghost use Rattle.um_children.specs.Calls.{call_of};
 
-use std::alloc::AllocError;
+use std::alloc::{AllocError, Global};
 use um_model::{Fate, ProcessNumber, Signal};
 use um_state::Start;
 
@@ -29,6 +29,10 @@ pub enum Call {
         /// Nothing where the call failed.
         told: Option<Fate>,
     },
+    /// What is kept of a number was let go.
+    Forgot { number: ProcessNumber },
+    /// What is kept of each other number that has ended was let go.
+    ForgotOthers { live: Vec<ProcessNumber> },
 }
 
 /// Whether absence was told.
@@ -48,7 +52,10 @@ impl Call {
     {
         match self {
             Call::Spawned { number, starts, .. } => *starts && number.get() == process.get(),
-            Call::Signalled { .. } | Call::Asked { .. } => false,
+            Call::Signalled { .. }
+            | Call::Asked { .. }
+            | Call::Forgot { .. }
+            | Call::ForgotOthers { .. } => false,
         }
     }
 
@@ -59,12 +66,15 @@ impl Call {
         match self {
             Call::Asked { number, told, .. } => tells_absent(*told)
                 && number.get() == process.get(),
-            Call::Spawned { .. } | Call::Signalled { .. } => false,
+            Call::Spawned { .. }
+            | Call::Signalled { .. }
+            | Call::Forgot { .. }
+            | Call::ForgotOthers { .. } => false,
         }
     }
 
     /// The call again.
-    pub fn copy(&self) -> Result<Call, AllocError>
+    pub fn copy(&self, alloc: Global) -> Result<Call, AllocError>
         ensures { IfOk result (λ call. call_of call ≡ call_of self.now) }
     {
         match self {
@@ -91,6 +101,10 @@ impl Call {
                 number: *number,
                 claim: *claim,
                 told: *told,
+            }),
+            Call::Forgot { number } => Ok(Call::Forgot { number: *number }),
+            Call::ForgotOthers { live } => Ok(Call::ForgotOthers {
+                live: Vec::from_slice(alloc, live.as_slice())?,
             }),
         }
     }

@@ -1,6 +1,6 @@
 ghost use Rattle.std.specs.Prelude.{◌≡◌, ℕ, List, Bool, IsTrue, false, IfOk, OnOk};
 ghost use Rattle.um_model.specs.Children.{Call};
-ghost use Rattle.um_children.specs.History.{is_absent, IsFinal, Spawns, Signals, Asks};
+ghost use Rattle.um_children.specs.History.{is_absent, IsFinal, Spawns, Signals, Asks, Forgets, ForgetsOthers};
 ghost use Rattle.um_children.specs.Faults.{CountsFault, KeepsWhole};
 ghost use Rattle.um_service.specs.Started.{is_too_long};
 
@@ -52,19 +52,19 @@ pub trait Children {
         ensures honest { honest self.new ≡ honest self.old };
 
     /// Lets go what is kept of a number whose end is recorded, of which nothing is asked any more. Of one that hasn't ended nothing goes,
-    /// and a claim stays: a number that was told to be absent never starts, now as before. It is no call of the history.
+    /// and a claim stays: a number that was told to be absent never starts, now as before.
     fn forget(&mut self, number: ProcessNumber) -> Result<(), ChildFault>
-        ensures past { past self.new ≡ past self.old }
-        ensures whole { whole self.new ≡ whole self.old }
+        ensures past { IsTrue (honest self.old) → IsTrue (whole self.new) → Forgets number (past self.old) (past self.new) }
+        ensures whole { KeepsWhole result (whole self.old) (whole self.new) }
         ensures failures { CountsFault result (failures self.old) (failures self.new) }
         ensures honest { honest self.new ≡ honest self.old };
 
     /// Lets go what is kept of each number that has ended and isn't among these, as a manager does that opens: of those nothing is asked any
-    /// more. As `forget` it is no call of the history, and a claim stays. No number from `next` on was ever started: where something is kept
-    /// of one, it is another manager's, and nothing goes.
+    /// more. As with `forget` a claim stays. No number from `next` on was ever started: where something is kept of one, it is another manager's,
+    /// and nothing goes.
     fn forget_others(&mut self, live: &[ProcessNumber], next: NextNumber) -> Result<(), ChildFault>
-        ensures past { past self.new ≡ past self.old }
-        ensures whole { whole self.new ≡ whole self.old }
+        ensures past { IsTrue (honest self.old) → IsTrue (whole self.new) → ForgetsOthers live.now (past self.old) (past self.new) }
+        ensures whole { KeepsWhole result (whole self.old) (whole self.new) }
         ensures failures { CountsFault result (failures self.old) (failures self.new) }
         ensures honest { honest self.new ≡ honest self.old };
 

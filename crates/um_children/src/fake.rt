@@ -1,7 +1,7 @@
 ghost use Rattle.std.specs.Prelude.{IfErr, ◌≡◌, ◌⊎◌, ◌||◌, ◌∷◌, ◌++◌, [], List, IsTrue, true, false, not, if◌then◌else◌, is_ok, IfOk, OnOk, OnErr};
 ghost use Rattle.um_model.specs.Children.{Spawned};
 ghost use Rattle.um_model.specs.Disk.{one_more};
-ghost use Rattle.um_children.specs.History.{is_absent, has_started, was_absent, IsFinal, Spawns, Signals, Asks};
+ghost use Rattle.um_children.specs.History.{is_absent, has_started, was_absent, IsFinal, Spawns, Signals, Asks, Forgets, ForgetsOthers};
 ghost use Rattle.um_children.specs.Calls.{call_of, calls_of, Fits};
 ghost use Rattle.um_children.specs.Fakes.{fate_of, end_of, fuse_after, is_due};
 ghost use Rattle.um_children.specs.Faults.{CountsFault, KeepsWhole};
@@ -96,7 +96,7 @@ fn copied(alloc: Global, calls: &[Call]) -> Result<Vec<Call>, AllocError>
 {
     let mut copies = Vec::new(alloc);
     for call in calls {
-        copies.push(call.copy()?)?;
+        copies.push(call.copy(alloc)?)?;
     }
     Ok(copies)
 }
@@ -329,25 +329,36 @@ impl Children for FakeChildren {
         Ok(fate)
     }
 
-    /// Nothing is kept of a number but the notes, which stay. It never fails, and no fuse burns.
+    /// Nothing is kept of a number but the notes, which stay. It fails only where there is no memory for its own, and no fuse burns.
     fn forget(&mut self, number: ProcessNumber) -> Result<(), ChildFault>
-        ensures past { calls_of self.new.calls.items ≡ calls_of self.old.calls.items }
-        ensures whole { not self.new.lost ≡ not self.old.lost }
+        ensures past { IsTrue true → IsTrue (not self.new.lost) → Forgets number (calls_of self.old.calls.items) (calls_of self.new.calls.items) }
+        ensures whole { KeepsWhole result (not self.old.lost) (not self.new.lost) }
         ensures failures { CountsFault result self.old.failures self.new.failures }
-        ensures done { is_ok result ≡ true }
-        ensures same { self.new ≡ self.old }
+        ensures fails { OnErr result (self.new.lost ≡ true) }
+        ensures fuse { self.new.fuse ≡ self.old.fuse }
+        ensures ends { self.new.ends ≡ self.old.ends }
     {
+        if !note(&mut self.calls, Call::Forgot { number }) {
+            return Err(self.lose());
+        }
         Ok(())
     }
 
     /// As `forget`.
     fn forget_others(&mut self, live: &[ProcessNumber], next: NextNumber) -> Result<(), ChildFault>
-        ensures past { calls_of self.new.calls.items ≡ calls_of self.old.calls.items }
-        ensures whole { not self.new.lost ≡ not self.old.lost }
+        ensures past { IsTrue true → IsTrue (not self.new.lost) → ForgetsOthers live.now (calls_of self.old.calls.items) (calls_of self.new.calls.items) }
+        ensures whole { KeepsWhole result (not self.old.lost) (not self.new.lost) }
         ensures failures { CountsFault result self.old.failures self.new.failures }
-        ensures done { is_ok result ≡ true }
-        ensures same { self.new ≡ self.old }
+        ensures fails { OnErr result (self.new.lost ≡ true) }
+        ensures fuse { self.new.fuse ≡ self.old.fuse }
+        ensures ends { self.new.ends ≡ self.old.ends }
     {
+        let Ok(live) = Vec::from_slice(*self.calls.allocator(), live) else {
+            return Err(self.lose());
+        };
+        if !note(&mut self.calls, Call::ForgotOthers { live }) {
+            return Err(self.lose());
+        }
         Ok(())
     }
 }

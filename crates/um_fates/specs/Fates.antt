@@ -2,7 +2,7 @@
 -- No manual page has this: processes under numbers are the project's own.
 -- The turn of the manager and its opening stand on this file.
 use Rattle.std.specs.Prelude.{◌≡◌, ◌==◌, ℕ, List, [], ◌∷◌, ◌++◌, flat_map, map, Bool, false, if◌then◌else◌, IsTrue, Option, Some, None, ⊤}
-use Rattle.um_model.specs.Children.{Call, Tale, orders, tales, refused}
+use Rattle.um_model.specs.Children.{Call, Asked, Tale}
 use Rattle.um_model.specs.Machine.{Input, Happening, Happened, ProcessEnded, ProcessExecuted, Tick}
 use Rattle.um_model.specs.declared.children.Fate.{Fate}
 use Rattle.um_model.specs.declared.children.Fate.TheVariants.{Starting, Executed, Ended, Absent}
@@ -59,19 +59,18 @@ AreTalesOf claims [] [] = ⊤
 AreTalesOf claims (n ∷ ns) (tale ∷ told) = (tale.number ≡ n) × (tale.claim ≡ claims n) × AreTalesOf claims ns told
 AreTalesOf claims ns told = ⊥
 
--- Each of these numbers' fate was asked once, and no order; the inputs of what was told came behind the others.
-pub record Heard (absent : End) (moment : ℕ) (claims : ℕ → Bool) (old new : List Call) (live : List ℕ) (before after : List Input) : Type 0 where
+-- the call that asks for a fate, and what it was told
+abbrev pub asks_for : Tale → Call
+asks_for tale = Asked tale.number tale.claim tale.told
+
+-- Each of these numbers' fate was asked once, and the inputs of what was told came behind the others. The history of children that are honest has
+-- just these calls more, where it is whole.
+pub record Heard (absent : End) (moment : ℕ) (claims : ℕ → Bool) (honest whole : Bool) (old new : List Call) (live : List ℕ) (before after : List Input)
+    : Type 0 where
   pub told : List Tale
   pub of_live : AreTalesOf claims live told
-  pub tales_are : tales new ≡ tales old ++ told
-  pub no_order : orders new ≡ orders old
-  pub no_refusal : refused new ≡ refused old
   pub inputs_are : after ≡ before ++ flat_map (inputs_of_tale absent moment) told
-
--- the same of children who are honest, and whose history is whole
-abbrev pub Hears : End → ℕ → (ℕ → Bool) → Bool → Bool → List Call → List Call → List ℕ → List Input → List Input → Type 0
-Hears absent moment claims honest whole old new live before after =
-    IsTrue honest → IsTrue whole → Heard absent moment claims old new live before after
+  pub past_is : IsTrue honest → IsTrue whole → new ≡ old ++ map asks_for told
 
 -- a tick at this moment
 abbrev pub tick_at : ℕ → Input

@@ -2,7 +2,7 @@
 
 ghost use Rattle.std.specs.Prelude.{◌≡◌, ◌+◌, ◌*◌, ◌≤◌, ◌++◌, ◌∷◌, [], ℕ, true, IsTrue, length, vec_len, vec_capacity};
 ghost use Rattle.um_state.specs.View.{input_of};
-ghost use Rattle.um_fates.specs.Fates.{Hears, inputs_in, inputs_of_end, inputs_of_fate, happens_at, lost};
+ghost use Rattle.um_fates.specs.Fates.{Heard, inputs_in, inputs_of_end, inputs_of_fate, happens_at, lost};
 ghost use Rattle.um_fates.specs.Live.{has};
 ghost use Rattle.um_model.specs.Machine.{ProcessEnded, ProcessExecuted};
 
@@ -82,7 +82,7 @@ fn hear_one<C: Children>(
     inputs: &mut Vec<Input>,
 )
     requires { vec_len inputs.old + 2 ≤ vec_capacity inputs.old }
-    ensures hears { Hears absent moment (λ n. claim) (C.honest children.old) (C.whole children.new) (C.past children.old) (C.past children.new)
+    ensures hears { Heard absent moment (λ n. claim) (C.honest children.old) (C.whole children.new) (C.past children.old) (C.past children.new)
         (number ∷ []) (inputs_in inputs.old.items) (inputs_in inputs.new.items) }
     ensures len { vec_len inputs.new ≤ vec_len inputs.old + 2 }
     ensures capacity { vec_capacity inputs.old ≤ vec_capacity inputs.new }
@@ -105,7 +105,7 @@ pub fn hear<C: Children>(
     inputs: &mut Vec<Input>,
 )
     requires { vec_len inputs.old + 2 * length live.now ≤ vec_capacity inputs.old }
-    ensures hears { Hears absent moment (λ n. has n marks.now) (C.honest children.old) (C.whole children.new) (C.past children.old)
+    ensures hears { Heard absent moment (λ n. has n marks.now) (C.honest children.old) (C.whole children.new) (C.past children.old)
         (C.past children.new) live.now (inputs_in inputs.old.items) (inputs_in inputs.new.items) }
     ensures len { vec_len inputs.new ≤ vec_len inputs.old + 2 * length live.now }
     ensures capacity { vec_capacity inputs.old ≤ vec_capacity inputs.new }
@@ -126,7 +126,7 @@ pub fn claim_all<C: Children>(
     inputs: &mut Vec<Input>,
 )
     requires { vec_len inputs.old + 2 * length live.now ≤ vec_capacity inputs.old }
-    ensures hears { Hears lost moment (λ n. true) (C.honest children.old) (C.whole children.new) (C.past children.old) (C.past children.new) live.now
+    ensures hears { Heard lost moment (λ n. true) (C.honest children.old) (C.whole children.new) (C.past children.old) (C.past children.new) live.now
         (inputs_in inputs.old.items) (inputs_in inputs.new.items) }
     ensures len { vec_len inputs.new ≤ vec_len inputs.old + 2 * length live.now }
     ensures capacity { vec_capacity inputs.old ≤ vec_capacity inputs.new }

@@ -1,4 +1,4 @@
-ghost use Rattle.std.specs.Prelude.{◌≡◌, ◌≢◌, ◌↔◌, ◌*◌, ◌/◌, ◌^◌, ◌≤◌, [], false, IfSome, IsNone, IfOk, IsOk, IfErr, IsErrOf, IsTrue};
+ghost use Rattle.std.specs.Prelude.{◌≡◌, ◌≢◌, ◌↔◌, ◌*◌, ◌/◌, ◌^◌, ◌≤◌, [], false, true, IfSome, IsNone, IfOk, IsOk, IfErr, IsErrOf, IsTrue};
 ghost use Rattle.std.proofs.lemmas.Bool.{false≢true};
 ghost use Rattle.um_sector.specs.Runs.{CountsFailure};
 ghost use Rattle.um_model.specs.Disk.{one_more};
@@ -26,6 +26,8 @@ pub struct FileDisk<'a, R> {
     identity: Identity,
     /// The whole sectors that the file had when it was opened.
     sectors: usize,
+    /// Each write is a fault.
+    is_read_only: bool,
     calls: u64,
     failures: u64,
     ghost addressed: { sectors ≤ 2 ^ 55 },
@@ -120,6 +122,36 @@ impl<'a, R: Files<File = File>> FileDisk<'a, R> {
     {
         let file = OpenOptions::new().read(true).write(true).open(rt, path)?;
         file.try_lock()?;
+        FileDisk::locked(rt, path, file, false)
+    }
+
+    /// Opens the file at `path` to be read alone, and locks it against those that `open` it; others may read it at the same time. Its count of
+    /// sectors is that of `open`, and its faults are those of `open`. Each write is a fault.
+    pub fn open_read_only(rt: &'a R, path: &'a str) -> Result<FileDisk<'a, R>, FileFault>
+        ensures read_only { IfOk result (λ disk. disk.is_read_only ≡ true) }
+        ensures counts { IfOk result (λ disk. (disk.calls ≡ 0) × (disk.failures ≡ 0)) }
+        ensures never_too_large { IfErr result (λ fault. fault ≢ FileFault.TooLarge) }
+    {
+        // the opening of a pipe would wait for somebody who writes it
+        if !fs::metadata(rt, path)?.is_file() {
+            return Err(FileFault::NotAFile);
+        }
+        let file = File::open(rt, path)?;
+        file.try_lock_shared()?;
+        FileDisk::locked(rt, path, file, true)
+    }
+
+    /// The disk over a file that was opened at `path` and is locked.
+    fn locked(
+        rt: &'a R,
+        path: &'a str,
+        file: File,
+        is_read_only: bool,
+    ) -> Result<FileDisk<'a, R>, FileFault>
+        ensures read_only { IfOk result (λ disk. disk.is_read_only ≡ is_read_only) }
+        ensures counts { IfOk result (λ disk. (disk.calls ≡ 0) × (disk.failures ≡ 0)) }
+        ensures never_too_large { IfErr result (λ fault. fault ≢ FileFault.TooLarge) }
+    {
         // read behind the lock, so that nobody who asks for it changes the length any more
         let about = file.metadata()?;
         if !about.is_file() {
@@ -131,6 +163,7 @@ impl<'a, R: Files<File = File>> FileDisk<'a, R> {
             file,
             identity: identity_of(&about),
             sectors: sectors_in(about.len()),
+            is_read_only,
             calls: 0,
             failures: 0,
         })
@@ -163,6 +196,7 @@ impl<'a, R: Files<File = File>> FileDisk<'a, R> {
                 file,
                 identity,
                 sectors,
+                is_read_only: false,
                 calls: 0,
                 failures: 0,
             }),
@@ -181,6 +215,13 @@ impl<'a, R: Files<File = File>> FileDisk<'a, R> {
             }
             Err(_) => false,
         }
+    }
+
+    /// Whether a write is asked of the system.
+    fn takes_writes(&self) -> bool
+        ensures { self.now.is_read_only ≡ true → result ≡ false }
+    {
+        !self.is_read_only && self.is_there()
     }
 
     /// How many disk calls were made since it was opened, the failed ones included. It stays at its last value.
@@ -252,11 +293,11 @@ impl<'a, R: Files<File = File>> Disk for FileDisk<'a, R> {
         self.count(is_done)
     }
 
-    /// A write that the system refuses is a fault too, and so is one to a file that isn't at its path any more or was cut, which it would
-    /// make longer again.
+    /// A write that the system refuses is a fault too, and so is each one to a file that was opened to be read alone, and one to a file that isn't
+    /// at its path any more or was cut, which it would make longer again.
     fn write(&mut self, k: usize, sector: &Sector) -> Result<(), Fault> {
         let is_done = match self.place_of(k) {
-            Some(place) => self.is_there() && self.file.write_all_at(sector, place).is_ok(),
+            Some(place) => self.takes_writes() && self.file.write_all_at(sector, place).is_ok(),
             None => false,
         };
         self.count(is_done)

@@ -1,9 +1,10 @@
 -- Of inputs that are taken one behind the other.
-use Rattle.std.proofs.Common.{◌≡◌, ◌⊎◌, ◌∙◌, ℕ, zero, suc, ◌+◌, ◌-◌, arith, Bool, true, false, if◌then◌else◌, List, [], ◌∷◌, ◌++◌, append_assoc, append-nil, length, length-append, map, replicate, take, refl, sym, ap, subst, inl, inr}
-use Rattle.std.specs.List.{AllByRecursion}
+use Rattle.std.proofs.Common.{◌≡◌, ◌⊎◌, ◌∙◌, ℕ, zero, suc, ◌+◌, ◌-◌, ◌<◌, ◌≤◌, arith, Bool, true, false, if◌then◌else◌, List, [], ◌∷◌, ◌++◌, append_assoc, append-nil, length, length-append, map, replicate, take, drop, refl, sym, ap, subst, inl, inr}
+use Rattle.std.specs.List.{AllByRecursion, Contains}
 use Rattle.std.specs.Prelude.{Ok, Err, IsTrue}
 use Rattle.std.proofs.lemmas.Bool.{false≢true}
-use Rattle.std.proofs.lemmas.List.Elements.{Contains-append_right, Contains-append_cases, Contains-push_cases}
+use Rattle.std.proofs.lemmas.List.{take-append-drop}
+use Rattle.std.proofs.lemmas.List.Elements.{Contains-append_left, Contains-append_right, Contains-append_cases, Contains-push_cases}
 use Rattle.um_engine.specs.Engine.{state_before}
 use Rattle.um_engine.specs.declared.engine.Back.{Back}
 use Rattle.um_model.specs.Disk.{Past, Image, During}
@@ -16,7 +17,7 @@ use Rattle.um_model.specs.Store.{body_limit}
 use Rattle.um_model.specs.declared.layout.Layout.{Layout}
 use Rattle.um_model.proofs.DiskLaws.{weaker, followed}
 use Rattle.um_model.proofs.NumbersLaws.{run_numbers_rise}
-use Rattle.um_keeper.specs.Answering.{Answer, is_turned_away, Answered, accepted, refused, turned_away, AreAnswered, all_answered, and_next, FellBack, StopsAt, HasFault, denied, where_step, taken, all_asked, IsIdle, IsRefusal, NeedNoRecord, state_before_all}
+use Rattle.um_keeper.specs.Answering.{Answer, is_turned_away, Answered, accepted, refused, turned_away, AreAnswered, all_answered, and_next, FellBack, StopsAt, HasFault, HasReceipt, denied, where_step, taken, all_asked, IsIdle, IsRefusal, NeedNoRecord, HasNoRecord, HaveNoRecord, sectors_for, all_sectors, state_before_all}
 use Rattle.um_keeper.specs.Keeping.{IsBegun}
 use Rattle.um_engine.specs.OfStore.{is_of_store}
 use Rattle.um_sector.specs.Refused.{IsLost}
@@ -27,7 +28,7 @@ use Rattle.um_wire.specs.declared.refusal.Refusal.TheVariants.{Device, Generatio
 -- ---- beginnings
 
 -- a beginning of a list is one of a longer list
-longer : (xs ys : List Input) (count : ℕ) → (n : ℕ) × (take n (xs ++ ys) ≡ take count xs)
+pub longer : (xs ys : List Input) (count : ℕ) → (n : ℕ) × (take n (xs ++ ys) ≡ take count xs)
 longer xs ys zero = (0, refl)
 longer [] ys (suc count) = (0, refl)
 longer (x ∷ xs) ys (suc count) = let (n, is) = longer xs ys count in (suc n, ap (λ l. x ∷ l) is)
@@ -123,6 +124,46 @@ unrecorded_meant s [] (answer ∷ meant) rest none = tt
 unrecorded_meant s (input ∷ inputs) (answer ∷ meant) rest none =
     (elim none.0 [ inl idle ↦ inl idle | inr refusal ↦ inr (undenied answer refusal) ], unrecorded_meant s inputs meant rest none.1)
 
+-- what is to be recorded of none has no record
+no_record : (s : State) (input : Input) (answer : Answer) → IsIdle s input ⊎ IsRefusal answer → HasNoRecord s input answer
+no_record s input (Ok given) (inl idle) = idle
+no_record s input (Ok given) (inr refusal) = absurd refusal
+no_record s input (Err e) none = tt
+
+pub need_no_record : (s : State) (inputs : List Input) (answers : List Answer) → NeedNoRecord s inputs answers → HaveNoRecord s inputs answers
+need_no_record s [] answers none = tt
+need_no_record s (input ∷ inputs) [] none = tt
+need_no_record s (input ∷ inputs) (answer ∷ answers) none = (no_record s input answer none.0, need_no_record s inputs answers none.1)
+
+pub no_record_left : (s : State) {left more : List Input} {input : Input} (answer : Answer) (rest : List Answer) → left ≡ input ∷ more → HaveNoRecord s left (answer ∷ rest)
+    → HasNoRecord s input answer × HaveNoRecord s more rest
+no_record_left s answer rest is all = subst (λ l. HaveNoRecord s l (answer ∷ rest)) is all
+
+-- one more that has none
+pub no_record_more : (s : State) (inputs : List Input) (answers : List Answer) (input : Input) (answer : Answer) → length answers ≡ length inputs → HaveNoRecord s inputs answers → HasNoRecord s input answer
+    → HaveNoRecord s (inputs ++ input ∷ []) (answers ++ answer ∷ [])
+no_record_more s [] [] input answer same all one = (one, tt)
+no_record_more s [] (a ∷ answers) input answer same all one = absurd (omega (arith, same))
+no_record_more s (x ∷ inputs) [] input answer same all one = absurd (omega (arith, same))
+no_record_more s (x ∷ inputs) (a ∷ answers) input answer same all one = (all.0, no_record_more s inputs answers input answer (omega (arith, same)) all.1 one)
+
+-- none of those that were judged
+pub no_record_front : (s : State) (inputs : List Input) (answers rest : List Answer) → HaveNoRecord s inputs (answers ++ rest) → length answers ≡ length inputs → HaveNoRecord s inputs answers
+no_record_front s [] answers rest all same = tt
+no_record_front s (input ∷ inputs) [] rest all same = absurd (omega (arith, same))
+no_record_front s (input ∷ inputs) (answer ∷ answers) rest all same = (all.0, no_record_front s inputs answers rest all.1 (omega (arith, same)))
+
+-- where something is to be synced there is a receipt
+pub receipt_more : (s : State) (input : Input) (answers : List Answer) (answer : Answer) (all : List Answer) (old new : Bool) → all ≡ answers ++ answer ∷ [] → (HasNoRecord s input answer → new ≡ old)
+    → (old ≡ true → HasReceipt answers) → new ≡ true → HasReceipt all
+receipt_more s input answers (Ok given) all old new is still before now = (given, subst (λ l. Contains l (Ok given)) (sym is) (Contains-append_right answers (Ok given ∷ []) (Ok given) (0, omega arith, refl)))
+receipt_more s input answers (Err e) all old new is still before now =
+    let (given, has) = before (sym (still tt) ∙ now) in (given, subst (λ l. Contains l (Ok given)) (sym is) (Contains-append_left answers (Err e ∷ []) (Ok given) has))
+
+-- the sectors of those that are left
+pub sectors_left : {left more : List Input} {input : Input} (answer : Answer) (rest : List Answer) → left ≡ input ∷ more → all_sectors left (answer ∷ rest) ≡ sectors_for answer input + all_sectors more rest
+sectors_left answer rest is = ap (λ l. all_sectors l (answer ∷ rest)) is
+
 -- ---- where the disk failed
 
 pub answered_more : {size : ℕ} {s t u : State} {inputs : List Input} {answers : List Answer} {input : Input} {answer : Answer} → AreAnswered size s inputs answers t → Answered size t input answer u
@@ -130,7 +171,7 @@ pub answered_more : {size : ℕ} {s t u : State} {inputs : List Input} {answers 
 answered_more all_answered one = and_next one all_answered
 answered_more (and_next first more) one = and_next first (answered_more more one)
 
-same_length : {size : ℕ} {s t : State} {inputs : List Input} {answers : List Answer} → AreAnswered size s inputs answers t → length answers ≡ length inputs
+pub same_length : {size : ℕ} {s t : State} {inputs : List Input} {answers : List Answer} → AreAnswered size s inputs answers t → length answers ≡ length inputs
 same_length all_answered = refl
 same_length (and_next one more) = ap suc (same_length more)
 
@@ -138,7 +179,7 @@ pub taken_none : (inputs : List Input) → taken inputs [] ≡ []
 taken_none [] = refl
 taken_none (input ∷ inputs) = refl
 
-taken_more : (inputs : List Input) (answers : List Answer) (input : Input) (rest : List Input) (answer : Answer) → length answers ≡ length inputs
+pub taken_more : (inputs : List Input) (answers : List Answer) (input : Input) (rest : List Input) (answer : Answer) → length answers ≡ length inputs
     → taken (inputs ++ input ∷ rest) (answers ++ answer ∷ []) ≡ taken inputs answers ++ where_step answer input
 taken_more [] [] input rest answer same = ap (λ l. where_step answer input ++ l) (taken_none rest) ∙ append-nil (where_step answer input)
 taken_more [] (a ∷ answers) input rest answer same = absurd (omega (arith, same))
@@ -163,21 +204,49 @@ taken_denied (x ∷ judged) rest (a ∷ meant) same =
     ap (λ l. l ++ taken (judged ++ rest) (map denied meant ++ replicate (length rest) (Err Device))) (same_where a x)
     ∙ ap (λ l. where_step a x ++ l) (taken_denied judged rest meant (omega (arith, same))) ∙ sym (append_assoc (where_step a x) (taken judged meant) rest)
 
--- the answers before the one at which it failed
+taken_one : (judged rest : List Input) (meant : List Answer) → length meant ≡ length judged → taken (judged ++ rest) (meant ++ Err Device ∷ []) ≡ taken judged meant ++ take 1 rest
+taken_one [] [] [] same = refl
+taken_one [] (x ∷ rest) [] same = ap (λ l. x ∷ l) (taken_none rest)
+taken_one [] rest (a ∷ meant) same = absurd (omega (arith, same))
+taken_one (x ∷ judged) rest [] same = absurd (omega (arith, same))
+taken_one (x ∷ judged) rest (a ∷ meant) same =
+    ap (λ l. where_step a x ++ l) (taken_one judged rest meant (omega (arith, same))) ∙ sym (append_assoc (where_step a x) (taken judged meant) (take 1 rest))
+
+-- a fault behind all of them takes none
+pub taken_over : (inputs : List Input) (answers : List Answer) → length answers ≡ length inputs → taken inputs (answers ++ Err Device ∷ []) ≡ taken inputs answers
+taken_over [] [] same = refl
+taken_over [] (a ∷ answers) same = absurd (omega (arith, same))
+taken_over (x ∷ inputs) [] same = absurd (omega (arith, same))
+taken_over (x ∷ inputs) (a ∷ answers) same = ap (λ l. where_step a x ++ l) (taken_over inputs answers (omega (arith, same)))
+
+some_fault : (count : ℕ) → 0 < count → HasFault (replicate count (Err Device))
+some_fault zero some = absurd (omega (arith, some))
+some_fault (suc count) some = (0, omega arith, refl)
+
+-- a receipt that is denied is a fault
+denied_fault : (answers : List Answer) → HasReceipt answers → HasFault (map denied answers)
+denied_fault [] (given, has) = absurd (omega (arith, has.1))
+denied_fault (Ok first ∷ answers) has = (0, omega arith, refl)
+denied_fault (Err e ∷ answers) (given, has) = elim (Contains-append_cases (Err e ∷ []) answers (Ok given) has) [
+  | inl here ↦ elim (Contains-push_cases [] (Err e) (Ok given) here) [ inl none ↦ absurd (omega (arith, none.1)) | inr is ↦ cc ]
+  | inr there ↦ Contains-append_right (Err e ∷ []) (map denied answers) (Err Device) (denied_fault answers (given, there))
+]
+
+-- the answers before those that it leaves without one
 module _ {size : ℕ} {s : State} {inputs : List Input} {meant : List Answer} (stopped : StopsAt size s inputs meant) where
-  whole : length inputs ≡ length meant + suc (length stopped.rest)
-  whole = omega (arith, ap (λ (l : List Input). length l) stopped.parts, length-append stopped.judged (stopped.input ∷ stopped.rest), same_length stopped.were)
+  pub fell_whole : length inputs ≡ length meant + length stopped.rest
+  fell_whole = omega (arith, ap (λ (l : List Input). length l) stopped.parts, length-append stopped.judged stopped.rest, same_length stopped.were)
 
   module _ {told : List Answer} (count : ℕ) (counts : count ≡ length inputs) (is : told ≡ map denied meant ++ replicate (count - length meant) (Err Device)) where
-    are : told ≡ map denied meant ++ replicate (suc (length stopped.rest)) (Err Device)
+    are : told ≡ map denied meant ++ replicate (length stopped.rest) (Err Device)
     are =
-        let left : count - length meant ≡ suc (length stopped.rest) = omega (arith, counts, whole) in
+        let left : count - length meant ≡ length stopped.rest = omega (arith, counts, fell_whole) in
         is ∙ ap (λ n. map denied meant ++ replicate n (Err Device)) left
 
     pub fell_back : {t : State} → t ≡ s → FellBack size s inputs told t
     fell_back state = record {
       judged = stopped.judged;
-      rest = stopped.input ∷ stopped.rest;
+      rest = stopped.rest;
       parts = stopped.parts;
       meant = meant;
       u = stopped.u;
@@ -187,24 +256,29 @@ module _ {size : ℕ} {s : State} {inputs : List Input} {meant : List Answer} (s
     }
 
     pub fell_told : HasFault told
-    fell_told = subst HasFault (sym are) (Contains-append_right (map denied meant) (replicate (suc (length stopped.rest)) (Err Device)) (Err Device) (0, omega arith, refl))
+    fell_told = subst HasFault (sym are) (elim stopped.some [
+      | inl left ↦ Contains-append_right (map denied meant) (replicate (length stopped.rest) (Err Device)) (Err Device) (some_fault (length stopped.rest) left)
+      | inr given ↦ Contains-append_left (map denied meant) (replicate (length stopped.rest) (Err Device)) (Err Device) (denied_fault meant given)
+    ])
 
     -- a crash leaves a beginning of what isn't turned away
-    all_taken : taken inputs told ≡ taken inputs (meant ++ Err Device ∷ []) ++ stopped.rest
-    all_taken =
-        ap (λ l. taken l told) stopped.parts ∙ ap (taken (stopped.judged ++ stopped.input ∷ stopped.rest)) are
-        ∙ taken_denied stopped.judged (stopped.input ∷ stopped.rest) meant (same_length stopped.were)
-        ∙ sym (append_assoc (taken stopped.judged meant) (stopped.input ∷ []) stopped.rest)
-        ∙ ap (λ l. l ++ stopped.rest) (sym (taken_more stopped.judged meant stopped.input stopped.rest (Err Device) (same_length stopped.were)))
-        ∙ ap (λ l. taken l (meant ++ Err Device ∷ []) ++ stopped.rest) (sym stopped.parts)
+    all_taken : taken inputs told ≡ taken stopped.judged meant ++ stopped.rest
+    all_taken = ap (λ l. taken l told) stopped.parts ∙ ap (taken (stopped.judged ++ stopped.rest)) are ∙ taken_denied stopped.judged stopped.rest meant (same_length stopped.were)
+
+    one_taken : taken inputs (meant ++ Err Device ∷ []) ≡ taken stopped.judged meant ++ take 1 stopped.rest
+    one_taken = ap (λ l. taken l (meant ++ Err Device ∷ [])) stopped.parts ∙ taken_one stopped.judged stopped.rest meant (same_length stopped.were)
 
     pub fell_during : {old new : Past} {layout : Layout} → During old new (IsBegun layout s (taken inputs (meant ++ Err Device ∷ [])))
         → During old new (IsBegun layout s (taken inputs told))
-    fell_during {old} {new} {layout} lost = subst (λ l. During old new (IsBegun layout s l)) (sym all_taken)
-        (weaker old new _ _ (begun_longer (taken inputs (meant ++ Err Device ∷ [])) stopped.rest) lost)
+    fell_during {old} {new} {layout} lost = subst (λ l. During old new (IsBegun layout s l)) all_more
+        (weaker old new _ _ (begun_longer (taken inputs (meant ++ Err Device ∷ [])) (drop 1 stopped.rest)) lost)
+      where
+        all_more : taken inputs (meant ++ Err Device ∷ []) ++ drop 1 stopped.rest ≡ taken inputs told
+        all_more = ap (λ l. l ++ drop 1 stopped.rest) one_taken ∙ append_assoc (taken stopped.judged meant) (take 1 stopped.rest) (drop 1 stopped.rest)
+            ∙ ap (λ l. taken stopped.judged meant ++ l) (take-append-drop 1 stopped.rest) ∙ sym all_taken
 
-    pub fell_unrecorded : NeedNoRecord s inputs told → NeedNoRecord s inputs (meant ++ Err Device ∷ replicate (length stopped.rest) (Err Device))
-    fell_unrecorded none = unrecorded_meant s inputs meant (replicate (suc (length stopped.rest)) (Err Device)) (subst (NeedNoRecord s inputs) are none)
+    pub fell_unrecorded : NeedNoRecord s inputs told → NeedNoRecord s inputs (map denied meant ++ replicate (length stopped.rest) (Err Device))
+    fell_unrecorded none = subst (NeedNoRecord s inputs) are none
 
 -- none is asked for where all was denied
 none_denied : (answers : List Answer) (count : ℕ) → all_asked (map denied answers ++ replicate count (Err Device)) ≡ []

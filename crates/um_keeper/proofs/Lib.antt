@@ -1,4 +1,5 @@
 mod Batching
+mod Looking
 pub mod Kept
 mod Reopening
 mod Repeating
@@ -7,3 +8,4 @@ mod Results
 mod Spent
 mod Wiping
 mod Meanwhile
+mod Underway

@@ -13,6 +13,10 @@ ok_from (Ok x) f p = f p
 ok_from (Err e) f p = tt
 
 -- what holds anyway
+pub ok_always : {T E : Type 0} (result : Result T E) {P : Type 0} → P → OnOk result P
+ok_always (Ok x) p = p
+ok_always (Err e) p = tt
+
 pub err_from : {T E : Type 0} (result : Result T E) {P : Type 0} → P → OnErr result P
 err_from (Ok x) p = tt
 err_from (Err e) p = p

@@ -7,15 +7,13 @@ use Rattle.um_model.specs.Machine.{Input}
 use Rattle.um_model.specs.Store.{log_start, log_end}
 use Rattle.um_model.specs.declared.layout.Layout.{Layout}
 use Rattle.um_keeper.specs.Answering.{Answer, denied, sectors_for, IsSpentAt, AreSpentAt}
-use Rattle.um_keeper.specs.Keepers.{layout_in, log_generation_in, next_in, HasNoRoom, IsFreeFrom}
+use Rattle.um_keeper.specs.Keepers.{layout_in, log_generation_in, next_in, IsFreeFrom}
+use Rattle.um_keeper.specs.Underway.{LacksRoom, IsFreeAt}
+use Rattle.um_log.specs.declared.write.Log.{Log}
 use Rattle.um_keeper.specs.declared.keeper.Keeper.{Keeper}
 use Rattle.um_wire.specs.declared.refusal.Refusal.TheVariants.{Device, GenerationsSpent}
 
 -- ---- where the log is free
-
--- further on too
-free_more : {D : Type 0} {g : _} {k : Keeper D g} {from : ℕ} (n : ℕ) → IsFreeFrom k from → IsFreeFrom k (from + n)
-free_more n free = record { start = omega (arith, free.start); behind = λ last. omega (arith, free.behind last) }
 
 -- where the log is as before
 pub free_still : {D : Type 0} {g : _} {k l : Keeper D g} {from : ℕ} → layout_in l ≡ layout_in k → log_generation_in l ≡ log_generation_in k → next_in l ≡ next_in k → IsFreeFrom k from → IsFreeFrom l from
@@ -24,9 +22,12 @@ free_still layout generation next free = record {
   behind = λ last. omega (arith, next, free.behind (sym generation ∙ last));
 }
 
--- whatever the answer is, where no record was written
-pub free_refused : {D : Type 0} {g : _} {k l : Keeper D g} {from : ℕ} (n : ℕ) → ((start : ℕ) → IsFreeFrom k start → IsFreeFrom l start) → IsFreeFrom k from → IsFreeFrom l (from + n)
-free_refused {from = from} n still free = free_more n (still from free)
+-- the same of a log
+pub free_at : {D : Type 0} {g : _} {k : Keeper D g} {from : ℕ} → IsFreeFrom k from → IsFreeAt k.log from
+free_at free = record { start = free.start; behind = free.behind }
+
+pub free_at_more : {log : Log} {from : ℕ} (n : ℕ) → IsFreeAt log from → IsFreeAt log (from + n)
+free_at_more n free = record { start = omega (arith, free.start); behind = λ last. omega (arith, free.behind last) }
 
 -- ---- inputs that are turned away in the last generation
 
@@ -40,8 +41,8 @@ no_room same last low none fits = none (record {
 })
 
 -- an input that was turned away so had no room there
-pub spent_at : {D : Type 0} {g : _} {k : Keeper D g} {layout : Layout} {from generation : ℕ} (input : Input) (answer : Answer) → IsFreeFrom k from → layout_in k ≡ layout → log_generation_in k ≤ generation
-    → (answer ≡ Err GenerationsSpent → HasNoRoom k (length (input_spelling input))) → IsSpentAt layout generation from input answer
+pub spent_at : {log : Log} {layout : Layout} {from generation : ℕ} (input : Input) (answer : Answer) → IsFreeAt log from → log.layout ≡ layout → log.generation ≤ generation
+    → (answer ≡ Err GenerationsSpent → LacksRoom log (length (input_spelling input))) → IsSpentAt layout generation from input answer
 spent_at input answer free same high told is =
     let none = told is in
     (omega (arith, none.last, high), no_room same none.last (free.behind none.last) none.no_room)

@@ -1,7 +1,7 @@
 -- What a list of inputs is answered that are taken one behind the other, and what a crash leaves of them.
 -- No manual page has it: it is the project's own (docs/CRASH.md tells it in plain words).
 -- `Keeper::submit_all` and the running manager stand on this file.
-use Rattle.std.specs.Prelude.{◌≡◌, ◌≢◌, ◌⊎◌, ◌+◌, ◌-◌, ◌^◌, ◌≤◌, ◌++◌, ℕ, Bool, true, false, if◌then◌else◌, List, [], ◌∷◌, length, map, replicate, Contains, Result, Ok, Err}
+use Rattle.std.specs.Prelude.{◌≡◌, ◌≢◌, ◌⊎◌, ◌+◌, ◌-◌, ◌^◌, ◌<◌, ◌≤◌, ◌++◌, ℕ, Bool, true, false, if◌then◌else◌, List, [], ◌∷◌, length, map, replicate, Contains, Result, Ok, Err}
 use Rattle.um_engine.specs.Engine.{state_before}
 use Rattle.um_engine.specs.OfStore.{is_of_store}
 use Rattle.um_engine.specs.declared.engine.Back.{Back}
@@ -61,14 +61,18 @@ pub record FellBack (size : ℕ) (s : State) (inputs : List Input) (answers : Li
   pub are : answers ≡ map denied meant ++ replicate (length rest) (Err Device)
   pub state : t ≡ s
 
--- The answers to the inputs before the one at which a call on the disk failed.
+-- one of the answers is a receipt
+abbrev pub HasReceipt : List Answer → Type 0
+HasReceipt answers = (given : Reply × List Action) × Contains answers (Ok given)
+
+-- The answers to a beginning of the inputs, behind which a call on the disk failed: somebody is to be told.
 pub record StopsAt (size : ℕ) (s : State) (inputs : List Input) (answers : List Answer) : Type 0 where
   pub judged : List Input
-  pub input : Input
   pub rest : List Input
-  pub parts : inputs ≡ judged ++ (input ∷ rest)
+  pub parts : inputs ≡ judged ++ rest
   pub u : State
   pub were : AreAnswered size s judged answers u
+  pub some : (0 < length rest) ⊎ HasReceipt answers
 
 -- some answer is E16
 abbrev pub HasFault : List Answer → Type 0
@@ -111,11 +115,26 @@ abbrev pub NeedNoRecord : State → List Input → List Answer → Type 0
 NeedNoRecord s (input ∷ inputs) (answer ∷ answers) = (IsIdle s input ⊎ IsRefusal answer) × NeedNoRecord s inputs answers
 NeedNoRecord s inputs answers = Unit {0}
 
+-- no record of the input is written: it has no effect in the state, or isn't accepted
+abbrev pub HasNoRecord : State → Input → Answer → Type 0
+HasNoRecord s input (Ok given) = IsIdle s input
+HasNoRecord s input (Err e) = Unit {0}
+
+-- so it is of each of these, which leave the state as it is
+abbrev pub HaveNoRecord : State → List Input → List Answer → Type 0
+HaveNoRecord s (input ∷ inputs) (answer ∷ answers) = HasNoRecord s input answer × HaveNoRecord s inputs answers
+HaveNoRecord s inputs answers = Unit {0}
+
 -- so many sectors the record of an input may take: none where it was refused for another cause than the disk
 abbrev pub sectors_for : Answer → Input → ℕ
 sectors_for (Ok given) input = part_count (length (input_spelling input))
 sectors_for (Err Device) input = part_count (length (input_spelling input))
 sectors_for (Err e) input = 0
+
+-- so many sectors the records of these may take
+abbrev pub all_sectors : List Input → List Answer → ℕ
+all_sectors (input ∷ inputs) (answer ∷ answers) = sectors_for answer input + all_sectors inputs answers
+all_sectors inputs answers = 0
 
 -- E20 turns an input away only where the log's generation is the last, and its record has no room in it from this sector on
 abbrev pub IsSpentAt : Layout → (generation from : ℕ) → Input → Answer → Type 0

@@ -1,20 +1,32 @@
 //! Lists of inputs that are taken one behind the other.
-ghost use Rattle.std.specs.Prelude.{◌≡◌, ◌⊎◌, ◌↔◌, ◌+◌, ◌-◌, ◌≤◌, ◌∷◌, ◌++◌, [], ℕ, false, true, List, length, map, replicate, vec_len, vec_capacity, Ok, Err, IfOk, IfErr, OnOk, OnErr, IsTrue};
+ghost use Rattle.std.specs.Prelude.{◌≡◌, ◌≢◌, ◌⊎◌, ◌↔◌, ◌+◌, ◌-◌, ◌<◌, ◌≤◌, ◌∷◌, ◌++◌, [], ℕ, false, true, List, length, map, replicate, vec_len, vec_capacity, Ok, Err, IfOk, IfErr, OnOk, OnErr, IsTrue};
 ghost use Rattle.std.specs.List.{AllByRecursion};
 ghost use Rattle.um_engine.specs.Engine as machine;
-ghost use Rattle.um_keeper.specs.Answering.{Answer, Answered, AreAnswered, FellBack, StopsAt, HasFault, CountsFault, denied, where_step, taken, all_asked, IsIdle, IsRefusal, NeedNoRecord, sectors_for, AreSpentAt, most_calls, state_before_all};
-ghost use Rattle.um_keeper.specs.Keepers.{disk_in, standing_in, state_in, size_in, layout_in, log_generation_in, has_failed, IsSamePlace, HasNoRoom, IsFreeFrom};
-ghost use Rattle.um_keeper.specs.Keeping.{IsBegun, record_calls};
+ghost use Rattle.um_keeper.specs.Answering.{Answered, AreAnswered, FellBack, StopsAt, HasFault, CountsFault, denied, all_asked, IsIdle, NeedNoRecord, HasNoRecord, HaveNoRecord, HasReceipt, sectors_for, all_sectors, where_step, taken, AreSpentAt, most_calls, state_before_all};
+ghost use Rattle.um_keeper.specs.Keepers.{disk_in, state_in, size_in, layout_in, log_generation_in, next_in, has_failed, IsSamePlace, IsFreeFrom};
+ghost use Rattle.um_keeper.specs.Keeping.{MayHold, IsBegun, record_calls};
+ghost use Rattle.um_keeper.specs.Underway.{UnderwayIn, KeptIn, owed, LacksRoom, IsFreeAt};
+ghost use Rattle.um_keeper.specs.Answering.{Answer};
+ghost use Rattle.um_keeper.specs.Keeping.{snapshot_calls};
+ghost use Rattle.um_engine.specs.OfStore.{is_of_store};
 ghost use Rattle.um_model.specs.Disk.{During, Images};
 ghost use Rattle.um_model.specs.InputSpellings.{input_spelling};
+ghost use Rattle.um_model.specs.Machine as model;
+ghost use Rattle.um_model.specs.Machine.{State, Step};
+ghost use Rattle.um_model.specs.Refusals.{Refused};
 ghost use Rattle.um_model.specs.Numbers.{AreNew, started_numbers};
 ghost use Rattle.um_model.specs.Stands.{IsStoreOf};
-ghost use Rattle.um_model.specs.Store.{body_limit, sector_count};
-ghost use Rattle.um_sector.specs.Refused.{CountsDevice};
+ghost use Rattle.um_model.specs.Store.{body_limit, log_end, part_count, sector_count, store_sectors};
+ghost use Rattle.um_sector.specs.Refused.{CountsDevice, IsLost};
+ghost use Rattle.um_sector.specs.Unsynced.{sync_count};
+ghost use Rattle.um_wire.specs.Refusal.{refused_of};
 ghost use Rattle.um_state.specs.View.{input_of};
 
+use crate::ahead::Ahead;
 use crate::keeper::Keeper;
 use crate::receipt::Receipt;
+use crate::recording::record;
+use std::alloc::Global;
 use std::mem;
 use um_engine::{Back, Engine};
 use um_sector::Disk;
@@ -90,99 +102,251 @@ fn go_back(engine: &mut Engine, mut backs: Vec<Back>)
     }
 }
 
+/// Whether the disk failed.
+fn is_fault(refusal: &Refusal) -> bool
+    ensures { IsTrue result ↔ (refusal.now ≡ Refusal.Device) }
+{
+    match refusal {
+        Refusal::Device => true,
+        _ => false,
+    }
+}
+
+/// Takes a step, with its record written but not synced, and gives the receipt and the way back.
+fn take_step<D: Disk>(
+    alloc: Global,
+    disk: &mut D,
+    ahead: &mut Ahead,
+    engine: &mut Engine,
+    input: &Input,
+) -> Result<(Receipt, Back), Refusal>
+    requires held { MayHold ahead.old.log.layout (machine.size_in engine.old) (machine.state_in engine.old) }
+    ensures during { IsTrue (D.honest disk.old) → (s : State) (before : List model.Input) → UnderwayIn s before (D.past disk.old) ahead.old (machine.state_in engine.old)
+        → During (D.past disk.old) (D.past disk.new) (IsBegun ahead.old.log.layout s (before ++ input_of input.now ∷ [])) }
+    ensures under { OnOk result (IsTrue (D.honest disk.old) → (s : State) (before : List model.Input) → UnderwayIn s before (D.past disk.old) ahead.old (machine.state_in engine.old)
+        → UnderwayIn s (before ++ input_of input.now ∷ []) (D.past disk.new) ahead.new (machine.state_in engine.new)) }
+    ensures ok { IfOk result (λ made. Step (machine.size_in engine.old) (machine.state_in engine.old) (input_of input.now) made.0.0 made.0.1 (machine.state_in engine.new)) }
+    ensures accepted { IfOk result (λ made. (r : Refused) → made.0.0 ≢ model.Refusal r) }
+    ensures back { IfOk result (λ made. machine.state_before made.1 (machine.standing_in engine.new) ≡ machine.standing_in engine.old) }
+    ensures held { MayHold ahead.new.log.layout (machine.size_in engine.new) (machine.state_in engine.new) }
+    ensures sized { machine.size_in engine.new ≡ machine.size_in engine.old }
+    ensures filled { OnOk result ((from : ℕ) → IsFreeAt ahead.old.log from → IsFreeAt ahead.new.log (from + part_count (length (input_spelling (input_of input.now))))) }
+    ensures idle { IsIdle (machine.state_in engine.old) (input_of input.now) → (disk.new ≡ disk.old) × (ahead.new ≡ ahead.old) × (machine.state_in engine.new ≡ machine.state_in engine.old) }
+    ensures clean { OnOk result (ahead.new.unsynced ≡ false → (ahead.old.unsynced ≡ false) × IsIdle (machine.state_in engine.old) (input_of input.now)) }
+    ensures layout { ahead.new.log.layout ≡ ahead.old.log.layout }
+    ensures grows { ahead.old.log.generation ≤ ahead.new.log.generation }
+    ensures kept { IfErr result (λ e. (e ≡ Refusal.Device) ⊎ ((disk.new ≡ disk.old) × (ahead.new ≡ ahead.old))) }
+    ensures state { OnErr result (engine.new ≡ engine.old) }
+    ensures refused { IfErr result (λ e. IsLost e ⊎ (e ≡ Refusal.GenerationsSpent) ⊎ ((is_of_store e ≡ false)
+        × Step (machine.size_in engine.old) (machine.state_in engine.old) (input_of input.now) (model.Refusal (refused_of e)) [] (machine.state_in engine.old))) }
+    ensures spent { result ≡ Err Refusal.GenerationsSpent → LacksRoom ahead.old.log (length (input_spelling (input_of input.now))) }
+    ensures fitted { OnOk result (ahead.old.log.next + part_count (length (input_spelling (input_of input.now))) ≤ log_end ahead.old.log.layout ahead.old.log.generation
+        → (IsTrue (D.honest disk.old) → sync_count (D.past disk.new) ≡ sync_count (D.past disk.old))
+        × (ahead.new.log.next ≤ ahead.old.log.next + part_count (length (input_spelling (input_of input.now))))
+        × (D.calls disk.new ≤ D.calls disk.old + part_count (length (input_spelling (input_of input.now))))) }
+    ensures calls { D.calls disk.new + owed ahead.new.unsynced ≤ D.calls disk.old + owed ahead.old.unsynced + snapshot_calls (machine.state_in engine.old) + record_calls (input_of input.now) }
+    ensures device { CountsDevice result (D.failures disk.old) (D.failures disk.new) }
+    ensures size { D.size disk.new ≡ D.size disk.old }
+    ensures honest { D.honest disk.new ≡ D.honest disk.old }
+{
+    let next = engine.plan(input)?;
+    if next.has_effect() {
+        return record(alloc, disk, ahead, engine, input, next);
+    }
+    let (reply, actions, back) = engine.commit(next);
+    Ok((Receipt::new(reply, actions), back))
+}
+
+/// Takes one input of a list and answers it, and keeps the way back from its step. It is refused where a disk call fails (E16).
+fn take_one<D: Disk>(
+    alloc: Global,
+    disk: &mut D,
+    ahead: &mut Ahead,
+    engine: &mut Engine,
+    input: &Input,
+    backs: &mut Vec<Back>,
+) -> Result<Result<Receipt, Refusal>, Refusal>
+    requires held { MayHold ahead.old.log.layout (machine.size_in engine.old) (machine.state_in engine.old) }
+    requires room { vec_len backs.old + 1 ≤ vec_capacity backs.old }
+    ensures ok { IfOk result (λ answer. Answered (machine.size_in engine.old) (machine.state_in engine.old) (input_of input.now) answer (machine.state_in engine.new)) }
+    ensures during { IfOk result (λ answer. IsTrue (D.honest disk.old) → (s : State) (before : List model.Input) → UnderwayIn s before (D.past disk.old) ahead.old (machine.state_in engine.old)
+        → During (D.past disk.old) (D.past disk.new) (IsBegun ahead.old.log.layout s (before ++ where_step answer (input_of input.now)))) }
+    ensures under { IfOk result (λ answer. IsTrue (D.honest disk.old) → (s : State) (before : List model.Input) → UnderwayIn s before (D.past disk.old) ahead.old (machine.state_in engine.old)
+        → UnderwayIn s (before ++ where_step answer (input_of input.now)) (D.past disk.new) ahead.new (machine.state_in engine.new)) }
+    ensures lost { OnErr result (IsTrue (D.honest disk.old) → (s : State) (before : List model.Input) → UnderwayIn s before (D.past disk.old) ahead.old (machine.state_in engine.old)
+        → During (D.past disk.old) (D.past disk.new) (IsBegun ahead.old.log.layout s (before ++ input_of input.now ∷ []))) }
+    ensures back { state_before_all backs.new.items (machine.standing_in engine.new) ≡ state_before_all backs.old.items (machine.standing_in engine.old) }
+    ensures one { vec_len backs.new ≤ vec_len backs.old + 1 }
+    ensures capacity { vec_capacity backs.old ≤ vec_capacity backs.new }
+    ensures held { MayHold ahead.new.log.layout (machine.size_in engine.new) (machine.state_in engine.new) }
+    ensures sized { machine.size_in engine.new ≡ machine.size_in engine.old }
+    ensures layout { ahead.new.log.layout ≡ ahead.old.log.layout }
+    ensures grows { ahead.old.log.generation ≤ ahead.new.log.generation }
+    ensures free { IfOk result (λ answer. (from : ℕ) → IsFreeAt ahead.old.log from → IsFreeAt ahead.new.log (from + sectors_for answer (input_of input.now))) }
+    ensures refused { IfErr result (λ e. e ≡ Refusal.Device) }
+    ensures idle { IsIdle (machine.state_in engine.old) (input_of input.now) → (disk.new ≡ disk.old) × (ahead.new ≡ ahead.old) × (machine.state_in engine.new ≡ machine.state_in engine.old) }
+    ensures unrecorded { IfOk result (λ answer. HasNoRecord (machine.state_in engine.old) (input_of input.now) answer
+        → (disk.new ≡ disk.old) × (ahead.new ≡ ahead.old) × (machine.state_in engine.new ≡ machine.state_in engine.old)) }
+    ensures clean { IfOk result (λ answer. ahead.new.unsynced ≡ false → (ahead.old.unsynced ≡ false) × HasNoRecord (machine.state_in engine.old) (input_of input.now) answer) }
+    ensures fitted { IfOk result (λ answer. ahead.old.log.next + sectors_for answer (input_of input.now) ≤ log_end ahead.old.log.layout ahead.old.log.generation
+        → (IsTrue (D.honest disk.old) → sync_count (D.past disk.new) ≡ sync_count (D.past disk.old))
+        × (ahead.new.log.next ≤ ahead.old.log.next + sectors_for answer (input_of input.now))
+        × (D.calls disk.new ≤ D.calls disk.old + sectors_for answer (input_of input.now))) }
+    ensures spent { IfOk result (λ answer. answer ≡ Err Refusal.GenerationsSpent → LacksRoom ahead.old.log (length (input_spelling (input_of input.now)))) }
+    ensures calls { D.calls disk.new + owed ahead.new.unsynced ≤ D.calls disk.old + owed ahead.old.unsynced + (sector_count (body_limit ahead.old.log.layout) + 3) + record_calls (input_of input.now) }
+    ensures device { CountsDevice result (D.failures disk.old) (D.failures disk.new) }
+    ensures size { D.size disk.new ≡ D.size disk.old }
+    ensures honest { D.honest disk.new ≡ D.honest disk.old }
+{
+    // most inputs are reports that processes run on, of which nothing is planned, and to which no way leads back
+    if engine.is_idle(input) {
+        return Ok(Ok(Receipt::done(alloc)));
+    }
+    match take_step(alloc, disk, ahead, engine, input) {
+        Ok((receipt, back)) => {
+            keep(backs, back);
+            Ok(Ok(receipt))
+        }
+        Err(refusal) => {
+            if is_fault(&refusal) {
+                return Err(refusal);
+            }
+            Ok(Err(refusal))
+        }
+    }
+}
+
+/// Takes the inputs of a list, up to the first at which a disk call fails (E16). Their records aren't synced yet.
+fn take_all<D: Disk>(
+    alloc: Global,
+    disk: &mut D,
+    ahead: &mut Ahead,
+    engine: &mut Engine,
+    inputs: &[Input],
+    answers: &mut Vec<Result<Receipt, Refusal>>,
+    backs: &mut Vec<Back>,
+) -> Result<(), Refusal>
+    requires held { MayHold ahead.old.log.layout (machine.size_in engine.old) (machine.state_in engine.old) }
+    requires synced { ahead.old.unsynced ≡ false }
+    requires none { answers.old.items ≡ [] }
+    requires room { vec_len answers.old + length inputs.now ≤ vec_capacity answers.old }
+    requires ways { vec_len backs.old + length inputs.now ≤ vec_capacity backs.old }
+    ensures ok { OnOk result (AreAnswered (machine.size_in engine.old) (machine.state_in engine.old) (map input_of inputs.now) answers.new.items (machine.state_in engine.new)) }
+    ensures during { OnOk result (IsTrue (D.honest disk.old) → KeptIn (D.past disk.old) (D.size disk.old) ahead.old (machine.state_in engine.old)
+        → During (D.past disk.old) (D.past disk.new) (IsBegun ahead.old.log.layout (machine.state_in engine.old) (taken (map input_of inputs.now) answers.new.items))) }
+    ensures under { OnOk result (IsTrue (D.honest disk.old) → KeptIn (D.past disk.old) (D.size disk.old) ahead.old (machine.state_in engine.old)
+        → UnderwayIn (machine.state_in engine.old) (taken (map input_of inputs.now) answers.new.items) (D.past disk.new) ahead.new (machine.state_in engine.new)) }
+    ensures stopped { OnErr result (StopsAt (machine.size_in engine.old) (machine.state_in engine.old) (map input_of inputs.now) answers.new.items) }
+    ensures lost { OnErr result (IsTrue (D.honest disk.old) → KeptIn (D.past disk.old) (D.size disk.old) ahead.old (machine.state_in engine.old)
+        → During (D.past disk.old) (D.past disk.new)
+        (IsBegun ahead.old.log.layout (machine.state_in engine.old) (taken (map input_of inputs.now) (answers.new.items ++ Err Refusal.Device ∷ [])))) }
+    ensures back { state_before_all backs.new.items (machine.standing_in engine.new) ≡ state_before_all backs.old.items (machine.standing_in engine.old) }
+    ensures held { MayHold ahead.new.log.layout (machine.size_in engine.new) (machine.state_in engine.new) }
+    ensures sized { machine.size_in engine.new ≡ machine.size_in engine.old }
+    ensures layout { ahead.new.log.layout ≡ ahead.old.log.layout }
+    ensures refused { IfErr result (λ e. e ≡ Refusal.Device) }
+    ensures idle { AllByRecursion (IsIdle (machine.state_in engine.old)) (map input_of inputs.now) → (disk.new ≡ disk.old) × (ahead.new ≡ ahead.old) }
+    ensures unrecorded { OnOk result (HaveNoRecord (machine.state_in engine.old) (map input_of inputs.now) answers.new.items → (disk.new ≡ disk.old) × (ahead.new ≡ ahead.old)) }
+    ensures unwritten { OnErr result ((rest : List Answer) → NeedNoRecord (machine.state_in engine.old) (map input_of inputs.now) (answers.new.items ++ Err Refusal.Device ∷ rest)
+        → disk.new ≡ disk.old) }
+    ensures left { OnErr result (length answers.new.items < length inputs.now) }
+    ensures clean { OnOk result (ahead.new.unsynced ≡ false → HaveNoRecord (machine.state_in engine.old) (map input_of inputs.now) answers.new.items) }
+    ensures dirty { OnOk result (ahead.new.unsynced ≡ true → HasReceipt answers.new.items) }
+    ensures fitted { OnOk result (ahead.old.log.next + all_sectors (map input_of inputs.now) answers.new.items ≤ log_end ahead.old.log.layout ahead.old.log.generation
+        → (IsTrue (D.honest disk.old) → sync_count (D.past disk.new) ≡ sync_count (D.past disk.old))
+        × (D.calls disk.new ≤ D.calls disk.old + all_sectors (map input_of inputs.now) answers.new.items)) }
+    ensures capacity { length inputs.now ≤ vec_capacity answers.new }
+    ensures spent { (count from : ℕ) → IsFreeAt ahead.old.log from
+        → AreSpentAt ahead.old.log.layout ahead.new.log.generation from (map input_of inputs.now) (answers.new.items ++ replicate count (Err Refusal.Device)) }
+    ensures calls { D.calls disk.new + owed ahead.new.unsynced ≤ D.calls disk.old + most_calls ahead.old.log.layout (map input_of inputs.now) }
+    ensures device { CountsDevice result (D.failures disk.old) (D.failures disk.new) }
+    ensures size { D.size disk.new ≡ D.size disk.old }
+    ensures honest { D.honest disk.new ≡ D.honest disk.old }
+{
+    for input in inputs {
+        let answer = take_one(alloc, disk, ahead, engine, input, backs)?;
+        note(answers, answer);
+    }
+    Ok(())
+}
+
+/// Syncs what was written, if anything was. E16.
+fn settle<D: Disk>(disk: &mut D, ahead: Ahead) -> Result<(), Refusal>
+    ensures during { IsTrue (D.honest disk.old) → (s : State) (before : List model.Input) (state : State) → UnderwayIn s before (D.past disk.old) ahead state
+        → During (D.past disk.old) (D.past disk.new) (IsBegun ahead.log.layout s before) }
+    ensures ok { OnOk result (IsTrue (D.honest disk.old) → (sectors : ℕ) (s : State) (before : List model.Input) (state : State) → store_sectors ahead.log.layout ≤ sectors
+        → UnderwayIn s before (D.past disk.old) ahead state → KeptIn (D.past disk.new) sectors ahead state) }
+    ensures untouched { ahead.unsynced ≡ false → disk.new ≡ disk.old }
+    ensures needed { OnErr result (ahead.unsynced ≡ true) }
+    ensures syncs { OnOk result (IsTrue (D.honest disk.old) → sync_count (D.past disk.new) ≡ sync_count (D.past disk.old) + owed ahead.unsynced) }
+    ensures calls { D.calls disk.new ≤ D.calls disk.old + owed ahead.unsynced }
+    ensures refused { IfErr result (λ e. e ≡ Refusal.Device) }
+    ensures device { CountsDevice result (D.failures disk.old) (D.failures disk.new) }
+    ensures size { D.size disk.new ≡ D.size disk.old }
+    ensures honest { D.honest disk.new ≡ D.honest disk.old }
+{
+    if ahead.unsynced {
+        return ahead.log.flush(disk);
+    }
+    Ok(())
+}
+
+/// Takes the inputs of a list, with one sync behind the records of them all. E16.
+fn record_all<D: Disk>(
+    alloc: Global,
+    disk: &mut D,
+    ahead: &mut Ahead,
+    engine: &mut Engine,
+    inputs: &[Input],
+    answers: &mut Vec<Result<Receipt, Refusal>>,
+    backs: &mut Vec<Back>,
+) -> Result<(), Refusal>
+    requires held { MayHold ahead.old.log.layout (machine.size_in engine.old) (machine.state_in engine.old) }
+    requires synced { ahead.old.unsynced ≡ false }
+    requires none { answers.old.items ≡ [] }
+    requires room { vec_len answers.old + length inputs.now ≤ vec_capacity answers.old }
+    requires ways { vec_len backs.old + length inputs.now ≤ vec_capacity backs.old }
+    ensures ok { OnOk result (AreAnswered (machine.size_in engine.old) (machine.state_in engine.old) (map input_of inputs.now) answers.new.items (machine.state_in engine.new)) }
+    ensures during { OnOk result (IsTrue (D.honest disk.old) → KeptIn (D.past disk.old) (D.size disk.old) ahead.old (machine.state_in engine.old)
+        → During (D.past disk.old) (D.past disk.new) (IsBegun ahead.old.log.layout (machine.state_in engine.old) (taken (map input_of inputs.now) answers.new.items))) }
+    ensures kept { OnOk result (IsTrue (D.honest disk.old) → KeptIn (D.past disk.old) (D.size disk.old) ahead.old (machine.state_in engine.old)
+        → KeptIn (D.past disk.new) (D.size disk.old) ahead.new (machine.state_in engine.new)) }
+    ensures stopped { OnErr result (StopsAt (machine.size_in engine.old) (machine.state_in engine.old) (map input_of inputs.now) answers.new.items) }
+    ensures lost { OnErr result (IsTrue (D.honest disk.old) → KeptIn (D.past disk.old) (D.size disk.old) ahead.old (machine.state_in engine.old)
+        → During (D.past disk.old) (D.past disk.new)
+        (IsBegun ahead.old.log.layout (machine.state_in engine.old) (taken (map input_of inputs.now) (answers.new.items ++ Err Refusal.Device ∷ [])))) }
+    ensures back { state_before_all backs.new.items (machine.standing_in engine.new) ≡ state_before_all backs.old.items (machine.standing_in engine.old) }
+    ensures held { MayHold ahead.new.log.layout (machine.size_in engine.new) (machine.state_in engine.new) }
+    ensures sized { machine.size_in engine.new ≡ machine.size_in engine.old }
+    ensures layout { ahead.new.log.layout ≡ ahead.old.log.layout }
+    ensures refused { IfErr result (λ e. e ≡ Refusal.Device) }
+    ensures idle { AllByRecursion (IsIdle (machine.state_in engine.old)) (map input_of inputs.now) → disk.new ≡ disk.old }
+    ensures unrecorded { OnOk result (HaveNoRecord (machine.state_in engine.old) (map input_of inputs.now) answers.new.items → disk.new ≡ disk.old) }
+    ensures unwritten { OnErr result ((rest : ℕ) → length inputs.now ≤ length answers.new.items + rest
+        → NeedNoRecord (machine.state_in engine.old) (map input_of inputs.now) (map denied answers.new.items ++ replicate rest (Err Refusal.Device)) → disk.new ≡ disk.old) }
+    ensures one_sync { OnOk result (IsTrue (D.honest disk.old) → ahead.old.log.next + all_sectors (map input_of inputs.now) answers.new.items ≤ log_end ahead.old.log.layout ahead.old.log.generation
+        → ¬ HaveNoRecord (machine.state_in engine.old) (map input_of inputs.now) answers.new.items → sync_count (D.past disk.new) ≡ sync_count (D.past disk.old) + 1) }
+    ensures few_calls { OnOk result (ahead.old.log.next + all_sectors (map input_of inputs.now) answers.new.items ≤ log_end ahead.old.log.layout ahead.old.log.generation
+        → D.calls disk.new ≤ D.calls disk.old + all_sectors (map input_of inputs.now) answers.new.items + 1) }
+    ensures capacity { length inputs.now ≤ vec_capacity answers.new }
+    ensures spent { (count from : ℕ) → IsFreeAt ahead.old.log from
+        → AreSpentAt ahead.old.log.layout ahead.new.log.generation from (map input_of inputs.now) (answers.new.items ++ replicate count (Err Refusal.Device)) }
+    ensures calls { D.calls disk.new ≤ D.calls disk.old + most_calls ahead.old.log.layout (map input_of inputs.now) }
+    ensures device { CountsDevice result (D.failures disk.old) (D.failures disk.new) }
+    ensures size { D.size disk.new ≡ D.size disk.old }
+    ensures honest { D.honest disk.new ≡ D.honest disk.old }
+{
+    take_all(alloc, disk, ahead, engine, inputs, answers, backs)?;
+    settle(disk, *ahead)
+}
+
 impl<D: Disk> Keeper<D> {
-    /// Takes one input of a list and answers it, and keeps the way back from its step. It is refused where a disk call fails (E16).
-    fn take_one(
-        &mut self,
-        input: &Input,
-        backs: &mut Vec<Back>,
-    ) -> Result<Result<Receipt, Refusal>, Refusal>
-        requires working { self.old.failed ≡ false }
-        requires room { vec_len backs.old + 1 ≤ vec_capacity backs.old }
-        ensures ok { IfOk result (λ answer. Answered (size_in self.old) (state_in self.old) (input_of input.now) answer (state_in self.new)) }
-        ensures during { IfOk result (λ answer. IsTrue (D.honest (disk_in self.old))
-            → During (D.past (disk_in self.old)) (D.past (disk_in self.new)) (IsBegun (layout_in self.old) (state_in self.old) (where_step answer (input_of input.now)))) }
-        ensures lost { OnErr result (IsTrue (D.honest (disk_in self.old))
-            → During (D.past (disk_in self.old)) (D.past (disk_in self.new)) (IsBegun (layout_in self.old) (state_in self.old) (input_of input.now ∷ []))) }
-        ensures back { state_before_all backs.new.items (standing_in self.new) ≡ state_before_all backs.old.items (standing_in self.old) }
-        ensures one { vec_len backs.new ≤ vec_len backs.old + 1 }
-        ensures capacity { vec_capacity backs.old ≤ vec_capacity backs.new }
-        ensures place { IsSamePlace self.old self.new }
-        ensures log_grows { log_generation_in self.old ≤ log_generation_in self.new }
-        ensures free { IfOk result (λ answer. (from : ℕ) → IsFreeFrom self.old from → IsFreeFrom self.new (from + sectors_for answer (input_of input.now))) }
-        ensures refused { IfErr result (λ e. e ≡ Refusal.Device) }
-        ensures idle { IsIdle (state_in self.old) (input_of input.now) → (disk_in self.new ≡ disk_in self.old) × (state_in self.new ≡ state_in self.old) }
-        ensures unrecorded { IfOk result (λ answer. IsRefusal answer → (disk_in self.new ≡ disk_in self.old) × (state_in self.new ≡ state_in self.old)) }
-        ensures device { CountsDevice result (D.failures (disk_in self.old)) (D.failures (disk_in self.new)) }
-        ensures failed { (has_failed self.new ≡ true) ↔ (result ≡ Err Refusal.Device) }
-        ensures spent { IfOk result (λ answer. answer ≡ Err Refusal.GenerationsSpent → HasNoRoom self.old (length (input_spelling (input_of input.now)))) }
-        ensures calls { D.calls (disk_in self.new) ≤ D.calls (disk_in self.old) + (sector_count (body_limit (layout_in self.old)) + 3) + record_calls (input_of input.now) }
-        ensures size { D.size (disk_in self.new) ≡ D.size (disk_in self.old) }
-        ensures honest { D.honest (disk_in self.new) ≡ D.honest (disk_in self.old) }
-    {
-        // most inputs are reports that processes run on, of which nothing is planned, and to which no way leads back
-        if self.engine.is_idle(input) {
-            return Ok(Ok(Receipt::done(self.alloc)));
-        }
-        match self.take_step(input) {
-            Ok((receipt, back)) => {
-                keep(backs, back);
-                Ok(Ok(receipt))
-            }
-            Err(refusal) => {
-                if self.failed {
-                    return Err(refusal);
-                }
-                Ok(Err(refusal))
-            }
-        }
-    }
-
-    /// Takes the inputs of a list, up to the first at which a disk call fails (E16).
-    fn take_all(
-        &mut self,
-        inputs: &[Input],
-        answers: &mut Vec<Result<Receipt, Refusal>>,
-        backs: &mut Vec<Back>,
-    ) -> Result<(), Refusal>
-        requires working { self.old.failed ≡ false }
-        requires none { answers.old.items ≡ [] }
-        requires room { vec_len answers.old + length inputs.now ≤ vec_capacity answers.old }
-        requires ways { vec_len backs.old + length inputs.now ≤ vec_capacity backs.old }
-        ensures ok { OnOk result (AreAnswered (size_in self.old) (state_in self.old) (map input_of inputs.now) answers.new.items (state_in self.new)) }
-        ensures during { OnOk result (IsTrue (D.honest (disk_in self.old))
-            → During (D.past (disk_in self.old)) (D.past (disk_in self.new))
-            (IsBegun (layout_in self.old) (state_in self.old) (taken (map input_of inputs.now) answers.new.items))) }
-        ensures stopped { OnErr result (StopsAt (size_in self.old) (state_in self.old) (map input_of inputs.now) answers.new.items) }
-        ensures lost { OnErr result (IsTrue (D.honest (disk_in self.old))
-            → During (D.past (disk_in self.old)) (D.past (disk_in self.new))
-            (IsBegun (layout_in self.old) (state_in self.old) (taken (map input_of inputs.now) (answers.new.items ++ Err Refusal.Device ∷ [])))) }
-        ensures back { state_before_all backs.new.items (standing_in self.new) ≡ state_before_all backs.old.items (standing_in self.old) }
-        ensures place { IsSamePlace self.old self.new }
-        ensures refused { IfErr result (λ e. e ≡ Refusal.Device) }
-        ensures idle { AllByRecursion (IsIdle (state_in self.old)) (map input_of inputs.now) → disk_in self.new ≡ disk_in self.old }
-        ensures unrecorded { OnOk result (NeedNoRecord (state_in self.old) (map input_of inputs.now) answers.new.items → disk_in self.new ≡ disk_in self.old) }
-        ensures unwritten { OnErr result ((rest : List Answer) → NeedNoRecord (state_in self.old) (map input_of inputs.now) (answers.new.items ++ Err Refusal.Device ∷ rest)
-            → disk_in self.new ≡ disk_in self.old) }
-        ensures capacity { length inputs.now ≤ vec_capacity answers.new }
-        ensures device { CountsDevice result (D.failures (disk_in self.old)) (D.failures (disk_in self.new)) }
-        ensures failed { (has_failed self.new ≡ true) ↔ (result ≡ Err Refusal.Device) }
-        ensures spent { (count from : ℕ) → IsFreeFrom self.old from
-            → AreSpentAt (layout_in self.old) (log_generation_in self.new) from (map input_of inputs.now) (answers.new.items ++ replicate count (Err Refusal.Device)) }
-        ensures calls { D.calls (disk_in self.new) ≤ D.calls (disk_in self.old) + most_calls (layout_in self.old) (map input_of inputs.now) }
-        ensures size { D.size (disk_in self.new) ≡ D.size (disk_in self.old) }
-        ensures honest { D.honest (disk_in self.new) ≡ D.honest (disk_in self.old) }
-    {
-        for input in inputs {
-            let answer = self.take_one(input, backs)?;
-            note(answers, answer);
-        }
-        Ok(())
-    }
-
-    /// Takes a list of inputs one behind the other, each with its own record and sync, and answers each of them: by its receipt, by its
-    /// step's refusal (E4 to E14, E21), or, with none of the others touched, by E15, or by E20 where its record has no room and the
-    /// generation is the last.
+    /// Takes a list of inputs one behind the other, each with its own record, and one sync behind them all, and answers each of them: by
+    /// its receipt, by its step's refusal (E4 to E14, E21), or, with none of the others touched, by E15, or by E20 where its record has no
+    /// room and the generation is the last.
+    ///
+    /// A record that has no room makes a checkpoint first, whose first sync covers those that were written. Where nothing is to be
+    /// recorded there is no disk call.
     ///
     /// Where a disk call fails the state is that from before, no receipt is given, and each input that wasn't refused for another cause
     /// is answered E16; behind the one at which it failed none is judged.
@@ -219,6 +383,15 @@ impl<D: Disk> Keeper<D> {
         ensures spent { IfOk result (λ answers. (from : ℕ) → IsFreeFrom self.old from
             → AreSpentAt (layout_in self.old) (log_generation_in self.new) from (map input_of inputs.items) answers.items) }
         ensures calls { D.calls (disk_in self.new) ≤ D.calls (disk_in self.old) + most_calls (layout_in self.old) (map input_of inputs.items) }
+        ensures one_sync { IfOk result (λ answers. has_failed self.new ≡ false → IsTrue (D.honest (disk_in self.old))
+            → next_in self.old + all_sectors (map input_of inputs.items) answers.items ≤ log_end (layout_in self.old) (log_generation_in self.old)
+            → (HaveNoRecord (state_in self.old) (map input_of inputs.items) answers.items → sync_count (D.past (disk_in self.new)) ≡ sync_count (D.past (disk_in self.old)))
+            × (¬ HaveNoRecord (state_in self.old) (map input_of inputs.items) answers.items → sync_count (D.past (disk_in self.new)) ≡ sync_count (D.past (disk_in self.old)) + 1)) }
+        ensures no_call { IfOk result (λ answers. has_failed self.new ≡ false → HaveNoRecord (state_in self.old) (map input_of inputs.items) answers.items
+            → disk_in self.new ≡ disk_in self.old) }
+        ensures few_calls { IfOk result (λ answers. has_failed self.new ≡ false
+            → next_in self.old + all_sectors (map input_of inputs.items) answers.items ≤ log_end (layout_in self.old) (log_generation_in self.old)
+            → D.calls (disk_in self.new) ≤ D.calls (disk_in self.old) + all_sectors (map input_of inputs.items) answers.items + 1) }
         ensures size { D.size (disk_in self.new) ≡ D.size (disk_in self.old) }
         ensures honest { D.honest (disk_in self.new) ≡ D.honest (disk_in self.old) }
     {
@@ -228,9 +401,29 @@ impl<D: Disk> Keeper<D> {
         let count = inputs.len();
         let mut backs = Vec::with_capacity(self.alloc, count)?;
         let mut answers = Vec::with_capacity(self.alloc, count)?;
-        match self.take_all(&inputs, &mut answers, &mut backs) {
-            Ok(()) => Ok(answers),
+        let mut ahead = Ahead {
+            home: self.home,
+            log: self.log,
+            unsynced: false,
+        };
+        match record_all(
+            self.alloc,
+            &mut self.disk,
+            &mut ahead,
+            &mut self.engine,
+            &inputs,
+            &mut answers,
+            &mut backs,
+        ) {
+            Ok(()) => {
+                self.home = ahead.home;
+                self.log = ahead.log;
+                Ok(answers)
+            }
             Err(_) => {
+                self.home = ahead.home;
+                self.log = ahead.log;
+                self.failed = true;
                 go_back(&mut self.engine, backs);
                 deny(&mut answers, count);
                 Ok(answers)

@@ -27,11 +27,11 @@ use um_wire::{Refusal, read_whole, spell};
 /// What was taken up of a disk: the layout of its store, where the newest snapshot stands, the engine in the state that the store stands for,
 /// and the log behind the records that were replayed to it.
 #[derive(Drop)]
-struct Found {
+pub(crate) struct Found {
     layout: Layout,
-    home: Home,
-    engine: Engine,
-    log: Log,
+    pub(crate) home: Home,
+    pub(crate) engine: Engine,
+    pub(crate) log: Log,
 }
 
 /// What a keeper needs beside its disk.
@@ -138,7 +138,7 @@ fn replay<D: Disk>(
 }
 
 /// Takes up the store that a disk holds, and writes nothing.
-fn take_up<D: Disk>(alloc: Global, disk: &mut D) -> Result<Found, Refusal>
+pub(crate) fn take_up<D: Disk>(alloc: Global, disk: &mut D) -> Result<Found, Refusal>
     ensures found { IfOk result (λ f. IsTrue (D.honest disk.old)
         → IsTakenUp (D.size disk.old) (seen (D.past disk.old)) f.layout f.home.slot f.home.generation (state_in f.engine)) }
     ensures read { IfOk result (λ f. IsTrue (D.honest disk.old)

@@ -7,9 +7,9 @@ use Rattle.clap.specs.declared.error.kind.ErrorKind.{ErrorKind}
 use Rattle.clap.specs.declared.error.kind.ErrorKind.TheVariants.{OutOfMemory}
 use Rattle.std.proofs.lemmas.Fmt.{decimal_injective}
 use Rattle.std.specs.Prelude.{decimal}
-use Rattle.um_line.specs.Line.{IsNoCode, IsNoNumber, IsReadLine, last_refusal, IsToldAs, TellsMistake, umd_words, create_words, serve_words, ctl_words}
+use Rattle.um_line.specs.Line.{IsNoCode, IsNoNumber, IsReadLine, last_refusal, IsToldAs, TellsMistake, umd_words, create_words, check_words, serve_words, ctl_words}
 use Rattle.um_line.specs.declared.line.Line.{Line}
-use Rattle.um_line.specs.declared.line.Line.TheVariants.{Memory, Run, Create, Serve, LongBoot, Ctl, Help, Told, Wrong}
+use Rattle.um_line.specs.declared.line.Line.TheVariants.{Memory, Run, Create, Check, Serve, LongBoot, Ctl, Help, Told, Wrong}
 
 -- the words of the program are simple ones
 pub umd_simple : is_simple_and_free umd_words ≡ true
@@ -23,6 +23,14 @@ create_simple = refl
 pub create_plain : is_simple create_words ≡ true
 unfolding clap_on_literals
 create_plain = refl
+
+pub check_simple : is_simple_and_free check_words ≡ true
+unfolding clap_on_literals
+check_simple = refl
+
+pub check_plain : is_simple check_words ≡ true
+unfolding clap_on_literals
+check_plain = refl
 
 pub serve_simple : is_simple_and_free serve_words ≡ true
 unfolding clap_on_literals
@@ -47,6 +55,7 @@ told mistakes kind (Wrong text) among (no_help, no_version) = (kind, among, no_h
 told mistakes kind Memory among is = absurd is
 told mistakes kind (Run line) among is = absurd is
 told mistakes kind (Create line) among is = absurd is
+told mistakes kind (Check line) among is = absurd is
 told mistakes kind (Serve line) among is = absurd is
 told mistakes kind LongBoot among is = absurd is
 told mistakes kind (Ctl line) among is = absurd is

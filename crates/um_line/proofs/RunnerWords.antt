@@ -4,7 +4,7 @@ use Rattle.std.proofs.lemmas.Fmt.{decimal_injective}
 use Rattle.std.proofs.lemmas.List.{take_at, drop_at}
 use Rattle.um_line.specs.Line.{IsRunLine, IsToRun}
 use Rattle.um_line.specs.declared.line.Line.{Line}
-use Rattle.um_line.specs.declared.line.Line.TheVariants.{Memory, Run, Create, Serve, LongBoot, Ctl, Help, Told, Wrong}
+use Rattle.um_line.specs.declared.line.Line.TheVariants.{Memory, Run, Create, Check, Serve, LongBoot, Ctl, Help, Told, Wrong}
 use Rattle.um_runner.specs.Jobs.{entries_of, words_of}
 use Rattle.um_runner.specs.Runner.{runner_words}
 use Rattle.um_runner.specs.RunnerLines.{IsRunnerLine}
@@ -46,6 +46,7 @@ are_run folder number entries command words (Told text) small says is = absurd (
 are_run folder number entries command words (Wrong text) small says is = absurd (is.1 folder number entries command says)
 are_run folder number entries command words Memory small says is = absurd is
 are_run folder number entries command words (Create line) small says is = absurd is
+are_run folder number entries command words (Check line) small says is = absurd is
 are_run folder number entries command words (Serve line) small says is = absurd is
 are_run folder number entries command words LongBoot small says is = absurd is
 are_run folder number entries command words (Ctl line) small says is = absurd is

@@ -1,17 +1,18 @@
 -- What the words of a command line ask for: the words as clap reads them, and what each of its mistakes becomes.
 -- No manual page has this: it is the program's own (docs/FORMATS.md, "The program").
 -- The program stands on this file.
-use Rattle.std.specs.Prelude.{⊤, ◌≡◌, ◌≢◌, ◌⊎◌, ◌<◌, ◌≤◌, ◌^◌, ℕ, List, [], ◌∷◌, true, Option, Some, None, map, option_map, slice_get, bytes_eq, codes, decimal, drop, length, if◌then◌else◌}
+use Rattle.std.specs.Prelude.{⊤, ◌≡◌, ◌≢◌, ◌⊎◌, ◌↔◌, ◌<◌, ◌≤◌, ◌^◌, ℕ, List, [], ◌∷◌, true, Option, Some, None, map, option_map, slice_get, bytes_eq, codes, decimal, drop, length, if◌then◌else◌}
 use Rattle.clap.specs.Words.{App, Kinds, Row, Rule, IsAmong, all_of, fault_of, first_of, matches_of, new_app, new_rule, with_rule}
 use Rattle.clap.specs.Simple.{on_top}
 use Rattle.clap.specs.declared.builder.action.ArgAction.TheVariants.{SetTrue, Append}
 use Rattle.clap.specs.declared.error.kind.ErrorKind.{ErrorKind}
 use Rattle.clap.specs.declared.error.kind.ErrorKind.TheVariants.{DisplayHelp, DisplayVersion}
+use Rattle.um_line.specs.declared.check.CheckLine.{CheckLine}
 use Rattle.um_line.specs.declared.create.CreateLine.{CreateLine}
 use Rattle.um_line.specs.declared.ctl.CtlLine.{CtlLine}
 use Rattle.um_line.specs.declared.serve.ServeLine.{ServeLine}
 use Rattle.um_line.specs.declared.line.Line.{Line}
-use Rattle.um_line.specs.declared.line.Line.TheVariants.{Memory, Run, Create, Serve, LongBoot, Ctl, Help, Told, Wrong}
+use Rattle.um_line.specs.declared.line.Line.TheVariants.{Memory, Run, Create, Check, Serve, LongBoot, Ctl, Help, Told, Wrong}
 use Rattle.um_line.specs.declared.line.Subcommand.{Subcommand}
 use Rattle.um_line.specs.declared.line.Subcommand.TheVariants as sub
 use Rattle.um_runner.specs.Jobs.{entries_of, words_of}
@@ -31,6 +32,10 @@ word_rule name = record (new_rule name) { required = true; value_names = 1 }
 abbrev pub optional_rule : List ℕ → Rule
 optional_rule name = record (new_rule name) { long = Some name; value_names = 1 }
 
+-- a flag that may be left out
+abbrev pub flag_rule : List ℕ → Rule
+flag_rule name = record (new_rule name) { long = Some name; action = Some SetTrue }
+
 -- words of which one has to be given at least
 abbrev pub words_rule : List ℕ → Rule
 words_rule name = record (new_rule name) { required = true; value_names = 1; action = Some Append }
@@ -47,6 +52,10 @@ umd_words = on_top (λ s. record s { has_version = true }) (with_rule (new_app (
 abbrev pub create_words : App
 create_words =
     with_rule (with_rule (with_rule (new_app (codes "umd create")) (option_rule (codes "slot"))) (option_rule (codes "log"))) (word_rule (codes "file"))
+
+-- the words of `umd check`
+abbrev pub check_words : App
+check_words = with_rule (with_rule (new_app (codes "umd check")) (flag_rule (codes "units"))) (word_rule (codes "file"))
 
 -- the words of `umd serve`
 abbrev pub serve_words : App
@@ -166,6 +175,21 @@ TakesCreate rows other = ⊥
 abbrev pub IsCreateLine : List (List ℕ) → Line → Type 0
 IsCreateLine words = IsReadLine (fault_of create_words words) (TakesCreate (matches_of create_words words))
 
+-- a store that is looked at, and whether its units are asked for
+abbrev pub IsCheck : List Row → CheckLine → Type 0
+IsCheck rows line =
+    ((line.units ≡ true) ↔ (first_of (codes "units") rows ≡ Some (codes "true"))) × (first_of (codes "file") rows ≡ Some line.file.now)
+
+-- what they ask for by these values
+abbrev pub TakesCheck : List Row → Line → Type 0
+TakesCheck rows (Check line) = IsCheck rows line
+TakesCheck rows (Wrong text) = first_of (codes "file") rows ≡ None
+TakesCheck rows other = ⊥
+
+-- what the words from `check` on ask for
+abbrev pub IsCheckLine : List (List ℕ) → Line → Type 0
+IsCheckLine words = IsReadLine (fault_of check_words words) (TakesCheck (matches_of check_words words))
+
 -- what is served, and where
 abbrev pub IsServe : List Row → ServeLine → Type 0
 IsServe rows line =
@@ -233,9 +257,10 @@ named None = sub.Nothing
 named (Some word) =
     if bytes_eq word (codes "run") then sub.Run
     else (if bytes_eq word (codes "create") then sub.Create
+    else (if bytes_eq word (codes "check") then sub.Check
     else (if bytes_eq word (codes "serve") then sub.Serve
     else (if bytes_eq word (codes "ctl") then sub.Ctl
-    else (if bytes_eq word (codes "help") then sub.Help else sub.Nothing))))
+    else (if bytes_eq word (codes "help") then sub.Help else sub.Nothing)))))
 
 -- the subcommand behind the program's name
 abbrev pub subcommand_of : List (List ℕ) → Subcommand
@@ -244,6 +269,7 @@ subcommand_of words = named (slice_get words 1)
 abbrev pub IsLineBy : Subcommand → List (List ℕ) → Line → Type 0
 IsLineBy sub.Run words = IsRunLine (drop 1 (drop 1 words))
 IsLineBy sub.Create words = IsCreateLine (drop 1 words)
+IsLineBy sub.Check words = IsCheckLine (drop 1 words)
 IsLineBy sub.Serve words = IsServeLine (drop 1 words)
 IsLineBy sub.Ctl words = IsCtlLine (drop 1 words)
 IsLineBy sub.Help words = IsHelpLine (drop 1 (drop 1 words))

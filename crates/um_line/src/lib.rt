@@ -1,6 +1,7 @@
 //! The words of the program: what a command line asks for is exactly what the definitions say.
 #![tactic(auto)]
 
+mod check;
 mod create;
 mod ctl;
 mod help;
@@ -13,6 +14,7 @@ mod serve;
 mod top;
 mod values;
 
+pub use check::CheckLine;
 pub use create::CreateLine;
 pub use ctl::CtlLine;
 pub use laws::a_runner_s_words_are_run;

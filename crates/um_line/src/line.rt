@@ -1,6 +1,7 @@
 ghost use Rattle.std.specs.Prelude.{◌≡◌, Some, IfOk, map, drop, string_bytes};
 ghost use Rattle.um_line.specs.Line as model;
 
+use crate::check::{CheckLine, read_check};
 use crate::create::{CreateLine, read_create};
 use crate::ctl::{CtlLine, read_ctl};
 use crate::help::read_help;
@@ -19,6 +20,8 @@ pub enum Line<'a> {
     Run(RunnerLine<'a>),
     /// To make a new store.
     Create(CreateLine<'a>),
+    /// To look at a store.
+    Check(CheckLine<'a>),
     /// To serve a store over a socket.
     Serve(ServeLine<'a>),
     /// To serve, but with an id of the boot past 64 bytes: `E1 BadRequest`.
@@ -38,6 +41,7 @@ pub enum Line<'a> {
 pub enum Subcommand {
     Run,
     Create,
+    Check,
     Serve,
     Ctl,
     Help,
@@ -53,6 +57,8 @@ fn named(word: &str) -> Subcommand
         Subcommand::Run
     } else if word == "create" {
         Subcommand::Create
+    } else if word == "check" {
+        Subcommand::Check
     } else if word == "serve" {
         Subcommand::Serve
     } else if word == "ctl" {
@@ -93,6 +99,7 @@ pub fn read_line<'a>(alloc: Global, words: &'a [String]) -> Result<Line<'a>, All
     match subcommand_of(words) {
         Subcommand::Run => read_run(alloc, behind(behind(words))),
         Subcommand::Create => read_create(alloc, behind(words)),
+        Subcommand::Check => read_check(alloc, behind(words)),
         Subcommand::Serve => read_serve(alloc, behind(words)),
         Subcommand::Ctl => read_ctl(alloc, behind(words)),
         Subcommand::Help => read_help(alloc, behind(behind(words))),

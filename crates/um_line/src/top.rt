@@ -15,6 +15,7 @@ const USAGE: &str = "umd <SUBCOMMAND> [WORDS]..
 
 Subcommands, each with its own --help:
   umd create    makes a new store in a new file
+  umd check     looks at a store that nobody serves, and says what it stands for, or why it can't be opened
   umd serve     serves a store over a socket, and runs the processes of its services
   umd ctl       asks the manager at a socket
   umd run       runs one command as a process of the manager, which calls it

@@ -2,7 +2,7 @@
 
 ghost use Rattle.std.specs.Prelude.{◌≡◌, false, map, option_map};
 ghost use Rattle.clap.specs.Words.{all_of, first_of, found_of, rows_of, rule_of};
-ghost use Rattle.um_line.specs.Line.{option_rule, optional_rule, word_rule, words_rule};
+ghost use Rattle.um_line.specs.Line.{flag_rule, option_rule, optional_rule, word_rule, words_rule};
 
 use clap::{Arg, ArgAction, ArgMatches};
 use std::alloc::Global;
@@ -39,6 +39,17 @@ pub fn optional<'a>(alloc: Global, name: &'a str, value: &'a str, help: &'a str)
         .long(name)
         .value_name(value)
         .help(help)
+}
+
+/// A flag, which may be left out.
+pub fn flag<'a>(alloc: Global, name: &'a str, help: &'a str) -> Arg<'a>
+    ensures rule { rule_of result ≡ flag_rule name.entry.now }
+    ensures local { result.global ≡ false }
+{
+    Arg::new(alloc, name)
+        .long(name)
+        .help(help)
+        .action(ArgAction::SetTrue)
 }
 
 /// Words of which one has to be given at least.

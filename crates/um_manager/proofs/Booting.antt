@@ -1,7 +1,22 @@
 -- What a boot does to the live processes, and that it asks for nothing.
-use Rattle.std.proofs.Common.{◌≡◌, ◌≢◌, ◌⊎◌, ℕ, List, [], None, unwrap_or, refl, sym, subst, inl, inr, arith}
+use Rattle.std.proofs.Common.{◌≡◌, ◌≢◌, ◌⊎◌, ◌↔◌, ◌+◌, ◌≤◌, ◌∙◌, ℕ, List, [], length, length-append, Bool, true, false, true≢false, None, unwrap_or, Result, Ok, Err, refl, sym, ap, subst, inl, inr, arith}
+use Rattle.um_engine.specs.OfStore.{is_of_store}
+use Rattle.um_sector.specs.Refused.{IsLost}
+use Rattle.um_wire.specs.Refusal.{refused_of}
+use Rattle.um_wire.specs.declared.refusal.Refusal as declared
+use Rattle.um_wire.specs.declared.refusal.Refusal.TheVariants.{Reopen, GenerationsSpent}
 use Rattle.std.specs.Bool.{⊤}
 use Rattle.std.specs.FinMap as map
+use Rattle.byteorder.specs.Endian.{big_bytes}
+use Rattle.um_log.specs.Reading.{Fits}
+use Rattle.um_model.proofs.InputLengthLaws.{text_long, number_long}
+use Rattle.um_model.specs.Bytes.{text_spelling}
+use Rattle.um_model.specs.InputSpellings.{input_spelling}
+use Rattle.um_model.specs.Refusals.{Refused, no_room}
+use Rattle.um_model.specs.Store.{log_start}
+use Rattle.um_model.specs.Tree.{Tree}
+use Rattle.um_model.specs.declared.layout.Layout.{Layout}
+use Rattle.um_model.specs.Machine.{boot_limit, Done, Refusal, reply_after}
 use Rattle.um_model.specs.Machine.{State, Input, Reply, Event, Commanded, Happened, Happening, ProcessEnded, ProcessExecuted, Tick, Booted, HasNoEffect, is_over, isnt_awaited, is_idle, is_known, Follows, ends, reports, ticks, boots, TakesEffect, obeys, meets, HasNoRoom, Step, refused, crowded_out, idle, taken}
 use Rattle.um_model.specs.Service.{Action}
 use Rattle.um_model.specs.Service.{dead_unit}
@@ -64,3 +79,54 @@ live_after size moment boot s t reply actions live step same other = elim ((step
   | inl known ↦ subst (λ units. AreLive units live) (sym known.1) (same known.0)
   | inr anew ↦ subst (λ units. AreLive units live) (sym anew.1) (subst (λ l. AreLive map.empty l) (sym (other anew.0)) (record { each = none_live; ascending = λ i j d less within. absurd (omega (arith, within, less)) }))
 ]
+
+-- ---- the reply
+
+abbrev IsDone : Event → Reply → Type 0
+IsDone (Commanded command) reply = ⊤
+IsDone (Happened happening) reply = reply ≡ Done
+
+full : (size : ℕ) (event : Event) (u : State) → HasNoRoom size event u → IsDone event (Refusal no_room)
+full size (Commanded command) u heavy = tt
+full size (Happened happening) u heavy = absurd heavy
+
+replied : (event : Event) (before after : Tree) → IsDone event (reply_after event before after)
+replied (Commanded command) before after = tt
+replied (Happened happening) before after = refl
+
+done : (size : ℕ) (s t : State) (input : Input) (reply : Reply) (actions : List Action) → Step size s input reply actions t → IsDone input.event reply
+done size s t input reply actions (refused r) = tt
+done size s t input reply actions (crowded_out {event = event} {u = u} takes heavy) = full size event u heavy
+done size s t input reply actions (idle effect) = refl
+done size s t input reply actions (taken {event = event} {u = u} takes light) = replied event s.tree u.tree
+
+-- a boot isn't refused by its step
+pub is_answered : (size moment : ℕ) (boot : List ℕ) (s t : State) (r : Refused) (actions : List Action) → Step size s (happens_at moment (Booted boot)) (Refusal r) actions t → ⊥
+is_answered size moment boot s t r actions step = isnt_done (done size s t (happens_at moment (Booted boot)) (Refusal r) actions step)
+  where
+    isnt_done : Refusal r ≡ Done → ⊥
+    isnt_done e = cc
+
+-- so what refuses a boot of a store that didn't fail before is want of memory, the disk, or that it has no room
+pub boot_refused : {T : Type 0} {r : Result T declared.Refusal} {failed : Bool} (size moment : ℕ) (boot : List ℕ) (s : State) (e : declared.Refusal) → r ≡ Err e → failed ≡ false
+    → ((r ≡ Err Reopen) ↔ (failed ≡ true))
+    → (IsLost e ⊎ (e ≡ Reopen) ⊎ (e ≡ GenerationsSpent) ⊎ ((is_of_store e ≡ false) × Step size s (happens_at moment (Booted boot)) (Refusal (refused_of e)) [] s))
+    → IsLost e ⊎ (e ≡ GenerationsSpent)
+boot_refused size moment boot s e is works reopen (inl lost) = inl lost
+boot_refused size moment boot s e is works reopen (inr (inl again)) = absurd (true≢false (sym (reopen.0 (is ∙ ap Err again)) ∙ works))
+boot_refused size moment boot s e is works reopen (inr (inr (inl spent))) = inr spent
+boot_refused size moment boot s e is works reopen (inr (inr (inr own))) = absurd (is_answered size moment boot s s (refused_of e) [] own.1)
+
+-- ---- its record
+
+-- the record of a boot has room in a log that is empty
+pub boot_fits : (layout : Layout) (generation next moment : ℕ) (boot : List ℕ) → length boot ≤ boot_limit → next ≡ log_start layout generation
+    → Fits layout generation next (length (input_spelling (happens_at moment (Booted boot))))
+boot_fits layout generation next moment boot short empty =
+    let spelled : length (input_spelling (happens_at moment (Booted boot))) ≡ 14 + length boot =
+        omega (arith, length-append (big_bytes 8 moment) (text_spelling boot), number_long 8 moment, text_long boot) in
+    record {
+      some = omega (arith, spelled);
+      short = omega (arith, spelled, short);
+      within = omega (arith, spelled, short, empty, layout.log_least);
+    }

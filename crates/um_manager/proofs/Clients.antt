@@ -1,5 +1,5 @@
 -- What one client has of turns that follow each other.
-use Rattle.std.proofs.Common.{◌≡◌, ◌≢◌, inl, inr, ◌∙◌, ◌+◌, ℕ, zero, suc, List, [], ◌∷◌, ◌++◌, map, take, drop, length, true, false, Option, Some, None, Result, Ok, Err, slice_get, append_assoc, append-nil, refl, sym, ap, subst, arith, true≢false}
+use Rattle.std.proofs.Common.{◌≡◌, ◌≢◌, inl, inr, ◌∙◌, ◌+◌, ℕ, zero, suc, List, [], ◌∷◌, ◌++◌, map, take, drop, length, Bool, true, false, Option, Some, None, Result, Ok, Err, slice_get, append_assoc, append-nil, refl, sym, ap, subst, arith, true≢false}
 use Rattle.std.specs.List.{flat_map}
 use Rattle.std.proofs.lemmas.List.{length-append}
 use Rattle.std.proofs.lemmas.List.Concat.{flat_map-append}
@@ -286,7 +286,7 @@ told s answers at replies n p (Some request) (Some asked) t fed c u finds f read
     let (reply, is, puts) = reply_paid s answers at replies n request c u finds paid in
     record { here = (request, reply) ∷ []; is = (reply, is, refl); story = put_out t fed c u p asked request reply f reads given puts }
 
-one_turn : {place : Place} {moment : ℕ} {pieces : List Piece} {a b : Now} (turned : Turned place (Ok tt) moment pieces a b) (k : ℕ) (t : Session) → slice_get a.sessions k ≡ Some t
+one_turn : {place : Place} {h w : Bool} {moment : ℕ} {pieces : List Piece} {a b : Now} (turned : Turned place h w (Ok tt) moment pieces a b) (k : ℕ) (t : Session) → slice_get a.sessions k ≡ Some t
     → slice_get pieces k ≢ Some Closed
     → (u : Session) × (slice_get b.sessions k ≡ Some u) × ToldOf b.state turned.answers (place_of turned k) (slice_get turned.requests k) t u (bytes_in (slice_get pieces k))
 one_turn {moment = moment} {pieces} {a} {b} turned k t at stays =
@@ -328,14 +328,14 @@ story_more t u w xs ys here later p q = record {
       (ap (λ l. l ++ later) first.0 ∙ then.0, then.1, then.2 ∙ first.2);
 }
 
-record ToldAll {place : Place} {steps : List Step} {a b : Now} (k : ℕ) (turns : AllTurned place steps a b) (t : Session) : Type 0 where
+record ToldAll {place : Place} {h w : Bool} {steps : List Step} {a b : Now} (k : ℕ) (turns : AllTurned place h w steps a b) (t : Session) : Type 0 where
   u : Session
   at : slice_get b.sessions k ≡ Some u
   exchanges : List Exchange
   are : AreExchanges k turns exchanges
   story : Story t u (bytes_of k steps) exchanges
 
-told_all : {place : Place} {steps : List Step} {a b : Now} (k : ℕ) (turns : AllTurned place steps a b) (t : Session) → slice_get a.sessions k ≡ Some t → StaysOpen k steps → ToldAll k turns t
+told_all : {place : Place} {h w : Bool} {steps : List Step} {a b : Now} (k : ℕ) (turns : AllTurned place h w steps a b) (t : Session) → slice_get a.sessions k ≡ Some t → StaysOpen k steps → ToldAll k turns t
 told_all k no_turn t at stays = record { u = t; at = at; exchanges = []; are = refl; story = story_none t }
 told_all k (and_turn {step} {steps} {a} {mid} {b} turned turns) t at stays =
     let (u, u_at, one) = one_turn turned k t at stays.0 in
@@ -349,12 +349,12 @@ told_all k (and_turn {step} {steps} {a} {mid} {b} turned turns) t at stays =
     }
 
 -- a run that ends Ok is one turn after another
-pub all_turned : (place : Place) (steps : List Step) (a b : Now) → Runs place steps (Ok tt) a b → AllTurned place steps a b
-all_turned place [] a b run = subst (λ x. AllTurned place [] a x) (sym run.1) no_turn
-all_turned place (step ∷ steps) a b (inl stops) = absurd (stops.0 refl)
-all_turned place (step ∷ steps) a b (inr (mid, turned, run)) = and_turn turned (all_turned place steps mid b run)
+pub all_turned : (place : Place) (h w : Bool) (steps : List Step) (a b : Now) → Runs place h w steps (Ok tt) a b → AllTurned place h w steps a b
+all_turned place h w [] a b run = subst (λ x. AllTurned place h w [] a x) (sym run.1) no_turn
+all_turned place h w (step ∷ steps) a b (inl stops) = absurd (stops.0 refl)
+all_turned place h w (step ∷ steps) a b (inr (mid, turned, run)) = and_turn turned (all_turned place h w steps mid b run)
 
-pub has_its_own : {place : Place} {steps : List Step} {a b : Now} (k : ℕ) (turns : AllTurned place steps a b) (t : Session) → slice_get a.sessions k ≡ Some t
+pub has_its_own : {place : Place} {h w : Bool} {steps : List Step} {a b : Now} (k : ℕ) (turns : AllTurned place h w steps a b) (t : Session) → slice_get a.sessions k ≡ Some t
     → t.rest ≡ [] → t.failed ≡ false → StaysOpen k steps → (u : Session) × (slice_get b.sessions k ≡ Some u) × HasItsOwn k turns t u
 has_its_own {steps = steps} k turns t at rest working stays =
     let all = told_all k turns t at stays in

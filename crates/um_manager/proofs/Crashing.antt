@@ -16,12 +16,12 @@ use Rattle.um_model.specs.Store.{body_limit}
 use Rattle.um_model.specs.declared.layout.Layout.{Layout}
 use Rattle.um_wire.specs.declared.refusal.Refusal.{Refusal}
 use Rattle.um_wire.specs.declared.refusal.Refusal.TheVariants.{BadRequest, UnknownVerb, BadName, NotFound, Masked, BadSetting, NotLoaded, Clash, OrderingCycle, JobConflict, Exists, BadPath, TooLarge, NoRoom, NoMemory, Device, Reopen, Damaged, NotFormatted, GenerationsSpent, NoSuchJob, OtherLayout}
-use Rattle.um_manager.proofs.Offering.{length-told, same_refusal}
+use Rattle.um_manager.proofs.Offering.{length-told, ok_not_err, same_refusal}
 use Rattle.um_manager.specs.Clients.{AllTurned, no_turn, and_turn}
 use Rattle.um_manager.specs.Crashes.{outcome_of, offers, offered_in, all_offers, untold, untold_offers, IsLeft}
 use Rattle.um_manager.specs.Places.{Place}
 use Rattle.um_manager.specs.Replies.{reply_in}
-use Rattle.um_manager.specs.Turns.{Now, Answers, each, fell, reopen, Turned}
+use Rattle.um_manager.specs.Turns.{Now, Answers, each, fell, reopen, first_refusal, Turned}
 use Rattle.um_manager.specs.declared.pieces.Piece.{Piece}
 use Rattle.um_manager.specs.declared.script.Step.{Step}
 
@@ -94,14 +94,19 @@ answered_before layout s t inputs answers rest image all_answered m = m
 answered_before layout s t inputs answers rest image (and_next {t = mid} {input = input} {inputs = more} {answer = answer} {answers = others} one others_are) m =
     one_answered layout s mid input answer (offers more others ++ rest) image one (answered_before layout mid t more others rest image others_are m)
 
-turns_before : (place : Place) (steps : List Step) (a b : Now) (turns : AllTurned place steps a b) (rest : List Offer) (image : Image) → place.size ≡ body_limit place.layout
+-- a turn that ended Ok took its inputs
+store_ok : (store behind : Result Unit Refusal) → Ok tt ≡ first_refusal store behind → store ≡ Ok tt
+store_ok (Ok tt) behind is = refl
+store_ok (Err e) behind is = absurd (ok_not_err is)
+
+turns_before : (place : Place) (h w : Bool) (steps : List Step) (a b : Now) (turns : AllTurned place h w steps a b) (rest : List Offer) (image : Image) → place.size ≡ body_limit place.layout
     → MayLeave place.layout b.state rest image → MayLeave place.layout a.state (all_offers turns ++ rest) image
-turns_before place steps a b no_turn rest image on m = m
-turns_before place steps a b (and_turn {step} {steps = later} {mid = mid} turn turns) rest image on m =
+turns_before place h w steps a b no_turn rest image on m = m
+turns_before place h w steps a b (and_turn {step} {steps = later} {mid = mid} turn turns) rest image on m =
     subst (λ l. MayLeave place.layout a.state l image) (sym (append_assoc (offers (offered_in turn) turn.answers) (all_offers turns) rest))
     (answered_before place.layout a.state mid.state (offered_in turn) turn.answers (all_offers turns ++ rest) image
-    (subst (λ n. AreAnswered n a.state (offered_in turn) turn.answers mid.state) on (turn.tells.ok refl))
-    (turns_before place later mid b turns rest image on m))
+    (subst (λ n. AreAnswered n a.state (offered_in turn) turn.answers mid.state) on (turn.tells.ok (store_ok turn.store turn.behind turn.result_is)))
+    (turns_before place h w later mid b turns rest image on m))
 
 -- ---- the turn that a crash meets
 
@@ -196,19 +201,19 @@ some_taken layout s t (input ∷ inputs) (answer ∷ answers) count image stay r
     by (inl (is, there)) further = one_taken layout s t input (untold (outcome_of answer)) rest (taken inputs answers) count image is (all_untold inputs answers) (at (input ∷ []) there) store further
     by (inr (is, there)) further = subst (λ o. MayLeave layout s (record { input = input; outcome = o } ∷ rest) image) (sym is) (turns_away (further s count (at [] there)))
 
-begun_left : (place : Place) (steps : List Step) (a b c : Now) (turns : AllTurned place steps a b) (inputs : List Input) (answers : List Answer) (image : Image) → place.size ≡ body_limit place.layout
+begun_left : (place : Place) (h w : Bool) (steps : List Step) (a b c : Now) (turns : AllTurned place h w steps a b) (inputs : List Input) (answers : List Answer) (image : Image) → place.size ≡ body_limit place.layout
     → IsTrue place.trusted → Answers place b.state inputs answers c.state → IsBegun place.layout b.state (taken inputs answers) image
     → IsLeft place.layout a.state (all_offers turns) inputs answers image
-begun_left place steps a b c turns inputs answers image on sure told begun = record {
+begun_left place h w steps a b c turns inputs answers image on sure told begun = record {
   last_are = inputs_untold inputs answers (length-told place b.state c.state inputs answers told);
   unanswered = all_untold inputs answers;
-  leaves = turns_before place steps a b turns (untold_offers inputs answers) image on
+  leaves = turns_before place h w steps a b turns (untold_offers inputs answers) image on
       (some_taken place.layout b.state begun.state inputs answers begun.count image (stays place b.state c.state inputs answers sure told) begun.run begun.store);
 }
 
-pub crash_leaves : (place : Place) (steps : List Step) (a b c : Now) (turns : AllTurned place steps a b) (store : Result Unit Refusal) (moment : ℕ) (pieces : List Piece)
-    → place.size ≡ body_limit place.layout → IsTrue place.trusted → (next : Turned place store moment pieces b c)
+pub crash_leaves : (place : Place) (h w v : Bool) (steps : List Step) (a b c : Now) (turns : AllTurned place h w steps a b) (result : Result Unit Refusal) (moment : ℕ) (pieces : List Piece)
+    → place.size ≡ body_limit place.layout → IsTrue place.trusted → (next : Turned place h v result moment pieces b c)
     → During b.disk c.disk (IsLeft place.layout a.state (all_offers turns) (offered_in next) next.answers)
-crash_leaves place steps a b c turns store moment pieces on sure next =
+crash_leaves place h w v steps a b c turns result moment pieces on sure next =
     weaker b.disk c.disk (IsBegun place.layout b.state (taken (offered_in next) next.answers)) (IsLeft place.layout a.state (all_offers turns) (offered_in next) next.answers)
-    (λ image. begun_left place steps a b c turns (offered_in next) next.answers image on sure next.answered) (next.left sure)
+    (λ image. begun_left place h w steps a b c turns (offered_in next) next.answers image on sure next.answered) (next.left sure)

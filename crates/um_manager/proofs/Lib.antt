@@ -5,7 +5,9 @@ pub mod Booting
 pub mod Carrying
 pub mod Clients
 pub mod Crashing
+pub mod FewLive
 pub mod Gathering
+pub mod Letting
 pub mod Offering
 pub mod Placing
 pub mod Turning

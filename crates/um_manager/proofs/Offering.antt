@@ -1,8 +1,9 @@
 -- What it comes to that a list of inputs is offered: answered one behind the other, or refused as a whole.
 use Rattle.std.proofs.Common.{◌≡◌, ◌≢◌, ◌⊎◌, ◌↔◌, inl, inr, ◌+◌, ℕ, suc, List, [], ◌∷◌, ◌++◌, length, length-append, map, replicate, Bool, true, false, if◌then◌else◌, IsTrue, Result, Ok, Err, refl, sym, ap, subst, ◌∙◌, true≢false, arith}
 use Rattle.std.proofs.lemmas.List.{length-map, length-replicate}
+use Rattle.std.specs.Prelude.{IfErr}
 use Rattle.std.proofs.lemmas.List.Elements.{All-contains, All-replicate}
-use Rattle.um_keeper.specs.Answering.{Answer, AreAnswered, all_answered, and_next, FellBack, HasFault, denied, turned_away, all_asked, taken}
+use Rattle.um_keeper.specs.Answering.{Answer, AreAnswered, all_answered, and_next, FellBack, HasFault, CountsFault, sectors_for, AreSpentAt, denied, turned_away, all_asked, taken}
 use Rattle.um_keeper.specs.Keeping.{IsBegun}
 use Rattle.um_model.specs.Children.{Call}
 use Rattle.um_model.specs.Disk.{Past, Image, Images, During}
@@ -11,6 +12,7 @@ use Rattle.um_model.specs.Numbers.{AreNew, started_numbers}
 use Rattle.um_model.specs.Stands.{IsStoreOf}
 use Rattle.um_model.specs.declared.layout.Layout.{Layout}
 use Rattle.um_model.proofs.DiskLaws.{started}
+use Rattle.um_sector.specs.Refused.{CountsDevice}
 use Rattle.um_wire.specs.Refusal.{refused_of}
 use Rattle.um_wire.specs.declared.refusal.Refusal as declared
 use Rattle.um_wire.specs.declared.refusal.Refusal.TheVariants as refusal
@@ -18,8 +20,8 @@ use Rattle.um_manager.proofs.Carrying.{grew_none}
 use Rattle.um_manager.specs.Orders.{Grew}
 use Rattle.um_manager.specs.Replies.{reply_in}
 use Rattle.um_manager.specs.Stores.{refusal_of, StoreAnswers, Submits}
-use Rattle.um_manager.specs.Places.{Place, is_trusted}
-use Rattle.um_manager.specs.Turns.{Answers, each, fell, reopen, Tells, Leaves, Holds, Submitted, now}
+use Rattle.um_manager.specs.Places.{Place, LogEnd, is_trusted}
+use Rattle.um_manager.specs.Turns.{Answers, each, fell, reopen, Tells, AreSpent, Leaves, Holds, Submitted, now}
 use Rattle.um_manager.specs.declared.submitting.StoreFault.{StoreFault}
 use Rattle.um_manager.specs.declared.submitting.StoreFault.TheVariants as fault
 
@@ -115,17 +117,31 @@ no_fault_of n e other has =
     All-contains (λ (a : Answer). a ≢ Err refusal.Device) (replicate n (Err e)) (Err refusal.Device)
     (All-replicate (λ (a : Answer). a ≢ Err refusal.Device) n (Err e) (λ is. other (same_refusal is))) has refl
 
+-- nor is it E20
+none_spent : (layout : Layout) (generation from : ℕ) (inputs : List Input) (e : declared.Refusal) → e ≢ refusal.GenerationsSpent
+    → AreSpentAt layout generation from inputs (replicate (length inputs) (Err e))
+none_spent layout generation from [] e other = tt
+none_spent layout generation from (input ∷ inputs) e other =
+    ((λ is. absurd (other (same_refusal is))), none_spent layout generation (from + sectors_for (Err e) input) inputs e other)
+
+memory_not_spent : refusal.NoMemory ≡ refusal.GenerationsSpent → ⊥
+memory_not_spent p = cc
+
+reopen_not_spent : refusal.Reopen ≡ refusal.GenerationsSpent → ⊥
+reopen_not_spent p = cc
+
 -- a refusal of all inputs is one of each
-denied_as : (place : Place) (e : declared.Refusal) (store : Result Unit declared.Refusal) (s : State) (inputs : List Input) (past : List Call) (marks : List ℕ) (d f : Past) (replies : List Reply) (h w : Bool)
-    → Answers place s inputs (replicate (length inputs) (Err e)) s → Tells store place.size s inputs (replicate (length inputs) (Err e)) s
+denied_as : (place : Place) (e : declared.Refusal) (store : Result Unit declared.Refusal) (s : State) (inputs : List Input) (past : List Call) (marks : List ℕ) (d f : Past) (l m : LogEnd) (replies : List Reply) (h w : Bool)
+    → e ≢ refusal.GenerationsSpent → Answers place s inputs (replicate (length inputs) (Err e)) s → Tells store place.size s inputs (replicate (length inputs) (Err e)) s
     → replies ≡ replicate (length inputs) (Refusal (refused_of e))
     → (IsTrue place.trusted → Leaves place s inputs (replicate (length inputs) (Err e)) d f) → (IsTrue place.trusted → store ≡ Ok tt → Holds place s f)
-    → Submitted place store inputs replies h w (now s past marks [] d) (now s past marks [] f)
-denied_as place e store s inputs past marks d f replies h w answered tells is leaves holds = record {
+    → Submitted place store inputs replies h w (now s past marks [] d l) (now s past marks [] f m)
+denied_as place e store s inputs past marks d f l m replies h w other answered tells is leaves holds = record {
   answers = replicate (length inputs) (Err e);
   answered = answered;
   tells = tells;
   order = subst (λ actions. AreNew s.next s.next (started_numbers actions)) (sym (none_asked (length inputs) e)) (none_new s.next);
+  spent = λ from free. none_spent place.layout m.generation from inputs e other;
   replies_are = is ∙ denied_replies (length inputs) e;
   grew = λ ho wh. subst (λ actions. Grew s.units past past marks marks actions) (sym (none_asked (length inputs) e)) (grew_none s.units past marks);
   left = leaves;
@@ -146,32 +162,32 @@ tells_reopen size s inputs = record {
   other = λ e is otherwise. (ap (λ x. replicate (length inputs) (Err x)) (same_refusal is), refl);
 }
 
-denied_at : (place : Place) (f : StoreFault) (result : Result Unit declared.Refusal) (s : State) (inputs : List Input) (past : List Call) (marks : List ℕ) (d e : Past) (replies : List Reply) (h w : Bool)
+denied_at : (place : Place) (f : StoreFault) (result : Result Unit declared.Refusal) (s : State) (inputs : List Input) (past : List Call) (marks : List ℕ) (d e : Past) (l m : LogEnd) (replies : List Reply) (h w : Bool)
     → StoreAnswers f result → replies ≡ replicate (length inputs) (Refusal (refused_of (refusal_of f)))
     → (f ≡ fault.Reopen → place.trusted ≡ false) → e ≡ d → (IsTrue place.trusted → Holds place s d)
-    → Submits place result inputs replies h w (now s past marks [] d) (now s past marks [] e)
-denied_at place fault.NoMemory result s inputs past marks d e replies h w answers is lost same held =
-    subst (λ r. Submits place r inputs replies h w (now s past marks [] d) (now s past marks [] e)) (sym answers) (
+    → Submits place result inputs replies h w (now s past marks [] d l) (now s past marks [] e m)
+denied_at place fault.NoMemory result s inputs past marks d e l m replies h w answers is lost same held =
+    subst (λ r. Submits place r inputs replies h w (now s past marks [] d l) (now s past marks [] e m)) (sym answers) (
       (λ x. cc),
-      denied_as place refusal.NoMemory (Ok tt) s inputs past marks d e replies h w (each (all_denied place.size s inputs)) (tells_memory place.size s inputs) is
+      denied_as place refusal.NoMemory (Ok tt) s inputs past marks d e l m replies h w memory_not_spent (each (all_denied place.size s inputs)) (tells_memory place.size s inputs) is
           (λ t. kept_on place s inputs (replicate (length inputs) (Err refusal.NoMemory)) d e same (held t))
           (λ t ok. subst (λ x. Holds place s x) (sym same) (held t)),
     )
-denied_at place fault.Reopen result s inputs past marks d e replies h w answers is lost same held =
-    subst (λ r. Submits place r inputs replies h w (now s past marks [] d) (now s past marks [] e)) (sym answers) (
+denied_at place fault.Reopen result s inputs past marks d e l m replies h w answers is lost same held =
+    subst (λ r. Submits place r inputs replies h w (now s past marks [] d l) (now s past marks [] e m)) (sym answers) (
       (λ x. cc),
-      denied_as place refusal.Reopen (Err refusal.Reopen) s inputs past marks d e replies h w (reopen (lost refl) refl refl) (tells_reopen place.size s inputs) is
+      denied_as place refusal.Reopen (Err refusal.Reopen) s inputs past marks d e l m replies h w reopen_not_spent (reopen (lost refl) refl refl) (tells_reopen place.size s inputs) is
           (λ t. absurd (differs t (lost refl)))
           (λ t ok. absurd (err_not_ok ok)),
     )
 
-pub denied_all : (place : Place) (f : StoreFault) (result : Result Unit declared.Refusal) (s t : State) (inputs : List Input) (past : List Call) (marks : List ℕ) (d e : Past) (replies : List Reply) (h w : Bool)
+pub denied_all : (place : Place) (f : StoreFault) (result : Result Unit declared.Refusal) (s t : State) (inputs : List Input) (past : List Call) (marks : List ℕ) (d e : Past) (l m : LogEnd) (replies : List Reply) (h w : Bool)
     → StoreAnswers f result → t ≡ s → replies ≡ replicate (length inputs) (Refusal (refused_of (refusal_of f)))
     → (f ≡ fault.Reopen → place.trusted ≡ false) → e ≡ d → (IsTrue place.trusted → Holds place s d)
-    → Submits place result inputs replies h w (now s past marks [] d) (now t past marks [] e)
-denied_all place f result s t inputs past marks d e replies h w answers same is lost still held =
-    subst (λ u. Submits place result inputs replies h w (now s past marks [] d) (now u past marks [] e)) (sym same)
-    (denied_at place f result s inputs past marks d e replies h w answers is lost still held)
+    → Submits place result inputs replies h w (now s past marks [] d l) (now t past marks [] e m)
+denied_all place f result s t inputs past marks d e l m replies h w answers same is lost still held =
+    subst (λ u. Submits place result inputs replies h w (now s past marks [] d l) (now u past marks [] e m)) (sym same)
+    (denied_at place f result s inputs past marks d e l m replies h w answers is lost still held)
 
 -- the list is refused so only where a call failed before
 pub refused_reopen : {T : Type 0} (r : Result T declared.Refusal) (x : declared.Refusal) (f : StoreFault) {failed : Bool} → r ≡ Err x → x ≡ refusal_of f
@@ -188,6 +204,28 @@ failed_denied f result answers same = (
   (λ is. inl (sym same ∙ is)),
   (λ either. elim either [ inl was ↦ same ∙ was | inr device ↦ absurd (denied_otherwise f result answers device) ]),
 )
+
+-- which refusal it is
+pub denied_refused : (f : StoreFault) (result : Result Unit declared.Refusal) → StoreAnswers f result → IfErr result (λ e. (e ≡ refusal.Device) ⊎ (e ≡ refusal.Reopen))
+denied_refused fault.NoMemory result answers = subst (λ r. IfErr r (λ e. (e ≡ refusal.Device) ⊎ (e ≡ refusal.Reopen))) (sym answers) tt
+denied_refused fault.Reopen result answers = subst (λ r. IfErr r (λ e. (e ≡ refusal.Device) ⊎ (e ≡ refusal.Reopen))) (sym answers) (inr refl)
+
+-- no call on the disk was made
+pub denied_counts : (f : StoreFault) (result : Result Unit declared.Refusal) (m n : ℕ) → StoreAnswers f result → n ≡ m → CountsDevice result m n
+denied_counts fault.NoMemory result m n answers same = subst (λ r. CountsDevice r m n) (sym answers) same
+denied_counts fault.Reopen result m n answers same = subst (λ r. CountsDevice r m n) (sym answers) (inr (reopen_not_device, same))
+
+memory_not_reopen : refusal.NoMemory ≡ refusal.Reopen → ⊥
+memory_not_reopen p = cc
+
+-- it is E17 exactly where an earlier call failed
+pub denied_reopen : {T : Type 0} {failed : Bool} (r : Result T declared.Refusal) (x : declared.Refusal) (f : StoreFault) (result : Result Unit declared.Refusal) → r ≡ Err x → x ≡ refusal_of f
+    → StoreAnswers f result → ((r ≡ Err refusal.Reopen) ↔ (failed ≡ true)) → ((result ≡ Err refusal.Reopen) ↔ (failed ≡ true))
+denied_reopen r x fault.NoMemory result is of answers exactly = (
+  (λ so. absurd (ok_not_err (sym answers ∙ so))),
+  (λ was. absurd (memory_not_reopen (sym of ∙ same_refusal (sym is ∙ exactly.1 was)))),
+)
+denied_reopen r x fault.Reopen result is of answers exactly = ((λ so. exactly.0 (is ∙ ap Err of)), (λ was. answers))
 
 -- ---- a list of which each input is answered
 
@@ -215,6 +253,27 @@ reports_of false result is = record {
   is_bad = λ same. absurd (true≢false (sym same));
 }
 
+-- which refusal it is
+pub answered_refused : (failed : Bool) (result : Result Unit declared.Refusal) → result ≡ (if failed then Err refusal.Device else Ok tt)
+    → IfErr result (λ e. (e ≡ refusal.Device) ⊎ (e ≡ refusal.Reopen))
+answered_refused true result is = subst (λ r. IfErr r (λ e. (e ≡ refusal.Device) ⊎ (e ≡ refusal.Reopen))) (sym is) (inl refl)
+answered_refused false result is = subst (λ r. IfErr r (λ e. (e ≡ refusal.Device) ⊎ (e ≡ refusal.Reopen))) (sym is) tt
+
+-- the count of failures rises exactly where it is E16
+pub answered_counts : (failed : Bool) (result : Result Unit declared.Refusal) (answers : List Answer) (m n : ℕ) → result ≡ (if failed then Err refusal.Device else Ok tt)
+    → ((failed ≡ true) ↔ HasFault answers) → CountsFault answers m n → CountsDevice result m n
+answered_counts true result answers m n is told counts =
+    subst (λ r. CountsDevice r m n) (sym is) (elim counts [ inl rose ↦ inl (refl, rose.1) | inr still ↦ absurd (still.0 (told.0 refl)) ])
+answered_counts false result answers m n is told counts =
+    subst (λ r. CountsDevice r m n) (sym is) (elim counts [ inl rose ↦ absurd (true≢false (sym (told.1 rose.0))) | inr still ↦ still.1 ])
+
+-- none is E17 where no earlier call failed
+pub answered_reopen : {o : Bool} (failed : Bool) (result : Result Unit declared.Refusal) → result ≡ (if failed then Err refusal.Device else Ok tt) → ¬ (o ≡ true)
+    → ((result ≡ Err refusal.Reopen) ↔ (o ≡ true))
+answered_reopen failed result is worked =
+    let reports = reports_of failed result is in
+    ((λ so. absurd (reopen_not_device (reports.bad refusal.Reopen so).0)), (λ was. absurd (worked was)))
+
 tells_of : (size : ℕ) (s t : State) (inputs : List Input) (answers : List Answer) (failed : Bool) (result : Result Unit declared.Refusal) → Reports failed result
     → (failed ≡ false → AreAnswered size s inputs answers t) → ((failed ≡ true) ↔ HasFault answers) → Tells result size s inputs answers t
 tells_of size s t inputs answers failed result reports taken told = record {
@@ -231,13 +290,13 @@ failed_answered n result told worked =
     )
 
 pub submitted_all : (place : Place) (s t : State) (inputs : List Input) (answers : List Answer) (failed : Bool) (result : Result Unit declared.Refusal) (old new : List Call) (marks marked : List ℕ) (d e : Past)
-    (replies : List Reply) (h w : Bool) → result ≡ (if failed then Err refusal.Device else Ok tt)
+    (l m : LogEnd) (replies : List Reply) (h w : Bool) → result ≡ (if failed then Err refusal.Device else Ok tt)
     → (failed ≡ false → AreAnswered place.size s inputs answers t) → (failed ≡ true → FellBack place.size s inputs answers t) → ((failed ≡ true) ↔ HasFault answers)
-    → AreNew s.next t.next (started_numbers (all_asked answers)) → replies ≡ map reply_in answers
+    → AreNew s.next t.next (started_numbers (all_asked answers)) → AreSpent place inputs answers l m → replies ≡ map reply_in answers
     → (IsTrue h → IsTrue w → Grew t.units old new marks marked (all_asked answers))
     → (IsTrue place.trusted → During d e (IsBegun place.layout s (taken inputs answers))) → (IsTrue place.trusted → failed ≡ false → Holds place t e)
-    → Submits place result inputs replies h w (now s old marks [] d) (now t new marked [] e)
-submitted_all place s t inputs answers failed result old new marks marked d e replies h w reported taken back told order is grew leaves holds =
+    → Submits place result inputs replies h w (now s old marks [] d l) (now t new marked [] e m)
+submitted_all place s t inputs answers failed result old new marks marked d e l m replies h w reported taken back told order spent is grew leaves holds =
     let reports = reports_of failed result reported in (
       (λ x. absurd (memory_not_device (reports.bad refusal.NoMemory x).0)),
       record {
@@ -245,6 +304,7 @@ submitted_all place s t inputs answers failed result old new marks marked d e re
         answered = answers_of place s t inputs answers failed taken back;
         tells = tells_of place.size s t inputs answers failed result reports taken told;
         order = order;
+        spent = spent;
         replies_are = is;
         grew = grew;
         left = leaves;

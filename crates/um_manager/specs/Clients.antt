@@ -1,7 +1,7 @@
 -- What one client has of the turns of a script: its own requests, each with its reply.
 -- No manual page has this: it is the project's own protocol (docs/FORMATS.md, "Frames", "Replies").
 -- The laws of clients stand on this file.
-use Rattle.std.specs.Prelude.{◌≡◌, ◌≢◌, ◌⊎◌, ◌+◌, ℕ, List, [], ◌∷◌, ◌++◌, map, flat_map, take, length, true, Option, Some, None, Result, Ok, Err, slice_get, ⊤}
+use Rattle.std.specs.Prelude.{◌≡◌, ◌≢◌, ◌⊎◌, ◌+◌, ℕ, List, [], ◌∷◌, ◌++◌, map, flat_map, take, length, Bool, true, Option, Some, None, Result, Ok, Err, slice_get, ⊤}
 use Rattle.std.specs.List.{AllByRecursion}
 use Rattle.um_model.specs.Frames.{frame_of}
 use Rattle.um_model.specs.Machine.{State, Reply, Refusal}
@@ -31,7 +31,8 @@ abbrev pub Exchange : Type 0
 Exchange = Result Request declared.Refusal × Reply
 
 -- where the input of a connection's request stands among those that the turn offered
-abbrev pub place_of : {place : Place} {moment : ℕ} {pieces : List Piece} {a b : Now} → Turned place (Ok tt) moment pieces a b → ℕ → ℕ
+abbrev pub place_of : {place : Place} {honest whole : Bool} {moment : ℕ} {pieces : List Piece} {a b : Now}
+    → Turned place honest whole (Ok tt) moment pieces a b → ℕ → ℕ
 place_of {moment = moment} turned k = length (firsts moment turned.told) + length (flat_map (inputs_asked moment) (take k turned.requests))
 
 -- the reply to what was asked: the answer to just this input, a query's from the state after all inputs; the actions aren't told
@@ -52,13 +53,14 @@ IsExchange s answers at (Some None) here = here ≡ []
 IsExchange s answers at None here = ⊥
 
 -- one turn a step, each answered Ok, from where the one before it ended
-pub data AllTurned (place : Place) : List Step → Now → Now → Type 0 where
-  no_turn : {a : Now} → AllTurned place [] a a
-  and_turn : {step : Step} {steps : List Step} {a mid b : Now} → Turned place (Ok tt) step.moment step.pieces a mid → AllTurned place steps mid b
-      → AllTurned place (step ∷ steps) a b
+pub data AllTurned (place : Place) (honest whole : Bool) : List Step → Now → Now → Type 0 where
+  no_turn : {a : Now} → AllTurned place honest whole [] a a
+  and_turn : {step : Step} {steps : List Step} {a mid b : Now} → Turned place honest whole (Ok tt) step.moment step.pieces a mid
+      → AllTurned place honest whole steps mid b → AllTurned place honest whole (step ∷ steps) a b
 
 -- the requests that these turns took of a connection, in their order, each with its reply
-abbrev pub AreExchanges : {place : Place} {steps : List Step} {a b : Now} → ℕ → AllTurned place steps a b → List Exchange → Type 0
+abbrev pub AreExchanges : {place : Place} {honest whole : Bool} {steps : List Step} {a b : Now}
+    → ℕ → AllTurned place honest whole steps a b → List Exchange → Type 0
 AreExchanges k no_turn all = all ≡ []
 AreExchanges k (and_turn {mid = mid} turned turns) all =
     (here : List Exchange) × (later : List Exchange) × IsExchange mid.state turned.answers (place_of turned k) (slice_get turned.requests k) here
@@ -96,7 +98,8 @@ ArePut before replies u = (u.output ≡ before ++ flat_map frame_in replies)
 
 -- The client of a connection over these turns: the requests taken of it are those of the frames of all its bytes, in their order, and behind
 -- what was put out before came just the frames of the replies to them.
-pub record HasItsOwn {place : Place} {steps : List Step} {a b : Now} (k : ℕ) (turns : AllTurned place steps a b) (t u : Session) : Type 0 where
+pub record HasItsOwn {place : Place} {honest whole : Bool} {steps : List Step} {a b : Now} (k : ℕ) (turns : AllTurned place honest whole steps a b)
+    (t u : Session) : Type 0 where
   pub exchanges : List Exchange
   pub are : AreExchanges k turns exchanges
   pub asked : List model.Asked

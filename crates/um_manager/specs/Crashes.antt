@@ -1,7 +1,7 @@
 -- What a crash leaves of a script: a life of the store, in which each turn that ended was answered.
 -- No manual page has it: crash safety is this project's own promise (docs/CRASH.md tells it in plain words).
 -- The law of crashes stands on this file.
-use Rattle.std.specs.Prelude.{◌≡◌, List, [], ◌∷◌, ◌++◌, map, flat_map, if◌then◌else◌, Result, Ok, Err}
+use Rattle.std.specs.Prelude.{◌≡◌, List, [], ◌∷◌, ◌++◌, map, Bool, if◌then◌else◌, Result, Ok, Err}
 use Rattle.um_keeper.specs.Answering.{Answer, is_turned_away}
 use Rattle.um_model.specs.Disk.{Image}
 use Rattle.um_model.specs.Lives.{Outcome, answered, turned_away, unanswered, Offer, AreUnanswered, MayLeave}
@@ -10,10 +10,9 @@ use Rattle.um_model.specs.declared.layout.Layout.{Layout}
 use Rattle.um_wire.specs.declared.refusal.Refusal.{Refusal}
 use Rattle.um_wire.specs.declared.refusal.Refusal.TheVariants.{Device, Reopen}
 use Rattle.um_manager.specs.Clients.{AllTurned, no_turn, and_turn}
-use Rattle.um_manager.specs.Connections.{inputs_asked}
 use Rattle.um_manager.specs.Places.{Place}
 use Rattle.um_manager.specs.Replies.{reply_in}
-use Rattle.um_manager.specs.Turns.{Now, firsts, Turned}
+use Rattle.um_manager.specs.Turns.{Now, inputs_of, Turned}
 use Rattle.um_manager.specs.declared.pieces.Piece.{Piece}
 use Rattle.um_manager.specs.declared.script.Step.{Step}
 
@@ -30,12 +29,12 @@ offers (input ∷ inputs) (answer ∷ answers) = record { input = input; outcome
 offers inputs answers = []
 
 -- the inputs that a turn offered
-abbrev pub offered_in : {place : Place} {store : Result Unit Refusal} {moment : _} {pieces : List Piece} {a b : Now}
-    → Turned place store moment pieces a b → List Input
-offered_in {moment = moment} turned = firsts moment turned.told ++ flat_map (inputs_asked moment) turned.requests
+abbrev pub offered_in : {place : Place} {honest whole : Bool} {result : Result Unit Refusal} {moment : _} {pieces : List Piece} {a b : Now}
+    → Turned place honest whole result moment pieces a b → List Input
+offered_in {moment = moment} turned = inputs_of moment turned.told turned.requests
 
 -- all that these turns offered, in their order, with what came of each
-abbrev pub all_offers : {place : Place} {steps : List Step} {a b : Now} → AllTurned place steps a b → List Offer
+abbrev pub all_offers : {place : Place} {honest whole : Bool} {steps : List Step} {a b : Now} → AllTurned place honest whole steps a b → List Offer
 all_offers no_turn = []
 all_offers (and_turn turned turns) = offers (offered_in turned) turned.answers ++ all_offers turns
 

@@ -1,16 +1,18 @@
 -- What opening does: the store is taken up, the boot is offered, and the processes that are live are adopted.
 -- No manual page has this: it is the project's own.
 -- `Manager::open` stands on this file.
-use Rattle.std.specs.Prelude.{◌≡◌, ◌≢◌, ◌||◌, ◌⊎◌, ℕ, List, [], ◌∷◌, ◌++◌, length, flat_map, Bool, true, IsTrue, Result, Ok, Err}
+use Rattle.std.specs.Prelude.{◌≡◌, ◌⊎◌, ℕ, List, [], ◌∷◌, ◌++◌, length, flat_map, map, Bool, true, IsTrue, Result, Ok, Err}
 use Rattle.um_keeper.specs.Answering.{Answer, all_asked, taken}
 use Rattle.um_keeper.specs.Keeping.{IsBegun}
 use Rattle.um_keeper.specs.Opening.{IsTakenUp, IsSomeStore, IsAsBefore}
-use Rattle.um_model.specs.Children.{Call, Tale, orders, tales, refused}
+use Rattle.um_model.specs.Children.{Call, Tale, ForgotOthers}
+use Rattle.um_model.specs.Children.{Signalled as Sent}
 use Rattle.um_model.specs.Disk.{Image, Past, Images, During, seen}
 use Rattle.um_model.specs.Lives.{HasInOrder}
 use Rattle.um_model.specs.Machine.{State, Input, Reply, Step, Booted}
-use Rattle.um_model.specs.Service.{ByUnit}
+use Rattle.um_model.specs.Service.{ByUnit, Action}
 use Rattle.um_model.specs.Stands.{StandsFor}
+use Rattle.um_model.specs.Store.{body_limit}
 use Rattle.um_model.specs.declared.layout.Layout.{Layout}
 use Rattle.um_model.specs.declared.layout.Slot.{Slot}
 use Rattle.um_model.specs.declared.service.Signal.{Signal}
@@ -20,12 +22,12 @@ use Rattle.um_model.specs.Numbers.{AreNew, started_numbers}
 use Rattle.um_model.specs.declared.service.Signal.TheVariants.{Term, Kill}
 use Rattle.um_model.specs.declared.service.SubState.TheVariants.{StopSigterm, StopSigkill}
 use Rattle.um_wire.specs.declared.refusal.Refusal.{Refusal}
-use Rattle.um_wire.specs.declared.refusal.Refusal.TheVariants.{NoMemory}
-use Rattle.um_fates.specs.Fates.{AreTalesOf, inputs_of_tale, lost, happens_at}
-use Rattle.um_fates.specs.Live.{has, is_live, AreLive, HasFewLive, AreIn}
-use Rattle.um_manager.specs.Orders.{signals}
+use Rattle.um_wire.specs.declared.refusal.Refusal.TheVariants.{Device}
+use Rattle.um_fates.specs.Fates.{AreTalesOf, asks_for, inputs_of_tale, lost, happens_at}
+use Rattle.um_fates.specs.Live.{AreLive, AreIn}
+use Rattle.um_manager.specs.Orders.{LetGo, signals}
 use Rattle.um_manager.specs.Places.{Place}
-use Rattle.um_manager.specs.Turns.{Now, Answers, Tells, Leaves, Holds}
+use Rattle.um_manager.specs.Turns.{Now, Answers, Tells, AreSpent, Leaves, Holds, Called}
 
 -- the inputs of adoption: those of the fates told, where a number that is absent is lost
 abbrev pub adoptions : ℕ → List Tale → List Input
@@ -35,52 +37,59 @@ adoptions moment told = flat_map (inputs_of_tale lost moment) told
 abbrev pub boot_at : ℕ → List ℕ → Input
 boot_at moment boot = happens_at moment (Booted boot)
 
--- What adoption did. It asked the fate of each live number once, ascending, with a claim, and offered what was told; an absent number is
--- lost. The orders asked are the actions of the receipts, and then of the adopted numbers TERM to those whose unit is in stop-sigterm, and
--- KILL to those whose unit is in stop-sigkill. Marked are the numbers that were live and those whose start was refused.
-pub record Adopted (place : Place) (store : Result Unit Refusal) (moment : ℕ) (a b : Now) : Type 0 where
+-- What the children's calls were: what is kept of all but the live numbers was let go, each fate that was told was asked, then the orders were
+-- given, which are these actions, and then of the adopted numbers TERM to those whose unit is in stop-sigterm, and KILL to those whose unit is in
+-- stop-sigkill.
+pub record Ended (units : ByUnit UnitState) (live : List ℕ) (told : List Tale) (actions : List Action) (old new : List Call) (marked : List ℕ) : Type 0 where
+  pub termed : List ℕ
+  pub are_termed : AreIn units StopSigterm live termed
+  pub killed : List ℕ
+  pub are_killed : AreIn units StopSigkill live killed
+  pub called : Called units (Ok tt) told (actions ++ (signals Term termed ++ signals Kill killed)) (old ++ ForgotOthers live ∷ []) new live marked
+
+-- so it is where the store took the inputs; where it failed all but the live numbers were let go, the fates were asked, and nothing else
+abbrev pub CallsOf : Result Unit Refusal → ByUnit UnitState → List ℕ → List Tale → List Action → (old new : List Call) → List ℕ → Type 0
+CallsOf (Ok done) units live told actions old new marked = Ended units live told actions old new marked
+CallsOf (Err e) units live told actions old new marked = new ≡ old ++ (ForgotOthers live ∷ map asks_for told)
+
+-- What adoption did. It let go what is kept of all but the live numbers, asked the fate of each of these once, ascending, with a claim, and
+-- offered what was told; an absent number is lost.
+-- Marked are the numbers that were live and those whose start was refused.
+pub record Adopted (place : Place) (honest whole : Bool) (store : Result Unit Refusal) (moment : ℕ) (a b : Now) : Type 0 where
   pub live : List ℕ
   pub are_live : AreLive a.state.units live
   pub told : List Tale
   pub of_live : AreTalesOf (λ n. true) live told
-  pub tales_are : tales b.past ≡ tales a.past ++ told
   pub answers : List Answer
   pub answered : Answers place a.state (adoptions moment told) answers b.state
   pub tells : Tells store place.size a.state (adoptions moment told) answers b.state
   pub order : AreNew a.state.next b.state.next (started_numbers (all_asked answers))
-  pub termed : List ℕ
-  pub are_termed : AreIn b.state.units StopSigterm live termed
-  pub killed : List ℕ
-  pub are_killed : AreIn b.state.units StopSigkill live killed
-  pub orders_are : orders b.past ≡ orders a.past ++ (all_asked answers ++ (signals Term termed ++ signals Kill killed))
-  pub refusals : List ℕ
-  pub refusals_are : refused b.past ≡ refused a.past ++ refusals
-  pub marks_are : HasFewLive b.state.units → (n : ℕ) → is_live b.state.units n ≡ true → has n b.marks ≡ (has n live || has n refusals)
+  pub spent : AreSpent place (adoptions moment told) answers a.log b.log
   pub left : IsTrue place.trusted → Leaves place a.state (adoptions moment told) answers a.disk b.disk
   pub stored : IsTrue place.trusted → store ≡ Ok tt → Holds place b.state b.disk
-
-abbrev pub Adopts : Place → Result Unit Refusal → Bool → Bool → ℕ → Now → Now → Type 0
-Adopts place store honest whole moment a b = IsTrue honest → IsTrue whole → Adopted place store moment a b
+  pub called : IsTrue honest → IsTrue whole → CallsOf store b.state.units live told (all_asked answers) a.past b.past b.marks
 
 -- What follows once the store is taken up: the boot is offered, which asks for nothing, and then the numbers that are live, so many, are
 -- adopted.
-pub record Began (place : Place) (store : Result Unit Refusal) (moment : ℕ) (boot : List ℕ) (count : ℕ) (a b : Now) : Type 0 where
+pub record Began (place : Place) (honest whole : Bool) (store : Result Unit Refusal) (moment : ℕ) (boot : List ℕ) (count : ℕ) (a b : Now) : Type 0 where
   pub mid : Now
   pub reply : Reply
   pub booted : Step place.size a.state (boot_at moment boot) reply [] mid.state
   pub asked_none : mid.past ≡ a.past
   pub left : IsTrue place.trusted → During a.disk mid.disk (IsBegun place.layout a.state (boot_at moment boot ∷ []))
-  pub adopted : Adopted place store moment mid b
+  pub adopted : Adopted place honest whole store moment mid b
   pub numbers : List ℕ
   pub numbers_are : AreLive mid.state.units numbers
   pub count_is : count ≡ length numbers
 
 -- What an opening that is refused did, once the store was taken up: the boot was refused, and nothing was asked of the children; or it was
 -- taken, and the store failed while adoption's inputs were offered.
-pub data Refuses (place : Place) (refusal : Refusal) (moment : ℕ) (boot : List ℕ) (a b : Now) : Type 0 where
+pub data Refuses (place : Place) (honest whole : Bool) (refusal : Refusal) (moment : ℕ) (boot : List ℕ) (a b : Now) : Type 0 where
   unbooted : b.state ≡ a.state → b.past ≡ a.past
-      → (IsTrue place.trusted → During a.disk b.disk (IsBegun place.layout a.state (boot_at moment boot ∷ []))) → Refuses place refusal moment boot a b
-  unadopted : {count : ℕ} → refusal ≢ NoMemory → Began place (Err refusal) moment boot count a b → Refuses place refusal moment boot a b
+      → (IsTrue place.trusted → During a.disk b.disk (IsBegun place.layout a.state (boot_at moment boot ∷ [])))
+      → Refuses place honest whole refusal moment boot a b
+  unadopted : {count : ℕ} → refusal ≡ Device → Began place honest whole (Err refusal) moment boot count a b
+      → Refuses place honest whole refusal moment boot a b
 
 -- the state that a disk of so many sectors is read as, and stands for
 pub record IsFound (sectors : ℕ) (disk : Past) (layout : Layout) (s : State) : Type 0 where
@@ -95,32 +104,64 @@ IsOfOpening layout disk s inputs image = IsAsBefore layout disk image ⊎ IsBegu
 
 -- Opening: the store is taken up of a disk of so many sectors, and what follows. A crash meanwhile leaves a store of a state from before, or of
 -- one that the boot and a beginning of adoption's inputs give.
-pub record Opened (place : Place) (moment : ℕ) (boot : List ℕ) (count sectors : ℕ) (disk : Past) (past : List Call) (b : Now) : Type 0 where
+pub record Opened (place : Place) (honest whole : Bool) (moment : ℕ) (boot : List ℕ) (count sectors : ℕ) (disk : Past) (past : List Call) (b : Now)
+    : Type 0 where
   pub a : Now
   pub found : IsTrue place.trusted → IsFound sectors disk place.layout a.state
   pub unasked : a.past ≡ past
-  pub began : Began place (Ok tt) moment boot count a b
+  pub began : Began place honest whole (Ok tt) moment boot count a b
   pub left : IsTrue place.trusted → Images disk (IsSomeStore place.layout) → During disk b.disk (IsOfOpening place.layout disk a.state
       (boot_at moment boot ∷ taken (adoptions moment began.adopted.told) began.adopted.answers))
 
+-- What an opening asks of the children that is refused behind the boot of this state: what is kept of all but the numbers that are live then is let
+-- go, and fates are asked.
+pub record AsksAlone (size : ℕ) (s : State) (moment : ℕ) (boot : List ℕ) (told : List Tale) (old new : List Call) : Type 0 where
+  pub reply : Reply
+  pub booted : State
+  pub boots : Step size s (boot_at moment boot) reply [] booted
+  pub live : List ℕ
+  pub are_live : AreLive booted.units live
+  pub past_is : new ≡ old ++ (ForgotOthers live ∷ map asks_for told)
+
+-- nothing at all is asked, or so it is
+abbrev pub IsSilentIn : ℕ → State → ℕ → List ℕ → List Tale → List Call → List Call → Type 0
+IsSilentIn size s moment boot told old new = ((told ≡ []) × (new ≡ old)) ⊎ AsksAlone size s moment boot told old new
+
+-- the same of the state that the disk is read as
+pub record IsSilent (sectors : ℕ) (disk : Past) (honest : Bool) (moment : ℕ) (boot : List ℕ) (old new : List Call) : Type 0 where
+  pub layout : Layout
+  pub state : State
+  pub found : IsTrue honest → IsFound sectors disk layout state
+  pub told : List Tale
+  pub asked : AsksAlone (body_limit layout) state moment boot told old new
+
 -- a store of a state that the boot and some of adoption's inputs give, of those that the children told meanwhile
-pub record IsCutShort (layout : Layout) (moment : ℕ) (boot : List ℕ) (sectors : ℕ) (disk : Past) (old new : List Call) (image : Image) : Type 0 where
+pub record IsCutShort (layout : Layout) (moment : ℕ) (boot : List ℕ) (sectors : ℕ) (disk : Past) (honest whole : Bool) (old new : List Call)
+    (image : Image) : Type 0 where
   pub state : State
   pub found : IsFound sectors disk layout state
   pub told : List Tale
-  pub tales_are : tales new ≡ tales old ++ told
+  pub asked : IsTrue honest → IsTrue whole → IsSilentIn (body_limit layout) state moment boot told old new
   pub some : List Input
   pub are : HasInOrder some (adoptions moment told)
   pub begun : IsBegun layout state (boot_at moment boot ∷ some) image
 
 -- an image that an opening leaves which is refused
-abbrev pub IsOfRefused : Layout → ℕ → List ℕ → ℕ → Past → (old new : List Call) → Image → Type 0
-IsOfRefused layout moment boot sectors disk old new image = IsAsBefore layout disk image ⊎ IsCutShort layout moment boot sectors disk old new image
+abbrev pub IsOfRefused : Layout → ℕ → List ℕ → ℕ → Past → (honest whole : Bool) → (old new : List Call) → Image → Type 0
+IsOfRefused layout moment boot sectors disk honest whole old new image =
+    IsAsBefore layout disk image ⊎ IsCutShort layout moment boot sectors disk honest whole old new image
 
 -- the signal was sent once, in their order, to those of these numbers whose unit is in this state
 pub record Signalled (units : ByUnit UnitState) (sub : SubState) (signal : Signal) (numbers : List ℕ) (old new : List Call) : Type 0 where
   pub chosen : List ℕ
   pub are : AreIn units sub numbers chosen
-  pub orders_are : orders new ≡ orders old ++ signals signal chosen
-  pub no_tale : tales new ≡ tales old
-  pub no_refusal : refused new ≡ refused old
+  pub past_is : new ≡ old ++ map (λ n. Sent n signal) chosen
+
+-- TERM was sent to those of these numbers whose unit is in stop-sigterm, then KILL to those whose unit is in stop-sigkill, and then numbers that
+-- aren't live were let go.
+pub record Ends (units : ByUnit UnitState) (numbers : List ℕ) (old new : List Call) : Type 0 where
+  pub termed : List Call
+  pub terms : Signalled units StopSigterm Term numbers old termed
+  pub killed : List Call
+  pub kills : Signalled units StopSigkill Kill numbers termed killed
+  pub let_go : LetGo units killed new

@@ -1,9 +1,10 @@
 -- Where the store of a manager stands, and whether its disk is to be trusted.
 -- No manual page has it: it is the project's own.
 -- The turn of the manager and its opening stand on this file.
-use Rattle.std.specs.Prelude.{ℕ, Bool, true, false}
-use Rattle.um_keeper.specs.Keepers.{size_in, layout_in, has_failed}
+use Rattle.std.specs.Prelude.{◌≡◌, ◌≤◌, ◌-◌, ◌^◌, ℕ, Bool, true, false}
+use Rattle.um_keeper.specs.Keepers.{size_in, layout_in, log_generation_in, next_in, has_failed}
 use Rattle.um_keeper.specs.declared.keeper.Keeper.{Keeper}
+use Rattle.um_model.specs.Store.{log_start}
 use Rattle.um_model.specs.declared.layout.Layout.{Layout}
 
 -- the layout of the store, the most bytes that a state in it has, and whether its disk is to be trusted
@@ -23,3 +24,16 @@ is_trusted honest true = false
 -- where a keeper's store stands, on a disk that does what it answers or doesn't
 abbrev pub place_in : {D : Type 0} {g : _} → (honest : Bool) → Keeper D g → Place
 place_in honest k = place (size_in k) (layout_in k) (is_trusted honest (has_failed k))
+
+-- where the next record goes: in the log of which generation, and at which sector
+pub record LogEnd : Type 0 where
+  pub generation : ℕ
+  pub next : ℕ
+
+abbrev pub log_in : {D : Type 0} {g : _} → Keeper D g → LogEnd
+log_in k = record { generation = log_generation_in k; next = next_in k }
+
+-- in the last generation, now or once it comes to that, the log is free from this sector on
+pub record IsFreeFrom (layout : Layout) (log : LogEnd) (from : ℕ) : Type 0 where
+  pub start : log_start layout (2 ^ 64 - 1) ≤ from
+  pub behind : log.generation ≡ 2 ^ 64 - 1 → log.next ≤ from

@@ -2,9 +2,15 @@
 -- No manual page has this: it is the project's own (docs/ARCHITECTURE.md, "The way of one input").
 -- The manager's calls stand on this file.
 use Rattle.std.specs.Prelude.{◌≡◌, ◌≢◌, ◌↔◌, ◌||◌, ℕ, List, [], ◌∷◌, ◌++◌, length, drop, map, flat_map, replicate, Bool, true, false, IsTrue, Option, Result, Ok, Err}
-use Rattle.um_keeper.specs.Answering.{Answer, AreAnswered, FellBack, HasFault, all_asked, taken}
+use Rattle.std.specs.List.{list_any}
+use Rattle.um_children.specs.History.{lets_any, Spares}
+use Rattle.um_keeper.specs.Answering.{Answer, AreAnswered, FellBack, HasFault, AreSpentAt, all_asked, taken}
+use Rattle.um_keeper.specs.Keepers.{state_in}
 use Rattle.um_keeper.specs.Keeping.{IsBegun}
+use Rattle.um_keeper.specs.declared.keeper.Keeper.{Keeper}
 use Rattle.um_model.specs.Children.{Call, Tale, orders, tales, refused}
+use Rattle.um_model.specs.Service.{ByUnit, Action}
+use Rattle.um_model.specs.declared.service.UnitState.{UnitState}
 use Rattle.um_model.specs.Disk.{Past, During, Images}
 use Rattle.um_model.specs.Machine.{State, Input, Reply}
 use Rattle.um_model.specs.Numbers.{AreNew, started_numbers}
@@ -14,23 +20,29 @@ use Rattle.um_proto.specs.declared.request.Request.{Request}
 use Rattle.um_wire.specs.declared.refusal.Refusal.{Refusal}
 use Rattle.um_wire.specs.declared.refusal.Refusal.TheVariants.{NoMemory, Device, Reopen}
 use Rattle.um_manager.specs.Connections.{AllSame, CutsAll, inputs_asked, due_of}
-use Rattle.um_fates.specs.Fates.{AreTalesOf, inputs_of_tale, unexecuted, tick_at}
-use Rattle.um_fates.specs.Live.{has, is_live, AreLive, HasFewLive}
+use Rattle.um_fates.specs.Fates.{AreTalesOf, asks_for, inputs_of_tale, unexecuted, tick_at}
+use Rattle.um_fates.specs.Live.{has, is_live, AreLive}
 use Rattle.um_manager.specs.Orders.{Grew}
-use Rattle.um_manager.specs.Places.{Place}
+use Rattle.um_manager.specs.Places.{Place, LogEnd, log_in, IsFreeFrom}
 use Rattle.um_manager.specs.Replies.{reply_in, PaysAll}
 use Rattle.um_manager.specs.declared.pieces.Piece.{Piece}
 
--- a manager at a moment: its state, the children's calls, the numbers whose fate is asked with a claim, the sessions, and the disk's calls
+-- a manager at a moment: its state, the children's calls, the numbers whose fate is asked with a claim, the sessions, the disk's calls, and where
+-- the next record goes
 pub record Now : Type 0 where
   pub state : State
   pub past : List Call
   pub marks : List ℕ
   pub sessions : List Session
   pub disk : Past
+  pub log : LogEnd
 
-abbrev pub now : State → List Call → List ℕ → List Session → Past → Now
-now state past marks sessions disk = record { state = state; past = past; marks = marks; sessions = sessions; disk = disk }
+abbrev pub now : State → List Call → List ℕ → List Session → Past → LogEnd → Now
+now state past marks sessions disk log = record { state = state; past = past; marks = marks; sessions = sessions; disk = disk; log = log }
+
+-- the same over a keeper
+abbrev pub now_in : {D : Type 0} {g : _} → Keeper D g → List Call → List ℕ → List Session → Past → Now
+now_in k past marks sessions disk = now (state_in k) past marks sessions disk (log_in k)
 
 -- the inputs that stand before the requests: those of the fates told, and a tick
 abbrev pub firsts : ℕ → List Tale → List Input
@@ -56,6 +68,10 @@ pub record Tells (store : Result Unit Refusal) (size : ℕ) (s : State) (inputs 
 abbrev pub Leaves : Place → State → List Input → List Answer → Past → Past → Type 0
 Leaves place s inputs answers old new = During old new (IsBegun place.layout s (taken inputs answers))
 
+-- E20 turns one of these inputs away only where the log's generation is the last, and its record has no room behind those before it
+abbrev pub AreSpent : Place → List Input → List Answer → LogEnd → LogEnd → Type 0
+AreSpent place inputs answers old new = (from : ℕ) → IsFreeFrom place.layout old from → AreSpentAt place.layout new.generation from inputs answers
+
 -- each image is a store of the state
 abbrev pub Holds : Place → State → Past → Type 0
 Holds place s disk = Images disk (λ image. IsStoreOf place.layout image s)
@@ -66,36 +82,59 @@ pub record Submitted (place : Place) (store : Result Unit Refusal) (inputs : Lis
   pub answered : Answers place a.state inputs answers b.state
   pub tells : Tells store place.size a.state inputs answers b.state
   pub order : AreNew a.state.next b.state.next (started_numbers (all_asked answers))
+  pub spent : AreSpent place inputs answers a.log b.log
   pub replies_are : replies ≡ map reply_in answers
   pub grew : IsTrue honest → IsTrue whole → Grew b.state.units a.past b.past a.marks b.marks (all_asked answers)
   pub left : IsTrue place.trusted → Leaves place a.state inputs answers a.disk b.disk
   pub stored : IsTrue place.trusted → store ≡ Ok tt → Holds place b.state b.disk
 
+-- What the children's calls were: each fate that was told was asked, and then the orders were given, which are these actions. What is kept of a
+-- live number isn't let go, and where the store failed nothing is. Of the live numbers those whose start was refused are marked beside the others.
+pub record Called (units : ByUnit UnitState) (store : Result Unit Refusal) (told : List Tale) (actions : List Action) (old new : List Call)
+    (marks marked : List ℕ) : Type 0 where
+  pub given : List Call
+  pub past_is : new ≡ old ++ (map asks_for told ++ given)
+  pub orders_are : orders given ≡ actions
+  pub no_tale : tales given ≡ []
+  pub spared : Spares (is_live units) given
+  pub kept : (e : Refusal) → store ≡ Err e → list_any lets_any given ≡ false
+  pub marks_are : (n : ℕ) → is_live units n ≡ true → has n marked ≡ (has n marks || has n (refused given))
+
+-- the inputs that a turn offers: those of the fates told, a tick, and those of the requests, in this order
+abbrev pub inputs_of : ℕ → List Tale → List (Option (Result Request Refusal)) → List Input
+inputs_of moment told requests = firsts moment told ++ flat_map (inputs_asked moment) requests
+
+-- of two results the first that is a refusal
+abbrev pub first_refusal : Result Unit Refusal → Result Unit Refusal → Result Unit Refusal
+first_refusal (Ok done) behind = behind
+first_refusal (Err e) behind = Err e
+
 -- What a turn did. It asked the fate of each live number once, ascending, of the marked ones with a claim. It took the pieces and of each
--- connection the request of the first whole frame. It offered the inputs of the fates told, a tick and the requests, in this order. The
--- orders asked are the actions of the receipts, and the numbers that they start are new. Each request's reply is put out for its own
--- connection, a query's from the state after all inputs. Of the live numbers those whose start was refused are marked beside the others.
--- A crash meanwhile leaves a store of the state after a beginning of the inputs taken, and one behind it, where the store failed none, of all.
-pub record Turned (place : Place) (store : Result Unit Refusal) (moment : ℕ) (pieces : List Piece) (a b : Now) : Type 0 where
+-- connection the request of the first whole frame. It offered the inputs of the fates told, a tick and the requests, in this order, and each of
+-- them was answered, and the numbers that were started are new; nothing is done behind the offer. Each request's reply is put out for its own
+-- connection, a query's from the state after all inputs. A crash meanwhile leaves a store of the state after a beginning of the inputs taken, and
+-- one behind it, where the store failed none, of all. The history of children that are honest has, where it is whole, just what was asked.
+pub record Turned (place : Place) (honest whole : Bool) (result : Result Unit Refusal) (moment : ℕ) (pieces : List Piece) (a b : Now) : Type 0 where
   pub live : List ℕ
   pub are_live : AreLive a.state.units live
   pub told : List Tale
   pub of_live : AreTalesOf (λ n. has n a.marks) live told
-  pub tales_are : tales b.past ≡ tales a.past ++ told
   pub requests : List (Option (Result Request Refusal))
   pub cut : List Session
   pub cuts : CutsAll a.sessions pieces requests cut
+  pub store : Result Unit Refusal
+  pub behind : Result Unit Refusal
+  pub result_is : result ≡ first_refusal store behind
+  pub nothing_behind : behind ≡ Ok tt
   pub answers : List Answer
-  pub answered : Answers place a.state (firsts moment told ++ flat_map (inputs_asked moment) requests) answers b.state
-  pub tells : Tells store place.size a.state (firsts moment told ++ flat_map (inputs_asked moment) requests) answers b.state
+  pub answered : Answers place a.state (inputs_of moment told requests) answers b.state
+  pub tells : Tells store place.size a.state (inputs_of moment told requests) answers b.state
   pub order : AreNew a.state.next b.state.next (started_numbers (all_asked answers))
-  pub orders_are : orders b.past ≡ orders a.past ++ all_asked answers
-  pub refusals : List ℕ
-  pub refusals_are : refused b.past ≡ refused a.past ++ refusals
-  pub marks_are : HasFewLive b.state.units → (n : ℕ) → is_live b.state.units n ≡ true → has n b.marks ≡ (has n a.marks || has n refusals)
+  pub spent : AreSpent place (inputs_of moment told requests) answers a.log b.log
   pub paid : PaysAll b.state (map due_of requests) (drop (length (firsts moment told)) (map reply_in answers)) cut b.sessions
-  pub left : IsTrue place.trusted → Leaves place a.state (firsts moment told ++ flat_map (inputs_asked moment) requests) answers a.disk b.disk
+  pub left : IsTrue place.trusted → Leaves place a.state (inputs_of moment told requests) answers a.disk b.disk
   pub stored : IsTrue place.trusted → store ≡ Ok tt → Holds place b.state b.disk
+  pub called : IsTrue honest → IsTrue whole → Called b.state.units store told (all_asked answers) a.past b.past a.marks b.marks
 
 -- nothing was taken, asked or offered
 pub record Untouched (a b : Now) : Type 0 where
@@ -104,8 +143,9 @@ pub record Untouched (a b : Now) : Type 0 where
   pub marks : b.marks ≡ a.marks
   pub sessions : AllSame a.sessions b.sessions
   pub disk : b.disk ≡ a.disk
+  pub log : b.log ≡ a.log
 
 -- a turn that finds no memory for itself is none; a refusal of the store is told after the replies
 abbrev pub Turns : Place → Result Unit Refusal → Bool → Bool → ℕ → List Piece → Now → Now → Type 0
 Turns place result honest whole moment pieces a b =
-    (result ≡ Err NoMemory → Untouched a b) × (result ≢ Err NoMemory → IsTrue honest → IsTrue whole → Turned place result moment pieces a b)
+    (result ≡ Err NoMemory → Untouched a b) × (result ≢ Err NoMemory → Turned place honest whole result moment pieces a b)

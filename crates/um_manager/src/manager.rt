@@ -1,16 +1,17 @@
 ghost use Rattle.std.specs.Prelude.{◌≡◌, ◌≢◌, ◌⊎◌, ◌↔◌, ℕ, [], length, true, false, Err, IsTrue, IfOk, IfErr, slice_get};
 ghost use Rattle.std.specs.List.{AllByRecursion};
 ghost use Rattle.um_keeper.specs.Keepers.{disk_in, state_in, size_in, layout_in, has_failed, opened_in, IsSamePlace};
-ghost use Rattle.um_keeper.specs.Opening.{IsRead, IsSomeStore};
+ghost use Rattle.um_keeper.specs.Opening.{IsRead, IsSomeStore, IsUntaken, IsUnwritten};
 ghost use Rattle.um_manager.specs.Connections.{IsNew, HoldsFrameAt};
-ghost use Rattle.um_manager.specs.Opening.{Opened, IsOfRefused};
+ghost use Rattle.um_manager.specs.Opening.{Opened, IsOfRefused, IsSilent};
 ghost use Rattle.um_manager.specs.Places.{place, place_in};
 ghost use Rattle.um_manager.specs.Replies.{IsOutput};
 ghost use Rattle.um_manager.specs.Scripts.{Runs};
-ghost use Rattle.um_manager.specs.Turns.{Turns, now};
-ghost use Rattle.um_model.specs.Disk.{seen, Images, During};
+ghost use Rattle.um_manager.specs.Turns.{Turns, now_in};
+ghost use Rattle.um_model.specs.Disk.{seen, one_more, Images, During};
 ghost use Rattle.um_model.specs.Store.{body_limit};
 ghost use Rattle.um_model.specs.declared.layout.Layout.{Layout};
+ghost use Rattle.um_sector.specs.Refused.{CountsDevice, IsLost};
 ghost use Rattle.um_state.specs.View.{state_of};
 
 use crate::connection::Connection;
@@ -52,8 +53,9 @@ impl<D: Disk, C: Children> Manager<D, C> {
     /// Opens the store that a disk holds, offers the boot, and adopts the processes that are live: it asks the fate of each, offers what is
     /// told, and ends those that were being ended. It starts nothing by itself. A refusal hands disk and children back.
     ///
-    /// Those of `Keeper::open`; E15 until the boot is answered; E16 where a disk call fails; E20 where the boot's record has no room and
-    /// the generation is the last.
+    /// Its refusals are those of `Keeper::open`, for the same causes. Behind each but E15 and E16 nothing was written. E16 comes exactly where the
+    /// count of the disk's failures rises; then what is kept of numbers that aren't live behind the boot may have been let go, and fates asked, and
+    /// nothing else, and behind each of the others not even these.
     pub fn open(
         alloc: Global,
         disk: D,
@@ -61,19 +63,26 @@ impl<D: Disk, C: Children> Manager<D, C> {
         boot: BootId,
         moment: Moment,
     ) -> Result<Manager<D, C>, (Refusal, D, C)>
-        ensures opened { IfOk result (λ m. IsTrue (C.honest children) → IsTrue (C.whole m.children)
-            → Opened (place (size_in m.keeper) (layout_in m.keeper) (D.honest disk)) moment boot m.adopted (D.size disk) (D.past disk) (C.past children)
-            (now (state_in m.keeper) (C.past m.children) m.marks [] (D.past (disk_in m.keeper)))) }
+        ensures opened { IfOk result (λ m. Opened (place (size_in m.keeper) (layout_in m.keeper) (D.honest disk)) (C.honest children) (C.whole m.children)
+            moment boot m.adopted (D.size disk) (D.past disk) (C.past children)
+            (now_in m.keeper (C.past m.children) m.marks [] (D.past (disk_in m.keeper)))) }
         ensures read { IfOk result (λ m. IsTrue (D.honest disk) → IsRead (layout_in m.keeper) (seen (D.past disk)) (opened_in m.keeper)) }
         ensures anew { IfOk result (λ m. AllByRecursion IsNew m.sessions.items) }
         ensures working { IfOk result (λ m. has_failed m.keeper ≡ false) }
         ensures sized { IfOk result (λ m. size_in m.keeper ≡ body_limit (layout_in m.keeper)) }
         ensures same { IfOk result (λ m. (D.honest (disk_in m.keeper) ≡ D.honest disk) × (C.honest m.children ≡ C.honest children)) }
         ensures whole { IfOk result (λ m. IsTrue (C.whole m.children) → IsTrue (C.whole children)) }
-        ensures err { IfErr result (λ e. IsTrue (C.honest children) → IsTrue (C.whole e.2) → IsTrue (D.honest disk) → (layout : Layout)
-            → Images (D.past disk) (IsSomeStore layout) → During (D.past disk) (D.past e.1)
-            (IsOfRefused layout moment boot (D.size disk) (D.past disk) (C.past children) (C.past e.2))) }
-        ensures early { IfErr result (λ e. e.0 ≡ Refusal.NoMemory → C.past e.2 ≡ C.past children) }
+        ensures err { IfErr result (λ e. IsTrue (D.honest disk) → (layout : Layout) → Images (D.past disk) (IsSomeStore layout)
+            → During (D.past disk) (D.past e.1)
+            (IsOfRefused layout moment boot (D.size disk) (D.past disk) (C.honest children) (C.whole e.2) (C.past children) (C.past e.2))) }
+        ensures silent { IfErr result (λ e. IsTrue (C.honest children) → IsTrue (C.whole e.2)
+            → (C.past e.2 ≡ C.past children) ⊎ IsSilent (D.size disk) (D.past disk) (D.honest disk) moment boot (C.past children) (C.past e.2)) }
+        ensures refused { IfErr result (λ e. IsLost e.0 ⊎ (IsTrue (D.honest disk) → IsUntaken (D.size disk) (seen (D.past disk)) e.0)) }
+        ensures unwritten { IfErr result (λ e. IsTrue (D.honest disk) → IsLost e.0 ⊎ IsUnwritten (D.past disk) (D.past e.1)) }
+        ensures device { IfErr result (λ e. ((e.0 ≡ Refusal.Device) × (D.failures e.1 ≡ one_more (D.failures disk)))
+            ⊎ ((e.0 ≢ Refusal.Device) × (D.failures e.1 ≡ D.failures disk))) }
+        ensures quiet { IfOk result (λ m. D.failures (disk_in m.keeper) ≡ D.failures disk) }
+        ensures early { IfErr result (λ e. e.0 ≢ Refusal.Device → C.past e.2 ≡ C.past children) }
         ensures back { IfErr result (λ e. (D.honest e.1 ≡ D.honest disk) × (C.honest e.2 ≡ C.honest children)) }
         ensures whole_back { IfErr result (λ e. IsTrue (C.whole e.2) → IsTrue (C.whole children)) }
     {
@@ -103,12 +112,16 @@ impl<D: Disk, C: Children> Manager<D, C> {
 
     /// One turn at this moment over what came of the connections.
     ///
-    /// E15 before anything is taken, asked or offered. The store's E16 and E17, after the replies are put out.
+    /// E15 before anything is taken, asked or offered. The store's E16 and E17, after the replies are put out: E16 exactly where the count of the
+    /// disk's failures rises, E17 exactly where it rose in an earlier call.
     pub fn turn(&mut self, moment: Moment, pieces: &Pieces) -> Result<(), Refusal>
         ensures turns { Turns (place_in (D.honest (disk_in self.old.keeper)) self.old.keeper) result (C.honest self.old.children)
             (C.whole self.new.children) moment pieces.now
-            (now (state_in self.old.keeper) (C.past self.old.children) self.old.marks self.old.sessions.items (D.past (disk_in self.old.keeper)))
-            (now (state_in self.new.keeper) (C.past self.new.children) self.new.marks self.new.sessions.items (D.past (disk_in self.new.keeper))) }
+            (now_in self.old.keeper (C.past self.old.children) self.old.marks self.old.sessions.items (D.past (disk_in self.old.keeper)))
+            (now_in self.new.keeper (C.past self.new.children) self.new.marks self.new.sessions.items (D.past (disk_in self.new.keeper))) }
+        ensures refused { IfErr result (λ e. IsLost e ⊎ (e ≡ Refusal.Reopen)) }
+        ensures device { CountsDevice result (D.failures (disk_in self.old.keeper)) (D.failures (disk_in self.new.keeper)) }
+        ensures reopen { result ≢ Err Refusal.NoMemory → (result ≡ Err Refusal.Reopen) ↔ (has_failed self.old.keeper ≡ true) }
         ensures whole { IsTrue (C.whole self.new.children) → IsTrue (C.whole self.old.children) }
         ensures honest { C.honest self.new.children ≡ C.honest self.old.children }
         ensures place { IsSamePlace self.old.keeper self.new.keeper }
@@ -127,12 +140,15 @@ impl<D: Disk, C: Children> Manager<D, C> {
         )
     }
 
-    /// One turn a step, until one is refused.
+    /// One turn a step, until one is refused, for the causes of `turn`.
     pub fn run_script(&mut self, steps: &[Step]) -> Result<(), Refusal>
-        ensures runs { IsTrue (C.honest self.old.children) → IsTrue (C.whole self.new.children)
-            → Runs (place_in (D.honest (disk_in self.old.keeper)) self.old.keeper) steps.now result
-            (now (state_in self.old.keeper) (C.past self.old.children) self.old.marks self.old.sessions.items (D.past (disk_in self.old.keeper)))
-            (now (state_in self.new.keeper) (C.past self.new.children) self.new.marks self.new.sessions.items (D.past (disk_in self.new.keeper))) }
+        ensures runs { Runs (place_in (D.honest (disk_in self.old.keeper)) self.old.keeper) (C.honest self.old.children) (C.whole self.new.children)
+            steps.now result
+            (now_in self.old.keeper (C.past self.old.children) self.old.marks self.old.sessions.items (D.past (disk_in self.old.keeper)))
+            (now_in self.new.keeper (C.past self.new.children) self.new.marks self.new.sessions.items (D.past (disk_in self.new.keeper))) }
+        ensures refused { IfErr result (λ e. IsLost e ⊎ (e ≡ Refusal.Reopen)) }
+        ensures device { CountsDevice result (D.failures (disk_in self.old.keeper)) (D.failures (disk_in self.new.keeper)) }
+        ensures reopen { result ≢ Err Refusal.NoMemory → (result ≡ Err Refusal.Reopen) ↔ ((has_failed self.old.keeper ≡ true) × (steps.now ≢ [])) }
         ensures whole { IsTrue (C.whole self.new.children) → IsTrue (C.whole self.old.children) }
         ensures honest { C.honest self.new.children ≡ C.honest self.old.children }
         ensures place { IsSamePlace self.old.keeper self.new.keeper }

@@ -1,18 +1,21 @@
 //! Opening: the boot, and then the processes that are live are adopted.
 
-ghost use Rattle.std.specs.Prelude.{◌≡◌, ◌≢◌, ◌⊎◌, ◌↔◌, ◌+◌, ◌*◌, ◌≤◌, ◌∷◌, [], ℕ, List, true, Ok, Err, IsTrue, IfOk, IfErr, OnOk, OnErr, length, vec_len, vec_capacity};
+ghost use Rattle.std.specs.Prelude.{◌≡◌, ◌≢◌, ◌⊎◌, ◌↔◌, ◌+◌, ◌*◌, ◌≤◌, ◌++◌, ◌∷◌, [], ℕ, List, true, false, Ok, Err, IsTrue, IfOk, IfErr, OnOk, OnErr, length, vec_len, vec_capacity};
 ghost use Rattle.std.specs.List.{AllByRecursion};
-ghost use Rattle.um_keeper.specs.Keepers.{disk_in, state_in, size_in, layout_in, has_failed, IsSamePlace};
+ghost use Rattle.um_keeper.specs.Keepers.{disk_in, state_in, size_in, layout_in, has_failed, IsSamePlace, HasNoRoom};
 ghost use Rattle.um_keeper.specs.Keeping.{IsBegun};
 ghost use Rattle.um_manager.specs.Connections.{IsNew};
-ghost use Rattle.um_fates.specs.Fates.{Hears, inputs_in, lost};
+ghost use Rattle.um_fates.specs.Fates.{Heard, inputs_in, lost};
 ghost use Rattle.um_fates.specs.Live.{AreLive, has};
-ghost use Rattle.um_manager.specs.Opening.{Adopts, Began, Refuses, Signalled, boot_at};
+ghost use Rattle.um_manager.specs.Opening.{Adopted, Began, Ends, Refuses, Signalled, boot_at};
 ghost use Rattle.um_manager.specs.Places.{place_in, is_trusted};
-ghost use Rattle.um_manager.specs.Turns.{now};
+ghost use Rattle.um_manager.specs.Turns.{now_in};
+ghost use Rattle.um_model.specs.Children.{ForgotOthers};
 ghost use Rattle.um_model.specs.Disk.{During};
+ghost use Rattle.um_model.specs.InputSpellings.{input_spelling};
 ghost use Rattle.um_model.specs.Machine as model;
-ghost use Rattle.um_model.specs.Machine.{Step};
+ghost use Rattle.um_model.specs.Machine.{Step, boot_limit};
+ghost use Rattle.um_sector.specs.Refused.{CountsDevice, IsLost};
 ghost use Rattle.um_state.specs.View.{state_of};
 
 use crate::connection::CONNECTIONS;
@@ -97,8 +100,8 @@ fn claim_live<C: Children>(
     inputs: &mut Vec<Input>,
 )
     requires { vec_len inputs.old + 2 * length live.now ≤ vec_capacity inputs.old }
-    ensures hears { Hears lost moment (λ n. true) (C.honest children.old) (C.whole children.new) (C.past children.old) (C.past children.new) live.now
-        (inputs_in inputs.old.items) (inputs_in inputs.new.items) }
+    ensures hears { Heard lost moment (λ n. true) (C.honest children.old) (C.whole children.new)
+        (C.past children.old ++ ForgotOthers live.now ∷ []) (C.past children.new) live.now (inputs_in inputs.old.items) (inputs_in inputs.new.items) }
     ensures len { vec_len inputs.new ≤ vec_len inputs.old + 2 * length live.now }
     ensures capacity { vec_capacity inputs.old ≤ vec_capacity inputs.new }
     ensures whole { IsTrue (C.whole children.new) → IsTrue (C.whole children.old) }
@@ -108,12 +111,20 @@ fn claim_live<C: Children>(
     claim_all(children, live, moment, inputs);
 }
 
-/// Kills the numbers whose unit is in stop-sigkill, and lets go what is kept of those that aren't live any more.
-fn kill_all<C: Children>(children: &mut C, units: &Units, numbers: &[ProcessNumber])
-    ensures signals { IsTrue (C.honest children.old) → IsTrue (C.whole children.new) → Signalled units.now.held SubState.StopSigkill Signal.Kill numbers.now (C.past children.old) (C.past children.new) }
+/// Sends TERM to those of these numbers whose unit is in stop-sigterm, and KILL to those whose unit is in stop-sigkill, and lets go what is kept of
+/// those that aren't live any more.
+fn end_all<C: Children>(children: &mut C, units: &Units, numbers: &[ProcessNumber])
+    ensures ends { IsTrue (C.honest children.old) → IsTrue (C.whole children.new) → Ends units.now.held numbers.now (C.past children.old) (C.past children.new) }
     ensures whole { IsTrue (C.whole children.new) → IsTrue (C.whole children.old) }
     ensures honest { C.honest children.new ≡ C.honest children.old }
 {
+    signal_all(
+        children,
+        units,
+        SubState::StopSigterm,
+        Signal::Term,
+        numbers,
+    );
     signal_all(
         children,
         units,
@@ -124,7 +135,8 @@ fn kill_all<C: Children>(children: &mut C, units: &Units, numbers: &[ProcessNumb
     forget_ended(children, units, numbers);
 }
 
-/// Adopts the live numbers: it asks the fate of each with a claim, offers what is told, and ends those that were being ended.
+/// Adopts the live numbers: it asks the fate of each with a claim, offers what is told, and, where the store took it, ends those that were being
+/// ended.
 fn adopt<D: Disk, C: Children>(
     keeper: &mut Keeper<D>,
     children: &mut C,
@@ -134,16 +146,18 @@ fn adopt<D: Disk, C: Children>(
     inputs: Vec<Input>,
     replies: &mut Vec<Reply>,
 ) -> Result<(), Refusal>
+    requires working { has_failed keeper.old ≡ false }
     requires live { AreLive (state_in keeper.old).units live.now }
     requires marked { (n : ℕ) → has n marks.old ≡ has n live.now }
     requires no_inputs { inputs.items ≡ [] }
     requires no_replies { replies.old.items ≡ [] }
     requires room { 2 * length live.now ≤ vec_capacity inputs }
     requires replies_room { 2 * length live.now ≤ vec_capacity replies.old }
-    ensures memory { IfErr result (λ e. e ≢ Refusal.NoMemory) }
-    ensures adopts { Adopts (place_in (D.honest (disk_in keeper.old)) keeper.old) result (C.honest children.old) (C.whole children.new) moment
-        (now (state_in keeper.old) (C.past children.old) marks.old [] (D.past (disk_in keeper.old)))
-        (now (state_in keeper.new) (C.past children.new) marks.new [] (D.past (disk_in keeper.new))) }
+    ensures refused { IfErr result (λ e. e ≡ Refusal.Device) }
+    ensures device { CountsDevice result (D.failures (disk_in keeper.old)) (D.failures (disk_in keeper.new)) }
+    ensures adopts { Adopted (place_in (D.honest (disk_in keeper.old)) keeper.old) (C.honest children.old) (C.whole children.new) result moment
+        (now_in keeper.old (C.past children.old) marks.old [] (D.past (disk_in keeper.old)))
+        (now_in keeper.new (C.past children.new) marks.new [] (D.past (disk_in keeper.new))) }
     ensures whole { IsTrue (C.whole children.new) → IsTrue (C.whole children.old) }
     ensures honest { C.honest children.new ≡ C.honest children.old }
     ensures place { IsSamePlace keeper.old keeper.new }
@@ -153,21 +167,23 @@ fn adopt<D: Disk, C: Children>(
     let mut inputs = inputs;
     let next = keeper.state().next();
     claim_live(children, live, next, moment, &mut inputs);
-    let submitted = submit(keeper, children, marks, inputs, replies);
-    let units = keeper.state().units();
-    signal_all(children, units, SubState::StopSigterm, Signal::Term, live);
-    kill_all(children, units, live);
-    submitted
+    submit(keeper, children, marks, inputs, replies)?;
+    end_all(children, keeper.state().units(), live);
+    Ok(())
 }
 
 /// Offers the boot, which asks for nothing.
 fn offer_boot<D: Disk>(keeper: &mut Keeper<D>, boot: BootId, moment: Moment) -> Result<(), Refusal>
+    requires { has_failed keeper.old ≡ false }
     ensures booted { OnOk result ((reply : model.Reply) × Step (size_in keeper.old) (state_in keeper.old) (boot_at moment boot) reply []
         (state_in keeper.new)) }
     ensures state { OnErr result (state_in keeper.new ≡ state_in keeper.old) }
     ensures left { IsTrue (is_trusted (D.honest (disk_in keeper.old)) (has_failed keeper.old)) → During (D.past (disk_in keeper.old)) (D.past
         (disk_in keeper.new))
         (IsBegun (layout_in keeper.old) (state_in keeper.old) (boot_at moment boot ∷ [])) }
+    ensures refused { IfErr result (λ e. IsLost e ⊎ (e ≡ Refusal.GenerationsSpent)) }
+    ensures spent { result ≡ Err Refusal.GenerationsSpent → HasNoRoom keeper.old (length (input_spelling (boot_at moment boot))) }
+    ensures device { CountsDevice result (D.failures (disk_in keeper.old)) (D.failures (disk_in keeper.new)) }
     ensures place { IsSamePlace keeper.old keeper.new }
     ensures disk { D.honest (disk_in keeper.new) ≡ D.honest (disk_in keeper.old) }
     ensures failed { (has_failed keeper.new ≡ true) ↔ ((has_failed keeper.old ≡ true) ⊎ (result ≡ Err Refusal.Device)) }
@@ -182,6 +198,7 @@ fn offer_boot<D: Disk>(keeper: &mut Keeper<D>, boot: BootId, moment: Moment) -> 
 fn live_in(alloc: Global, state: &State, boot: &BootId) -> Result<Vec<ProcessNumber>, AllocError>
     ensures same { IfOk result (λ live. boot.now ≡ (state_of state.now).boot → AreLive (state_of state.now).units live.items) }
     ensures other { IfOk result (λ live. boot.now ≢ (state_of state.now).boot → live.items ≡ []) }
+    ensures short { length boot.now ≤ boot_limit }
 {
     if state.boot().as_str() == boot.as_str() {
         live_numbers(state.units())
@@ -190,7 +207,8 @@ fn live_in(alloc: Global, state: &State, boot: &BootId) -> Result<Vec<ProcessNum
     }
 }
 
-/// Offers the boot, and adopts the processes that are live then. Want of memory comes before the boot is offered, or is the boot's own.
+/// Offers the boot, and adopts the processes that are live then. Want of memory comes before the boot is offered, or is the boot's own; E20 is the
+/// boot's alone.
 pub fn begin<D: Disk, C: Children>(
     alloc: Global,
     keeper: &mut Keeper<D>,
@@ -198,17 +216,22 @@ pub fn begin<D: Disk, C: Children>(
     boot: BootId,
     moment: Moment,
 ) -> Result<Held, Refusal>
-    ensures began { IfOk result (λ held. IsTrue (C.honest children.old) → IsTrue (C.whole children.new)
-        → Began (place_in (D.honest (disk_in keeper.old)) keeper.old) (Ok tt) moment boot held.adopted
-        (now (state_in keeper.old) (C.past children.old) [] [] (D.past (disk_in keeper.old)))
-        (now (state_in keeper.new) (C.past children.new) held.marks [] (D.past (disk_in keeper.new)))) }
-    ensures refuses { IfErr result (λ e. IsTrue (C.honest children.old) → IsTrue (C.whole children.new)
-        → (marks : List ℕ) × Refuses (place_in (D.honest (disk_in keeper.old)) keeper.old) e moment boot
-        (now (state_in keeper.old) (C.past children.old) [] [] (D.past (disk_in keeper.old)))
-        (now (state_in keeper.new) (C.past children.new) marks [] (D.past (disk_in keeper.new)))) }
+    requires { has_failed keeper.old ≡ false }
+    ensures began { IfOk result (λ held.
+        Began (place_in (D.honest (disk_in keeper.old)) keeper.old) (C.honest children.old) (C.whole children.new) (Ok tt) moment boot held.adopted
+        (now_in keeper.old (C.past children.old) [] [] (D.past (disk_in keeper.old)))
+        (now_in keeper.new (C.past children.new) held.marks [] (D.past (disk_in keeper.new)))) }
+    ensures refuses { IfErr result (λ e. (marks : List ℕ)
+        × Refuses (place_in (D.honest (disk_in keeper.old)) keeper.old) (C.honest children.old) (C.whole children.new) e moment boot
+        (now_in keeper.old (C.past children.old) [] [] (D.past (disk_in keeper.old)))
+        (now_in keeper.new (C.past children.new) marks [] (D.past (disk_in keeper.new)))) }
     ensures sessions { IfOk result (λ held. length held.sessions.items ≡ 64) }
     ensures anew { IfOk result (λ held. AllByRecursion IsNew held.sessions.items) }
-    ensures early { IfErr result (λ e. e ≡ Refusal.NoMemory → (state_in keeper.new ≡ state_in keeper.old) × (C.past children.new ≡ C.past children.old)) }
+    ensures refused { IfErr result (λ e. IsLost e ⊎ (e ≡ Refusal.GenerationsSpent)) }
+    ensures spent { IfErr result (λ e. e ≡ Refusal.GenerationsSpent
+        → (length boot ≤ boot_limit) × HasNoRoom keeper.old (length (input_spelling (boot_at moment boot)))) }
+    ensures device { CountsDevice result (D.failures (disk_in keeper.old)) (D.failures (disk_in keeper.new)) }
+    ensures early { IfErr result (λ e. e ≢ Refusal.Device → (state_in keeper.new ≡ state_in keeper.old) × (C.past children.new ≡ C.past children.old)) }
     ensures whole { IsTrue (C.whole children.new) → IsTrue (C.whole children.old) }
     ensures honest { C.honest children.new ≡ C.honest children.old }
     ensures place { IsSamePlace keeper.old keeper.new }

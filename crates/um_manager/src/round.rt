@@ -1,10 +1,12 @@
 //! One turn.
 
-ghost use Rattle.std.specs.Prelude.{◌≡◌, ◌⊎◌, ◌↔◌, ◌≤◌, true, Err, IsTrue, length, drop};
+ghost use Rattle.std.specs.Prelude.{◌≡◌, ◌≢◌, ◌⊎◌, ◌↔◌, ◌≤◌, true, Err, IfErr, IsTrue, length, drop};
 ghost use Rattle.um_keeper.specs.Keepers.{disk_in, state_in, has_failed, IsSamePlace};
 ghost use Rattle.um_fates.specs.Fates.{tick_at};
+ghost use Rattle.um_manager.specs.Orders.{LetGo};
 ghost use Rattle.um_manager.specs.Places.{place_in};
-ghost use Rattle.um_manager.specs.Turns.{Turns, now};
+ghost use Rattle.um_manager.specs.Turns.{Turns, now_in};
+ghost use Rattle.um_sector.specs.Refused.{CountsDevice, IsLost};
 ghost use Rattle.um_state.specs.View.{input_of};
 
 use crate::connection::CONNECTIONS;
@@ -50,16 +52,44 @@ fn note_ended(inputs: &[Input], ended: &mut Vec<ProcessNumber>) {
     }
 }
 
+/// Forgets the number, if it isn't live.
+#[tactic(auto, using(crate::proofs::Letting::let_go_it, crate::proofs::Letting::let_go_none))]
+fn forget_one<C: Children>(children: &mut C, units: &Units, number: ProcessNumber)
+    ensures let_go { IsTrue (C.honest children.old) → IsTrue (C.whole children.new) → LetGo units.now.held (C.past children.old) (C.past children.new) }
+    ensures whole { IsTrue (C.whole children.new) → IsTrue (C.whole children.old) }
+    ensures honest { C.honest children.new ≡ C.honest children.old }
+{
+    if !is_live(units, number) {
+        let _forgotten = children.forget(number);
+    }
+}
+
 /// Forgets each of these numbers that isn't live any more. What isn't forgotten for a fault is forgotten by a later opening.
 pub fn forget_ended<C: Children>(children: &mut C, units: &Units, numbers: &[ProcessNumber])
-    ensures past { C.past children.new ≡ C.past children.old }
-    ensures whole { C.whole children.new ≡ C.whole children.old }
+    ensures let_go { IsTrue (C.honest children.old) → IsTrue (C.whole children.new) → LetGo units.now.held (C.past children.old) (C.past children.new) }
+    ensures whole { IsTrue (C.whole children.new) → IsTrue (C.whole children.old) }
     ensures honest { C.honest children.new ≡ C.honest children.old }
 {
     for number in numbers {
-        if !is_live(units, *number) {
-            let _forgotten = children.forget(*number);
-        }
+        forget_one(children, units, *number);
+    }
+}
+
+/// The same where the store took what was offered; where it failed no end is recorded, and nothing is forgotten.
+fn forget_recorded<C: Children>(
+    children: &mut C,
+    units: &Units,
+    numbers: &[ProcessNumber],
+    submitted: &Result<(), Refusal>,
+)
+    ensures let_go { IsTrue (C.honest children.old) → IsTrue (C.whole children.new) → LetGo units.now.held (C.past children.old) (C.past children.new) }
+    ensures kept { IfErr submitted.now (λ e. C.past children.new ≡ C.past children.old) }
+    ensures whole { IsTrue (C.whole children.new) → IsTrue (C.whole children.old) }
+    ensures honest { C.honest children.new ≡ C.honest children.old }
+{
+    match submitted {
+        Ok(()) => forget_ended(children, units, numbers),
+        Err(_) => {}
     }
 }
 
@@ -77,8 +107,11 @@ pub fn turn<D: Disk, C: Children>(
     requires as_many { length sessions.old ≡ length pieces.now }
     requires few { length sessions.old ≤ 64 }
     ensures turns { Turns (place_in (D.honest (disk_in keeper.old)) keeper.old) result (C.honest children.old) (C.whole children.new) moment pieces.now
-        (now (state_in keeper.old) (C.past children.old) marks.old sessions.old (D.past (disk_in keeper.old)))
-        (now (state_in keeper.new) (C.past children.new) marks.new sessions.new (D.past (disk_in keeper.new))) }
+        (now_in keeper.old (C.past children.old) marks.old sessions.old (D.past (disk_in keeper.old)))
+        (now_in keeper.new (C.past children.new) marks.new sessions.new (D.past (disk_in keeper.new))) }
+    ensures refused { IfErr result (λ e. IsLost e ⊎ (e ≡ Refusal.Reopen)) }
+    ensures device { CountsDevice result (D.failures (disk_in keeper.old)) (D.failures (disk_in keeper.new)) }
+    ensures reopen { result ≢ Err Refusal.NoMemory → (result ≡ Err Refusal.Reopen) ↔ (has_failed keeper.old ≡ true) }
     ensures whole { IsTrue (C.whole children.new) → IsTrue (C.whole children.old) }
     ensures honest { C.honest children.new ≡ C.honest children.old }
     ensures place { IsSamePlace keeper.old keeper.new }
@@ -120,6 +153,11 @@ pub fn turn<D: Disk, C: Children>(
     let replies = behind(replies.as_slice(), firsts);
     pay_all(alloc, keeper, sessions, owed.as_slice(), replies);
     // nothing else is over, so that a turn in which nothing ended looks for none
-    forget_ended(children, keeper.state().units(), ended.as_slice());
+    forget_recorded(
+        children,
+        keeper.state().units(),
+        ended.as_slice(),
+        &submitted,
+    );
     submitted
 }

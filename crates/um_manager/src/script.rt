@@ -1,10 +1,11 @@
 //! A script: one turn a step.
 
-ghost use Rattle.std.specs.Prelude.{◌≡◌, ◌⊎◌, ◌↔◌, true, Err, IsTrue, length};
+ghost use Rattle.std.specs.Prelude.{◌≡◌, ◌≢◌, ◌⊎◌, ◌↔◌, [], true, Err, IfErr, IsTrue, length};
 ghost use Rattle.um_keeper.specs.Keepers.{disk_in, state_in, has_failed, IsSamePlace};
 ghost use Rattle.um_manager.specs.Places.{place_in};
 ghost use Rattle.um_manager.specs.Scripts.{Runs};
-ghost use Rattle.um_manager.specs.Turns.{now};
+ghost use Rattle.um_manager.specs.Turns.{now_in};
+ghost use Rattle.um_sector.specs.Refused.{CountsDevice, IsLost};
 
 use crate::pieces::Pieces;
 use crate::round::turn;
@@ -34,10 +35,12 @@ pub fn run<D: Disk, C: Children>(
     steps: &[Step],
 ) -> Result<(), Refusal>
     requires { length sessions.old ≡ 64 }
-    ensures runs { IsTrue (C.honest children.old) → IsTrue (C.whole children.new)
-        → Runs (place_in (D.honest (disk_in keeper.old)) keeper.old) steps.now result
-        (now (state_in keeper.old) (C.past children.old) marks.old sessions.old (D.past (disk_in keeper.old)))
-        (now (state_in keeper.new) (C.past children.new) marks.new sessions.new (D.past (disk_in keeper.new))) }
+    ensures runs { Runs (place_in (D.honest (disk_in keeper.old)) keeper.old) (C.honest children.old) (C.whole children.new) steps.now result
+        (now_in keeper.old (C.past children.old) marks.old sessions.old (D.past (disk_in keeper.old)))
+        (now_in keeper.new (C.past children.new) marks.new sessions.new (D.past (disk_in keeper.new))) }
+    ensures refused { IfErr result (λ e. IsLost e ⊎ (e ≡ Refusal.Reopen)) }
+    ensures device { CountsDevice result (D.failures (disk_in keeper.old)) (D.failures (disk_in keeper.new)) }
+    ensures reopen { result ≢ Err Refusal.NoMemory → (result ≡ Err Refusal.Reopen) ↔ ((has_failed keeper.old ≡ true) × (steps.now ≢ [])) }
     ensures whole { IsTrue (C.whole children.new) → IsTrue (C.whole children.old) }
     ensures honest { C.honest children.new ≡ C.honest children.old }
     ensures place { IsSamePlace keeper.old keeper.new }

@@ -1,14 +1,15 @@
 //! Inputs offered to the store.
 
-ghost use Rattle.std.specs.Prelude.{◌≡◌, ◌⊎◌, ◌↔◌, ◌+◌, ◌≤◌, ◌++◌, [], true, if◌then◌else◌, Ok, Err, IsTrue, map, replicate, vec_len, vec_capacity};
+ghost use Rattle.std.specs.Prelude.{◌≡◌, ◌⊎◌, ◌↔◌, ◌+◌, ◌≤◌, ◌++◌, [], true, if◌then◌else◌, Ok, Err, IfErr, IsTrue, map, replicate, vec_len, vec_capacity};
 ghost use Rattle.um_keeper.specs.Keepers.{disk_in, state_in, has_failed, IsSamePlace};
 ghost use Rattle.um_model.specs.Machine as model;
+ghost use Rattle.um_sector.specs.Refused.{CountsDevice};
 ghost use Rattle.um_state.specs.View.{reply_of};
 ghost use Rattle.um_wire.specs.Refusal.{refused_of};
 ghost use Rattle.um_fates.specs.Fates.{inputs_in};
 ghost use Rattle.um_manager.specs.Places.{place_in};
 ghost use Rattle.um_manager.specs.Stores.{refusal_of, StoreAnswers, Submits};
-ghost use Rattle.um_manager.specs.Turns.{now};
+ghost use Rattle.um_manager.specs.Turns.{now_in};
 
 use crate::orders::{carry_all, put_reply};
 use um_children::Children;
@@ -79,7 +80,7 @@ fn faults<D: Disk>(keeper: &Keeper<D>) -> Result<(), Refusal>
 }
 
 /// Offers the inputs, carries out the actions of the receipts, and notes the replies. Where the store refuses all of them each is
-/// answered so; E16 where some of them are.
+/// answered so; E16 where some of them are, and E17 where an earlier call answered E16.
 pub fn submit<D: Disk, C: Children>(
     keeper: &mut Keeper<D>,
     children: &mut C,
@@ -90,10 +91,13 @@ pub fn submit<D: Disk, C: Children>(
     requires empty { replies.old.items ≡ [] }
     requires room { vec_len replies.old + vec_len inputs ≤ vec_capacity replies.old }
     ensures len { vec_len replies.new ≡ vec_len inputs }
+    ensures refused { IfErr result (λ e. (e ≡ Refusal.Device) ⊎ (e ≡ Refusal.Reopen)) }
+    ensures device { CountsDevice result (D.failures (disk_in keeper.old)) (D.failures (disk_in keeper.new)) }
+    ensures reopen { (result ≡ Err Refusal.Reopen) ↔ (has_failed keeper.old ≡ true) }
     ensures submits { Submits (place_in (D.honest (disk_in keeper.old)) keeper.old) result (inputs_in inputs.items) (map reply_of replies.new.items)
         (C.honest children.old) (C.whole children.new)
-        (now (state_in keeper.old) (C.past children.old) marks.old [] (D.past (disk_in keeper.old)))
-        (now (state_in keeper.new) (C.past children.new) marks.new [] (D.past (disk_in keeper.new))) }
+        (now_in keeper.old (C.past children.old) marks.old [] (D.past (disk_in keeper.old)))
+        (now_in keeper.new (C.past children.new) marks.new [] (D.past (disk_in keeper.new))) }
     ensures whole { IsTrue (C.whole children.new) → IsTrue (C.whole children.old) }
     ensures honest { C.honest children.new ≡ C.honest children.old }
     ensures place { IsSamePlace keeper.old keeper.new }

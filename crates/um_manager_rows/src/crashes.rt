@@ -76,19 +76,24 @@ fn left(rt: &(impl AllocGlobal + Abort), picks: &[usize]) -> MemDisk {
     disk.crash(rt.alloc(), picks).expect(rt, "no memory")
 }
 
-/// Asserts that the number was asked for once, with a claim, and told to be absent, and that nothing was started or signalled.
+/// Asserts that all but the number were let go, that it was asked for once, with a claim, and told to be absent, that it was let go then, and that
+/// nothing was started or signalled.
 fn told_absent(rt: &impl Abort, calls: &[Call]) {
     let [
+        Call::ForgotOthers { live },
         Call::Asked {
             number,
             claim: true,
             told: Some(Fate::Absent),
         },
+        Call::Forgot { number: forgotten },
     ] = calls
     else {
         rt.abort()
     };
     same(rt, number.get(), 1);
+    same(rt, forgotten.get(), 1);
+    same(rt, live.as_slice(), [*number].as_slice());
 }
 
 /// The manager that is opened behind the crash.

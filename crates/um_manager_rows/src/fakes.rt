@@ -1,5 +1,5 @@
 //! Children in memory.
-use crate::orders::{number, order, told};
+use crate::orders::{next, number, order, told};
 use std::process::Abort;
 use um_children::{Call, ChildFault, Children, End, FakeChildren, Fate, Signal};
 
@@ -38,7 +38,7 @@ fn sleeps(rt: &impl Abort, words: &[String]) {
     assert_eq!(rt; [program.as_str(), seconds.as_str()], ["/bin/sleep", "9"]);
 }
 
-/// Asserts that a start, a signal and a question that failed were noted, and no other call.
+/// Asserts that a start, a signal, two calls that let numbers go, and a question that failed were noted, and no other call.
 fn are_noted(rt: &(impl AllocGlobal + Abort), calls: &[Call]) {
     let [
         Call::Spawned {
@@ -51,6 +51,8 @@ fn are_noted(rt: &(impl AllocGlobal + Abort), calls: &[Call]) {
             signal: Signal::Term,
             ..
         },
+        Call::Forgot { number: forgotten },
+        Call::ForgotOthers { live },
         Call::Asked {
             claim: true,
             told: None,
@@ -60,6 +62,8 @@ fn are_noted(rt: &(impl AllocGlobal + Abort), calls: &[Call]) {
     else {
         rt.abort()
     };
+    assert_eq!(rt; *forgotten, number(rt, 1));
+    assert_eq!(rt; live.as_slice(), [number(rt, 2)].as_slice());
     let words = start.words(rt.alloc()).expect(rt, "no memory");
     sleeps(rt, words.as_slice());
 }
@@ -99,13 +103,16 @@ fn a_number_that_was_told_absent_never_starts(rt: HostRuntime) {
 }
 
 #[test]
-fn each_call_is_noted_and_forgetting_is_none(rt: HostRuntime) {
+fn each_call_is_noted_and_one_that_lets_go_burns_no_fuse(rt: HostRuntime) {
     let mut children = started(&rt);
     children
         .signal(number(&rt, 1), Signal::Term)
         .expect(&rt, "not signalled");
     children.fuse(1);
     children.forget(number(&rt, 1)).expect(&rt, "not forgotten");
+    children
+        .forget_others(&[number(&rt, 2)], next(&rt, 3))
+        .expect(&rt, "not forgotten");
     fails(&rt, &mut children, true);
     let copy = children.copy(rt.alloc()).expect(&rt, "no memory");
     are_noted(&rt, copy.calls());

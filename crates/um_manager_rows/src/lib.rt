@@ -36,3 +36,5 @@ mod scripts;
 mod serving;
 #[cfg(test)]
 mod texts;
+#[cfg(test)]
+mod turns;

@@ -5,7 +5,7 @@ use um_children::{Call, FakeChildren};
 use um_keeper::create;
 use um_manager::{Connection, Manager, Piece, Pieces, Step};
 use um_model::{Layout, Moment};
-use um_sector::MemDisk;
+use um_sector::{Disk, MemDisk};
 use um_state::BootId;
 
 /// A manager in memory.
@@ -90,9 +90,9 @@ pub fn play(rt: &(impl AllocGlobal + Abort), manager: &mut InMemory, turns: &[&[
 }
 
 /// Asserts that just the frames of these texts were put out for a connection, and that its session hasn't failed.
-pub fn has_output(
+pub fn has_output<D: Disk>(
     rt: &(impl AllocGlobal + Abort),
-    manager: &mut InMemory,
+    manager: &mut Manager<D, FakeChildren>,
     number: usize,
     wanted: &[&str],
 ) {
@@ -103,7 +103,10 @@ pub fn has_output(
 }
 
 /// The numbers that were started, in their order.
-pub fn started(rt: &(impl AllocGlobal + Abort), manager: InMemory) -> Vec<u64> {
+pub fn started<D: Disk + Drop>(
+    rt: &(impl AllocGlobal + Abort),
+    manager: Manager<D, FakeChildren>,
+) -> Vec<u64> {
     let (_, children) = manager.into_parts();
     let mut numbers = Vec::new(rt.alloc());
     for call in children.calls() {

@@ -108,6 +108,22 @@ fn a_round_whose_accept_fails_serves_those_that_are_there(rt: HostRuntime) {
     have(&rt, &served.gate.gate, DONE, NONE);
 }
 
+#[test]
+fn a_client_that_holds_back_a_byte_and_one_that_never_reads_hold_up_nobody(rt: HostRuntime) {
+    let mut gate = new_gate(&rt);
+    let (front, _) = LOADS.split_at(LOADS.len() - 1);
+    add_client(&rt, &mut gate, 0, LISTS, 0);
+    add_client(&rt, &mut gate, 1, front, 4096);
+    add_client(&rt, &mut gate, 2, LISTS, 4096);
+    let mut served = Served::over(&rt, gate);
+    served.serve(&rt, 3);
+    for (number, wanted) in [(0, b"".as_slice()), (1, b"".as_slice()), (2, NONE)] {
+        let got = what_was_taken(&rt, &served.gate.gate, number);
+        same(&rt, got.bytes.as_slice(), wanted);
+        same(&rt, got.is_dropped, false);
+    }
+}
+
 /// Rounds one by one, of a client that sends two requests in one part and then a third: how many bytes are to be read of it at most, how many
 /// bytes of replies it has then, each of 26, and whether the round was busy.
 const ONE_BY_ONE: &[(usize, usize, bool)] = &[

@@ -3,6 +3,7 @@ use Rattle.std.proofs.Common.{◌++◌, ◌∷◌, ◌+◌, [], ℕ, List, lengt
 use Rattle.um_backlog.specs.Backlog.{Waits}
 use Rattle.um_gate.specs.Events.{Event}
 use Rattle.um_manager.specs.Places.{Place}
+use Rattle.um_manager.proofs.Turning.{turned_less}
 use Rattle.um_manager.specs.Turns.{Now, Turns}
 use Rattle.um_manager.specs.declared.pieces.Piece.{Piece}
 use Rattle.um_serve.specs.Rounds.{Round, Trust, IsWithin, Served, Hears, IsRound, IsUntaken, Stops, Serves, IsCount}
@@ -22,7 +23,7 @@ hears_less less more r said waits x y within p = record {
 
 turns_less : (less more : Trust) (place : Place) (result : Result Unit Refusal) (moment : ℕ) (pieces : List Piece) (a b : Now) → IsWithin less more
     → Turns place result more.children more.calls moment pieces a b → Turns place result less.children less.calls moment pieces a b
-turns_less less more place result moment pieces a b within p = (p.0, λ not h w. p.1 not (within.children h) (within.calls w))
+turns_less less more place result moment pieces a b within p = (p.0, λ not. turned_less within.children within.calls (p.1 not))
 
 pub round_less : (less more : Trust) (place : Place) (result : Result Unit Refusal) (r : Round) (x y : Served) → IsWithin less more → IsRound more place result r x y
     → IsRound less place result r x y

@@ -1,8 +1,9 @@
 -- One round after another.
-use Rattle.std.proofs.Common.{◌≡◌, ◌⊎◌, ◌↔◌, inl, inr, ◌∙◌, ◌++◌, ◌∷◌, [], ◌≤◌, ℕ, List, Bool, true, false, IsTrue, Result, Ok, Err, is_ok, refl, sym, ap, append_assoc, append-nil, true≢false, ◌||◌, length, rules}
+use Rattle.std.proofs.Common.{◌≡◌, ◌≢◌, ◌⊎◌, ◌↔◌, inl, inr, ◌∙◌, ◌++◌, ◌∷◌, [], ◌≤◌, ◌<◌, ℕ, zero, suc, List, Bool, true, false, IsTrue, Result, Ok, Err, is_ok, refl, sym, ap, append_assoc, append-nil, true≢false, ◌||◌, length, rules, arith}
 use Rattle.um_backlog.specs.Backlog.{Waits}
 use Rattle.um_gate.specs.Events.{Event, Logs, Ticks}
-use Rattle.um_manager.specs.Places.{Place, place, is_trusted}
+use Rattle.um_manager.specs.Places.{Place, LogEnd, place, is_trusted}
+use Rattle.um_manager.proofs.Turning.{turned_less}
 use Rattle.um_manager.specs.Turns.{Now, now, Turns}
 use Rattle.um_model.specs.Children.{Call}
 use Rattle.um_model.specs.Disk.{Past}
@@ -75,10 +76,11 @@ unserved {old} {new} {given} {waits} {left} {was} {busy} {turned} {later} {a} pa
     ap (λ es. served es given left busy later a) past ∙ ap (λ ws. served old given ws busy later a) rest ∙ ap (λ b. served old given waits b later a) quiet
     ∙ ap (λ m. served old given waits was m a) turn
 
-pub same_now : {s t : State} {p q : List Call} {m n : List ℕ} {d e : Past} (us vs : List Session) → t ≡ s → q ≡ p → n ≡ m → e ≡ d
-    → now t q n vs e ≡ record (now s p m us d) { sessions = vs }
-same_now {s} {t} {p} {q} {m} {n} {d} {e} us vs state past marks disk =
-    ap (λ x. now x q n vs e) state ∙ ap (λ x. now s x n vs e) past ∙ ap (λ x. now s p x vs e) marks ∙ ap (λ x. now s p m vs x) disk
+pub same_now : {s t : State} {p q : List Call} {m n : List ℕ} {d e : Past} {k l : LogEnd} (us vs : List Session) → t ≡ s → q ≡ p → n ≡ m → e ≡ d → l ≡ k
+    → now t q n vs e l ≡ record (now s p m us d k) { sessions = vs }
+same_now {s} {t} {p} {q} {m} {n} {d} {e} {k} {l} us vs state past marks disk log =
+    ap (λ x. now x q n vs e l) state ∙ ap (λ x. now s x n vs e l) past ∙ ap (λ x. now s p x vs e l) marks ∙ ap (λ x. now s p m vs x l) disk
+    ∙ ap (λ (x : LogEnd). now s p m vs d x) log
 
 -- what a round hears
 abbrev round_at : {honest whole busy : Bool} {held : List Bool} {pieces : List Piece} {old new : List Event} {waits left : List Waits} → Gathers honest whole held pieces old new waits left busy
@@ -130,7 +132,7 @@ done_round {stirred = stirred} {changed = changed} {pieces = pieces} {forgot = f
         forgets = g.forgets;
       };
       turn = b;
-      turns = (turns.0, λ not h w. turns.1 not h (kept w));
+      turns = (turns.0, λ not. turned_less (λ h. h) kept (turns.1 not));
       says = says;
       empties = empties;
       rest = rest;
@@ -153,3 +155,15 @@ pub last_of : (trust : Trust) (place : Place) (e : Refusal) (x y : Served) → S
 last_of trust at e x y (inl p) = ([], search rules, (inr p.0, p.1))
 last_of trust at e x y (inr (r, inl p)) = absurd (true≢false (sym (ap is_ok p.0)))
 last_of trust at e x y (inr (r, inr p)) = (r ∷ [], search rules, inr (refl, p))
+
+-- where all rounds were answered none is refused because of an earlier call
+pub all_rounds : (limit count : ℕ) (failed : Bool) → (0 < count → failed ≡ false) → count ≡ limit
+    → (◌≡◌ {A = Result Unit Refusal} (Ok tt) (Err refusal.Reopen)) ↔ ((failed ≡ true) × (limit ≢ 0))
+all_rounds zero count failed worked done = ((λ is. cc), (λ p. absurd (p.1 refl)))
+all_rounds (suc n) count failed worked done = ((λ is. cc), (λ p. absurd (true≢false (sym p.0 ∙ worked (omega (arith, done))))))
+
+-- the last round is refused so exactly where a call failed before them all
+pub last_round : {r : Result Unit Refusal} {f h : Bool} (limit count : ℕ) → f ≡ h → count < limit → (r ≢ Err refusal.NoMemory → (r ≡ Err refusal.Reopen) ↔ (f ≡ true))
+    → r ≢ Err refusal.NoMemory → (r ≡ Err refusal.Reopen) ↔ ((h ≡ true) × (limit ≢ 0))
+last_round limit count same within exactly other =
+    let both = exactly other in ((λ is. (sym same ∙ both.0 is, λ e. absurd (omega (arith, within, e)))), (λ p. both.1 (same ∙ p.0)))

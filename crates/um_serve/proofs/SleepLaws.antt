@@ -123,7 +123,7 @@ answered place m s t inputs answers at low still (each are) = unchanged m s t lo
 answered place m s t inputs answers at low still (fell back) = back.state
 answered place m s t inputs answers at low still (reopen lost are same) = same
 
-pub nothing_changed : (place : Place) (store : Result Unit Refusal) (moment : ℕ) (pieces : List Piece) (a b : Now) → Turned place store moment pieces a b
+pub nothing_changed : (place : Place) (h w : Bool) (result : Result Unit Refusal) (moment : ℕ) (pieces : List Piece) (a b : Now) → Turned place h w result moment pieces a b
     → a.state.clock < moment → has_changed a.state b.state ≡ false → b.state ≡ a.state
-nothing_changed place store moment pieces a b turned low still =
+nothing_changed place h w result moment pieces a b turned low still =
     answered place moment a.state b.state _ turned.answers (offered_at moment turned.told turned.requests) low still turned.answered

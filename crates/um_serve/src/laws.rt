@@ -43,6 +43,6 @@ pub fn no_deadline_is_slept_past()
 /// A turn at a moment past the state's clock that leaves the clock there changed nothing: so a deadline that it was offered, and that stands, is
 /// held up by something.
 pub fn a_turn_that_leaves_the_clock_changed_nothing()
-    ensures { (place : Place) (store : Result Unit Refusal) (moment : ℕ) (pieces : List Piece) (a b : Now) → Turned place store moment pieces a b
-        → a.state.clock < moment → has_changed a.state b.state ≡ false → b.state ≡ a.state }
+    ensures { (place : Place) (honest whole : Bool) (result : Result Unit Refusal) (moment : ℕ) (pieces : List Piece) (a b : Now)
+        → Turned place honest whole result moment pieces a b → a.state.clock < moment → has_changed a.state b.state ≡ false → b.state ≡ a.state }
 {}

@@ -1,11 +1,12 @@
 //! Rounds over a gate.
 
-ghost use Rattle.std.specs.Prelude.{◌≡◌, ◌≢◌, ◌⊎◌, ◌↔◌, ◌||◌, nat_lt, ℕ, List, slice_get, true, false, Err, IsTrue, IfOk, OnOk, OnErr, length, replicate};
+ghost use Rattle.std.specs.Prelude.{◌≡◌, ◌≢◌, ◌⊎◌, ◌↔◌, ◌||◌, nat_lt, ℕ, List, slice_get, true, false, Err, IsTrue, IfErr, IfOk, OnOk, OnErr, length, replicate};
 ghost use Rattle.um_backlog.specs.Backlog.{nothing, HandsAt};
 ghost use Rattle.um_gate.specs.Events.{Event, Logs};
 ghost use Rattle.um_keeper.specs.Keepers.{disk_in, state_in, has_failed, IsSamePlace};
 ghost use Rattle.um_manager.specs.Places.{place_in};
-ghost use Rattle.um_manager.specs.Turns.{now};
+ghost use Rattle.um_manager.specs.Turns.{now_in};
+ghost use Rattle.um_sector.specs.Refused.{CountsDevice, IsLost};
 ghost use Rattle.um_serve.specs.Rounds.{Round, Serves, ServesOne, IsCount, Gathers, served, trust, SaysBelow, has_bytes, is_freed, any_stirred, EmptiesAll, is_want};
 ghost use Rattle.um_serve.specs.Sleep.{IsSleptFor};
 
@@ -181,9 +182,12 @@ impl<G: Gate> Buffered<G> {
         ensures serves { ServesOne (trust (C.honest manager.old.children) (C.whole manager.new.children) (G.honest self.old.gate) (G.whole self.new.gate) (M.honest clock.old) (M.whole clock.new))
             (place_in (D.honest (disk_in manager.old.keeper)) manager.old.keeper) result
             (served (G.past self.old.gate) (M.given clock.old) self.old.backlog self.old.was_busy self.old.turned
-            (now (state_in manager.old.keeper) (C.past manager.old.children) manager.old.marks manager.old.sessions.items (D.past (disk_in manager.old.keeper))))
+            (now_in manager.old.keeper (C.past manager.old.children) manager.old.marks manager.old.sessions.items (D.past (disk_in manager.old.keeper))))
             (served (G.past self.new.gate) (M.given clock.new) self.new.backlog self.new.was_busy self.new.turned
-            (now (state_in manager.new.keeper) (C.past manager.new.children) manager.new.marks manager.new.sessions.items (D.past (disk_in manager.new.keeper)))) }
+            (now_in manager.new.keeper (C.past manager.new.children) manager.new.marks manager.new.sessions.items (D.past (disk_in manager.new.keeper)))) }
+        ensures refused { IfErr result (λ e. IsLost e ⊎ (e ≡ Refusal.Reopen)) }
+        ensures device { CountsDevice result (D.failures (disk_in manager.old.keeper)) (D.failures (disk_in manager.new.keeper)) }
+        ensures reopen { result ≢ Err Refusal.NoMemory → (result ≡ Err Refusal.Reopen) ↔ (has_failed manager.old.keeper ≡ true) }
         ensures whole { IsTrue (C.whole manager.new.children) → IsTrue (C.whole manager.old.children) }
         ensures honest { C.honest manager.new.children ≡ C.honest manager.old.children }
         ensures events { IsTrue (G.whole self.new.gate) → IsTrue (G.whole self.old.gate) }
@@ -216,7 +220,8 @@ impl<G: Gate> Buffered<G> {
 /// So many rounds over the gate; a refusal ends them.
 ///
 /// E15 where a round found no memory, before anything was accepted, or its turn none for itself, so that what was read is lost. E16 and E17 of
-/// the store, once the replies are handed out.
+/// the store, once the replies are handed out: E16 exactly where the count of the disk's failures rises, E17 exactly where it rose in an earlier
+/// call.
 pub fn serve<D: Disk, C: Children, G: Gate, M: Moments>(
     manager: &mut Manager<D, C>,
     gate: &mut Buffered<G>,
@@ -227,9 +232,12 @@ pub fn serve<D: Disk, C: Children, G: Gate, M: Moments>(
         × Serves (trust (C.honest manager.old.children) (C.whole manager.new.children) (G.honest gate.old.gate) (G.whole gate.new.gate) (M.honest clock.old) (M.whole clock.new))
         (place_in (D.honest (disk_in manager.old.keeper)) manager.old.keeper) all result
         (served (G.past gate.old.gate) (M.given clock.old) gate.old.backlog gate.old.was_busy gate.old.turned
-        (now (state_in manager.old.keeper) (C.past manager.old.children) manager.old.marks manager.old.sessions.items (D.past (disk_in manager.old.keeper))))
+        (now_in manager.old.keeper (C.past manager.old.children) manager.old.marks manager.old.sessions.items (D.past (disk_in manager.old.keeper))))
         (served (G.past gate.new.gate) (M.given clock.new) gate.new.backlog gate.new.was_busy gate.new.turned
-        (now (state_in manager.new.keeper) (C.past manager.new.children) manager.new.marks manager.new.sessions.items (D.past (disk_in manager.new.keeper)))) }
+        (now_in manager.new.keeper (C.past manager.new.children) manager.new.marks manager.new.sessions.items (D.past (disk_in manager.new.keeper)))) }
+    ensures refused { IfErr result (λ e. IsLost e ⊎ (e ≡ Refusal.Reopen)) }
+    ensures device { CountsDevice result (D.failures (disk_in manager.old.keeper)) (D.failures (disk_in manager.new.keeper)) }
+    ensures reopen { result ≢ Err Refusal.NoMemory → (result ≡ Err Refusal.Reopen) ↔ ((has_failed manager.old.keeper ≡ true) × (limit ≢ 0)) }
     ensures whole { IsTrue (C.whole manager.new.children) → IsTrue (C.whole manager.old.children) }
     ensures honest { C.honest manager.new.children ≡ C.honest manager.old.children }
     ensures events { IsTrue (G.whole gate.new.gate) → IsTrue (G.whole gate.old.gate) }

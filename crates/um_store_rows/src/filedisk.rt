@@ -165,6 +165,36 @@ fn a_file_has_one_disk_at_a_time(rt: HostRuntime) -> Result<(), Fail> {
 }
 
 #[test]
+fn a_file_that_is_read_alone_takes_no_write(rt: HostRuntime) -> Result<(), Fail> {
+    let path = place(&rt, "read")?;
+    let in_use = Some("the file is in use");
+    let mut made = FileDisk::create(&rt, path.as_str(), 2).expect(&rt, "no disk");
+    made.write(1, &marked()).expect(&rt, "not written");
+    says(&rt, FileDisk::open_read_only(&rt, path.as_str()), in_use);
+    drop(made);
+    let mut disk = FileDisk::open_read_only(&rt, path.as_str()).expect(&rt, "no disk");
+    says(&rt, FileDisk::open(&rt, path.as_str()), in_use);
+    says(&rt, FileDisk::open_read_only(&rt, path.as_str()), None);
+    same(&rt, disk.sectors(), 2);
+    same(&rt, first_byte(&mut disk, 1), Some(8));
+    fails(&rt, disk.write(1, &[6; 512]));
+    same(&rt, first_byte(&mut disk, 1), Some(8));
+    same(&rt, (disk.calls(), disk.failures()), (3, 1));
+    drop(disk);
+    says(&rt, FileDisk::open(&rt, path.as_str()), None);
+    fs::remove_file(&rt, &path).expect(&rt, "not removed");
+    says(
+        &rt,
+        FileDisk::open_read_only(&rt, path.as_str()),
+        Some(ABSENT),
+    );
+    let folder = env::temp_dir(&rt).expect(&rt, "no folder");
+    let wanted = Some("what stands there is not a regular file");
+    says(&rt, FileDisk::open_read_only(&rt, folder.as_str()), wanted);
+    Ok(())
+}
+
+#[test]
 fn a_part_of_a_sector_is_none(rt: HostRuntime) -> Result<(), Fail> {
     let path = place(&rt, "cut")?;
     fs::write(&rt, &path, [5; 1535]).expect(&rt, "not written");

@@ -14,6 +14,8 @@ mod input;
 #[cfg(test)]
 mod inputs;
 #[cfg(test)]
+mod inspecting;
+#[cfg(test)]
 mod keepers;
 #[cfg(test)]
 mod limit;

@@ -1,13 +1,13 @@
-//! Lists of inputs that a keeper takes one behind the other.
-use crate::answers::is_refused;
-use crate::asserts::same;
-use crate::inputs::{A, B, input, put, starts};
-use crate::keepers::{calls_since, crash, files_in, files_on, opened};
+//! Lists of inputs that a keeper takes one behind the other, with one sync behind them.
+use crate::answers::{is_refused, sector_at};
+use crate::asserts::{same, same_at};
+use crate::inputs::{A, B, input, put, put_long, starts, take};
+use crate::keepers::{calls_since, crash, files_in, files_on, opened, over};
 use std::process::Abort;
 use um_keeper::{Keeper, Receipt};
 use um_model::{JobMode, UnitVerb};
 use um_name::UnitName;
-use um_sector::Disk;
+use um_sector::{Disk, Fuse, MemDisk};
 use um_state::{Command, Event, Happening, Input};
 use um_wire::Refusal;
 
@@ -83,37 +83,49 @@ fn answered<D: Disk>(
     told(rt, keeper.submit_all(inputs(rt, list)))
 }
 
-/// Lists, what their inputs are answered, how many files there are then, and how many disk calls it took: a record of one sector
-/// and a sync for each accepted input with an effect.
-const LISTS: &[(&[Coming], &str, usize, u64)] = &[
-    (&[Coming::Put(A), Coming::Put(B)], "done; done; ", 2, 4),
+/// Lists, what their inputs are answered, how many files there are then, how many disk calls it took, and how many syncs: a record of
+/// one sector for each accepted input with an effect, and a sync behind them all.
+const LISTS: &[(&[Coming], &str, usize, u64, usize)] = &[
+    (&[Coming::Put(A)], "done; ", 1, 2, 1),
+    (&[Coming::Put(A), Coming::Put(B)], "done; done; ", 2, 3, 1),
     // a refused input touches no other
     (
         &[Coming::Put(A), Coming::Put("a.service"), Coming::Put(B)],
         "done; E12 BadPath a.service; done; ",
         2,
-        4,
+        3,
+        1,
     ),
     // a list without effect makes no disk call
-    (&[], "", 0, 0),
-    (&[Coming::Tick(1), Coming::Tick(2)], "done; done; ", 0, 0),
+    (&[], "", 0, 0, 0),
+    (&[Coming::Tick(1), Coming::Tick(2)], "done; done; ", 0, 0, 0),
+    (
+        &[Coming::Put("a.service"), Coming::Start("b.service")],
+        "E12 BadPath a.service; E4 NotFound b.service; ",
+        0,
+        0,
+        0,
+    ),
 ];
 
 #[test]
 fn a_list_is_answered_in_its_order(rt: HostRuntime) {
-    for (list, wanted, files, calls) in LISTS {
+    let before = opened(&rt, 0).into_disk().into_inner().syncs();
+    for (list, wanted, files, calls, syncs) in LISTS {
         let mut keeper = opened(&rt, 0);
         let answers = answered(&rt, &mut keeper, list).expect(&rt, "refused");
         same(&rt, answers.as_str(), *wanted);
         same(&rt, files_in(&keeper), *files);
         let disk = keeper.into_disk();
         same(&rt, calls_since(&rt, &disk), *calls);
-        same(&rt, files_on(&rt, disk.into_inner()), *files);
+        let disk = disk.into_inner();
+        same(&rt, Some(disk.syncs()), before.checked_add(*syncs));
+        same(&rt, files_on(&rt, disk), *files);
     }
 }
 
-/// Lists of which two inputs are to be recorded, and what their inputs are answered where the second record's sync fails: E16, but for
-/// one that is refused for another cause before it. Behind it none is judged.
+/// Lists of which two inputs are to be recorded, and what their inputs are answered where the sync behind both records fails: E16, but
+/// for those that are refused for another cause.
 const FAULTY: &[(&[Coming], &str)] = &[
     (
         &[Coming::Put(A), Coming::Put(B)],
@@ -130,21 +142,154 @@ const FAULTY: &[(&[Coming], &str)] = &[
             Coming::Put(B),
             Coming::Start("b.service"),
         ],
-        "E4 NotFound b.service; E16 Device; E16 Device; E16 Device; ",
+        "E4 NotFound b.service; E16 Device; E16 Device; E4 NotFound b.service; ",
     ),
 ];
+
+/// Asserts that the list was taken back, that later commands want the store opened again, and that a crash that loses what wasn't
+/// synced leaves nothing of it.
+fn is_taken_back(rt: &(impl AllocGlobal + Abort), mut keeper: Keeper<Fuse<MemDisk>>) {
+    same(rt, files_in(&keeper), 0);
+    let refused = answered(rt, &mut keeper, &[Coming::Put(A), Coming::Tick(1)]);
+    is_refused(rt, refused, "E17 Reopen");
+    let left = crash(rt, keeper.into_disk(), &[]);
+    same(rt, files_on(rt, left), 0);
+}
 
 #[test]
 fn a_fault_in_a_list_beside_a_refusal_of_its_own(rt: HostRuntime) {
     for (list, wanted) in FAULTY {
-        let mut keeper = opened(&rt, 4);
+        let mut keeper = opened(&rt, 3);
         let answers = answered(&rt, &mut keeper, list).expect(&rt, "refused");
         same(&rt, answers.as_str(), *wanted);
-        same(&rt, files_in(&keeper), 0);
-        let refused = answered(&rt, &mut keeper, &[Coming::Put(A), Coming::Tick(1)]);
-        is_refused(&rt, refused, "E17 Reopen");
-        // a crash that loses what wasn't synced leaves the first alone
-        let left = crash(&rt, keeper.into_disk(), &[]);
-        same(&rt, files_on(&rt, left), 1);
+        is_taken_back(&rt, keeper);
     }
+}
+
+/// The file of `c.service`.
+const C: &str = "lib/c.service";
+
+/// Three files to put, and a path in their middle that is none.
+const FOUR: &[Coming] = &[
+    Coming::Put(A),
+    Coming::Put("a.service"),
+    Coming::Put(B),
+    Coming::Put(C),
+];
+
+/// The disk call of that list that fails, of three records and a sync, and what its inputs are answered: behind the one at which it
+/// failed none is judged.
+const CALLS: &[(u64, &str)] = &[
+    (1, "E16 Device; E16 Device; E16 Device; E16 Device; "),
+    (
+        2,
+        "E16 Device; E12 BadPath a.service; E16 Device; E16 Device; ",
+    ),
+    (
+        3,
+        "E16 Device; E12 BadPath a.service; E16 Device; E16 Device; ",
+    ),
+    (
+        4,
+        "E16 Device; E12 BadPath a.service; E16 Device; E16 Device; ",
+    ),
+];
+
+#[test]
+fn a_fault_at_each_disk_call_of_a_list(rt: HostRuntime) {
+    for (call, wanted) in CALLS {
+        let mut keeper = opened(&rt, *call);
+        let answers = answered(&rt, &mut keeper, FOUR).expect(&rt, "refused");
+        same(&rt, answers.as_str(), *wanted);
+        is_taken_back(&rt, keeper);
+    }
+    let mut keeper = opened(&rt, 5);
+    let answers = answered(&rt, &mut keeper, FOUR).expect(&rt, "refused");
+    same(
+        &rt,
+        answers.as_str(),
+        "done; E12 BadPath a.service; done; done; ",
+    );
+    same(&rt, files_in(&keeper), 3);
+}
+
+/// The lowest bytes of the generation and of the number in a sector of the log, the number's last two.
+fn written_as(rt: &impl Abort, disk: &mut MemDisk, k: usize) -> (u8, u8, u8) {
+    let sector = sector_at(rt, disk, k);
+    (sector[11], sector[18], sector[19])
+}
+
+#[test]
+fn a_list_goes_over_the_end_of_the_log(rt: HostRuntime) {
+    let mut keeper = opened(&rt, 0);
+    for _ in 0..511 {
+        take(&rt, &mut keeper, put(&rt, A, ""));
+    }
+    let list = &[Coming::Put(A), Coming::Put(B), Coming::Put(C)];
+    let answers = answered(&rt, &mut keeper, list).expect(&rt, "refused");
+    same(&rt, answers.as_str(), "done; done; done; ");
+    let mut disk = keeper.into_disk().into_inner();
+    // record 511 of generation 2, then records 0 and 1 of generation 3
+    same(&rt, written_as(&rt, &mut disk, 640), (2, 1, 255));
+    same(&rt, written_as(&rt, &mut disk, 129), (3, 0, 0));
+    same(&rt, written_as(&rt, &mut disk, 130), (3, 0, 1));
+    same(&rt, written_as(&rt, &mut disk, 131), (2, 0, 2));
+    same(&rt, files_on(&rt, disk), 3);
+}
+
+/// Whether both sectors of a record from that one on were written.
+fn are_set(picks: &[usize], from: usize) -> bool {
+    picks.get(from) == Some(&1) && picks.get(from + 1) == Some(&1)
+}
+
+/// The six lowest bits of a number.
+fn bits_of(number: usize) -> [usize; 6] {
+    let mut bits = [0; 6];
+    for (i, bit) in bits.iter_mut().enumerate() {
+        *bit = (number >> i) & 1;
+    }
+    bits
+}
+
+/// How many of three records of two sectors are whole, up to the first that isn't.
+fn whole(picks: &[usize]) -> usize {
+    match (are_set(picks, 0), are_set(picks, 2), are_set(picks, 4)) {
+        (false, _, _) => 0,
+        (true, false, _) => 1,
+        (true, true, false) => 2,
+        (true, true, true) => 3,
+    }
+}
+
+/// A keeper whose disk failed at the sync behind three records of two sectors.
+fn unsynced(rt: &(impl AllocGlobal + Abort)) -> Fuse<MemDisk> {
+    let mut keeper = opened(rt, 7);
+    let mut inputs = Vec::new(rt.alloc());
+    for path in [A, B, C] {
+        inputs.push(put_long(rt, path, 450)).expect(rt, "no memory");
+    }
+    let answers = told(rt, keeper.submit_all(inputs)).expect(rt, "refused");
+    same(rt, answers.as_str(), "E16 Device; E16 Device; E16 Device; ");
+    keeper.into_disk()
+}
+
+#[test]
+fn a_crash_before_the_sync_leaves_a_beginning_of_the_list(rt: HostRuntime) {
+    let mut met = [0; 4];
+    for number in 0..64 {
+        let picks = bits_of(number);
+        let files = whole(&picks);
+        let again = over(&rt, crash(&rt, unsynced(&rt), &picks));
+        same_at(&rt, files_in(&again), files, number);
+        let tree = again.state().tree();
+        let has = (
+            tree.get(A).is_some(),
+            tree.get(B).is_some(),
+            tree.get(C).is_some(),
+        );
+        same_at(&rt, has, (files > 0, files > 1, files > 2), number);
+        met[files.min(3)] += 1;
+    }
+    // without the first 48 of 64, with it and without the second 12, with both and without the third 3, with all 1
+    same(&rt, met, [48, 12, 3, 1]);
 }

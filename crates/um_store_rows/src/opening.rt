@@ -4,7 +4,7 @@ use crate::asserts::same;
 use crate::inputs::{A, put, take};
 use crate::keepers::{calls_of_open, crash, files_on, has_layout, made, over};
 use std::process::Abort;
-use um_keeper::Keeper;
+use um_keeper::{Keeper, inspect};
 use um_sector::{Disk, Fuse, MemDisk, Sector};
 
 /// Writes a sector.
@@ -107,9 +107,20 @@ const REFUSED: &[(&[Damage], &str)] = &[
     ),
 ];
 
+/// Asserts that a look at a disk is refused as its opening is, but for E20.
+fn looks_alike(rt: &(impl AllocGlobal + Abort), disk: &mut MemDisk, wanted: &str) {
+    let told = inspect(rt.alloc(), disk);
+    if wanted == "E20 GenerationsSpent" {
+        same(rt, told.map(|told| told.records).ok(), Some(0));
+    } else {
+        is_refused(rt, told, wanted);
+    }
+}
+
 /// Asserts that a store with these changes isn't opened, and that each sector is as it was.
 fn leaves(rt: &(impl AllocGlobal + Abort), changes: &[Damage], wanted: &str) {
     let mut before = changed(rt, changes);
+    looks_alike(rt, &mut before, wanted);
     let mut disk = refuses(rt, changed(rt, changes), wanted);
     for k in 0..641 {
         let sector = sector_at(rt, &mut disk, k);

@@ -37,7 +37,7 @@ fn start_of(unit: UnitName) -> Event {
 }
 
 /// A keeper whose service ended with code 1 at a second: four records.
-fn ended(rt: &(impl AllocGlobal + Abort)) -> Keeper<Fuse<MemDisk>> {
+pub fn ended(rt: &(impl AllocGlobal + Abort)) -> Keeper<Fuse<MemDisk>> {
     let mut keeper = opened(rt, 0);
     take(rt, &mut keeper, put(rt, A, AGAIN));
     let reload = Event::Commanded(Command::DaemonReload);

@@ -1,13 +1,15 @@
-//! The program `umd`: `--memory` answers the frames of standard input on standard output, `create` makes a store, `ctl` asks a manager,
-//! `run` runs a command for the manager, `serve` serves a store over a socket, `help` says what a refusal means.
+//! The program `umd`: `--memory` answers the frames of standard input on standard output, `create` makes a store, `check` looks at one, `ctl` asks a
+//! manager, `run` runs a command for the manager, `serve` serves a store over a socket, `help` says what a refusal means.
 #![tactic(auto)]
 
+mod checking;
 mod lines;
 mod messages;
 mod places;
 mod serving;
 mod telling;
 
+use checking::check;
 use messages::{DEVICE, REFUSED, USAGE, ctl_fault, report, status_of, tell_create};
 use serving::serve_store;
 use std::alloc::{AllocError, Global};
@@ -145,6 +147,7 @@ where
         Line::Memory => serve_memory(rt, alloc),
         Line::Run(line) => run_runner(rt, alloc, line),
         Line::Create(line) => Ok(create(rt, alloc, line)),
+        Line::Check(line) => check(rt, alloc, line),
         Line::Ctl(line) => ctl(rt, alloc, line),
         Line::Serve(line) => Ok(serve_store(rt, alloc, line)),
         Line::Help(number) => explain(rt, alloc, *number),

@@ -101,6 +101,20 @@ fn open_disk<'a, R: Files<File = File> + Clock>(
     FileDisk::open(rt, path)
 }
 
+/// Opens the store's file to be read alone; where a manager has its lock it is tried again.
+pub fn open_read_only<'a, R: Files<File = File> + Clock>(
+    rt: &'a R,
+    path: &'a str,
+) -> Result<FileDisk<'a, R>, FileFault> {
+    for _ in 1..TRIES {
+        match FileDisk::open_read_only(rt, path) {
+            Err(FileFault::InUse) => wait(rt),
+            opened => return opened,
+        }
+    }
+    FileDisk::open_read_only(rt, path)
+}
+
 /// Takes the folder's lock; where another has it, it is tried again.
 fn take_lock<R: Files<File = File> + Clock>(
     rt: &R,

@@ -1,10 +1,10 @@
 use Rattle.std.proofs.Common.{IsTrue, true, ◌≡◌, ◌+◌, ◌*◌, ◌≤◌, take, vec_len, vec_capacity}
-use Rattle.um_fates.specs.Fates.{Hears, inputs_in, lost}
+use Rattle.um_fates.specs.Fates.{Heard, inputs_in, lost}
 use Rattle.um_fates.proofs.fates.claim_all.Given as goal
 
 abbrev pub invariant-loop-number : goal.invariant-loop-number
 invariant-loop-number g l = record {
-  done : Hears lost l.moment (λ n. true) (g.C.Children.honest l.initial.children) (g.C.Children.whole l.children) (g.C.Children.past l.initial.children) (g.C.Children.past l.children) (take l.number-index l.live) (inputs_in l.initial.inputs.items) (inputs_in l.inputs.items);
+  done : Heard lost l.moment (λ n. true) (g.C.Children.honest l.initial.children) (g.C.Children.whole l.children) (g.C.Children.past l.initial.children) (g.C.Children.past l.children) (take l.number-index l.live) (inputs_in l.initial.inputs.items) (inputs_in l.inputs.items);
   len : vec_len l.inputs ≤ vec_len l.initial.inputs + 2 * l.number-index;
   capacity : vec_capacity l.initial.inputs ≤ vec_capacity l.inputs;
   whole : IsTrue (g.C.Children.whole l.children) → IsTrue (g.C.Children.whole l.initial.children);

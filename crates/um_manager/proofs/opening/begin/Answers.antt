@@ -3,8 +3,8 @@ use Rattle.std.specs.Bool.{IsTrue}
 use Rattle.um_keeper.specs.Keepers.{disk_in, state_in, size_in, has_failed}
 use Rattle.um_fates.specs.Live.{AreLive}
 use Rattle.um_manager.specs.Opening.{Adopted, Refuses, unadopted, boot_at}
-use Rattle.um_manager.specs.Places.{Place, place_in}
-use Rattle.um_manager.specs.Turns.{now}
+use Rattle.um_manager.specs.Places.{Place, place_in, log_in}
+use Rattle.um_manager.specs.Turns.{now_in}
 use Rattle.um_manager.proofs.Beginning.{refuses_boot, if_err_same}
 use Rattle.um_manager.proofs.Booting.{live_after}
 use Rattle.um_manager.proofs.Offering.{trusts, not_begun}
@@ -20,7 +20,7 @@ adopt-requires-clause-live g c =
     (live_after (size_in c.args.keeper.now) c.args.moment c.args.boot (state_in c.args.keeper.now) (state_in c.offer_boot.new.keeper) booted.0 [] c.in_ok-live.live.items booted.1 same other)
 
 pub returns-clause-began : goal.returns-clause-began
-returns-clause-began g c = λ honest whole.
+returns-clause-began g c =
     let booted = c.in_ok-offer_boot.ensures.booted in
     let live = subst (λ l. AreLive (state_in c.offer_boot.new.keeper).units l) (sym c.as_slice-live.ensures.value)
     (live_after (size_in c.args.keeper.now) c.args.moment c.args.boot (state_in c.args.keeper.now) (state_in c.offer_boot.new.keeper) booted.0 [] c.in_ok-live.live.items booted.1
@@ -30,8 +30,8 @@ returns-clause-began g c = λ honest whole.
     let old = c.args.keeper.now in
     let mid = c.offer_boot.new.keeper in
     let new = c.adopt.new.keeper in
-    let before = now (state_in mid) (g.C.Children.past c.args.children.now) c.in_ok-marks.marks [] (D.past (disk_in mid)) in
-    let after = now (state_in new) (g.C.Children.past c.adopt.new.children) c.adopt.new.marks [] (D.past (disk_in new)) in
+    let before = now_in mid (g.C.Children.past c.args.children.now) c.in_ok-marks.marks [] (D.past (disk_in mid)) in
+    let after = now_in new (g.C.Children.past c.adopt.new.children) c.adopt.new.marks [] (D.past (disk_in new)) in
     let there = place_in (D.honest (disk_in mid)) mid in
     let here = place_in (D.honest (disk_in old)) old in
     let same : there ≡ here = same_place c.offer_boot.ensures.place.size c.offer_boot.ensures.place.layout c.offer_boot.ensures.disk (same_failed c.in_ok-offer_boot.was c.offer_boot.ensures.failed) in
@@ -42,8 +42,8 @@ returns-clause-began g c = λ honest whole.
       asked_none = refl;
       left = c.offer_boot.ensures.left;
       adopted =
-          subst (λ (p : Place). Adopted p (Ok tt) c.args.moment before after) same
-          (subst (λ r. Adopted there r c.args.moment before after) c.in_ok-adopt.was (c.adopt.ensures.adopts honest whole));
+          subst (λ (p : Place). Adopted p (g.C.Children.honest c.args.children.now) (g.C.Children.whole c.adopt.new.children) (Ok tt) c.args.moment before after) same
+          (subst (λ r. Adopted there (g.C.Children.honest c.args.children.now) (g.C.Children.whole c.adopt.new.children) r c.args.moment before after) c.in_ok-adopt.was c.adopt.ensures.adopts);
       numbers = c.as_slice-live.result.now;
       numbers_are = live;
       count_is = refl;
@@ -53,36 +53,44 @@ pub returns-in_err-sessions-clause-refuses : goal.returns-in_err-sessions-clause
 returns-in_err-sessions-clause-refuses g c =
     let D = g.D.Disk in
     let old = c.args.keeper.now in
-    refuses_boot _ _ _ (place_in (D.honest (disk_in old)) old) c.args.moment c.args.boot (state_in old) (state_in old) (g.C.Children.past c.args.children.now) (D.past (disk_in old)) (D.past (disk_in old)) refl
+    refuses_boot _ _ _ (place_in (D.honest (disk_in old)) old) c.args.moment c.args.boot (state_in old) (state_in old) (g.C.Children.past c.args.children.now) (D.past (disk_in old)) (D.past (disk_in old)) (log_in old) (log_in old) refl
     (λ t. let (h, f) = trusts (D.honest (disk_in old)) (has_failed old) t in not_begun (boot_at c.args.moment c.args.boot ∷ []) (c.is_stored.ensures.stored f h))
 
 pub returns-in_err-live-clause-refuses : goal.returns-in_err-live-clause-refuses
 returns-in_err-live-clause-refuses g c =
     let D = g.D.Disk in
     let old = c.args.keeper.now in
-    refuses_boot _ _ _ (place_in (D.honest (disk_in old)) old) c.args.moment c.args.boot (state_in old) (state_in old) (g.C.Children.past c.args.children.now) (D.past (disk_in old)) (D.past (disk_in old)) refl
+    refuses_boot _ _ _ (place_in (D.honest (disk_in old)) old) c.args.moment c.args.boot (state_in old) (state_in old) (g.C.Children.past c.args.children.now) (D.past (disk_in old)) (D.past (disk_in old)) (log_in old) (log_in old) refl
     (λ t. let (h, f) = trusts (D.honest (disk_in old)) (has_failed old) t in not_begun (boot_at c.args.moment c.args.boot ∷ []) (c.is_stored.ensures.stored f h))
 
 pub returns-in_err-marks-clause-refuses : goal.returns-in_err-marks-clause-refuses
 returns-in_err-marks-clause-refuses g c =
     let D = g.D.Disk in
     let old = c.args.keeper.now in
-    refuses_boot _ _ _ (place_in (D.honest (disk_in old)) old) c.args.moment c.args.boot (state_in old) (state_in old) (g.C.Children.past c.args.children.now) (D.past (disk_in old)) (D.past (disk_in old)) refl
+    refuses_boot _ _ _ (place_in (D.honest (disk_in old)) old) c.args.moment c.args.boot (state_in old) (state_in old) (g.C.Children.past c.args.children.now) (D.past (disk_in old)) (D.past (disk_in old)) (log_in old) (log_in old) refl
     (λ t. let (h, f) = trusts (D.honest (disk_in old)) (has_failed old) t in not_begun (boot_at c.args.moment c.args.boot ∷ []) (c.is_stored.ensures.stored f h))
 
 pub returns-in_err-inputs-clause-refuses : goal.returns-in_err-inputs-clause-refuses
 returns-in_err-inputs-clause-refuses g c =
     let D = g.D.Disk in
     let old = c.args.keeper.now in
-    refuses_boot _ _ _ (place_in (D.honest (disk_in old)) old) c.args.moment c.args.boot (state_in old) (state_in old) (g.C.Children.past c.args.children.now) (D.past (disk_in old)) (D.past (disk_in old)) refl
+    refuses_boot _ _ _ (place_in (D.honest (disk_in old)) old) c.args.moment c.args.boot (state_in old) (state_in old) (g.C.Children.past c.args.children.now) (D.past (disk_in old)) (D.past (disk_in old)) (log_in old) (log_in old) refl
     (λ t. let (h, f) = trusts (D.honest (disk_in old)) (has_failed old) t in not_begun (boot_at c.args.moment c.args.boot ∷ []) (c.is_stored.ensures.stored f h))
 
 pub returns-in_err-replies-clause-refuses : goal.returns-in_err-replies-clause-refuses
 returns-in_err-replies-clause-refuses g c =
     let D = g.D.Disk in
     let old = c.args.keeper.now in
-    refuses_boot _ _ _ (place_in (D.honest (disk_in old)) old) c.args.moment c.args.boot (state_in old) (state_in old) (g.C.Children.past c.args.children.now) (D.past (disk_in old)) (D.past (disk_in old)) refl
+    refuses_boot _ _ _ (place_in (D.honest (disk_in old)) old) c.args.moment c.args.boot (state_in old) (state_in old) (g.C.Children.past c.args.children.now) (D.past (disk_in old)) (D.past (disk_in old)) (log_in old) (log_in old) refl
     (λ t. let (h, f) = trusts (D.honest (disk_in old)) (has_failed old) t in not_begun (boot_at c.args.moment c.args.boot ∷ []) (c.is_stored.ensures.stored f h))
+
+pub returns-in_err-offer_boot-clause-refuses : goal.returns-in_err-offer_boot-clause-refuses
+returns-in_err-offer_boot-clause-refuses g c =
+    let D = g.D.Disk in
+    let old = c.args.keeper.now in
+    let new = c.offer_boot.new.keeper in
+    refuses_boot _ _ _ (place_in (D.honest (disk_in old)) old) c.args.moment c.args.boot (state_in old) (state_in new) (g.C.Children.past c.args.children.now) (D.past (disk_in old)) (D.past (disk_in new)) (log_in old) (log_in new)
+    c.in_err-offer_boot.ensures.state c.offer_boot.ensures.left
 
 pub returns-in_err-adopt-clause-refuses : goal.returns-in_err-adopt-clause-refuses
 returns-in_err-adopt-clause-refuses g c =
@@ -95,28 +103,27 @@ returns-in_err-adopt-clause-refuses g c =
     let old = c.args.keeper.now in
     let mid = c.offer_boot.new.keeper in
     let new = c.adopt.new.keeper in
-    let start = now (state_in old) (g.C.Children.past c.args.children.now) [] [] (D.past (disk_in old)) in
-    let before = now (state_in mid) (g.C.Children.past c.args.children.now) c.in_ok-marks.marks [] (D.past (disk_in mid)) in
-    let after = now (state_in new) (g.C.Children.past c.adopt.new.children) c.adopt.new.marks [] (D.past (disk_in new)) in
+    let start = now_in old (g.C.Children.past c.args.children.now) [] [] (D.past (disk_in old)) in
+    let before = now_in mid (g.C.Children.past c.args.children.now) c.in_ok-marks.marks [] (D.past (disk_in mid)) in
+    let after = now_in new (g.C.Children.past c.adopt.new.children) c.adopt.new.marks [] (D.past (disk_in new)) in
     let there = place_in (D.honest (disk_in mid)) mid in
     let here = place_in (D.honest (disk_in old)) old in
     let same : there ≡ here = same_place c.offer_boot.ensures.place.size c.offer_boot.ensures.place.layout c.offer_boot.ensures.disk (same_failed c.in_ok-offer_boot.was c.offer_boot.ensures.failed) in
-    if_err_same _ (λ e. IsTrue (g.C.Children.honest c.args.children.now) → IsTrue (g.C.Children.whole c.adopt.new.children)
-    → (marks : List ℕ) × Refuses here e c.args.moment c.args.boot start (now (state_in new) (g.C.Children.past c.adopt.new.children) marks [] (D.past (disk_in new))))
+    if_err_same _ (λ e. (marks : List ℕ) × Refuses here (g.C.Children.honest c.args.children.now) (g.C.Children.whole c.adopt.new.children) e c.args.moment c.args.boot start (now_in new (g.C.Children.past c.adopt.new.children) marks [] (D.past (disk_in new))))
     c.in_err-adopt.field-0.0 c.from_residual-in_err-adopt.ensures.1
-    (λ honest whole. (
+    (
       c.adopt.new.marks,
-      unadopted c.in_err-adopt.ensures.memory (record {
+      unadopted c.in_err-adopt.ensures.refused (record {
         mid = before;
         reply = c.in_ok-offer_boot.ensures.booted.0;
         booted = c.in_ok-offer_boot.ensures.booted.1;
         asked_none = refl;
         left = c.offer_boot.ensures.left;
         adopted =
-            subst (λ (p : Place). Adopted p (Err c.in_err-adopt.field-0.0) c.args.moment before after) same
-            (subst (λ r. Adopted there r c.args.moment before after) c.in_err-adopt.was (c.adopt.ensures.adopts honest whole));
+            subst (λ (p : Place). Adopted p (g.C.Children.honest c.args.children.now) (g.C.Children.whole c.adopt.new.children) (Err c.in_err-adopt.field-0.0) c.args.moment before after) same
+            (subst (λ r. Adopted there (g.C.Children.honest c.args.children.now) (g.C.Children.whole c.adopt.new.children) r c.args.moment before after) c.in_err-adopt.was c.adopt.ensures.adopts);
         numbers = c.as_slice-live.result.now;
         numbers_are = live;
         count_is = refl;
       }),
-    ))
+    )

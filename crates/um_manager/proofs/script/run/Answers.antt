@@ -1,12 +1,15 @@
 use Rattle.std.proofs.Common.{◌≡◌, ◌∙◌, ◌∷◌, ◌+◌, drop, Ok, ap, sym, subst, inl, inr, rules}
 use Rattle.std.specs.Bool.{IsTrue}
 use Rattle.std.proofs.lemmas.List.{drop_more}
-use Rattle.um_keeper.specs.Keepers.{disk_in, state_in}
+use Rattle.um_keeper.specs.Keepers.{disk_in, has_failed}
 use Rattle.um_manager.specs.Places.{Place, place_in}
 use Rattle.um_manager.specs.Scripts.{Runs, Stops}
-use Rattle.um_manager.specs.Turns.{Turned, now}
-use Rattle.um_manager.proofs.Placing.{same_place, same_failed, same_err, refused_not_ok}
-use Rattle.um_manager.proofs.Turning.{not_refused}
+use Rattle.um_manager.specs.Turns.{Turned, now_in}
+use Rattle.um_manager.proofs.Placing.{same_place, same_failed, same_err, refused_not_ok, counted_ok, works, all_worked, last_reopen}
+use Rattle.um_manager.proofs.Turning.{not_refused, turned_less}
+use Rattle.um_sector.specs.Refused.{CountsDevice, IsLost}
+use Rattle.um_wire.specs.declared.refusal.Refusal.TheVariants.{Reopen}
+use Rattle.std.specs.Prelude.{◌⊎◌, IfErr}
 use Rattle.um_manager.proofs.script.run.Goals as goal
 
 pub loop-step-preserved : goal.loop-step-preserved
@@ -16,54 +19,79 @@ loop-step-preserved g c =
     let old = c.loop-step.keeper in
     let new = c.turn.new.keeper in
     let inv = c.loop-step.invariant in
-    let before = now (state_in old) (g.C.Children.past c.loop-step.children) c.loop-step.marks c.loop-step.sessions (D.past (disk_in old)) in
-    let after = now (state_in new) (g.C.Children.past c.turn.new.children) c.turn.new.marks c.turn.new.sessions (D.past (disk_in new)) in
+    let before = now_in old (g.C.Children.past c.loop-step.children) c.loop-step.marks c.loop-step.sessions (D.past (disk_in old)) in
+    let after = now_in new (g.C.Children.past c.turn.new.children) c.turn.new.marks c.turn.new.sessions (D.past (disk_in new)) in
     let start = place_in (D.honest (disk_in first)) first in
     let there = place_in (D.honest (disk_in old)) old in
     let place : there ≡ start = same_place inv.place.size inv.place.layout inv.disk inv.failed in
     let item : drop c.loop-step.step-index c.args.steps.now ≡ c.step-item.result ∷ drop (c.loop-step.step-index + 1) c.args.steps.now =
     drop_more c.args.steps.now c.loop-step.step-index c.step-item.result c.loop-step-test.true ∙ ap (λ s. s ∷ drop (c.loop-step.step-index + 1) c.args.steps.now) (search (rules, c.step-item.is)) in
     record {
-      done = λ result b w h rest.
-          let turned = c.turn.ensures.turns.1 (not_refused c.turn.result _ _ c.in_ok-turn.was) (subst IsTrue (sym inv.honest) h) w in
-          inv.done result b (c.turn.ensures.whole w) h
-          (subst (λ l. Runs start l result before b) (sym item)
+      done = λ result b w still rest.
+          let turned = c.turn.ensures.turns.1 (not_refused c.turn.result _ _ c.in_ok-turn.was) in
+          let honest = g.C.Children.honest c.args.children.now in
+          inv.done result b w (λ x. c.turn.ensures.whole (still x))
+          (subst (λ l. Runs start honest w l result before b) (sym item)
           (inr (
             after,
-            subst (λ (p : Place). Turned p (Ok tt) c.step-item.result.moment c.step-item.result.pieces before after) place
-                (subst (λ r. Turned there r c.step-item.result.moment c.step-item.result.pieces before after) c.in_ok-turn.was
-                (subst (λ pieces. Turned there c.turn.result c.step-item.result.moment pieces before after) c.as_slice-pieces.ensures.pieces turned)),
+            subst (λ (p : Place). Turned p honest w (Ok tt) c.step-item.result.moment c.step-item.result.pieces before after) place
+                (subst (λ r. Turned there honest w r c.step-item.result.moment c.step-item.result.pieces before after) c.in_ok-turn.was
+                (subst (λ pieces. Turned there honest w c.turn.result c.step-item.result.moment pieces before after) c.as_slice-pieces.ensures.pieces
+                (subst (λ h. Turned there h w c.turn.result c.step-item.result.moment c.as_slice-pieces.result.now before after) inv.honest (turned_less (λ x. x) still turned)))),
             rest,
           )));
       whole = search rules;
       honest = search rules;
       place = record { layout = c.turn.ensures.place.layout ∙ inv.place.layout; size = c.turn.ensures.place.size ∙ inv.place.size; opened = c.turn.ensures.place.opened ∙ inv.place.opened };
       disk = c.turn.ensures.disk ∙ inv.disk;
+      failures = counted_ok c.in_ok-turn.was c.turn.ensures.device ∙ inv.failures;
+      worked = λ some. sym inv.failed ∙ works (has_failed old) c.in_ok-turn.was c.turn.ensures.reopen;
       failed = same_failed c.in_ok-turn.was c.turn.ensures.failed ∙ inv.failed;
       each = search rules;
     }
 
 pub returns-in_err-turn-clause-runs : goal.returns-in_err-turn-clause-runs
-returns-in_err-turn-clause-runs g c = λ h w.
+returns-in_err-turn-clause-runs g c =
     let D = g.D.Disk in
     let first = c.args.keeper.now in
     let old = c.loop-step.keeper in
     let new = c.turn.new.keeper in
     let inv = c.loop-step.invariant in
-    let before = now (state_in old) (g.C.Children.past c.loop-step.children) c.loop-step.marks c.loop-step.sessions (D.past (disk_in old)) in
-    let after = now (state_in new) (g.C.Children.past c.turn.new.children) c.turn.new.marks c.turn.new.sessions (D.past (disk_in new)) in
+    let before = now_in old (g.C.Children.past c.loop-step.children) c.loop-step.marks c.loop-step.sessions (D.past (disk_in old)) in
+    let after = now_in new (g.C.Children.past c.turn.new.children) c.turn.new.marks c.turn.new.sessions (D.past (disk_in new)) in
     let start = place_in (D.honest (disk_in first)) first in
     let there = place_in (D.honest (disk_in old)) old in
     let place : there ≡ start = same_place inv.place.size inv.place.layout inv.disk inv.failed in
     let item : drop c.loop-step.step-index c.args.steps.now ≡ c.step-item.result ∷ drop (c.loop-step.step-index + 1) c.args.steps.now =
     drop_more c.args.steps.now c.loop-step.step-index c.step-item.result c.loop-step-test.true ∙ ap (λ s. s ∷ drop (c.loop-step.step-index + 1) c.args.steps.now) (search (rules, c.step-item.is)) in
     let same : c.from_residual.result ≡ c.turn.result = same_err c.from_residual.result c.turn.result _ c.from_residual.ensures.1 c.in_err-turn.was in
-    inv.done c.from_residual.result after (c.turn.ensures.whole w) h
-    (subst (λ l. Runs start l c.from_residual.result before after) (sym item)
-    (inl (subst (λ r. Stops start c.step-item.result r before after) (sym same)
-    (subst (λ (p : Place). Stops p c.step-item.result c.turn.result before after) place (
+    let honest = g.C.Children.honest c.args.children.now in
+    let whole = g.C.Children.whole c.turn.new.children in
+    inv.done c.from_residual.result after whole c.turn.ensures.whole
+    (subst (λ l. Runs start honest whole l c.from_residual.result before after) (sym item)
+    (inl (subst (λ r. Stops start honest whole c.step-item.result r before after) (sym same)
+    (subst (λ (p : Place). Stops p honest whole c.step-item.result c.turn.result before after) place (
       refused_not_ok c.in_err-turn.was,
       c.turn.ensures.turns.0,
-      λ differs. subst (λ pieces. Turned there c.turn.result c.step-item.result.moment pieces before after) c.as_slice-pieces.ensures.pieces
-          (c.turn.ensures.turns.1 differs (subst IsTrue (sym inv.honest) h) w),
+      λ differs. subst (λ pieces. Turned there honest whole c.turn.result c.step-item.result.moment pieces before after) c.as_slice-pieces.ensures.pieces
+          (subst (λ h. Turned there h whole c.turn.result c.step-item.result.moment c.as_slice-pieces.result.now before after) inv.honest (c.turn.ensures.turns.1 differs)),
     )))))
+
+pub returns-clause-reopen : goal.returns-clause-reopen
+returns-clause-reopen g c = λ other. all_worked c.args.steps.now c.loop-step.step-index (has_failed c.args.keeper.now) tt c.loop-step.invariant.worked (search rules)
+
+pub returns-in_err-turn-clause-refused : goal.returns-in_err-turn-clause-refused
+returns-in_err-turn-clause-refused g c =
+    subst (λ r. IfErr r (λ e. IsLost e ⊎ (e ≡ Reopen))) (sym (same_err c.from_residual.result c.turn.result _ c.from_residual.ensures.1 c.in_err-turn.was)) c.turn.ensures.refused
+
+pub returns-in_err-turn-clause-device : goal.returns-in_err-turn-clause-device
+returns-in_err-turn-clause-device g c =
+    let D = g.D.Disk in
+    let n = D.failures (disk_in c.turn.new.keeper) in
+    subst (λ m. CountsDevice c.from_residual.result m n) c.loop-step.invariant.failures
+    (subst (λ r. CountsDevice r (D.failures (disk_in c.loop-step.keeper)) n) (sym (same_err c.from_residual.result c.turn.result _ c.from_residual.ensures.1 c.in_err-turn.was)) c.turn.ensures.device)
+
+pub returns-in_err-turn-clause-reopen : goal.returns-in_err-turn-clause-reopen
+returns-in_err-turn-clause-reopen g c =
+    last_reopen c.args.steps.now c.loop-step.step-index (same_err c.from_residual.result c.turn.result _ c.from_residual.ensures.1 c.in_err-turn.was) c.loop-step.invariant.failed c.loop-step-test.true
+    c.turn.ensures.reopen

@@ -1,11 +1,13 @@
 use Rattle.std.proofs.Common.{◌≡◌, ◌∙◌, ◌+◌, ◌≤◌, ◌∷◌, ◌++◌, [], length, length-append, Ok, Err, refl, sym, subst, inl, rules, arith}
 use Rattle.std.specs.Bool.{IsTrue}
-use Rattle.um_keeper.specs.Keepers.{disk_in, state_in}
+use Rattle.um_keeper.specs.Keepers.{disk_in, has_failed}
 use Rattle.um_manager.specs.Places.{Place, place_in}
-use Rattle.um_manager.specs.Turns.{now}
+use Rattle.um_manager.specs.Turns.{now_in}
 use Rattle.um_serve.specs.Rounds.{Round, trust, Serves, IsRound, served}
 use Rattle.um_serve.proofs.JoinLaws.{round_less, serves_less, joined}
-use Rattle.um_serve.proofs.RoundLaws.{round_of, last_of, same_place, same_failed}
+use Rattle.um_serve.proofs.RoundLaws.{round_of, last_of, same_place, same_failed, all_rounds, last_round}
+use Rattle.um_manager.proofs.Placing.{counted_ok, works}
+use Rattle.um_sector.specs.Refused.{CountsDevice}
 use Rattle.um_serve.proofs.rounds.serve.Goals as goal
 
 pub loop-init : goal.loop-init
@@ -19,6 +21,8 @@ loop-init g c = record {
   clock = search rules;
   place = search rules;
   disk = search rules;
+  failures = search rules;
+  worked = λ some. absurd (omega (arith, some));
   failed = search rules;
 }
 
@@ -33,11 +37,11 @@ loop-preserved g c =
     let there = place_in (D.honest (disk_in old)) old in
     let same : there ≡ start = same_place inv.place.size inv.place.layout inv.disk inv.failed in
     let begun = served (g.G.Gate.past c.args.gate.now.gate) (g.M.Moments.given c.args.clock.now) c.args.gate.now.backlog c.args.gate.now.was_busy c.args.gate.now.turned
-    (now (state_in first) (g.C.Children.past c.args.manager.now.children) c.args.manager.now.marks c.args.manager.now.sessions.items (D.past (disk_in first))) in
+    (now_in first (g.C.Children.past c.args.manager.now.children) c.args.manager.now.marks c.args.manager.now.sessions.items (D.past (disk_in first))) in
     let before = served (g.G.Gate.past c.loop.gate.gate) (g.M.Moments.given c.loop.clock) c.loop.gate.backlog c.loop.gate.was_busy c.loop.gate.turned
-    (now (state_in old) (g.C.Children.past c.loop.manager.children) c.loop.manager.marks c.loop.manager.sessions.items (D.past (disk_in old))) in
+    (now_in old (g.C.Children.past c.loop.manager.children) c.loop.manager.marks c.loop.manager.sessions.items (D.past (disk_in old))) in
     let after = served (g.G.Gate.past c.round.new.self.gate) (g.M.Moments.given c.round.new.clock) c.round.new.self.backlog c.round.new.self.was_busy c.round.new.self.turned
-    (now (state_in m.keeper) (g.C.Children.past m.children) m.marks m.sessions.items (D.past (disk_in m.keeper))) in
+    (now_in m.keeper (g.C.Children.past m.children) m.marks m.sessions.items (D.past (disk_in m.keeper))) in
     let known = trust (g.C.Children.honest c.args.manager.now.children) (g.C.Children.whole c.loop.manager.children) (g.G.Gate.honest c.args.gate.now.gate) (g.G.Gate.whole c.loop.gate.gate) (g.M.Moments.honest c.args.clock.now) (g.M.Moments.whole c.loop.clock) in
     let here = trust (g.C.Children.honest c.loop.manager.children) (g.C.Children.whole m.children) (g.G.Gate.honest c.loop.gate.gate) (g.G.Gate.whole c.round.new.self.gate) (g.M.Moments.honest c.loop.clock) (g.M.Moments.whole c.round.new.clock) in
     let later = trust (g.C.Children.honest c.args.manager.now.children) (g.C.Children.whole m.children) (g.G.Gate.honest c.args.gate.now.gate) (g.G.Gate.whole c.round.new.self.gate) (g.M.Moments.honest c.args.clock.now) (g.M.Moments.whole c.round.new.clock) in
@@ -66,8 +70,23 @@ loop-preserved g c =
       clock = search rules;
       place = record { layout = c.round.ensures.place.layout ∙ inv.place.layout; size = c.round.ensures.place.size ∙ inv.place.size; opened = c.round.ensures.place.opened ∙ inv.place.opened };
       disk = c.round.ensures.disk ∙ inv.disk;
+      failures = counted_ok c.in-Ok.is c.round.ensures.device ∙ inv.failures;
+      worked = λ some. sym inv.failed ∙ works (has_failed old) c.in-Ok.is c.round.ensures.reopen;
       failed = same_failed c.in-Ok.is c.round.ensures.failed ∙ inv.failed;
     }
+
+pub returns-clause-reopen : goal.returns-clause-reopen
+returns-clause-reopen g c = λ other. all_rounds c.args.limit c.loop.counter (has_failed c.args.manager.now.keeper) c.loop.invariant.worked (search rules)
+
+pub returns-in-Err-clause-refused : goal.returns-in-Err-clause-refused
+returns-in-Err-clause-refused g c = c.in-Err.ensures.refused
+
+pub returns-in-Err-clause-device : goal.returns-in-Err-clause-device
+returns-in-Err-clause-device g c =
+    subst (λ n. CountsDevice {T = Unit} (Err c.in-Err.refusal) n (g.D.Disk.failures (disk_in c.round.new.manager.keeper))) c.loop.invariant.failures c.in-Err.ensures.device
+
+pub returns-in-Err-clause-reopen : goal.returns-in-Err-clause-reopen
+returns-in-Err-clause-reopen g c = last_round c.args.limit c.loop.counter c.loop.invariant.failed c.loop-test.true c.in-Err.ensures.reopen
 
 pub returns-clause-serves : goal.returns-clause-serves
 returns-clause-serves g c =
@@ -86,11 +105,11 @@ returns-in-Err-clause-serves g c =
     let there = place_in (D.honest (disk_in old)) old in
     let same : there ≡ start = same_place inv.place.size inv.place.layout inv.disk inv.failed in
     let begun = served (g.G.Gate.past c.args.gate.now.gate) (g.M.Moments.given c.args.clock.now) c.args.gate.now.backlog c.args.gate.now.was_busy c.args.gate.now.turned
-    (now (state_in first) (g.C.Children.past c.args.manager.now.children) c.args.manager.now.marks c.args.manager.now.sessions.items (D.past (disk_in first))) in
+    (now_in first (g.C.Children.past c.args.manager.now.children) c.args.manager.now.marks c.args.manager.now.sessions.items (D.past (disk_in first))) in
     let before = served (g.G.Gate.past c.loop.gate.gate) (g.M.Moments.given c.loop.clock) c.loop.gate.backlog c.loop.gate.was_busy c.loop.gate.turned
-    (now (state_in old) (g.C.Children.past c.loop.manager.children) c.loop.manager.marks c.loop.manager.sessions.items (D.past (disk_in old))) in
+    (now_in old (g.C.Children.past c.loop.manager.children) c.loop.manager.marks c.loop.manager.sessions.items (D.past (disk_in old))) in
     let after = served (g.G.Gate.past c.round.new.self.gate) (g.M.Moments.given c.round.new.clock) c.round.new.self.backlog c.round.new.self.was_busy c.round.new.self.turned
-    (now (state_in m.keeper) (g.C.Children.past m.children) m.marks m.sessions.items (D.past (disk_in m.keeper))) in
+    (now_in m.keeper (g.C.Children.past m.children) m.marks m.sessions.items (D.past (disk_in m.keeper))) in
     let known = trust (g.C.Children.honest c.args.manager.now.children) (g.C.Children.whole c.loop.manager.children) (g.G.Gate.honest c.args.gate.now.gate) (g.G.Gate.whole c.loop.gate.gate) (g.M.Moments.honest c.args.clock.now) (g.M.Moments.whole c.loop.clock) in
     let here = trust (g.C.Children.honest c.loop.manager.children) (g.C.Children.whole m.children) (g.G.Gate.honest c.loop.gate.gate) (g.G.Gate.whole c.round.new.self.gate) (g.M.Moments.honest c.loop.clock) (g.M.Moments.whole c.round.new.clock) in
     let later = trust (g.C.Children.honest c.args.manager.now.children) (g.C.Children.whole m.children) (g.G.Gate.honest c.args.gate.now.gate) (g.G.Gate.whole c.round.new.self.gate) (g.M.Moments.honest c.args.clock.now) (g.M.Moments.whole c.round.new.clock) in

@@ -1,18 +1,24 @@
-use Rattle.std.proofs.Common.{◌≡◌, ◌∙◌, ◌-◌, ℕ, List, append-nil, length, map, replicate, Err, inl, inr, sym, ap, subst, rules}
+use Rattle.std.proofs.Common.{◌≡◌, ◌∙◌, ◌+◌, ◌-◌, ◌≤◌, ℕ, List, append-nil, length, map, replicate, Err, inl, inr, refl, sym, ap, subst, arith, rules}
+use Rattle.std.proofs.lemmas.Bool.{true≢false}
 use Rattle.std.proofs.lemmas.List.{length-map}
 use Rattle.um_engine.specs.Engine as machine
 use Rattle.um_engine.specs.declared.engine.Back.{Back}
-use Rattle.um_model.specs.Disk.{During}
+use Rattle.um_model.specs.Disk.{Past, During}
+use Rattle.um_model.specs.Machine.{State}
 use Rattle.um_model.specs.Standing.{Standing}
+use Rattle.um_model.specs.Store.{log_end}
+use Rattle.um_model.specs.declared.layout.Layout.{Layout}
+use Rattle.um_model.specs.declared.layout.Slot.{Slot}
+use Rattle.um_sector.specs.Unsynced.{sync_count}
 use Rattle.um_state.specs.View.{input_of}
 use Rattle.um_state.specs.declared.input.Input.{Input}
-use Rattle.um_keeper.specs.Answering.{FellBack, NeedNoRecord, AreSpentAt, taken, state_before_all}
-use Rattle.um_keeper.specs.Keepers.{disk_in, standing_in, state_in, size_in, layout_in, log_generation_in}
-use Rattle.um_keeper.specs.Keeping.{IsBegun}
-use Rattle.um_keeper.proofs.Batching.{numbers_asked, denied_new, no_fault, fell_back, fell_told, fell_during, fell_unrecorded}
-use Rattle.um_keeper.proofs.Kept.{stores, stores_at}
-use Rattle.um_keeper.proofs.Results.{ok_err, of_first}
-use Rattle.um_keeper.proofs.Spent.{spent_denied}
+use Rattle.um_keeper.specs.Answering.{FellBack, NeedNoRecord, HaveNoRecord, all_sectors, AreSpentAt, taken, state_before_all}
+use Rattle.um_keeper.specs.Keepers.{disk_in, standing_in, state_in, size_in, layout_in, log_generation_in, next_in}
+use Rattle.um_keeper.specs.Keeping.{Keeps, IsBegun}
+use Rattle.um_keeper.proofs.Batching.{numbers_asked, denied_new, no_fault, need_no_record, fell_whole, fell_back, fell_told, fell_during, fell_unrecorded}
+use Rattle.um_keeper.proofs.Kept.{stores, stores_at, keeps_for}
+use Rattle.um_keeper.proofs.Results.{of_first}
+use Rattle.um_keeper.proofs.Spent.{free_at, spent_denied}
 use Rattle.um_wire.specs.declared.refusal.Refusal.TheVariants.{Device}
 use Rattle.um_keeper.proofs.keeper.Keeper.submit_all.Goals as goal
 
@@ -23,13 +29,23 @@ pub returns-in_err-answers-clause-stored : goal.returns-in_err-answers-clause-st
 returns-in_err-answers-clause-stored g c f h = stores (c.args.self.now.kept f h)
 
 pub returns-in-Ok-clause-told : goal.returns-in-Ok-clause-told
-returns-in-Ok-clause-told g c = ((λ f. absurd (ok_err c.in-Ok.is (c.take_all.ensures.failed.0 f))), (λ has. absurd (no_fault c.in-Ok.ensures.ok has)))
+returns-in-Ok-clause-told g c = ((λ f. absurd (true≢false (sym f ∙ c.if-self.false))), (λ has. absurd (no_fault c.in-Ok.ensures.ok has)))
 
 pub returns-in-Ok-clause-order : goal.returns-in-Ok-clause-order
 returns-in-Ok-clause-order g c = numbers_asked c.in-Ok.ensures.ok
 
+-- what the keeper holds, as the calls need it
+kept_in : {past : Past} {sectors : ℕ} {layout : Layout} {slot : Slot} {generation g number next : ℕ} {s : State} → g ≡ generation → Keeps past sectors layout slot generation number next s
+    → Keeps past sectors layout slot g number next s
+kept_in {past} {sectors} {layout} {slot} {number = number} {next} {s} same = subst (λ n. Keeps past sectors layout slot n number next s) (sym same)
+
+pub invariant_of-self-clause-kept : goal.invariant_of-self-clause-kept
+invariant_of-self-clause-kept g c f h =
+    let early = sym c.record_all.ensures.honest ∙ h in
+    keeps_for (kept_in (sym c.record_all.new.ahead.same) (c.in-Ok.ensures.kept early (kept_in c.args.self.now.same (c.args.self.now.kept f early)))) c.record_all.ensures.size refl
+
 pub returns-in-Ok-clause-stored : goal.returns-in-Ok-clause-stored
-returns-in-Ok-clause-stored g c f h = stores_at (c.take_all.new.self.kept f (c.take_all.ensures.honest ∙ h)) c.take_all.ensures.place.layout
+returns-in-Ok-clause-stored g c f h = stores_at (c.in-Ok.ensures.kept h (kept_in c.args.self.now.same (c.args.self.now.kept c.if-self.false h))) c.record_all.ensures.layout
 
 pub returns-in-Ok-clause-device : goal.returns-in-Ok-clause-device
 returns-in-Ok-clause-device g c = inr (no_fault c.in-Ok.ensures.ok, c.in-Ok.ensures.device)
@@ -37,10 +53,39 @@ returns-in-Ok-clause-device g c = inr (no_fault c.in-Ok.ensures.ok, c.in-Ok.ensu
 pub returns-in-Ok-clause-spent : goal.returns-in-Ok-clause-spent
 returns-in-Ok-clause-spent g c from free =
     let layout = layout_in c.args.self.now in
-    let last = log_generation_in c.take_all.new.self in
-    let answers = c.take_all.new.answers.items in
+    let last = c.record_all.new.ahead.log.generation in
+    let answers = c.record_all.new.answers.items in
     subst (λ i. AreSpentAt layout last from (map input_of i) answers) c.deref.ensures.value
-    (subst (AreSpentAt layout last from (map input_of c.deref.result.now)) (append-nil answers) (c.take_all.ensures.spent 0 from free))
+    (subst (AreSpentAt layout last from (map input_of c.deref.result.now)) (append-nil answers) (c.record_all.ensures.spent 0 from (free_at free)))
+
+pub returns-in-Ok-clause-unrecorded : goal.returns-in-Ok-clause-unrecorded
+returns-in-Ok-clause-unrecorded g c none =
+    let s = state_in c.args.self.now in
+    let answers = c.record_all.new.answers.items in
+    c.in-Ok.ensures.unrecorded (need_no_record s (map input_of c.deref.result.now) answers (subst (λ i. NeedNoRecord s (map input_of i) answers) (sym c.deref.ensures.value) none))
+
+pub returns-in-Ok-clause-no_call : goal.returns-in-Ok-clause-no_call
+returns-in-Ok-clause-no_call g c works none =
+    let s = state_in c.args.self.now in
+    let answers = c.record_all.new.answers.items in
+    c.in-Ok.ensures.unrecorded (subst (λ i. HaveNoRecord s (map input_of i) answers) (sym c.deref.ensures.value) none)
+
+pub returns-in-Ok-clause-one_sync : goal.returns-in-Ok-clause-one_sync
+returns-in-Ok-clause-one_sync g c works h room =
+    let first = c.args.self.now in
+    let s = state_in first in
+    let answers = c.record_all.new.answers.items in
+    let fits = subst (λ i. next_in first + all_sectors (map input_of i) answers ≤ log_end (layout_in first) (log_generation_in first)) (sym c.deref.ensures.value) room in (
+      (λ none. ap (λ d. sync_count (g.D.Disk.past d)) (c.in-Ok.ensures.unrecorded (subst (λ i. HaveNoRecord s (map input_of i) answers) (sym c.deref.ensures.value) none))),
+      (λ some. c.in-Ok.ensures.one_sync h fits (λ none. some (subst (λ i. HaveNoRecord s (map input_of i) answers) c.deref.ensures.value none))),
+    )
+
+pub returns-in-Ok-clause-few_calls : goal.returns-in-Ok-clause-few_calls
+returns-in-Ok-clause-few_calls g c works room =
+    let first = c.args.self.now in
+    let answers = c.record_all.new.answers.items in
+    subst (λ i. g.D.Disk.calls c.record_all.new.disk ≤ g.D.Disk.calls (disk_in first) + all_sectors (map input_of i) answers + 1) c.deref.ensures.value
+    (c.in-Ok.ensures.few_calls (subst (λ i. next_in first + all_sectors (map input_of i) answers ≤ log_end (layout_in first) (log_generation_in first)) (sym c.deref.ensures.value) room))
 
 -- ---- where the disk failed
 
@@ -52,7 +97,7 @@ pub returns-clause-fell : goal.returns-clause-fell
 returns-clause-fell g c failed =
     let first = c.args.self.now in
     let n : c.len-count.result ≡ length c.args.inputs.items = search rules in
-    let same = ap (λ (s : Standing). s.state) (c.go_back.ensures.state ∙ c.take_all.ensures.back ∙ ap (λ (b : List Back). state_before_all b (standing_in first)) c.in_ok-backs.ensures.items) in
+    let same = ap (λ (s : Standing). s.state) (c.go_back.ensures.state ∙ c.record_all.ensures.back ∙ ap (λ (b : List Back). state_before_all b (standing_in first)) c.in_ok-backs.ensures.items) in
     subst (λ i. FellBack (size_in first) (state_in first) (map input_of i) c.deny.new.answers.items (machine.state_in c.go_back.new.engine)) c.deref.ensures.value
     (fell_back c.in-Err.ensures.stopped c.len-count.result (counted c.len-count.result c.deref.result.now c.args.inputs.items n c.deref.ensures.value) c.deny.ensures same)
 
@@ -60,7 +105,7 @@ pub returns-clause-told : goal.returns-clause-told
 returns-clause-told g c =
     let n : c.len-count.result ≡ length c.args.inputs.items = search rules in (
       (λ failed. fell_told c.in-Err.ensures.stopped c.len-count.result (counted c.len-count.result c.deref.result.now c.args.inputs.items n c.deref.ensures.value) c.deny.ensures),
-      (λ has. c.take_all.ensures.failed.1 (c.in-Err.is ∙ ap Err c.in-Err.ensures.refused)),
+      (λ has. refl),
     )
 
 pub returns-clause-during : goal.returns-clause-during
@@ -68,21 +113,23 @@ returns-clause-during g c h =
     let D = g.D.Disk in
     let first = c.args.self.now in
     let n : c.len-count.result ≡ length c.args.inputs.items = search rules in
-    subst (λ i. During (D.past (disk_in first)) (D.past (disk_in c.take_all.new.self)) (IsBegun (layout_in first) (state_in first) (taken (map input_of i) c.deny.new.answers.items))) c.deref.ensures.value
-    (fell_during c.in-Err.ensures.stopped c.len-count.result (counted c.len-count.result c.deref.result.now c.args.inputs.items n c.deref.ensures.value) c.deny.ensures (c.in-Err.ensures.lost h))
+    subst (λ i. During (D.past (disk_in first)) (D.past c.record_all.new.disk) (IsBegun (layout_in first) (state_in first) (taken (map input_of i) c.deny.new.answers.items))) c.deref.ensures.value
+    (fell_during c.in-Err.ensures.stopped c.len-count.result (counted c.len-count.result c.deref.result.now c.args.inputs.items n c.deref.ensures.value) c.deny.ensures (c.in-Err.ensures.lost h (kept_in c.args.self.now.same (c.args.self.now.kept c.if-self.false h))))
 
 pub returns-clause-order : goal.returns-clause-order
 returns-clause-order g c =
     let first = c.args.self.now in
-    let same = ap (λ (s : Standing). s.state) (c.go_back.ensures.state ∙ c.take_all.ensures.back ∙ ap (λ (b : List Back). state_before_all b (standing_in first)) c.in_ok-backs.ensures.items) in
-    denied_new (state_in first) (machine.state_in c.go_back.new.engine) c.take_all.new.answers.items (c.len-count.result - length c.take_all.new.answers.items) c.deny.new.answers.items same c.deny.ensures
+    let same = ap (λ (s : Standing). s.state) (c.go_back.ensures.state ∙ c.record_all.ensures.back ∙ ap (λ (b : List Back). state_before_all b (standing_in first)) c.in_ok-backs.ensures.items) in
+    denied_new (state_in first) (machine.state_in c.go_back.new.engine) c.record_all.new.answers.items (c.len-count.result - length c.record_all.new.answers.items) c.deny.new.answers.items same c.deny.ensures
 
 pub returns-clause-unrecorded : goal.returns-clause-unrecorded
 returns-clause-unrecorded g c none =
     let first = c.args.self.now in
     let stopped = c.in-Err.ensures.stopped in
     let n : c.len-count.result ≡ length c.args.inputs.items = search rules in
-    c.in-Err.ensures.unwritten (replicate (length stopped.rest) (Err Device))
+    let size = fell_whole stopped in
+    let counted_now = length-map c.deref.result.now input_of in
+    c.in-Err.ensures.unwritten (length stopped.rest) (omega (arith, size, counted_now))
     (fell_unrecorded stopped c.len-count.result (counted c.len-count.result c.deref.result.now c.args.inputs.items n c.deref.ensures.value) c.deny.ensures
     (subst (λ i. NeedNoRecord (state_in first) (map input_of i) c.deny.new.answers.items) (sym c.deref.ensures.value) none))
 
@@ -94,9 +141,9 @@ returns-clause-device g c =
 pub returns-clause-spent : goal.returns-clause-spent
 returns-clause-spent g c from free =
     let layout = layout_in c.args.self.now in
-    let last = log_generation_in c.take_all.new.self in
-    let meant = c.take_all.new.answers.items in
+    let last = c.record_all.new.ahead.log.generation in
+    let meant = c.record_all.new.answers.items in
     let left = c.len-count.result - length meant in
     subst (λ i. AreSpentAt layout last from (map input_of i) c.deny.new.answers.items) c.deref.ensures.value
     (subst (AreSpentAt layout last from (map input_of c.deref.result.now)) (sym c.deny.ensures)
-    (spent_denied layout last from (map input_of c.deref.result.now) meant (replicate left (Err Device)) (c.take_all.ensures.spent left from free)))
+    (spent_denied layout last from (map input_of c.deref.result.now) meant (replicate left (Err Device)) (c.record_all.ensures.spent left from (free_at free))))

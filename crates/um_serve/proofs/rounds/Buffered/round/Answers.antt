@@ -1,7 +1,7 @@
 use Rattle.std.proofs.Common.{◌∙◌, refl, sym, ap, subst, inl, nat_lt}
 use Rattle.std.specs.Bool.{IsTrue}
 use Rattle.um_keeper.specs.Keepers.{disk_in, state_in}
-use Rattle.um_manager.specs.Places.{place_in}
+use Rattle.um_manager.specs.Places.{place_in, log_in}
 use Rattle.um_serve.proofs.RoundLaws.{unserved, same_now, untaken_round, done_round}
 use Rattle.um_serve.proofs.rounds.Buffered.round.Goals as goal
 
@@ -22,4 +22,4 @@ returns-clause-serves g c =
     c.turn-turned.ensures.turns (subst (λ x. IsTrue (g.C.Children.whole x)) said.children) (sym c.wants_memory.ensures ∙ c.if-wants_memory.false)
     said.says.1 said.says.2 refl said.stirred
     (c.has_moved-has_changed.ensures ∙ ap (λ m. nat_lt m (state_in c.speak-is_stirred.new.manager.keeper).clock) c.clock_of-before.ensures) said.empties
-    (same_now c.turn-turned.new.self.sessions.items c.speak-is_stirred.new.manager.sessions.items (ap (λ k. state_in k) said.keeper) (ap (λ x. g.C.Children.past x) said.children) said.marks (ap (λ k. g.D.Disk.past (disk_in k)) said.keeper))
+    (same_now c.turn-turned.new.self.sessions.items c.speak-is_stirred.new.manager.sessions.items (ap (λ k. state_in k) said.keeper) (ap (λ x. g.C.Children.past x) said.children) said.marks (ap (λ k. g.D.Disk.past (disk_in k)) said.keeper) (ap (λ k. log_in k) said.keeper))

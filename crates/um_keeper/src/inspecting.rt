@@ -1,0 +1,76 @@
+//! A reader of stores: what the image of a disk stands for, with nothing written.
+
+ghost use Rattle.std.specs.Prelude.{◌≡◌, ◌⊎◌, IfOk, IfErr, IsTrue};
+ghost use Rattle.um_engine.specs.Engine.{state_in};
+ghost use Rattle.um_keeper.specs.Inspecting.{IsSummed, IsSomeSummed};
+ghost use Rattle.um_keeper.specs.Opening.{IsUnread};
+ghost use Rattle.um_model.specs.Disk.{seen};
+ghost use Rattle.um_sector.specs.Refused.{CountsDevice, IsLost};
+ghost use Rattle.um_state.specs.View.{state_of};
+
+use crate::opening::{Found, take_up};
+use std::alloc::Global;
+use um_model::{Moment, NextNumber};
+use um_sector::Disk;
+use um_state::State;
+use um_wire::Refusal;
+
+/// What the image of a store tells in short.
+#[derive(Clone, Copy, Debug, PartialEq, Eq)]
+pub struct Summary {
+    /// The generation of its newest header.
+    pub generation: u64,
+    /// So many records of that generation count.
+    pub records: usize,
+    /// The moment of the last step.
+    pub clock: Moment,
+    /// The number of the next process.
+    pub next: NextNumber,
+}
+
+/// What was taken up, in short.
+fn summary_of(found: &Found) -> Summary
+    ensures generation { result.generation ≡ found.now.home.generation }
+    ensures records { result.records ≡ found.now.log.number }
+    ensures clock { result.clock ≡ (state_in found.now.engine).clock }
+    ensures next { result.next ≡ (state_in found.now.engine).next }
+{
+    let state = found.engine.state();
+    Summary {
+        generation: found.home.generation,
+        records: found.log.number as usize,
+        clock: state.clock(),
+        next: state.next(),
+    }
+}
+
+/// What the store on a disk stands for, in short. It reads as `Keeper::open` does, and writes and syncs nothing.
+///
+/// Refused is what `Keeper::open` refuses, with the same sector, but for E20, which only an opening gives: E19, E22, E18; E15; E16 where a read
+/// fails. Nothing else is refused, so that what the disk has room for and what stands for a state is told.
+pub fn inspect<D: Disk>(alloc: Global, disk: &mut D) -> Result<Summary, Refusal>
+    ensures stands { IfOk result (λ m. IsTrue (D.honest disk.old) → IsSomeSummed (D.size disk.old) (seen (D.past disk.old)) m) }
+    ensures err { IfErr result (λ e. IsLost e ⊎ (IsTrue (D.honest disk.old) → IsUnread (D.size disk.old) (seen (D.past disk.old)) e)) }
+    ensures past { IsTrue (D.honest disk.old) → D.past disk.new ≡ D.past disk.old }
+    ensures failures { CountsDevice result (D.failures disk.old) (D.failures disk.new) }
+    ensures size { D.size disk.new ≡ D.size disk.old }
+    ensures honest { D.honest disk.new ≡ D.honest disk.old }
+{
+    let taken = take_up(alloc, disk)?;
+    Ok(summary_of(&taken))
+}
+
+/// What the store on a disk stands for, in short, with its state. It reads as `inspect` does and is refused as that is.
+pub fn look<D: Disk>(alloc: Global, disk: &mut D) -> Result<(Summary, State), Refusal>
+    ensures stands { IfOk result (λ found. IsTrue (D.honest disk.old)
+        → IsSummed (D.size disk.old) (seen (D.past disk.old)) found.0 (state_of found.1)) }
+    ensures err { IfErr result (λ e. IsLost e ⊎ (IsTrue (D.honest disk.old) → IsUnread (D.size disk.old) (seen (D.past disk.old)) e)) }
+    ensures past { IsTrue (D.honest disk.old) → D.past disk.new ≡ D.past disk.old }
+    ensures failures { CountsDevice result (D.failures disk.old) (D.failures disk.new) }
+    ensures size { D.size disk.new ≡ D.size disk.old }
+    ensures honest { D.honest disk.new ≡ D.honest disk.old }
+{
+    let found = take_up(alloc, disk)?;
+    let state = found.engine.state().copy()?;
+    Ok((summary_of(&found), state))
+}

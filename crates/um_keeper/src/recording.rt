@@ -1,0 +1,188 @@
+//! Records of inputs, written ahead of the last sync.
+ghost use Rattle.std.specs.Prelude.{◌≡◌, ◌⊎◌, ◌+◌, ◌-◌, ◌^◌, ◌<◌, ◌≤◌, ◌∷◌, ◌++◌, [], ℕ, List, true, false, length, Err, IfOk, IfErr, OnOk, OnErr, IsTrue};
+ghost use Rattle.um_engine.specs.Engine.{reply_in, actions_in, standing_in, state_in, size_in, state_after, state_before};
+ghost use Rattle.um_keeper.specs.Keeping.{MayHold, IsBegun, snapshot_calls};
+ghost use Rattle.um_keeper.specs.Underway.{UnderwayIn, LacksRoom, IsFreeAt, IsPlannedBy};
+ghost use Rattle.um_log.specs.Reading.{Fits};
+ghost use Rattle.um_model.specs.Disk.{During};
+ghost use Rattle.um_model.specs.InputSpellings.{FitInput, input_limit, input_spelling};
+ghost use Rattle.um_model.specs.Machine as model;
+ghost use Rattle.um_model.specs.Store.{log_start, log_end, part_count};
+ghost use Rattle.um_sector.specs.Refused.{CountsDevice, IsLost};
+ghost use Rattle.um_sector.specs.Unsynced.{sync_count};
+ghost use Rattle.um_state.specs.View.{input_of};
+
+use crate::ahead::Ahead;
+use crate::receipt::Receipt;
+use std::alloc::Global;
+use um_engine::{Back, Engine, Next};
+use um_log::Log;
+use um_sector::Disk;
+use um_slot::write_other;
+use um_state::Input;
+use um_wire::{Refusal, spell};
+
+/// Writes the state as the next generation. Its first sync covers the records that were written. E20 and E15, with nothing written; E16.
+fn renew<D: Disk>(
+    alloc: Global,
+    disk: &mut D,
+    ahead: &mut Ahead,
+    engine: &Engine,
+) -> Result<(), Refusal>
+    requires held { MayHold ahead.old.log.layout (size_in engine.now) (state_in engine.now) }
+    ensures during { IsTrue (D.honest disk.old) → (s : model.State) (taken : List model.Input) → UnderwayIn s taken (D.past disk.old) ahead.old (state_in engine.now)
+        → During (D.past disk.old) (D.past disk.new) (IsBegun ahead.old.log.layout s taken) }
+    ensures ok { OnOk result (IsTrue (D.honest disk.old) → (s : model.State) (taken : List model.Input) → UnderwayIn s taken (D.past disk.old) ahead.old (state_in engine.now)
+        → UnderwayIn s taken (D.past disk.new) ahead.new (state_in engine.now)) }
+    ensures next { OnOk result ((ahead.new.log.next ≡ log_start ahead.old.log.layout ahead.new.log.generation) × (ahead.new.log.generation ≡ ahead.old.log.generation + 1)) }
+    ensures unsynced { OnOk result (ahead.new.unsynced ≡ false) }
+    ensures layout { ahead.new.log.layout ≡ ahead.old.log.layout }
+    ensures kept { IfErr result (λ e. (e ≡ Refusal.Device) ⊎ (disk.new ≡ disk.old)) }
+    ensures same { OnErr result (ahead.new ≡ ahead.old) }
+    ensures refused { IfErr result (λ e. IsLost e ⊎ (e ≡ Refusal.GenerationsSpent)) }
+    ensures spent { result ≡ Err Refusal.GenerationsSpent → ahead.old.log.generation ≡ 2 ^ 64 - 1 }
+    ensures calls { D.calls disk.new ≤ D.calls disk.old + snapshot_calls (state_in engine.now) }
+    ensures device { CountsDevice result (D.failures disk.old) (D.failures disk.new) }
+    ensures size { D.size disk.new ≡ D.size disk.old }
+    ensures honest { D.honest disk.new ≡ D.honest disk.old }
+{
+    if ahead.home.generation == u64::MAX {
+        return Err(Refusal::GenerationsSpent);
+    }
+    let body = spell(alloc, engine.state())?;
+    match write_other(disk, ahead.log.layout, ahead.home, &body) {
+        Ok(Some(home)) => {
+            *ahead = Ahead {
+                home,
+                log: Log::new(ahead.log.layout, home.generation),
+                unsynced: false,
+            };
+            Ok(())
+        }
+        Ok(None) => unreachable!(),
+        Err(refusal) => Err(refusal),
+    }
+}
+
+/// Sees that a record of so many bytes fits: where it doesn't, the state is written as the next generation first.
+fn make_room<D: Disk>(
+    alloc: Global,
+    disk: &mut D,
+    ahead: &mut Ahead,
+    engine: &Engine,
+    bytes: usize,
+) -> Result<(), Refusal>
+    requires held { MayHold ahead.old.log.layout (size_in engine.now) (state_in engine.now) }
+    requires some { 0 < bytes }
+    requires short { bytes ≤ input_limit }
+    ensures during { IsTrue (D.honest disk.old) → (s : model.State) (taken : List model.Input) → UnderwayIn s taken (D.past disk.old) ahead.old (state_in engine.now)
+        → During (D.past disk.old) (D.past disk.new) (IsBegun ahead.old.log.layout s taken) }
+    ensures ok { OnOk result (IsTrue (D.honest disk.old) → (s : model.State) (taken : List model.Input) → UnderwayIn s taken (D.past disk.old) ahead.old (state_in engine.now)
+        → UnderwayIn s taken (D.past disk.new) ahead.new (state_in engine.now)) }
+    ensures fits { OnOk result (Fits ahead.new.log.layout ahead.new.log.generation ahead.new.log.next bytes) }
+    ensures free { (from : ℕ) → IsFreeAt ahead.old.log from → IsFreeAt ahead.new.log from }
+    ensures untouched { Fits ahead.old.log.layout ahead.old.log.generation ahead.old.log.next bytes → (disk.new ≡ disk.old) × (ahead.new ≡ ahead.old) }
+    ensures layout { ahead.new.log.layout ≡ ahead.old.log.layout }
+    ensures grows { ahead.old.log.generation ≤ ahead.new.log.generation }
+    ensures kept { IfErr result (λ e. (e ≡ Refusal.Device) ⊎ (disk.new ≡ disk.old)) }
+    ensures same { OnErr result (ahead.new ≡ ahead.old) }
+    ensures refused { IfErr result (λ e. IsLost e ⊎ (e ≡ Refusal.GenerationsSpent)) }
+    ensures spent { result ≡ Err Refusal.GenerationsSpent → LacksRoom ahead.old.log bytes }
+    ensures calls { D.calls disk.new ≤ D.calls disk.old + snapshot_calls (state_in engine.now) }
+    ensures device { CountsDevice result (D.failures disk.old) (D.failures disk.new) }
+    ensures size { D.size disk.new ≡ D.size disk.old }
+    ensures honest { D.honest disk.new ≡ D.honest disk.old }
+{
+    if ahead.log.fits(bytes) {
+        return Ok(());
+    }
+    renew(alloc, disk, ahead, engine)
+}
+
+/// Writes the record of a planned input, for which there is room, and takes the step, with the receipt of what it answers and the way
+/// back. E16, with no step taken.
+fn append<D: Disk>(
+    disk: &mut D,
+    ahead: &mut Ahead,
+    engine: &mut Engine,
+    input: &Input,
+    next: Next,
+    bytes: &[u8],
+) -> Result<(Receipt, Back), Refusal>
+    requires held { MayHold ahead.old.log.layout (size_in engine.old) (state_in engine.old) }
+    requires step { IsPlannedBy engine.old input.now next }
+    requires bytes { bytes.now ≡ input_spelling (input_of input.now) }
+    requires has_bytes { FitInput (input_of input.now) }
+    requires fits { Fits ahead.old.log.layout ahead.old.log.generation ahead.old.log.next (length bytes.now) }
+    ensures during { IsTrue (D.honest disk.old) → (s : model.State) (taken : List model.Input) → UnderwayIn s taken (D.past disk.old) ahead.old (state_in engine.old)
+        → During (D.past disk.old) (D.past disk.new) (IsBegun ahead.old.log.layout s (taken ++ input_of input.now ∷ [])) }
+    ensures under { OnOk result (IsTrue (D.honest disk.old) → (s : model.State) (taken : List model.Input) → UnderwayIn s taken (D.past disk.old) ahead.old (state_in engine.old)
+        → UnderwayIn s (taken ++ input_of input.now ∷ []) (D.past disk.new) ahead.new (state_in engine.new)) }
+    ensures ok { IfOk result (λ made. (made.0.0 ≡ reply_in next) × (made.0.1 ≡ actions_in next) × (standing_in engine.new ≡ state_after next (standing_in engine.old))) }
+    ensures back { IfOk result (λ made. state_before made.1 (standing_in engine.new) ≡ standing_in engine.old) }
+    ensures state { OnErr result (engine.new ≡ engine.old) }
+    ensures held { MayHold ahead.new.log.layout (size_in engine.new) (state_in engine.new) }
+    ensures sized { size_in engine.new ≡ size_in engine.old }
+    ensures filled { OnOk result ((from : ℕ) → IsFreeAt ahead.old.log from → IsFreeAt ahead.new.log (from + part_count (length (input_spelling (input_of input.now))))) }
+    ensures next { OnOk result (ahead.new.log.next ≡ ahead.old.log.next + part_count (length (input_spelling (input_of input.now)))) }
+    ensures unsynced { OnOk result (ahead.new.unsynced ≡ true) }
+    ensures of { (ahead.new.log.layout ≡ ahead.old.log.layout) × (ahead.new.log.generation ≡ ahead.old.log.generation) }
+    ensures refused { IfErr result (λ e. e ≡ Refusal.Device) }
+    ensures syncs { IsTrue (D.honest disk.old) → sync_count (D.past disk.new) ≡ sync_count (D.past disk.old) }
+    ensures calls { D.calls disk.new ≤ D.calls disk.old + part_count (length (input_spelling (input_of input.now))) }
+    ensures device { CountsDevice result (D.failures disk.old) (D.failures disk.new) }
+    ensures size { D.size disk.new ≡ D.size disk.old }
+    ensures honest { D.honest disk.new ≡ D.honest disk.old }
+{
+    match ahead.log.write(disk, bytes) {
+        Ok(true) => {
+            ahead.unsynced = true;
+            let (reply, actions, back) = engine.commit(next);
+            Ok((Receipt::new(reply, actions), back))
+        }
+        Ok(false) => unreachable!(),
+        Err(refusal) => Err(refusal),
+    }
+}
+
+/// Records a planned input without a sync and takes its step, behind a snapshot where the log has no room for it. E15 and E20, with nothing
+/// written; E16.
+pub(crate) fn record<D: Disk>(
+    alloc: Global,
+    disk: &mut D,
+    ahead: &mut Ahead,
+    engine: &mut Engine,
+    input: &Input,
+    next: Next,
+) -> Result<(Receipt, Back), Refusal>
+    requires held { MayHold ahead.old.log.layout (size_in engine.old) (state_in engine.old) }
+    requires step { IsPlannedBy engine.old input.now next }
+    ensures during { IsTrue (D.honest disk.old) → (s : model.State) (taken : List model.Input) → UnderwayIn s taken (D.past disk.old) ahead.old (state_in engine.old)
+        → During (D.past disk.old) (D.past disk.new) (IsBegun ahead.old.log.layout s (taken ++ input_of input.now ∷ [])) }
+    ensures under { OnOk result (IsTrue (D.honest disk.old) → (s : model.State) (taken : List model.Input) → UnderwayIn s taken (D.past disk.old) ahead.old (state_in engine.old)
+        → UnderwayIn s (taken ++ input_of input.now ∷ []) (D.past disk.new) ahead.new (state_in engine.new)) }
+    ensures ok { IfOk result (λ made. (made.0.0 ≡ reply_in next) × (made.0.1 ≡ actions_in next) × (standing_in engine.new ≡ state_after next (standing_in engine.old))) }
+    ensures back { IfOk result (λ made. state_before made.1 (standing_in engine.new) ≡ standing_in engine.old) }
+    ensures state { OnErr result (engine.new ≡ engine.old) }
+    ensures held { MayHold ahead.new.log.layout (size_in engine.new) (state_in engine.new) }
+    ensures sized { size_in engine.new ≡ size_in engine.old }
+    ensures filled { OnOk result ((from : ℕ) → IsFreeAt ahead.old.log from → IsFreeAt ahead.new.log (from + part_count (length (input_spelling (input_of input.now))))) }
+    ensures unsynced { OnOk result (ahead.new.unsynced ≡ true) }
+    ensures layout { ahead.new.log.layout ≡ ahead.old.log.layout }
+    ensures grows { ahead.old.log.generation ≤ ahead.new.log.generation }
+    ensures kept { IfErr result (λ e. (e ≡ Refusal.Device) ⊎ ((disk.new ≡ disk.old) × (ahead.new ≡ ahead.old))) }
+    ensures refused { IfErr result (λ e. IsLost e ⊎ (e ≡ Refusal.GenerationsSpent)) }
+    ensures spent { result ≡ Err Refusal.GenerationsSpent → LacksRoom ahead.old.log (length (input_spelling (input_of input.now))) }
+    ensures fitted { OnOk result (ahead.old.log.next + part_count (length (input_spelling (input_of input.now))) ≤ log_end ahead.old.log.layout ahead.old.log.generation
+        → (IsTrue (D.honest disk.old) → sync_count (D.past disk.new) ≡ sync_count (D.past disk.old))
+        × (ahead.new.log.next ≡ ahead.old.log.next + part_count (length (input_spelling (input_of input.now))))
+        × (D.calls disk.new ≤ D.calls disk.old + part_count (length (input_spelling (input_of input.now))))) }
+    ensures calls { D.calls disk.new ≤ D.calls disk.old + snapshot_calls (state_in engine.old) + part_count (length (input_spelling (input_of input.now))) }
+    ensures device { CountsDevice result (D.failures disk.old) (D.failures disk.new) }
+    ensures size { D.size disk.new ≡ D.size disk.old }
+    ensures honest { D.honest disk.new ≡ D.honest disk.old }
+{
+    let bytes = spell(alloc, input)?;
+    make_room(alloc, disk, ahead, engine, bytes.len())?;
+    append(disk, ahead, engine, input, next, &bytes)
+}

@@ -1,0 +1,84 @@
+//! The words of `umd check`.
+
+ghost use Rattle.std.specs.Prelude.{◌≡◌, ◌↔◌, Some, IfOk, IsTrue, codes, map, string_bytes};
+ghost use Rattle.clap.specs.Words.{app_of, first_of, found_of, rows_of};
+ghost use Rattle.um_line.specs.Line.{check_words, IsCheckLine, TakesCheck};
+
+use crate::line::Line;
+use crate::mistake::line_of_mistake;
+use crate::values::{flag, value, word};
+use clap::{ArgMatches, Command};
+use std::alloc::{AllocError, Global};
+
+/// A store to be looked at.
+#[derive(Clone, Copy, Debug)]
+pub struct CheckLine<'a> {
+    /// Its units and jobs are asked for, in the place of the summary.
+    pub units: bool,
+    /// The path of the store.
+    pub file: &'a str,
+}
+
+/// What is told where a word is missing.
+const USAGE: &str = "error: a word is missing
+
+Usage: umd check [--units] <FILE>
+
+For more information, try '--help'.
+";
+
+const UNITS_HELP: &str =
+    "Prints in its place what umd ctl list-units and umd ctl list-jobs print, a line each";
+
+const AFTER_HELP: &str =
+    "It prints generation, records, clock and next, each with its number: the generation of the newest header, how many records of that generation count, the moment of the last step, and the number of the next process. Nothing is written. A store that a manager serves isn't read.
+
+Exit statuses: 0 it can be opened, but for E20; 1 it is refused, and umd help says what the refusal means; 2 wrong words; 5 the file failed, or a manager has it.
+
+For example:
+  umd check /var/lib/umd/store";
+
+/// The words that it takes.
+fn command<'a>(alloc: Global) -> Result<Command<'a>, AllocError>
+    ensures { IfOk result (λ c. app_of c ≡ check_words) }
+{
+    let units = flag(alloc, "units", UNITS_HELP);
+    let file = word(alloc, "file", "FILE", "The store");
+    let command = Command::new(alloc, "umd check")
+        .arg(units)?
+        .arg(file)?
+        .override_usage("umd check [--units] <FILE>")
+        .about(
+            "Looks at a store that nobody serves, and says what it stands for, or why it can't be opened",
+        )
+        .after_help(AFTER_HELP);
+    Ok(command)
+}
+
+/// Whether the flag was given.
+fn is_given(matches: &ArgMatches<'_>, name: &str) -> bool
+    ensures { IsTrue result ↔ (first_of name.now (rows_of (found_of matches.now)) ≡ Some (codes "true")) }
+{
+    value(matches, name) == Some("true")
+}
+
+/// What the words ask for that hold these values.
+fn check_line<'a>(alloc: Global, matches: &ArgMatches<'a>) -> Result<Line<'a>, AllocError>
+    ensures { IfOk result (TakesCheck (rows_of (found_of matches.now))) }
+{
+    let Some(file) = value(matches, "file") else {
+        return Ok(Line::Wrong(String::from_str(alloc, USAGE)?));
+    };
+    let units = is_given(matches, "units");
+    Ok(Line::Check(CheckLine { units, file }))
+}
+
+/// Reads the words from `check` on.
+pub fn read_check<'a>(alloc: Global, words: &'a [String]) -> Result<Line<'a>, AllocError>
+    ensures { IfOk result (IsCheckLine (map string_bytes words.now)) }
+{
+    match command(alloc)?.try_get_matches_from(words) {
+        Ok(matches) => check_line(alloc, &matches),
+        Err(mistake) => line_of_mistake(alloc, &mistake),
+    }
+}

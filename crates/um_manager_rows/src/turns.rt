@@ -1,0 +1,50 @@
+//! Turns in which many connections send commands.
+use crate::asserts::same;
+use crate::managers::{DONE, InMemory, frames, has_output, new_store, over};
+use std::process::Abort;
+use um_manager::{Connection, Piece, Pieces};
+use um_model::Moment;
+
+/// A request that puts an empty file, another one for each number.
+fn put_of(rt: &(impl AllocGlobal + Abort), number: usize) -> String {
+    let path = format!(in rt.alloc(); "lib/u{number}.service").expect(rt, "no memory");
+    let mut text = String::new(rt.alloc());
+    for part in [
+        r#"{"verb":"put-file","path":""#,
+        path.as_str(),
+        r#"","text":""}"#,
+    ] {
+        text.push_str(part).expect(rt, "no memory");
+    }
+    text
+}
+
+/// A put-file of each of 64 connections.
+fn all_put(rt: &(impl AllocGlobal + Abort)) -> Pieces {
+    let mut pieces = Pieces::none(rt.alloc()).expect(rt, "no memory");
+    for number in 0..64 {
+        let connection = Connection::new(number).expect(rt, "no connection");
+        let request = put_of(rt, number);
+        pieces.set(connection, Piece::Bytes(frames(rt, &[request.as_str()])));
+    }
+    pieces
+}
+
+/// The number of syncs of its disk.
+fn syncs(manager: InMemory) -> usize {
+    let (disk, _) = manager.into_parts();
+    disk.syncs()
+}
+
+#[test]
+fn the_commands_of_a_turn_share_a_sync(rt: HostRuntime) {
+    let before = syncs(over(&rt, new_store(&rt)));
+    let mut manager = over(&rt, new_store(&rt));
+    let sent = all_put(&rt);
+    manager.turn(Moment::FIRST, &sent).expect(&rt, "refused");
+    for number in 0..64 {
+        has_output(&rt, &mut manager, number, &[DONE]);
+    }
+    same(&rt, manager.state().tree().len(), 64);
+    same(&rt, Some(syncs(manager)), before.checked_add(1));
+}
