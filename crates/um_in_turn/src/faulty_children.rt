@@ -1,7 +1,8 @@
 //! Children in memory of which one call fails.
 
-ghost use Rattle.std.specs.Prelude.{true, false, []};
+ghost use Rattle.std.specs.Prelude.{◌≡◌, true, false, []};
 ghost use Rattle.std.proofs.lemmas.Bool.{false≢true};
+ghost use Rattle.um_children.specs.Faults.{CountsFault};
 
 use std::alloc::AllocError;
 use um_children::{
@@ -61,17 +62,27 @@ impl FaultyChildren {
     }
 
     /// Counts a call, and tells whether it is to fail.
-    fn burns(&mut self) -> bool {
+    fn burns(&mut self) -> bool
+        ensures failures { self.new.failures ≡ self.old.failures }
+    {
         self.calls = self.calls.saturating_add(1);
         self.calls == self.fails
     }
 
     /// What the children below answer, whose failures are counted.
-    fn counted<T: Drop>(&mut self, answer: Result<T, ChildFault>) -> Result<T, ChildFault> {
-        if let Err(ChildFault::Device) = &answer {
-            self.failures = self.failures.saturating_add(1);
+    fn counted<T: Drop>(&mut self, answer: Result<T, ChildFault>) -> Result<T, ChildFault>
+        ensures answer { result ≡ answer }
+        ensures failures { CountsFault result self.old.failures self.new.failures }
+    {
+        match answer {
+            Ok(done) => Ok(done),
+            Err(ChildFault::Device) => {
+                self.failures = self.failures.saturating_add(1);
+                Err(ChildFault::Device)
+            }
+            Err(ChildFault::NoMemory) => Err(ChildFault::NoMemory),
+            Err(ChildFault::TooLong) => Err(ChildFault::TooLong),
         }
-        answer
     }
 }
 

@@ -107,21 +107,21 @@ fn submit(alloc: Global, keeper: Keeper<Failing>, row: Row) -> Result<Gone, Wron
 
 /// What an answer of a list is.
 #[derive(Clone, Copy)]
-enum Told {
+enum Kind {
     Done,
     Fault,
     Refused,
 }
 
-/// Spends an answer.
-fn told(alloc: Global, answer: Result<Receipt, Refusal>) -> Told {
+/// Spends an answer, and tells what it is.
+fn spent_kind(alloc: Global, answer: Result<Receipt, Refusal>) -> Kind {
     match answer {
         Ok(receipt) => {
             let _answer = spent(alloc, receipt);
-            Told::Done
+            Kind::Done
         }
-        Err(Refusal::Device) => Told::Fault,
-        Err(_) => Told::Refused,
+        Err(Refusal::Device) => Kind::Fault,
+        Err(_) => Kind::Refused,
     }
 }
 
@@ -131,10 +131,10 @@ fn counted(alloc: Global, answers: Vec<Result<Receipt, Refusal>>) -> (usize, usi
     let mut faults: usize = 0;
     let mut rest = answers.into_iter();
     while let Some(answer) = rest.next() {
-        match told(alloc, answer) {
-            Told::Done => done = done.saturating_add(1),
-            Told::Fault => faults = faults.saturating_add(1),
-            Told::Refused => {}
+        match spent_kind(alloc, answer) {
+            Kind::Done => done = done.saturating_add(1),
+            Kind::Fault => faults = faults.saturating_add(1),
+            Kind::Refused => {}
         }
     }
     rest.destroy_empty();
