@@ -46,8 +46,7 @@ pub fn refused(alloc: Global, refusal: Refusal) -> Result<Answer, Wrong> {
 }
 
 /// What a receipt answers, which is spent.
-pub fn spent(alloc: Global, receipt: Receipt) -> Result<Answer, Wrong> {
-    let mut receipt = receipt;
+pub fn spent(alloc: Global, mut receipt: Receipt) -> Result<Answer, Wrong> {
     let mut orders = Vec::new(alloc);
     let mut is_short = false;
     while let Some(handed) = receipt.next_action() {

@@ -138,15 +138,20 @@ fn are_beginnings(
     is_beginning(alloc, course, disk, low, high)
 }
 
+/// Asserts that an image holds no store or the empty one.
+fn is_empty(alloc: Global, course: &Course, image: MemDisk) -> Result<(), Wrong> {
+    match state_on(alloc, image)? {
+        Some(bytes) if !course.is_at(0, bytes.as_slice()) => {
+            Err(found("a creation that failed left a state"))
+        }
+        _ => Ok(()),
+    }
+}
+
 /// Asserts that a disk whose creation was refused holds no store or the empty one, and that a store is created there again.
 fn is_created_again(alloc: Global, course: &Course, disk: MemDisk) -> Result<(), Wrong> {
-    for image in [oldest(alloc, &disk)?, newest(alloc, &disk)?] {
-        if let Some(bytes) = state_on(alloc, image)? {
-            if !course.is_at(0, bytes.as_slice()) {
-                return Err(found("a creation that failed left a state"));
-            }
-        }
-    }
+    is_empty(alloc, course, oldest(alloc, &disk)?)?;
+    is_empty(alloc, course, newest(alloc, &disk)?)?;
     let mut disk = disk;
     create_on(alloc, &mut disk)?;
     are_beginnings(alloc, course, disk, 0, 0)
