@@ -47,6 +47,7 @@ bench: umd
 	@bench/run crates/umd/out/umd
 	@bench/bytes crates/um_bench/out/um_bench
 	@bench/serve crates/umd/out/umd
+	@bench/sync crates/umd/out/umd
 
 runner-rows: umd
 	@tools/runner-rows crates/umd/out/umd
