@@ -40,7 +40,8 @@ pub record Begins (layout : Layout) (s : State) (taken : List Input) (body : Lis
   pub spells : Spells layout body records state
 
 -- While a list is taken from a state on: the disk has a beginning of the inputs that were taken, and a read gives the state behind them all.
-pub record IsUnderway (layout : Layout) (s : State) (taken : List Input) (past : Past) (slot : Slot) (generation number next : ℕ) (unsynced : Bool) (state : State) : Type 0 where
+pub record IsUnderway (layout : Layout) (s : State) (taken : List Input) (past : Past) (slot : Slot) (generation number next : ℕ) (unsynced : Bool)
+    (state : State) : Type 0 where
   pub body : List ℕ
   pub records : List (List ℕ)
   pub more : List (List ℕ)

@@ -19,14 +19,16 @@ pub record HasSome (layout : Layout) (slot : Slot) (generation : ℕ) (body : Li
   pub store : IsStore layout image slot generation body (records ++ take count more)
 
 -- That store, of an image: it has all of them, and the log goes on behind them, or a record is torn, and ends the reading whatever comes behind.
-pub record HasBegun (layout : Layout) (slot : Slot) (generation : ℕ) (body : List ℕ) (records more : List (List ℕ)) (number next : ℕ) (image : Image) : Type 0 where
+pub record HasBegun (layout : Layout) (slot : Slot) (generation : ℕ) (body : List ℕ) (records more : List (List ℕ)) (number next : ℕ) (image : Image)
+    : Type 0 where
   pub some : HasSome layout slot generation body records more image
   pub rest : ((some.count ≡ length more) × IsLogEnd layout generation image (records ++ more) number next)
       ⊎ ((some.count < length more) × EndsWith layout generation image (records ++ take some.count more) next)
 
 -- The log goes on from there, behind records of which not all were synced: each image that a crash leaves has those that were, and a beginning
 -- of the others, and a read gives all of them.
-pub record GoesOnAhead (layout : Layout) (past : Past) (slot : Slot) (generation : ℕ) (body : List ℕ) (records more : List (List ℕ)) (number next : ℕ) : Type 0 where
+pub record GoesOnAhead (layout : Layout) (past : Past) (slot : Slot) (generation : ℕ) (body : List ℕ) (records more : List (List ℕ)) (number next : ℕ)
+    : Type 0 where
   pub images : Images past (HasBegun layout slot generation body records more number next)
   pub store : IsStore layout (seen past) slot generation body (records ++ more)
   pub end : IsLogEnd layout generation (seen past) (records ++ more) number next
