@@ -1,9 +1,10 @@
 mod Batching
 pub mod Kept
 mod Reopening
-mod Repeating
+pub mod Repeating
 mod Replaying
 mod Results
 mod Spent
 mod Wiping
 mod Meanwhile
+pub mod Offered

@@ -5,8 +5,11 @@ ghost use Rattle.um_engine.specs.Engine as machine;
 ghost use Rattle.um_keeper.specs.Answering.{Answer, Answered, AreAnswered, FellBack, StopsAt, HasFault, CountsFault, denied, where_step, taken, all_asked, IsIdle, IsRefusal, NeedNoRecord, sectors_for, AreSpentAt, most_calls, state_before_all};
 ghost use Rattle.um_keeper.specs.Keepers.{disk_in, standing_in, state_in, size_in, layout_in, log_generation_in, has_failed, IsSamePlace, HasNoRoom, IsFreeFrom};
 ghost use Rattle.um_keeper.specs.Keeping.{IsBegun, record_calls};
+ghost use Rattle.um_keeper.specs.Offers.{HasCome, GoesOn};
 ghost use Rattle.um_model.specs.Disk.{During, Images};
 ghost use Rattle.um_model.specs.InputSpellings.{input_spelling};
+ghost use Rattle.um_model.specs.Lives.{Offer};
+ghost use Rattle.um_model.specs.Machine.{State};
 ghost use Rattle.um_model.specs.Numbers.{AreNew, started_numbers};
 ghost use Rattle.um_model.specs.Stands.{IsStoreOf};
 ghost use Rattle.um_model.specs.Store.{body_limit, sector_count};
@@ -202,6 +205,10 @@ impl<D: Disk> Keeper<D> {
         ensures during { IfOk result (λ answers. IsTrue (D.honest (disk_in self.old))
             → During (D.past (disk_in self.old)) (D.past (disk_in self.new))
             (IsBegun (layout_in self.old) (state_in self.old) (taken (map input_of inputs.items) answers.items))) }
+        ensures life { IfOk result (λ answers. (s : State) (before : List Offer) → IsTrue (D.honest (disk_in self.old))
+            → HasCome (layout_in self.old) s before (state_in self.old)
+            → GoesOn (layout_in self.old) s before (map input_of inputs.items) answers.items (D.past (disk_in self.old)) (D.past (disk_in self.new))
+            (has_failed self.new) (state_in self.new)) }
         ensures order { IfOk result (λ answers. AreNew (state_in self.old).next (state_in self.new).next (started_numbers (all_asked answers.items))) }
         ensures stored { has_failed self.new ≡ false → IsTrue (D.honest (disk_in self.old))
             → Images (D.past (disk_in self.new)) (λ image. IsStoreOf (layout_in self.old) image (state_in self.new)) }
