@@ -3,7 +3,7 @@ ghost use Rattle.std.specs.List.{AllByRecursion};
 ghost use Rattle.um_keeper.specs.Keepers.{disk_in, state_in, size_in, layout_in, has_failed, opened_in, IsSamePlace};
 ghost use Rattle.um_keeper.specs.Opening.{IsRead, IsSomeStore, IsUntaken, IsUnwritten};
 ghost use Rattle.um_manager.specs.Connections.{IsNew, HoldsFrameAt};
-ghost use Rattle.um_manager.specs.Opening.{Opened, IsOfRefused, IsSilent};
+ghost use Rattle.um_manager.specs.Opening.{Opened, IsRefused, IsOfRefused, IsSilent};
 ghost use Rattle.um_manager.specs.Places.{place, place_in};
 ghost use Rattle.um_manager.specs.Replies.{IsOutput};
 ghost use Rattle.um_manager.specs.Scripts.{Runs};
@@ -75,6 +75,8 @@ impl<D: Disk, C: Children> Manager<D, C> {
         ensures err { IfErr result (λ e. IsTrue (D.honest disk) → (layout : Layout) → Images (D.past disk) (IsSomeStore layout)
             → During (D.past disk) (D.past e.1)
             (IsOfRefused layout moment boot (D.size disk) (D.past disk) (C.honest children) (C.whole e.2) (C.past children) (C.past e.2))) }
+        ensures refuses { IfErr result (λ e. IsTrue (D.honest disk) → (layout : Layout) → Images (D.past disk) (IsSomeStore layout)
+            → IsRefused layout (C.honest children) (C.whole e.2) moment boot (D.size disk) (D.past disk) (D.past e.1) (C.past children) (C.past e.2)) }
         ensures silent { IfErr result (λ e. IsTrue (C.honest children) → IsTrue (C.whole e.2)
             → (C.past e.2 ≡ C.past children) ⊎ IsSilent (D.size disk) (D.past disk) (D.honest disk) moment boot (C.past children) (C.past e.2)) }
         ensures refused { IfErr result (λ e. IsLost e.0 ⊎ (IsTrue (D.honest disk) → IsUntaken (D.size disk) (seen (D.past disk)) e.0)) }

@@ -1,4 +1,5 @@
 pub mod Clients
+pub mod Lives
 pub mod Rounds
 pub mod Scan
 pub mod Sleep

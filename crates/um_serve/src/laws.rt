@@ -1,12 +1,20 @@
 //! What rounds and sleeps say together, as functions that do nothing.
 ghost use Rattle.std.specs.Prelude.{◌≡◌, ◌<◌, ◌≤◌, ◌+◌, ◌-◌, ◌++◌, ℕ, List, length, Bool, false, IsTrue, Option, Some, Result, Ok, slice_get};
 ghost use Rattle.um_backlog.specs.Backlog.{Waits};
+ghost use Rattle.um_manager.specs.Clients.{HasHad, IsServed};
+ghost use Rattle.um_manager.specs.Living.{HasLived, Continues, place_of};
 ghost use Rattle.um_manager.specs.Places.{Place};
 ghost use Rattle.um_manager.specs.Turns.{Now, Turned};
 ghost use Rattle.um_manager.specs.declared.pieces.Piece.{Piece};
+ghost use Rattle.um_model.specs.Children.{Call};
+ghost use Rattle.um_model.specs.Disk.{Past};
+ghost use Rattle.um_model.specs.Lives.{Offer};
 ghost use Rattle.um_model.specs.Machine.{State};
 ghost use Rattle.um_model.specs.Service.{state_of_unit};
-ghost use Rattle.um_serve.specs.Clients.{AllServed, StaysOpen, GetsItsOwn};
+ghost use Rattle.um_model.specs.Sessions.{Session};
+ghost use Rattle.um_model.specs.declared.layout.Layout.{Layout};
+ghost use Rattle.um_serve.specs.Clients.{AllServed, StaysOpen, GetsItsOwn, HasGot, IsTakenOf};
+ghost use Rattle.um_serve.specs.Lives.{relied};
 ghost use Rattle.um_serve.specs.Rounds.{Round, Trust, IsWithin, Served, Serves, IsCount};
 ghost use Rattle.um_serve.specs.Sleep.{has_changed, slept, IsSleptFor};
 ghost use Rattle.um_wire.specs.declared.refusal.Refusal.{Refusal};
@@ -19,6 +27,15 @@ pub fn rounds_join()
         → Serves rest place (first ++ more) result x y × IsCount result (length (first ++ more)) (limit + later) }
 {}
 
+/// A life of the manager goes on with rounds: behind ones that end Ok, or of which the last found no memory, it stands where they ended; where its
+/// store refused the last one's turn, it has stopped there.
+pub fn rounds_go_on_with_a_life()
+    ensures { (trust : Trust) (layout : Layout) (honest : Bool) (disk : Past) (before : List Call) (offered : List Offer) (rs : List Round)
+        (result : Result Unit Refusal) (x y : Served) → IsTrue honest → IsTrue trust.children → IsTrue trust.calls
+        → HasLived layout (relied trust honest) disk before offered x.now → Serves trust (place_of layout (relied trust honest)) rs result x y
+        → Continues layout (relied trust honest) disk before offered result y.now }
+{}
+
 /// Each client gets its own bytes. Rounds that end Ok are one turn each; and for each connection that isn't told closed meanwhile, whatever
 /// is put out for the others and however little is taken at a time: what the gate took for it, in its order, is a beginning of what
 /// waited for it and of what the turns put out for it behind that. The rest waits for it, unless it was given up.
@@ -26,6 +43,15 @@ pub fn each_client_gets_its_own()
     ensures { (trust : Trust) (place : Place) (rs : List Round) (x y : Served) → Serves trust place rs (Ok tt) x y → (rounds : AllServed trust place rs x y)
         × (IsTrue trust.gate → IsTrue trust.events → (k : ℕ) (old : Waits) → k < 64 → slice_get x.waits k ≡ Some old → StaysOpen k rs
         → (new : Waits) × (slice_get y.waits k ≡ Some new) × GetsItsOwn k rounds old new) }
+{}
+
+/// Each client is served from its opening on, whatever the rounds answer: what turns put out for it are the frames of the replies to its own
+/// requests that they took, in their order, one each, the last of which may be wanting where its session failed for want of memory; and what the
+/// gate took for it is a beginning of that. The rest waits for it, unless it was given up.
+pub fn each_client_is_served()
+    ensures { (k : ℕ) (bytes out took : List ℕ) (x : Served) → k < 64 → HasGot k bytes out took x
+        → (had : HasHad k bytes out x.now) × (t : Session) × (slice_get x.now.sessions k ≡ Some t) × IsServed had t
+        × (waits : Waits) × (slice_get x.waits k ≡ Some waits) × IsTakenOf took out waits }
 {}
 
 /// A deadline that the last turn was offered, and that stands all the same, wakes nobody: what is slept for lies past the moment of that turn.

@@ -1,0 +1,125 @@
+//! Lives of managers over one store, each stopped by a crash within a turn, and the run that they are together.
+use crate::asserts::same;
+use crate::managers::{
+    DONE, PUT, RELOAD, SHOW, START, boot, frames, has_output, new_store, pieces, started,
+};
+use std::process::Abort;
+use um_children::FakeChildren;
+use um_manager::{Manager, Step};
+use um_model::Moment;
+use um_sector::{Disk, Fuse, MemDisk};
+use um_wire::Refusal;
+
+/// A manager over a disk of which a chosen call fails.
+type Fused = Manager<Fuse<MemDisk>, FakeChildren>;
+
+/// A request that puts the file `lib/b.service`.
+const PUT_B: &str =
+    r#"{"verb":"put-file","path":"lib/b.service","text":"[Service]\nExecStart=/bin/sleep 9\n"}"#;
+
+/// A request to start `b.service`.
+const START_B: &str = r#"{"verb":"start","unit":"b"}"#;
+
+/// A request to stop `a.service`.
+const STOP: &str = r#"{"verb":"stop","unit":"a"}"#;
+
+/// A request to show `b.service`.
+const SHOW_B: &str = r#"{"verb":"show","unit":"b"}"#;
+
+const A_RUNS: &str =
+    r#"{"ok":true,"value":{"ActiveState":"active","Description":"","Id":"a.service","LoadState":"loaded","MainNumber":1,"Result":"success","SubState":"running","Warnings":[]}}"#;
+
+const B_RUNS: &str =
+    r#"{"ok":true,"value":{"ActiveState":"active","Description":"","Id":"b.service","LoadState":"loaded","MainNumber":2,"Result":"success","SubState":"running","Warnings":[]}}"#;
+
+/// The manager that is opened over a disk of which the call of that number fails, with these children; with 0 none fails.
+fn opened(
+    rt: &(impl AllocGlobal + Abort),
+    disk: MemDisk,
+    children: FakeChildren,
+    fails: u64,
+) -> Fused {
+    let disk = Fuse::new(disk, fails);
+    match Manager::open(rt.alloc(), disk, children, boot(rt), Moment::FIRST) {
+        Ok(manager) => manager,
+        Err(_) => rt.abort(),
+    }
+}
+
+/// A turn for each of these, in which it comes of connection 0.
+fn turns(
+    rt: &(impl AllocGlobal + Abort),
+    manager: &mut Fused,
+    sent: &[&[u8]],
+) -> Result<(), Refusal> {
+    let mut steps = Vec::new(rt.alloc());
+    for bytes in sent {
+        let step = Step {
+            moment: Moment::FIRST,
+            pieces: pieces(rt, &[(0, bytes)]),
+        };
+        steps.push(step).expect(rt, "no memory");
+    }
+    manager.run_script(&steps)
+}
+
+/// A life: these requests are answered, and then the disk fails at the sync of the last one's record, of which the crash keeps what is picked.
+fn life(
+    rt: &(impl AllocGlobal + Abort),
+    disk: MemDisk,
+    children: FakeChildren,
+    requests: &[&str],
+    replies: &[&str],
+    last: &str,
+    picks: &[usize],
+) -> (MemDisk, FakeChildren) {
+    let sent = frames(rt, requests);
+    let played = [sent.as_slice(), &[], &[], &[]];
+    let same_disk = disk.crash(rt.alloc(), &[]).expect(rt, "no memory");
+    let same_children = children.copy(rt.alloc()).expect(rt, "no memory");
+    let mut counting = opened(rt, same_disk, same_children, 0);
+    turns(rt, &mut counting, &played).expect(rt, "refused");
+    let (counted, _) = counting.into_parts();
+    // a sector is written, and then synced
+    let fails = counted.calls().checked_add(2).expect(rt, "too many");
+    let mut manager = opened(rt, disk, children, fails);
+    turns(rt, &mut manager, &played).expect(rt, "refused");
+    has_output(rt, &mut manager, 0, replies);
+    let torn = turns(rt, &mut manager, &[frames(rt, &[last]).as_slice()]);
+    same(rt, matches!(torn, Err(Refusal::Device)), true);
+    let (disk, children) = manager.into_parts();
+    let left = disk.into_inner().crash(rt.alloc(), picks);
+    (left.expect(rt, "no memory"), children)
+}
+
+/// By hand: what is kept is a put, a reload and a start, the put that wasn't answered and whose record stood there, and then a reload and a start.
+/// The stop whose record didn't stand there is none of them. So both units run, under 1 and 2, and no number was started twice.
+#[test]
+fn three_lives_are_one_run(rt: HostRuntime) {
+    let children = FakeChildren::new(rt.alloc());
+    let (disk, children) = life(
+        &rt,
+        new_store(&rt),
+        children,
+        &[PUT, RELOAD, START],
+        &[DONE, DONE, DONE],
+        PUT_B,
+        &[1],
+    );
+    let (disk, children) = life(
+        &rt,
+        disk,
+        children,
+        &[RELOAD, START_B],
+        &[DONE, DONE],
+        STOP,
+        &[0],
+    );
+    let mut manager = opened(&rt, disk, children, 0);
+    same(&rt, manager.adopted(), 2);
+    let sent = frames(&rt, &[SHOW, SHOW_B]);
+    turns(&rt, &mut manager, &[sent.as_slice(), &[]]).expect(&rt, "refused");
+    has_output(&rt, &mut manager, 0, &[A_RUNS, B_RUNS]);
+    same(&rt, manager.state().tree().len(), 2);
+    same(&rt, started(&rt, manager).as_slice(), [1, 2].as_slice());
+}
