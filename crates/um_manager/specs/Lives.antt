@@ -24,6 +24,10 @@ pub record Life : Type 0 where
   pub stop : Past  -- the disk as it stopped
   pub calls : List Call  -- what was asked of the children by then, all that went before included
 
+-- the life of these
+abbrev pub life_of : (disk : Past) (before : List Call) (offers : List Offer) (stop : Past) (calls : List Call) → Life
+life_of disk before offers stop calls = record { disk = disk; before = before; offers = offers; stop = stop; calls = calls }
+
 -- the disk at some moment of the calls that led from old to new
 pub record IsMeanwhile (old new at : Past) : Type 0 where
   pub calls : List disk.Call

@@ -1,10 +1,12 @@
 use Rattle.std.proofs.Common.{◌≡◌, ◌∙◌, ◌+◌, ◌≤◌, ◌∷◌, ◌++◌, [], length, length-append, Ok, Err, refl, sym, subst, inl, rules, arith}
 use Rattle.std.specs.Bool.{IsTrue}
-use Rattle.um_keeper.specs.Keepers.{disk_in, has_failed}
+use Rattle.um_keeper.specs.Keepers.{disk_in, layout_in, has_failed}
+use Rattle.um_manager.proofs.Beginning.{opened_place}
 use Rattle.um_manager.specs.Places.{Place, place_in}
 use Rattle.um_manager.specs.Turns.{now_in}
 use Rattle.um_serve.specs.Rounds.{Round, trust, Serves, IsRound, served}
 use Rattle.um_serve.proofs.JoinLaws.{round_less, serves_less, joined}
+use Rattle.um_serve.proofs.LifeLaws.{rounds_live_on}
 use Rattle.um_serve.proofs.RoundLaws.{round_of, last_of, same_place, same_failed, all_rounds, last_round}
 use Rattle.um_manager.proofs.Placing.{counted_ok, works}
 use Rattle.um_sector.specs.Refused.{CountsDevice}
@@ -128,3 +130,15 @@ returns-in-Err-clause-serves g c =
     (record { children = λ h. h; calls = c.round.ensures.whole; gate = λ h. h; events = c.round.ensures.events; clock = λ h. h; moments = c.round.ensures.moments })
     inv.done.2 ends in
     (inv.done.0 ++ last.0, omega (arith, inv.done.1, last.1, c.loop-test.true, length-append inv.done.0 last.0), rounds)
+
+pub returns-clause-life : goal.returns-clause-life
+returns-clause-life g c = λ working.
+    let k = c.args.manager.now.keeper in
+    let all = returns-clause-serves g c in
+    rounds_live_on _ (layout_in k) (g.D.Disk.honest (disk_in k)) all.0 (opened_place (sym k.holds.size_is) refl refl working) all.2
+
+pub returns-in-Err-clause-life : goal.returns-in-Err-clause-life
+returns-in-Err-clause-life g c = λ working.
+    let k = c.args.manager.now.keeper in
+    let all = returns-in-Err-clause-serves g c in
+    rounds_live_on _ (layout_in k) (g.D.Disk.honest (disk_in k)) all.0 (opened_place (sym k.holds.size_is) refl refl working) all.2
