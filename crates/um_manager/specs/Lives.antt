@@ -68,6 +68,7 @@ EachWasNext (goes reply actions step run) = All WasNext (begun_in step) × EachW
 
 -- What outlives all stops, told by one image that the last of them leaves.
 pub record Outlives (layout : Layout) (lives : List Life) (calls : List Call) (image : Image) : Type 0 where
+  -- what was kept of all that was offered, and the state to which it leads
   pub kept : List Input
   pub state : State
   -- the image is a store of the state to which one run comes, from the empty state over a beginning of what was offered

@@ -113,7 +113,9 @@ LivesOn layout on result a b =
 
 -- What is taken for granted of all lives of managers over one store, up to the last stop.
 pub record Premises (layout : Layout) (lives : List Life) (stop : Past) (calls : List Call) : Type 0 where
+  -- what is relied on
   pub on : Reliance
+  -- the disk as the store was made on it, and what was asked of the children before
   pub made : Past
   pub first : List Call
   -- the disk does what it answers
