@@ -51,9 +51,9 @@ module _ (trust : Trust) (layout : Layout) (honest : Bool) (sure : IsTrue honest
   rounds_continue offered (r ∷ rs) result x y lived (inr (last, stops)) = last_continues offered r result x y lived stops
 
 -- each life goes on with rounds
-pub rounds_live_on : (trust : Trust) (layout : Layout) (honest : Bool) (rs : List Round) {at : Place} {result : Result Unit Refusal} {x y : Served}
+pub rounds_live_on : (trust : Trust) (layout : Layout) (honest : Bool) (rs : List Round) (x y : Served) {at : Place} {result : Result Unit Refusal}
     → at ≡ place_on layout (relying honest trust.children trust.calls) → Serves trust at rs result x y
     → LivesOn layout (relying honest trust.children trust.calls) result x.now y.now
-rounds_live_on trust layout honest rs {result = result} {x = x} {y = y} same serves = λ sure children calls disk before offered lived.
+rounds_live_on trust layout honest rs x y {result = result} same serves = λ sure children calls disk before offered lived.
     rounds_continue trust layout honest sure children calls disk before offered rs result x y lived
     (subst (λ (p : Place). Serves trust p rs result x y) same serves)

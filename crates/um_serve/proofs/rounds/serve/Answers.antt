@@ -133,12 +133,26 @@ returns-in-Err-clause-serves g c =
 
 pub returns-clause-life : goal.returns-clause-life
 returns-clause-life g c = λ working.
-    let k = c.args.manager.now.keeper in
+    let D = g.D.Disk in
+    let first = c.args.manager.now.keeper in
+    let last = c.loop.manager.keeper in
+    let begun = served (g.G.Gate.past c.args.gate.now.gate) (g.M.Moments.given c.args.clock.now) c.args.gate.now.backlog c.args.gate.now.was_busy c.args.gate.now.turned
+    (now_in first (g.C.Children.past c.args.manager.now.children) c.args.manager.now.marks c.args.manager.now.sessions.items (D.past (disk_in first))) in
+    let ended = served (g.G.Gate.past c.loop.gate.gate) (g.M.Moments.given c.loop.clock) c.loop.gate.backlog c.loop.gate.was_busy c.loop.gate.turned
+    (now_in last (g.C.Children.past c.loop.manager.children) c.loop.manager.marks c.loop.manager.sessions.items (D.past (disk_in last))) in
+    let known = trust (g.C.Children.honest c.args.manager.now.children) (g.C.Children.whole c.loop.manager.children) (g.G.Gate.honest c.args.gate.now.gate) (g.G.Gate.whole c.loop.gate.gate) (g.M.Moments.honest c.args.clock.now) (g.M.Moments.whole c.loop.clock) in
     let all = returns-clause-serves g c in
-    rounds_live_on _ (layout_in k) (g.D.Disk.honest (disk_in k)) all.0 (opened_place (sym k.holds.size_is) refl refl working) all.2
+    rounds_live_on known (layout_in first) (D.honest (disk_in first)) all.0 begun ended (opened_place (sym first.holds.size_is) refl refl working) all.2
 
 pub returns-in-Err-clause-life : goal.returns-in-Err-clause-life
 returns-in-Err-clause-life g c = λ working.
-    let k = c.args.manager.now.keeper in
+    let D = g.D.Disk in
+    let first = c.args.manager.now.keeper in
+    let m = c.round.new.manager in
+    let begun = served (g.G.Gate.past c.args.gate.now.gate) (g.M.Moments.given c.args.clock.now) c.args.gate.now.backlog c.args.gate.now.was_busy c.args.gate.now.turned
+    (now_in first (g.C.Children.past c.args.manager.now.children) c.args.manager.now.marks c.args.manager.now.sessions.items (D.past (disk_in first))) in
+    let ended = served (g.G.Gate.past c.round.new.self.gate) (g.M.Moments.given c.round.new.clock) c.round.new.self.backlog c.round.new.self.was_busy c.round.new.self.turned
+    (now_in m.keeper (g.C.Children.past m.children) m.marks m.sessions.items (D.past (disk_in m.keeper))) in
+    let later = trust (g.C.Children.honest c.args.manager.now.children) (g.C.Children.whole m.children) (g.G.Gate.honest c.args.gate.now.gate) (g.G.Gate.whole c.round.new.self.gate) (g.M.Moments.honest c.args.clock.now) (g.M.Moments.whole c.round.new.clock) in
     let all = returns-in-Err-clause-serves g c in
-    rounds_live_on _ (layout_in k) (g.D.Disk.honest (disk_in k)) all.0 (opened_place (sym k.holds.size_is) refl refl working) all.2
+    rounds_live_on later (layout_in first) (D.honest (disk_in first)) all.0 begun ended (opened_place (sym first.holds.size_is) refl refl working) all.2
