@@ -25,7 +25,7 @@ use Rattle.um_manager.specs.declared.script.Step.{Step}
 -- a life has come behind turns that ended
 turns_come : (place : Place) (h w : Bool) (steps : List Step) (a b : Now) (turns : AllTurned place h w steps a b) → place.size ≡ body_limit place.layout
     → HasCome place.layout a.state (all_offers turns) b.state
-turns_come place h w steps a b no_turn on more image m = m
+turns_come place h w steps a b no_turn on = λ more image m. m
 turns_come place h w steps a b (and_turn {step} {steps = later} {mid = mid} turn turns) on =
     come_on place.layout a.state mid.state b.state (offers (offered_in turn) turn.answers) (all_offers turns)
     (answered_come place.layout a.state mid.state (offered_in turn) turn.answers

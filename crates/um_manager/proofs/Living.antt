@@ -29,7 +29,7 @@ use Rattle.um_wire.specs.declared.refusal.Refusal.{Refusal}
 use Rattle.um_manager.proofs.Beginning.{boot_then, opening_left}
 use Rattle.um_manager.proofs.Outliving.{none_new, new_both, new_front, new_longer, HasStores, AreStarted, ComesFrom, Leads, MayLead, outlives}
 use Rattle.um_manager.specs.Lives.{Life, IsMeanwhile, Outlives}
-use Rattle.um_manager.specs.Living.{offered_in, offers_of_opening, boot_untold, untold_of_opening, untold_of_refused, Reliance, place_of, HasLived, opens, turns, waits, IsLife, behind, in_turn, in_opening, in_refused, Premises}
+use Rattle.um_manager.specs.Living.{offered_in, offers_of_opening, boot_untold, untold_of_opening, untold_of_refused, Reliance, place_on, HasLived, opens, turns, waits, IsLife, behind, in_turn, in_opening, in_refused, Premises}
 use Rattle.um_manager.specs.Opening.{Opened, Began, Ended, IsRefused, untaken, taken_up, unbooted, unadopted, IsOfOpening, adoptions, boot_at}
 use Rattle.um_manager.specs.Orders.{signals}
 use Rattle.um_manager.specs.Places.{Place, place}
@@ -115,7 +115,7 @@ record Stood (layout : Layout) (disk : Past) (before : List Call) (offered : Lis
 
 module _ (layout : Layout) (on : Reliance) (sure : IsTrue on.disk) (honest : IsTrue on.children) (whole : IsTrue on.history) where
   opened_stood : (disk : Past) (before : List Call) {moment : ℕ} {boot : List ℕ} {count sectors : ℕ} {b : Now}
-      (opened : Opened (place_of layout on) on.children on.history moment boot count sectors disk before b) → Stood layout disk before (offers_of_opening opened) b
+      (opened : Opened (place_on layout on) on.children on.history moment boot count sectors disk before b) → Stood layout disk before (offers_of_opening opened) b
   opened_stood disk before {moment} {boot} {b = b} opened =
       let a = opened.a in
       let began = opened.began in
@@ -148,7 +148,7 @@ module _ (layout : Layout) (on : Reliance) (sure : IsTrue on.disk) (honest : IsT
 
   -- a turn that ended Ok goes on with it
   turned_stood : (disk : Past) (before : List Call) (offered : List Offer) {moment : ℕ} {pieces : List Piece} {a b : Now} → Stood layout disk before offered a
-      → (turned : Turned (place_of layout on) on.children on.history (Ok tt) moment pieces a b)
+      → (turned : Turned (place_on layout on) on.children on.history (Ok tt) moment pieces a b)
       → Stood layout disk before (offered ++ offers (offered_in turned) turned.answers) b
   turned_stood disk before offered {a = a} {b = b} stood turned =
       let ok = store_ok turned.store turned.behind turned.result_is in
@@ -231,7 +231,7 @@ module _ (layout : Layout) (on : Reliance) (sure : IsTrue on.disk) (honest : IsT
 
   -- a stop in a turn before its store answered
   turn_leads : (disk stop : Past) (before calls : List Call) (offered : List Offer) {result : Result Unit Refusal} {moment : ℕ} {pieces : List Piece} (a b : Now)
-      → HasLived layout on disk before offered a → (turned : Turned (place_of layout on) on.children on.history result moment pieces a b)
+      → HasLived layout on disk before offered a → (turned : Turned (place_on layout on) on.children on.history result moment pieces a b)
       → IsMeanwhile a.disk b.disk stop → orders calls ≡ []
       → MayLead layout (record { disk = disk; before = before; offers = offered ++ untold_offers (offered_in turned) turned.answers; stop = stop; calls = a.past ++ calls })
   turn_leads disk stop before calls offered a b lived turned while none stores read = record {
@@ -255,7 +255,7 @@ module _ (layout : Layout) (on : Reliance) (sure : IsTrue on.disk) (honest : IsT
       untold = untold_offers (offered_in turned) turned.answers
 
       here : (image : Image) → IsImage stop image → MayLeave layout a.state untold image
-      here image there = begun_leaves layout a.state (offered_in turned) turned.answers image (none_again (place_of layout on) sure a.state b.state (offered_in turned) turned.answers turned.answered)
+      here image there = begun_leaves layout a.state (offered_in turned) turned.answers image (none_again (place_on layout on) sure a.state b.state (offered_in turned) turned.answers turned.answered)
           (at_moment a.disk b.disk stop (IsBegun layout a.state (taken (offered_in turned) turned.answers)) (turned.left sure) while image there)
 
   -- a stop before any order: where each image comes from
@@ -305,7 +305,7 @@ module _ (layout : Layout) (on : Reliance) (sure : IsTrue on.disk) (honest : IsT
       booted = Ok (Done, [])
 
   opening_leads : (disk stop : Past) (before calls : List Call) {moment : ℕ} {boot : List ℕ} {count sectors : ℕ} (b : Now)
-      (opened : Opened (place_of layout on) on.children on.history moment boot count sectors disk before b) → IsMeanwhile disk b.disk stop → orders calls ≡ []
+      (opened : Opened (place_on layout on) on.children on.history moment boot count sectors disk before b) → IsMeanwhile disk b.disk stop → orders calls ≡ []
       → MayLead layout (record { disk = disk; before = before; offers = untold_of_opening opened; stop = stop; calls = before ++ calls })
   opening_leads disk stop before calls {moment} {boot} b opened while =
       early_leads disk stop before calls opened.a.state (untold_of_opening opened) (boot_at moment boot ∷ taken inputs answers) (opened.found sure).stands
@@ -320,7 +320,7 @@ module _ (layout : Layout) (on : Reliance) (sure : IsTrue on.disk) (honest : IsT
       answers = opened.began.adopted.answers
 
       stay : NoReopen answers
-      stay = none_again (place_of layout on) sure opened.began.mid.state b.state inputs answers opened.began.adopted.answered
+      stay = none_again (place_on layout on) sure opened.began.mid.state b.state inputs answers opened.began.adopted.answered
 
   -- a stop in an opening that is refused
   refused_leads : (disk left stop : Past) (before told calls : List Call) {moment : ℕ} {boot : List ℕ} {sectors : ℕ}

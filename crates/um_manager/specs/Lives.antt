@@ -24,6 +24,10 @@ pub record Life : Type 0 where
   pub stop : Past  -- the disk as it stopped
   pub calls : List Call  -- what was asked of the children by then, all that went before included
 
+-- the life of these
+abbrev pub life_of : (disk : Past) (before : List Call) (offers : List Offer) (stop : Past) (calls : List Call) → Life
+life_of disk before offers stop calls = record { disk = disk; before = before; offers = offers; stop = stop; calls = calls }
+
 -- the disk at some moment of the calls that led from old to new
 pub record IsMeanwhile (old new at : Past) : Type 0 where
   pub calls : List disk.Call
@@ -64,6 +68,7 @@ EachWasNext (goes reply actions step run) = All WasNext (begun_in step) × EachW
 
 -- What outlives all stops, told by one image that the last of them leaves.
 pub record Outlives (layout : Layout) (lives : List Life) (calls : List Call) (image : Image) : Type 0 where
+  -- what was kept of all that was offered, and the state to which it leads
   pub kept : List Input
   pub state : State
   -- the image is a store of the state to which one run comes, from the empty state over a beginning of what was offered

@@ -2,7 +2,7 @@
 ghost use Rattle.std.specs.Prelude.{◌≡◌, ℕ, List, [], Bool, false, Some, Result, Ok, IsTrue, slice_get};
 ghost use Rattle.um_manager.specs.Clients.{AllTurned, StaysOpen, HasItsOwn, HasHad, IsServed};
 ghost use Rattle.um_manager.specs.Crashes.{all_offers, IsLeft};
-ghost use Rattle.um_manager.specs.Living.{HasLived, Continues, Premises, Reliance, place_of, offered_in};
+ghost use Rattle.um_manager.specs.Living.{Premises, offered_in};
 ghost use Rattle.um_manager.specs.Lives.{Life, Outlives};
 ghost use Rattle.um_manager.specs.Places.{Place};
 ghost use Rattle.um_manager.specs.Scripts.{Runs};
@@ -11,7 +11,6 @@ ghost use Rattle.um_manager.specs.declared.script.Step.{Step};
 ghost use Rattle.um_manager.specs.declared.pieces.Piece.{Piece};
 ghost use Rattle.um_model.specs.Children.{Call};
 ghost use Rattle.um_model.specs.Disk.{Image, Past, IsImage, During};
-ghost use Rattle.um_model.specs.Lives.{Offer};
 ghost use Rattle.um_model.specs.Sessions.{Session};
 ghost use Rattle.um_model.specs.Store.{body_limit};
 ghost use Rattle.um_model.specs.declared.layout.Layout.{Layout};
@@ -43,14 +42,6 @@ pub fn what_a_crash_leaves()
         (result : Result Unit Refusal) (moment : ℕ) (pieces : List Piece)
         → place.size ≡ body_limit place.layout → IsTrue place.trusted → (next : Turned place honest still result moment pieces b c)
         → During b.disk c.disk (IsLeft place.layout a.state (all_offers turns) (offered_in next) next.answers) }
-{}
-
-/// A life goes on with a script: behind one that ends Ok, or whose last turn found no memory, it stands where that ended; where its store refused
-/// the last turn, it has stopped there.
-pub fn a_script_goes_on_with_a_life()
-    ensures { (layout : Layout) (on : Reliance) (disk : Past) (before : List Call) (offered : List Offer) (steps : List Step) (result : Result Unit Refusal)
-        (a b : Now) → IsTrue on.disk → IsTrue on.children → IsTrue on.history → HasLived layout on disk before offered a
-        → Runs (place_of layout on) on.children on.history steps result a b → Continues layout on disk before offered result b }
 {}
 
 /// A service manager outlives crashes. However many lives managers have over one store, each stopped at any moment of any call and the next one

@@ -1,4 +1,4 @@
-//! Lives of managers over one store, each stopped by a crash within a turn, and the run that they are together.
+//! Lives of managers over one store, each stopped by a crash within a turn or an opening, and the run that they are together.
 use crate::asserts::same;
 use crate::managers::{
     DONE, PUT, RELOAD, SHOW, START, boot, frames, has_output, new_store, pieces, started,
@@ -63,6 +63,23 @@ fn turns(
     manager.run_script(&steps)
 }
 
+/// The disk and the children once more.
+fn copies(
+    rt: &(impl AllocGlobal + Abort),
+    disk: &MemDisk,
+    children: &FakeChildren,
+) -> (MemDisk, FakeChildren) {
+    let disk = disk.crash(rt.alloc(), &[]).expect(rt, "no memory");
+    let children = children.copy(rt.alloc()).expect(rt, "no memory");
+    (disk, children)
+}
+
+/// What a crash leaves of the disk, with what is picked of the sectors that weren't synced.
+fn left(rt: &(impl AllocGlobal + Abort), disk: Fuse<MemDisk>, picks: &[usize]) -> MemDisk {
+    let crashed = disk.into_inner().crash(rt.alloc(), picks);
+    crashed.expect(rt, "no memory")
+}
+
 /// A life: these requests are answered, and then the disk fails at the sync of the last one's record, of which the crash keeps what is picked.
 fn life(
     rt: &(impl AllocGlobal + Abort),
@@ -75,8 +92,7 @@ fn life(
 ) -> (MemDisk, FakeChildren) {
     let sent = frames(rt, requests);
     let played = [sent.as_slice(), &[], &[], &[]];
-    let same_disk = disk.crash(rt.alloc(), &[]).expect(rt, "no memory");
-    let same_children = children.copy(rt.alloc()).expect(rt, "no memory");
+    let (same_disk, same_children) = copies(rt, &disk, &children);
     let mut counting = opened(rt, same_disk, same_children, 0);
     turns(rt, &mut counting, &played).expect(rt, "refused");
     let (counted, _) = counting.into_parts();
@@ -88,38 +104,61 @@ fn life(
     let torn = turns(rt, &mut manager, &[frames(rt, &[last]).as_slice()]);
     same(rt, matches!(torn, Err(Refusal::Device)), true);
     let (disk, children) = manager.into_parts();
-    let left = disk.into_inner().crash(rt.alloc(), picks);
-    (left.expect(rt, "no memory"), children)
+    (left(rt, disk, picks), children)
+}
+
+/// A life that ends in its opening: the disk fails at the last call of that, the sync of the snapshot's header, of which the crash keeps what is
+/// picked.
+fn opening(
+    rt: &(impl AllocGlobal + Abort),
+    disk: MemDisk,
+    children: FakeChildren,
+    picks: &[usize],
+) -> (MemDisk, FakeChildren) {
+    let (same_disk, same_children) = copies(rt, &disk, &children);
+    let (counted, _) = opened(rt, same_disk, same_children, 0).into_parts();
+    let disk = Fuse::new(disk, counted.calls());
+    match Manager::open(rt.alloc(), disk, children, boot(rt), Moment::FIRST) {
+        Ok(_) => rt.abort(),
+        Err((refusal, disk, children)) => {
+            same(rt, matches!(refusal, Refusal::Device), true);
+            (left(rt, disk, picks), children)
+        }
+    }
 }
 
 /// By hand: what is kept is a put, a reload and a start, the put that wasn't answered and whose record stood there, and then a reload and a start.
-/// The stop whose record didn't stand there is none of them. So both units run, under 1 and 2, and no number was started twice.
+/// The stop whose record didn't stand there is none of them, and the third opening offers nothing that has an effect, whether its snapshot stood
+/// there or not. So both units run, under 1 and 2, and no number was started twice.
 #[test]
 fn three_lives_are_one_run(rt: HostRuntime) {
-    let children = FakeChildren::new(rt.alloc());
-    let (disk, children) = life(
-        &rt,
-        new_store(&rt),
-        children,
-        &[PUT, RELOAD, START],
-        &[DONE, DONE, DONE],
-        PUT_B,
-        &[1],
-    );
-    let (disk, children) = life(
-        &rt,
-        disk,
-        children,
-        &[RELOAD, START_B],
-        &[DONE, DONE],
-        STOP,
-        &[0],
-    );
-    let mut manager = opened(&rt, disk, children, 0);
-    same(&rt, manager.adopted(), 2);
-    let sent = frames(&rt, &[SHOW, SHOW_B]);
-    turns(&rt, &mut manager, &[sent.as_slice(), &[]]).expect(&rt, "refused");
-    has_output(&rt, &mut manager, 0, &[A_RUNS, B_RUNS]);
-    same(&rt, manager.state().tree().len(), 2);
-    same(&rt, started(&rt, manager).as_slice(), [1, 2].as_slice());
+    for picks in &[[0], [1]] {
+        let children = FakeChildren::new(rt.alloc());
+        let (disk, children) = life(
+            &rt,
+            new_store(&rt),
+            children,
+            &[PUT, RELOAD, START],
+            &[DONE, DONE, DONE],
+            PUT_B,
+            &[1],
+        );
+        let (disk, children) = life(
+            &rt,
+            disk,
+            children,
+            &[RELOAD, START_B],
+            &[DONE, DONE],
+            STOP,
+            &[0],
+        );
+        let (disk, children) = opening(&rt, disk, children, picks);
+        let mut manager = opened(&rt, disk, children, 0);
+        same(&rt, manager.adopted(), 2);
+        let sent = frames(&rt, &[SHOW, SHOW_B]);
+        turns(&rt, &mut manager, &[sent.as_slice(), &[]]).expect(&rt, "refused");
+        has_output(&rt, &mut manager, 0, &[A_RUNS, B_RUNS]);
+        same(&rt, manager.state().tree().len(), 2);
+        same(&rt, started(&rt, manager).as_slice(), [1, 2].as_slice());
+    }
 }

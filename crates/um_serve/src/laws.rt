@@ -2,19 +2,13 @@
 ghost use Rattle.std.specs.Prelude.{◌≡◌, ◌<◌, ◌≤◌, ◌+◌, ◌-◌, ◌++◌, ℕ, List, length, Bool, false, IsTrue, Option, Some, Result, Ok, slice_get};
 ghost use Rattle.um_backlog.specs.Backlog.{Waits};
 ghost use Rattle.um_manager.specs.Clients.{HasHad, IsServed};
-ghost use Rattle.um_manager.specs.Living.{HasLived, Continues, place_of};
 ghost use Rattle.um_manager.specs.Places.{Place};
 ghost use Rattle.um_manager.specs.Turns.{Now, Turned};
 ghost use Rattle.um_manager.specs.declared.pieces.Piece.{Piece};
-ghost use Rattle.um_model.specs.Children.{Call};
-ghost use Rattle.um_model.specs.Disk.{Past};
-ghost use Rattle.um_model.specs.Lives.{Offer};
 ghost use Rattle.um_model.specs.Machine.{State};
 ghost use Rattle.um_model.specs.Service.{state_of_unit};
 ghost use Rattle.um_model.specs.Sessions.{Session};
-ghost use Rattle.um_model.specs.declared.layout.Layout.{Layout};
 ghost use Rattle.um_serve.specs.Clients.{AllServed, StaysOpen, GetsItsOwn, HasGot, IsTakenOf};
-ghost use Rattle.um_serve.specs.Lives.{relied};
 ghost use Rattle.um_serve.specs.Rounds.{Round, Trust, IsWithin, Served, Serves, IsCount};
 ghost use Rattle.um_serve.specs.Sleep.{has_changed, slept, IsSleptFor};
 ghost use Rattle.um_wire.specs.declared.refusal.Refusal.{Refusal};
@@ -25,15 +19,6 @@ pub fn rounds_join()
     ensures { (all rest : Trust) (place : Place) (first more : List Round) (result : Result Unit Refusal) (limit later : ℕ) (x mid y : Served) → IsWithin rest all
         → Serves all place first (Ok tt) x mid → IsCount (Ok tt) (length first) limit → Serves rest place more result mid y → IsCount result (length more) later
         → Serves rest place (first ++ more) result x y × IsCount result (length (first ++ more)) (limit + later) }
-{}
-
-/// A life of the manager goes on with rounds: behind ones that end Ok, or of which the last found no memory, it stands where they ended; where its
-/// store refused the last one's turn, it has stopped there.
-pub fn rounds_go_on_with_a_life()
-    ensures { (trust : Trust) (layout : Layout) (honest : Bool) (disk : Past) (before : List Call) (offered : List Offer) (rs : List Round)
-        (result : Result Unit Refusal) (x y : Served) → IsTrue honest → IsTrue trust.children → IsTrue trust.calls
-        → HasLived layout (relied trust honest) disk before offered x.now → Serves trust (place_of layout (relied trust honest)) rs result x y
-        → Continues layout (relied trust honest) disk before offered result y.now }
 {}
 
 /// Each client gets its own bytes. Rounds that end Ok are one turn each; and for each connection that isn't told closed meanwhile, whatever

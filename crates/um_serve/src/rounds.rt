@@ -5,7 +5,8 @@ ghost use Rattle.um_gate.specs.Frames.{KeepsClock, KeepsGate};
 ghost use Rattle.um_manager.specs.Frames.{Frame};
 ghost use Rattle.um_backlog.specs.Backlog.{nothing, HandsAt};
 ghost use Rattle.um_gate.specs.Events.{Event, Logs};
-ghost use Rattle.um_keeper.specs.Keepers.{disk_in, state_in, has_failed, IsSamePlace};
+ghost use Rattle.um_keeper.specs.Keepers.{disk_in, state_in, layout_in, has_failed, IsSamePlace};
+ghost use Rattle.um_manager.specs.Living.{LivesOn, relying};
 ghost use Rattle.um_manager.specs.Places.{place_in};
 ghost use Rattle.um_manager.specs.Turns.{now_in};
 ghost use Rattle.um_sector.specs.Refused.{CountsDevice, IsLost};
@@ -228,6 +229,10 @@ pub fn serve<D: Disk, C: Children, G: Gate, M: Moments>(
         (now_in manager.old.keeper (C.past manager.old.children) manager.old.marks manager.old.sessions.items (D.past (disk_in manager.old.keeper))))
         (served (G.past gate.new.gate) (M.given clock.new) gate.new.backlog gate.new.was_busy gate.new.turned
         (now_in manager.new.keeper (C.past manager.new.children) manager.new.marks manager.new.sessions.items (D.past (disk_in manager.new.keeper)))) }
+    ensures life { has_failed manager.old.keeper ≡ false → LivesOn (layout_in manager.old.keeper)
+        (relying (D.honest (disk_in manager.old.keeper)) (C.honest manager.old.children) (C.whole manager.new.children)) result
+        (now_in manager.old.keeper (C.past manager.old.children) manager.old.marks manager.old.sessions.items (D.past (disk_in manager.old.keeper)))
+        (now_in manager.new.keeper (C.past manager.new.children) manager.new.marks manager.new.sessions.items (D.past (disk_in manager.new.keeper))) }
     ensures refused { IfErr result (λ e. IsLost e ⊎ (e ≡ Refusal.Reopen)) }
     ensures device { CountsDevice result (D.failures (disk_in manager.old.keeper)) (D.failures (disk_in manager.new.keeper)) }
     ensures reopen { result ≢ Err Refusal.NoMemory → (result ≡ Err Refusal.Reopen) ↔ ((has_failed manager.old.keeper ≡ true) × (limit ≢ 0)) }
