@@ -45,7 +45,7 @@ returns-clause-turns g c =
           tick (count ∙ sym (length-map c.put.new.inputs.items input_of)) took c.submit-submitted.ensures.submits
           (λ h w. subst (λ units. LetGo units grown after) (c.units-2.ensures ∙ ap (λ s. s.units) c.state-2.ensures)
           (c.forget_recorded.ensures.let_go (subst IsTrue (sym c.submit-submitted.ensures.frame.children.honest) h) w))
-          (λ e is. subst (λ r. IfErr r (λ x. after ≡ grown)) is c.forget_recorded.ensures.kept) rest pays c.hear.ensures.gate.honest c.submit-submitted.ensures.frame.children.whole c.forget_recorded.ensures.children.whole),
+          (λ e is. subst (λ r. IfErr r (λ x. after ≡ grown)) is c.forget_recorded.ensures.kept) rest pays c.hear.ensures.children.honest c.submit-submitted.ensures.frame.children.whole c.forget_recorded.ensures.children.whole),
     )
 
 pub returns-clause-refused : goal.returns-clause-refused
