@@ -14,6 +14,7 @@ use Rattle.um_model.specs.Lives as lives
 use Rattle.um_model.specs.Machine.{State, Input, Run, rests, goes}
 use Rattle.um_model.specs.Machine as machine
 use Rattle.um_model.proofs.StandsLaws.{one_state}
+use Rattle.um_model.specs.Service.{Action}
 use Rattle.um_model.specs.Stands.{StandsFor, IsStoreOf}
 use Rattle.um_model.specs.Store.{body_limit}
 use Rattle.um_model.specs.declared.layout.Layout.{Layout}
@@ -200,6 +201,11 @@ pub begun_leaves : (layout : Layout) (s : State) (inputs : List Input) (answers 
 begun_leaves layout s inputs answers image stay begun = some_taken layout s begun.state inputs answers begun.count image stay begun.run begun.store
 
 -- ---- calls of a keeper
+
+-- a step of the size that a store of the layout has
+pub of_size : {size n : ℕ} {s t : State} {input : Input} {reply : machine.Reply} {actions : List Action} → size ≡ n → machine.Step size s input reply actions t
+    → machine.Step n s input reply actions t
+of_size {s} {t} {input} {reply} {actions} same step = subst (λ n. machine.Step n s input reply actions t) same step
 
 -- A list of inputs that is offered is a part of a life.
 pub list_goes_on : (layout : Layout) (s t u : State) (before : List Offer) (inputs : List Input) (answers : List Answer) (old new : Past) (failed : Bool)

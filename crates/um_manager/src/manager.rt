@@ -1,5 +1,7 @@
 ghost use Rattle.std.specs.Prelude.{◌≡◌, ◌≢◌, ◌⊎◌, ◌↔◌, ℕ, List, [], length, true, false, Err, IsTrue, IfOk, IfErr, slice_get};
 ghost use Rattle.std.specs.List.{AllByRecursion};
+ghost use Rattle.um_children.specs.Frames.{KeepsChildren};
+ghost use Rattle.um_manager.specs.Frames.{Frame};
 ghost use Rattle.um_keeper.specs.Keepers.{disk_in, state_in, size_in, layout_in, has_failed, opened_in, IsSamePlace};
 ghost use Rattle.um_keeper.specs.Opening.{IsRead, IsSomeStore, IsUntaken, IsUnwritten};
 ghost use Rattle.um_manager.specs.Connections.{IsNew, HoldsFrameAt};
@@ -76,8 +78,7 @@ impl<D: Disk, C: Children> Manager<D, C> {
         ensures anew { IfOk result (λ m. AllByRecursion IsNew m.sessions.items) }
         ensures working { IfOk result (λ m. has_failed m.keeper ≡ false) }
         ensures sized { IfOk result (λ m. size_in m.keeper ≡ body_limit (layout_in m.keeper)) }
-        ensures same { IfOk result (λ m. (D.honest (disk_in m.keeper) ≡ D.honest disk) × (C.honest m.children ≡ C.honest children)) }
-        ensures whole { IfOk result (λ m. IsTrue (C.whole m.children) → IsTrue (C.whole children)) }
+        ensures same { IfOk result (λ m. (D.honest (disk_in m.keeper) ≡ D.honest disk) × KeepsChildren C.Children children m.children) }
         ensures err { IfErr result (λ e. IsTrue (D.honest disk) → (layout : Layout) → Images (D.past disk) (IsSomeStore layout)
             → During (D.past disk) (D.past e.1)
             (IsOfRefused layout moment boot (D.size disk) (D.past disk) (C.honest children) (C.whole e.2) (C.past children) (C.past e.2))) }
@@ -95,8 +96,7 @@ impl<D: Disk, C: Children> Manager<D, C> {
             ⊎ ((e.0 ≢ Refusal.Device) × (D.failures e.1 ≡ D.failures disk))) }
         ensures quiet { IfOk result (λ m. D.failures (disk_in m.keeper) ≡ D.failures disk) }
         ensures early { IfErr result (λ e. e.0 ≢ Refusal.Device → C.past e.2 ≡ C.past children) }
-        ensures back { IfErr result (λ e. (D.honest e.1 ≡ D.honest disk) × (C.honest e.2 ≡ C.honest children)) }
-        ensures whole_back { IfErr result (λ e. IsTrue (C.whole e.2) → IsTrue (C.whole children)) }
+        ensures back { IfErr result (λ e. (D.honest e.1 ≡ D.honest disk) × KeepsChildren C.Children children e.2) }
     {
         let mut children = children;
         let mut keeper = match Keeper::open(alloc, disk) {
@@ -138,11 +138,7 @@ impl<D: Disk, C: Children> Manager<D, C> {
         ensures refused { IfErr result (λ e. IsLost e ⊎ (e ≡ Refusal.Reopen)) }
         ensures device { CountsDevice result (D.failures (disk_in self.old.keeper)) (D.failures (disk_in self.new.keeper)) }
         ensures reopen { result ≢ Err Refusal.NoMemory → (result ≡ Err Refusal.Reopen) ↔ (has_failed self.old.keeper ≡ true) }
-        ensures whole { IsTrue (C.whole self.new.children) → IsTrue (C.whole self.old.children) }
-        ensures honest { C.honest self.new.children ≡ C.honest self.old.children }
-        ensures place { IsSamePlace self.old.keeper self.new.keeper }
-        ensures disk { D.honest (disk_in self.new.keeper) ≡ D.honest (disk_in self.old.keeper) }
-        ensures failed { (has_failed self.new.keeper ≡ true) ↔ ((has_failed self.old.keeper ≡ true) ⊎ (result ≡ Err Refusal.Device)) }
+        ensures frame { Frame D.Disk C.Children result self.old.keeper self.new.keeper self.old.children self.new.children }
         ensures adopted { self.new.adopted ≡ self.old.adopted }
     {
         turn(
@@ -169,11 +165,7 @@ impl<D: Disk, C: Children> Manager<D, C> {
         ensures refused { IfErr result (λ e. IsLost e ⊎ (e ≡ Refusal.Reopen)) }
         ensures device { CountsDevice result (D.failures (disk_in self.old.keeper)) (D.failures (disk_in self.new.keeper)) }
         ensures reopen { result ≢ Err Refusal.NoMemory → (result ≡ Err Refusal.Reopen) ↔ ((has_failed self.old.keeper ≡ true) × (steps.now ≢ [])) }
-        ensures whole { IsTrue (C.whole self.new.children) → IsTrue (C.whole self.old.children) }
-        ensures honest { C.honest self.new.children ≡ C.honest self.old.children }
-        ensures place { IsSamePlace self.old.keeper self.new.keeper }
-        ensures disk { D.honest (disk_in self.new.keeper) ≡ D.honest (disk_in self.old.keeper) }
-        ensures failed { (has_failed self.new.keeper ≡ true) ↔ ((has_failed self.old.keeper ≡ true) ⊎ (result ≡ Err Refusal.Device)) }
+        ensures frame { Frame D.Disk C.Children result self.old.keeper self.new.keeper self.old.children self.new.children }
         ensures adopted { self.new.adopted ≡ self.old.adopted }
     {
         run(

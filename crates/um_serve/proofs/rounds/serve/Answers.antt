@@ -59,7 +59,7 @@ loop-preserved g c =
       moments = λ h. h;
     }) p.1) in
     let rounds = joined known later start inv.done.0 (p.0 ∷ []) (Ok tt) begun before after
-    (record { children = λ h. h; calls = c.round.ensures.whole; gate = λ h. h; events = c.round.ensures.events; clock = λ h. h; moments = c.round.ensures.moments })
+    (record { children = λ h. h; calls = c.round.ensures.gate.whole; gate = λ h. h; events = c.round.ensures.gate.whole; clock = λ h. h; moments = c.round.ensures.clock.whole })
     inv.done.2 (inl (after, round, (inl refl, refl))) in
     let e : length (inv.done.0 ++ p.0 ∷ []) ≡ c.loop.counter + 1 = omega (arith, inv.done.1, length-append inv.done.0 (p.0 ∷ [])) in
     record {
@@ -70,11 +70,11 @@ loop-preserved g c =
       gate = search rules;
       moments = search rules;
       clock = search rules;
-      place = record { layout = c.round.ensures.place.layout ∙ inv.place.layout; size = c.round.ensures.place.size ∙ inv.place.size; opened = c.round.ensures.place.opened ∙ inv.place.opened };
-      disk = c.round.ensures.disk ∙ inv.disk;
+      place = record { layout = c.round.ensures.frame.store.place.layout ∙ inv.place.layout; size = c.round.ensures.frame.store.place.size ∙ inv.place.size; opened = c.round.ensures.frame.store.place.opened ∙ inv.place.opened };
+      disk = c.round.ensures.frame.store.disk ∙ inv.disk;
       failures = counted_ok c.in-Ok.is c.round.ensures.device ∙ inv.failures;
       worked = λ some. sym inv.failed ∙ works (has_failed old) c.in-Ok.is c.round.ensures.reopen;
-      failed = same_failed c.in-Ok.is c.round.ensures.failed ∙ inv.failed;
+      failed = same_failed c.in-Ok.is c.round.ensures.frame.store.failed ∙ inv.failed;
     }
 
 pub returns-clause-reopen : goal.returns-clause-reopen
@@ -127,7 +127,7 @@ returns-in-Err-clause-serves g c =
       moments = λ h. h;
     }) last.2) in
     let rounds = joined known later start inv.done.0 last.0 (Err c.in-Err.refusal) begun before after
-    (record { children = λ h. h; calls = c.round.ensures.whole; gate = λ h. h; events = c.round.ensures.events; clock = λ h. h; moments = c.round.ensures.moments })
+    (record { children = λ h. h; calls = c.round.ensures.gate.whole; gate = λ h. h; events = c.round.ensures.gate.whole; clock = λ h. h; moments = c.round.ensures.clock.whole })
     inv.done.2 ends in
     (inv.done.0 ++ last.0, omega (arith, inv.done.1, last.1, c.loop-test.true, length-append inv.done.0 last.0), rounds)
 

@@ -3,8 +3,7 @@ use Rattle.std.proofs.lemmas.Result.{err_from_is_err_and}
 use Rattle.um_keeper.specs.Answering.{accepted}
 use Rattle.um_keeper.specs.Keepers.{state_in, layout_in, has_failed, disk_in}
 use Rattle.um_keeper.specs.Offers.{GoesOn}
-use Rattle.um_keeper.proofs.Offered.{one_goes_on, refused_goes_on}
-use Rattle.um_model.specs.Machine.{Step}
+use Rattle.um_keeper.proofs.Offered.{of_size, one_goes_on, refused_goes_on}
 use Rattle.um_model.specs.Standing.{Standing}
 use Rattle.um_state.specs.View.{input_of}
 use Rattle.um_keeper.proofs.Results.{err_same}
@@ -21,7 +20,7 @@ returns-clause-life g c s before f h come =
     let taken = c.in_ok-receipt.ensures in
     one_goes_on (layout_in first) s (state_in first) (state_in c.take_step.new.self) before (input_of c.args.input) _ _ _ _ come (λ is. cc)
     (c.take_step.ensures.during h) (λ none. cc)
-    (λ works. accepted (subst (λ n. Step n (state_in first) (input_of c.args.input) _ _ (state_in c.take_step.new.self)) first.holds.size_is taken.ok) taken.accepted)
+    (λ works. accepted (of_size first.holds.size_is taken.ok) taken.accepted)
     (λ works. c.take_step.ensures.stored works h)
 
 pub returns-in_err-receipt-clause-life : goal.returns-in_err-receipt-clause-life
@@ -37,7 +36,7 @@ returns-in_err-receipt-clause-life g c s before f h come =
     (c.take_step.ensures.during h)
     (⊎_elim (λ device. inl device) (λ still. inr (still h)) c.in_err-receipt.ensures.kept)
     (⊎_elim (λ lost. inl lost) (λ other. inr (⊎_elim (λ spent. inl spent)
-    (λ own. inr (own.0, subst (λ n. Step n (state_in first) (input_of c.args.input) _ [] (state_in first)) first.holds.size_is own.1)) other)) c.in_err-receipt.ensures.refused)
+    (λ own. inr (own.0, of_size first.holds.size_is own.1)) other)) c.in_err-receipt.ensures.refused)
     (λ device. c.take_step.ensures.failed.1 (c.in_err-receipt.is ∙ ap Err device))
     (λ works. c.take_step.ensures.stored works h)
     (ap (λ (x : Standing). x.state) c.in_err-receipt.ensures.state)))

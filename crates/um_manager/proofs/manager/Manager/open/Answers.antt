@@ -29,7 +29,7 @@ returns-in-Ok-begin-clause-opened g c =
     let b = now_in l (g.C.Children.past c.begin.new.children) c.in-Ok-begin.field-0.marks [] (D.past (disk_in l)) in
     let began = c.in-Ok-begin.ensures.began in
     subst (λ (p : Place). Opened p (g.C.Children.honest c.args.children) (g.C.Children.whole c.begin.new.children) c.args.moment c.args.boot c.in-Ok-begin.field-0.adopted (D.size c.args.disk) first (g.C.Children.past c.args.children) b)
-    (opened_place c.begin.ensures.place.size c.begin.ensures.place.layout ok.2 ok.0)
+    (opened_place c.begin.ensures.frame.store.place.size c.begin.ensures.frame.store.place.layout ok.2 ok.0)
     (record {
       a = a;
       found = λ t.
@@ -78,8 +78,8 @@ returns-in-Ok-begin-clause-sized g c = c.begin.new.keeper.holds.size_is
 pub returns-in-Ok-begin-clause-read : goal.returns-in-Ok-begin-clause-read
 returns-in-Ok-begin-clause-read g c = λ h.
     let first = seen (g.D.Disk.past c.args.disk) in
-    subst (λ (z : Layout). IsRead z first (opened_in c.begin.new.keeper)) (sym c.begin.ensures.place.layout)
-    (subst (IsRead (layout_in c.in-Ok.keeper) first) (sym c.begin.ensures.place.opened) (c.in-Ok.ensures.opened h))
+    subst (λ (z : Layout). IsRead z first (opened_in c.begin.new.keeper)) (sym c.begin.ensures.frame.store.place.layout)
+    (subst (IsRead (layout_in c.in-Ok.keeper) first) (sym c.begin.ensures.frame.store.place.opened) (c.in-Ok.ensures.opened h))
 
 pub returns-in-Err-begin-clause-refused : goal.returns-in-Err-begin-clause-refused
 returns-in-Err-begin-clause-refused g c = elim c.in-Err-begin.ensures.refused [
