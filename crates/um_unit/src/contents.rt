@@ -45,7 +45,7 @@ fn says(item: &Item<'_>) -> bool
 
 /// The heads and assignments of a file.
 fn said<'t>(source: Source<'t>) -> Source<'t>
-    ensures { (suffix : Option Suffix) → assigned_in suffix (source_of result).reading ≡ assigned_in suffix (source_of source).reading }
+    ensures { (suffix : Option Suffix) → assigned_in suffix (source_of result).reading ≡ assigned_in suffix (source_of source.entry).reading }
 {
     let Source { path, items } = source;
     let mut items = items;
