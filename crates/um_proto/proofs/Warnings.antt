@@ -30,16 +30,16 @@ told_of_file path [] = omega arith
 told_of_file path (w ∷ ws) = omega (arith, told_of_file path ws, sum_by-cons told_bytes (warning_of path w) (map (warning_of path) ws))
 
 -- the bytes of one more file
-pub one_more_file : (before : List FileWarnings) (file : FileWarnings) (bytes each product next : ℕ) → bytes ≤ sum_by told_bytes (warnings_seen before)
-    → each ≡ length (string_bytes file.path) + 8 → product ≡ min (each * length file.warnings.items) (2 ^ 64 - 1) → next ≡ min (bytes + product) (2 ^ 64 - 1)
+pub one_more_file : (before : List FileWarnings) (file : FileWarnings) (bytes each count product next : ℕ) → bytes ≤ sum_by told_bytes (warnings_seen before)
+    → each ≡ length (string_bytes file.path) + 8 → count ≡ length file.warnings.items → product ≡ min (each * count) (2 ^ 64 - 1) → next ≡ min (bytes + product) (2 ^ 64 - 1)
     → next ≤ sum_by told_bytes (warnings_seen (before ++ file ∷ []))
-one_more_file before file bytes each product next low of_each of_product of_next =
+one_more_file before file bytes each count product next low of_each of_count of_product of_next =
     let path = string_bytes file.path in
     let told = sum_by told_bytes (warned_by file) in
-    let here : told ≡ length file.warnings.items * each = told_of_file path file.warnings.items ∙ ap (λ n. length file.warnings.items * n) (sym of_each) in
+    let here : told ≡ count * each = told_of_file path file.warnings.items ∙ ap (λ n. length file.warnings.items * n) (sym of_each) ∙ ap (λ n. n * each) (sym of_count) in
     let all : sum_by told_bytes (warnings_seen (before ++ file ∷ [])) ≡ sum_by told_bytes (warnings_seen before) + told =
     ap (sum_by told_bytes) (sym (flat_map_more warned_by [] before file)) ∙ sum_by-append told_bytes (warnings_seen before) (warned_by file) in
-    let turned : each * length file.warnings.items ≡ length file.warnings.items * each = omega arith in
+    let turned : each * count ≡ count * each = omega arith in
     omega (arith, low, here, all, turned, of_product, of_next)
 
 -- ---- texts
