@@ -106,11 +106,7 @@ fn warning_value(alloc: Global, path: &str, warning: &Warning) -> Result<Value, 
 }
 
 /// Adds the warnings of a file to a list.
-fn add_warnings(
-    alloc: Global,
-    file: &FileWarnings,
-    list: &mut Vec<Value>,
-) -> Result<(), AllocError>
+fn add_warnings(alloc: Global, file: &FileWarnings, list: &mut Vec<Value>) -> Result<(), AllocError>
     ensures { OnOk result (map view list.new.items ≡ map view list.old.items ++ map model.warning_data (warned_by file.now)) }
 {
     for warning in &file.warnings {

@@ -4,9 +4,7 @@ use crate::asserts::{same_at, unit};
 use std::process::Abort;
 use um_model::{End, RestartPolicy, Span, UnitKind};
 use um_tree::{Entry, Tree};
-use um_unit::{
-    FileWarnings, InstallSettings, LoadedUnit, Loading, ServiceSettings, Warning, load,
-};
+use um_unit::{FileWarnings, InstallSettings, LoadedUnit, Loading, ServiceSettings, Warning, load};
 use um_value::ExitSet;
 use um_words::Command;
 
