@@ -4,7 +4,7 @@ use crate::asserts::{same_at, unit};
 use std::process::Abort;
 use um_model::{End, RestartPolicy, Span, UnitKind};
 use um_tree::{Entry, Tree};
-use um_unit::{InstallSettings, LoadedUnit, Loading, ServiceSettings, Warning, load};
+use um_unit::{FileWarnings, InstallSettings, LoadedUnit, Loading, ServiceSettings, Warning, load};
 use um_value::ExitSet;
 use um_words::Command;
 
@@ -103,13 +103,24 @@ const WARNED: &[Warned] = &[
     },
 ];
 
-/// Asserts that these are the warnings of the row, and that each is of the file at the path.
+/// Asserts that these are the warnings of the row.
 fn warns(rt: &impl Abort, warnings: &[Warning], row: &Warned) {
     same_at(rt, warnings.len(), row.warnings.len(), row.name);
     for (warning, wanted) in warnings.iter().zip(row.warnings) {
         let told = (warning.kind.number(), warning.line);
         same_at(rt, told, *wanted, row.name);
-        same_at(rt, warning.path.as_str(), row.path, row.name);
+    }
+}
+
+/// Asserts that these are the warnings of the row, all of the file at the path.
+fn warns_in_file(rt: &impl Abort, files: &[FileWarnings], row: &Warned) {
+    match files {
+        [] => warns(rt, &[], row),
+        [file] => {
+            same_at(rt, file.path.as_str(), row.path, row.name);
+            warns(rt, &file.warnings, row);
+        }
+        _more => panic!(rt; "warnings of one file alone are wanted"),
     }
 }
 
@@ -117,7 +128,7 @@ fn warns(rt: &impl Abort, warnings: &[Warning], row: &Warned) {
 fn each_line_is_warned_of_by_its_kind(rt: HostRuntime) {
     for row in WARNED {
         let unit = found(&rt, row.name, row.files);
-        warns(&rt, &unit.warnings, row);
+        warns_in_file(&rt, unit.warnings.as_slice(), row);
     }
 }
 
