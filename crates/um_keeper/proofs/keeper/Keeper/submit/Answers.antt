@@ -37,6 +37,6 @@ returns-in_err-receipt-clause-life g c s before f h come =
     (⊎_elim (λ device. inl device) (λ still. inr (still h)) c.in_err-receipt.ensures.kept)
     (⊎_elim (λ lost. inl lost) (λ other. inr (⊎_elim (λ spent. inl spent)
     (λ own. inr (own.0, of_size first.holds.size_is own.1)) other)) c.in_err-receipt.ensures.refused)
-    (λ device. c.take_step.ensures.failed.1 (c.in_err-receipt.is ∙ ap Err device))
+    (λ device. c.take_step.ensures.failed.1 (c.in_err-receipt.was ∙ ap Err device))
     (λ works. c.take_step.ensures.stored works h)
     (ap (λ (x : Standing). x.state) c.in_err-receipt.ensures.state)))
