@@ -1,6 +1,9 @@
-use Rattle.std.proofs.Common.{rules, ◌≡◌, ◌+◌, [], ◌∷◌, ◌++◌, take, ap, ◌∙◌, arith}
+use Rattle.std.proofs.Common.{rules, ◌≡◌, ◌≤◌, ◌+◌, [], ◌∷◌, ◌++◌, take, ap, ◌∙◌, arith}
+use Rattle.std.specs.List.{sum_by}
 use Rattle.std.proofs.lemmas.List.{take_all, take_more}
+use Rattle.um_proto.specs.Written.{told_bytes}
 use Rattle.um_proto.proofs.Warnings.{one_more_file}
+use Rattle.um_unit.specs.View.{warnings_seen}
 use Rattle.um_proto.proofs.write.least_bytes.Goals as goal
 
 pub returns : goal.returns
