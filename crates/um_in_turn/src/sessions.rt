@@ -1,0 +1,42 @@
+//! Frames, and what comes of connections.
+
+use crate::wrong::{Wrong, found};
+use std::alloc::Global;
+use um_manager::{Connection, Piece, Pieces};
+
+/// The frame of a text.
+pub fn frame(alloc: Global, text: &[u8]) -> Result<Vec<u8>, Wrong> {
+    let Ok(length) = u32::try_from(text.len()) else {
+        return Err(found("a text too long for a frame"));
+    };
+    let mut bytes = Vec::new(alloc);
+    bytes.extend_from_slice(&length.to_be_bytes())?;
+    bytes.extend_from_slice(text)?;
+    Ok(bytes)
+}
+
+/// The frames of texts.
+pub fn frames(alloc: Global, texts: &[&str]) -> Result<Vec<u8>, Wrong> {
+    let mut bytes = Vec::new(alloc);
+    for text in texts {
+        bytes.extend_from_slice(frame(alloc, text.as_bytes())?.as_slice())?;
+    }
+    Ok(bytes)
+}
+
+/// Nothing of any connection.
+pub fn silence(alloc: Global) -> Result<Pieces, Wrong> {
+    Ok(Pieces::none(alloc)?)
+}
+
+/// The frames of texts, each of its connection.
+pub fn pieces(alloc: Global, sent: &[(usize, &str)]) -> Result<Pieces, Wrong> {
+    let mut pieces = silence(alloc)?;
+    for (number, text) in sent {
+        let Some(connection) = Connection::new(*number) else {
+            return Err(found("no connection"));
+        };
+        pieces.set(connection, Piece::Bytes(frame(alloc, text.as_bytes())?));
+    }
+    Ok(pieces)
+}
