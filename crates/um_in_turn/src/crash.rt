@@ -202,15 +202,23 @@ impl Crashes<'_> {
         Ok(())
     }
 
-    /// All old, all newest, and each single one otherwise than the others.
-    fn judge_some(&mut self, stop: &Stop<'_>, unsynced: &[(usize, usize)]) -> Result<(), Wrong> {
-        for is_new in [false, true] {
-            for other in 0..=unsynced.len() {
-                let picks = picks_but_one(self.alloc, unsynced, is_new, other)?;
-                self.judge(stop, picks.as_slice())?;
-            }
+    /// All newest or all old, and each single one otherwise than the others.
+    fn judge_singles(
+        &mut self,
+        stop: &Stop<'_>,
+        unsynced: &[(usize, usize)],
+        is_new: bool,
+    ) -> Result<(), Wrong> {
+        for other in 0..=unsynced.len() {
+            let picks = picks_but_one(self.alloc, unsynced, is_new, other)?;
+            self.judge(stop, picks.as_slice())?;
         }
         Ok(())
+    }
+
+    fn judge_some(&mut self, stop: &Stop<'_>, unsynced: &[(usize, usize)]) -> Result<(), Wrong> {
+        self.judge_singles(stop, unsynced, false)?;
+        self.judge_singles(stop, unsynced, true)
     }
 
     fn judge_stop(&mut self, stop: &Stop<'_>) -> Result<(), Wrong> {

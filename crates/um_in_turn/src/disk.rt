@@ -14,6 +14,12 @@ use um_wire::Refusal;
 /// A service that is started again after its delay, of a tenth of a second.
 const AGAIN: &str = "[Service]\nExecStart=/bin/sleep 9\nRestart=on-failure\n";
 
+/// The record of a file of so many bytes takes 20 sectors.
+const LONG: usize = 9_500;
+
+/// The record of a file of so many bytes takes four sectors.
+const SHORT: usize = 1_700;
+
 /// The automatic restart with its ticks.
 pub const RESTART: &[Row] = &[
     (0, Coming::Put("lib/a.service", AGAIN)),
@@ -63,10 +69,19 @@ fn records(alloc: Global, from: u64, count: u64, bytes: usize) -> Result<Vec<Row
     Ok(rows)
 }
 
-/// A log of 512 sectors is filled, and begins a generation; the store is opened again.
+/// Records that fill a log of 512 sectors but for eight: 25 of 20 sectors and one of four. Few and long, so that a case is short.
+fn almost_filled(alloc: Global) -> Result<Vec<Row>, Wrong> {
+    let mut rows = records(alloc, 1, 25, LONG)?;
+    rows.extend_from_slice(records(alloc, 100, 1, SHORT)?.as_slice())?;
+    Ok(rows)
+}
+
+/// A log of 512 sectors is filled to its end, and the next record begins a generation; the store is opened again behind another one.
 pub fn filled(alloc: Global) -> Result<Script, Wrong> {
     let mut script = Script::new(alloc);
-    script.each(records(alloc, 1, 514, 8)?.as_slice())?;
+    script.each(almost_filled(alloc)?.as_slice())?;
+    script.each(records(alloc, 200, 1, SHORT)?.as_slice())?;
+    script.each(records(alloc, 300, 6, 8)?.as_slice())?;
     script.deed(Deed::Open)?;
     Ok(script)
 }
@@ -74,10 +89,10 @@ pub fn filled(alloc: Global) -> Result<Script, Wrong> {
 /// A list fills the log but for eight sectors, and another one, with a refusal in it, runs into its end; the store is opened again.
 pub fn lists(alloc: Global) -> Result<Script, Wrong> {
     let mut script = Script::new(alloc);
-    script.list(records(alloc, 1, 126, 1_700)?.as_slice())?;
-    let mut rows = records(alloc, 1_000, 2, 1_700)?;
+    script.list(almost_filled(alloc)?.as_slice())?;
+    let mut rows = records(alloc, 1_000, 2, SHORT)?;
     rows.push((1_010, Coming::Put("a.service", "")))?;
-    rows.extend_from_slice(records(alloc, 1_020, 2, 1_700)?.as_slice())?;
+    rows.extend_from_slice(records(alloc, 1_020, 2, SHORT)?.as_slice())?;
     script.list(rows.as_slice())?;
     script.deed(Deed::Open)?;
     Ok(script)

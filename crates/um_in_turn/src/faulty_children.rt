@@ -11,7 +11,8 @@ use um_children::{
 use um_keeper::SpawnOrder;
 
 /// Children in memory of which one call fails: the `fails`-th, counted from 1; with 0 none. A start that fails is made all the same where
-/// it `makes` it. They keep each call; of a start that was made all the same they keep that it was taken.
+/// it `makes` it. They keep each call but one to forget that fails, which isn't made; of a start that was made all the same they keep that it
+/// was taken.
 #[derive(Drop)]
 pub struct FaultyChildren {
     inner: FakeChildren,
@@ -129,6 +130,9 @@ impl Children for FaultyChildren {
     }
 
     fn forget(&mut self, number: ProcessNumber) -> Result<(), ChildFault> {
+        if self.burns() {
+            return self.counted(Err(ChildFault::Device));
+        }
         let answer = self.inner.forget(number);
         self.counted(answer)
     }
@@ -138,6 +142,9 @@ impl Children for FaultyChildren {
         live: &[ProcessNumber],
         next: NextNumber,
     ) -> Result<(), ChildFault> {
+        if self.burns() {
+            return self.counted(Err(ChildFault::Device));
+        }
         let answer = self.inner.forget_others(live, next);
         self.counted(answer)
     }

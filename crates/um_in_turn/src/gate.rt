@@ -2,7 +2,7 @@
 
 use crate::alone::{Course, course_of};
 use crate::faulty_gate::FaultyGate;
-use crate::rows::{Coming, Row, boot_of, moment};
+use crate::rows::{Coming, Row, boot_of};
 use crate::sessions::frames;
 use crate::stores::made;
 use crate::wrong::{Wrong, found};
@@ -108,7 +108,7 @@ fn gate_of(alloc: Global, clients: Clients, fails: u64) -> Result<FaultyGate, Wr
 fn manager(alloc: Global) -> Result<Serving, Wrong> {
     let disk = made(alloc)?;
     let children = FakeChildren::new(alloc);
-    match Manager::open(alloc, disk, children, boot_of(alloc, "one")?, moment(0)?) {
+    match Manager::open(alloc, disk, children, boot_of(alloc, "one")?, Moment::FIRST) {
         Ok(manager) => Ok(manager),
         Err((refusal, _, _)) => Err(Wrong::from(refusal)),
     }

@@ -2,19 +2,17 @@
 
 use crate::alone::{Answer, Course, course_of, refused, spent};
 use crate::crash::{combinations, turn};
-use crate::rows::{Coming, Row, boot_of, input_of, moment};
-use crate::sessions::{frame, pieces};
+use crate::rows::{Coming, Row, input_of};
 use crate::stores::{blank, bytes_of, create_on, opened, state_on};
 use crate::wrong::{Wrong, found};
 use std::alloc::Global;
-use um_children::FakeChildren;
-use um_keeper::Keeper;
-use um_manager::{Connection, Manager, Output};
+use um_keeper::{Keeper, Receipt};
 use um_model::{InstallVerb, UnitVerb};
 use um_sector::MemDisk;
-use um_wire::{Refusal, spell};
+use um_state::Input;
+use um_wire::Refusal;
 
-const SLEEPS: &str = "[Service]\nExecStart=/bin/sleep 9\n";
+pub const SLEEPS: &str = "[Service]\nExecStart=/bin/sleep 9\n";
 
 /// A simple service is put, loaded and started.
 pub const SIMPLE: &[Row] = &[
@@ -71,50 +69,113 @@ pub const ENABLED: &[Row] = &[
     (0, Coming::Install(InstallVerb::Disable, "a.service")),
 ];
 
-/// Asserts that each image that a crash may leave of a disk is opened in this state.
-fn stand_for(alloc: Global, disk: &MemDisk, bytes: &[u8]) -> Result<(), Wrong> {
+/// What takes the inputs of a life.
+#[derive(Drop)]
+pub struct Taker {
+    pub keeper: Keeper<MemDisk>,
+    /// A wrong program: whatever comes is answered E15.
+    always_wanting: bool,
+}
+
+impl Taker {
+    fn submit(&mut self, input: Input) -> Result<Receipt, Refusal> {
+        if self.always_wanting {
+            return Err(Refusal::NoMemory);
+        }
+        self.keeper.submit(input)
+    }
+
+    /// The keeper opened again over its disk.
+    fn reopened(self, alloc: Global) -> Result<Taker, Wrong> {
+        let keeper = opened(alloc, self.keeper.into_disk())?;
+        Ok(Taker {
+            keeper,
+            always_wanting: self.always_wanting,
+        })
+    }
+
+    /// Asserts that it is in the state of the beginning of so many rows.
+    fn is_at(&self, alloc: Global, course: &Course, place: usize) -> Result<(), Wrong> {
+        if course.is_at(place, bytes_of(alloc, &self.keeper)?.as_slice()) {
+            return Ok(());
+        }
+        Err(found("another state than that of the engine"))
+    }
+}
+
+/// Asserts that each image that a crash may leave of a disk is opened in the state of a beginning, of at least `low` and at most `high` rows.
+pub fn stand_for(
+    alloc: Global,
+    course: &Course,
+    disk: &MemDisk,
+    low: usize,
+    high: usize,
+) -> Result<(), Wrong> {
     let unsynced = disk.unsynced(alloc)?;
     let mut picks = vec![in alloc; 0; unsynced.len()]?;
     for _ in 0..combinations(unsynced.as_slice()) {
         let image = disk.crash(alloc, picks.as_slice())?;
-        match state_on(alloc, image)? {
-            Some(state) if state.as_slice() == bytes => {}
-            _ => return Err(found("an image of an opening without memory isn't that state")),
-        }
+        stands_for(alloc, course, image, low, high)?;
         turn(picks.as_mut_slice(), unsynced.as_slice());
     }
     Ok(())
 }
 
-/// A keeper that is opened, or again where it found no memory: then each image stands for this state.
-fn open_at(alloc: Global, disk: MemDisk, bytes: &[u8]) -> Result<Keeper<MemDisk>, Wrong> {
-    let disk = match Keeper::open(alloc, disk) {
-        Ok(keeper) => return at(alloc, keeper, bytes),
-        Err((Refusal::NoMemory | Refusal::Device, disk)) => disk,
+fn stands_for(
+    alloc: Global,
+    course: &Course,
+    image: MemDisk,
+    low: usize,
+    high: usize,
+) -> Result<(), Wrong> {
+    let place = match state_on(alloc, image)? {
+        Some(state) => course.place(low, high, state.as_slice()),
+        None => None,
+    };
+    match place {
+        Some(_) => Ok(()),
+        None => Err(found("an image of an opening without memory isn't that state")),
+    }
+}
+
+/// The keeper that is opened at the beginning of so many rows, or again where it found no memory: then each image stands for that state.
+fn open_at(
+    alloc: Global,
+    course: &Course,
+    disk: MemDisk,
+    place: usize,
+    always_wanting: bool,
+) -> Result<Taker, Wrong> {
+    let keeper = match Keeper::open(alloc, disk) {
+        Ok(keeper) => keeper,
+        Err((Refusal::NoMemory | Refusal::Device, disk)) => {
+            stand_for(alloc, course, &disk, place, place)?;
+            opened(alloc, disk)?
+        }
         Err((refusal, _)) => return Err(Wrong::from(refusal)),
     };
-    stand_for(alloc, &disk, bytes)?;
-    at(alloc, opened(alloc, disk)?, bytes)
+    let taker = Taker {
+        keeper,
+        always_wanting,
+    };
+    taker.is_at(alloc, course, place)?;
+    Ok(taker)
 }
 
-/// The keeper, which is in this state.
-fn at(alloc: Global, keeper: Keeper<MemDisk>, bytes: &[u8]) -> Result<Keeper<MemDisk>, Wrong> {
-    if bytes_of(alloc, &keeper)?.as_slice() != bytes {
-        return Err(found("another state than that of the engine"));
+/// A creation that found no memory has written nothing.
+fn is_untouched(alloc: Global, disk: &MemDisk) -> Result<(), Wrong> {
+    if disk.syncs() == 0 && disk.unsynced(alloc)?.is_empty() {
+        return Ok(());
     }
-    Ok(keeper)
+    Err(found("a creation without memory has written"))
 }
 
-/// A disk that holds a new store. A creation that found no memory has written nothing; one whose disk found none is made again.
+/// A disk that holds a new store, which is made again where the creation or its disk found no memory.
 fn new_store(alloc: Global) -> Result<MemDisk, Wrong> {
     let mut disk = blank(alloc)?;
     match create_on(alloc, &mut disk) {
         Ok(()) => return Ok(disk),
-        Err(Refusal::NoMemory) => {
-            if disk.syncs() != 0 || !disk.unsynced(alloc)?.is_empty() {
-                return Err(found("a creation without memory has written"));
-            }
-        }
+        Err(Refusal::NoMemory) => is_untouched(alloc, &disk)?,
         Err(Refusal::Device) => {}
         Err(refusal) => return Err(Wrong::from(refusal)),
     }
@@ -130,8 +191,8 @@ enum Taken {
     Failed,
 }
 
-fn submit(alloc: Global, keeper: &mut Keeper<MemDisk>, row: Row) -> Result<Taken, Wrong> {
-    match keeper.submit(input_of(alloc, row)?) {
+fn submit(alloc: Global, taker: &mut Taker, row: Row) -> Result<Taken, Wrong> {
+    match taker.submit(input_of(alloc, row)?) {
         Ok(receipt) => Ok(Taken::As(spent(alloc, receipt)?)),
         Err(Refusal::NoMemory) => Ok(Taken::Wanting),
         Err(Refusal::Device) => Ok(Taken::Failed),
@@ -146,301 +207,103 @@ fn is_answer(course: &Course, place: usize, answer: &Answer) -> Result<(), Wrong
     }
 }
 
-/// The keeper whose disk found no memory, opened again: it takes the input where it didn't.
-fn reopened(
-    alloc: Global,
-    course: &Course,
-    keeper: Keeper<MemDisk>,
-    place: usize,
-    row: Row,
-) -> Result<Keeper<MemDisk>, Wrong> {
-    let mut keeper = keeper;
-    match keeper.submit(input_of(alloc, row)?) {
-        Err(Refusal::Reopen) => {}
+/// Asserts that a keeper that failed takes no input (E17).
+fn is_closed(alloc: Global, taker: &mut Taker, row: Row) -> Result<(), Wrong> {
+    match taker.submit(input_of(alloc, row)?) {
+        Err(Refusal::Reopen) => Ok(()),
+        Err(_) => Err(found("a keeper that failed refuses otherwise")),
         Ok(receipt) => {
             let _answer = spent(alloc, receipt);
-            return Err(found("a keeper that failed takes an input"));
+            Err(found("a keeper that failed takes an input"))
         }
-        Err(_) => return Err(found("a keeper that failed refuses otherwise")),
     }
-    let keeper = opened(alloc, keeper.into_disk())?;
-    let bytes = bytes_of(alloc, &keeper)?;
+}
+
+/// The keeper whose disk found no memory, opened again: it takes the input where it didn't.
+fn taken_again(
+    alloc: Global,
+    course: &Course,
+    mut taker: Taker,
+    place: usize,
+    row: Row,
+) -> Result<Taker, Wrong> {
+    is_closed(alloc, &mut taker, row)?;
+    let mut taker = taker.reopened(alloc)?;
+    let bytes = bytes_of(alloc, &taker.keeper)?;
     match course.place(place, place.saturating_add(1), bytes.as_slice()) {
-        Some(now) if now == place => once_more(alloc, course, keeper, place, row),
-        Some(_) => Ok(keeper),
-        None => Err(found("the store isn't that of a beginning")),
+        Some(now) if now == place => once_more(alloc, course, &mut taker, place, row)?,
+        Some(_) => {}
+        None => return Err(found("the store isn't that of a beginning")),
     }
+    Ok(taker)
 }
 
 /// The input is asked once more, and gets its answer.
 fn once_more(
     alloc: Global,
     course: &Course,
-    keeper: Keeper<MemDisk>,
+    taker: &mut Taker,
     place: usize,
     row: Row,
-) -> Result<Keeper<MemDisk>, Wrong> {
-    let mut keeper = keeper;
-    match submit(alloc, &mut keeper, row)? {
-        Taken::As(answer) => is_answer(course, place, &answer)?,
-        Taken::Wanting | Taken::Failed => return Err(found("no memory where there is some")),
+) -> Result<(), Wrong> {
+    match submit(alloc, taker, row)? {
+        Taken::As(answer) => is_answer(course, place, &answer),
+        Taken::Wanting | Taken::Failed => Err(found("no memory where there is some")),
     }
-    Ok(keeper)
 }
 
 /// Takes the row of that place.
 fn take(
     alloc: Global,
     course: &Course,
-    keeper: Keeper<MemDisk>,
+    mut taker: Taker,
     place: usize,
     row: Row,
-) -> Result<Keeper<MemDisk>, Wrong> {
-    let mut keeper = keeper;
-    match submit(alloc, &mut keeper, row)? {
-        Taken::As(answer) => {
-            is_answer(course, place, &answer)?;
-            Ok(keeper)
-        }
+) -> Result<Taker, Wrong> {
+    match submit(alloc, &mut taker, row)? {
+        Taken::As(answer) => is_answer(course, place, &answer)?,
         Taken::Wanting => {
-            let keeper = at(alloc, keeper, state_at(course, place)?)?;
-            once_more(alloc, course, keeper, place, row)
+            taker.is_at(alloc, course, place)?;
+            once_more(alloc, course, &mut taker, place, row)?;
         }
         Taken::Failed => {
-            let keeper = at(alloc, keeper, state_at(course, place)?)?;
-            reopened(alloc, course, keeper, place, row)
+            taker.is_at(alloc, course, place)?;
+            return taken_again(alloc, course, taker, place, row);
         }
     }
+    Ok(taker)
 }
 
-fn state_at(course: &Course, place: usize) -> Result<&[u8], Wrong> {
-    match course.states.get(place) {
-        Some(state) => Ok(state.as_slice()),
-        None => Err(found("no such beginning")),
+/// A new store that takes these rows one by one.
+pub fn taken(
+    alloc: Global,
+    course: &Course,
+    rows: &[Row],
+    always_wanting: bool,
+) -> Result<Taker, Wrong> {
+    let mut taker = open_at(alloc, course, new_store(alloc)?, 0, always_wanting)?;
+    for (place, row) in rows.iter().enumerate() {
+        taker = take(alloc, course, taker, place, *row)?;
+        taker.is_at(alloc, course, place.saturating_add(1))?;
     }
+    Ok(taker)
 }
 
 /// The rows are taken one by one, and the store is opened again; tells how many there were.
 pub fn rows_taken(alloc: Global, rows: &[Row]) -> Result<u64, Wrong> {
     let course = course_of(alloc, rows)?;
-    let mut keeper = open_at(alloc, new_store(alloc)?, state_at(&course, 0)?)?;
-    for (place, row) in rows.iter().enumerate() {
-        keeper = take(alloc, &course, keeper, place, *row)?;
-        keeper = at(alloc, keeper, state_at(&course, place.saturating_add(1))?)?;
-    }
-    let last = state_at(&course, rows.len())?;
-    open_at(alloc, keeper.into_disk(), last)?;
+    let taker = taken(alloc, &course, rows, false)?;
+    let disk = taker.keeper.into_disk();
+    open_at(alloc, &course, disk, rows.len(), false)?;
     Ok(rows.len() as u64)
 }
 
-type InMemory = Manager<MemDisk, FakeChildren>;
-
-const SHOW: &str = r#"{"verb":"show","unit":"a"}"#;
-
-const JOBS: &str = r#"{"verb":"list-jobs"}"#;
-
-const START: &str = r#"{"verb":"start","unit":"a"}"#;
-
-/// What a turn may answer to the start, to the show that comes with it, and to the list of jobs behind it.
-const DONE: &str = r#"{"ok":true}"#;
-
-const WANTING: &str = r#"{"detail":[],"error":15,"ok":false}"#;
-
-const DEVICE: &str = r#"{"detail":[],"error":16,"ok":false}"#;
-
-const NONE: &str = r#"{"ok":true,"value":[]}"#;
-
-const RUNNING: &str =
-    r#"{"ok":true,"value":{"ActiveState":"active","Description":"","Id":"a.service","LoadState":"loaded","MainNumber":1,"Result":"success","SubState":"running","Warnings":[]}}"#;
-
-const DEAD: &str =
-    r#"{"ok":true,"value":{"ActiveState":"inactive","Description":"","Id":"a.service","LoadState":"loaded","MainNumber":0,"Result":"success","SubState":"dead","Warnings":[]}}"#;
-
-/// What comes in before the turn of the two clients, the start that is theirs, and how that ends where the children fail.
-const TURNED: &[Row] = &[
-    (0, Coming::Put("lib/a.service", SLEEPS)),
-    (0, Coming::Reload),
-    (0, Coming::Booted("one")),
-    (0, Coming::Verb(UnitVerb::Start, "a.service")),
-    // where the children find no memory for the start
-    (0, Coming::Ended(1, 203)),
-];
-
-/// A store of the first two of these rows.
-fn loaded(alloc: Global, course: &Course) -> Result<MemDisk, Wrong> {
-    let mut keeper = open_at(alloc, new_store(alloc)?, state_at(course, 0)?)?;
-    for (place, row) in TURNED.iter().enumerate().take(2) {
-        keeper = take(alloc, course, keeper, place, *row)?;
+/// Asserts that a program that answers E15 to whatever comes fails a life.
+pub fn wanting_is_noticed(alloc: Global) -> Result<(), Wrong> {
+    let course = course_of(alloc, SIMPLE)?;
+    match taken(alloc, &course, SIMPLE, true) {
+        Ok(_) => Err(found("a program that always answers E15 isn't noticed")),
+        Err(Wrong::Found { .. }) => Ok(()),
+        Err(wrong) => Err(wrong),
     }
-    Ok(keeper.into_disk())
-}
-
-/// The manager over that store; opened again where it found no memory.
-fn opened_manager(alloc: Global, course: &Course) -> Result<InMemory, Wrong> {
-    let disk = loaded(alloc, course)?;
-    let children = FakeChildren::new(alloc);
-    let boot = boot_of(alloc, "one")?;
-    let again = boot_of(alloc, "one")?;
-    let (disk, children) = match Manager::open(alloc, disk, children, boot, moment(0)?) {
-        Ok(manager) => return Ok(manager),
-        Err((Refusal::NoMemory | Refusal::Device, disk, children)) => (disk, children),
-        Err((refusal, _, _)) => return Err(Wrong::from(refusal)),
-    };
-    match Manager::open(alloc, disk, children, again, moment(0)?) {
-        Ok(manager) => Ok(manager),
-        Err((refusal, _, _)) => Err(Wrong::from(refusal)),
-    }
-}
-
-fn output(manager: &mut InMemory, number: usize) -> Result<Output, Wrong> {
-    match Connection::new(number) {
-        Some(connection) => Ok(manager.output(connection)),
-        None => Err(found("no connection")),
-    }
-}
-
-/// Whether what was put out is one of these replies; None where the session has failed with a reply less.
-fn reply_among(alloc: Global, output: &Output, texts: &[&str]) -> Result<Option<usize>, Wrong> {
-    if output.failed {
-        if output.bytes.is_empty() {
-            return Ok(None);
-        }
-        return Err(found("a session that failed has put something out"));
-    }
-    for (place, text) in texts.iter().enumerate() {
-        if output.bytes.as_slice() == frame(alloc, text.as_bytes())?.as_slice() {
-            return Ok(Some(place));
-        }
-    }
-    Err(found("another reply than one of those that may come"))
-}
-
-/// Whether the state of the manager is that behind the start, or, where the children failed, that behind its end.
-fn has_started(alloc: Global, course: &Course, manager: &InMemory) -> Result<bool, Wrong> {
-    let bytes = spell(alloc, manager.state())?;
-    let last = if manager.children().failures() == 0 {
-        4
-    } else {
-        5
-    };
-    match course.place(3, last, bytes.as_slice()) {
-        Some(place) => Ok(place >= 4),
-        None => Err(found("a state that isn't that before or behind the start")),
-    }
-}
-
-/// What the turn of the two clients came to.
-#[derive(Drop)]
-enum Turned {
-    Done,
-    /// It found no memory for itself, or its start found none.
-    Undone,
-    Failed,
-}
-
-/// The turn of two clients: one shows, the other one starts.
-fn both(
-    alloc: Global,
-    course: &Course,
-    manager: &mut InMemory,
-    first: usize,
-) -> Result<Turned, Wrong> {
-    let second = first.saturating_add(1);
-    let sent = pieces(alloc, &[(first, SHOW), (second, START)])?;
-    let turned = manager.turn(moment(0)?, &sent);
-    let shown = output(manager, first)?;
-    let started = output(manager, second)?;
-    let is_behind = has_started(alloc, course, manager)?;
-    match turned {
-        Ok(()) => {}
-        Err(Refusal::NoMemory) => {
-            let is_silent = shown.bytes.is_empty() && started.bytes.is_empty();
-            if is_behind || !is_silent || shown.failed || started.failed {
-                return Err(found("a turn without memory did something"));
-            }
-            return Ok(Turned::Undone);
-        }
-        Err(Refusal::Device) => {
-            if is_behind {
-                return Err(found("the state after E16 isn't that from before"));
-            }
-            reply_among(alloc, &started, &[DEVICE])?;
-            return Ok(Turned::Failed);
-        }
-        Err(refusal) => return Err(Wrong::from(refusal)),
-    }
-    let told = reply_among(
-        alloc,
-        &shown,
-        &[if is_behind { RUNNING } else { DEAD }, WANTING],
-    )?;
-    let _may_fail = told;
-    let is_done = match reply_among(alloc, &started, &[DONE, WANTING])? {
-        Some(0) => true,
-        Some(_) => false,
-        // of a reply alone that found no memory the state tells
-        None => is_behind,
-    };
-    if is_done != is_behind {
-        return Err(found("the reply to the start isn't what the state tells"));
-    }
-    Ok(if is_done {
-        Turned::Done
-    } else {
-        Turned::Undone
-    })
-}
-
-/// The jobs are listed, or for want of memory aren't.
-fn lists(
-    alloc: Global,
-    course: &Course,
-    manager: &mut InMemory,
-    number: usize,
-) -> Result<bool, Wrong> {
-    let sent = pieces(alloc, &[(number, JOBS)])?;
-    let turned = manager.turn(moment(0)?, &sent);
-    let listed = output(manager, number)?;
-    match turned {
-        Ok(()) => {}
-        Err(Refusal::NoMemory) => return Ok(false),
-        Err(refusal) => return Err(Wrong::from(refusal)),
-    }
-    let told = reply_among(alloc, &listed, &[NONE, WANTING])?;
-    if told == Some(0) && !has_started(alloc, course, manager)? {
-        return Err(found("the state went back"));
-    }
-    Ok(told == Some(0))
-}
-
-/// The manager whose disk found no memory, opened again.
-fn manager_again(alloc: Global, manager: InMemory) -> Result<InMemory, Wrong> {
-    let (disk, children) = manager.into_parts();
-    match Manager::open(alloc, disk, children, boot_of(alloc, "one")?, moment(0)?) {
-        Ok(manager) => Ok(manager),
-        Err((refusal, _, _)) => Err(Wrong::from(refusal)),
-    }
-}
-
-/// Two clients in one turn, a show and a start, and a list of the jobs behind it; what finds no memory is asked again.
-pub fn two_clients(alloc: Global) -> Result<u64, Wrong> {
-    let course = course_of(alloc, TURNED)?;
-    let mut manager = opened_manager(alloc, &course)?;
-    match both(alloc, &course, &mut manager, 1)? {
-        Turned::Done => {}
-        Turned::Undone => match both(alloc, &course, &mut manager, 3)? {
-            Turned::Done => {}
-            _ => return Err(found("no memory where there is some")),
-        },
-        Turned::Failed => {
-            manager = manager_again(alloc, manager)?;
-            if !has_started(alloc, &course, &manager)? {
-                both(alloc, &course, &mut manager, 3)?;
-            }
-        }
-    }
-    if lists(alloc, &course, &mut manager, 5)? || lists(alloc, &course, &mut manager, 6)? {
-        return Ok(3);
-    }
-    Err(found("no memory where there is some"))
 }

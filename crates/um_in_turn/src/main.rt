@@ -7,6 +7,7 @@
 
 mod alone;
 mod children;
+mod clients;
 mod crash;
 mod disk;
 mod faulty_children;
@@ -17,6 +18,7 @@ mod rows;
 mod scripts;
 mod sessions;
 mod stores;
+mod watched;
 mod wrong;
 
 use gate::Clients;
@@ -78,7 +80,7 @@ fn life(alloc: Global, number: &str) -> Result<u64, Wrong> {
         "2" => lives::rows_taken(alloc, lives::CONFLICT),
         "3" => lives::rows_taken(alloc, lives::RESTARTS),
         "4" => lives::rows_taken(alloc, lives::ENABLED),
-        "5" => lives::two_clients(alloc),
+        "5" => clients::two_clients(alloc),
         _ => Err(found("no such life")),
     }
 }
@@ -94,6 +96,7 @@ fn some(alloc: Global) -> Result<u64, Wrong> {
     for number in ["1", "2", "3", "4", "5"] {
         life(alloc, number)?;
     }
+    lives::wanting_is_noticed(alloc)?;
     Ok(0)
 }
 

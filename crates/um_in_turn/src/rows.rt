@@ -65,7 +65,7 @@ pub fn boot_of(alloc: Global, boot: &str) -> Result<BootId, Wrong> {
 }
 
 /// The moment at this microsecond.
-pub fn moment(micros: u64) -> Result<Moment, Wrong> {
+fn moment(micros: u64) -> Result<Moment, Wrong> {
     match Moment::new(micros) {
         Some(moment) => Ok(moment),
         None => Err(found("no moment")),

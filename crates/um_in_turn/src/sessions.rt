@@ -29,14 +29,18 @@ pub fn silence(alloc: Global) -> Result<Pieces, Wrong> {
     Ok(Pieces::none(alloc)?)
 }
 
-/// The frames of texts, each of its connection.
-pub fn pieces(alloc: Global, sent: &[(usize, &str)]) -> Result<Pieces, Wrong> {
+/// Adds what comes of a connection: the frames of these texts.
+pub fn add(alloc: Global, pieces: &mut Pieces, number: usize, texts: &[&str]) -> Result<(), Wrong> {
+    let Some(connection) = Connection::new(number) else {
+        return Err(found("no connection"));
+    };
+    pieces.set(connection, Piece::Bytes(frames(alloc, texts)?));
+    Ok(())
+}
+
+/// The frames of these texts come of one connection.
+pub fn sent(alloc: Global, number: usize, texts: &[&str]) -> Result<Pieces, Wrong> {
     let mut pieces = silence(alloc)?;
-    for (number, text) in sent {
-        let Some(connection) = Connection::new(*number) else {
-            return Err(found("no connection"));
-        };
-        pieces.set(connection, Piece::Bytes(frame(alloc, text.as_bytes())?));
-    }
+    add(alloc, &mut pieces, number, texts)?;
     Ok(pieces)
 }
