@@ -1,7 +1,7 @@
 //! Two clients of a manager in which any allocation may fail, once: what finds no memory is asked again.
 
 use crate::alone::{Course, course_of};
-use crate::lives::{SLEEPS, stand_for, taken};
+use crate::lives::{SLEEPS, stand_for, taker_behind};
 use crate::rows::{Coming, Row, boot_of};
 use crate::sessions::{add, frame, sent, silence};
 use crate::wrong::{Wrong, found};
@@ -61,7 +61,9 @@ const ENDED: usize = 5;
 /// The manager over a store that is loaded, opened again where it found no memory: then each image stands for the state from before, or,
 /// where its disk found none, maybe for that behind the boot.
 fn opened_manager(alloc: Global, course: &Course) -> Result<InMemory, Wrong> {
-    let disk = taken(alloc, course, LOADED, false)?.keeper.into_disk();
+    let disk = taker_behind(alloc, course, LOADED, false)?
+        .keeper
+        .into_disk();
     let children = FakeChildren::new(alloc);
     let boot = boot_of(alloc, "one")?;
     let again = boot_of(alloc, "one")?;
@@ -227,7 +229,7 @@ fn listed(alloc: Global, manager: &mut InMemory, first: usize) -> Result<(), Wro
 }
 
 /// The turn of two clients, and the list behind it.
-fn turned(
+fn both_and_list(
     alloc: Global,
     course: &Course,
     manager: &mut InMemory,
@@ -245,7 +247,7 @@ fn done(alloc: Global, course: &Course, manager: &mut InMemory, first: usize) ->
     if has_started(alloc, course, manager)? {
         return Ok(());
     }
-    turned(alloc, course, manager, first)?;
+    both_and_list(alloc, course, manager, first)?;
     if has_started(alloc, course, manager)? {
         return Ok(());
     }
@@ -267,7 +269,7 @@ fn lists(alloc: Global, manager: &mut InMemory, number: usize) -> Result<bool, W
 pub fn two_clients(alloc: Global) -> Result<u64, Wrong> {
     let course = course_of(alloc, TURNED)?;
     let mut manager = opened_manager(alloc, &course)?;
-    if let Turned::Failed = turned(alloc, &course, &mut manager, 1)? {
+    if let Turned::Failed = both_and_list(alloc, &course, &mut manager, 1)? {
         manager = again(alloc, manager)?;
     }
     done(alloc, &course, &mut manager, 3)?;

@@ -275,7 +275,7 @@ fn take(
 }
 
 /// A new store that takes these rows one by one.
-pub fn taken(
+pub fn taker_behind(
     alloc: Global,
     course: &Course,
     rows: &[Row],
@@ -292,7 +292,7 @@ pub fn taken(
 /// The rows are taken one by one, and the store is opened again; tells how many there were.
 pub fn rows_taken(alloc: Global, rows: &[Row]) -> Result<u64, Wrong> {
     let course = course_of(alloc, rows)?;
-    let taker = taken(alloc, &course, rows, false)?;
+    let taker = taker_behind(alloc, &course, rows, false)?;
     let disk = taker.keeper.into_disk();
     open_at(alloc, &course, disk, rows.len(), false)?;
     Ok(rows.len() as u64)
@@ -301,7 +301,7 @@ pub fn rows_taken(alloc: Global, rows: &[Row]) -> Result<u64, Wrong> {
 /// Asserts that a program that answers E15 to whatever comes fails a life.
 pub fn wanting_is_noticed(alloc: Global) -> Result<(), Wrong> {
     let course = course_of(alloc, SIMPLE)?;
-    match taken(alloc, &course, SIMPLE, true) {
+    match taker_behind(alloc, &course, SIMPLE, true) {
         Ok(_) => Err(found("a program that always answers E15 isn't noticed")),
         Err(Wrong::Found { .. }) => Ok(()),
         Err(wrong) => Err(wrong),
