@@ -210,7 +210,7 @@ fn both_ways(alloc: Global, life: &Life, place: usize, fails: u64) -> Result<u64
 }
 
 /// Each call of the children fails in turn, with an opening before the doing of that number; tells how many cases were tried.
-pub fn each_call_at(alloc: Global, life: &Life, place: usize) -> Result<u64, Wrong> {
+fn each_call_at(alloc: Global, life: &Life, place: usize) -> Result<u64, Wrong> {
     let mut cases: u64 = 0;
     for fails in 1..=run(alloc, life, place, 0, false)?.calls {
         match both_ways(alloc, life, place, fails) {

@@ -85,17 +85,34 @@ fn life(alloc: Global, number: &str) -> Result<u64, Wrong> {
     }
 }
 
-/// A selection of each kind.
+/// A script or a life of a kind, by its number.
+fn part(alloc: Global, kind: &str, number: &str) -> Result<u64, Wrong> {
+    match kind {
+        "memory" => life(alloc, number),
+        "disk" => disk_cases(alloc, number),
+        "crash" => crash_cases(alloc, number),
+        "children" => children_cases(alloc, number),
+        "gate" => gate_cases(alloc, number),
+        _ => Err(found("no such kind")),
+    }
+}
+
+/// These scripts or lives of a kind.
+fn parts(alloc: Global, kind: &str, numbers: &[&str]) -> Result<(), Wrong> {
+    for number in numbers {
+        part(alloc, kind, *number)?;
+    }
+    Ok(())
+}
+
+/// What is short: the scripts of children and gate, the lives with all their memory, and a short script each of a disk and of crashes.
 fn some(alloc: Global) -> Result<u64, Wrong> {
     let first = disk::calls_before(alloc)?.saturating_add(1);
     disk::each_call(alloc, &disk::short(alloc)?, first)?;
     crash::each_stop(alloc, &crash::short(alloc)?)?;
-    children::each_call_at(alloc, &children::TORN, 4)?;
-    children::each_call_at(alloc, &children::ONESHOT, 2)?;
-    gate_cases(alloc, "1")?;
-    for number in ["1", "2", "3", "4", "5"] {
-        life(alloc, number)?;
-    }
+    parts(alloc, "children", &["1", "2"])?;
+    parts(alloc, "gate", &["1", "2", "3", "4"])?;
+    parts(alloc, "memory", &["1", "2", "3", "4", "5"])?;
     lives::wanting_is_noticed(alloc)?;
     Ok(0)
 }
@@ -103,13 +120,8 @@ fn some(alloc: Global) -> Result<u64, Wrong> {
 /// What the words ask for; tells how many cases were tried.
 fn tried(alloc: Global, kind: &str, number: &str) -> Result<u64, Wrong> {
     match kind {
-        "memory" => life(alloc, number),
-        "disk" => disk_cases(alloc, number),
-        "crash" => crash_cases(alloc, number),
-        "children" => children_cases(alloc, number),
-        "gate" => gate_cases(alloc, number),
         "some" => some(alloc),
-        _ => Err(found("no such kind")),
+        _ => part(alloc, kind, number),
     }
 }
 
