@@ -12,7 +12,7 @@ use um_sector::MemDisk;
 use um_state::Input;
 use um_wire::Refusal;
 
-pub const SLEEPS: &str = "[Service]\nExecStart=/bin/sleep 9\n";
+const SLEEPS: &str = "[Service]\nExecStart=/bin/sleep 9\n";
 
 /// A simple service is put, loaded and started.
 pub const SIMPLE: &[Row] = &[
@@ -71,8 +71,8 @@ pub const ENABLED: &[Row] = &[
 
 /// What takes the inputs of a life.
 #[derive(Drop)]
-pub struct Taker {
-    pub keeper: Keeper<MemDisk>,
+struct Taker {
+    keeper: Keeper<MemDisk>,
     /// A wrong program: whatever comes is answered E15.
     always_wanting: bool,
 }
@@ -104,7 +104,7 @@ impl Taker {
 }
 
 /// Asserts that each image that a crash may leave of a disk is opened in the state of a beginning, of at least `low` and at most `high` rows.
-pub fn stand_for(
+fn stand_for(
     alloc: Global,
     course: &Course,
     disk: &MemDisk,
@@ -275,7 +275,7 @@ fn take(
 }
 
 /// A new store that takes these rows one by one.
-pub fn taker_behind(
+fn taker_behind(
     alloc: Global,
     course: &Course,
     rows: &[Row],
