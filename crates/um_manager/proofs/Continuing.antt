@@ -1,5 +1,5 @@
 -- A life goes on with the calls of its manager.
-use Rattle.std.proofs.Common.{◌≡◌, ◌≢◌, ◌⊎◌, ◌∙◌, inl, inr, ℕ, List, [], ◌∷◌, ◌++◌, map, length, Result, Ok, Err, append_assoc, append-nil, refl, sym, ap, subst}
+use Rattle.std.proofs.Common.{◌≡◌, ◌≢◌, ◌⊎◌, ◌∙◌, inl, inr, ℕ, List, [], ◌∷◌, ◌++◌, map, length, take, drop, Result, Ok, Err, append_assoc, append-nil, refl, sym, ap, subst, arith}
 use Rattle.std.specs.Bool.{IsTrue}
 use Rattle.um_fates.specs.Fates.{asks_for}
 use Rattle.um_keeper.specs.Answering.{Answer, all_asked}
@@ -147,19 +147,45 @@ refused_lives layout on honest whole {disk = disk} {left = left} {past = past} d
           (in_refused more refused (record { calls = during.calls; later = []; at_is = during.is; new_is = refl }) silent),
     )
 
+all_taken : {X : Type 0} (xs : List X) → take (length xs) (xs ++ []) ≡ xs
+all_taken [] = refl
+all_taken (x ∷ xs) = ap (λ l. x ∷ l) (all_taken xs)
+
+all_dropped : {X : Type 0} (xs ys : List X) → length ys ≡ length xs → drop (length xs) ys ≡ []
+all_dropped [] [] same = refl
+all_dropped [] (y ∷ ys) same = absurd (omega (arith, same))
+all_dropped (x ∷ xs) [] same = refl
+all_dropped (x ∷ xs) (y ∷ ys) same = all_dropped xs ys (omega (arith, same))
+
+-- what a borrow of a whole list puts back
+pub put_back : {X : Type 0} (n : ℕ) (xs ys : List X) → length xs ≡ n → length ys ≡ n → xs ≡ take n (xs ++ drop (length xs) ys)
+put_back n xs ys is was = sym
+    (ap (λ l. take n (xs ++ l)) (all_dropped xs ys (was ∙ sym is)) ∙ ap (λ k. take k (xs ++ [])) (sym is) ∙ all_taken xs)
+
+-- the same sessions before and behind
+of_sessions : (layout : Layout) (on : Reliance) (result : Result Unit Refusal) (a b : Now) {old new : List Session} → a.sessions ≡ old → b.sessions ≡ new
+    → LivesOn layout on result a b → LivesOn layout on result (record a { sessions = old }) (record b { sessions = new })
+of_sessions layout on result a b {new = new} was is lives =
+    subst (λ (l : List Session). LivesOn layout on result (record a { sessions = l }) (record b { sessions = new })) was
+    (subst (λ (l : List Session). LivesOn layout on result a (record b { sessions = l })) is lives)
+
 -- each life goes on with a turn
 pub turn_lives_on : (layout : Layout) (on : Reliance) {at : Place} {result : Result Unit Refusal} {moment : ℕ} {pieces : List Piece} {a b : Now}
-    → at ≡ place_on layout on → Turns at result on.children on.history moment pieces a b → LivesOn layout on result a b
-turn_lives_on layout on {result = result} {moment = moment} {pieces = pieces} {a = a} {b = b} same call = λ sure honest whole disk before offered lived.
+    {old new : List Session} → at ≡ place_on layout on → a.sessions ≡ old → b.sessions ≡ new → Turns at result on.children on.history moment pieces a b
+    → LivesOn layout on result (record a { sessions = old }) (record b { sessions = new })
+turn_lives_on layout on {result = result} {moment = moment} {pieces = pieces} {a = a} {b = b} same was is call =
+    of_sessions layout on result a b was is (λ sure honest whole disk before offered lived.
     elim (is_want result) [
       | inl want ↦ rested layout on sure honest whole disk before offered result a b lived (untouched layout on sure honest whole a b (call.0 want))
       | inr other ↦ turn_continues layout on sure honest whole disk before offered result a b lived
           (subst (λ (p : Place). Turned p on.children on.history result moment pieces a b) same (call.1 other))
-    ]
+    ])
 
 -- each life goes on with a script
-pub script_lives_on : (layout : Layout) (on : Reliance) (steps : List Step) {at : Place} {result : Result Unit Refusal} {a b : Now}
-    → at ≡ place_on layout on → Runs at on.children on.history steps result a b → LivesOn layout on result a b
-script_lives_on layout on steps {result = result} {a = a} {b = b} same runs = λ sure honest whole disk before offered lived.
+pub script_lives_on : (layout : Layout) (on : Reliance) (steps : List Step) {at : Place} {result : Result Unit Refusal} (a b : Now) {old new : List Session}
+    → at ≡ place_on layout on → a.sessions ≡ old → b.sessions ≡ new → Runs at on.children on.history steps result a b
+    → LivesOn layout on result (record a { sessions = old }) (record b { sessions = new })
+script_lives_on layout on steps {result = result} a b same was is runs =
+    of_sessions layout on result a b was is (λ sure honest whole disk before offered lived.
     script_continues layout on sure honest whole disk before offered steps result a b lived
-    (subst (λ (p : Place). Runs p on.children on.history steps result a b) same runs)
+    (subst (λ (p : Place). Runs p on.children on.history steps result a b) same runs))

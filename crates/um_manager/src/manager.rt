@@ -6,13 +6,14 @@ ghost use Rattle.um_keeper.specs.Keepers.{disk_in, state_in, size_in, layout_in,
 ghost use Rattle.um_keeper.specs.Opening.{IsRead, IsSomeStore, IsUntaken, IsUnwritten};
 ghost use Rattle.um_manager.specs.Connections.{IsNew, HoldsFrameAt};
 ghost use Rattle.um_manager.specs.Lives.{life_of};
-ghost use Rattle.um_manager.specs.Living.{HasLived, IsLife, LivesOn, relying};
+ghost use Rattle.um_manager.specs.Living.{Reliance, HasLived, IsLife, LivesOn, relying};
 ghost use Rattle.um_manager.specs.Opening.{Opened, IsRefused, IsOfRefused, IsSilent};
 ghost use Rattle.um_manager.specs.Places.{place, place_in};
 ghost use Rattle.um_manager.specs.Replies.{IsOutput};
 ghost use Rattle.um_manager.specs.Scripts.{Runs};
 ghost use Rattle.um_manager.specs.Turns.{Turns, now_in};
-ghost use Rattle.um_model.specs.Disk.{seen, one_more, Images, During};
+ghost use Rattle.um_model.specs.Children.{Call};
+ghost use Rattle.um_model.specs.Disk.{Past, seen, one_more, Images, During};
 ghost use Rattle.um_model.specs.Lives.{Offer};
 ghost use Rattle.um_model.specs.Store.{body_limit};
 ghost use Rattle.um_model.specs.declared.layout.Layout.{Layout};
@@ -183,6 +184,10 @@ impl<D: Disk, C: Children> Manager<D, C> {
         ensures taken { IsOutput (slice_get self.old.sessions.items connection) result.bytes.items result.failed
             (slice_get self.new.sessions.items connection) }
         ensures others { (other : ℕ) → other ≢ connection → slice_get self.new.sessions.items other ≡ slice_get self.old.sessions.items other }
+        ensures life { (layout : Layout) (on : Reliance) (disk : Past) (before : List Call) (offered : List Offer) → HasLived layout on disk before offered
+            (now_in self.old.keeper (C.past self.old.children) self.old.marks self.old.sessions.items (D.past (disk_in self.old.keeper)))
+            → HasLived layout on disk before offered
+            (now_in self.new.keeper (C.past self.new.children) self.new.marks self.new.sessions.items (D.past (disk_in self.new.keeper))) }
         ensures keeper { self.new.keeper ≡ self.old.keeper }
         ensures children { self.new.children ≡ self.old.children }
         ensures marks { self.new.marks ≡ self.old.marks }

@@ -59,7 +59,7 @@ loop-preserved g c =
       moments = λ h. h;
     }) p.1) in
     let rounds = joined known later start inv.done.0 (p.0 ∷ []) (Ok tt) begun before after
-    (record { children = λ h. h; calls = c.round.ensures.gate.whole; gate = λ h. h; events = c.round.ensures.gate.whole; clock = λ h. h; moments = c.round.ensures.clock.whole })
+    (record { children = λ h. h; calls = c.round.ensures.frame.children.whole; gate = λ h. h; events = c.round.ensures.gate.whole; clock = λ h. h; moments = c.round.ensures.clock.whole })
     inv.done.2 (inl (after, round, (inl refl, refl))) in
     let e : length (inv.done.0 ++ p.0 ∷ []) ≡ c.loop.counter + 1 = omega (arith, inv.done.1, length-append inv.done.0 (p.0 ∷ [])) in
     record {
@@ -127,7 +127,7 @@ returns-in-Err-clause-serves g c =
       moments = λ h. h;
     }) last.2) in
     let rounds = joined known later start inv.done.0 last.0 (Err c.in-Err.refusal) begun before after
-    (record { children = λ h. h; calls = c.round.ensures.gate.whole; gate = λ h. h; events = c.round.ensures.gate.whole; clock = λ h. h; moments = c.round.ensures.clock.whole })
+    (record { children = λ h. h; calls = c.round.ensures.frame.children.whole; gate = λ h. h; events = c.round.ensures.gate.whole; clock = λ h. h; moments = c.round.ensures.clock.whole })
     inv.done.2 ends in
     (inv.done.0 ++ last.0, omega (arith, inv.done.1, last.1, c.loop-test.true, length-append inv.done.0 last.0), rounds)
 

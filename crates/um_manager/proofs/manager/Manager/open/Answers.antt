@@ -144,7 +144,7 @@ returns-in-Err-begin-clause-refuses g c = λ sure layout images.
     refl
     (subst (λ (z : Layout). During first (D.past (disk_in k)) (IsAsBefore z first)) same
     (c.in-Ok.ensures.during sure (layout_in k) (subst (λ (z : Layout). Images first (IsSomeStore z)) (sym same) images)))
-    (subst (λ (p : Place). Refuses p h w _ c.args.moment c.args.boot a b)
+    (subst (λ (p : Place). Refuses p h w c.in-Err-begin.refusal c.args.moment c.args.boot a b)
     (opened_place (ap body_limit (sym same) ∙ sym c.in-Ok.ensures.sized) (sym same) (ok.2 ∙ sure) ok.0) refuses)
     (ap D.past c.into_disk.ensures) refl
 
