@@ -10,7 +10,11 @@ mod input;
 mod input_bytes;
 mod job_bytes;
 mod laws;
+mod maps;
+mod named;
 mod reply;
+mod row;
+mod rows;
 mod state;
 mod state_bytes;
 mod unit_bytes;
@@ -26,6 +30,7 @@ pub use laws::{
     the_empty_state_has_a_spelling, units_are_told_apart_by_look_ups,
 };
 pub use reply::{JobShown, Reply, UnitListed, UnitShown};
+pub use row::Row;
 pub use state::State;
 pub use um_service::{Action, Start};
 pub use units::{Pending, Units};
