@@ -348,6 +348,18 @@ impl Pending {
         }
     }
 
+    /// The jobs of these rows, each of the unit with its number.
+    pub fn of(alloc: Global, names: &Names, jobs: Vec<UnitJobs>) -> Result<Pending, AllocError>
+        requires { vec_len jobs ≡ length names.now }
+        ensures names { IfOk result (λ p. p.names ≡ names.now) }
+        ensures held { IfOk result (λ p. p.held ≡ jobs_by names.now jobs.items) }
+    {
+        // The proof reads here that the names ascend.
+        let _ = names.len();
+        let names = names.copy()?;
+        Ok(Pending { alloc, names, jobs })
+    }
+
     /// The jobs of the map, by these names.
     fn over(
         alloc: Global,
