@@ -1,5 +1,6 @@
 pub mod AwaitingLaws
 pub mod BackLaws
+pub mod DeltaLaws
 pub mod DueLaws
 pub mod Distinct
 pub mod EntryLaws
@@ -8,12 +9,16 @@ pub mod Fronts
 pub mod HeldLaws
 pub mod InputArms
 pub mod JobLists
+pub mod NameLists
+pub mod PickLaws
 pub mod PutLaws
 pub mod RenumberLaws
 pub mod SameLaws
+pub mod SameRows
 pub mod SetLaws
 pub mod StateFields
 pub mod StateRows
 pub mod TableLaws
 pub mod UnitScans
 pub mod UnitsRead
+pub mod WorkLaws

@@ -1,5 +1,6 @@
 pub mod Arms
 pub mod Awaiting
+pub mod Deltas
 pub mod Due
 pub mod Finding
 pub mod Rows
@@ -7,3 +8,4 @@ pub mod Short
 pub mod Shown
 pub mod Tables
 pub mod View
+pub mod Working

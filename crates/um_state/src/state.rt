@@ -1,4 +1,4 @@
-ghost use Rattle.std.specs.Prelude.{◌≡◌, ◌↔◌, ℕ, List, true, Contains, string_bytes, IsTrue, IfOk, OnOk, OnErr, IfErr, Ok, Err};
+ghost use Rattle.std.specs.Prelude.{◌≡◌, ◌↔◌, ℕ, List, true, Contains, string_bytes, IsTrue, IfOk, IfSome, OnOk, OnErr, IfErr, Ok, Err};
 ghost use Rattle.std.specs.Coded.{codes};
 ghost use Rattle.std.specs.FinMap as maps;
 ghost use Rattle.um_model.specs.Machine.{IsHeld, booted, empty_state};
@@ -7,13 +7,14 @@ ghost use Rattle.um_model.specs.Standing.{Standing};
 ghost use Rattle.um_model.specs.Jobs.{with_jobs};
 ghost use Rattle.um_model.specs.Tree.{put_file, put_link, remove_at};
 ghost use Rattle.um_name.specs.Names.{IsApart};
-ghost use Rattle.um_state.specs.Rows.{common_names, put_row};
+ghost use Rattle.um_state.specs.Rows.{common_names, put_row, timed};
+ghost use Rattle.um_state.specs.Working.{AreRowsOf};
 ghost use Rattle.um_tree.specs.Code.{tree_code};
 ghost use Rattle.um_wire.specs.Refusal.{refused_of};
 ghost use Rattle.um_wire.specs.declared.refusal.Refusal.TheVariants.{NoMemory};
 
 use crate::boot::BootId;
-use crate::row::Row;
+use crate::row::{Numbered, Row};
 use crate::units::{Pending, Units};
 use std::alloc::{AllocError, Global};
 use std::marker::Model;
@@ -249,6 +250,14 @@ impl State {
         self.clock = clock;
     }
 
+    /// Sets the moment of the last step and the next process number.
+    pub fn set_times(&mut self, clock: Moment, next: NextNumber)
+        ensures { self.new ≡ timed clock next self.old }
+    {
+        self.clock = clock;
+        self.next = next;
+    }
+
     /// Another boot begins: nothing is held of any unit, and what stood under `run/` is gone from both trees. It takes no memory.
     pub fn begin_boot(&mut self, alloc: Global, boot: BootId)
         ensures { state_of self.new ≡ booted boot (state_of self.old) }
@@ -288,6 +297,20 @@ impl State {
         self.units = units;
         self.is_common = true;
         Ok(())
+    }
+
+    /// The rows of units and pending jobs, with the names that they have. None where these have no common numbers.
+    pub fn numbered(&self) -> Option<Numbered<'_>>
+        ensures { IfSome result (AreRowsOf self.now) }
+    {
+        if !self.is_common {
+            return None;
+        }
+        Some(Numbered {
+            names: self.units.numbers(),
+            units: self.units.rows(),
+            jobs: self.pending.rows(),
+        })
     }
 
     /// Exchanges what is held of the unit with the row's number for what the row tells; past the last one, and where units and jobs have no common
