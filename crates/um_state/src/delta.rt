@@ -34,7 +34,7 @@ impl Delta {
     /// What leads from where the work began to where it has come, at that moment.
     pub fn of(alloc: Global, work: &Work<'_>, clock: Moment) -> Result<Delta, AllocError>
         ensures after { IfOk result (λ d. delta_after d work.now.base ≡ timed clock (state_of work.now.now).next work.now.now) }
-        ensures count { IfOk result (λ d. CountsDiffering (state_of work.now.base) (state_of work.now.now) (vec_len d.rows)) }
+        ensures count { IfOk result (λ d. CountsDiffering (state_of work.now.base) (state_of (delta_after d work.now.base)) (vec_len d.rows)) }
     {
         let next = work.next();
         let rows = work.changed(alloc)?;
