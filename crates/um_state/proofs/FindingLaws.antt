@@ -1,9 +1,9 @@
 -- What a finder tells once a row is set, a number is let go, or each row was added; and what the row of a number says of the units.
-use Rattle.std.proofs.Common.{ℕ, ◌≡◌, ◌≢◌, ◌∙◌, ◌⊎◌, ◌<◌, ◌+◌, true, false, cond, List, [], ◌∷◌, length, Some, None, Option, set, get_or, refl, sym, ap, subst, arith, true≢false, is_some, unwrap_or, inl, inr}
+use Rattle.std.proofs.Common.{ℕ, ◌≡◌, ◌≢◌, ◌∙◌, ◌⊎◌, ◌<◌, ◌+◌, true, false, cond, List, [], ◌∷◌, length, Some, None, Option, MatchOption, set, get_or, refl, sym, ap, subst, arith, true≢false, is_some, unwrap_or, inl, inr}
 use Rattle.std.specs.BTreeMap as tree
 use Rattle.std.specs.Ordering.{nat_cmp, eq_by_cmp}
 use Rattle.std.proofs.lemmas.Bool.{cases_lt}
-use Rattle.std.proofs.lemmas.List.{get_or-set_same, get_or-set_other, get_or_past}
+use Rattle.std.proofs.lemmas.List.{get_or-set_same, get_or-set_other, get_or_default, get_or_past}
 use Rattle.std.proofs.lemmas.Map.Views.{tells_apart}
 use Rattle.std.proofs.lemmas.Map.Lookups.{exact_unsigned}
 use Rattle.std.proofs.lemmas.Option.{none-some}
@@ -24,6 +24,10 @@ use Rattle.um_state.proofs.TableLaws.{by_at, by_none}
 pub nobody : (n : ℕ) → HasNumber dead_unit n → ⊥
 nobody n (inl e) = none-some n e
 nobody n (inr e) = none-some n e
+
+-- an item of a list is the row with its number
+pub row_is : (rows : List UnitState) (i : ℕ) (u : UnitState) → i < length rows → u ≡ get_or rows i u → u ≡ row_at rows i
+row_is rows i u h e = e ∙ get_or_default rows i u dead_unit h
 
 -- two numbers are the same or not
 same_row : (i j : ℕ) → (j ≡ i) ⊎ (j ≢ i)
@@ -121,11 +125,21 @@ told_wrong rows finder number i finds alone told wrong j has =
     let same : j ≡ i = ap (λ o. unwrap_or o i) (sym (finds j number has alone) ∙ told) in
     wrong (subst (λ k. HasNumber (row_at rows k) number) same has)
 
+-- what the row of a number says where it is told of the number
+pub told_or_not : (rows : List UnitState) (finder : Finder) (number row : ℕ) → Finds rows finder → finder.is_partial ≡ false → tree.get nat_cmp finder.rows number ≡ Some row
+    → (r : Option ℕ) → MatchOption r (¬ HasNumber (row_at rows row) number) (λ i. (i ≡ row) × HasNumber (row_at rows row) number) → MatchOption r (NoneHas rows number) (IsFirstWith rows number)
+told_or_not rows finder number row finds alone told None wrong = told_wrong rows finder number row finds alone told wrong
+told_or_not rows finder number row finds alone told (Some i) (is, has) = subst (IsFirstWith rows number) (sym is) (found rows finder number row finds alone told has)
+
 -- ---- what rows say of the units
 
 module _ (t : Table UnitState) (names : List (List ℕ)) (rows : List UnitState) (seen : record { names = names; held = units_by names rows } ≡ t) (sorted : AreAscending names) where
   at_number : (i : ℕ) → i < length names → state_of_unit (units_by names rows) (name_at names i) ≡ row_at rows i
   at_number i h = by_at dead_unit with_unit units_put names rows (names_once names sorted) i h
+
+  -- what a row says of the unit with its number
+  pub told_row : (i : ℕ) → i < length t.names → row_at rows i ≡ state_of_unit t.held (name_at t.names i)
+  told_row i h = subst (λ (u : Table UnitState). i < length u.names → row_at rows i ≡ state_of_unit u.held (name_at u.names i)) seen (λ k. sym (at_number i k)) h
 
   -- what is so of a dead unit and of each row is so of each unit
   pub of_each : (P : UnitState → Type 0) → P dead_unit → ((i : ℕ) → P (row_at rows i)) → (x : List ℕ) → P (state_of_unit t.held x)

@@ -1,7 +1,7 @@
 -- A table over other names: it stands for the same map where all that is held has a name there.
-use Rattle.std.proofs.Common.{◌≡◌, ◌≢◌, ◌⊎◌, ◌∙◌, ◌+◌, ◌<◌, ◌≤◌, ◌++◌, ℕ, Bool, true, false, true≢false, cond, List, [], ◌∷◌, length, get_or, replicate, refl, sym, ap, subst, inl, inr, arith, length-append}
+use Rattle.std.proofs.Common.{◌≡◌, ◌≢◌, ◌⊎◌, ◌∙◌, ◌+◌, ◌<◌, ◌≤◌, ◌++◌, ℕ, Bool, true, false, true≢false, cond, List, [], ◌∷◌, length, set, get_or, replicate, refl, sym, ap, subst, inl, inr, arith, length-append}
 use Rattle.std.proofs.lemmas.Bool.{cases_lt}
-use Rattle.std.proofs.lemmas.List.{get_or-replicate, get_or_append_left}
+use Rattle.std.proofs.lemmas.List.{get_or-replicate, get_or-set_other, get_or-set_same, get_or_append_left}
 use Rattle.std.proofs.Math.Seq.{get_or-append_seam}
 use Rattle.std.specs.FinMap as map
 use Rattle.um_name.specs.Names.{name_at, IsApart, AreAscending, HasPlace}
@@ -24,6 +24,16 @@ rows_more d rows new x i f e l before at k h = elim (cases_lt k i) as (λ _. get
       let same : k ≡ i = omega (arith, h, past) in
       let last : k ≡ length rows = omega (arith, same, l) in
       ap (λ xs. get_or xs k d) e ∙ (ap (λ j. get_or (rows ++ x ∷ []) j d) last ∙ (get_or-append_seam rows x [] d ∙ (at ∙ ap f (sym same))))
+]
+
+-- a row is set
+pub rows_set : {A : Type 0} (d : A) (rows : List A) (x : A) (i : ℕ) (f : ℕ → A) → i < length rows → ((k : ℕ) → k < i → get_or rows k d ≡ f k) → x ≡ f i
+    → (k : ℕ) → k < i + 1 → get_or (set rows i x) k d ≡ f k
+rows_set d rows x i f within before at k h = elim (cases_lt k i) as (λ _. get_or (set rows i x) k d ≡ f k) [
+  | inl lower ↦ get_or-set_other rows i k x d (λ e. absurd (omega (arith, lower, e))) ∙ before k lower
+  | inr past ↦
+      let same : k ≡ i = omega (arith, h, past) in
+      ap (λ j. get_or (set rows i x) j d) same ∙ (get_or-set_same rows i x d within ∙ (at ∙ ap f (sym same)))
 ]
 
 module _ {A : Type 0} (nothing : A) (put : ByUnit A → List ℕ → A → ByUnit A) (puts : Puts nothing put) where

@@ -1,6 +1,6 @@
 -- Two tables hold the same exactly where each says of the other's names what that says; and names that are none of a table's.
-use Rattle.std.proofs.Common.{◌≡◌, ◌≢◌, ◌⊎◌, ◌∙◌, ◌<◌, ◌||◌, ◌++◌, ℕ, zero, suc, Bool, true, false, true≢false, List, [], ◌∷◌, length, get_or, Option, Some, None, unwrap_or, refl, sym, ap, subst, inl, inr, arith}
-use Rattle.std.specs.Prelude.{Contains}
+use Rattle.std.proofs.Common.{◌≡◌, ◌≢◌, ◌⊎◌, ◌∙◌, ◌↔◌, ◌<◌, ◌||◌, ◌++◌, ℕ, zero, suc, Bool, true, false, true≢false, List, [], ◌∷◌, length, get_or, Option, Some, None, unwrap_or, refl, sym, ap, subst, inl, inr, arith}
+use Rattle.std.specs.Prelude.{Contains, IsTrue}
 use Rattle.std.specs.FinMap as map
 use Rattle.std.specs.Cmp.Lexicographic.{nat_list_eq_equiv}
 use Rattle.std.specs.List.{list_any}
@@ -11,6 +11,7 @@ use Rattle.std.proofs.lemmas.Map.Views.{list_any-from_Contains}
 use Rattle.std.proofs.lemmas.Option.{none-some}
 use Rattle.std.proofs.lemmas.Slice.Eq.{bytes_eq-Decides}
 use Rattle.um_model.specs.Service.{ByUnit}
+use Rattle.um_model.specs.Standing.{Table}
 use Rattle.um_model.proofs.UnitLaws.{IsTidy}
 use Rattle.um_name.specs.Names.{AreAscending, IsApart, name_at}
 use Rattle.um_name.proofs.NumberLaws.{among_or_apart, names_once}
@@ -76,3 +77,35 @@ module _ {A : Type 0} (nothing : A) (put : ByUnit A → List ℕ → A → ByUni
 
   pub same_told : (ns : List (List ℕ)) (rows : List A) (m : ByUnit A) → AreAscending ns → by_names put ns rows ≡ m → (i : ℕ) → i < length ns → get_or rows i nothing ≡ look nothing m (name_at ns i)
   same_told ns rows m sorted e i h = sym (by_at nothing put puts ns rows (names_once ns sorted) i h) ∙ ap (λ n. look nothing n (name_at ns i)) e
+
+  -- ---- the same of two tables, by what a test says of the rows of each
+
+  module _ (t u : Table A) (ns ms : List (List ℕ)) (rows others : List A) (seen : record { names = ns; held = by_names put ns rows } ≡ t) (also : record { names = ms; held = by_names put ms others } ≡ u)
+      (sorted : AreAscending ns) (rising : AreAscending ms) (xs : List A) (are : xs ≡ rows) (a : Bool)
+      (one : IsTrue a ↔ ((i : ℕ) → i < length ns → get_or xs i nothing ≡ look nothing u.held (name_at ns i))) where
+    held_so : by_names put ns rows ≡ t.held
+    held_so = ap (λ (v : Table A). v.held) seen
+
+    held_too : by_names put ms others ≡ u.held
+    held_too = ap (λ (v : Table A). v.held) also
+
+    -- the first says no
+    pub not_told : a ≡ false → IsTrue a ↔ (t.held ≡ u.held)
+    not_told no = (
+      λ is. absurd (true≢false (sym is ∙ no)),
+      λ same. one.1 (λ i h. ap (λ zs. get_or zs i nothing) are ∙ same_told ns rows u.held sorted (held_so ∙ same) i h),
+    )
+
+    told_one : IsTrue a → (i : ℕ) → i < length ns → get_or rows i nothing ≡ look nothing (by_names put ms others) (name_at ns i)
+    told_one is i h = ap (λ zs. get_or zs i nothing) (sym are) ∙ (one.0 is i h ∙ ap (λ m. look nothing m (name_at ns i)) (sym held_too))
+
+    module _ (ys : List A) (were : ys ≡ others) (b : Bool) (other : IsTrue b ↔ ((i : ℕ) → i < length ms → get_or ys i nothing ≡ look nothing t.held (name_at ms i))) where
+      told_other : IsTrue b → (i : ℕ) → i < length ms → get_or others i nothing ≡ look nothing (by_names put ns rows) (name_at ms i)
+      told_other is i h = ap (λ zs. get_or zs i nothing) (sym were) ∙ (other.0 is i h ∙ ap (λ m. look nothing m (name_at ms i)) (sym held_so))
+
+      -- the first says yes, and the other tells
+      pub both_told : IsTrue a → IsTrue b ↔ (t.held ≡ u.held)
+      both_told is = (
+        λ too. sym held_so ∙ (told_same ns ms rows others sorted rising (told_one is) (told_other too) ∙ held_too),
+        λ same. other.1 (λ i h. ap (λ zs. get_or zs i nothing) were ∙ same_told ms others t.held rising (held_too ∙ sym same) i h),
+      )

@@ -1,11 +1,11 @@
 //! Which row a number is of, found without a look at all rows.
 
-ghost use Rattle.std.specs.Prelude.{◌≡◌, ℕ, [], true, false, Some, None};
+ghost use Rattle.std.specs.Prelude.{◌≡◌, ℕ, [], true, false, Some, None, MatchOption};
 ghost use Rattle.std.specs.BTreeMap as tree;
 ghost use Rattle.std.specs.Ordering.{nat_cmp};
 ghost use Rattle.um_model.specs.Transitions.{HasNumber};
 ghost use Rattle.um_state.specs.Awaiting.{NoneAwaits};
-ghost use Rattle.um_state.specs.Finding.{Finds, Tells, row_at};
+ghost use Rattle.um_state.specs.Finding.{Finds, IsFirstWith, NoneHas, Tells, row_at};
 
 use crate::awaited::awaited_by;
 use std::alloc::Global;
@@ -19,6 +19,29 @@ pub(crate) fn row_in(rows: &[UnitState], i: usize) -> UnitState
     match rows.get(i) {
         Some(state) => *state,
         None => UnitState::DEAD,
+    }
+}
+
+/// The first row that has the number.
+pub(crate) fn first_with(rows: &[UnitState], number: u64) -> Option<usize>
+    ensures { MatchOption result (NoneHas rows.now number) (IsFirstWith rows.now number) }
+{
+    for i in 0..rows.len() {
+        if rows[i].has_number(number) {
+            return Some(i);
+        }
+    }
+    None
+}
+
+/// The row, where it has the number.
+fn row_with(rows: &[UnitState], row: usize, number: u64) -> Option<usize>
+    ensures { MatchOption result (¬ HasNumber (row_at rows.now row) number) (λ i. (i ≡ row) × HasNumber (row_at rows.now row) number) }
+{
+    if row_in(rows, row).has_number(number) {
+        Some(row)
+    } else {
+        None
     }
 }
 
@@ -133,6 +156,20 @@ impl Finder {
         match self.rows.get(&number) {
             Some(row) => awaited_by(&row_in(rows, *row)).is_some(),
             None => false,
+        }
+    }
+
+    /// The first row that has the number. It takes no memory.
+    pub(crate) fn row(&self, rows: &[UnitState], number: u64) -> Option<usize>
+        requires { Finds rows.now self.now }
+        ensures { MatchOption result (NoneHas rows.now number) (IsFirstWith rows.now number) }
+    {
+        if self.is_partial {
+            return first_with(rows, number);
+        }
+        match self.rows.get(&number) {
+            Some(row) => row_with(rows, *row, number),
+            None => None,
         }
     }
 

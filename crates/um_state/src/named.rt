@@ -30,5 +30,6 @@ pub(crate) fn names_with(
 {
     let mut listed = listed(alloc, names)?;
     listed.push(unit.copy()?)?;
-    Names::of(alloc, &listed)
+    let more = Names::of(alloc, &listed)?;
+    Ok(more)
 }

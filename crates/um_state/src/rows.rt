@@ -1,6 +1,6 @@
 //! Rows of units and of pending jobs in the order of their names, and what they say by name.
 
-ghost use Rattle.std.specs.Prelude.{◌≡◌, ◌↔◌, ◌++◌, ◌∷◌, ◌<◌, [], ℕ, List, length, map, IsTrue, MatchOption, IfOk, OnOk, if◌then◌else◌, slice_index_or};
+ghost use Rattle.std.specs.Prelude.{◌≡◌, ◌↔◌, ◌++◌, ◌∷◌, ◌<◌, [], ℕ, List, length, map, IsTrue, IfOk, OnOk, if◌then◌else◌, slice_index_or};
 ghost use Rattle.std.specs.Cmp.Lexicographic.{slice_cmp};
 ghost use Rattle.std.specs.FinMap as maps;
 ghost use Rattle.std.specs.Ordering.{nat_cmp};
@@ -9,7 +9,7 @@ ghost use Rattle.um_model.specs.Machine.{AreDeadlines};
 ghost use Rattle.um_model.specs.Service.{state_of_unit, with_unit};
 ghost use Rattle.um_name.specs.Names.{AreAscending, name_at};
 ghost use Rattle.um_state.specs.Due.{with_deadline};
-ghost use Rattle.um_state.specs.Finding.{IsFirstWith, NoneHas, row_at};
+ghost use Rattle.um_state.specs.Finding.{row_at};
 ghost use Rattle.um_state.specs.Shown.{job_of};
 ghost use Rattle.um_state.specs.Tables.{jobs_by, units_by};
 
@@ -21,18 +21,6 @@ use std::collections::BTreeMap;
 use um_model::{JobKind, JobState, UnitJobs, UnitState};
 use um_name::{Names, UnitName};
 use um_timer::Timers;
-
-/// The first row that has the number.
-pub(crate) fn first_with(rows: &[UnitState], number: u64) -> Option<usize>
-    ensures { MatchOption result (NoneHas rows.now number) (IsFirstWith rows.now number) }
-{
-    for i in 0..rows.len() {
-        if rows[i].has_number(number) {
-            return Some(i);
-        }
-    }
-    None
-}
 
 /// Adds the name with this number behind the others, where something is held of its unit.
 fn push_if(
@@ -86,6 +74,17 @@ pub(crate) fn push_held_jobs(
     Ok(())
 }
 
+/// How the unit with this number stands.
+fn state_numbered(names: &Names, i: usize, entries: &BTreeMap<UnitName, UnitState>) -> UnitState
+    requires { i < length names.now }
+    ensures { result ≡ state_of_unit (maps.from_entries {R = slice_cmp nat_cmp} entries.now.entries) (name_at names.now i) }
+{
+    match names.name(i) {
+        Some(name) => state_in(entries, name),
+        None => unreachable!(),
+    }
+}
+
 /// How the unit of each name stands.
 pub(crate) fn unit_rows_in(
     alloc: Global,
@@ -97,12 +96,9 @@ pub(crate) fn unit_rows_in(
     ensures len { IfOk result (λ rows. length rows.items ≡ length names.now) }
     ensures ascending { AreAscending names.now }
 {
-    let mut rows = Vec::new(alloc);
+    let mut rows = vec![in alloc; UnitState::DEAD; names.len()]?;
     for i in 0..names.len() {
-        match names.name(i) {
-            Some(name) => rows.push(state_in(entries, name))?,
-            None => unreachable!(),
-        }
+        rows[i] = state_numbered(names, i, entries);
     }
     Ok(rows)
 }

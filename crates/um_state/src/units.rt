@@ -21,7 +21,7 @@ use crate::maps::{hold, hold_jobs, push_keys};
 use crate::named::names_with;
 use crate::reply::JobShown;
 use crate::rows::{
-    deadlines_of, first_with, job_map_of, job_rows_in, jobs_told_by, push_held_jobs,
+    deadlines_of, job_map_of, job_rows_in, jobs_told_by, push_held_jobs,
     push_held_units, shown_of, unit_map_of, unit_rows_in, units_told_by,
 };
 use std::alloc::{AllocError, Global};
@@ -264,13 +264,7 @@ impl Units {
     fn place(&self, number: u64) -> Option<usize>
         ensures { MatchOption result (IsOver self.now.held number) (λ i. (i < length self.now.names) × IsProcessOf self.now.held number (name_at self.now.names i)) }
     {
-        if self.finder.is_partial {
-            return first_with(&self.states, number);
-        }
-        match self.finder.rows.get(&number) {
-            Some(i) if row_in(&self.states, *i).has_number(number) => Some(*i),
-            Some(_) | None => None,
-        }
+        self.finder.row(&self.states, number)
     }
 
     /// The unit of the live process with this number; of several the one with the least name. It takes no memory.

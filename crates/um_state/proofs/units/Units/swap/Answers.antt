@@ -13,6 +13,6 @@ returns-then-i-len-clause-held c =
 
 pub returns-then-i-len-clause-back : goal.returns-then-i-len-clause-back
 returns-then-i-len-clause-back c =
-    ap (λ rows. unit_put c.self.inside.names (units_by c.self.inside.names rows) c.args.i c.index.result.now) c.put.ensures.states
+    ap (λ rows. unit_put c.self.inside.names (units_by c.self.inside.names rows) c.args.i c.index-before.result.now) c.put.ensures.states
     ∙ swap_back dead_unit with_unit units_put c.args.self.now c.self.inside.names c.self.inside.states.items c.self.view_is c.self.invariant.1
-    c.args.i c.args.state.now c.index.result.now c.index.result.now (omega arith) (omega arith) refl c.index.ensures
+    c.args.i c.args.state.now c.index-before.result.now c.index-before.result.now (omega arith) (omega arith) refl c.index-before.ensures

@@ -1,7 +1,7 @@
 use Rattle.std.proofs.Common.{◌∙◌, ap, refl}
 use Rattle.um_state.specs.Due.{are_later, is_later}
 use Rattle.um_state.proofs.EntryLaws.{unit_all}
-use Rattle.um_state.proofs.due.Units.are_later.Goals as goal
+use Rattle.um_state.proofs.units.Units.are_later.Goals as goal
 
 pub returns : goal.returns
 returns c =

@@ -2,7 +2,7 @@ use Rattle.std.proofs.Common.{◌∙◌, ap, refl}
 use Rattle.um_model.specs.StateSpellings.{have_begun}
 use Rattle.um_model.proofs.Forms.{has_begun}
 use Rattle.um_state.proofs.EntryLaws.{unit_all}
-use Rattle.um_state.proofs.unit_bytes.Units.have_begun.Goals as goal
+use Rattle.um_state.proofs.units.Units.have_begun.Goals as goal
 
 pub returns : goal.returns
 returns c =

@@ -2,7 +2,7 @@ use Rattle.std.proofs.Common.{◌∙◌, ap, refl}
 use Rattle.um_model.specs.StateSpellings.{numbers_in}
 use Rattle.um_model.specs.Transitions.{live_numbers}
 use Rattle.um_state.proofs.EntryLaws.{unit_flat}
-use Rattle.um_state.proofs.unit_bytes.Units.processes.Goals as goal
+use Rattle.um_state.proofs.units.Units.processes.Goals as goal
 
 pub returns : goal.returns
 returns c =
