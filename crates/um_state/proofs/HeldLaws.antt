@@ -6,6 +6,7 @@ use Rattle.std.specs.Cmp.Lexicographic.{nat_list_cmp_total}
 use Rattle.std.specs.FinMap as map
 use Rattle.std.proofs.lemmas.List.Elements.{Contains-append_left, Contains-append_right, Contains-append_cases}
 use Rattle.std.proofs.lemmas.Map.Views.{list_any-from_Contains}
+use Rattle.std.proofs.lemmas.Option.{none-some}
 use Rattle.um_model.proofs.AmongLaws.{contains_among}
 use Rattle.um_model.proofs.TimersLaws.{among_keys}
 use Rattle.um_model.proofs.UnitLaws.{IsTidy, no_job_held, nothing_held}
@@ -25,6 +26,14 @@ key_there m unit key = λ none.
 
 pub there_key : {A : Type 0} (m : ByUnit A) (unit : List ℕ) → map.get m unit ≢ None → Contains (map.keys m) unit
 there_key m unit there = contains_among (map.keys m) unit (among_keys m unit (some_there (map.get m unit) there))
+
+-- of a name that isn't held nothing is told
+pub nothing_there : {A : Type 0} (nothing : A) (m : ByUnit A) (x : List ℕ) → (map.get m x ≢ None → ⊥) → unwrap_or (map.get m x) nothing ≡ nothing
+nothing_there {A = A} nothing m x free = by (map.get m x) free
+  where
+    by : (o : Option A) → (o ≢ None → ⊥) → unwrap_or o nothing ≡ nothing
+    by None h = refl
+    by (Some v) h = absurd (h (λ e. none-some v (sym e)))
 
 -- the names of two maps are those that one of them holds
 pub keys_held : {A B : Type 0} (m : ByUnit A) (n : ByUnit B) (unit : List ℕ) → Contains (map.keys m ++ map.keys n) unit ↔ ((map.get m unit ≢ None) ⊎ (map.get n unit ≢ None))
