@@ -58,14 +58,15 @@ fn note_change(
 /// The rows that differ.
 fn changed_rows(
     alloc: Global,
-    was: Numbered<'_>,
+    was: &[UnitState],
+    had: &[UnitJobs],
     units: &[UnitState],
     jobs: &[UnitJobs],
 ) -> Result<Vec<Row>, AllocError>
-    requires was { length was.units.now ≡ length units.now }
-    requires had { length was.jobs.now ≡ length units.now }
+    requires was { length was.now ≡ length units.now }
+    requires had { length had.now ≡ length units.now }
     requires jobs { length jobs.now ≡ length units.now }
-    ensures { IfOk result (λ rows. rows.items ≡ changed was.units.now was.jobs.now units.now jobs.now (length units.now)) }
+    ensures { IfOk result (λ rows. rows.items ≡ changed was.now had.now units.now jobs.now (length units.now)) }
 {
     let mut rows = Vec::new(alloc);
     for number in 0..units.len() {
@@ -74,7 +75,7 @@ fn changed_rows(
             unit: units[number],
             jobs: jobs[number],
         };
-        note_change(&mut rows, row, &was.units[number], &was.jobs[number])?;
+        note_change(&mut rows, row, &was[number], &had[number])?;
     }
     Ok(rows)
 }
@@ -158,7 +159,7 @@ impl<'s> Work<'s> {
         ensures after { IfOk result (λ rows. (clock next : ℕ) → rows_after rows.items (timed clock next self.now.base) ≡ timed clock next self.now.now) }
         ensures count { IfOk result (λ rows. CountsDiffering (state_of self.now.base) (state_of self.now.now) (vec_len rows)) }
     {
-        let rows = changed_rows(alloc, self.was, &self.units, &self.jobs)?;
+        let rows = changed_rows(alloc, self.was.units, self.was.jobs, &self.units, &self.jobs)?;
         Ok(rows)
     }
 }
