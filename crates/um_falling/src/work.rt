@@ -1,15 +1,17 @@
 //! A step in work.
 
-ghost use Rattle.std.specs.Prelude.{◌≡◌, ◌<◌, ◌++◌, [], length, map, vec_len, IfOk, IfSome, MatchOption, OnOk};
+ghost use Rattle.std.specs.Prelude.{◌≡◌, ◌↔◌, ◌<◌, ◌++◌, [], IsTrue, length, map, vec_len, IfOk, IfSome, MatchOption, OnOk};
 ghost use Rattle.std.specs.Coded.{codes};
 ghost use Rattle.std.specs.FinMap as maps;
 ghost use Rattle.um_falling.specs.Over.{Serves};
 ghost use Rattle.um_falling.specs.Work.{Keeps, WorkView};
 ghost use Rattle.um_model.specs.Jobs.{jobs_of_unit};
+ghost use Rattle.um_model.specs.Machine.{IsHeld};
 ghost use Rattle.um_model.specs.Service.{state_of_unit};
 ghost use Rattle.um_name.specs.Names.{HasPlace, IsApart, name_at};
 ghost use Rattle.um_state.specs.Deltas.{delta_after};
 ghost use Rattle.um_state.specs.Rows.{timed};
+ghost use Rattle.um_state.specs.Tables.{jobs_by};
 ghost use Rattle.um_state.specs.View.{state_of, action_of};
 ghost use Rattle.um_state.specs.Working.{CountsDiffering, jobs_set, next_set, unit_set};
 ghost use Rattle.um_tree.specs.Code.{tree_code};
@@ -108,6 +110,22 @@ impl<'g> Work<'g> {
         ensures { result ≡ jobs_of_unit (state_of self.now.now).pending (name_at self.now.now.names unit) }
     {
         self.rows.jobs(unit)
+    }
+
+    /// The pending jobs of each unit, by number.
+    pub fn pending(&self) -> &[UnitJobs]
+        ensures held { jobs_by self.now.now.names result.now ≡ (state_of self.now.now).pending }
+        ensures len { length result.now ≡ length self.now.now.names }
+    {
+        self.rows.pending()
+    }
+
+    /// Whether anything is held of the unit with this number: how it stands, or a pending job.
+    pub fn holds(&self, unit: usize) -> bool
+        requires { unit < length self.now.now.names }
+        ensures { IsTrue result ↔ IsHeld (state_of self.now.now) (name_at self.now.now.names unit) }
+    {
+        !self.unit(unit).holds_nothing() || self.jobs(unit).has_job()
     }
 
     /// The next process number.

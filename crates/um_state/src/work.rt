@@ -7,6 +7,7 @@ ghost use Rattle.um_model.specs.Jobs.{jobs_of_unit};
 ghost use Rattle.um_model.specs.Service.{state_of_unit};
 ghost use Rattle.um_name.specs.Names.{HasPlace, IsApart, name_at};
 ghost use Rattle.um_state.specs.Rows.{rows_after, timed};
+ghost use Rattle.um_state.specs.Tables.{jobs_by};
 ghost use Rattle.um_state.specs.View.{state_of};
 ghost use Rattle.um_state.specs.Working.{AreRowsOf, CountsDiffering, WorkView, changed, is_same_jobs, is_same_unit, jobs_set, next_set, unit_set, with_rows};
 ghost use Rattle.um_tree.specs.Code.{tree_code};
@@ -119,6 +120,14 @@ impl<'s> Work<'s> {
         ensures { result ≡ jobs_of_unit (state_of self.now.now).pending (name_at self.now.now.names i) }
     {
         self.jobs[i]
+    }
+
+    /// The pending jobs of each unit, by number.
+    pub fn pending(&self) -> &[UnitJobs]
+        ensures held { jobs_by self.now.now.names result.now ≡ (state_of self.now.now).pending }
+        ensures len { length result.now ≡ length self.now.now.names }
+    {
+        self.jobs.as_slice()
     }
 
     /// The next process number.
