@@ -12,6 +12,7 @@ ghost use Rattle.um_model.specs.declared.refusals.Limit.TheVariants as limits;
 
 use std::alloc::{AllocError, Global};
 use std::marker::Model;
+use um_falling::Work;
 use um_graph::{Graph, known_units};
 use um_name::{Names, UnitName};
 use um_state::State;
@@ -240,4 +241,54 @@ impl Known {
         }
         self.lasts_for(state, named)
     }
+
+    /// Whether each unit of the graph of which the work holds anything is known without the entries under `run/` too.
+    pub fn lasts_in(&self, work: &Work<'_>) -> bool
+        requires { work.now.graph ≡ self.now.graph }
+        ensures { IsTrue result → (unit : List ℕ) → Contains self.now.graph.names unit → IsHeld (state_of work.now.now) unit → Contains self.now.lasting unit }
+    {
+        match &self.lasting {
+            Some(lasting) => all_among(lasting, &self.graph, work),
+            None => true,
+        }
+    }
+
+    /// Whether of each unit for which the graph was made the work holds something.
+    fn is_made_in(&self, work: &Work<'_>) -> bool
+        ensures { IsTrue result → (unit : List ℕ) → Contains self.now.extra unit → IsHeld (state_of work.now.now) unit }
+    {
+        for unit in &self.extra {
+            match work.number(unit) {
+                Some(number) if work.holds(number) => {}
+                Some(_) | None => return false,
+            }
+        }
+        true
+    }
+
+    /// Whether what is known is exactly what counts by the loaded tree, with the units of which the work holds anything.
+    pub fn fits_in(&self, work: &Work<'_>) -> bool
+        requires { work.now.graph ≡ self.now.graph }
+        ensures { IsTrue result → KnowsFor self.now (state_of work.now.now) → IsGraphFor (state_of work.now.now).loaded (IsHeld (state_of work.now.now)) self.now.graph }
+    {
+        self.is_made_in(work) && self.lasts_in(work)
+    }
+}
+
+/// Whether each unit of the graph of which the work holds anything is one of these names, which stand in their order.
+fn all_among(names: &[UnitName], graph: &Graph, work: &Work<'_>) -> bool
+    requires { work.now.graph ≡ graph.now }
+    ensures { IsTrue result → (unit : List ℕ) → Contains graph.now.names unit → IsHeld (state_of work.now.now) unit → Contains names.now unit }
+{
+    for number in 0..graph.len() {
+        match graph.name(number) {
+            Some(name) => {
+                if work.holds(number) && !is_among(names, name) {
+                    return false;
+                }
+            }
+            None => unreachable!(),
+        }
+    }
+    true
 }
