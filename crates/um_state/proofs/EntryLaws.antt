@@ -130,7 +130,7 @@ module _ {A : Type 0} (nothing : A) (is_held : A → Bool) where
     where
       by : (b : Bool) → map (λ (e : List ℕ × A). e.0) (held_rows is_held ns rows) ≡ gathered (λ i. cond (is_held (get_or rows i nothing)) (name_at ns i ∷ []) []) 0 (length ns)
           → map (λ (e : List ℕ × A). e.0) (cond b ((n, r) ∷ held_rows is_held ns rows) (held_rows is_held ns rows))
-              ≡ cond b (n ∷ []) [] ++ gathered (λ i. cond (is_held (get_or rows i nothing)) (name_at ns i ∷ []) []) 0 (length ns)
+          ≡ cond b (n ∷ []) [] ++ gathered (λ i. cond (is_held (get_or rows i nothing)) (name_at ns i ∷ []) []) 0 (length ns)
       by true rest = ap (λ xs. n ∷ xs) rest
       by false rest = rest
 
@@ -145,7 +145,7 @@ module _ {A : Type 0} (nothing : A) (is_held : A → Bool) where
     where
       by : (b : Bool) → is_held r ≡ b → flat_map (λ (e : List ℕ × A). g e.0 e.1) (held_rows is_held ns rows) ≡ gathered (λ i. g (name_at ns i) (get_or rows i nothing)) 0 (length ns)
           → flat_map (λ (e : List ℕ × A). g e.0 e.1) (cond b ((n, r) ∷ held_rows is_held ns rows) (held_rows is_held ns rows))
-              ≡ g n r ++ gathered (λ i. g (name_at ns i) (get_or rows i nothing)) 0 (length ns)
+          ≡ g n r ++ gathered (λ i. g (name_at ns i) (get_or rows i nothing)) 0 (length ns)
       by true t rest = ap (λ xs. g n r ++ xs) rest
       by false t rest = rest ∙ ap (λ ys. ys ++ gathered (λ i. g (name_at ns i) (get_or rows i nothing)) 0 (length ns)) (sym (none n r t))
 

@@ -153,10 +153,13 @@ module _ (t : Table UnitState) (names : List (List ℕ)) (rows : List UnitState)
   none_has number none = of_each (λ u. ¬ HasNumber u number) (nobody number) none
 
   pub first_has : (number i : ℕ) → length rows ≡ length names → IsFirstWith rows number i → (i < length t.names) × IsProcessOf t.held number (name_at t.names i)
-  first_has number i len f = subst (λ (u : Table UnitState). (i < length u.names) × IsProcessOf u.held number (name_at u.names i)) seen (within, record {
-    has = subst (λ u. HasNumber u number) (sym (at_number i within)) f.has;
-    first = λ other has apart. later other has apart (among_or_apart names other);
-  })
+  first_has number i len f = subst (λ (u : Table UnitState). (i < length u.names) × IsProcessOf u.held number (name_at u.names i)) seen (
+    within,
+    record {
+      has = subst (λ u. HasNumber u number) (sym (at_number i within)) f.has;
+      first = λ other has apart. later other has apart (among_or_apart names other);
+    },
+  )
     where
       within : i < length names
       within = omega (arith, f.within, len)

@@ -91,8 +91,8 @@ module _ {A : Type 0} (nothing : A) (put : ByUnit A → List ℕ → A → ByUni
 
     -- the first says no
     pub not_told : a ≡ false → IsTrue a ↔ (t.held ≡ u.held)
-    not_told no = (
-      λ is. absurd (true≢false (sym is ∙ no)),
+    not_told fails = (
+      λ is. absurd (true≢false (sym is ∙ fails)),
       λ same. one.1 (λ i h. ap (λ zs. get_or zs i nothing) are ∙ same_told ns rows u.held sorted (held_so ∙ same) i h),
     )
 

@@ -102,11 +102,7 @@ fn map_of(alloc: Global, jobs: Vec<JobShown>) -> Result<BTreeMap<UnitName, UnitJ
     let mut entries = BTreeMap::new(alloc);
     while let Some(job) = rest.pop() {
         let held = jobs_in(&entries, &job.unit);
-        hold_jobs(
-            &mut entries,
-            &job.unit,
-            with_job(job.kind, job.state, held),
-        )?;
+        hold_jobs(&mut entries, &job.unit, with_job(job.kind, job.state, held))?;
     }
     Ok(entries)
 }

@@ -21,11 +21,7 @@ fn listed(alloc: Global, names: &Names) -> Result<Vec<UnitName>, AllocError>
 }
 
 /// The names, and the unit's.
-pub(crate) fn names_with(
-    alloc: Global,
-    names: &Names,
-    unit: &UnitName,
-) -> Result<Names, AllocError>
+pub(crate) fn names_with(alloc: Global, names: &Names, unit: &UnitName) -> Result<Names, AllocError>
     ensures { IfOk result (λ more. (x : List ℕ) → IsApart more x → IsApart names.now x × (x ≢ unit.now)) }
 {
     let mut listed = listed(alloc, names)?;

@@ -21,8 +21,8 @@ use crate::maps::{hold, hold_jobs, push_keys};
 use crate::named::names_with;
 use crate::reply::JobShown;
 use crate::rows::{
-    deadlines_of, job_map_of, job_rows_in, jobs_told_by, push_held_jobs,
-    push_held_units, shown_of, unit_map_of, unit_rows_in, units_told_by,
+    deadlines_of, job_map_of, job_rows_in, jobs_told_by, push_held_jobs, push_held_units, shown_of,
+    unit_map_of, unit_rows_in, units_told_by,
 };
 use std::alloc::{AllocError, Global};
 use std::collections::BTreeMap;
@@ -495,7 +495,8 @@ impl Pending {
     pub fn is_same(&self, other: &Pending) -> bool
         ensures { IsTrue result ↔ (self.now.held ≡ other.now.held) }
     {
-        jobs_told_by(&self.names, &self.jobs, other) && jobs_told_by(&other.names, &other.jobs, self)
+        jobs_told_by(&self.names, &self.jobs, other)
+            && jobs_told_by(&other.names, &other.jobs, self)
     }
 
     /// The same again.

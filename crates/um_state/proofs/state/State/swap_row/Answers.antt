@@ -6,26 +6,26 @@ use Rattle.um_state.specs.declared.row.Row.{Row}
 use Rattle.um_state.proofs.StateRows.{row_back, row_nowhere, row_put, state_with}
 use Rattle.um_state.proofs.state.State.swap_row.Goals as goal
 
-pub returns-then-is_common-clause-state : goal.returns-then-is_common-clause-state
-returns-then-is_common-clause-state c =
+pub returns-then-self-clause-state : goal.returns-then-self-clause-state
+returns-then-self-clause-state c =
     let x = c.self.inside in
     let r = c.args.row.now in
-    row_put (state_with x.tree x.loaded x.boot x.clock x.next) x.is_common c.if-is_common.true x.units c.swap.new.self x.pending c.swap-2.new.self (c.self.invariant c.if-is_common.true) c.swap.ensures.names
+    row_put (state_with x.tree x.loaded x.boot x.clock x.next) x.is_common c.if-self.true x.units c.swap.new.self x.pending c.swap-2.new.self (c.self.invariant c.if-self.true) c.swap.ensures.names
     r c.swap.ensures.held c.swap-2.ensures.held ∙ ap (put_row r) c.self.view_is
 
-pub returns-then-is_common-clause-back : goal.returns-then-is_common-clause-back
-returns-then-is_common-clause-back c =
+pub returns-then-self-clause-back : goal.returns-then-self-clause-back
+returns-then-self-clause-back c =
     let x = c.self.inside in
     let r : Row = record { number = c.args.row.now.number; unit = c.swap.new.state; jobs = c.swap-2.new.jobs } in
-    row_back (state_with x.tree x.loaded x.boot x.clock x.next) x.is_common c.if-is_common.true x.units c.swap.new.self x.pending c.swap-2.new.self (c.self.invariant c.if-is_common.true) c.swap.ensures.names
+    row_back (state_with x.tree x.loaded x.boot x.clock x.next) x.is_common c.if-self.true x.units c.swap.new.self x.pending c.swap-2.new.self (c.self.invariant c.if-self.true) c.swap.ensures.names
     c.swap-2.ensures.names r c.swap.ensures.back c.swap-2.ensures.back ∙ c.self.view_is
 
-pub returns-else-is_common-clause-state : goal.returns-else-is_common-clause-state
-returns-else-is_common-clause-state c =
-    let none : c.args.self.now.names ≡ [] = sym (ap (λ (s : Standing). s.names) c.self.view_is) ∙ ap (λ b. common_names b c.self.inside.units.names) c.if-is_common.false in
+pub returns-else-self-clause-state : goal.returns-else-self-clause-state
+returns-else-self-clause-state c =
+    let none : c.args.self.now.names ≡ [] = sym (ap (λ (s : Standing). s.names) c.self.view_is) ∙ ap (λ b. common_names b c.self.inside.units.names) c.if-self.false in
     sym (row_nowhere c.args.row.now c.args.self.now none)
 
-pub returns-else-is_common-clause-back : goal.returns-else-is_common-clause-back
-returns-else-is_common-clause-back c =
-    let none : c.args.self.now.names ≡ [] = sym (ap (λ (s : Standing). s.names) c.self.view_is) ∙ ap (λ b. common_names b c.self.inside.units.names) c.if-is_common.false in
+pub returns-else-self-clause-back : goal.returns-else-self-clause-back
+returns-else-self-clause-back c =
+    let none : c.args.self.now.names ≡ [] = sym (ap (λ (s : Standing). s.names) c.self.view_is) ∙ ap (λ b. common_names b c.self.inside.units.names) c.if-self.false in
     row_nowhere c.args.row.now c.args.self.now none
