@@ -126,6 +126,17 @@ impl Known {
             × IsFull tree.now (IsHeldWith (state_of state.now) (option_copied named.entry))) }
     {
         let extra = held_with(alloc, state, named)?;
+        Known::with_units(alloc, tree, extra)
+    }
+
+    /// What is known of the units of the tree, with these beside them. Refused are too many (E13 `units`).
+    pub fn with_units(alloc: Global, tree: &Tree, extra: Vec<UnitName>) -> Result<Known, Refusal>
+        ensures made { IfOk result (λ k. IsGraphFor tree.now (Contains k.extra) k.graph) }
+        ensures extra { IfOk result (λ k. k.extra ≡ extra.items) }
+        ensures lasting { IfOk result (λ k. (unit : List ℕ) → Contains k.lasting unit ↔ IsKnown (without_run tree.now) (Contains k.extra) unit) }
+        ensures few { IfOk result (λ k. ¬ IsFull tree.now (Contains extra.items)) }
+        ensures refused { IfErr result (λ e. ¬ (e ≡ refusals.NoMemory) → (e ≡ refusals.TooLarge limits.Units) × IsFull tree.now (Contains extra.items)) }
+    {
         let graph = Graph::of(alloc, tree, extra.as_slice())?;
         let names = names_of(alloc, &graph)?;
         let lasting = lasting(alloc, tree, extra.as_slice())?;

@@ -17,6 +17,7 @@ ghost use Rattle.um_wire.specs.Gives.{RefusesBy};
 use crate::commands::Outcome;
 use crate::jobs::demand_of;
 use crate::known::Known;
+use crate::room::held_in;
 use crate::served::Served;
 use std::alloc::{AllocError, Global};
 use std::rc::Rc;
@@ -51,27 +52,6 @@ fn put_plan(work: &mut Work<'_>, jobs: &[UnitJobs])
     }
 }
 
-/// Puts the jobs of the plan for the demand on the unit with this number. Refused is what `Transaction::check` refuses.
-fn plan_in(
-    work: &mut Work<'_>,
-    demand: Demand,
-    unit: usize,
-    mode: JobMode,
-) -> Result<(), Refusal>
-    requires { unit < length work.old.now.names }
-    ensures planned { OnOk result (HasPlan (state_of work.old.now) (demand, name_at work.old.now.names unit) (state_of work.new.now)) }
-    ensures keeps { OnOk result (Keeps work.old work.new) }
-    ensures actions { OnOk result (work.new.actions ≡ work.old.actions) }
-{
-    let alloc = work.alloc();
-    let activity = activity(work)?;
-    let pending = Vec::from_slice(alloc, work.pending())?;
-    let transaction = Transaction::of(alloc, work.graph(), &activity, &pending, demand, unit)?;
-    put_plan(work, transaction.plan().as_slice());
-    transaction.check(alloc, mode)?;
-    Ok(())
-}
-
 /// What a command demands of the unit.
 fn demand_for(state: &State, verb: UnitVerb, unit: &UnitName) -> Option<Demand>
     ensures { result ≡ model.demand_of verb (active_state_of (state_of_unit (state_of state.now).units unit.now).sub) }
@@ -103,7 +83,30 @@ fn check_there(
     check_missing(alloc, state, asked, is_found)
 }
 
-/// The work with the plan of a command for a unit that is known. Refused are, in this order, too many known units with the jobs of the plan
+/// Refuses too many known units with those of which the work holds anything (E13).
+fn check_crowded(alloc: Global, served: &Served, work: &Work<'_>) -> Result<(), Refusal>
+    requires { work.now.base ≡ standing_of served.now }
+    ensures { RefusesBy (model.IsCrowded (state_of work.now.now).loaded (model.IsHeld (state_of work.now.now))) result }
+{
+    let known = served.known();
+    if known.lasts_in(work) {
+        return Ok(());
+    }
+    let held = held_in(alloc, known.graph(), work)?;
+    Known::with_units(alloc, served.state().loaded(), held)?;
+    Ok(())
+}
+
+/// A command for a unit: the verb, the name that was asked for, whether that is found, and the mode.
+#[derive(Clone, Copy)]
+struct Wanted<'a> {
+    verb: UnitVerb,
+    asked: &'a UnitName,
+    is_found: bool,
+    mode: JobMode,
+}
+
+/// The work with the plan for the demand on a unit that is known. Refused are, in this order, too many known units with the jobs of the plan
 /// (E13), a unit that isn't there (E7), and what `Transaction::check` refuses.
 fn planned_in<'s>(
     alloc: Global,
@@ -111,14 +114,24 @@ fn planned_in<'s>(
     moment: Moment,
     demand: Demand,
     unit: &UnitName,
-    mode: JobMode,
+    wanted: &Wanted<'_>,
 ) -> Result<Work<'s>, Refusal>
+    ensures planned { IfOk result (λ work. HasPlan served.now.state (demand, unit.now) (state_of work.now)) }
+    ensures base { IfOk result (λ work. work.base ≡ standing_of served.now) }
 {
     let mut work = served.work(alloc, moment)?;
-    match work.number(unit) {
-        Some(number) => plan_in(&mut work, demand, number, mode)?,
+    let number = match work.number(unit) {
+        Some(number) => number,
         None => unreachable!(),
-    }
+    };
+    let activity = activity(&work)?;
+    let pending = Vec::from_slice(alloc, work.pending())?;
+    let graph = work.graph();
+    let transaction = Transaction::of(alloc, graph, &activity, &pending, demand, number)?;
+    put_plan(&mut work, transaction.plan().as_slice());
+    check_crowded(alloc, served, &work)?;
+    check_there(alloc, served.state(), wanted.verb, wanted.asked, wanted.is_found)?;
+    transaction.check(alloc, wanted.mode)?;
     Ok(work)
 }
 
@@ -130,14 +143,26 @@ fn planned_with(
     moment: Moment,
     demand: Demand,
     unit: &UnitName,
-    mode: JobMode,
+    wanted: &Wanted<'_>,
 ) -> Result<Served, Refusal>
+    ensures planned { IfOk result (λ u. HasPlan served.now.state (demand, unit.now) u.state) }
 {
     let mut changed = Served::numbered(served.state().copy()?, known)?;
-    let work = planned_in(alloc, &changed, moment, demand, unit, mode)?;
+    let work = planned_in(alloc, &changed, moment, demand, unit, wanted)?;
     let (mut delta, _) = work.done()?;
     changed.swap(&mut delta);
     Ok(changed)
+}
+
+/// The same, with just the units that are known by it.
+fn known_anew(alloc: Global, served: Served) -> Result<Served, Refusal>
+    ensures state { IfOk result (λ u. u.state ≡ served.state) }
+    ensures refused { RefusesBy (model.IsCrowded served.state.loaded (model.IsHeld served.state)) result }
+{
+    if served.known().lasts_for(served.state(), None) {
+        return Ok(served);
+    }
+    Served::of(alloc, served.into_state())
 }
 
 /// What the plan of a command for a unit leads to, before any job begins: rows, where what is known of units stays. Refused are, in this
@@ -161,17 +186,18 @@ pub fn planned<'s>(
         check_there(alloc, state, verb, asked, is_found)?;
         return Ok(Outcome::Rows(served.work(alloc, moment)?));
     };
-    check_there(alloc, state, verb, asked, is_found)?;
+    let wanted = Wanted {
+        verb,
+        asked,
+        is_found,
+        mode,
+    };
     if served.known().fits(state, Some(&unit)) {
-        let work = planned_in(alloc, served, moment, demand, &unit, mode)?;
-        if known.lasts_in(&work) {
+        let work = planned_in(alloc, served, moment, demand, &unit, &wanted)?;
+        if served.known().lasts_in(&work) {
             return Ok(Outcome::Rows(work));
         }
     }
-    let changed = planned_with(alloc, served, known, moment, demand, &unit, mode)?;
-    let changed = match changed.known().lasts_for(changed.state(), None) {
-        true => changed,
-        false => Served::of(alloc, changed.into_state())?,
-    };
-    Ok(Outcome::Tables(changed, Reply::Done))
+    let changed = planned_with(alloc, served, known, moment, demand, &unit, &wanted)?;
+    Ok(Outcome::Tables(known_anew(alloc, changed)?, Reply::Done))
 }

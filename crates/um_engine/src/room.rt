@@ -71,7 +71,7 @@ fn push_name(names: &mut Vec<UnitName>, graph: &Graph, unit: usize) -> Result<()
 }
 
 /// The units of which the work holds anything.
-fn held_in(alloc: Global, graph: &Graph, work: &Work<'_>) -> Result<Vec<UnitName>, AllocError>
+pub fn held_in(alloc: Global, graph: &Graph, work: &Work<'_>) -> Result<Vec<UnitName>, AllocError>
     requires { work.now.graph ≡ graph.now }
     ensures { IfOk result (λ held. (unit : List ℕ) → Contains held.items unit ↔ IsHeld (state_of work.now.now) unit) }
 {
