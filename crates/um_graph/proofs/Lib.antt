@@ -10,5 +10,6 @@ pub mod NumberLaws
 pub mod OnceLaws
 pub mod RowLaws
 pub mod SettingLaws
+pub mod SortLaws
 pub mod StandLaws
 pub mod TellLaws

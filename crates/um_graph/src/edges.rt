@@ -124,7 +124,8 @@ fn orders_of(alloc: Global, units: &Units, edges: &[Edge]) -> Result<Vec<Pair>, 
     Ok(orders)
 }
 
-/// The units joined by what was told of them: first by dependencies and what is declared, then by the order that follows.
+/// The units joined by what was told of them: first by dependencies and what is declared, then by the order that follows. Each row
+/// stands in the order of its numbers.
 pub(crate) fn joined(alloc: Global, units: Units, told: &[Told]) -> Result<Units, AllocError>
     requires sorted { AllPairs IsNamedBefore (names_of units.units.items) }
     requires rows { AreRows [] units.units.items }
@@ -135,5 +136,6 @@ pub(crate) fn joined(alloc: Global, units: Units, told: &[Told]) -> Result<Units
     units.add_edges(edges.as_slice())?;
     let orders = orders_of(alloc, &units, edges.as_slice())?;
     units.add_pairs(orders.as_slice())?;
+    units.sort_rows()?;
     Ok(units)
 }

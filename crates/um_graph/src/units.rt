@@ -7,7 +7,7 @@ ghost use Rattle.std.specs.List.{flat_map};
 ghost use Rattle.std.specs.Ordering.{nat_cmp};
 ghost use Rattle.um_model.specs.Least.{IsNamedBefore};
 ghost use Rattle.um_graph.specs.Edges.{edge_bonds, names_of, number_in, pair_bonds, unit_seen};
-ghost use Rattle.um_graph.specs.Rows.{AreRows, Bond};
+ghost use Rattle.um_graph.specs.Rows.{AreRows, AreSorted, Bond, SortsRow};
 
 use crate::kinds::{Kinds, inverse_of, kinds_of};
 use crate::row::Row;
@@ -163,6 +163,29 @@ impl Units {
     {
         for pair in pairs {
             self.add_pair(*pair)?;
+        }
+        Ok(())
+    }
+
+    /// Puts the row of the unit with this number in the order of its numbers.
+    fn sort_row(&mut self, x: usize) -> Result<(), AllocError>
+        requires { x < vec_len self.old.units }
+        ensures same { OnOk result (map unit_seen self.new.units.items ≡ map unit_seen self.old.units.items) }
+        ensures len { OnOk result (vec_len self.new.units ≡ vec_len self.old.units) }
+        ensures sorts { OnOk result ((bonds : List Bond) → AreRows bonds self.old.units.items → SortsRow bonds x self.old.units.items self.new.units.items) }
+    {
+        self.units[x].row.sort()?;
+        Ok(())
+    }
+
+    /// Puts each row in the order of its numbers.
+    pub(crate) fn sort_rows(&mut self) -> Result<(), AllocError>
+        ensures same { OnOk result (map unit_seen self.new.units.items ≡ map unit_seen self.old.units.items) }
+        ensures sorts { OnOk result ((bonds : List Bond) → AreRows bonds self.old.units.items
+            → AreRows bonds self.new.units.items × AreSorted self.new.units.items) }
+    {
+        for x in 0..self.units.len() {
+            self.sort_row(x)?;
         }
         Ok(())
     }

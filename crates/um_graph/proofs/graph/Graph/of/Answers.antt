@@ -1,11 +1,11 @@
 use Rattle.std.proofs.Common.{inl, inr}
 use Rattle.um_graph.proofs.CountLaws.{counts_for, few_lasting}
-use Rattle.um_graph.proofs.GraphLaws.{graph_is, graph_sound}
+use Rattle.um_graph.proofs.GraphLaws.{graph_is, graph_sorted, graph_sound}
 use Rattle.um_graph.proofs.graph.Graph.of.Goals as goal
 
 pub invariant_of-result : goal.invariant_of-result
 invariant_of-result c =
-    graph_sound c.args.tree.now c.args.extra.now c.in_ok-known.known.loaded c.in_ok-known.known.told.items c.in_ok-known.ensures.whole c.in_ok-joined_units.field-0.units.items c.in_ok-joined_units.ensures
+    graph_sorted c.args.tree.now c.args.extra.now c.in_ok-known.known.loaded c.in_ok-known.known.told.items c.in_ok-known.ensures.whole c.in_ok-joined_units.field-0.units.items c.in_ok-joined_units.ensures
     c.in_ok-known.ensures.few _
 
 pub returns-clause-whole : goal.returns-clause-whole
