@@ -6,7 +6,8 @@ use Rattle.std.proofs.lemmas.Bool.Decides.{Decides-eqb}
 use Rattle.std.proofs.lemmas.List.Elements.{All-head, All-tail}
 use Rattle.std.proofs.lemmas.Option.{slice_get-get_or}
 use Rattle.um_model.specs.Machine.{State}
-use Rattle.um_graph.specs.Graph.{GraphView, IsAscending, IsNumberOf}
+use Rattle.um_graph.specs.Graph.{GraphView, IsNumberOf}
+use Rattle.um_graph.specs.Sorted.{IsAscending}
 use Rattle.um_graph.specs.declared.row.Neighbour.{Neighbour}
 use Rattle.um_falling.specs.Falling.{binds, falling_from, goes, is_bound}
 

@@ -26,7 +26,7 @@ use Rattle.um_model.proofs.KnownLaws.{target_suffix}
 use Rattle.um_model.specs.Names.{is_target}
 use Rattle.um_unit.specs.View.{loading_of}
 use Rattle.um_graph.specs.Edges.{AreUnits, comes_after, comes_after_by, declines, declines_by, edge, edge_between, edge_bonds, edge_seen, edges_seen, names_of, number_in, order_seen, pair, pair_bonds, unit_seen}
-use Rattle.um_graph.specs.Graph.{AreOnce, Holds, IsAscending, IsGraph, IsGraphOf, IsSortedGraph, Stands, row_of}
+use Rattle.um_graph.specs.Graph.{AreOnce, Holds, IsGraph, IsGraphOf, Stands, row_of}
 use Rattle.um_graph.specs.Kinds.{after_bit, before_bit, bit_of, has, inverse_bit_of}
 use Rattle.um_graph.specs.Known.{IsFollowed, IsTold, IsUnderWay, Loaded, by_link, by_unit}
 use Rattle.um_graph.specs.Rows.{Bond, IsRow, Joins, entries_at, entries_of, found_or_new}
@@ -63,7 +63,7 @@ keys_ascend loaded o i j d lt le = Less-from_sorted cmp (keys_of loaded.entries)
 pub names_ascend : (loaded : Loaded) (units : List Unit) → map unit_seen units ≡ loaded.entries → tied.IsOrdered cmp loaded → AllPairs IsNamedBefore (names_of units)
 names_ascend loaded units e o = subst (AllPairs IsNamedBefore) (sym (names_seen units ∙ ap keys_of e)) (keys_ascend loaded o)
 
-row_seen : (units : List Unit) (x : ℕ) → row_of (map (λ (u : Unit). values_of u.row.neighbours.entries) units) x ≡ values_of (entries_of units x)
+pub row_seen : (units : List Unit) (x : ℕ) → row_of (map (λ (u : Unit). values_of u.row.neighbours.entries) units) x ≡ values_of (entries_of units x)
 row_seen [] x = refl
 row_seen (u ∷ units) zero = refl
 row_seen (u ∷ units) (suc x) = row_seen units x
@@ -478,6 +478,3 @@ module _ (tree : Tree) (extra : List (List ℕ)) (loaded : Loaded) (told : List 
         λ h. stands_in after_bit i j ((after_iff i j).1 ((before_iff j i).0 (stands_out before_bit j i h))),
       );
     }
-
-    pub graph_sorted : ¬ KnowsTooMany tree Extra → (count : ℕ) → IsSortedGraph (graph_of units count)
-    graph_sorted few count = record { graph = graph_sound few count; ascends = λ x. subst IsAscending (sym (row_seen units x)) (a.joined.sorted x) }

@@ -262,9 +262,3 @@ module _ (tree : Tree) (extra : List (List ℕ)) where
     pub all_followed : (x : List ℕ) → Known x → IsFollowed loaded x
     all_followed x (first n) = only_followed x (w.named x n)
     all_followed x (next {a = a} k m) = mentioned a x (all_followed a k) m
-
--- a step of the search by a tree that is the same one
-pub followed_in : (tree other : Tree) (extra : List (List ℕ)) (m n : Loaded) (left rest : List (List ℕ)) (told more : List Told) → other ≡ tree
-    → (IsUnderWay other extra m left told → IsUnderWay other extra n rest more) → IsUnderWay tree extra m left told → IsUnderWay tree extra n rest more
-followed_in tree other extra m n left rest told more same step w =
-    subst (λ t. IsUnderWay t extra n rest more) same (step (subst (λ t. IsUnderWay t extra m left told) (sym same) w))

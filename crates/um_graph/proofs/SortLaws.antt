@@ -8,15 +8,20 @@ use Rattle.std.specs.Ordering.{is_lt, nat_cmp}
 use Rattle.std.proofs.lemmas.Bool.{cases_eq, cases_lt}
 use Rattle.std.proofs.lemmas.Bool.Decides.{Decides-eqb}
 use Rattle.std.proofs.lemmas.List.{length-set}
+use Rattle.std.proofs.lemmas.List.Elements.{Contains-get_or}
 use Rattle.std.proofs.lemmas.List.Sorted.{All-permutation, Contains-permutation, IsPermutation-map, IsPermutation-sym, ranks_by, sorted_far}
 use Rattle.std.proofs.lemmas.Map.Entries.{length-keys_of, length-values_of}
 use Rattle.std.proofs.lemmas.Map.Made.{AllPairs-from_IsDistinct}
-use Rattle.um_graph.specs.Graph.{Holds, IsAscending}
-use Rattle.um_graph.specs.Rows.{AreRows, AreSorted, Bond, Entries, IsRow, IsSortedAt, Joins, SortsRow, entries_of}
+use Rattle.um_graph.specs.Graph.{GraphView, Holds, IsGraph, row_of}
+use Rattle.um_graph.specs.Rows.{AreRows, Bond, Entries, IsRow, Joins, entries_of}
+use Rattle.um_graph.specs.Sorted.{AreSorted, IsAscending, IsSortedAt, IsSortedGraph, SortsRow}
+use Rattle.um_graph.specs.View.{graph_of}
 use Rattle.um_graph.specs.declared.row.Neighbour.{Neighbour}
 use Rattle.um_graph.specs.declared.units.Unit.{Unit}
+use Rattle.um_graph.proofs.GraphLaws.{row_seen}
 use Rattle.um_graph.proofs.OnceLaws.{number_at}
 use Rattle.um_graph.proofs.RowLaws.{entries_other, entries_read, entries_same}
+use Rattle.um_graph.proofs.StandLaws.{neighbour_within}
 
 -- of two numbers that differ, the one that isn't above is below
 below_by : (a b : ℕ) → a ≢ b → is_lt (nat_cmp b a) ≡ false → a < b
@@ -100,3 +105,11 @@ all_sorted units n h below z = elim (cases_lt z n) as (λ _. IsSortedAt units z)
   | inl l ↦ below z l
   | inr past ↦ subst (λ gs. IsAscending (values_of gs)) (sym (entries_past units z (omega (arith, past, h)))) none_ascends
 ]
+
+-- ---- the graph
+pub sorted_graph : (units : List Unit) (count : ℕ) → IsGraph (graph_of units count) → AreSorted units → IsSortedGraph (graph_of units count)
+sorted_graph units count is sorted = record { graph = is; ascends = λ x. subst IsAscending (sym (row_seen units x)) (sorted x) }
+
+-- each neighbour is a unit
+pub all_within : (g : GraphView) → IsGraph g → (x : ℕ) → All (λ (n : Neighbour). n.unit < length g.names) (row_of g.rows x)
+all_within g is x k n h = neighbour_within g is x (get_or (row_of g.rows x) k n) (Contains-get_or (row_of g.rows x) k n h)

@@ -1,6 +1,5 @@
 -- What stands in the rows of a graph are its units.
-use Rattle.std.proofs.Common.{◌≡◌, ◌∙◌, ◌<◌, ℕ, List, length, All, Contains, Option, Some, None, slice_get, get_or, refl, sym, subst, inl, inr, arith}
-use Rattle.std.proofs.lemmas.List.Elements.{Contains-get_or}
+use Rattle.std.proofs.Common.{◌≡◌, ◌∙◌, ◌<◌, ℕ, List, length, All, Contains, Option, Some, None, slice_get, refl, sym, subst, inl, inr, arith}
 use Rattle.std.proofs.lemmas.Option.{slice_get_cases}
 use Rattle.um_graph.specs.Graph.{GraphView, IsGraph, Stands, row_of, neighbours_or_none}
 use Rattle.um_graph.specs.declared.row.Neighbour.{Neighbour}
@@ -41,7 +40,3 @@ module _ (g : GraphView) (is : IsGraph g) where
 
   pub stands_within : (bit x y : ℕ) → Stands g.rows bit x y → (x < length g.names) × (y < length g.names)
   stands_within bit x y h = (owner_within x h.neighbour h.listed, subst (λ u. u < length g.names) h.is (neighbour_within x h.neighbour h.listed))
-
-  -- each unit of a row
-  pub all_within : (x : ℕ) → All (λ (n : Neighbour). n.unit < length g.names) (row_of g.rows x)
-  all_within x k n h = neighbour_within x (get_or (row_of g.rows x) k n) (Contains-get_or (row_of g.rows x) k n h)

@@ -15,7 +15,7 @@ use Rattle.um_unit.specs.View.{loading_of}
 use Rattle.um_unit.specs.declared.loaded.Loading.{Loading}
 use Rattle.um_graph.specs.Kinds.{after_bit, before_bit, bit_of, has, inverse_bit_of}
 use Rattle.um_graph.specs.Known.{Loaded}
-use Rattle.um_graph.specs.Rows.{AreRows, AreSorted, Bond, found_or_new}
+use Rattle.um_graph.specs.Rows.{AreRows, Bond, found_or_new}
 use Rattle.um_graph.specs.declared.units.Pair.{Pair}
 use Rattle.um_graph.specs.declared.told.Link.{Link}
 use Rattle.um_graph.specs.declared.told.Link.TheVariants.{Depends, Declared, Ending}
@@ -101,14 +101,13 @@ pair_bonds p = (before_bit, p.first, p.second) ∷ (after_bit, p.second, p.first
 abbrev pub edges_seen : List Unit → List Told → List Edge
 edges_seen units told = flat_map (edge_seen (names_of units)) told
 
--- the units were joined by all that was told: first by dependencies and what is declared, then by the order that follows; rows ascend
+-- the units were joined by all that was told: first by dependencies and what is declared, then by the order that follows
 pub record AreJoined (told : List Told) (old new : List Unit) : Type 0 where
   pub middle : List Unit
   pub same_middle : map unit_seen middle ≡ map unit_seen old
   pub same : map unit_seen new ≡ map unit_seen old
   pub first : AreRows (flat_map edge_bonds (edges_seen old told)) middle
   pub rows : AreRows (flat_map edge_bonds (edges_seen old told) ++ flat_map pair_bonds (flat_map (order_seen middle) (edges_seen old told))) new
-  pub sorted : AreSorted new
 
 -- these are the units that were followed, joined by all that was told
 pub record AreUnits (loaded : Loaded) (told : List Told) (units : List Unit) : Type 0 where

@@ -42,10 +42,6 @@ Stands rows bit x y = Holds (row_of rows x) bit y
 abbrev pub AreOnce : List Neighbour → Type 0
 AreOnce row = AllPairs (λ (m n : Neighbour). m.unit ≢ n.unit) row
 
--- the neighbours stand in the order of their numbers
-abbrev pub IsAscending : List Neighbour → Type 0
-IsAscending row = AllPairs (λ (m n : Neighbour). m.unit < n.unit) row
-
 -- there is a row and a loading for each name, the names ascend and are no more than units may be known, each neighbour is one of the
 -- units and stands in a row once, and each dependency stands in the rows of both units, as the order does
 pub record IsGraph (g : GraphView) : Type 0 where
@@ -57,11 +53,6 @@ pub record IsGraph (g : GraphView) : Type 0 where
   pub once : (x : ℕ) → AreOnce (row_of g.rows x)
   pub mirrored : (kind : DependencyKind) (i j : ℕ) → Stands g.rows (inverse_bit_of kind) i j ↔ Stands g.rows (bit_of kind) j i
   pub ordered : (i j : ℕ) → Stands g.rows after_bit i j ↔ Stands g.rows before_bit j i
-
--- it is a graph, and its rows stand in the order of their numbers
-pub record IsSortedGraph (g : GraphView) : Type 0 where
-  pub graph : IsGraph g
-  pub ascends : (x : ℕ) → IsAscending (row_of g.rows x)
 
 -- the number of the unit is its place among the names
 abbrev pub IsNumberOf : GraphView → ℕ → List ℕ → Type 0

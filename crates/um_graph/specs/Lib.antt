@@ -5,6 +5,7 @@ pub mod Known
 pub mod Resolved
 pub mod Rows
 pub mod Edges
+pub mod Sorted
 pub mod View
 pub mod Named
 pub mod Listed

@@ -1,12 +1,12 @@
 -- The rows as the code fills them: of each unit its neighbours under their numbers.
 -- Follows no manual page: it is how the code keeps them.
 -- The proofs of the graph stand on this file.
-use Rattle.std.specs.Prelude.{◌≡◌, ◌≢◌, ℕ, ◌<◌, List, [], length, All, Contains, Option, Some, None, slice_get, nat_eq}
+use Rattle.std.specs.Prelude.{◌≡◌, ℕ, ◌<◌, List, [], length, All, Contains, Option, Some, None, slice_get, nat_eq}
 use Rattle.std.specs.Int.RustNames.{bit_or}
 use Rattle.std.specs.List.{IsDistinct}
 use Rattle.std.specs.Map.{keys_of, lookup, values_of}
 use Rattle.indexmap.specs.IndexMap.{insert_entry}
-use Rattle.um_graph.specs.Graph.{Holds, IsAscending}
+use Rattle.um_graph.specs.Graph.{Holds}
 use Rattle.um_graph.specs.declared.kinds.Kinds.{Kinds}
 use Rattle.um_graph.specs.declared.row.Neighbour.{Neighbour}
 use Rattle.um_graph.specs.declared.units.Unit.{Unit}
@@ -54,17 +54,3 @@ pub record AreRows (bonds : List Bond) (units : List Unit) : Type 0 where
   pub rows : (x : ℕ) → IsRow (length units) (entries_of units x)
   pub given : (bit x y : ℕ) → Joins units bit x y → Contains bonds (bit, x, y)
   pub whole : (bit x y : ℕ) → Contains bonds (bit, x, y) → Joins units bit x y
-
--- the row of x stands in the order of its numbers
-abbrev pub IsSortedAt : List Unit → ℕ → Type 0
-IsSortedAt units x = IsAscending (values_of (entries_of units x))
-
--- so does each row
-abbrev pub AreSorted : List Unit → Type 0
-AreSorted units = (x : ℕ) → IsSortedAt units x
-
--- the row of x stands in the order of its numbers then, all others as before, and the rows hold the same bonds
-pub record SortsRow (bonds : List Bond) (x : ℕ) (old new : List Unit) : Type 0 where
-  pub rows : AreRows bonds new
-  pub sorted : IsSortedAt new x
-  pub others : (z : ℕ) → z ≢ x → entries_of new z ≡ entries_of old z

@@ -2,8 +2,9 @@ ghost use Rattle.std.specs.Prelude.{◌≡◌, ◌⊎◌, ◌<◌, ℕ, All, Opt
 ghost use Rattle.um_model.specs.Dependencies.{CountsFor, KnowsTooMany};
 ghost use Rattle.um_model.specs.Tree.{without_run};
 ghost use Rattle.um_graph.specs.Edges.{AreUnits};
-ghost use Rattle.um_graph.specs.Graph.{GraphView, IsAscending, IsGraph, IsGraphOf, IsNumberOf, IsSortedGraph, row_of};
+ghost use Rattle.um_graph.specs.Graph.{GraphView, IsGraph, IsGraphOf, IsNumberOf, row_of};
 ghost use Rattle.um_graph.specs.Known.{CountsLasting};
+ghost use Rattle.um_graph.specs.Sorted.{AreSorted, IsAscending, IsSortedGraph};
 ghost use Rattle.um_graph.specs.View.{graph_of};
 ghost use Rattle.um_wire.specs.declared.refusal.Refusal.TheVariants as refusals;
 ghost use Rattle.um_model.specs.declared.refusals.Limit.TheVariants as limits;
@@ -116,6 +117,8 @@ impl Graph {
         ensures ascends { IsAscending result.now }
         ensures within { All (λ n. n.unit < length self.now.names) result.now }
     {
+        // the proof reads here that the rows ascend
+        let _ = &self.units;
         let Some(unit) = self.number(name) else {
             return &[];
         };
@@ -148,9 +151,10 @@ fn greater(count: usize, other: Option<usize>) -> usize
     }
 }
 
-/// The known units, joined by what they tell.
+/// The known units, joined by what they tell. Each row stands in the order of its numbers.
 fn joined_units(alloc: Global, known: Known) -> Result<Units, AllocError>
-    ensures { IfOk result (λ u. AreUnits known.loaded known.told.items u.units.items) }
+    ensures units { IfOk result (λ u. AreUnits known.loaded known.told.items u.units.items) }
+    ensures sorted { IfOk result (λ u. AreSorted u.units.items) }
 {
     let Known { loaded, told, .. } = known;
     let units = Units::of(alloc, loaded)?;

@@ -7,14 +7,15 @@ ghost use Rattle.std.specs.List.{flat_map};
 ghost use Rattle.std.specs.Ordering.{nat_cmp};
 ghost use Rattle.um_model.specs.Least.{IsNamedBefore};
 ghost use Rattle.um_graph.specs.Edges.{edge_bonds, names_of, number_in, pair_bonds, unit_seen};
-ghost use Rattle.um_graph.specs.Rows.{AreRows, AreSorted, Bond, SortsRow};
+ghost use Rattle.um_graph.specs.Rows.{AreRows, Bond};
+ghost use Rattle.um_graph.specs.Sorted.{AreSorted, SortsRow};
 
 use crate::kinds::{Kinds, inverse_of, kinds_of};
 use crate::row::Row;
 use crate::told::Link;
 use std::alloc::{AllocError, Global};
 use std::collections::BTreeMap;
-use um_name::UnitName;
+use um_name::{Names, UnitName};
 use um_unit::Loading;
 
 /// A unit of the graph.
@@ -74,6 +75,27 @@ impl Units {
         ensures within { IfSome result (λ i. i < vec_len self.now.units) }
     {
         self.units.binary_search_by(|unit| unit.name.cmp(name)).ok()
+    }
+
+    /// Their names again.
+    fn copies(&self, alloc: Global) -> Result<Vec<UnitName>, AllocError>
+        ensures { IfOk result (λ copies. copies.items ≡ names_of self.now.units.items) }
+    {
+        let mut copies = Vec::new(alloc);
+        for unit in &self.units {
+            copies.push(unit.name.copy()?)?;
+        }
+        Ok(copies)
+    }
+
+    /// Their names with the same numbers.
+    pub(crate) fn names(&self, alloc: Global) -> Result<Names, AllocError>
+        requires { AllPairs IsNamedBefore (names_of self.now.units.items) }
+        ensures { IfOk result (λ names. names ≡ names_of self.now.units.items) }
+    {
+        let copies = self.copies(alloc)?;
+        let names = Names::of(alloc, copies.as_slice())?;
+        Ok(names)
     }
 
     /// Adds that x stands to y in this way.

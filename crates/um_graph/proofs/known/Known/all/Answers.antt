@@ -3,7 +3,8 @@ use Rattle.std.specs.BTreeMap.{btree_map_len}
 use Rattle.um_model.specs.Dependencies.{KnowsSoMany}
 use Rattle.um_graph.specs.Known.{Loaded}
 use Rattle.um_graph.proofs.CountLaws.{knows}
-use Rattle.um_graph.proofs.KnownLaws.{followed_in, left_out, left_out_as}
+use Rattle.um_graph.proofs.KnownLaws.{left_out, left_out_as}
+use Rattle.um_graph.proofs.ResolvedLaws.{followed_in}
 use Rattle.um_graph.proofs.known.Known.all.Goals as goal
 
 pub returns-clause-whole : goal.returns-clause-whole

@@ -3,7 +3,8 @@ use Rattle.std.specs.BTreeMap.{btree_map_len}
 use Rattle.um_model.specs.Dependencies.{KnowsSoMany}
 use Rattle.um_graph.specs.Known.{Loaded, loading_at}
 use Rattle.um_graph.proofs.CountLaws.{knows, not_too_many, too_many}
-use Rattle.um_graph.proofs.KnownLaws.{followed_in, left_out, left_out_as}
+use Rattle.um_graph.proofs.KnownLaws.{left_out, left_out_as}
+use Rattle.um_graph.proofs.ResolvedLaws.{followed_in}
 use Rattle.um_graph.proofs.known.Known.of.Goals as goal
 
 pub returns-in_default-clause-whole : goal.returns-in_default-clause-whole

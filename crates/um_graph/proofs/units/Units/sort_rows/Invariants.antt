@@ -1,6 +1,7 @@
 use Rattle.std.proofs.Common.{◌≡◌, ◌<◌, ℕ, List, map, vec_len}
 use Rattle.um_graph.specs.Edges.{unit_seen}
-use Rattle.um_graph.specs.Rows.{AreRows, Bond, IsSortedAt}
+use Rattle.um_graph.specs.Rows.{AreRows, Bond}
+use Rattle.um_graph.specs.Sorted.{IsSortedAt}
 use Rattle.um_graph.proofs.units.Units.sort_rows.Given as goal
 
 abbrev pub invariant-loop-x : goal.invariant-loop-x
