@@ -120,7 +120,7 @@ module _ (s : State) (g : GraphView) where
       here same =
           let none : is_bound ns unit ≡ false = not_bound unit ns (λ k d h. let up = above k d h in omega (arith, up, same)) in
           let rest : falling_from s (n ∷ ns) (suc unit) names ≡ falling_in ns = passed n ns (suc unit) names (omega (arith, same))
-              ∙ all_from (suc unit) names ns at_rest (behind_ascends n ns up) (λ k d h. let up = above k d h in omega (arith, up, same)) rest_to in
+          ∙ all_from (suc unit) names ns at_rest (behind_ascends n ns up) (λ k d h. let up = above k d h in omega (arith, up, same)) rest_to in
           ap (λ b. cond (((b && binds n) || is_bound ns unit) && goes s name) (unit ∷ falling_from s (n ∷ ns) (suc unit) names) (falling_from s (n ∷ ns) (suc unit) names)) ((Decides-eqb n.unit unit).1 same)
           ∙ ap (λ b. cond ((binds n || b) && goes s name) (unit ∷ falling_from s (n ∷ ns) (suc unit) names) (falling_from s (n ∷ ns) (suc unit) names)) none
           ∙ ap (λ b. cond (b && goes s name) (unit ∷ falling_from s (n ∷ ns) (suc unit) names) (falling_from s (n ∷ ns) (suc unit) names)) (or_false (binds n))
