@@ -27,14 +27,16 @@ module _ (s : State) (g : GraphView) where
   pub none_past : (row : List Neighbour) (place : ℕ) (list : List ℕ) → place ≡ length row → list ≡ falling_in (drop place row) ++ list
   none_past row place list e = sym (ap (λ ns. falling_in ns ++ list) (ap (λ k. drop k row) e ∙ drop-length row))
 
-  module _ (row : List Neighbour) (n : Neighbour) (p place : ℕ) (is : place ≡ suc p) (within : place ≤ length row) (read : n ≡ get_or row p n) where
+  module _ (row : List Neighbour) (d : Neighbour) (p place : ℕ) (is : place ≡ suc p) (within : place ≤ length row) where
+    abbrev n : Neighbour
+    n = get_or row p d
+
     abbrev later : List ℕ
     later = falling_in (drop place row)
 
     at : (b : Bool) → (binds n && goes s (name_of n.unit)) ≡ b → falling_in (drop p row) ≡ cond b (n.unit ∷ later) later
     at b e =
-        ap falling_in (drop-cons row p n (omega (arith, is, within)))
-        ∙ ap (λ (m : Neighbour). falling_in (m ∷ drop (suc p) row)) (sym read)
+        ap falling_in (drop-cons row p d (omega (arith, is, within)))
         ∙ ap (λ t. cond t (n.unit ∷ falling_in (drop (suc p) row)) (falling_in (drop (suc p) row))) e
         ∙ ap (λ k. cond b (n.unit ∷ falling_in (drop k row)) (falling_in (drop k row))) (sym is)
 

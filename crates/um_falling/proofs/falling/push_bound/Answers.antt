@@ -1,14 +1,19 @@
-use Rattle.std.proofs.Common.{◌≡◌, ◌∙◌, ◌-◌, ◌<◌, ◌&&◌, ◌++◌, suc, Bool, true, false, drop, length, refl, sym, ap, arith}
+use Rattle.std.proofs.Common.{rules, ◌≡◌, ◌∙◌, ◌-◌, ◌<◌, ◌&&◌, ◌++◌, suc, Bool, true, false, drop, length, slice_index, refl, sym, ap, arith}
+use Rattle.um_graph.specs.declared.row.Neighbour.{Neighbour}
 use Rattle.um_state.specs.View.{state_of}
 use Rattle.um_falling.specs.Falling.{binds, goes}
 use Rattle.um_falling.proofs.BoundLaws.{all_fall, falling_in, has_name, name_of, none_more, none_past, one_more}
 use Rattle.um_falling.proofs.falling.push_bound.Goals as goal
 use Rattle.um_falling.proofs.falling.push_bound.Goals.{else-is_bound-via-then-is_bound+else-is_going, else-is_bound-via-else-is_bound}
 
+-- what an index past the end would read
+abbrev absent : Neighbour
+absent = record { unit = 0; kinds = record { 0 = 0 } }
+
 pub loop-place-init : goal.loop-place-init
 loop-place-init c = record {
-  list = none_past (state_of c.args.state.now) c.args.graph.now c.args.row.now c.len-place.result c.args.list.now.items c.len-place.ensures;
-  within = omega (arith, c.len-place.ensures);
+  list = none_past (state_of c.args.state.now) c.args.graph.now c.args.row.now _ c.args.list.now.items (search rules);
+  within = omega arith;
 }
 
 pub loop-place-preserved-then-is_going : goal.loop-place-preserved-then-is_going
@@ -19,12 +24,12 @@ loop-place-preserved-then-is_going c =
     let p = c.loop-place.place - 1 in
     let is : c.loop-place.place ≡ suc p = omega (arith, c.loop-place-test.true) in
     let within = c.loop-place.invariant.within in
-    let n = c.neighbour in
-    let below : n.unit < length g.names = c.requires.within p n (omega (arith, is, within)) in
+    let n = slice_index row p in
+    let below : n.unit < length g.names = c.requires.within p absent (omega (arith, is, within)) in
     let going = sym (c.is_going.ensures (name_of s g n.unit) (has_name s g n.unit below)) ∙ c.if-is_going.true in
     record {
       list =
-          one_more s g row n p c.loop-place.place is within refl c.args.list.now.items c.loop-place.list.items c.push_front.new.self.items
+          one_more s g row absent p c.loop-place.place is within c.args.list.now.items c.loop-place.list.items c.push_front.new.self.items
           (sym c.is_bound.ensures ∙ c.if-is_bound.true) going c.loop-place.invariant.list c.in_ok-push_front.ensures.items;
       within = omega (arith, within);
     }
@@ -37,15 +42,15 @@ loop-place-preserved c =
     let p = c.loop-place.place - 1 in
     let is : c.loop-place.place ≡ suc p = omega (arith, c.loop-place-test.true) in
     let within = c.loop-place.invariant.within in
-    let n = c.neighbour in
-    let below : n.unit < length g.names = c.requires.within p n (omega (arith, is, within)) in
+    let n = slice_index row p in
+    let below : n.unit < length g.names = c.requires.within p absent (omega (arith, is, within)) in
     let none : (binds n && goes s (name_of s g n.unit)) ≡ false = elim c.else-is_bound.branch [
       | else-is_bound-via-then-is_bound+else-is_going w ↦
           and_false (binds n) (goes s (name_of s g n.unit)) (sym (w.is_going.ensures (name_of s g n.unit) (has_name s g n.unit below)) ∙ w.if-is_going.false)
       | else-is_bound-via-else-is_bound w ↦ ap (λ b. b && goes s (name_of s g n.unit)) (sym c.is_bound.ensures ∙ w.if-is_bound.false)
     ] in
     record {
-      list = none_more s g row n p c.loop-place.place is within refl c.args.list.now.items c.loop-place.list.items none c.loop-place.invariant.list;
+      list = none_more s g row absent p c.loop-place.place is within c.args.list.now.items c.loop-place.list.items none c.loop-place.invariant.list;
       within = omega (arith, within);
     }
   where
