@@ -1,4 +1,4 @@
-use Rattle.std.proofs.Common.{rules, ◌≡◌, ◌∙◌, ◌-◌, ◌<◌, ◌&&◌, ◌++◌, suc, Bool, true, false, drop, length, slice_index, refl, sym, ap, arith}
+use Rattle.std.proofs.Common.{rules, ◌≡◌, ◌∙◌, ◌-◌, ◌<◌, ◌&&◌, ◌++◌, suc, Bool, true, false, drop, get_or, length, refl, sym, ap, arith}
 use Rattle.um_graph.specs.declared.row.Neighbour.{Neighbour}
 use Rattle.um_state.specs.View.{state_of}
 use Rattle.um_falling.specs.Falling.{binds, goes}
@@ -24,7 +24,7 @@ loop-place-preserved-then-is_going c =
     let p = c.loop-place.place - 1 in
     let is : c.loop-place.place ≡ suc p = omega (arith, c.loop-place-test.true) in
     let within = c.loop-place.invariant.within in
-    let n = slice_index row p in
+    let n = get_or row p absent in
     let below : n.unit < length g.names = c.requires.within p absent (omega (arith, is, within)) in
     let going = sym (c.is_going.ensures (name_of s g n.unit) (has_name s g n.unit below)) ∙ c.if-is_going.true in
     record {
@@ -42,7 +42,7 @@ loop-place-preserved c =
     let p = c.loop-place.place - 1 in
     let is : c.loop-place.place ≡ suc p = omega (arith, c.loop-place-test.true) in
     let within = c.loop-place.invariant.within in
-    let n = slice_index row p in
+    let n = get_or row p absent in
     let below : n.unit < length g.names = c.requires.within p absent (omega (arith, is, within)) in
     let none : (binds n && goes s (name_of s g n.unit)) ≡ false = elim c.else-is_bound.branch [
       | else-is_bound-via-then-is_bound+else-is_going w ↦
