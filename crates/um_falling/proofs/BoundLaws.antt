@@ -81,69 +81,69 @@ module _ (s : State) (g : GraphView) where
   behind_ascends : (n : Neighbour) (ns : List Neighbour) → IsAscending (n ∷ ns) → IsAscending ns
   behind_ascends n ns up i j d lt le = up (suc i) (suc j) d (omega (arith, lt)) (omega (arith, le))
 
-  all_from : (unit : ℕ) (names : List (List ℕ)) (row : List Neighbour) → ((i : ℕ) → get_or names i [] ≡ name_of (unit + i)) → IsAscending row
-      → All (λ (n : Neighbour). unit ≤ n.unit) row → All (λ (n : Neighbour). n.unit < unit + length names) row → falling_from s row unit names ≡ falling_in row
+  -- these are all of the units with these names, numbered from this number on
+  abbrev AreAll : ℕ → List (List ℕ) → List Neighbour → Type 0
+  AreAll unit names row =
+      ((i : ℕ) → get_or names i [] ≡ name_of (unit + i)) → IsAscending row → All (λ (n : Neighbour). unit ≤ n.unit) row
+      → All (λ (n : Neighbour). n.unit < unit + length names) row → falling_from s row unit names ≡ falling_in row
+
+  or_false : (b : Bool) → (b || false) ≡ b
+  or_false true = refl
+  or_false false = refl
+
+  module _ (unit : ℕ) (name : List ℕ) (names : List (List ℕ)) (at : (i : ℕ) → get_or (name ∷ names) i [] ≡ name_of (unit + i))
+      (rest : (row : List Neighbour) → AreAll (suc unit) names row) where
+    at_rest : (i : ℕ) → get_or names i [] ≡ name_of (suc unit + i)
+    at_rest i = let moved : unit + suc i ≡ suc unit + i = omega arith in at (suc i) ∙ ap name_of moved
+
+    named : name ≡ name_of unit
+    named = let none : unit + 0 ≡ unit = omega arith in at 0 ∙ ap name_of none
+
+    below : (m : Neighbour) → m.unit < unit + length (name ∷ names) → m.unit < suc unit + length names
+    below m h = omega (arith, h)
+
+    module _ (n : Neighbour) (ns : List Neighbour) (up : IsAscending (n ∷ ns)) (to : All (λ (n : Neighbour). n.unit < unit + length (name ∷ names)) (n ∷ ns)) where
+      above : All (λ (m : Neighbour). n.unit < m.unit) ns
+      above = behind_above n ns up
+
+      -- the first neighbour is the unit with this number
+      here : n.unit ≡ unit → falling_from s (n ∷ ns) unit (name ∷ names) ≡ falling_in (n ∷ ns)
+      here same =
+          let none : is_bound ns unit ≡ false = not_bound unit ns (λ k d h. let greater = above k d h in omega (arith, greater, same)) in
+          let behind : falling_from s ns (suc unit) names ≡ falling_in ns
+          = rest ns at_rest (behind_ascends n ns up) (λ k d h. let greater = above k d h in omega (arith, greater, same)) (λ k d h. below (get_or ns k d) (to (suc k) d (omega (arith, h)))) in
+          let all : falling_from s (n ∷ ns) (suc unit) names ≡ falling_in ns = passed n ns (suc unit) names (omega (arith, same)) ∙ behind in
+          ap (λ b. cond (((b && binds n) || is_bound ns unit) && goes s name) (unit ∷ falling_from s (n ∷ ns) (suc unit) names) (falling_from s (n ∷ ns) (suc unit) names)) ((Decides-eqb n.unit unit).1 same)
+          ∙ ap (λ b. cond ((binds n || b) && goes s name) (unit ∷ falling_from s (n ∷ ns) (suc unit) names) (falling_from s (n ∷ ns) (suc unit) names)) none
+          ∙ ap (λ b. cond (b && goes s name) (unit ∷ falling_from s (n ∷ ns) (suc unit) names) (falling_from s (n ∷ ns) (suc unit) names)) (or_false (binds n))
+          ∙ ap (λ l. cond (binds n && goes s name) (unit ∷ l) l) all
+          ∙ ap (λ x. cond (binds n && goes s x) (unit ∷ falling_in ns) (falling_in ns)) (named ∙ ap name_of (sym same))
+          ∙ ap (λ u. cond (binds n && goes s (name_of n.unit)) (u ∷ falling_in ns) (falling_in ns)) (sym same)
+
+      -- all neighbours have greater numbers
+      later : unit < n.unit → falling_from s (n ∷ ns) unit (name ∷ names) ≡ falling_in (n ∷ ns)
+      later first =
+          ap (λ b. cond (b && goes s name) (unit ∷ falling_from s (n ∷ ns) (suc unit) names) (falling_from s (n ∷ ns) (suc unit) names)) (not_bound unit (n ∷ ns) greater)
+          ∙ rest (n ∷ ns) at_rest up (λ k d h. let more = greater k d h in omega (arith, more)) (λ k d h. below (get_or (n ∷ ns) k d) (to k d h))
+        where
+          greater : All (λ (m : Neighbour). unit < m.unit) (n ∷ ns)
+          greater zero d h = first
+          greater (suc k) d h = let more = above k d (omega (arith, h)) in omega (arith, more, first)
+
+  all_from : (unit : ℕ) (names : List (List ℕ)) (row : List Neighbour) → AreAll unit names row
   all_from unit [] [] at up from to = refl
   all_from unit [] (n ∷ ns) at up from to =
       let least = All-head (λ (n : Neighbour). unit ≤ n.unit) n ns from in
       let most = All-head (λ (n : Neighbour). n.unit < unit + 0) n ns to in
       absurd (omega (arith, least, most))
-  all_from unit (name ∷ names) [] at up from to = all_from (suc unit) names [] (λ i. at (suc i) ∙ ap name_of (moved i)) up (λ k d h. absurd (omega (arith, h))) (λ k d h. absurd (omega (arith, h)))
-    where
-      moved : (i : ℕ) → unit + suc i ≡ suc unit + i
-      moved i = omega arith
+  all_from unit (name ∷ names) [] at up from to =
+      all_from (suc unit) names [] (at_rest unit name names at (all_from (suc unit) names)) up (λ k d h. absurd (omega (arith, h))) (λ k d h. absurd (omega (arith, h)))
   all_from unit (name ∷ names) (n ∷ ns) at up from to = elim (cases_eq n.unit unit) as (λ _. falling_from s (n ∷ ns) unit (name ∷ names) ≡ falling_in (n ∷ ns)) [
-    | inl same ↦ here same
-    | inr other ↦ later other
+    | inl same ↦ here unit name names at (all_from (suc unit) names) n ns up to same
+    | inr other ↦
+        let least = All-head (λ (n : Neighbour). unit ≤ n.unit) n ns from in
+        later unit name names at (all_from (suc unit) names) n ns up to (omega (arith, least, other))
   ]
-    where
-      moved : (i : ℕ) → unit + suc i ≡ suc unit + i
-      moved i = omega arith
-
-      at_rest : (i : ℕ) → get_or names i [] ≡ name_of (suc unit + i)
-      at_rest i = at (suc i) ∙ ap name_of (moved i)
-
-      below : (m : Neighbour) → m.unit < unit + length (name ∷ names) → m.unit < suc unit + length names
-      below m h = omega (arith, h)
-
-      named : name ≡ name_of unit
-      named = let none : unit + 0 ≡ unit = omega arith in at 0 ∙ ap name_of none
-
-      least : unit ≤ n.unit
-      least = All-head (λ (n : Neighbour). unit ≤ n.unit) n ns from
-
-      above : All (λ (m : Neighbour). n.unit < m.unit) ns
-      above = behind_above n ns up
-
-      rest_to : All (λ (m : Neighbour). m.unit < suc unit + length names) ns
-      rest_to k d h = below (get_or ns k d) (to (suc k) d (omega (arith, h)))
-
-      here : n.unit ≡ unit → falling_from s (n ∷ ns) unit (name ∷ names) ≡ falling_in (n ∷ ns)
-      here same =
-          let none : is_bound ns unit ≡ false = not_bound unit ns (λ k d h. let up = above k d h in omega (arith, up, same)) in
-          let rest : falling_from s (n ∷ ns) (suc unit) names ≡ falling_in ns = passed n ns (suc unit) names (omega (arith, same))
-          ∙ all_from (suc unit) names ns at_rest (behind_ascends n ns up) (λ k d h. let up = above k d h in omega (arith, up, same)) rest_to in
-          ap (λ b. cond (((b && binds n) || is_bound ns unit) && goes s name) (unit ∷ falling_from s (n ∷ ns) (suc unit) names) (falling_from s (n ∷ ns) (suc unit) names)) ((Decides-eqb n.unit unit).1 same)
-          ∙ ap (λ b. cond ((binds n || b) && goes s name) (unit ∷ falling_from s (n ∷ ns) (suc unit) names) (falling_from s (n ∷ ns) (suc unit) names)) none
-          ∙ ap (λ b. cond (b && goes s name) (unit ∷ falling_from s (n ∷ ns) (suc unit) names) (falling_from s (n ∷ ns) (suc unit) names)) (or_false (binds n))
-          ∙ ap (λ l. cond (binds n && goes s name) (unit ∷ l) l) rest
-          ∙ ap (λ x. cond (binds n && goes s x) (unit ∷ falling_in ns) (falling_in ns)) (named ∙ ap name_of (sym same))
-          ∙ ap (λ u. cond (binds n && goes s (name_of n.unit)) (u ∷ falling_in ns) (falling_in ns)) (sym same)
-        where
-          or_false : (b : Bool) → (b || false) ≡ b
-          or_false true = refl
-          or_false false = refl
-
-      later : n.unit ≢ unit → falling_from s (n ∷ ns) unit (name ∷ names) ≡ falling_in (n ∷ ns)
-      later other =
-          let first : unit < n.unit = omega (arith, least, other) in
-          let all_above : All (λ (m : Neighbour). unit < m.unit) (n ∷ ns) = from_above first in
-          ap (λ b. cond (b && goes s name) (unit ∷ falling_from s (n ∷ ns) (suc unit) names) (falling_from s (n ∷ ns) (suc unit) names)) (not_bound unit (n ∷ ns) all_above)
-          ∙ all_from (suc unit) names (n ∷ ns) at_rest up (λ k d h. let up = all_above k d h in omega (arith, up)) (λ k d h. below (get_or (n ∷ ns) k d) (to k d h))
-        where
-          from_above : unit < n.unit → All (λ (m : Neighbour). unit < m.unit) (n ∷ ns)
-          from_above first zero d h = first
-          from_above first (suc k) d h = let up = above k d (omega (arith, h)) in omega (arith, up, first)
 
   pub all_fall : (row : List Neighbour) → IsAscending row → All (λ (n : Neighbour). n.unit < length g.names) row → falling_from s row 0 g.names ≡ falling_in row
   all_fall row up within = all_from 0 g.names row (λ i. refl) up (λ k d h. omega arith) within

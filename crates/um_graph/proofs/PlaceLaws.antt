@@ -36,57 +36,57 @@ module _ (ns : List (List ℕ)) (sorted : AllPairs IsNamedBefore ns) (x : List �
 -- ---- names in ascending order are those of another such list, where each has what the other has
 among : (ns : List (List ℕ)) (x : List ℕ) → Contains ns x → list_any (bytes_eq x) ns ≡ true
 among [] x c = absurd (in_none x c)
-among (n ∷ ns) x c = by (bytes_eq x n) refl (in_cons n ns x c)
+among (n ∷ ns) x c = by (bytes_eq x n) refl (in_cons n ns x c) (among ns x)
   where
-    by : (b : Bool) → bytes_eq x n ≡ b → (n ≡ x) ⊎ Contains ns x → (b || list_any (bytes_eq x) ns) ≡ true
-    by true t c = refl
-    by false t (inl e) = absurd (true≢false (sym ((bytes_eq-Decides x n).1 (sym e)) ∙ t))
-    by false t (inr d) = among ns x d
+    by : (b : Bool) → bytes_eq x n ≡ b → (n ≡ x) ⊎ Contains ns x → (Contains ns x → list_any (bytes_eq x) ns ≡ true) → (b || list_any (bytes_eq x) ns) ≡ true
+    by true t c rest = refl
+    by false t (inl e) rest = absurd (true≢false (sym ((bytes_eq-Decides x n).1 (sym e)) ∙ t))
+    by false t (inr d) rest = rest d
 
 listed : (ns : List (List ℕ)) (x : List ℕ) → list_any (bytes_eq x) ns ≡ true → Contains ns x
 listed [] x e = absurd (true≢false (sym e))
-listed (n ∷ ns) x e = by (bytes_eq x n) refl e
+listed (n ∷ ns) x e = by (bytes_eq x n) refl e (listed ns x)
   where
-    by : (b : Bool) → bytes_eq x n ≡ b → (b || list_any (bytes_eq x) ns) ≡ true → Contains (n ∷ ns) x
-    by true t e = (0, omega arith, sym ((bytes_eq-Decides x n).0 t))
-    by false t e = cons_in n ns x (listed ns x e)
+    by : (b : Bool) → bytes_eq x n ≡ b → (b || list_any (bytes_eq x) ns) ≡ true → (list_any (bytes_eq x) ns ≡ true → Contains ns x) → Contains (n ∷ ns) x
+    by true t e rest = (0, omega arith, sym ((bytes_eq-Decides x n).0 t))
+    by false t e rest = cons_in n ns x (rest e)
 
 first_before : (n : List ℕ) (ns : List (List ℕ)) → AllPairs IsNamedBefore (n ∷ ns) → (x : List ℕ) → Contains ns x → IsNamedBefore n x
 first_before n ns s x (k, h, e) = subst (IsNamedBefore n) e (s 0 (suc k) x (omega arith) (omega arith))
+
+-- two such lists begin with the same name, and what is behind it is alike
+module _ (n o : List ℕ) (ns os : List (List ℕ)) (s : AllPairs IsNamedBefore (n ∷ ns)) (t : AllPairs IsNamedBefore (o ∷ os))
+    (to : (x : List ℕ) → Contains (n ∷ ns) x → Contains (o ∷ os) x) (from : (x : List ℕ) → Contains (o ∷ os) x → Contains (n ∷ ns) x) where
+  apart : Contains os n → Contains ns o → ⊥
+  apart c d = names_one_way n o (first_before n ns s o d) (first_before o os t n c)
+
+  same_first : n ≡ o
+  same_first = elim (in_cons o os n (to n (0, omega arith, refl))) as (λ _. n ≡ o) [
+    | inl e ↦ sym e
+    | inr c ↦ elim (in_cons n ns o (from o (0, omega arith, refl))) as (λ _. n ≡ o) [ inl e ↦ e | inr d ↦ absurd (apart c d) ]
+  ]
+
+  behind_to : (x : List ℕ) → Contains ns x → Contains os x
+  behind_to x c = elim (in_cons o os x (to x (cons_in n ns x c))) as (λ _. Contains os x) [
+    | inl e ↦ absurd (not_before_itself n x (first_before n ns s x c) (same_first ∙ e))
+    | inr d ↦ d
+  ]
+
+  behind_from : (x : List ℕ) → Contains os x → Contains ns x
+  behind_from x c = elim (in_cons n ns x (from x (cons_in o os x c))) as (λ _. Contains ns x) [
+    | inl e ↦ absurd (not_before_itself o x (first_before o os t x c) (sym same_first ∙ e))
+    | inr d ↦ d
+  ]
 
 same_names : (ns os : List (List ℕ)) → AllPairs IsNamedBefore ns → AllPairs IsNamedBefore os → ((x : List ℕ) → Contains ns x → Contains os x)
     → ((x : List ℕ) → Contains os x → Contains ns x) → ns ≡ os
 same_names [] [] s t to from = refl
 same_names [] (o ∷ os) s t to from = absurd (in_none o (from o (0, omega arith, refl)))
 same_names (n ∷ ns) [] s t to from = absurd (in_none n (to n (0, omega arith, refl)))
-same_names (n ∷ ns) (o ∷ os) s t to from = λ i. first i ∷ rest i
-  where
-    apart : Contains os n → Contains ns o → ⊥
-    apart c d =
-        let below = first_before o os t n c in
-        let above = first_before n ns s o d in
-        names_one_way n o above below
-
-    first : n ≡ o
-    first = elim (in_cons o os n (to n (0, omega arith, refl))) as (λ _. n ≡ o) [
-      | inl e ↦ sym e
-      | inr c ↦ elim (in_cons n ns o (from o (0, omega arith, refl))) as (λ _. n ≡ o) [ inl e ↦ e | inr d ↦ absurd (apart c d) ]
-    ]
-
-    out : (x : List ℕ) → Contains ns x → Contains os x
-    out x c = elim (in_cons o os x (to x (cons_in n ns x c))) as (λ _. Contains os x) [
-      | inl e ↦ absurd (not_before_itself n x (first_before n ns s x c) (first ∙ e))
-      | inr d ↦ d
-    ]
-
-    back : (x : List ℕ) → Contains os x → Contains ns x
-    back x c = elim (in_cons n ns x (from x (cons_in o os x c))) as (λ _. Contains ns x) [
-      | inl e ↦ absurd (not_before_itself o x (first_before o os t x c) (sym first ∙ e))
-      | inr d ↦ d
-    ]
-
-    rest : ns ≡ os
-    rest = same_names ns os (tail_sorted n ns s) (tail_sorted o os t) out back
+same_names (n ∷ ns) (o ∷ os) s t to from =
+    let rest : ns ≡ os
+    = same_names ns os (tail_sorted n ns s) (tail_sorted o os t) (behind_to n o ns os s t to from) (behind_from n o ns os s t to from) in
+    λ i. same_first n o ns os s t to from i ∷ rest i
 
 pub same_order : (ns os : List (List ℕ)) → AllPairs IsNamedBefore ns → AllPairs IsNamedBefore os
     → ((x : List ℕ) → list_any (bytes_eq x) ns ≡ list_any (bytes_eq x) os) → ns ≡ os
