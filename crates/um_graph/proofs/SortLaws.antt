@@ -97,7 +97,7 @@ entries_past [] z h = refl
 entries_past (u ∷ units) zero h = absurd (omega arith)
 entries_past (u ∷ units) (suc z) h = entries_past units z (omega arith)
 
-none_ascends : IsAscending (values_of [])
+none_ascends : IsAscending []
 none_ascends i j d h k = absurd (omega arith)
 
 pub all_sorted : (units : List Unit) (n : ℕ) → length units ≤ n → ((z : ℕ) → z < n → IsSortedAt units z) → AreSorted units
