@@ -241,7 +241,13 @@ pub(crate) fn told_by(
         &unit.name,
         names.before.as_slice(),
     )?;
-    tell_earlier(alloc, resolved, &mut told, &unit.name, names.after.as_slice())?;
+    tell_earlier(
+        alloc,
+        resolved,
+        &mut told,
+        &unit.name,
+        names.after.as_slice(),
+    )?;
     tell_defaults(alloc, resolved, &mut told, unit)?;
     Ok(told)
 }
