@@ -1,4 +1,4 @@
-ghost use Rattle.std.specs.Prelude.{◌≡◌, IfOk, map};
+ghost use Rattle.std.specs.Prelude.{◌≡◌, IfOk};
 ghost use Rattle.um_model.specs.Install.{IsEnabledAs};
 ghost use Rattle.um_model.specs.Jobs.{jobs_shown};
 ghost use Rattle.um_model.specs.Machine as model;
@@ -7,13 +7,14 @@ ghost use Rattle.um_model.specs.Service.{active_state_of, state_of_unit};
 ghost use Rattle.um_model.specs.Units.{load as load_in, name_in};
 ghost use Rattle.um_state.specs.View.{state_of, query_of, reply_of, shown_of as shown_view};
 ghost use Rattle.um_model.specs.declared.install.Enabling.{Enabling};
-ghost use Rattle.um_unit.specs.View.{loading_of, unit_of, warning_of};
+ghost use Rattle.um_unit.specs.View.{loading_of, unit_of};
 ghost use Rattle.um_answer.specs.Loaded.{Loads};
 ghost use Rattle.um_answer.specs.Shown.{shown_of_loaded};
 
 use crate::listing::list_units;
 use crate::names::{Asked, loading_in, name_in};
 use std::alloc::{AllocError, Global};
+use std::rc::Rc;
 use um_graph::Graph;
 use um_install::is_enabled;
 use um_model::{LoadState, UnitState};
@@ -21,7 +22,7 @@ use um_name::UnitName;
 use um_resolve::{Files, files_of};
 use um_state::{Query, Reply, State, UnitShown};
 use um_tree::Tree;
-use um_unit::{LoadedUnit, Loading, Warning, load};
+use um_unit::{LoadedUnit, Loading, load};
 use um_wire::{masked, not_found};
 
 /// A unit that isn't loaded is shown with no description and no warning.
@@ -37,24 +38,9 @@ fn shown_without_settings(
         id: unit.text()?,
         load,
         description: String::new(alloc),
-        warnings: Vec::new(alloc),
+        warnings: Rc::new(alloc, Vec::new(alloc))?,
         state,
     })
-}
-
-/// The same warnings again.
-fn copied(alloc: Global, warnings: &[Warning]) -> Result<Vec<Warning>, AllocError>
-    ensures { IfOk result (λ copies. map warning_of copies.items ≡ map warning_of warnings.now) }
-{
-    let mut copies = Vec::new(alloc);
-    for warning in warnings {
-        copies.push(Warning {
-            kind: warning.kind,
-            path: warning.path.clone()?,
-            line: warning.line,
-        })?;
-    }
-    Ok(copies)
 }
 
 fn shown_loaded(alloc: Global, unit: &LoadedUnit, state: UnitState) -> Result<UnitShown, AllocError>
@@ -64,7 +50,7 @@ fn shown_loaded(alloc: Global, unit: &LoadedUnit, state: UnitState) -> Result<Un
         id: unit.name.text()?,
         load: LoadState::Loaded,
         description: unit.settings.description.clone()?,
-        warnings: copied(alloc, &unit.warnings)?,
+        warnings: unit.warnings.clone()?,
         state,
     })
 }

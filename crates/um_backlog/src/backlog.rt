@@ -1,4 +1,5 @@
 ghost use Rattle.std.specs.Prelude.{◌≡◌, ◌≢◌, ℕ, List, length, replicate, slice_get, IsTrue, IfOk};
+ghost use Rattle.um_gate.specs.Frames.{KeepsGate};
 ghost use Rattle.um_backlog.specs.Backlog.{Waits, nothing, gone, is_behind_at, HandsAt};
 ghost use Rattle.um_gate.specs.Events.{Event, Logs};
 
@@ -58,8 +59,7 @@ impl Backlog {
         ensures hands { (events : List Event) × HandsAt number (slice_get self.old number) bytes.items is_last events (slice_get self.new number)
             × Logs (G.honest gate.old) (G.whole gate.new) (G.past gate.old) (G.past gate.new) events }
         ensures others { (other : ℕ) → other ≢ number → slice_get self.new other ≡ slice_get self.old other }
-        ensures whole { IsTrue (G.whole gate.new) → IsTrue (G.whole gate.old) }
-        ensures honest { G.honest gate.new ≡ G.honest gate.old }
+        ensures gate { KeepsGate G.Gate gate.old gate.new }
     {
         if number < CONNECTIONS {
             self.waiting[number].put(gate, number, bytes, is_last);

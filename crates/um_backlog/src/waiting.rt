@@ -1,4 +1,5 @@
 ghost use Rattle.std.specs.Prelude.{◌≡◌, ◌≤◌, ◌++◌, ◌∷◌, [], List, ℕ, drop, take, length, true, false, IsTrue, OnErr, OnOk, ◌≢◌};
+ghost use Rattle.um_gate.specs.Frames.{KeepsGate};
 ghost use Rattle.um_backlog.specs.Backlog.{Waits, nothing, given_up, is_behind, is_given_up, writes, Hands};
 ghost use Rattle.um_gate.specs.Events.{Event, dropped, Logs};
 
@@ -103,8 +104,7 @@ impl Waiting {
     fn give_up<G: Gate>(&mut self, gate: &mut G, number: usize)
         ensures value { self.new ≡ given_up }
         ensures past { Logs (G.honest gate.old) (G.whole gate.new) (G.past gate.old) (G.past gate.new) (dropped number ∷ []) }
-        ensures whole { IsTrue (G.whole gate.new) → IsTrue (G.whole gate.old) }
-        ensures honest { G.honest gate.new ≡ G.honest gate.old }
+        ensures gate { KeepsGate G.Gate gate.old gate.new }
     {
         gate.drop_connection(number);
         self.clear();
@@ -118,8 +118,7 @@ impl Waiting {
             × Logs (G.honest gate.old) (G.whole gate.new) (G.past gate.old) (G.past gate.new) (writes number self.old.bytes taken) }
         ensures is_last { self.new.is_last ≡ self.old.is_last }
         ensures is_over { self.new.is_over ≡ self.old.is_over }
-        ensures whole { IsTrue (G.whole gate.new) → IsTrue (G.whole gate.old) }
-        ensures honest { G.honest gate.new ≡ G.honest gate.old }
+        ensures gate { KeepsGate G.Gate gate.old gate.new }
     {
         if self.at < self.bytes.len() {
             self.at += gate.write(number, &self.bytes[self.at..]);
@@ -159,8 +158,7 @@ impl Waiting {
     pub fn put<G: Gate>(&mut self, gate: &mut G, number: usize, bytes: Vec<u8>, is_last: bool)
         ensures hands { (events : List Event) × Hands number self.old bytes.items is_last events self.new
             × Logs (G.honest gate.old) (G.whole gate.new) (G.past gate.old) (G.past gate.new) events }
-        ensures whole { IsTrue (G.whole gate.new) → IsTrue (G.whole gate.old) }
-        ensures honest { G.honest gate.new ≡ G.honest gate.old }
+        ensures gate { KeepsGate G.Gate gate.old gate.new }
     {
         if self.is_over {
             return;

@@ -4,3 +4,4 @@ pub mod Commands
 pub mod Fakes
 pub mod Faults
 pub mod Standings
+pub mod Frames

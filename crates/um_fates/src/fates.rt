@@ -1,6 +1,7 @@
 //! What became of processes, as inputs.
 
 ghost use Rattle.std.specs.Prelude.{◌≡◌, ◌+◌, ◌*◌, ◌≤◌, ◌++◌, ◌∷◌, [], ℕ, true, IsTrue, length, vec_len, vec_capacity};
+ghost use Rattle.um_children.specs.Frames.{KeepsChildren};
 ghost use Rattle.um_state.specs.View.{input_of};
 ghost use Rattle.um_fates.specs.Fates.{Heard, inputs_in, inputs_of_end, inputs_of_fate, happens_at, lost};
 ghost use Rattle.um_fates.specs.Live.{has};
@@ -86,8 +87,7 @@ fn hear_one<C: Children>(
         (number ∷ []) (inputs_in inputs.old.items) (inputs_in inputs.new.items) }
     ensures len { vec_len inputs.new ≤ vec_len inputs.old + 2 }
     ensures capacity { vec_capacity inputs.old ≤ vec_capacity inputs.new }
-    ensures whole { IsTrue (C.whole children.new) → IsTrue (C.whole children.old) }
-    ensures honest { C.honest children.new ≡ C.honest children.old }
+    ensures children { KeepsChildren C.Children children.old children.new }
 {
     match children.fate(number, claim) {
         Ok(fate) => put_fate(inputs, moment, number, fate, absent),
@@ -109,8 +109,7 @@ pub fn hear<C: Children>(
         (C.past children.new) live.now (inputs_in inputs.old.items) (inputs_in inputs.new.items) }
     ensures len { vec_len inputs.new ≤ vec_len inputs.old + 2 * length live.now }
     ensures capacity { vec_capacity inputs.old ≤ vec_capacity inputs.new }
-    ensures whole { IsTrue (C.whole children.new) → IsTrue (C.whole children.old) }
-    ensures honest { C.honest children.new ≡ C.honest children.old }
+    ensures children { KeepsChildren C.Children children.old children.new }
 {
     for number in live {
         let claim = marks.contains(*number);
@@ -130,8 +129,7 @@ pub fn claim_all<C: Children>(
         (inputs_in inputs.old.items) (inputs_in inputs.new.items) }
     ensures len { vec_len inputs.new ≤ vec_len inputs.old + 2 * length live.now }
     ensures capacity { vec_capacity inputs.old ≤ vec_capacity inputs.new }
-    ensures whole { IsTrue (C.whole children.new) → IsTrue (C.whole children.old) }
-    ensures honest { C.honest children.new ≡ C.honest children.old }
+    ensures children { KeepsChildren C.Children children.old children.new }
 {
     for number in live {
         hear_one(children, *number, true, End::Lost, moment, inputs);

@@ -1,3 +1,4 @@
 pub mod Events
 pub mod Notes
 pub mod Fakes
+pub mod Frames

@@ -2,10 +2,11 @@ mod Batching
 mod Looking
 pub mod Kept
 mod Reopening
-mod Repeating
+pub mod Repeating
 mod Replaying
 mod Results
 mod Spent
 mod Wiping
 mod Meanwhile
 mod Underway
+pub mod Offered

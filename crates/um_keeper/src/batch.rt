@@ -14,6 +14,8 @@ ghost use Rattle.um_model.specs.InputSpellings.{input_spelling};
 ghost use Rattle.um_model.specs.Machine as model;
 ghost use Rattle.um_model.specs.Machine.{State, Step};
 ghost use Rattle.um_model.specs.Refusals.{Refused};
+ghost use Rattle.um_keeper.specs.Offers.{HasCome, GoesOn};
+ghost use Rattle.um_model.specs.Lives.{Offer};
 ghost use Rattle.um_model.specs.Numbers.{AreNew, started_numbers};
 ghost use Rattle.um_model.specs.Stands.{IsStoreOf};
 ghost use Rattle.um_model.specs.Store.{body_limit, log_end, part_count, sector_count, store_sectors};
@@ -366,6 +368,10 @@ impl<D: Disk> Keeper<D> {
         ensures during { IfOk result (λ answers. IsTrue (D.honest (disk_in self.old))
             → During (D.past (disk_in self.old)) (D.past (disk_in self.new))
             (IsBegun (layout_in self.old) (state_in self.old) (taken (map input_of inputs.items) answers.items))) }
+        ensures life { IfOk result (λ answers. (s : State) (before : List Offer) → IsTrue (D.honest (disk_in self.old))
+            → HasCome (layout_in self.old) s before (state_in self.old)
+            → GoesOn (layout_in self.old) s before (map input_of inputs.items) answers.items (D.past (disk_in self.old)) (D.past (disk_in self.new))
+            (has_failed self.new) (state_in self.new)) }
         ensures order { IfOk result (λ answers. AreNew (state_in self.old).next (state_in self.new).next (started_numbers (all_asked answers.items))) }
         ensures stored { has_failed self.new ≡ false → IsTrue (D.honest (disk_in self.old))
             → Images (D.past (disk_in self.new)) (λ image. IsStoreOf (layout_in self.old) image (state_in self.new)) }

@@ -1,6 +1,7 @@
-ghost use Rattle.std.specs.Prelude.{◌≡◌, ◌⊎◌, ◌≤◌, ◌+◌, IsTrue, IfErr, OnOk, OnErr};
+ghost use Rattle.std.specs.Prelude.{◌≡◌, ◌⊎◌, ◌≤◌, ◌+◌, [], IsTrue, IfErr, OnOk, OnErr};
 ghost use Rattle.um_model.specs.Disk.{seen, Images, During};
 ghost use Rattle.um_sector.specs.Runs.{CountsFailure};
+ghost use Rattle.um_model.specs.Lives.{MayLeave};
 ghost use Rattle.um_model.specs.Machine.{empty_state};
 ghost use Rattle.um_model.specs.StateSpellings.{state_spelling};
 ghost use Rattle.um_model.specs.Store as store;
@@ -73,6 +74,7 @@ pub fn create<D: Disk>(alloc: Global, disk: &mut D, layout: Layout) -> Result<()
     requires room { store.store_sectors layout ≤ D.size disk.old }
     ensures during { IsTrue (D.honest disk.old) → WhileCreated layout (D.past disk.old) (D.past disk.new) }
     ensures ok { OnOk result (IsTrue (D.honest disk.old) → Images (D.past disk.new) (IsEmptyStore layout)) }
+    ensures life { OnOk result (IsTrue (D.honest disk.old) → Images (D.past disk.new) (MayLeave layout empty_state [])) }
     ensures kept { IfErr result (λ e. (e ≡ Refusal.Device) ⊎ (disk.new ≡ disk.old)) }
     ensures failures { CountsDevice result (D.failures disk.old) (D.failures disk.new) }
     ensures err { IfErr result IsLost }

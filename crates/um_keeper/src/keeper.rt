@@ -1,4 +1,4 @@
-ghost use Rattle.std.specs.Prelude.{◌≡◌, ◌≢◌, ◌⊎◌, ◌↔◌, ◌+◌, ◌-◌, ◌^◌, ◌<◌, ◌≤◌, ◌∷◌, [], ℕ, true, false, length, Err, Some, IfOk, IfErr, OnOk, OnErr, IsTrue};
+ghost use Rattle.std.specs.Prelude.{◌≡◌, ◌≢◌, ◌⊎◌, ◌↔◌, ◌+◌, ◌-◌, ◌^◌, ◌<◌, ◌≤◌, ◌∷◌, [], ℕ, true, false, List, length, Err, Some, IfOk, IfErr, OnOk, OnErr, IsTrue};
 ghost use Rattle.std.proofs.Props.{props};
 ghost use Rattle.std.specs.Coded.{codes};
 ghost use Rattle.std.specs.FinMap as maps;
@@ -6,9 +6,11 @@ ghost use Rattle.um_engine.specs.Engine as machine;
 ghost use Rattle.um_engine.specs.Engine.{reply_in, actions_in, state_after, state_before};
 ghost use Rattle.um_engine.specs.OfStore.{is_of_store};
 ghost use Rattle.um_keeper.specs.Keeping.{MayHold, Keeps, IsBegun, record_calls, snapshot_calls};
+ghost use Rattle.um_keeper.specs.Offers.{HasCome, GoesOn};
 ghost use Rattle.um_log.specs.Reading.{Fits};
 ghost use Rattle.um_model.specs.Disk.{During, Images};
 ghost use Rattle.um_model.specs.InputSpellings.{FitInput, input_limit, input_spelling};
+ghost use Rattle.um_model.specs.Lives.{Offer, MayLeave};
 ghost use Rattle.um_model.specs.Machine as model;
 ghost use Rattle.um_model.specs.Machine.{Step, moment_of};
 ghost use Rattle.um_engine.specs.Engine.{LacksEffect};
@@ -137,6 +139,9 @@ impl<D: Disk> Keeper<D> {
         ensures reopen { (result ≡ Err Refusal.Reopen) ↔ (has_failed self.old ≡ true) }
         ensures spent { (result ≡ Err Refusal.GenerationsSpent) ↔ ((has_failed self.old ≡ false) × (generation_in self.old ≡ 2 ^ 64 - 1)) }
         ensures calls { D.calls (disk_in self.new) ≤ D.calls (disk_in self.old) + snapshot_calls (state_in self.old) }
+        ensures life { (s : model.State) (before : List Offer) → has_failed self.old ≡ false → IsTrue (D.honest (disk_in self.old))
+            → HasCome (layout_in self.old) s before (state_in self.old)
+            → During (D.past (disk_in self.old)) (D.past (disk_in self.new)) (MayLeave (layout_in self.old) s before) }
         ensures size { D.size (disk_in self.new) ≡ D.size (disk_in self.old) }
         ensures honest { D.honest (disk_in self.new) ≡ D.honest (disk_in self.old) }
     {
@@ -336,6 +341,10 @@ impl<D: Disk> Keeper<D> {
         ensures calls { Fits (layout_in self.old) (log_generation_in self.old) (next_in self.old) (length (input_spelling (input_of input)))
             → D.calls (disk_in self.new) ≤ D.calls (disk_in self.old) + record_calls (input_of input) }
         ensures most_calls { D.calls (disk_in self.new) ≤ D.calls (disk_in self.old) + snapshot_calls (state_in self.old) + record_calls (input_of input) }
+        ensures life { (s : model.State) (before : List Offer) → has_failed self.old ≡ false → IsTrue (D.honest (disk_in self.old))
+            → HasCome (layout_in self.old) s before (state_in self.old)
+            → GoesOn (layout_in self.old) s before (input_of input ∷ []) (result ∷ []) (D.past (disk_in self.old)) (D.past (disk_in self.new))
+            (has_failed self.new) (state_in self.new) }
         ensures size { D.size (disk_in self.new) ≡ D.size (disk_in self.old) }
         ensures honest { D.honest (disk_in self.new) ≡ D.honest (disk_in self.old) }
     {

@@ -1,4 +1,4 @@
-ghost use Rattle.std.specs.Prelude.{◌≡◌, ◌⊎◌, ◌↔◌, ◌+◌, ◌-◌, ◌^◌, ◌<◌, ◌≤◌, Ok, None, false, IfOk, IfErr, IfSome, OnOk, IsTrue};
+ghost use Rattle.std.specs.Prelude.{◌≡◌, ◌⊎◌, ◌↔◌, ◌+◌, ◌-◌, ◌^◌, ◌<◌, ◌≤◌, Ok, None, false, List, IfOk, IfErr, IfSome, OnOk, IsTrue};
 ghost use Rattle.um_engine.specs.Engine.{state_in, size_in};
 ghost use Rattle.um_keeper.specs.Keeping.{Keeps, MayHold};
 ghost use Rattle.um_keeper.specs.Opening.{HasLayout, IsStart, Leads, Replays, IsNoInput, IsUnread, IsUntaken, IsTakenUp, IsNextOf, IsRead, IsKept, IsSomeStore, IsAsBefore};
@@ -6,6 +6,7 @@ ghost use Rattle.um_keeper.specs.Opening.{IsBehind, IsStill, StaysFor, StaysForO
 ghost use Rattle.um_log.specs.Greatest.{IsGreatest};
 ghost use Rattle.um_model.specs.Disk.{seen, Images, IsSettled, During};
 ghost use Rattle.um_model.specs.Disk.{one_more};
+ghost use Rattle.um_model.specs.Lives.{Offer, MayLeave};
 ghost use Rattle.um_model.specs.Machine as model;
 ghost use Rattle.um_model.specs.Servable.{IsServable};
 ghost use Rattle.um_model.specs.Store.{body_limit, store_sectors, other, log_start, placed, records_of};
@@ -269,6 +270,10 @@ impl<D: Disk> Keeper<D> {
             → During (D.past disk) (D.past k.disk) (IsAsBefore layout (D.past disk))) }
         ensures during_err { IfErr result (λ e. IsTrue (D.honest disk) → (layout : declared.Layout) → Images (D.past disk) (IsSomeStore layout)
             → During (D.past disk) (D.past e.1) (IsAsBefore layout (D.past disk))) }
+        ensures life { IfOk result (λ k. IsTrue (D.honest disk) → (layout : declared.Layout) (s : model.State) (before : List Offer)
+            → Images (D.past disk) (MayLeave layout s before) → During (D.past disk) (D.past k.disk) (MayLeave layout s before)) }
+        ensures life_err { IfErr result (λ e. IsTrue (D.honest disk) → (layout : declared.Layout) (s : model.State) (before : List Offer)
+            → Images (D.past disk) (MayLeave layout s before) → During (D.past disk) (D.past e.1) (MayLeave layout s before)) }
         ensures stands { IfOk result (λ k. IsTrue (D.honest disk) → StandsFor k.log.layout (seen (D.past disk)) (state_in k.engine)) }
         ensures stays { IfOk result (λ k. IsTrue (D.honest disk) → StaysFor k.log.layout (state_in k.engine) (D.past disk) (D.past k.disk)) }
         ensures stored { IfOk result (λ k. IsTrue (D.honest disk) → Images (D.past k.disk) (λ image. IsStoreOf k.log.layout image (state_in k.engine))) }

@@ -160,7 +160,7 @@ none_asked [] (suc count) = none_asked [] count
 none_asked (Ok given ∷ meant) count = none_asked meant count
 none_asked (Err e ∷ meant) count = none_asked meant count
 
-none_again : (count : ℕ) (e : Refusal) → all_asked (replicate count (Err e)) ≡ []
+pub none_again : (count : ℕ) (e : Refusal) → all_asked (replicate count (Err e)) ≡ []
 none_again zero e = refl
 none_again (suc count) e = none_again count e
 
@@ -174,7 +174,7 @@ no_fault all_answered among = absurd among
 no_fault (and_next one more) (inl is) = one_fault one is
 no_fault (and_next one more) (inr later) = no_fault more later
 
-asks_none : (place : Place) (size : ℕ) (s t : State) (inputs : List Input) (answers : List Answer) → Answers place s inputs answers t → HasFault answers → all_asked answers ≡ []
+pub asks_none : (place : Place) (size : ℕ) (s t : State) (inputs : List Input) (answers : List Answer) → Answers place s inputs answers t → HasFault answers → all_asked answers ≡ []
 asks_none place size s t inputs answers (each are) fault = absurd (no_fault are (among_contained answers (Err Device) fault))
 asks_none place size s t inputs answers (fell back) fault = ap all_asked back.are ∙ none_asked back.meant (length back.rest)
 asks_none place size s t inputs answers (reopen untrusted are same) fault = ap all_asked are ∙ none_again (length inputs) Reopen

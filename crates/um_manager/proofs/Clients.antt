@@ -3,6 +3,7 @@ use Rattle.std.proofs.Common.{◌≡◌, ◌≢◌, inl, inr, ◌∙◌, ◌+◌
 use Rattle.std.specs.List.{flat_map}
 use Rattle.std.proofs.lemmas.List.{length-append}
 use Rattle.std.proofs.lemmas.List.Concat.{flat_map-append}
+use Rattle.um_model.specs.Frames.{BeginsWith, BeginsTooLong}
 use Rattle.um_model.specs.Machine.{State, Input, Reply}
 use Rattle.um_model.specs.Machine as model_machine
 use Rattle.um_model.specs.Replies.{reply_text}
@@ -21,7 +22,7 @@ use Rattle.um_wire.specs.Refusal.{refused_of}
 use Rattle.um_wire.specs.declared.refusal.Refusal.{Refusal}
 use Rattle.um_wire.specs.declared.refusal.Refusal.TheVariants as refusal
 use Rattle.um_manager.specs.Clients.{Exchange, place_of, IsReplyAsked, IsReplyOf, IsExchange, AllTurned, no_turn, and_turn, AreExchanges, bytes_in, bytes_of, StaysOpen, AreGiven, frame_in, ArePut, HasItsOwn}
-use Rattle.um_manager.specs.Connections.{TakesPiece, Cuts, CutsAll, inputs_of_asked, inputs_asked, due_of_asked, due_of}
+use Rattle.um_manager.specs.Connections.{IsNew, TakesPiece, Cuts, CutsAll, inputs_of_asked, inputs_asked, due_of_asked, due_of}
 use Rattle.um_manager.specs.Places.{Place}
 use Rattle.um_manager.specs.Replies.{reply_in, Puts, TellsOf, replies_due, replies_owed, Pays, PaysAll}
 use Rattle.um_manager.specs.Scripts.{Runs}
@@ -32,14 +33,14 @@ use Rattle.um_manager.specs.declared.script.Step.{Step}
 use Rattle.um_manager.specs.declared.taking.Due.{Due}
 use Rattle.um_manager.specs.declared.taking.Due.TheVariants as owes
 
-none_some : {X : Type 0} {x : X} → None ≡ Some x → ⊥
+pub none_some : {X : Type 0} {x : X} → None ≡ Some x → ⊥
 none_some e = cc
 
 abbrev or_else : {X : Type 0} → X → Option X → X
 or_else d (Some x) = x
 or_else d None = d
 
-some_same : {X : Type 0} {x y : X} → Some x ≡ Some y → x ≡ y
+pub some_same : {X : Type 0} {x y : X} → Some x ≡ Some y → x ≡ y
 some_same {x = x} e = ap (or_else x) e
 
 -- ---- of all connections that of one
@@ -156,7 +157,7 @@ reply_paid s answers at replies n (Err e) t u finds paid = (model_machine.Refusa
 
 -- ---- the session
 
-joined : {s t u : Session} {xs ys : List Deed} → Lives s xs t → Lives t ys u → Lives s (xs ++ ys) u
+pub joined : {s t u : Session} {xs ys : List Deed} → Lives s xs t → Lives t ys u → Lives s (xs ++ ys) u
 joined rests q = q
 joined (goes_on does p) q = goes_on does (joined p q)
 
@@ -186,11 +187,11 @@ feeding t Closed fed open_still came = absurd (open_still refl)
 
 -- ---- replies put out
 
-map_join : {X Y : Type 0} (f : X → Y) (xs ys : List X) → map f (xs ++ ys) ≡ map f xs ++ map f ys
+pub map_join : {X Y : Type 0} (f : X → Y) (xs ys : List X) → map f (xs ++ ys) ≡ map f xs ++ map f ys
 map_join f [] ys = refl
 map_join f (x ∷ xs) ys = ap (λ l. f x ∷ l) (map_join f xs ys)
 
-put_more : (o : List ℕ) (xs ys : List Reply) (u w : Session) → ArePut o xs u → ArePut u.output ys w
+pub put_more : (o : List ℕ) (xs ys : List Reply) (u w : Session) → ArePut o xs u → ArePut u.output ys w
     → (u.failed ≡ true → (ys ≡ []) × (w.failed ≡ true) × (w.output ≡ u.output)) → ArePut o (xs ++ ys) w
 put_more o xs ys u w (inl e) (inl f) stuck =
     inl (f ∙ ap (λ l. l ++ flat_map frame_in ys) e ∙ append_assoc o (flat_map frame_in xs) (flat_map frame_in ys) ∙ ap (λ l. o ++ l) (sym (flat_map-append frame_in xs ys)))
@@ -208,7 +209,7 @@ put_more o xs ys u w (inr (failed, most, last, is, e)) put stuck =
 put_none : (t u : Session) → u.output ≡ t.output → ArePut t.output [] u
 put_none t u e = inl (e ∙ sym (append-nil t.output))
 
-given_join : (xs ys : List Exchange) (ls bs : List model.Asked) → AreGiven (map (λ (x : Exchange). x.0) xs) ls → AreGiven (map (λ (x : Exchange). x.0) ys) bs
+pub given_join : (xs ys : List Exchange) (ls bs : List model.Asked) → AreGiven (map (λ (x : Exchange). x.0) xs) ls → AreGiven (map (λ (x : Exchange). x.0) ys) bs
     → AreGiven (map (λ (x : Exchange). x.0) (xs ++ ys)) (ls ++ bs)
 given_join [] ys [] bs p q = q
 given_join [] ys (a ∷ ls) bs p q = absurd p
@@ -217,15 +218,15 @@ given_join (x ∷ xs) ys (a ∷ ls) bs p q = (p.0, given_join xs ys ls bs p.1 q)
 
 -- ---- one turn
 
-record Story (t u : Session) (bytes : List ℕ) (exchanges : List Exchange) : Type 0 where
-  deeds : List Deed
-  lives : Lives t deeds u
-  fed : flat_map bytes_fed deeds ≡ bytes
-  asked : List model.Asked
-  reads : flat_map readings deeds ≡ asked
-  given : AreGiven (map (λ (x : Exchange). x.0) exchanges) asked
-  put : ArePut t.output (map (λ (x : Exchange). x.1) exchanges) u
-  stuck : t.failed ≡ true → (exchanges ≡ []) × (u.failed ≡ true) × (u.output ≡ t.output)
+pub record Story (t u : Session) (bytes : List ℕ) (exchanges : List Exchange) : Type 0 where
+  pub deeds : List Deed
+  pub lives : Lives t deeds u
+  pub fed : flat_map bytes_fed deeds ≡ bytes
+  pub asked : List model.Asked
+  pub reads : flat_map readings deeds ≡ asked
+  pub given : AreGiven (map (λ (x : Exchange). x.0) exchanges) asked
+  pub put : ArePut t.output (map (λ (x : Exchange). x.1) exchanges) u
+  pub stuck : t.failed ≡ true → (exchanges ≡ []) × (u.failed ≡ true) × (u.output ≡ t.output)
 
 -- no whole frame is there
 waited : (t fed c u : Session) (p : Piece) → Fed t p fed → Reads fed c None → u ≡ c → Story t u (bytes_in (Some p)) []
@@ -271,10 +272,10 @@ some_none e = cc
 
 -- ---- one turn for one connection
 
-record ToldOf (s : State) (answers : List Answer) (at : ℕ) (found : Option (Option (Result Request Refusal))) (t u : Session) (bytes : List ℕ) : Type 0 where
-  here : List Exchange
-  is : IsExchange s answers at found here
-  story : Story t u bytes here
+pub record ToldOf (s : State) (answers : List Answer) (at : ℕ) (found : Option (Option (Result Request Refusal))) (t u : Session) (bytes : List ℕ) : Type 0 where
+  pub here : List Exchange
+  pub is : IsExchange s answers at found here
+  pub story : Story t u bytes here
 
 told : (s : State) (answers : List Answer) (at : ℕ) (replies : List Reply) (n : ℕ) (p : Piece) (r : Option (Result Request Refusal)) (asked : Option model.Asked) (t fed c u : Session)
     → ((reply : Reply) → slice_get replies n ≡ Some reply → (answer : Answer) × (slice_get answers at ≡ Some answer) × (reply ≡ reply_in answer))
@@ -286,7 +287,8 @@ told s answers at replies n p (Some request) (Some asked) t fed c u finds f read
     let (reply, is, puts) = reply_paid s answers at replies n request c u finds paid in
     record { here = (request, reply) ∷ []; is = (reply, is, refl); story = put_out t fed c u p asked request reply f reads given puts }
 
-one_turn : {place : Place} {h w : Bool} {moment : ℕ} {pieces : List Piece} {a b : Now} (turned : Turned place h w (Ok tt) moment pieces a b) (k : ℕ) (t : Session) → slice_get a.sessions k ≡ Some t
+pub one_turn : {place : Place} {h w : Bool} {result : Result Unit Refusal} {moment : ℕ} {pieces : List Piece} {a b : Now} (turned : Turned place h w result moment pieces a b) (k : ℕ) (t : Session)
+    → slice_get a.sessions k ≡ Some t
     → slice_get pieces k ≢ Some Closed
     → (u : Session) × (slice_get b.sessions k ≡ Some u) × ToldOf b.state turned.answers (place_of turned k) (slice_get turned.requests k) t u (bytes_in (slice_get pieces k))
 one_turn {moment = moment} {pieces} {a} {b} turned k t at stays =
@@ -371,3 +373,38 @@ has_its_own {steps = steps} k turns t at rest working stays =
         put = story.put;
       },
     )
+
+-- ---- a turn that is told that the connection closed
+
+empty_header : (h r : List ℕ) → h ++ r ≡ [] → length h ≡ 4 → ⊥
+empty_header [] r e four = omega (arith, four)
+empty_header (x ∷ h) r e four = cc
+
+begins_not : (stream bytes rest : List ℕ) → stream ≡ [] → BeginsWith stream bytes rest → ⊥
+begins_not stream bytes rest none begins = empty_header begins.header (bytes ++ rest) (sym begins.whole ∙ none) begins.four
+
+too_long_not : (stream : List ℕ) → stream ≡ [] → BeginsTooLong stream → ⊥
+too_long_not stream none begins = empty_header begins.header begins.rest (sym begins.whole ∙ none) begins.four
+
+-- nothing is read of a new session
+new_reads : {s t : Session} {asked : Option model.Asked} → IsNew s → Reads s t asked → (asked ≡ None) × (t ≡ s)
+new_reads new (waits cause e) = (refl, e)
+new_reads {s} new (takes {bytes = bytes} {rest = rest} working begins e) = absurd (begins_not s.rest bytes rest new.0 begins)
+new_reads {s} new (refuses working begins e) = absurd (too_long_not s.rest new.0 begins)
+
+-- the session is new behind it
+pub closed_turn : {place : Place} {h w : Bool} {result : Result Unit Refusal} {moment : ℕ} {pieces : List Piece} {a b : Now} (turned : Turned place h w result moment pieces a b) (k : ℕ) (t : Session)
+    → slice_get a.sessions k ≡ Some t → slice_get pieces k ≡ Some Closed → (u : Session) × (slice_get b.sessions k ≡ Some u) × IsNew u
+closed_turn {moment = moment} {pieces} {a} {b} turned k t at closed =
+    let (p, r, c, p_at, r_at, c_at, (fed, came, (asked, reads, given))) = cuts_at a.sessions pieces turned.requests turned.cut k t turned.cuts at in
+    let new : IsNew fed = subst (λ x. TakesPiece t x fed) (some_same (sym p_at ∙ closed)) came in
+    let none = new_reads new reads in
+    let count = length (firsts moment turned.told) in
+    let (u, u_at, paid) = pays_at b.state (map due_of turned.requests) (drop count (map reply_in turned.answers)) turned.cut b.sessions k (due_of r) c turned.paid (at_mapped due_of turned.requests k r r_at) c_at in
+    (u, u_at, subst IsNew (sym (unpaid b.state r asked _ _ c u none.0 given paid ∙ none.1)) new)
+  where
+    unpaid : (s : State) (r : Option (Result Request Refusal)) (asked : Option model.Asked) (replies : List Reply) (n : ℕ) (c u : Session) → asked ≡ None → IsGiven r asked
+        → PaidAt s (due_of r) replies n c u → u ≡ c
+    unpaid s None asked replies n c u none given paid = paid
+    unpaid s (Some request) None replies n c u none given paid = absurd given
+    unpaid s (Some request) (Some asked) replies n c u none given paid = cc

@@ -4,10 +4,14 @@ pub mod Beginning
 pub mod Booting
 pub mod Carrying
 pub mod Clients
+pub mod Continuing
 pub mod Crashing
 pub mod FewLive
 pub mod Gathering
 pub mod Letting
+pub mod Living
 pub mod Offering
+pub mod Outliving
 pub mod Placing
+pub mod Talking
 pub mod Turning

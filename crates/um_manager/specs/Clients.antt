@@ -7,7 +7,7 @@ use Rattle.um_model.specs.Frames.{frame_of}
 use Rattle.um_model.specs.Machine.{State, Reply, Refusal}
 use Rattle.um_keeper.specs.Answering.{Answer}
 use Rattle.um_model.specs.Replies.{reply_text}
-use Rattle.um_model.specs.Sessions.{Session, IsReadOf}
+use Rattle.um_model.specs.Sessions.{Session, Does, Room, IsReadOf}
 use Rattle.um_model.specs.Sessions as model
 use Rattle.um_proto.specs.View.{request_of}
 use Rattle.um_proto.specs.declared.request.Asked.{Asked}
@@ -18,9 +18,9 @@ use Rattle.um_wire.specs.Gives.{Gives}
 use Rattle.um_wire.specs.Refusal.{refused_of}
 use Rattle.um_wire.specs.declared.refusal.Refusal as declared
 use Rattle.um_wire.specs.declared.refusal.Refusal.TheVariants.{BadRequest}
-use Rattle.um_manager.specs.Connections.{inputs_asked}
+use Rattle.um_manager.specs.Connections.{inputs_asked, IsNew}
 use Rattle.um_manager.specs.Places.{Place}
-use Rattle.um_manager.specs.Replies.{reply_in, TellsOf}
+use Rattle.um_manager.specs.Replies.{reply_in, TellsOf, IsOutput}
 use Rattle.um_manager.specs.Turns.{Now, firsts, Turned}
 use Rattle.um_manager.specs.declared.pieces.Piece.{Piece}
 use Rattle.um_manager.specs.declared.pieces.Piece.TheVariants.{Nothing, Bytes, Closed}
@@ -31,8 +31,8 @@ abbrev pub Exchange : Type 0
 Exchange = Result Request declared.Refusal × Reply
 
 -- where the input of a connection's request stands among those that the turn offered
-abbrev pub place_of : {place : Place} {honest whole : Bool} {moment : ℕ} {pieces : List Piece} {a b : Now}
-    → Turned place honest whole (Ok tt) moment pieces a b → ℕ → ℕ
+abbrev pub place_of : {place : Place} {honest whole : Bool} {result : Result Unit declared.Refusal} {moment : ℕ} {pieces : List Piece} {a b : Now}
+    → Turned place honest whole result moment pieces a b → ℕ → ℕ
 place_of {moment = moment} turned k = length (firsts moment turned.told) + length (flat_map (inputs_asked moment) (take k turned.requests))
 
 -- the reply to what was asked: the answer to just this input, a query's from the state after all inputs; the actions aren't told
@@ -106,3 +106,51 @@ pub record HasItsOwn {place : Place} {honest whole : Bool} {steps : List Step} {
   pub given : AreGiven (map (λ (x : Exchange). x.0) exchanges) asked
   pub read : IsReadOf (bytes_of k steps) asked u
   pub put : ArePut t.output (map (λ (x : Exchange). x.1) exchanges) u
+
+-- ---- a connection from its opening on
+
+-- the same session but for its room
+abbrev pub IsSameAt : Option Session → Option Session → Type 0
+IsSameAt (Some t) (Some u) = Does t Room u
+IsSameAt t u = ⊥
+
+-- A connection since it was opened, over calls of a manager, whatever they answered: the bytes that came of it, and those that were taken out for it.
+pub data HasHad (k : ℕ) : (bytes taken : List ℕ) → Now → Type 0 where
+  -- the manager was opened
+  opens : {a : Now} {t : Session} → slice_get a.sessions k ≡ Some t → IsNew t → HasHad k [] [] a
+  -- a turn was told that it closed: what was put out and not taken is given up, and another client may come
+  closes : {place : Place} {honest whole : Bool} {result : Result Unit declared.Refusal} {moment : ℕ} {pieces : List Piece} {bytes taken : List ℕ} {a b : Now}
+      → HasHad k bytes taken a → Turned place honest whole result moment pieces a b → slice_get pieces k ≡ Some Closed → HasHad k [] [] b
+  -- a turn took what came of it
+  turns : {place : Place} {honest whole : Bool} {result : Result Unit declared.Refusal} {moment : ℕ} {pieces : List Piece} {bytes taken : List ℕ} {a b : Now}
+      → HasHad k bytes taken a → Turned place honest whole result moment pieces a b → slice_get pieces k ≢ Some Closed
+      → HasHad k (bytes ++ bytes_in (slice_get pieces k)) taken b
+  -- what was put out for it was taken
+  takes : {bytes taken : List ℕ} {a b : Now} (out : List ℕ) (failed : Bool) → HasHad k bytes taken a
+      → IsOutput (slice_get a.sessions k) out failed (slice_get b.sessions k) → HasHad k bytes (taken ++ out) b
+  -- nothing was: a turn found no memory, or what was put out for another was taken
+  rests : {bytes taken : List ℕ} {a b : Now} → HasHad k bytes taken a → IsSameAt (slice_get a.sessions k) (slice_get b.sessions k) → HasHad k bytes taken b
+
+-- the requests that turns took of the connection since it was opened, in their order, each with its reply
+abbrev pub AreHad : {k : ℕ} {bytes taken : List ℕ} {a : Now} → HasHad k bytes taken a → List Exchange → Type 0
+AreHad (opens there new) all = all ≡ []
+AreHad (closes had turned closed) all = all ≡ []
+AreHad {k = k} (turns {b = b} had turned open_still) all =
+    (earlier : List Exchange) × (here : List Exchange) × AreHad had earlier
+    × IsExchange b.state turned.answers (place_of turned k) (slice_get turned.requests k) here × (all ≡ earlier ++ here)
+AreHad (takes out failed had output) all = AreHad had all
+AreHad (rests had same) all = AreHad had all
+
+-- the session, as if nothing had been taken out
+abbrev pub with_taken : List ℕ → Session → Session
+with_taken taken t = record t { output = taken ++ t.output }
+
+-- The requests taken of a connection are those of the frames of all its bytes, in their order; and what was put out for it, taken out or not, are the
+-- frames of the replies to just these, one each, in their order. Only the last is wanting, where the session failed for want of memory.
+pub record IsServed {k : ℕ} {bytes taken : List ℕ} {a : Now} (had : HasHad k bytes taken a) (t : Session) : Type 0 where
+  pub exchanges : List Exchange
+  pub are : AreHad had exchanges
+  pub asked : List model.Asked
+  pub given : AreGiven (map (λ (x : Exchange). x.0) exchanges) asked
+  pub read : IsReadOf bytes asked t
+  pub put : ArePut [] (map (λ (x : Exchange). x.1) exchanges) (with_taken taken t)

@@ -1,6 +1,9 @@
 pub mod Clients
 pub mod Connections
 pub mod Crashes
+pub mod Frames
+pub mod Lives
+pub mod Living
 pub mod Opening
 pub mod Orders
 pub mod Places

@@ -26,7 +26,7 @@ use Rattle.um_wire.specs.declared.refusal.Refusal.TheVariants.{Device}
 use Rattle.um_fates.specs.Fates.{AreTalesOf, asks_for, inputs_of_tale, lost, happens_at}
 use Rattle.um_fates.specs.Live.{AreLive, AreIn}
 use Rattle.um_manager.specs.Orders.{LetGo, signals}
-use Rattle.um_manager.specs.Places.{Place}
+use Rattle.um_manager.specs.Places.{Place, place}
 use Rattle.um_manager.specs.Turns.{Now, Answers, Tells, AreSpent, Leaves, Holds, Called}
 
 -- the inputs of adoption: those of the fates told, where a number that is absent is lost
@@ -97,6 +97,14 @@ pub record IsFound (sectors : ℕ) (disk : Past) (layout : Layout) (s : State) :
   pub generation : ℕ
   pub taken_up : IsTakenUp sectors (seen disk) layout slot generation s
   pub stands : StandsFor layout (seen disk) s
+
+-- An opening that is refused, of a store of this layout: it wasn't taken up, and nothing was offered or asked; or it was, and the boot or adoption
+-- was refused behind that.
+pub data IsRefused (layout : Layout) (honest whole : Bool) (moment : ℕ) (boot : List ℕ) (sectors : ℕ) (disk left : Past) (past calls : List Call) : Type 0 where
+  untaken : calls ≡ past → During disk left (IsAsBefore layout disk) → IsRefused layout honest whole moment boot sectors disk left past calls
+  taken_up : {refusal : Refusal} (a b : Now) → IsFound sectors disk layout a.state → a.past ≡ past → During disk a.disk (IsAsBefore layout disk)
+      → Refuses (place (body_limit layout) layout true) honest whole refusal moment boot a b → left ≡ b.disk → calls ≡ b.past
+      → IsRefused layout honest whole moment boot sectors disk left past calls
 
 -- an image that an opening leaves: a store of a state that one of before was a store of, or of one that a beginning of these inputs gives
 abbrev pub IsOfOpening : Layout → Past → State → List Input → Image → Type 0

@@ -15,7 +15,10 @@ mod submitting;
 mod taking;
 
 pub use connection::{CONNECTIONS, Connection};
-pub use laws::{each_client_has_its_own_replies, what_a_crash_leaves};
+pub use laws::{
+    a_service_manager_outlives_crashes, each_client_has_its_own_replies, each_connection_is_served,
+    what_a_crash_leaves,
+};
 pub use manager::{Manager, Output};
 pub use pieces::{Piece, Pieces};
 pub use script::Step;

@@ -1,14 +1,20 @@
-ghost use Rattle.std.specs.Prelude.{◌≡◌, ◌≢◌, ◌⊎◌, ◌↔◌, ℕ, [], length, true, false, Err, IsTrue, IfOk, IfErr, slice_get};
+ghost use Rattle.std.specs.Prelude.{◌≡◌, ◌≢◌, ◌⊎◌, ◌↔◌, ℕ, List, [], length, true, false, Err, IsTrue, IfOk, IfErr, slice_get};
 ghost use Rattle.std.specs.List.{AllByRecursion};
+ghost use Rattle.um_children.specs.Frames.{KeepsChildren};
+ghost use Rattle.um_manager.specs.Frames.{Frame};
 ghost use Rattle.um_keeper.specs.Keepers.{disk_in, state_in, size_in, layout_in, has_failed, opened_in, IsSamePlace};
 ghost use Rattle.um_keeper.specs.Opening.{IsRead, IsSomeStore, IsUntaken, IsUnwritten};
 ghost use Rattle.um_manager.specs.Connections.{IsNew, HoldsFrameAt};
-ghost use Rattle.um_manager.specs.Opening.{Opened, IsOfRefused, IsSilent};
+ghost use Rattle.um_manager.specs.Lives.{life_of};
+ghost use Rattle.um_manager.specs.Living.{Reliance, HasLived, IsLife, LivesOn, relying};
+ghost use Rattle.um_manager.specs.Opening.{Opened, IsRefused, IsOfRefused, IsSilent};
 ghost use Rattle.um_manager.specs.Places.{place, place_in};
 ghost use Rattle.um_manager.specs.Replies.{IsOutput};
 ghost use Rattle.um_manager.specs.Scripts.{Runs};
 ghost use Rattle.um_manager.specs.Turns.{Turns, now_in};
-ghost use Rattle.um_model.specs.Disk.{seen, one_more, Images, During};
+ghost use Rattle.um_model.specs.Children.{Call};
+ghost use Rattle.um_model.specs.Disk.{Past, seen, one_more, Images, During};
+ghost use Rattle.um_model.specs.Lives.{Offer};
 ghost use Rattle.um_model.specs.Store.{body_limit};
 ghost use Rattle.um_model.specs.declared.layout.Layout.{Layout};
 ghost use Rattle.um_sector.specs.Refused.{CountsDevice, IsLost};
@@ -66,15 +72,23 @@ impl<D: Disk, C: Children> Manager<D, C> {
         ensures opened { IfOk result (λ m. Opened (place (size_in m.keeper) (layout_in m.keeper) (D.honest disk)) (C.honest children) (C.whole m.children)
             moment boot m.adopted (D.size disk) (D.past disk) (C.past children)
             (now_in m.keeper (C.past m.children) m.marks [] (D.past (disk_in m.keeper)))) }
+        ensures life { IfOk result (λ m. (offered : List Offer)
+            × HasLived (layout_in m.keeper) (relying (D.honest disk) (C.honest children) (C.whole m.children)) (D.past disk) (C.past children) offered
+            (now_in m.keeper (C.past m.children) m.marks m.sessions.items (D.past (disk_in m.keeper)))) }
         ensures read { IfOk result (λ m. IsTrue (D.honest disk) → IsRead (layout_in m.keeper) (seen (D.past disk)) (opened_in m.keeper)) }
         ensures anew { IfOk result (λ m. AllByRecursion IsNew m.sessions.items) }
         ensures working { IfOk result (λ m. has_failed m.keeper ≡ false) }
         ensures sized { IfOk result (λ m. size_in m.keeper ≡ body_limit (layout_in m.keeper)) }
-        ensures same { IfOk result (λ m. (D.honest (disk_in m.keeper) ≡ D.honest disk) × (C.honest m.children ≡ C.honest children)) }
-        ensures whole { IfOk result (λ m. IsTrue (C.whole m.children) → IsTrue (C.whole children)) }
+        ensures same { IfOk result (λ m. (D.honest (disk_in m.keeper) ≡ D.honest disk) × KeepsChildren C.Children children m.children) }
         ensures err { IfErr result (λ e. IsTrue (D.honest disk) → (layout : Layout) → Images (D.past disk) (IsSomeStore layout)
             → During (D.past disk) (D.past e.1)
             (IsOfRefused layout moment boot (D.size disk) (D.past disk) (C.honest children) (C.whole e.2) (C.past children) (C.past e.2))) }
+        ensures refuses { IfErr result (λ e. IsTrue (D.honest disk) → (layout : Layout) → Images (D.past disk) (IsSomeStore layout)
+            → IsRefused layout (C.honest children) (C.whole e.2) moment boot (D.size disk) (D.past disk) (D.past e.1) (C.past children) (C.past e.2)) }
+        ensures life_err { IfErr result (λ e. IsTrue (D.honest disk) → IsTrue (C.honest children) → IsTrue (C.whole e.2) → (layout : Layout)
+            → Images (D.past disk) (IsSomeStore layout) → (offered : List Offer)
+            × IsLife layout (relying (D.honest disk) (C.honest children) (C.whole e.2))
+            (life_of (D.past disk) (C.past children) offered (D.past e.1) (C.past e.2))) }
         ensures silent { IfErr result (λ e. IsTrue (C.honest children) → IsTrue (C.whole e.2)
             → (C.past e.2 ≡ C.past children) ⊎ IsSilent (D.size disk) (D.past disk) (D.honest disk) moment boot (C.past children) (C.past e.2)) }
         ensures refused { IfErr result (λ e. IsLost e.0 ⊎ (IsTrue (D.honest disk) → IsUntaken (D.size disk) (seen (D.past disk)) e.0)) }
@@ -83,8 +97,7 @@ impl<D: Disk, C: Children> Manager<D, C> {
             ⊎ ((e.0 ≢ Refusal.Device) × (D.failures e.1 ≡ D.failures disk))) }
         ensures quiet { IfOk result (λ m. D.failures (disk_in m.keeper) ≡ D.failures disk) }
         ensures early { IfErr result (λ e. e.0 ≢ Refusal.Device → C.past e.2 ≡ C.past children) }
-        ensures back { IfErr result (λ e. (D.honest e.1 ≡ D.honest disk) × (C.honest e.2 ≡ C.honest children)) }
-        ensures whole_back { IfErr result (λ e. IsTrue (C.whole e.2) → IsTrue (C.whole children)) }
+        ensures back { IfErr result (λ e. (D.honest e.1 ≡ D.honest disk) × KeepsChildren C.Children children e.2) }
     {
         let mut children = children;
         let mut keeper = match Keeper::open(alloc, disk) {
@@ -119,14 +132,14 @@ impl<D: Disk, C: Children> Manager<D, C> {
             (C.whole self.new.children) moment pieces.now
             (now_in self.old.keeper (C.past self.old.children) self.old.marks self.old.sessions.items (D.past (disk_in self.old.keeper)))
             (now_in self.new.keeper (C.past self.new.children) self.new.marks self.new.sessions.items (D.past (disk_in self.new.keeper))) }
+        ensures life { has_failed self.old.keeper ≡ false → LivesOn (layout_in self.old.keeper)
+            (relying (D.honest (disk_in self.old.keeper)) (C.honest self.old.children) (C.whole self.new.children)) result
+            (now_in self.old.keeper (C.past self.old.children) self.old.marks self.old.sessions.items (D.past (disk_in self.old.keeper)))
+            (now_in self.new.keeper (C.past self.new.children) self.new.marks self.new.sessions.items (D.past (disk_in self.new.keeper))) }
         ensures refused { IfErr result (λ e. IsLost e ⊎ (e ≡ Refusal.Reopen)) }
         ensures device { CountsDevice result (D.failures (disk_in self.old.keeper)) (D.failures (disk_in self.new.keeper)) }
         ensures reopen { result ≢ Err Refusal.NoMemory → (result ≡ Err Refusal.Reopen) ↔ (has_failed self.old.keeper ≡ true) }
-        ensures whole { IsTrue (C.whole self.new.children) → IsTrue (C.whole self.old.children) }
-        ensures honest { C.honest self.new.children ≡ C.honest self.old.children }
-        ensures place { IsSamePlace self.old.keeper self.new.keeper }
-        ensures disk { D.honest (disk_in self.new.keeper) ≡ D.honest (disk_in self.old.keeper) }
-        ensures failed { (has_failed self.new.keeper ≡ true) ↔ ((has_failed self.old.keeper ≡ true) ⊎ (result ≡ Err Refusal.Device)) }
+        ensures frame { Frame D.Disk C.Children result self.old.keeper self.new.keeper self.old.children self.new.children }
         ensures adopted { self.new.adopted ≡ self.old.adopted }
     {
         turn(
@@ -146,14 +159,14 @@ impl<D: Disk, C: Children> Manager<D, C> {
             steps.now result
             (now_in self.old.keeper (C.past self.old.children) self.old.marks self.old.sessions.items (D.past (disk_in self.old.keeper)))
             (now_in self.new.keeper (C.past self.new.children) self.new.marks self.new.sessions.items (D.past (disk_in self.new.keeper))) }
+        ensures life { has_failed self.old.keeper ≡ false → LivesOn (layout_in self.old.keeper)
+            (relying (D.honest (disk_in self.old.keeper)) (C.honest self.old.children) (C.whole self.new.children)) result
+            (now_in self.old.keeper (C.past self.old.children) self.old.marks self.old.sessions.items (D.past (disk_in self.old.keeper)))
+            (now_in self.new.keeper (C.past self.new.children) self.new.marks self.new.sessions.items (D.past (disk_in self.new.keeper))) }
         ensures refused { IfErr result (λ e. IsLost e ⊎ (e ≡ Refusal.Reopen)) }
         ensures device { CountsDevice result (D.failures (disk_in self.old.keeper)) (D.failures (disk_in self.new.keeper)) }
         ensures reopen { result ≢ Err Refusal.NoMemory → (result ≡ Err Refusal.Reopen) ↔ ((has_failed self.old.keeper ≡ true) × (steps.now ≢ [])) }
-        ensures whole { IsTrue (C.whole self.new.children) → IsTrue (C.whole self.old.children) }
-        ensures honest { C.honest self.new.children ≡ C.honest self.old.children }
-        ensures place { IsSamePlace self.old.keeper self.new.keeper }
-        ensures disk { D.honest (disk_in self.new.keeper) ≡ D.honest (disk_in self.old.keeper) }
-        ensures failed { (has_failed self.new.keeper ≡ true) ↔ ((has_failed self.old.keeper ≡ true) ⊎ (result ≡ Err Refusal.Device)) }
+        ensures frame { Frame D.Disk C.Children result self.old.keeper self.new.keeper self.old.children self.new.children }
         ensures adopted { self.new.adopted ≡ self.old.adopted }
     {
         run(
@@ -171,6 +184,10 @@ impl<D: Disk, C: Children> Manager<D, C> {
         ensures taken { IsOutput (slice_get self.old.sessions.items connection) result.bytes.items result.failed
             (slice_get self.new.sessions.items connection) }
         ensures others { (other : ℕ) → other ≢ connection → slice_get self.new.sessions.items other ≡ slice_get self.old.sessions.items other }
+        ensures life { (layout : Layout) (on : Reliance) (disk : Past) (before : List Call) (offered : List Offer) → HasLived layout on disk before offered
+            (now_in self.old.keeper (C.past self.old.children) self.old.marks self.old.sessions.items (D.past (disk_in self.old.keeper)))
+            → HasLived layout on disk before offered
+            (now_in self.new.keeper (C.past self.new.children) self.new.marks self.new.sessions.items (D.past (disk_in self.new.keeper))) }
         ensures keeper { self.new.keeper ≡ self.old.keeper }
         ensures children { self.new.children ≡ self.old.children }
         ensures marks { self.new.marks ≡ self.old.marks }

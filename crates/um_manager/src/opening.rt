@@ -2,6 +2,8 @@
 
 ghost use Rattle.std.specs.Prelude.{◌≡◌, ◌≢◌, ◌⊎◌, ◌↔◌, ◌+◌, ◌*◌, ◌≤◌, ◌++◌, ◌∷◌, [], ℕ, List, true, false, Ok, Err, IsTrue, IfOk, IfErr, OnOk, OnErr, length, vec_len, vec_capacity};
 ghost use Rattle.std.specs.List.{AllByRecursion};
+ghost use Rattle.um_children.specs.Frames.{KeepsChildren};
+ghost use Rattle.um_manager.specs.Frames.{Frame, KeepsStore};
 ghost use Rattle.um_keeper.specs.Keepers.{disk_in, state_in, size_in, layout_in, has_failed, IsSamePlace, HasNoRoom};
 ghost use Rattle.um_keeper.specs.Keeping.{IsBegun};
 ghost use Rattle.um_manager.specs.Connections.{IsNew};
@@ -64,8 +66,7 @@ fn signal_one<C: Children>(
 )
     ensures signals { IsTrue (C.honest children.old) → IsTrue (C.whole children.new) → Signalled units.now.held sub signal (number ∷ [])
         (C.past children.old) (C.past children.new) }
-    ensures whole { IsTrue (C.whole children.new) → IsTrue (C.whole children.old) }
-    ensures honest { C.honest children.new ≡ C.honest children.old }
+    ensures children { KeepsChildren C.Children children.old children.new }
 {
     if is_in(units, sub, number) {
         let _sent = children.signal(number, signal);
@@ -82,8 +83,7 @@ fn signal_all<C: Children>(
 )
     ensures signals { IsTrue (C.honest children.old) → IsTrue (C.whole children.new) → Signalled units.now.held sub signal numbers.now
         (C.past children.old) (C.past children.new) }
-    ensures whole { IsTrue (C.whole children.new) → IsTrue (C.whole children.old) }
-    ensures honest { C.honest children.new ≡ C.honest children.old }
+    ensures children { KeepsChildren C.Children children.old children.new }
 {
     for number in numbers {
         signal_one(children, units, sub, signal, *number);
@@ -104,8 +104,7 @@ fn claim_live<C: Children>(
         (C.past children.old ++ ForgotOthers live.now ∷ []) (C.past children.new) live.now (inputs_in inputs.old.items) (inputs_in inputs.new.items) }
     ensures len { vec_len inputs.new ≤ vec_len inputs.old + 2 * length live.now }
     ensures capacity { vec_capacity inputs.old ≤ vec_capacity inputs.new }
-    ensures whole { IsTrue (C.whole children.new) → IsTrue (C.whole children.old) }
-    ensures honest { C.honest children.new ≡ C.honest children.old }
+    ensures children { KeepsChildren C.Children children.old children.new }
 {
     let _forgotten = children.forget_others(live, next);
     claim_all(children, live, moment, inputs);
@@ -115,8 +114,7 @@ fn claim_live<C: Children>(
 /// those that aren't live any more.
 fn end_all<C: Children>(children: &mut C, units: &Units, numbers: &[ProcessNumber])
     ensures ends { IsTrue (C.honest children.old) → IsTrue (C.whole children.new) → Ends units.now.held numbers.now (C.past children.old) (C.past children.new) }
-    ensures whole { IsTrue (C.whole children.new) → IsTrue (C.whole children.old) }
-    ensures honest { C.honest children.new ≡ C.honest children.old }
+    ensures children { KeepsChildren C.Children children.old children.new }
 {
     signal_all(
         children,
@@ -158,11 +156,7 @@ fn adopt<D: Disk, C: Children>(
     ensures adopts { Adopted (place_in (D.honest (disk_in keeper.old)) keeper.old) (C.honest children.old) (C.whole children.new) result moment
         (now_in keeper.old (C.past children.old) marks.old [] (D.past (disk_in keeper.old)))
         (now_in keeper.new (C.past children.new) marks.new [] (D.past (disk_in keeper.new))) }
-    ensures whole { IsTrue (C.whole children.new) → IsTrue (C.whole children.old) }
-    ensures honest { C.honest children.new ≡ C.honest children.old }
-    ensures place { IsSamePlace keeper.old keeper.new }
-    ensures disk { D.honest (disk_in keeper.new) ≡ D.honest (disk_in keeper.old) }
-    ensures failed { (has_failed keeper.new ≡ true) ↔ ((has_failed keeper.old ≡ true) ⊎ (result ≡ Err Refusal.Device)) }
+    ensures frame { Frame D.Disk C.Children result keeper.old keeper.new children.old children.new }
 {
     let mut inputs = inputs;
     let next = keeper.state().next();
@@ -184,9 +178,7 @@ fn offer_boot<D: Disk>(keeper: &mut Keeper<D>, boot: BootId, moment: Moment) -> 
     ensures refused { IfErr result (λ e. IsLost e ⊎ (e ≡ Refusal.GenerationsSpent)) }
     ensures spent { result ≡ Err Refusal.GenerationsSpent → HasNoRoom keeper.old (length (input_spelling (boot_at moment boot))) }
     ensures device { CountsDevice result (D.failures (disk_in keeper.old)) (D.failures (disk_in keeper.new)) }
-    ensures place { IsSamePlace keeper.old keeper.new }
-    ensures disk { D.honest (disk_in keeper.new) ≡ D.honest (disk_in keeper.old) }
-    ensures failed { (has_failed keeper.new ≡ true) ↔ ((has_failed keeper.old ≡ true) ⊎ (result ≡ Err Refusal.Device)) }
+    ensures store { KeepsStore D.Disk result keeper.old keeper.new }
 {
     let event = Event::Happened(Happening::Booted { boot });
     let receipt = keeper.submit(Input::new(moment, event))?;
@@ -232,11 +224,7 @@ pub fn begin<D: Disk, C: Children>(
         → (length boot ≤ boot_limit) × HasNoRoom keeper.old (length (input_spelling (boot_at moment boot)))) }
     ensures device { CountsDevice result (D.failures (disk_in keeper.old)) (D.failures (disk_in keeper.new)) }
     ensures early { IfErr result (λ e. e ≢ Refusal.Device → (state_in keeper.new ≡ state_in keeper.old) × (C.past children.new ≡ C.past children.old)) }
-    ensures whole { IsTrue (C.whole children.new) → IsTrue (C.whole children.old) }
-    ensures honest { C.honest children.new ≡ C.honest children.old }
-    ensures place { IsSamePlace keeper.old keeper.new }
-    ensures disk { D.honest (disk_in keeper.new) ≡ D.honest (disk_in keeper.old) }
-    ensures failed { (has_failed keeper.new ≡ true) ↔ ((has_failed keeper.old ≡ true) ⊎ (result ≡ Err Refusal.Device)) }
+    ensures frame { Frame D.Disk C.Children result keeper.old keeper.new children.old children.new }
 {
     keeper.is_stored();
     let sessions = new_sessions(alloc)?;

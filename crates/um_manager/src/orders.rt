@@ -1,6 +1,7 @@
 //! Actions carried out, each once, in their order.
 
 ghost use Rattle.std.specs.Prelude.{map, ◌≡◌, ◌+◌, ◌≤◌, length, vec_len, vec_capacity, ◌++◌, ◌∷◌, [], IsTrue};
+ghost use Rattle.um_children.specs.Frames.{KeepsChildren};
 ghost use Rattle.um_keeper.specs.Answering.{asked_by, all_asked};
 ghost use Rattle.um_keeper.specs.Receipts.{handed_of};
 ghost use Rattle.um_state.specs.View.{reply_of};
@@ -17,8 +18,7 @@ use um_wire::Refusal;
 fn ask<C: Children>(children: &mut C, marks: &mut Marks, units: &Units, handed: Handed)
     ensures carries { Carries (C.honest children.old) (C.whole children.new) units.now.held (C.past children.old) (C.past children.new) marks.old marks.new
         (handed_of handed ∷ []) }
-    ensures whole { IsTrue (C.whole children.new) → IsTrue (C.whole children.old) }
-    ensures honest { C.honest children.new ≡ C.honest children.old }
+    ensures children { KeepsChildren C.Children children.old children.new }
 {
     match handed {
         Handed::Spawn(order) => {
@@ -43,8 +43,7 @@ pub fn carry_out<C: Children>(
 ) -> Reply
     ensures carries { Carries (C.honest children.old) (C.whole children.new) units.now.held (C.past children.old)
         (C.past children.new) marks.old marks.new receipt.1 }
-    ensures whole { IsTrue (C.whole children.new) → IsTrue (C.whole children.old) }
-    ensures honest { C.honest children.new ≡ C.honest children.old }
+    ensures children { KeepsChildren C.Children children.old children.new }
     ensures reply { reply_of result ≡ receipt.0 }
 {
     let mut receipt = receipt;
@@ -73,8 +72,7 @@ fn carry_one<C: Children>(
 ) -> Reply
     ensures carries { Carries (C.honest children.old) (C.whole children.new) units.now.held (C.past children.old) (C.past children.new) marks.old marks.new
         (asked_by answer) }
-    ensures whole { IsTrue (C.whole children.new) → IsTrue (C.whole children.old) }
-    ensures honest { C.honest children.new ≡ C.honest children.old }
+    ensures children { KeepsChildren C.Children children.old children.new }
     ensures reply { reply_of result ≡ reply_in answer }
 {
     match answer {
@@ -94,8 +92,7 @@ pub fn carry_all<C: Children>(
     requires room { vec_len replies.old + length answers.items ≤ vec_capacity replies.old }
     ensures carries { Carries (C.honest children.old) (C.whole children.new) units.now.held (C.past children.old) (C.past children.new) marks.old marks.new
         (all_asked answers.items) }
-    ensures whole { IsTrue (C.whole children.new) → IsTrue (C.whole children.old) }
-    ensures honest { C.honest children.new ≡ C.honest children.old }
+    ensures children { KeepsChildren C.Children children.old children.new }
     ensures replies { map reply_of replies.new.items ≡ map reply_of replies.old.items ++ map reply_in answers.items }
 {
     let mut rest = answers.into_iter();

@@ -1,6 +1,8 @@
 //! One turn.
 
 ghost use Rattle.std.specs.Prelude.{◌≡◌, ◌≢◌, ◌⊎◌, ◌↔◌, ◌≤◌, true, Err, IfErr, IsTrue, length, drop};
+ghost use Rattle.um_children.specs.Frames.{KeepsChildren};
+ghost use Rattle.um_manager.specs.Frames.{Frame};
 ghost use Rattle.um_keeper.specs.Keepers.{disk_in, state_in, has_failed, IsSamePlace};
 ghost use Rattle.um_fates.specs.Fates.{tick_at};
 ghost use Rattle.um_manager.specs.Orders.{LetGo};
@@ -56,8 +58,7 @@ fn note_ended(inputs: &[Input], ended: &mut Vec<ProcessNumber>) {
 #[tactic(auto, using(crate::proofs::Letting::let_go_it, crate::proofs::Letting::let_go_none))]
 fn forget_one<C: Children>(children: &mut C, units: &Units, number: ProcessNumber)
     ensures let_go { IsTrue (C.honest children.old) → IsTrue (C.whole children.new) → LetGo units.now.held (C.past children.old) (C.past children.new) }
-    ensures whole { IsTrue (C.whole children.new) → IsTrue (C.whole children.old) }
-    ensures honest { C.honest children.new ≡ C.honest children.old }
+    ensures children { KeepsChildren C.Children children.old children.new }
 {
     if !is_live(units, number) {
         let _forgotten = children.forget(number);
@@ -67,8 +68,7 @@ fn forget_one<C: Children>(children: &mut C, units: &Units, number: ProcessNumbe
 /// Forgets each of these numbers that isn't live any more. What isn't forgotten for a fault is forgotten by a later opening.
 pub fn forget_ended<C: Children>(children: &mut C, units: &Units, numbers: &[ProcessNumber])
     ensures let_go { IsTrue (C.honest children.old) → IsTrue (C.whole children.new) → LetGo units.now.held (C.past children.old) (C.past children.new) }
-    ensures whole { IsTrue (C.whole children.new) → IsTrue (C.whole children.old) }
-    ensures honest { C.honest children.new ≡ C.honest children.old }
+    ensures children { KeepsChildren C.Children children.old children.new }
 {
     for number in numbers {
         forget_one(children, units, *number);
@@ -84,8 +84,7 @@ fn forget_recorded<C: Children>(
 )
     ensures let_go { IsTrue (C.honest children.old) → IsTrue (C.whole children.new) → LetGo units.now.held (C.past children.old) (C.past children.new) }
     ensures kept { IfErr submitted.now (λ e. C.past children.new ≡ C.past children.old) }
-    ensures whole { IsTrue (C.whole children.new) → IsTrue (C.whole children.old) }
-    ensures honest { C.honest children.new ≡ C.honest children.old }
+    ensures children { KeepsChildren C.Children children.old children.new }
 {
     match submitted {
         Ok(()) => forget_ended(children, units, numbers),
@@ -112,11 +111,7 @@ pub fn turn<D: Disk, C: Children>(
     ensures refused { IfErr result (λ e. IsLost e ⊎ (e ≡ Refusal.Reopen)) }
     ensures device { CountsDevice result (D.failures (disk_in keeper.old)) (D.failures (disk_in keeper.new)) }
     ensures reopen { result ≢ Err Refusal.NoMemory → (result ≡ Err Refusal.Reopen) ↔ (has_failed keeper.old ≡ true) }
-    ensures whole { IsTrue (C.whole children.new) → IsTrue (C.whole children.old) }
-    ensures honest { C.honest children.new ≡ C.honest children.old }
-    ensures place { IsSamePlace keeper.old keeper.new }
-    ensures disk { D.honest (disk_in keeper.new) ≡ D.honest (disk_in keeper.old) }
-    ensures failed { (has_failed keeper.new ≡ true) ↔ ((has_failed keeper.old ≡ true) ⊎ (result ≡ Err Refusal.Device)) }
+    ensures frame { Frame D.Disk C.Children result keeper.old keeper.new children.old children.new }
 {
     let Ok(live) = live_numbers(keeper.state().units()) else {
         return Err(Refusal::NoMemory);

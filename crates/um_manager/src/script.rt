@@ -1,6 +1,7 @@
 //! A script: one turn a step.
 
 ghost use Rattle.std.specs.Prelude.{◌≡◌, ◌≢◌, ◌⊎◌, ◌↔◌, [], true, Err, IfErr, IsTrue, length};
+ghost use Rattle.um_manager.specs.Frames.{Frame};
 ghost use Rattle.um_keeper.specs.Keepers.{disk_in, state_in, has_failed, IsSamePlace};
 ghost use Rattle.um_manager.specs.Places.{place_in};
 ghost use Rattle.um_manager.specs.Scripts.{Runs};
@@ -41,11 +42,7 @@ pub fn run<D: Disk, C: Children>(
     ensures refused { IfErr result (λ e. IsLost e ⊎ (e ≡ Refusal.Reopen)) }
     ensures device { CountsDevice result (D.failures (disk_in keeper.old)) (D.failures (disk_in keeper.new)) }
     ensures reopen { result ≢ Err Refusal.NoMemory → (result ≡ Err Refusal.Reopen) ↔ ((has_failed keeper.old ≡ true) × (steps.now ≢ [])) }
-    ensures whole { IsTrue (C.whole children.new) → IsTrue (C.whole children.old) }
-    ensures honest { C.honest children.new ≡ C.honest children.old }
-    ensures place { IsSamePlace keeper.old keeper.new }
-    ensures disk { D.honest (disk_in keeper.new) ≡ D.honest (disk_in keeper.old) }
-    ensures failed { (has_failed keeper.new ≡ true) ↔ ((has_failed keeper.old ≡ true) ⊎ (result ≡ Err Refusal.Device)) }
+    ensures frame { Frame D.Disk C.Children result keeper.old keeper.new children.old children.new }
 {
     for step in steps {
         let pieces = step.pieces.as_slice();

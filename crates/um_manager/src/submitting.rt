@@ -1,6 +1,7 @@
 //! Inputs offered to the store.
 
 ghost use Rattle.std.specs.Prelude.{◌≡◌, ◌⊎◌, ◌↔◌, ◌+◌, ◌≤◌, ◌++◌, [], true, if◌then◌else◌, Ok, Err, IfErr, IsTrue, map, replicate, vec_len, vec_capacity};
+ghost use Rattle.um_manager.specs.Frames.{Frame};
 ghost use Rattle.um_keeper.specs.Keepers.{disk_in, state_in, has_failed, IsSamePlace};
 ghost use Rattle.um_model.specs.Machine as model;
 ghost use Rattle.um_sector.specs.Refused.{CountsDevice};
@@ -98,11 +99,7 @@ pub fn submit<D: Disk, C: Children>(
         (C.honest children.old) (C.whole children.new)
         (now_in keeper.old (C.past children.old) marks.old [] (D.past (disk_in keeper.old)))
         (now_in keeper.new (C.past children.new) marks.new [] (D.past (disk_in keeper.new))) }
-    ensures whole { IsTrue (C.whole children.new) → IsTrue (C.whole children.old) }
-    ensures honest { C.honest children.new ≡ C.honest children.old }
-    ensures place { IsSamePlace keeper.old keeper.new }
-    ensures disk { D.honest (disk_in keeper.new) ≡ D.honest (disk_in keeper.old) }
-    ensures failed { (has_failed keeper.new ≡ true) ↔ ((has_failed keeper.old ≡ true) ⊎ (result ≡ Err Refusal.Device)) }
+    ensures frame { Frame D.Disk C.Children result keeper.old keeper.new children.old children.new }
 {
     let count = inputs.len();
     match keeper.submit_all(inputs) {

@@ -19,6 +19,8 @@ mod gates;
 #[cfg(test)]
 mod helps;
 #[cfg(test)]
+mod lives;
+#[cfg(test)]
 mod managers;
 #[cfg(test)]
 mod orders;

@@ -41,13 +41,21 @@ pub fn new_store(rt: &(impl AllocGlobal + Abort)) -> MemDisk {
     disk
 }
 
-/// The manager that is opened over a disk, with children of which none was started.
-pub fn over(rt: &(impl AllocGlobal + Abort), disk: MemDisk) -> InMemory {
-    let children = FakeChildren::new(rt.alloc());
+/// The manager that is opened over a disk, with these children.
+pub fn over_children(
+    rt: &(impl AllocGlobal + Abort),
+    disk: MemDisk,
+    children: FakeChildren,
+) -> InMemory {
     match Manager::open(rt.alloc(), disk, children, boot(rt), Moment::FIRST) {
         Ok(manager) => manager,
         Err(_) => rt.abort(),
     }
+}
+
+/// The manager that is opened over a disk, with children of which none was started.
+pub fn over(rt: &(impl AllocGlobal + Abort), disk: MemDisk) -> InMemory {
+    over_children(rt, disk, FakeChildren::new(rt.alloc()))
 }
 
 /// The frames of these texts, each behind its length in four bytes, the highest first.

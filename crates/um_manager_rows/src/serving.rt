@@ -1,8 +1,13 @@
 //! Rounds of a manager in memory over a gate in memory.
 use crate::asserts::same;
 use crate::gates::{add_client, new_gate, what_was_taken};
-use crate::managers::{InMemory, new_store, over};
+use crate::managers;
+use crate::managers::{
+    InMemory, PUT, RELOAD, SHOW, START, frames, has_output, new_store, over, over_children, play,
+};
+use crate::orders::number;
 use std::process::Abort;
+use um_children::{End, FakeChildren};
 use um_gate::{FakeGate, FakeMoments, Note};
 use um_model::Moment;
 use um_serve::{Buffered, rounds_join, serve};
@@ -26,13 +31,18 @@ struct Served {
 }
 
 impl Served {
-    /// What is served over this gate.
-    fn over(rt: &(impl AllocGlobal + Abort), gate: FakeGate) -> Served {
+    /// What this manager serves over this gate.
+    fn of(rt: &(impl AllocGlobal + Abort), gate: FakeGate, manager: InMemory) -> Served {
         Served {
             gate: Buffered::new(rt.alloc(), gate).expect(rt, "no memory"),
-            manager: over(rt, new_store(rt)),
+            manager,
             clock: FakeMoments::new(rt.alloc(), Moment::FIRST, 1),
         }
+    }
+
+    /// What is served over this gate.
+    fn over(rt: &(impl AllocGlobal + Abort), gate: FakeGate) -> Served {
+        Served::of(rt, gate, over(rt, new_store(rt)))
     }
 
     /// Serves so many rounds, and tells whether the last one was busy.
@@ -108,19 +118,58 @@ fn a_round_whose_accept_fails_serves_those_that_are_there(rt: HostRuntime) {
     have(&rt, &served.gate.gate, DONE, NONE);
 }
 
+/// The manager in which `a.service` was put, loaded and started. Its process is over once it was started, and nobody has asked for it yet.
+fn with_process(rt: &(impl AllocGlobal + Abort)) -> InMemory {
+    let mut children = FakeChildren::new(rt.alloc());
+    children
+        .ends(number(rt, 1), End::Code(0))
+        .expect(rt, "no memory");
+    let mut manager = over_children(rt, new_store(rt), children);
+    let sent = frames(rt, &[PUT, RELOAD, START]);
+    play(rt, &mut manager, &[sent.as_slice(), &[], &[]]);
+    let done = managers::DONE;
+    has_output(rt, &mut manager, 0, &[done, done, done]);
+    manager
+}
+
+/// How many processes are live in the store that a manager leaves.
+fn live_processes(rt: &(impl AllocGlobal + Abort), manager: InMemory) -> usize {
+    let (disk, _) = manager.into_parts();
+    over(rt, disk).adopted()
+}
+
+/// What is shown of `a.service` behind the end of its process.
+const ENDED: &str =
+    r#"{"ok":true,"value":{"ActiveState":"inactive","Description":"","Id":"a.service","LoadState":"loaded","MainNumber":0,"Result":"success","SubState":"dead","Warnings":[]}}"#;
+
+/// Serves three rounds to a client that takes so many bytes of a write, one that holds back the last byte of its request, and one that asks
+/// to be shown `a.service`. Asserts that the last one has its reply, and the other two have these bytes and none.
+fn three_rounds(rt: &(impl AllocGlobal + Abort), limit: usize, first: &[u8]) -> InMemory {
+    let mut gate = new_gate(rt);
+    let (front, _) = LOADS.split_at(LOADS.len() - 1);
+    add_client(rt, &mut gate, 0, LISTS, limit);
+    add_client(rt, &mut gate, 1, front, 4096);
+    let asks = frames(rt, &[SHOW]);
+    add_client(rt, &mut gate, 2, asks.as_slice(), 4096);
+    let mut served = Served::of(rt, gate, with_process(rt));
+    served.serve(rt, 3);
+    let shown = frames(rt, &[ENDED]);
+    for (number, wanted) in [(0, first), (1, b"".as_slice()), (2, shown.as_slice())] {
+        let got = what_was_taken(rt, &served.gate.gate, number);
+        same(rt, got.bytes.as_slice(), wanted);
+        same(rt, got.is_dropped, false);
+    }
+    let Served { manager, .. } = served;
+    manager
+}
+
 #[test]
 fn a_client_that_holds_back_a_byte_and_one_that_never_reads_hold_up_nobody(rt: HostRuntime) {
-    let mut gate = new_gate(&rt);
-    let (front, _) = LOADS.split_at(LOADS.len() - 1);
-    add_client(&rt, &mut gate, 0, LISTS, 0);
-    add_client(&rt, &mut gate, 1, front, 4096);
-    add_client(&rt, &mut gate, 2, LISTS, 4096);
-    let mut served = Served::over(&rt, gate);
-    served.serve(&rt, 3);
-    for (number, wanted) in [(0, b"".as_slice()), (1, b"".as_slice()), (2, NONE)] {
-        let got = what_was_taken(&rt, &served.gate.gate, number);
-        same(&rt, got.bytes.as_slice(), wanted);
-        same(&rt, got.is_dropped, false);
+    // the end of number 1 isn't recorded before
+    same(&rt, live_processes(&rt, with_process(&rt)), 1);
+    for (limit, first) in [(4096, NONE), (0, b"".as_slice())] {
+        let manager = three_rounds(&rt, limit, first);
+        same(&rt, live_processes(&rt, manager), 0);
     }
 }
 

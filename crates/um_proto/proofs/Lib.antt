@@ -1,3 +1,4 @@
 pub mod Told
 pub mod Keys
 pub mod Lengths
+pub mod Warnings

@@ -1,17 +1,17 @@
-ghost use Rattle.std.specs.Prelude.{◌≡◌, [], map, string_bytes, false, IfOk, IsTrue, length, unwrap_or, ◌≤◌};
+ghost use Rattle.std.specs.Prelude.{◌≡◌, [], map, string_bytes, false, ◌++◌, IfOk, IsTrue, OnOk, length, unwrap_or, ◌≤◌};
 ghost use Rattle.serde_json.specs.Data.{array};
-ghost use Rattle.std.specs.List.{flat_map};
+ghost use Rattle.std.specs.List.{flat_map, sum_by};
 ghost use Rattle.serde_json.specs.View.{view, items_of};
 ghost use Rattle.serde_json.specs.Written.{compact_text};
-ghost use Rattle.um_model.specs.Machine.{Told};
+ghost use Rattle.um_model.specs.Machine.{Shown, Told};
 ghost use Rattle.um_model.specs.Refusals.{too_large};
 ghost use Rattle.um_model.specs.declared.refusals.Limit.TheVariants.{Reply as TooLong};
 ghost use Rattle.um_model.specs.Replies as model;
 ghost use Rattle.um_proto.specs.Written as written;
-ghost use Rattle.um_proto.specs.Written.{words_told};
+ghost use Rattle.um_proto.specs.Written.{told_bytes, words_told};
 ghost use Rattle.um_resolve.specs.View.{file_of};
 ghost use Rattle.um_state.specs.View.{action_of, job_of, listed_of, shown_of, reply_of};
-ghost use Rattle.um_unit.specs.View.{warning_of};
+ghost use Rattle.um_unit.specs.View.{warned_by, warning_of, warnings_seen};
 ghost use Rattle.um_words.specs.Rooms.{left};
 ghost use Rattle.um_wire.specs.Refusal.{refused_of};
 
@@ -20,7 +20,7 @@ use std::alloc::{AllocError, Global};
 use um_model::{ProcessNumber, Signal};
 use um_resolve::UnitFile;
 use um_state::{Action, JobShown, Reply, UnitListed, UnitShown};
-use um_unit::Warning;
+use um_unit::{FileWarnings, Warning};
 use um_wire::{Limit, Refusal};
 use um_words::Room;
 
@@ -97,21 +97,30 @@ fn refused_value(alloc: Global, refusal: &Refusal) -> Result<Value, AllocError>
     json!(in alloc; {"detail": detail, "error": refusal.number(), "ok": false})
 }
 
-fn warning_value(alloc: Global, warning: &Warning) -> Result<Value, AllocError>
-    ensures { IfOk result (λ v. view v ≡ model.warning_data (warning_of warning.now)) }
+fn warning_value(alloc: Global, path: &str, warning: &Warning) -> Result<Value, AllocError>
+    ensures { IfOk result (λ v. view v ≡ model.warning_data (warning_of path.now warning.now)) }
 {
     let number = warning.kind.number();
-    let path = warning.path.as_str();
     let line = warning.line as u64;
     json!(in alloc; [number, path, line])
 }
 
-fn warnings_value(alloc: Global, warnings: &[Warning]) -> Result<Value, AllocError>
-    ensures { IfOk result (λ v. view v ≡ array (items_of (map model.warning_data (map warning_of warnings.now)))) }
+/// Adds the warnings of a file to a list.
+fn add_warnings(alloc: Global, file: &FileWarnings, list: &mut Vec<Value>) -> Result<(), AllocError>
+    ensures { OnOk result (map view list.new.items ≡ map view list.old.items ++ map model.warning_data (warned_by file.now)) }
+{
+    for warning in &file.warnings {
+        list.push(warning_value(alloc, file.path.as_str(), warning)?)?;
+    }
+    Ok(())
+}
+
+fn warnings_value(alloc: Global, files: &[FileWarnings]) -> Result<Value, AllocError>
+    ensures { IfOk result (λ v. view v ≡ array (items_of (map model.warning_data (warnings_seen files.now)))) }
 {
     let mut list = Vec::new(alloc);
-    for warning in warnings {
-        list.push(warning_value(alloc, warning)?)?;
+    for file in files {
+        add_warnings(alloc, file, &mut list)?;
     }
     Ok(Value::Array(list))
 }
@@ -296,12 +305,33 @@ fn are_too_long(alloc: Global, actions: &[Action]) -> Result<bool, AllocError>
     Ok(free.is_none())
 }
 
+/// How many bytes the text of these warnings has at least, the digits of their lines left out: each has its path, two quotes, two
+/// brackets, two commas, the digit of its kind, and a comma or a bracket behind it.
+fn least_bytes(files: &[FileWarnings]) -> usize
+    ensures { result ≤ sum_by told_bytes (warnings_seen files.now) }
+{
+    let mut bytes: usize = 0;
+    for file in files {
+        let each = file.path.len() + 8;
+        bytes = bytes.saturating_add(each.saturating_mul(file.warnings.len()));
+    }
+    bytes
+}
+
+/// Whether the warnings alone make a reply too long that tells a unit. Their texts are not put together.
+fn is_shown_too_long(shown: &UnitShown) -> bool
+    ensures { IsTrue result → model.is_told_whole (Shown (shown_of shown.now)) ≡ false }
+{
+    least_bytes(shown.warnings.as_slice()) > REPLY_LIMIT
+}
+
 /// Whether the reply is too long by what can be seen without writing it.
 fn is_too_long(alloc: Global, reply: &Reply) -> Result<bool, AllocError>
     ensures { IfOk result (λ told. IsTrue told → model.is_told_whole (reply_of reply.now) ≡ false) }
 {
     match reply {
         Reply::Told(actions) => are_too_long(alloc, actions.as_slice()),
+        Reply::Shown(shown) => Ok(is_shown_too_long(shown)),
         _other => Ok(false),
     }
 }
@@ -330,8 +360,8 @@ fn refused_text(alloc: Global) -> Result<ReplyText, AllocError>
     })
 }
 
-/// The text of a reply; in place of one past 2^24 bytes that of the refusal `TooLarge` `reply`. Where the words of the actions that
-/// it tells are too long already, they are not put together.
+/// The text of a reply; in place of one past 2^24 bytes that of the refusal `TooLarge` `reply`. Where the words of the actions or
+/// the warnings that it tells are too long already, they are not put together.
 #[tactic(auto, unfolding(um_model::specs::Replies::reply_text))]
 pub fn write_reply(alloc: Global, reply: &Reply) -> Result<ReplyText, AllocError>
     ensures text { IfOk result (λ text. text.bytes.items ≡ model.reply_text (reply_of reply.now)) }

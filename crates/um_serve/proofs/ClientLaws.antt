@@ -19,13 +19,13 @@ taken_join k xs ys = flat_map-append (taken_in k) xs ys
 
 -- ---- what a client has of what is put out for it once, or of more
 
-record Story (old new : Waits) (taken out : List ℕ) : Type 0 where
-  rest : List ℕ
-  all : taken ++ rest ≡ old.bytes ++ out
-  waits : new.is_over ≡ false → new.bytes ≡ rest
-  over : old.is_over ≡ true → (taken ≡ []) × (new.is_over ≡ true)
+pub record Story (old new : Waits) (taken out : List ℕ) : Type 0 where
+  pub rest : List ℕ
+  pub all : taken ++ rest ≡ old.bytes ++ out
+  pub waits : new.is_over ≡ false → new.bytes ≡ rest
+  pub over : old.is_over ≡ true → (taken ≡ []) × (new.is_over ≡ true)
 
-story_none : (w : Waits) → Story w w [] []
+pub story_none : (w : Waits) → Story w w [] []
 story_none w = record { rest = w.bytes; all = sym (append-nil w.bytes); waits = λ e. refl; over = λ e. (refl, e) }
 
 -- where the client was given up in between
@@ -50,7 +50,7 @@ story_on u v w xs ys out more on p q = record {
   over = λ e. absurd (true≢false (sym (p.over e).1 ∙ on));
 }
 
-story_either : (b : Bool) (u v w : Waits) (xs ys out more : List ℕ) → v.is_over ≡ b → Story u v xs out → Story v w ys more → Story u w (xs ++ ys) (out ++ more)
+pub story_either : (b : Bool) (u v w : Waits) (xs ys out more : List ℕ) → v.is_over ≡ b → Story u v xs out → Story v w ys more → Story u w (xs ++ ys) (out ++ more)
 story_either true u v w xs ys out more is p q = story_over u v w xs ys out more is p q
 story_either false u v w xs ys out more is p q = story_on u v w xs ys out more is p q
 
@@ -62,7 +62,7 @@ wrote_own k taken = ap (λ (b : Bool). if b then taken else []) (eq-eqb k k refl
 wrote_other : (k n : ℕ) (taken : List ℕ) → k ≢ n → taken_in k (wrote n taken) ≡ []
 wrote_other k n taken other = ap (λ (b : Bool). if b then taken else []) (ne_eqb n k (λ e. other (sym e)))
 
-nothing_taken : (taken left : List ℕ) → taken ++ left ≡ [] → taken ≡ []
+pub nothing_taken : (taken left : List ℕ) → taken ++ left ≡ [] → taken ≡ []
 nothing_taken [] left e = refl
 nothing_taken (b ∷ bs) left e = cc
 
@@ -145,7 +145,7 @@ above (suc n) k ts old said new ge says =
     ap (taken_of k) says.4 ∙ taken_join k says.0 says.1 ∙ ap (λ l. l ++ taken_of k says.1) (above n k ts old says.0 new (omega (arith, ge)) says.2)
     ∙ other_to k n (slice_get ts n) (slice_get old n) (slice_get new n) says.1 (λ e. omega (arith, ge, e)) says.3
 
-own_below : (n k : ℕ) (ts : List Session) (old : List Waits) (said : List Event) (new : List Waits) (w : Waits) → k < n → slice_get old k ≡ Some w → SaysBelow n ts old said new
+pub own_below : (n k : ℕ) (ts : List Session) (old : List Waits) (said : List Event) (new : List Waits) (w : Waits) → k < n → slice_get old k ≡ Some w → SaysBelow n ts old said new
     → (v : Waits) × (slice_get new k ≡ Some v) × Story w v (taken_of k said) (output_in (slice_get ts k))
 unfolding SaysBelow
 own_below zero k ts old said new w lt at says = absurd (omega (arith, lt))
@@ -190,7 +190,7 @@ kept_at (Some Nothing) w stays = refl
 kept_at (Some (Bytes bytes)) w stays = refl
 kept_at (Some Closed) w stays = absurd (stays refl)
 
-kept : (k : ℕ) (pieces : List Piece) (old new : List Waits) → slice_get pieces k ≢ Some Closed → Forgets pieces old new → slice_get new k ≡ slice_get old k
+pub kept : (k : ℕ) (pieces : List Piece) (old new : List Waits) → slice_get pieces k ≢ Some Closed → Forgets pieces old new → slice_get new k ≡ slice_get old k
 kept k pieces old new stays forgets = forgets k ∙ kept_at (slice_get pieces k) (slice_get old k) stays
 
 -- ---- all rounds

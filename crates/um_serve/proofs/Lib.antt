@@ -1,7 +1,9 @@
 mod BelowLaws
 mod ClientLaws
+mod GotLaws
 mod HeldLaws
 mod JoinLaws
+mod LifeLaws
 mod RoundLaws
 mod SaidLaws
 mod ScanLaws

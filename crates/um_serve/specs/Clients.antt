@@ -1,14 +1,17 @@
 -- What one client has of rounds: what was put out for it, and what the gate took of that.
 -- No manual page has this: it is the project's own (docs/FORMATS.md, "The socket").
 -- The law of clients stands on this file.
-use Rattle.std.specs.Prelude.{◌≡◌, ◌≢◌, ◌==◌, ℕ, List, [], ◌∷◌, ◌++◌, flat_map, false, if◌then◌else◌, Option, Some, None, Ok, slice_get}
+use Rattle.std.specs.Prelude.{◌≡◌, ◌≢◌, ◌==◌, ℕ, List, [], ◌∷◌, ◌++◌, flat_map, false, if◌then◌else◌, Option, Some, None, Result, Ok, Err, slice_get}
 use Rattle.std.specs.List.{AllByRecursion}
-use Rattle.um_backlog.specs.Backlog.{Waits}
+use Rattle.um_backlog.specs.Backlog.{Waits, nothing}
 use Rattle.um_gate.specs.Events.{Event, accepted, read, wrote, dropped}
+use Rattle.um_manager.specs.Clients.{HasHad, bytes_in}
 use Rattle.um_manager.specs.Places.{Place}
 use Rattle.um_manager.specs.declared.pieces.Piece.TheVariants.{Closed}
 use Rattle.um_model.specs.Sessions.{Session}
-use Rattle.um_serve.specs.Rounds.{Round, Trust, Served, IsRound}
+use Rattle.um_serve.specs.Rounds.{Round, Trust, Served, IsRound, IsUntaken}
+use Rattle.um_wire.specs.declared.refusal.Refusal.{Refusal}
+use Rattle.um_wire.specs.declared.refusal.Refusal.TheVariants.{NoMemory}
 
 -- rounds that were answered Ok, each from where the one before it ended
 pub data AllServed (trust : Trust) (place : Place) : List Round → Served → Served → Type 0 where
@@ -49,3 +52,26 @@ pub record GetsItsOwn {trust : Trust} {place : Place} {rs : List Round} {x y : S
   pub rest : List ℕ
   pub all : taken_of k events ++ rest ≡ old.bytes ++ put_out k rounds
   pub waits : new.is_over ≡ false → new.bytes ≡ rest
+
+-- ---- a client from its opening on
+
+-- A client since it was opened, over rounds, whatever they answered: the bytes that came of it, what turns put out for it, and what the gate took.
+pub data HasGot (k : ℕ) : (bytes out took : List ℕ) → Served → Type 0 where
+  -- nothing waits for it yet
+  opens : {x : Served} → HasHad k [] [] x.now → slice_get x.waits k ≡ Some nothing → HasGot k [] [] [] x
+  -- a round heard that it closed, and another may come
+  closes : {trust : Trust} {place : Place} {result : Result Unit Refusal} {r : Round} {bytes out took : List ℕ} {x y : Served} → HasGot k bytes out took x
+      → result ≢ Err NoMemory → IsRound trust place result r x y → slice_get r.pieces k ≡ Some Closed → HasGot k [] [] [] y
+  -- a round took what came of it, and handed out what was put out for it
+  rounds : {trust : Trust} {place : Place} {result : Result Unit Refusal} {r : Round} {bytes out took : List ℕ} {x y : Served} → HasGot k bytes out took x
+      → result ≢ Err NoMemory → (round : IsRound trust place result r x y) → slice_get r.pieces k ≢ Some Closed
+      → HasGot k (bytes ++ bytes_in (slice_get r.pieces k)) (out ++ output_in (slice_get round.turn.sessions k)) (took ++ taken_of k round.said) y
+  -- a round whose turn found no memory: what it heard is lost
+  loses : {trust : Trust} {r : Round} {bytes out took : List ℕ} {x y : Served} → HasGot k bytes out took x → IsUntaken trust r x y
+      → slice_get r.pieces k ≢ Some Closed → HasGot k bytes out took y
+
+-- what the gate took is a beginning of what was put out; the rest waits, unless the client was given up
+pub record IsTakenOf (took out : List ℕ) (waits : Waits) : Type 0 where
+  pub rest : List ℕ
+  pub all : took ++ rest ≡ out
+  pub waiting : waits.is_over ≡ false → waits.bytes ≡ rest

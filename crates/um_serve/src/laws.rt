@@ -1,12 +1,14 @@
 //! What rounds and sleeps say together, as functions that do nothing.
 ghost use Rattle.std.specs.Prelude.{◌≡◌, ◌<◌, ◌≤◌, ◌+◌, ◌-◌, ◌++◌, ℕ, List, length, Bool, false, IsTrue, Option, Some, Result, Ok, slice_get};
 ghost use Rattle.um_backlog.specs.Backlog.{Waits};
+ghost use Rattle.um_manager.specs.Clients.{HasHad, IsServed};
 ghost use Rattle.um_manager.specs.Places.{Place};
 ghost use Rattle.um_manager.specs.Turns.{Now, Turned};
 ghost use Rattle.um_manager.specs.declared.pieces.Piece.{Piece};
 ghost use Rattle.um_model.specs.Machine.{State};
 ghost use Rattle.um_model.specs.Service.{state_of_unit};
-ghost use Rattle.um_serve.specs.Clients.{AllServed, StaysOpen, GetsItsOwn};
+ghost use Rattle.um_model.specs.Sessions.{Session};
+ghost use Rattle.um_serve.specs.Clients.{AllServed, StaysOpen, GetsItsOwn, HasGot, IsTakenOf};
 ghost use Rattle.um_serve.specs.Rounds.{Round, Trust, IsWithin, Served, Serves, IsCount};
 ghost use Rattle.um_serve.specs.Sleep.{has_changed, slept, IsSleptFor};
 ghost use Rattle.um_wire.specs.declared.refusal.Refusal.{Refusal};
@@ -26,6 +28,15 @@ pub fn each_client_gets_its_own()
     ensures { (trust : Trust) (place : Place) (rs : List Round) (x y : Served) → Serves trust place rs (Ok tt) x y → (rounds : AllServed trust place rs x y)
         × (IsTrue trust.gate → IsTrue trust.events → (k : ℕ) (old : Waits) → k < 64 → slice_get x.waits k ≡ Some old → StaysOpen k rs
         → (new : Waits) × (slice_get y.waits k ≡ Some new) × GetsItsOwn k rounds old new) }
+{}
+
+/// Each client is served from its opening on, whatever the rounds answer: what turns put out for it are the frames of the replies to its own
+/// requests that they took, in their order, one each, the last of which may be wanting where its session failed for want of memory; and what the
+/// gate took for it is a beginning of that. The rest waits for it, unless it was given up.
+pub fn each_client_is_served()
+    ensures { (k : ℕ) (bytes out took : List ℕ) (x : Served) → k < 64 → HasGot k bytes out took x
+        → (had : HasHad k bytes out x.now) × (t : Session) × (slice_get x.now.sessions k ≡ Some t) × IsServed had t
+        × (waits : Waits) × (slice_get x.waits k ≡ Some waits) × IsTakenOf took out waits }
 {}
 
 /// A deadline that the last turn was offered, and that stands all the same, wakes nobody: what is slept for lies past the moment of that turn.

@@ -10,7 +10,7 @@ mod rounds;
 
 pub use laws::{
     a_blocked_deadline_wakes_nobody, a_turn_that_leaves_the_clock_changed_nothing,
-    each_client_gets_its_own, no_deadline_is_slept_past, rounds_join,
+    each_client_gets_its_own, each_client_is_served, no_deadline_is_slept_past, rounds_join,
 };
 pub use pace::Pace;
 pub use rounds::{Buffered, serve};

@@ -1,6 +1,7 @@
 //! What a round hears of the gate.
 
 ghost use Rattle.std.specs.Prelude.{◌≡◌, ◌≢◌, ◌↔◌, ◌+◌, ◌<◌, ◌≤◌, ◌∷◌, [], ℕ, true, false, IsTrue, vec_len, slice_get, Some};
+ghost use Rattle.um_gate.specs.Frames.{KeepsGate};
 ghost use Rattle.um_gate.specs.Events.{Logs, read};
 ghost use Rattle.um_manager.specs.declared.pieces.Piece.TheVariants.{Nothing};
 ghost use Rattle.um_serve.specs.Rounds.{came_of, reads_one, reads_below, IsHeldBack, AreHeldBack, OnlyOpen, IsSilent, NoneOfHeld, has_come, after_piece, Forgets};
@@ -28,8 +29,7 @@ fn read_one<G: Gate>(gate: &mut G, number: usize, most: usize, blank: Blank) -> 
     requires { most ≤ 4096 }
     ensures past { Logs (G.honest gate.old) (G.whole gate.new) (G.past gate.old) (G.past gate.new) (read number most (came_of result) ∷ []) }
     ensures silent { most ≡ 0 → IsSilent (Some result) }
-    ensures whole { IsTrue (G.whole gate.new) → IsTrue (G.whole gate.old) }
-    ensures honest { G.honest gate.new ≡ G.honest gate.old }
+    ensures gate { KeepsGate G.Gate gate.old gate.new }
 {
     let Blank { mut bytes } = blank;
     if !gate.read(number, most, &mut bytes) {
@@ -55,8 +55,7 @@ fn hear<G: Gate>(
     ensures closed { is_open ≡ false → result ≡ Nothing }
     ensures silent { is_held ≡ true → IsSilent (Some result) }
     ensures left { vec_len blanks.old ≤ vec_len blanks.new + 1 }
-    ensures whole { IsTrue (G.whole gate.new) → IsTrue (G.whole gate.old) }
-    ensures honest { G.honest gate.new ≡ G.honest gate.old }
+    ensures gate { KeepsGate G.Gate gate.old gate.new }
 {
     if !is_open {
         return Piece::Nothing;
@@ -109,8 +108,7 @@ pub fn listen<G: Gate>(
         (reads_below 64 accepted.is_open held.is_held pieces.new) }
     ensures only_open { OnlyOpen accepted.is_open pieces.new }
     ensures none_of_held { NoneOfHeld held.is_held pieces.new }
-    ensures whole { IsTrue (G.whole gate.new) → IsTrue (G.whole gate.old) }
-    ensures honest { G.honest gate.new ≡ G.honest gate.old }
+    ensures gate { KeepsGate G.Gate gate.old gate.new }
 {
     for number in 0..CONNECTIONS {
         let is_open = accepted.is_open[number];

@@ -1,9 +1,12 @@
 //! Rounds over a gate.
 
 ghost use Rattle.std.specs.Prelude.{◌≡◌, ◌≢◌, ◌⊎◌, ◌↔◌, ◌||◌, nat_lt, ℕ, List, slice_get, true, false, Err, IsTrue, IfErr, IfOk, OnOk, OnErr, length, replicate};
+ghost use Rattle.um_gate.specs.Frames.{KeepsClock, KeepsGate};
+ghost use Rattle.um_manager.specs.Frames.{Frame};
 ghost use Rattle.um_backlog.specs.Backlog.{nothing, HandsAt};
 ghost use Rattle.um_gate.specs.Events.{Event, Logs};
-ghost use Rattle.um_keeper.specs.Keepers.{disk_in, state_in, has_failed, IsSamePlace};
+ghost use Rattle.um_keeper.specs.Keepers.{disk_in, state_in, layout_in, has_failed, IsSamePlace};
+ghost use Rattle.um_manager.specs.Living.{LivesOn, relying};
 ghost use Rattle.um_manager.specs.Places.{place_in};
 ghost use Rattle.um_manager.specs.Turns.{now_in};
 ghost use Rattle.um_sector.specs.Refused.{CountsDevice, IsLost};
@@ -72,8 +75,7 @@ fn hand_out<G: Gate>(gate: &mut G, backlog: &mut Backlog, number: usize, output:
         × Logs (G.honest gate.old) (G.whole gate.new) (G.past gate.old) (G.past gate.new) events }
     ensures others { (other : ℕ) → other ≢ number → slice_get backlog.new other ≡ slice_get backlog.old other }
     ensures stirred { result ≡ (has_bytes output.bytes.items || is_freed (slice_get backlog.old number) (slice_get backlog.new number)) }
-    ensures whole { IsTrue (G.whole gate.new) → IsTrue (G.whole gate.old) }
-    ensures honest { G.honest gate.new ≡ G.honest gate.old }
+    ensures gate { KeepsGate G.Gate gate.old gate.new }
 {
     let Output { bytes, failed } = output;
     let has_spoken = has_bytes(bytes.as_slice());
@@ -96,8 +98,7 @@ fn speak<D: Disk, C: Children, G: Gate>(
     ensures says { (said : List Event) × SaysBelow 64 manager.old.sessions.items backlog.old said backlog.new
         × Logs (G.honest gate.old) (G.whole gate.new) (G.past gate.old) (G.past gate.new) said }
     ensures stirred { result ≡ any_stirred 64 manager.old.sessions.items backlog.old backlog.new }
-    ensures events { IsTrue (G.whole gate.new) → IsTrue (G.whole gate.old) }
-    ensures gate { G.honest gate.new ≡ G.honest gate.old }
+    ensures gate { KeepsGate G.Gate gate.old gate.new }
 {
     let mut is_stirred = false;
     for number in 0..CONNECTIONS {
@@ -156,8 +157,7 @@ impl<G: Gate> Buffered<G> {
         ensures backlog { OnErr result (self.new.backlog ≡ self.old.backlog) }
         ensures busy { OnErr result (self.new.was_busy ≡ self.old.was_busy) }
         ensures past { OnErr result (G.past self.new.gate ≡ G.past self.old.gate) }
-        ensures events { IsTrue (G.whole self.new.gate) → IsTrue (G.whole self.old.gate) }
-        ensures gate { G.honest self.new.gate ≡ G.honest self.old.gate }
+        ensures gate { KeepsGate G.Gate self.old.gate self.new.gate }
     {
         fill_up(self.alloc, &mut self.blanks)?;
         let open = self.gate.accept();
@@ -188,15 +188,9 @@ impl<G: Gate> Buffered<G> {
         ensures refused { IfErr result (λ e. IsLost e ⊎ (e ≡ Refusal.Reopen)) }
         ensures device { CountsDevice result (D.failures (disk_in manager.old.keeper)) (D.failures (disk_in manager.new.keeper)) }
         ensures reopen { result ≢ Err Refusal.NoMemory → (result ≡ Err Refusal.Reopen) ↔ (has_failed manager.old.keeper ≡ true) }
-        ensures whole { IsTrue (C.whole manager.new.children) → IsTrue (C.whole manager.old.children) }
-        ensures honest { C.honest manager.new.children ≡ C.honest manager.old.children }
-        ensures events { IsTrue (G.whole self.new.gate) → IsTrue (G.whole self.old.gate) }
-        ensures gate { G.honest self.new.gate ≡ G.honest self.old.gate }
-        ensures moments { IsTrue (M.whole clock.new) → IsTrue (M.whole clock.old) }
-        ensures clock { M.honest clock.new ≡ M.honest clock.old }
-        ensures place { IsSamePlace manager.old.keeper manager.new.keeper }
-        ensures disk { D.honest (disk_in manager.new.keeper) ≡ D.honest (disk_in manager.old.keeper) }
-        ensures failed { (has_failed manager.new.keeper ≡ true) ↔ ((has_failed manager.old.keeper ≡ true) ⊎ (result ≡ Err Refusal.Device)) }
+        ensures frame { Frame D.Disk C.Children result manager.old.keeper manager.new.keeper manager.old.children manager.new.children }
+        ensures gate { KeepsGate G.Gate self.old.gate self.new.gate }
+        ensures clock { KeepsClock M.Moments clock.old clock.new }
     {
         let held = held_back(manager, &self.backlog);
         match self.gather(held) {
@@ -235,18 +229,16 @@ pub fn serve<D: Disk, C: Children, G: Gate, M: Moments>(
         (now_in manager.old.keeper (C.past manager.old.children) manager.old.marks manager.old.sessions.items (D.past (disk_in manager.old.keeper))))
         (served (G.past gate.new.gate) (M.given clock.new) gate.new.backlog gate.new.was_busy gate.new.turned
         (now_in manager.new.keeper (C.past manager.new.children) manager.new.marks manager.new.sessions.items (D.past (disk_in manager.new.keeper)))) }
+    ensures life { has_failed manager.old.keeper ≡ false → LivesOn (layout_in manager.old.keeper)
+        (relying (D.honest (disk_in manager.old.keeper)) (C.honest manager.old.children) (C.whole manager.new.children)) result
+        (now_in manager.old.keeper (C.past manager.old.children) manager.old.marks manager.old.sessions.items (D.past (disk_in manager.old.keeper)))
+        (now_in manager.new.keeper (C.past manager.new.children) manager.new.marks manager.new.sessions.items (D.past (disk_in manager.new.keeper))) }
     ensures refused { IfErr result (λ e. IsLost e ⊎ (e ≡ Refusal.Reopen)) }
     ensures device { CountsDevice result (D.failures (disk_in manager.old.keeper)) (D.failures (disk_in manager.new.keeper)) }
     ensures reopen { result ≢ Err Refusal.NoMemory → (result ≡ Err Refusal.Reopen) ↔ ((has_failed manager.old.keeper ≡ true) × (limit ≢ 0)) }
-    ensures whole { IsTrue (C.whole manager.new.children) → IsTrue (C.whole manager.old.children) }
-    ensures honest { C.honest manager.new.children ≡ C.honest manager.old.children }
-    ensures events { IsTrue (G.whole gate.new.gate) → IsTrue (G.whole gate.old.gate) }
-    ensures gate { G.honest gate.new.gate ≡ G.honest gate.old.gate }
-    ensures moments { IsTrue (M.whole clock.new) → IsTrue (M.whole clock.old) }
-    ensures clock { M.honest clock.new ≡ M.honest clock.old }
-    ensures place { IsSamePlace manager.old.keeper manager.new.keeper }
-    ensures disk { D.honest (disk_in manager.new.keeper) ≡ D.honest (disk_in manager.old.keeper) }
-    ensures failed { (has_failed manager.new.keeper ≡ true) ↔ ((has_failed manager.old.keeper ≡ true) ⊎ (result ≡ Err Refusal.Device)) }
+    ensures frame { Frame D.Disk C.Children result manager.old.keeper manager.new.keeper manager.old.children manager.new.children }
+    ensures gate { KeepsGate G.Gate gate.old.gate gate.new.gate }
+    ensures clock { KeepsClock M.Moments clock.old clock.new }
 {
     for _ in 0..limit {
         match gate.round(manager, clock) {

@@ -3,7 +3,7 @@ use Rattle.std.specs.Prelude.{map, string_bytes}
 use Rattle.um_model.specs.Machine as model
 use Rattle.um_model.specs.Standing.{Standing}
 use Rattle.um_resolve.specs.View.{file_of}
-use Rattle.um_unit.specs.View.{warning_of}
+use Rattle.um_unit.specs.View.{warnings_seen}
 use Rattle.um_wire.specs.Refusal.{refused_of}
 use Rattle.um_state.specs.declared.input.Command.{Command}
 use Rattle.um_state.specs.declared.input.Command.TheVariants as command
@@ -57,7 +57,7 @@ shown_of u = record {
   id = string_bytes u.id;
   load = u.load;
   description = string_bytes u.description;
-  warnings = map warning_of u.warnings.items;
+  warnings = warnings_seen u.warnings.value.items;
   state = u.state;
 }
 

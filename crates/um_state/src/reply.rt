@@ -1,8 +1,9 @@
+use std::rc::Rc;
 use um_model::{ActiveState, Enabling, JobKind, JobState, LoadState, SubState, UnitState};
 use um_name::UnitName;
 use um_resolve::UnitFile;
 use um_service::Action;
-use um_unit::Warning;
+use um_unit::FileWarnings;
 use um_wire::Refusal;
 
 /// A unit as `show` tells it.
@@ -13,8 +14,8 @@ pub struct UnitShown {
     pub load: LoadState,
     /// Empty where the unit isn't loaded.
     pub description: String,
-    /// None where the unit isn't loaded.
-    pub warnings: Vec<Warning>,
+    /// None where the unit isn't loaded. They are the loaded unit's own.
+    pub warnings: Rc<Vec<FileWarnings>>,
     pub state: UnitState,
 }
 

@@ -4,7 +4,7 @@ use crate::asserts::{same_at, unit};
 use std::process::Abort;
 use um_model::{End, RestartPolicy, Span, UnitKind};
 use um_tree::{Entry, Tree};
-use um_unit::{InstallSettings, LoadedUnit, Loading, ServiceSettings, Warning, load};
+use um_unit::{FileWarnings, InstallSettings, LoadedUnit, Loading, ServiceSettings, Warning, load};
 use um_value::ExitSet;
 use um_words::Command;
 
@@ -35,12 +35,14 @@ fn found(rt: &(impl AllocGlobal + Abort), name: &str, files: &[(&str, &str)]) ->
     }
 }
 
-/// A unit, its files, and its warnings, each its number and its line; they are of the file at the path.
+/// The warnings of a file: its path, and of each its number and its line.
+type WarnedIn = (&'static str, &'static [(u64, usize)]);
+
+/// A unit, its files, and the warnings of those that have some.
 struct Warned {
     name: &'static str,
     files: &'static [(&'static str, &'static str)],
-    warnings: &'static [(u64, usize)],
-    path: &'static str,
+    warnings: &'static [WarnedIn],
 }
 
 /// A service with words that are quoted and variables.
@@ -64,20 +66,20 @@ const WARNED: &[Warned] = &[
         name: "a.service",
         files: &[("etc/a.service", ECHO)],
         warnings: &[],
-        path: "etc/a.service",
     },
     // a span that can't be read
     Warned {
         name: "a.service",
         files: &[("etc/a.service", "[Service]\nExecStart=a\nRestartSec=1.5s\n")],
-        warnings: &[(5, 3)],
-        path: "etc/a.service",
+        warnings: &[("etc/a.service", &[(5, 3)])],
     },
     Warned {
         name: "w.target",
         files: &[("lib/w.target", ILL_TARGET)],
-        warnings: &[(1, 1), (2, 3), (4, 4), (5, 5), (6, 6), (3, 7)],
-        path: "lib/w.target",
+        warnings: &[(
+            "lib/w.target",
+            &[(1, 1), (2, 3), (4, 4), (5, 5), (6, 6), (3, 7)],
+        )],
     },
     // what is foreign is not warned of
     Warned {
@@ -86,30 +88,50 @@ const WARNED: &[Warned] = &[
             "lib/w.target",
             "X-a=b\n[X-Zed]\na=b\n[Unit]\nX-Frob=1\nDocumentation=%z\n[Service]\nExecStart=a\n",
         )],
-        warnings: &[(1, 1), (3, 7)],
-        path: "lib/w.target",
+        warnings: &[("lib/w.target", &[(1, 1), (3, 7)])],
     },
     Warned {
         name: "app@x-y.service",
         files: &[("etc/app@x-y.service", SPECIFIERS)],
-        warnings: &[(6, 3), (5, 9), (5, 14)],
-        path: "etc/app@x-y.service",
+        warnings: &[("etc/app@x-y.service", &[(6, 3), (5, 9), (5, 14)])],
     },
     Warned {
         name: "a.service",
         files: &[("etc/a.service", RESTARTS)],
-        warnings: &[(5, 6), (5, 10)],
-        path: "etc/a.service",
+        warnings: &[("etc/a.service", &[(5, 6), (5, 10)])],
+    },
+    // drop-ins by their names; one that gives no warning isn't told
+    Warned {
+        name: "w.target",
+        files: &[
+            ("etc/w.target.d/b.conf", "[Unit]\nDescription=x\n"),
+            ("etc/w.target.d/c.conf", "a\n[Unit]\nb\n"),
+            ("lib/w.target", "a=b\n"),
+            ("lib/w.target.d/a.conf", "[Zed]\na\n"),
+        ],
+        warnings: &[
+            ("lib/w.target", &[(1, 1)]),
+            ("lib/w.target.d/a.conf", &[(3, 1)]),
+            ("etc/w.target.d/c.conf", &[(2, 1), (2, 3)]),
+        ],
     },
 ];
 
-/// Asserts that these are the warnings of the row, and that each is of the file at the path.
-fn warns(rt: &impl Abort, warnings: &[Warning], row: &Warned) {
-    same_at(rt, warnings.len(), row.warnings.len(), row.name);
-    for (warning, wanted) in warnings.iter().zip(row.warnings) {
+/// Asserts that these are the warnings.
+fn warns(rt: &impl Abort, warnings: &[Warning], wanted: &[(u64, usize)], name: &str) {
+    same_at(rt, warnings.len(), wanted.len(), name);
+    for (warning, wanted) in warnings.iter().zip(wanted) {
         let told = (warning.kind.number(), warning.line);
-        same_at(rt, told, *wanted, row.name);
-        same_at(rt, warning.path.as_str(), row.path, row.name);
+        same_at(rt, told, *wanted, name);
+    }
+}
+
+/// Asserts that these are the warnings of the row, by file.
+fn warns_by_file(rt: &impl Abort, files: &[FileWarnings], row: &Warned) {
+    same_at(rt, files.len(), row.warnings.len(), row.name);
+    for (file, wanted) in files.iter().zip(row.warnings) {
+        same_at(rt, file.path.as_str(), wanted.0, row.name);
+        warns(rt, &file.warnings, wanted.1, row.name);
     }
 }
 
@@ -117,7 +139,7 @@ fn warns(rt: &impl Abort, warnings: &[Warning], row: &Warned) {
 fn each_line_is_warned_of_by_its_kind(rt: HostRuntime) {
     for row in WARNED {
         let unit = found(&rt, row.name, row.files);
-        warns(&rt, &unit.warnings, row);
+        warns_by_file(&rt, unit.warnings.as_slice(), row);
     }
 }
 

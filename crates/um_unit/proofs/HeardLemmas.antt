@@ -1,14 +1,17 @@
 -- What stands in a section that isn't known says nothing: item by item, or sorted out of the file.
-use Rattle.std.proofs.Common.{◌≡◌, ℕ, Bool, true, false, cond, List, [], ◌∷◌, ◌++◌, filter, Option, Some, None, refl, ap, ◌∙◌}
+use Rattle.std.proofs.Common.{◌≡◌, ℕ, Bool, true, false, cond, List, [], ◌∷◌, ◌++◌, filter, map, Option, Some, None, refl, sym, ap, ◌∙◌}
 use Rattle.std.specs.List.{flat_map}
-use Rattle.um_model.specs.FileForms.{warnings_of}
+use Rattle.um_model.specs.FileForms.{in_sections, section_past, warnings_of}
 use Rattle.um_model.specs.Keys.{is_known_section}
 use Rattle.um_model.specs.Names.{suffix_of}
 use Rattle.um_model.specs.Syntax.{Item, Section, Assignment, Warned, Placed, line_number}
 use Rattle.um_model.specs.Units as model
 use Rattle.um_model.specs.declared.names.Suffix.{Suffix}
 use Rattle.um_model.specs.declared.warnings.WarningKind.{WarningKind}
-use Rattle.um_unit.specs.Sources.{assigned_by, assigned_in}
+use Rattle.um_syntax.specs.Items.{item_of}
+use Rattle.um_syntax.specs.declared.items.Item.{Item as Read}
+use Rattle.um_syntax.specs.declared.items.Item.TheVariants as read
+use Rattle.um_unit.specs.Sources.{assigned_by, assigned_in, says}
 use Rattle.um_unit.specs.Tests.{warned_in, warning_of, warnings_at}
 
 module _ {A B : Type 0} (passes : A → Bool) (all some : A → List B) (same : (x : A) → all x ≡ cond (passes x) (some x) []) where
@@ -72,3 +75,22 @@ all_assign type sources = same_files _ _ (file_assigns type) sources
 
 pub all_warn : (unit : List ℕ) (sources : List model.Source) → flat_map (warned_in unit) sources ≡ warnings_of unit sources
 all_warn unit sources = same_files _ _ (file_warns unit) sources
+
+-- ---- heads and assignments alone
+
+none_by_warning : (type : Option Suffix) (section : Option (List ℕ)) (warning : WarningKind) (line : ℕ) → assigned_by type section (Warned warning line) ≡ []
+none_by_warning type None warning line = refl
+none_by_warning type (Some section) warning line = refl
+
+-- heads and assignments alone have the assignments of the file
+pub said_assigned : (type : Option Suffix) (section : Option (List ℕ)) (items : List Read)
+    → assigned_in type (in_sections section (map item_of (filter says items))) ≡ assigned_in type (in_sections section (map item_of items))
+said_assigned type section [] = refl
+said_assigned type section (read.Section name line ∷ items) =
+    let item = item_of (read.Section name line) in
+    ap (λ later. assigned_by type (section_past section item) item ++ later) (said_assigned type (section_past section item) items)
+said_assigned type section (read.Assignment key value line span ∷ items) =
+    let item = item_of (read.Assignment key value line span) in
+    ap (λ later. assigned_by type (section_past section item) item ++ later) (said_assigned type (section_past section item) items)
+said_assigned type section (read.Warning kind line ∷ items) =
+    said_assigned type section items ∙ ap (λ here. here ++ assigned_in type (in_sections section (map item_of items))) (sym (none_by_warning type section kind line))

@@ -1,9 +1,11 @@
 -- Units of the code as the units of the definitions.
-use Rattle.std.specs.Prelude.{List, None, option_map, map, string_bytes}
+use Rattle.std.specs.Prelude.{ℕ, List, None, option_map, map, string_bytes}
+use Rattle.std.specs.List.{flat_map}
 use Rattle.um_model.specs.Resolution.{Resolution, AtFile, AtNoFile, AtMask, Nowhere}
 use Rattle.um_model.specs.FileForms.{without_install}
 use Rattle.um_model.specs.Units as model
 use Rattle.um_unit.specs.ServiceView.{service_settings_of}
+use Rattle.um_unit.specs.declared.warnings.FileWarnings.{FileWarnings}
 use Rattle.um_unit.specs.declared.warnings.Warning.{Warning}
 use Rattle.um_unit.specs.declared.settings.Dependencies.{Dependencies}
 use Rattle.um_unit.specs.declared.settings.InstallSettings.{InstallSettings}
@@ -14,8 +16,16 @@ use Rattle.um_unit.specs.declared.loaded.LoadedUnit.{LoadedUnit}
 use Rattle.um_unit.specs.declared.loaded.Loading.{Loading}
 use Rattle.um_unit.specs.declared.loaded.Loading.TheVariants as loading
 
-abbrev pub warning_of : Warning → model.Warning
-warning_of w = record { kind = w.kind; path = string_bytes w.path; line = w.line }
+-- a warning of the file at the path
+abbrev pub warning_of : List ℕ → Warning → model.Warning
+warning_of path w = record { kind = w.kind; path = path; line = w.line }
+
+abbrev pub warned_by : FileWarnings → List model.Warning
+warned_by f = map (warning_of (string_bytes f.path)) f.warnings.items
+
+-- the warnings of several files
+abbrev pub warnings_seen : List FileWarnings → List model.Warning
+warnings_seen files = flat_map warned_by files
 
 abbrev pub said_of : TypeSaid → model.TypeSaid
 said_of said.Unsaid = model.Unsaid
@@ -52,7 +62,7 @@ settings_of s = record {
 }
 
 abbrev pub unit_of : LoadedUnit → model.LoadedUnit
-unit_of u = record { name = u.name; path = option_map string_bytes u.path; settings = settings_of u.settings; warnings = map warning_of u.warnings.items }
+unit_of u = record { name = u.name; path = option_map string_bytes u.path; settings = settings_of u.settings; warnings = warnings_seen u.warnings.value.items }
 
 abbrev pub loading_of : Loading → model.Loading
 loading_of (loading.Found u) = model.Found (unit_of u)

@@ -7,7 +7,7 @@ ghost use Rattle.um_model.specs.Text.{is_empty};
 ghost use Rattle.um_model.specs.FileForms.{in_sections, section_past};
 ghost use Rattle.um_model.specs.Units as model;
 ghost use Rattle.um_syntax.specs.Items.{item_of};
-ghost use Rattle.um_unit.specs.Sources.{assigned_by, assigned_in, assigned_of, source_of};
+ghost use Rattle.um_unit.specs.Sources.{all_assigned, assigned_by, assigned_in, assigned_of};
 ghost use Rattle.um_unit.specs.Tests.{assigns};
 
 use crate::keys::is_known_section;
@@ -15,7 +15,7 @@ use std::alloc::{AllocError, Global};
 use um_model::Suffix;
 use um_syntax::Item;
 
-/// A file of a unit, as it was read.
+/// What was read of a unit's file.
 #[derive(Drop)]
 pub struct Source<'t> {
     /// Its path in the tree.
@@ -91,7 +91,7 @@ pub fn assignments<'a>(
     suffix: Suffix,
     sources: &'a [Source<'_>],
 ) -> Result<Vec<Assigned<'a>>, AllocError>
-    ensures { IfOk result (λ a. map assigned_of a.items ≡ model.assignments_in (Some suffix) (map source_of sources.now)) }
+    ensures { IfOk result (λ a. map assigned_of a.items ≡ all_assigned (Some suffix) sources.now) }
 {
     let mut assigned = Vec::new(alloc);
     for source in sources {

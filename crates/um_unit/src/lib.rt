@@ -3,6 +3,7 @@
 #![tactic(auto)]
 
 mod assignments;
+mod contents;
 mod keys;
 mod laws;
 mod lists;
@@ -20,4 +21,4 @@ pub use loaded::{LoadedUnit, Loading};
 pub use loader::load;
 pub use service_settings::ServiceSettings;
 pub use settings::{Dependencies, InstallSettings, Settings};
-pub use warnings::Warning;
+pub use warnings::{FileWarnings, Warning};

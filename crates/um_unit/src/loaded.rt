@@ -1,5 +1,6 @@
 use crate::settings::Settings;
-use crate::warnings::Warning;
+use crate::warnings::FileWarnings;
+use std::rc::Rc;
 use um_name::UnitName;
 
 /// A unit that was found.
@@ -10,8 +11,8 @@ pub struct LoadedUnit {
     /// The path of its file in the tree; none for the `shutdown.target` that nothing holds.
     pub path: Option<String>,
     pub settings: Settings,
-    /// By file in the order in which they are read, and by line.
-    pub warnings: Vec<Warning>,
+    /// By file in the order in which they are read, and by line. A file that warns of nothing isn't among them.
+    pub warnings: Rc<Vec<FileWarnings>>,
 }
 
 /// What became of the look for a unit.

@@ -6,50 +6,30 @@ ghost use Rattle.um_model.specs.Resolution.{files_at};
 ghost use Rattle.um_model.specs.FileForms.{without_install};
 ghost use Rattle.um_model.specs.Units as model;
 ghost use Rattle.um_resolve.specs.View.{resolution_of, unit_file_of};
-ghost use Rattle.um_unit.specs.Sources.{source_of};
 ghost use Rattle.um_unit.specs.View.{loading_of, loading_with, unit_of};
 
-use crate::assignments::{Source, assignments};
+use crate::assignments::assignments;
+use crate::contents::{Contents, contents_of};
 use crate::loaded::{LoadedUnit, Loading};
 use crate::reasons::reason_of;
 use crate::settings::{InstallSettings, settings_of};
-use crate::warnings::warnings_of;
 use std::alloc::{AllocError, Global};
+use std::rc::Rc;
 use um_name::UnitName;
 use um_resolve::{Resolution, SourceFile, resolve, source_files};
-use um_syntax::parse;
 use um_tree::Tree;
-
-/// A file as it is read.
-fn source<'t>(alloc: Global, file: &SourceFile<'t>) -> Result<Source<'t>, AllocError>
-    ensures { IfOk result (λ s. source_of s ≡ model.source_of (unit_file_of file.now)) }
-{
-    Ok(Source {
-        path: file.path,
-        items: parse(alloc, file.text)?,
-    })
-}
-
-fn sources<'t>(alloc: Global, files: &[SourceFile<'t>]) -> Result<Vec<Source<'t>>, AllocError>
-    ensures { IfOk result (λ s. map source_of s.items ≡ map model.source_of (map unit_file_of files.now)) }
-{
-    let mut sources = Vec::new(alloc);
-    for file in files {
-        sources.push(source(alloc, file)?)?;
-    }
-    Ok(sources)
-}
 
 /// A unit with a file: found, unless a setting is refused.
 fn loading_by_file(
     alloc: Global,
     unit: &UnitName,
     path: &str,
-    sources: &[Source<'_>],
+    files: &[SourceFile<'_>],
 ) -> Result<Loading, AllocError>
-    ensures { IfOk result (λ l. loading_of l ≡ model.loading_by_file unit.now path.now (map source_of sources.now)) }
+    ensures { IfOk result (λ l. loading_of l ≡ model.loading_by_file unit.now path.now (map model.source_of (map unit_file_of files.now))) }
 {
-    let assigned = assignments(alloc, unit.suffix(), sources)?;
+    let Contents { sources, warnings } = contents_of(alloc, unit, files)?;
+    let assigned = assignments(alloc, unit.suffix(), sources.as_slice())?;
     let settings = settings_of(alloc, unit, assigned.as_slice())?;
     let reason = reason_of(alloc, unit.suffix(), assigned.as_slice(), &settings.service)?;
     if let Some(reason) = reason {
@@ -62,7 +42,7 @@ fn loading_by_file(
         name: unit.copy()?,
         path: Some(String::from_str(alloc, path)?),
         settings,
-        warnings: warnings_of(alloc, unit, sources)?,
+        warnings: Rc::new(alloc, warnings)?,
     }))
 }
 
@@ -70,18 +50,19 @@ fn loading_by_file(
 fn unit_without_file(
     alloc: Global,
     unit: &UnitName,
-    sources: &[Source<'_>],
+    files: &[SourceFile<'_>],
 ) -> Result<LoadedUnit, AllocError>
-    ensures { IfOk result (λ u. unit_of u ≡ without_install (model.unit_by unit.now None (map source_of sources.now))) }
+    ensures { IfOk result (λ u. unit_of u ≡ without_install (model.unit_by unit.now None (map model.source_of (map unit_file_of files.now)))) }
 {
-    let assigned = assignments(alloc, unit.suffix(), sources)?;
+    let Contents { sources, warnings } = contents_of(alloc, unit, files)?;
+    let assigned = assignments(alloc, unit.suffix(), sources.as_slice())?;
     let mut settings = settings_of(alloc, unit, assigned.as_slice())?;
     settings.install = InstallSettings::nothing(alloc);
     Ok(LoadedUnit {
         name: unit.copy()?,
         path: None,
         settings,
-        warnings: warnings_of(alloc, unit, sources)?,
+        warnings: Rc::new(alloc, warnings)?,
     })
 }
 
@@ -89,13 +70,13 @@ fn unit_without_file(
 fn loading_at(
     alloc: Global,
     resolution: &Resolution<'_>,
-    sources: &[Source<'_>],
+    files: &[SourceFile<'_>],
 ) -> Result<Loading, AllocError>
-    ensures { IfOk result (λ l. loading_of l ≡ loading_with (resolution_of resolution.now) (map source_of sources.now)) }
+    ensures { IfOk result (λ l. loading_of l ≡ loading_with (resolution_of resolution.now) (map model.source_of (map unit_file_of files.now))) }
 {
     match resolution {
-        Resolution::File { unit, path, .. } => loading_by_file(alloc, unit, path.as_str(), sources),
-        Resolution::NoFile { unit } => Ok(Loading::Found(unit_without_file(alloc, unit, sources)?)),
+        Resolution::File { unit, path, .. } => loading_by_file(alloc, unit, path.as_str(), files),
+        Resolution::NoFile { unit } => Ok(Loading::Found(unit_without_file(alloc, unit, files)?)),
         Resolution::Mask { unit } => Ok(Loading::Masked { unit: unit.copy()? }),
         Resolution::Nowhere => Ok(Loading::NotFound),
     }
@@ -110,6 +91,5 @@ pub fn load(alloc: Global, tree: &Tree, unit: &UnitName) -> Result<Loading, Allo
 {
     let resolution = resolve(alloc, tree, unit)?;
     let files = source_files(alloc, tree, &resolution)?;
-    let sources = sources(alloc, files.as_slice())?;
-    loading_at(alloc, &resolution, sources.as_slice())
+    loading_at(alloc, &resolution, files.as_slice())
 }

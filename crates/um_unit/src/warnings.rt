@@ -3,13 +3,12 @@
 ghost use Rattle.std.specs.Prelude.{◌≡◌, [], ◌∷◌, ◌++◌, Some, OnOk, IfOk, map, option_map};
 ghost use Rattle.um_model.specs.Readings as said;
 ghost use Rattle.um_model.specs.Syntax.{line_number};
-ghost use Rattle.um_model.specs.FileForms.{warnings_of};
 ghost use Rattle.um_model.specs.Units as model;
 ghost use Rattle.um_syntax.specs.Items.{item_of};
 ghost use Rattle.um_unit.specs.Readings.{fits_use, first_warning, value_reading};
 ghost use Rattle.um_unit.specs.Sources.{source_of};
 ghost use Rattle.um_unit.specs.Tests as tests;
-ghost use Rattle.um_unit.specs.View.{warning_of};
+ghost use Rattle.um_unit.specs.View.{warned_by, warnings_seen};
 
 use crate::assignments::{Source, section_after};
 use crate::keys::{is_foreign, is_known_section, kind_of_key};
@@ -25,13 +24,20 @@ use um_syntax::Item;
 use um_value::{boolean, exit_set, number, restart, span};
 
 /// A line of a unit's file, or a word in it, that is without effect.
-#[derive(Debug, Drop)]
+#[derive(Clone, Copy, Debug)]
 pub struct Warning {
     pub kind: WarningKind,
-    /// The path of the file in the tree.
-    pub path: String,
     /// The number of the first physical line, from 1.
     pub line: usize,
+}
+
+/// The warnings of a file.
+#[derive(Debug, Drop)]
+pub struct FileWarnings {
+    /// The path of the file in the tree.
+    pub path: String,
+    /// By line.
+    pub warnings: Vec<Warning>,
 }
 
 fn warning_in<T: Drop>(reading: Meaning<T>) -> Option<WarningKind>
@@ -177,38 +183,33 @@ fn line_of(item: &Item<'_>) -> usize
     }
 }
 
-/// Adds the warnings of a file, by line.
-fn add_warnings(
+/// The warnings of a file, by line.
+pub fn file_warnings(
     alloc: Global,
     unit: &UnitName,
     source: &Source<'_>,
-    warnings: &mut Vec<Warning>,
-) -> Result<(), AllocError>
-    ensures { OnOk result (map warning_of warnings.new.items ≡ map warning_of warnings.old.items ++ tests.warned_in unit.now (source_of source.now)) }
+) -> Result<FileWarnings, AllocError>
+    ensures { IfOk result (λ f. warned_by f ≡ tests.warned_in unit.now (source_of source.now)) }
 {
+    let mut warnings = Vec::new(alloc);
     let mut section = None;
     for item in &source.items {
         section = section_after(section, item);
         if let Some(kind) = item_warning(alloc, unit, section, item)? {
-            let path = String::from_str(alloc, source.path)?;
             let line = line_of(item);
-            warnings.push(Warning { kind, path, line })?;
+            warnings.push(Warning { kind, line })?;
         }
     }
-    Ok(())
+    let path = String::from_str(alloc, source.path)?;
+    Ok(FileWarnings { path, warnings })
 }
 
-/// The warnings of a unit, by file in the order in which they are read.
-pub fn warnings_of(
-    alloc: Global,
-    unit: &UnitName,
-    sources: &[Source<'_>],
-) -> Result<Vec<Warning>, AllocError>
-    ensures { IfOk result (λ w. map warning_of w.items ≡ warnings_of unit.now (map source_of sources.now)) }
+/// Adds a file, unless it warns of nothing.
+pub fn add_file(files: &mut Vec<FileWarnings>, file: FileWarnings) -> Result<(), AllocError>
+    ensures { OnOk result (warnings_seen files.new.items ≡ warnings_seen files.old.items ++ warned_by file) }
 {
-    let mut warnings = Vec::new(alloc);
-    for source in sources {
-        add_warnings(alloc, unit, source, &mut warnings)?;
+    if !file.warnings.is_empty() {
+        files.push(file)?;
     }
-    Ok(warnings)
+    Ok(())
 }

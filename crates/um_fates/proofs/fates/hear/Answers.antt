@@ -10,7 +10,7 @@ pub loop-number-preserved : goal.loop-number-preserved
 loop-number-preserved g c = record {
   done = subst (λ ns. Heard c.args.absent c.args.moment (λ n. has n c.args.marks.now) (g.C.Children.honest c.args.children.now) (g.C.Children.whole c.hear_one.new.children) (g.C.Children.past c.args.children.now) (g.C.Children.past c.hear_one.new.children) ns (inputs_in c.args.inputs.now.items) (inputs_in c.hear_one.new.inputs.items))
       (ap (λ m. take c.loop-number.number-index c.args.live.now ++ m ∷ []) (search rules) ∙ sym (take_more c.args.live.now c.loop-number.number-index c.number-item.result c.loop-number-test.true))
-      (heard_more _ _ _ _ _ _ _ _ _ _ _ _ _ _ _ (subst IsTrue (sym c.loop-number.invariant.honest)) c.hear_one.ensures.whole c.loop-number.invariant.done
+      (heard_more _ _ _ _ _ _ _ _ _ _ _ _ _ _ _ (subst IsTrue (sym c.loop-number.invariant.honest)) c.hear_one.ensures.children.whole c.loop-number.invariant.done
       (heard_claimed _ _ (λ n. has n c.args.marks.now) (λ n. c.contains-claim.result) _ _ _ _ _ _ _ c.contains-claim.ensures c.hear_one.ensures.hears));
   len = search rules;
   capacity = search rules;

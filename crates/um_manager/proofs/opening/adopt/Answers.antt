@@ -36,7 +36,7 @@ returns-clause-adopts g c =
     (subst (λ r. Submits here r (inputs_in c.claim_live.new.inputs.items) (map reply_of c.submit.new.replies.items) (honest c.claim_live.new.children) (whole c.submit.new.children)
     (now_in old heard c.args.marks.now [] (D.past (disk_in old))) (now_in new grown c.submit.new.marks [] (D.past (disk_in new)))) c.in_ok-submit.was c.submit.ensures.submits)
     (λ h w. subst (λ units. Ends units live grown (past c.end_all.new.children)) (c.units.ensures ∙ ap (λ s. s.units) c.state-2.ensures) (c.end_all.ensures.ends h w))
-    (subst IsTrue (sym c.claim_live.ensures.honest)) (λ h. subst IsTrue (sym c.submit.ensures.honest) (subst IsTrue (sym c.claim_live.ensures.honest) h)) c.end_all.ensures.whole c.submit.ensures.whole
+    (subst IsTrue (sym c.claim_live.ensures.children.honest)) (λ h. subst IsTrue (sym c.submit.ensures.frame.children.honest) (subst IsTrue (sym c.claim_live.ensures.children.honest) h)) c.end_all.ensures.children.whole c.submit.ensures.frame.children.whole
 
 pub returns-in_err-submit-clause-adopts : goal.returns-in_err-submit-clause-adopts
 returns-in_err-submit-clause-adopts g c =
@@ -61,4 +61,4 @@ returns-in_err-submit-clause-adopts g c =
     (subst (λ r. Submits here r (inputs_in c.claim_live.new.inputs.items) (map reply_of c.submit.new.replies.items) (honest c.claim_live.new.children) (whole c.submit.new.children)
     (now_in old heard c.args.marks.now [] (D.past (disk_in old))) (now_in new grown c.submit.new.marks [] (D.past (disk_in new)))) (sym same) c.submit.ensures.submits)
     (same ∙ c.in_err-submit.was ∙ ap Err (subst (λ r. IfErr r (λ e. e ≡ Device)) c.in_err-submit.was alone))
-    (subst IsTrue (sym c.claim_live.ensures.honest)) (λ x. x) c.submit.ensures.whole
+    (subst IsTrue (sym c.claim_live.ensures.children.honest)) (λ x. x) c.submit.ensures.frame.children.whole

@@ -34,7 +34,7 @@ returns-clause-began g c =
     let after = now_in new (g.C.Children.past c.adopt.new.children) c.adopt.new.marks [] (D.past (disk_in new)) in
     let there = place_in (D.honest (disk_in mid)) mid in
     let here = place_in (D.honest (disk_in old)) old in
-    let same : there ≡ here = same_place c.offer_boot.ensures.place.size c.offer_boot.ensures.place.layout c.offer_boot.ensures.disk (same_failed c.in_ok-offer_boot.was c.offer_boot.ensures.failed) in
+    let same : there ≡ here = same_place c.offer_boot.ensures.store.place.size c.offer_boot.ensures.store.place.layout c.offer_boot.ensures.store.disk (same_failed c.in_ok-offer_boot.was c.offer_boot.ensures.store.failed) in
     record {
       mid = before;
       reply = c.in_ok-offer_boot.ensures.booted.0;
@@ -108,7 +108,7 @@ returns-in_err-adopt-clause-refuses g c =
     let after = now_in new (g.C.Children.past c.adopt.new.children) c.adopt.new.marks [] (D.past (disk_in new)) in
     let there = place_in (D.honest (disk_in mid)) mid in
     let here = place_in (D.honest (disk_in old)) old in
-    let same : there ≡ here = same_place c.offer_boot.ensures.place.size c.offer_boot.ensures.place.layout c.offer_boot.ensures.disk (same_failed c.in_ok-offer_boot.was c.offer_boot.ensures.failed) in
+    let same : there ≡ here = same_place c.offer_boot.ensures.store.place.size c.offer_boot.ensures.store.place.layout c.offer_boot.ensures.store.disk (same_failed c.in_ok-offer_boot.was c.offer_boot.ensures.store.failed) in
     if_err_same _ (λ e. (marks : List ℕ) × Refuses here (g.C.Children.honest c.args.children.now) (g.C.Children.whole c.adopt.new.children) e c.args.moment c.args.boot start (now_in new (g.C.Children.past c.adopt.new.children) marks [] (D.past (disk_in new))))
     c.in_err-adopt.field-0.0 c.from_residual-in_err-adopt.ensures.1 (
       c.adopt.new.marks,

@@ -5,4 +5,4 @@ use Rattle.um_manager.proofs.opening.claim_live.Goals as goal
 
 pub returns-clause-hears : goal.returns-clause-hears
 returns-clause-hears g c =
-    heard_behind _ _ _ _ _ _ _ _ _ _ _ _ (subst IsTrue (sym c.forget_others-forgotten.ensures.honest)) c.claim_all.ensures.whole c.forget_others-forgotten.ensures.past c.claim_all.ensures.hears
+    heard_behind _ _ _ _ _ _ _ _ _ _ _ _ (subst IsTrue (sym c.forget_others-forgotten.ensures.honest)) c.claim_all.ensures.children.whole c.forget_others-forgotten.ensures.past c.claim_all.ensures.hears

@@ -9,7 +9,7 @@ pub loop-number-preserved : goal.loop-number-preserved
 loop-number-preserved g c = record {
   done = λ h w. subst (λ ns. Signalled c.args.units.now.held c.args.sub c.args.signal ns (g.C.Children.past c.args.children.now) (g.C.Children.past c.signal_one.new.children))
       (ap (λ m. take c.loop-number.number-index c.args.numbers.now ++ m ∷ []) (search rules) ∙ sym (take_more c.args.numbers.now c.loop-number.number-index c.number-item.result c.loop-number-test.true))
-      (signalled_more _ _ _ _ _ _ _ _ (c.loop-number.invariant.done h (c.signal_one.ensures.whole w)) (c.signal_one.ensures.signals (subst IsTrue (sym c.loop-number.invariant.honest) h) w));
+      (signalled_more _ _ _ _ _ _ _ _ (c.loop-number.invariant.done h (c.signal_one.ensures.children.whole w)) (c.signal_one.ensures.signals (subst IsTrue (sym c.loop-number.invariant.honest) h) w));
   whole = search rules;
   honest = search rules;
 }

@@ -17,8 +17,8 @@ pub loop-answer-preserved : goal.loop-answer-preserved
 loop-answer-preserved g c =
     let e : into_iter_items c.loop-answer.rest ≡ c.in-Some.answer ∷ into_iter_items c.next.new.self = search rules in
     record {
-      done = λ past marks b w h. c.loop-answer.invariant.done past marks b (λ t. c.carry_one-reply.ensures.whole (w t)) (λ ho wh. subst (λ xs. Grew c.args.units.now.held (g.C.Children.past c.loop-answer.children) past c.loop-answer.marks marks (all_asked xs)) (sym e)
-          (grew_more _ _ _ _ _ _ _ _ _ (c.carry_one-reply.ensures.carries ho (w wh)) (h (subst IsTrue (sym c.carry_one-reply.ensures.honest) ho) wh)));
+      done = λ past marks b w h. c.loop-answer.invariant.done past marks b (λ t. c.carry_one-reply.ensures.children.whole (w t)) (λ ho wh. subst (λ xs. Grew c.args.units.now.held (g.C.Children.past c.loop-answer.children) past c.loop-answer.marks marks (all_asked xs)) (sym e)
+          (grew_more _ _ _ _ _ _ _ _ _ (c.carry_one-reply.ensures.carries ho (w wh)) (h (subst IsTrue (sym c.carry_one-reply.ensures.children.honest) ho) wh)));
       whole = search rules;
       honest = search rules;
       replies = ap (λ l. l ++ map reply_in (into_iter_items c.next.new.self)) (c.put_reply.ensures.items ∙ ap (λ r. map reply_of c.loop-answer.replies.items ++ r ∷ []) c.carry_one-reply.ensures.reply)

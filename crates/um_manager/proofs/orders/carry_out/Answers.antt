@@ -9,8 +9,8 @@ returns-clause-carries g c = c.loop-handed.invariant.done _ _ _ (λ x. x) (λ h 
 
 pub loop-handed-preserved : goal.loop-handed-preserved
 loop-handed-preserved g c = record {
-  done = λ past marks b w h. c.loop-handed.invariant.done past marks b (λ t. c.ask.ensures.whole (w t)) (λ ho wh. subst (λ xs. Grew c.args.units.now.held (g.C.Children.past c.loop-handed.children) past c.loop-handed.marks marks xs) (sym c.in-Some.ensures.actions)
-      (grew_more _ _ _ _ _ _ _ _ _ (c.ask.ensures.carries ho (w wh)) (h (subst IsTrue (sym c.ask.ensures.honest) ho) wh)));
+  done = λ past marks b w h. c.loop-handed.invariant.done past marks b (λ t. c.ask.ensures.children.whole (w t)) (λ ho wh. subst (λ xs. Grew c.args.units.now.held (g.C.Children.past c.loop-handed.children) past c.loop-handed.marks marks xs) (sym c.in-Some.ensures.actions)
+      (grew_more _ _ _ _ _ _ _ _ _ (c.ask.ensures.carries ho (w wh)) (h (subst IsTrue (sym c.ask.ensures.children.honest) ho) wh)));
   whole = search rules;
   honest = search rules;
   reply = search rules;

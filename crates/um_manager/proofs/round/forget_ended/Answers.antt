@@ -5,7 +5,7 @@ use Rattle.um_manager.proofs.round.forget_ended.Goals as goal
 
 pub loop-number-preserved : goal.loop-number-preserved
 loop-number-preserved g c = record {
-  let_go = λ h w. let_go_more _ _ _ _ (c.loop-number.invariant.let_go h (c.forget_one.ensures.whole w)) (c.forget_one.ensures.let_go (subst IsTrue (sym c.loop-number.invariant.honest) h) w);
+  let_go = λ h w. let_go_more _ _ _ _ (c.loop-number.invariant.let_go h (c.forget_one.ensures.children.whole w)) (c.forget_one.ensures.let_go (subst IsTrue (sym c.loop-number.invariant.honest) h) w);
   whole = search rules;
   honest = search rules;
 }

@@ -44,8 +44,8 @@ returns-clause-turns g c =
           (subst (λ l. Heard unexecuted c.args.moment (λ n. has n c.args.marks.now) (g.C.Children.honest c.args.children.now) (g.C.Children.whole c.hear.new.children) (g.C.Children.past c.args.children.now) (g.C.Children.past c.hear.new.children) l (inputs_in c.in-Ok-with_capacity.inputs.items) (inputs_in c.hear.new.inputs.items)) c.as_slice.ensures.value c.hear.ensures.hears))
           tick (count ∙ sym (length-map c.put.new.inputs.items input_of)) took c.submit-submitted.ensures.submits
           (λ h w. subst (λ units. LetGo units grown after) (c.units-2.ensures ∙ ap (λ s. s.units) c.state-2.ensures)
-          (c.forget_recorded.ensures.let_go (subst IsTrue (sym c.submit-submitted.ensures.honest) h) w))
-          (λ e is. subst (λ r. IfErr r (λ x. after ≡ grown)) is c.forget_recorded.ensures.kept) rest pays c.hear.ensures.honest c.submit-submitted.ensures.whole c.forget_recorded.ensures.whole),
+          (c.forget_recorded.ensures.let_go (subst IsTrue (sym c.submit-submitted.ensures.frame.children.honest) h) w))
+          (λ e is. subst (λ r. IfErr r (λ x. after ≡ grown)) is c.forget_recorded.ensures.kept) rest pays c.hear.ensures.children.honest c.submit-submitted.ensures.frame.children.whole c.forget_recorded.ensures.children.whole),
     )
 
 pub returns-clause-refused : goal.returns-clause-refused

@@ -30,7 +30,7 @@ loop-step-preserved g c =
       done = λ result b w still rest.
           let turned = c.turn.ensures.turns.1 (not_refused c.turn.result _ _ c.in_ok-turn.was) in
           let honest = g.C.Children.honest c.args.children.now in
-          inv.done result b w (λ x. c.turn.ensures.whole (still x))
+          inv.done result b w (λ x. c.turn.ensures.frame.children.whole (still x))
           (subst (λ l. Runs start honest w l result before b) (sym item)
           (inr (
             after,
@@ -42,11 +42,11 @@ loop-step-preserved g c =
           )));
       whole = search rules;
       honest = search rules;
-      place = record { layout = c.turn.ensures.place.layout ∙ inv.place.layout; size = c.turn.ensures.place.size ∙ inv.place.size; opened = c.turn.ensures.place.opened ∙ inv.place.opened };
-      disk = c.turn.ensures.disk ∙ inv.disk;
+      place = record { layout = c.turn.ensures.frame.store.place.layout ∙ inv.place.layout; size = c.turn.ensures.frame.store.place.size ∙ inv.place.size; opened = c.turn.ensures.frame.store.place.opened ∙ inv.place.opened };
+      disk = c.turn.ensures.frame.store.disk ∙ inv.disk;
       failures = counted_ok c.in_ok-turn.was c.turn.ensures.device ∙ inv.failures;
       worked = λ some. sym inv.failed ∙ works (has_failed old) c.in_ok-turn.was c.turn.ensures.reopen;
-      failed = same_failed c.in_ok-turn.was c.turn.ensures.failed ∙ inv.failed;
+      failed = same_failed c.in_ok-turn.was c.turn.ensures.frame.store.failed ∙ inv.failed;
       each = search rules;
     }
 
@@ -67,7 +67,7 @@ returns-in_err-turn-clause-runs g c =
     let same : c.from_residual.result ≡ c.turn.result = same_err c.from_residual.result c.turn.result _ c.from_residual.ensures.1 c.in_err-turn.was in
     let honest = g.C.Children.honest c.args.children.now in
     let whole = g.C.Children.whole c.turn.new.children in
-    inv.done c.from_residual.result after whole c.turn.ensures.whole
+    inv.done c.from_residual.result after whole c.turn.ensures.frame.children.whole
     (subst (λ l. Runs start honest whole l c.from_residual.result before after) (sym item)
     (inl (subst (λ r. Stops start honest whole c.step-item.result r before after) (sym same)
     (subst (λ (p : Place). Stops p honest whole c.step-item.result c.turn.result before after) place (

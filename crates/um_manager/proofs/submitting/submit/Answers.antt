@@ -57,8 +57,16 @@ returns-in-Ok-clause-submits g c =
     (λ t. c.in-Ok.ensures.during (trusts honest (has_failed old) t).0)
     (λ t f. c.submit_all.ensures.stored f (trusts honest (has_failed old) t).0)
 
-pub returns-in-Ok-clause-failed : goal.returns-in-Ok-clause-failed
-returns-in-Ok-clause-failed g c = failed_answered _ c.faults.result c.faults.ensures (λ was. ok_not_err (sym c.in-Ok.is ∙ c.submit_all.ensures.reopen.1 was))
+pub returns-in-Ok-clause-frame : goal.returns-in-Ok-clause-frame
+returns-in-Ok-clause-frame g c =
+    record {
+      store = record {
+        place = search rules;
+        disk = search rules;
+        failed = failed_answered _ c.faults.result c.faults.ensures (λ was. ok_not_err (sym c.in-Ok.is ∙ c.submit_all.ensures.reopen.1 was));
+      };
+      children = search rules;
+    }
 
 pub returns-in-Err-clause-submits : goal.returns-in-Err-clause-submits
 returns-in-Err-clause-submits g c =
@@ -80,8 +88,16 @@ returns-in-Err-clause-submits g c =
     let (h, w) = trusts honest (has_failed old) t in
     subst (λ x. Holds place (state_in old) x) same (subst (λ y. Holds place y (D.past (disk_in new))) c.in-Err.ensures.state (c.submit_all.ensures.stored (c.in-Err.ensures.failed ∙ w) h)))
 
-pub returns-in-Err-clause-failed : goal.returns-in-Err-clause-failed
-returns-in-Err-clause-failed g c = failed_denied c.fault_of-fault.result c.answer.result c.answer.ensures c.in-Err.ensures.failed
+pub returns-in-Err-clause-frame : goal.returns-in-Err-clause-frame
+returns-in-Err-clause-frame g c =
+    record {
+      store = record {
+        place = search rules;
+        disk = search rules;
+        failed = failed_denied c.fault_of-fault.result c.answer.result c.answer.ensures c.in-Err.ensures.failed;
+      };
+      children = search rules;
+    }
 
 pub returns-in-Ok-clause-refused : goal.returns-in-Ok-clause-refused
 returns-in-Ok-clause-refused g c = answered_refused _ c.faults.result c.faults.ensures

@@ -25,7 +25,7 @@ loop-number-preserved g c =
       left = search (rules, arith);
       past = λ h w.
           reads_more _ _ _ n c.args.accepted.is_open c.args.held.is_held c.loop-number.pieces c.set.new.self _ _ c.hear-piece.result
-          (c.hear-piece.ensures.past (subst IsTrue (sym inv.honest) h) w) (inv.past h (c.hear-piece.ensures.whole w)) is_it held_is set
+          (c.hear-piece.ensures.past (subst IsTrue (sym inv.honest) h) w) (inv.past h (c.hear-piece.ensures.gate.whole w)) is_it held_is set
           (λ i other. c.set.ensures.others i (λ same. other (same ∙ c.connection.ensures)));
       only_open =
           only_more n c.args.accepted.is_open c.loop-number.pieces c.set.new.self _ c.hear-piece.result inv.only_open is_it set c.hear-piece.ensures.closed

@@ -1,10 +1,12 @@
 use Rattle.std.proofs.Common.{◌≡◌, ◌∙◌, ◌+◌, ◌≤◌, ◌∷◌, ◌++◌, [], length, length-append, Ok, Err, refl, sym, subst, inl, rules, arith}
 use Rattle.std.specs.Bool.{IsTrue}
-use Rattle.um_keeper.specs.Keepers.{disk_in, has_failed}
+use Rattle.um_keeper.specs.Keepers.{disk_in, layout_in, has_failed}
+use Rattle.um_manager.proofs.Beginning.{opened_place}
 use Rattle.um_manager.specs.Places.{Place, place_in}
 use Rattle.um_manager.specs.Turns.{now_in}
 use Rattle.um_serve.specs.Rounds.{Round, trust, Serves, IsRound, served}
 use Rattle.um_serve.proofs.JoinLaws.{round_less, serves_less, joined}
+use Rattle.um_serve.proofs.LifeLaws.{rounds_live_on}
 use Rattle.um_serve.proofs.RoundLaws.{round_of, last_of, same_place, same_failed, all_rounds, last_round}
 use Rattle.um_manager.proofs.Placing.{counted_ok, works}
 use Rattle.um_sector.specs.Refused.{CountsDevice}
@@ -57,7 +59,7 @@ loop-preserved g c =
       moments = λ h. h;
     }) p.1) in
     let rounds = joined known later start inv.done.0 (p.0 ∷ []) (Ok tt) begun before after
-    (record { children = λ h. h; calls = c.round.ensures.whole; gate = λ h. h; events = c.round.ensures.events; clock = λ h. h; moments = c.round.ensures.moments })
+    (record { children = λ h. h; calls = c.round.ensures.frame.children.whole; gate = λ h. h; events = c.round.ensures.gate.whole; clock = λ h. h; moments = c.round.ensures.clock.whole })
     inv.done.2 (inl (after, round, (inl refl, refl))) in
     let e : length (inv.done.0 ++ p.0 ∷ []) ≡ c.loop.counter + 1 = omega (arith, inv.done.1, length-append inv.done.0 (p.0 ∷ [])) in
     record {
@@ -68,11 +70,11 @@ loop-preserved g c =
       gate = search rules;
       moments = search rules;
       clock = search rules;
-      place = record { layout = c.round.ensures.place.layout ∙ inv.place.layout; size = c.round.ensures.place.size ∙ inv.place.size; opened = c.round.ensures.place.opened ∙ inv.place.opened };
-      disk = c.round.ensures.disk ∙ inv.disk;
+      place = record { layout = c.round.ensures.frame.store.place.layout ∙ inv.place.layout; size = c.round.ensures.frame.store.place.size ∙ inv.place.size; opened = c.round.ensures.frame.store.place.opened ∙ inv.place.opened };
+      disk = c.round.ensures.frame.store.disk ∙ inv.disk;
       failures = counted_ok c.in-Ok.is c.round.ensures.device ∙ inv.failures;
       worked = λ some. sym inv.failed ∙ works (has_failed old) c.in-Ok.is c.round.ensures.reopen;
-      failed = same_failed c.in-Ok.is c.round.ensures.failed ∙ inv.failed;
+      failed = same_failed c.in-Ok.is c.round.ensures.frame.store.failed ∙ inv.failed;
     }
 
 pub returns-clause-reopen : goal.returns-clause-reopen
@@ -125,6 +127,32 @@ returns-in-Err-clause-serves g c =
       moments = λ h. h;
     }) last.2) in
     let rounds = joined known later start inv.done.0 last.0 (Err c.in-Err.refusal) begun before after
-    (record { children = λ h. h; calls = c.round.ensures.whole; gate = λ h. h; events = c.round.ensures.events; clock = λ h. h; moments = c.round.ensures.moments })
+    (record { children = λ h. h; calls = c.round.ensures.frame.children.whole; gate = λ h. h; events = c.round.ensures.gate.whole; clock = λ h. h; moments = c.round.ensures.clock.whole })
     inv.done.2 ends in
     (inv.done.0 ++ last.0, omega (arith, inv.done.1, last.1, c.loop-test.true, length-append inv.done.0 last.0), rounds)
+
+pub returns-clause-life : goal.returns-clause-life
+returns-clause-life g c = λ working.
+    let D = g.D.Disk in
+    let first = c.args.manager.now.keeper in
+    let last = c.loop.manager.keeper in
+    let begun = served (g.G.Gate.past c.args.gate.now.gate) (g.M.Moments.given c.args.clock.now) c.args.gate.now.backlog c.args.gate.now.was_busy c.args.gate.now.turned
+    (now_in first (g.C.Children.past c.args.manager.now.children) c.args.manager.now.marks c.args.manager.now.sessions.items (D.past (disk_in first))) in
+    let ended = served (g.G.Gate.past c.loop.gate.gate) (g.M.Moments.given c.loop.clock) c.loop.gate.backlog c.loop.gate.was_busy c.loop.gate.turned
+    (now_in last (g.C.Children.past c.loop.manager.children) c.loop.manager.marks c.loop.manager.sessions.items (D.past (disk_in last))) in
+    let known = trust (g.C.Children.honest c.args.manager.now.children) (g.C.Children.whole c.loop.manager.children) (g.G.Gate.honest c.args.gate.now.gate) (g.G.Gate.whole c.loop.gate.gate) (g.M.Moments.honest c.args.clock.now) (g.M.Moments.whole c.loop.clock) in
+    let all = returns-clause-serves g c in
+    rounds_live_on known (layout_in first) (D.honest (disk_in first)) all.0 begun ended (opened_place (sym first.holds.size_is) refl refl working) all.2
+
+pub returns-in-Err-clause-life : goal.returns-in-Err-clause-life
+returns-in-Err-clause-life g c = λ working.
+    let D = g.D.Disk in
+    let first = c.args.manager.now.keeper in
+    let m = c.round.new.manager in
+    let begun = served (g.G.Gate.past c.args.gate.now.gate) (g.M.Moments.given c.args.clock.now) c.args.gate.now.backlog c.args.gate.now.was_busy c.args.gate.now.turned
+    (now_in first (g.C.Children.past c.args.manager.now.children) c.args.manager.now.marks c.args.manager.now.sessions.items (D.past (disk_in first))) in
+    let ended = served (g.G.Gate.past c.round.new.self.gate) (g.M.Moments.given c.round.new.clock) c.round.new.self.backlog c.round.new.self.was_busy c.round.new.self.turned
+    (now_in m.keeper (g.C.Children.past m.children) m.marks m.sessions.items (D.past (disk_in m.keeper))) in
+    let later = trust (g.C.Children.honest c.args.manager.now.children) (g.C.Children.whole m.children) (g.G.Gate.honest c.args.gate.now.gate) (g.G.Gate.whole c.round.new.self.gate) (g.M.Moments.honest c.args.clock.now) (g.M.Moments.whole c.round.new.clock) in
+    let all = returns-in-Err-clause-serves g c in
+    rounds_live_on later (layout_in first) (D.honest (disk_in first)) all.0 begun ended (opened_place (sym first.holds.size_is) refl refl working) all.2

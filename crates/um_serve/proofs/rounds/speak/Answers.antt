@@ -39,10 +39,10 @@ loop-number-preserved g c =
       children = c.output-output.ensures.children ∙ inv.children;
       marks = c.output-output.ensures.marks ∙ inv.marks;
       says = says_more (g.G.Gate.past c.args.gate.now) (g.G.Gate.past c.loop-number.gate) (g.G.Gate.past c.hand_out-is_stirred.new.gate) n ts (slice_get mid j) (slice_get new j) c.args.backlog.now c.loop-number.backlog c.hand_out-is_stirred.new.backlog bytes failed
-          inv.says c.hand_out-is_stirred.ensures.hands output is (inv.wait n here) c.hand_out-is_stirred.ensures.others (subst IsTrue (sym inv.gate)) c.hand_out-is_stirred.ensures.whole;
+          inv.says c.hand_out-is_stirred.ensures.hands output is (inv.wait n here) c.hand_out-is_stirred.ensures.others (subst IsTrue (sym inv.gate)) c.hand_out-is_stirred.ensures.gate.whole;
       wait = same_above n n c.args.backlog.now c.loop-number.backlog c.hand_out-is_stirred.new.backlog refl inv.wait c.hand_out-is_stirred.ensures.others;
       stirred = stirred_more n ts (slice_get mid j) (slice_get new j) c.args.backlog.now c.loop-number.backlog c.hand_out-is_stirred.new.backlog bytes failed c.loop-number.is_stirred
           c.hand_out-is_stirred.result inv.stirred c.hand_out-is_stirred.ensures.stirred output is (inv.wait n here) c.hand_out-is_stirred.ensures.others;
-      events = λ w. inv.events (c.hand_out-is_stirred.ensures.whole w);
-      gate = c.hand_out-is_stirred.ensures.honest ∙ inv.gate;
+      events = λ w. inv.events (c.hand_out-is_stirred.ensures.gate.whole w);
+      gate = c.hand_out-is_stirred.ensures.gate.honest ∙ inv.gate;
     }

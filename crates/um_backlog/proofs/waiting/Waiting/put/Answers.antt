@@ -14,5 +14,5 @@ returns-then-is_done-clause-hands g c =
     c.write.ensures.taken.1
     (ap (λ b. is_given_up b left) (sym (c.write.ensures.is_last ∙ ap (λ w. w.is_last) c.in-Ok.ensures.ok)) ∙ sym c.is_done.ensures ∙ c.if-is_done.true)
     c.write.ensures.taken.2 c.give_up-then-is_done.ensures.past
-    (subst IsTrue (sym c.write.ensures.honest)) c.give_up-then-is_done.ensures.whole
+    (subst IsTrue (sym c.write.ensures.gate.honest)) c.give_up-then-is_done.ensures.gate.whole
     c.give_up-then-is_done.new.self c.give_up-then-is_done.ensures.value

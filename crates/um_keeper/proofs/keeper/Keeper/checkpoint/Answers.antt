@@ -1,6 +1,7 @@
 use Rattle.std.proofs.Common.{◌∙◌, Ok, length, refl, sym, ap, subst, arith}
 use Rattle.um_model.specs.StateSpellings.{FitState, state_spelling}
 use Rattle.um_keeper.proofs.Kept.{at_some, still, spelled_fits, during_kept, kept_behind, told_behind, held_at, keeps_at}
+use Rattle.um_keeper.proofs.Offered.{nothing_offered}
 use Rattle.um_keeper.proofs.keeper.Keeper.checkpoint.Goals as goal
 
 pub returns-then-self-2-clause-during : goal.returns-then-self-2-clause-during
@@ -42,3 +43,15 @@ unreachable-requires g c =
 pub returns-clause-during : goal.returns-clause-during
 returns-clause-during g c f h =
     during_kept c.args.self.now.holds (c.args.self.now.kept f h) (subst FitState c.state.ensures c.in_ok-body.ensures.fits) (c.deref.ensures.value ∙ c.in_ok-body.ensures.bytes ∙ ap state_spelling c.state.ensures) (c.write_other.ensures.during h)
+
+pub returns-then-self-2-clause-life : goal.returns-then-self-2-clause-life
+returns-then-self-2-clause-life g c s before f h come = nothing_offered _ s _ before _ _ come (returns-then-self-2-clause-during g c f h)
+
+pub returns-in_err-body-clause-life : goal.returns-in_err-body-clause-life
+returns-in_err-body-clause-life g c s before f h come = nothing_offered _ s _ before _ _ come (returns-in_err-body-clause-during g c f h)
+
+pub returns-in-Ok-Some-clause-life : goal.returns-in-Ok-Some-clause-life
+returns-in-Ok-Some-clause-life g c s before f h come = nothing_offered _ s _ before _ _ come (returns-in-Ok-Some-clause-during g c f h)
+
+pub returns-clause-life : goal.returns-clause-life
+returns-clause-life g c s before f h come = nothing_offered _ s _ before _ _ come (returns-clause-during g c f h)

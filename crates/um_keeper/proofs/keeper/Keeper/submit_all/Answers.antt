@@ -1,4 +1,4 @@
-use Rattle.std.proofs.Common.{◌≡◌, ◌∙◌, ◌+◌, ◌-◌, ◌≤◌, ℕ, List, append-nil, length, map, replicate, Err, inl, inr, refl, sym, ap, subst, arith, rules}
+use Rattle.std.proofs.Common.{◌≡◌, ◌∙◌, ◌+◌, ◌-◌, ◌≤◌, ℕ, List, true, append-nil, length, map, replicate, Err, inl, inr, refl, sym, ap, subst, arith, rules}
 use Rattle.std.proofs.lemmas.Bool.{true≢false}
 use Rattle.std.proofs.lemmas.List.{length-map}
 use Rattle.um_engine.specs.Engine as machine
@@ -6,17 +6,18 @@ use Rattle.um_engine.specs.declared.engine.Back.{Back}
 use Rattle.um_model.specs.Disk.{Past, During}
 use Rattle.um_model.specs.Machine.{State}
 use Rattle.um_model.specs.Standing.{Standing}
-use Rattle.um_model.specs.Store.{log_end}
+use Rattle.um_model.specs.Store.{body_limit, log_end}
 use Rattle.um_model.specs.declared.layout.Layout.{Layout}
 use Rattle.um_model.specs.declared.layout.Slot.{Slot}
 use Rattle.um_sector.specs.Unsynced.{sync_count}
 use Rattle.um_state.specs.View.{input_of}
 use Rattle.um_state.specs.declared.input.Input.{Input}
-use Rattle.um_keeper.specs.Answering.{FellBack, NeedNoRecord, HaveNoRecord, all_sectors, AreSpentAt, taken, state_before_all}
+use Rattle.um_keeper.specs.Answering.{AreAnswered, FellBack, NeedNoRecord, HaveNoRecord, all_sectors, AreSpentAt, taken, state_before_all}
 use Rattle.um_keeper.specs.Keepers.{disk_in, standing_in, state_in, size_in, layout_in, log_generation_in, next_in}
 use Rattle.um_keeper.specs.Keeping.{Keeps, IsBegun}
 use Rattle.um_keeper.proofs.Batching.{numbers_asked, denied_new, no_fault, need_no_record, fell_whole, fell_back, fell_told, fell_during, fell_unrecorded}
 use Rattle.um_keeper.proofs.Kept.{stores, stores_at, keeps_for}
+use Rattle.um_keeper.proofs.Offered.{each_stays, fell_stays, list_goes_on}
 use Rattle.um_keeper.proofs.Results.{of_first}
 use Rattle.um_keeper.proofs.Spent.{free_at, spent_denied}
 use Rattle.um_wire.specs.declared.refusal.Refusal.TheVariants.{Device}
@@ -46,6 +47,23 @@ invariant_of-self-clause-kept g c f h =
 
 pub returns-in-Ok-clause-stored : goal.returns-in-Ok-clause-stored
 returns-in-Ok-clause-stored g c f h = stores_at (c.in-Ok.ensures.kept h (kept_in c.args.self.now.same (c.args.self.now.kept c.if-self.false h))) c.record_all.ensures.layout
+
+pub returns-in-Ok-clause-life : goal.returns-in-Ok-clause-life
+returns-in-Ok-clause-life g c s before h come =
+    let D = g.D.Disk in
+    let first = c.args.self.now in
+    let layout = layout_in first in
+    let t = state_in first in
+    let u = machine.state_in c.record_all.new.engine in
+    let old = D.past (disk_in first) in
+    let new = D.past c.record_all.new.disk in
+    let answers = c.record_all.new.answers.items in
+    let told = subst (λ n. AreAnswered n t (map input_of c.deref.result.now) answers u) first.holds.size_is c.in-Ok.ensures.ok in
+    let during = c.in-Ok.ensures.during h (kept_in first.same (first.kept c.if-self.false h)) in
+    list_goes_on layout s t u before (map input_of c.args.inputs.items) answers old new _ come (each_stays told)
+    (subst (λ i. During old new (IsBegun layout t (taken (map input_of i) answers))) c.deref.ensures.value during)
+    (λ works. subst (λ i. AreAnswered (body_limit layout) t (map input_of i) answers u) c.deref.ensures.value told)
+    (λ works. returns-in-Ok-clause-stored g c works h)
 
 pub returns-in-Ok-clause-device : goal.returns-in-Ok-clause-device
 returns-in-Ok-clause-device g c = inr (no_fault c.in-Ok.ensures.ok, c.in-Ok.ensures.device)
@@ -115,6 +133,14 @@ returns-clause-during g c h =
     let n : c.len-count.result ≡ length c.args.inputs.items = search rules in
     subst (λ i. During (D.past (disk_in first)) (D.past c.record_all.new.disk) (IsBegun (layout_in first) (state_in first) (taken (map input_of i) c.deny.new.answers.items))) c.deref.ensures.value
     (fell_during c.in-Err.ensures.stopped c.len-count.result (counted c.len-count.result c.deref.result.now c.args.inputs.items n c.deref.ensures.value) c.deny.ensures (c.in-Err.ensures.lost h (kept_in c.args.self.now.same (c.args.self.now.kept c.if-self.false h))))
+
+pub returns-clause-life : goal.returns-clause-life
+returns-clause-life g c s before h come =
+    let D = g.D.Disk in
+    let first = c.args.self.now in
+    list_goes_on (layout_in first) s (state_in first) (machine.state_in c.go_back.new.engine) before (map input_of c.args.inputs.items) c.deny.new.answers.items
+    (D.past (disk_in first)) (D.past c.record_all.new.disk) true come (fell_stays (returns-clause-fell g c refl)) (returns-clause-during g c h)
+    (λ works. absurd (true≢false works)) (λ works. absurd (true≢false works))
 
 pub returns-clause-order : goal.returns-clause-order
 returns-clause-order g c =

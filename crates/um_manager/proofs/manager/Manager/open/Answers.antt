@@ -1,16 +1,19 @@
-use Rattle.std.proofs.Common.{◌≡◌, ◌∷◌, [], inl, inr, refl, sym, subst}
+use Rattle.std.proofs.Common.{◌≡◌, ◌∙◌, ◌∷◌, [], inl, inr, refl, sym, ap, subst}
 use Rattle.std.specs.Bool.{IsTrue}
 use Rattle.um_keeper.specs.Keepers.{disk_in, state_in, layout_in, has_failed, opened_in}
-use Rattle.um_keeper.specs.Opening.{IsRead, IsSomeStore}
+use Rattle.um_keeper.specs.Opening.{IsRead, IsSomeStore, IsAsBefore}
 use Rattle.um_keeper.specs.Answering.{taken}
 use Rattle.um_model.proofs.DiskLaws.{weaker}
 use Rattle.um_model.proofs.StandsLaws.{one_layout}
 use Rattle.um_model.specs.Disk.{During, Images, seen}
+use Rattle.um_model.specs.Store.{body_limit}
 use Rattle.um_model.specs.declared.layout.Layout.{Layout}
-use Rattle.um_manager.specs.Opening.{Opened, IsOfRefused, adoptions, boot_at}
+use Rattle.um_manager.specs.Opening.{Opened, Refuses, IsRefused, untaken, taken_up, IsFound, IsOfRefused, adoptions, boot_at}
+use Rattle.um_manager.specs.Living.{relying}
 use Rattle.um_manager.specs.Places.{Place, place_in}
 use Rattle.um_manager.specs.Turns.{now_in}
 use Rattle.um_manager.proofs.Beginning.{boot_then, opening_left, refused_left, opened_place, never_spent, asked_alone}
+use Rattle.um_manager.proofs.Continuing.{lives_from, refused_lives}
 use Rattle.um_manager.proofs.Offering.{trusts, trusted_in}
 use Rattle.um_manager.proofs.manager.Manager.open.Goals as goal
 
@@ -26,7 +29,7 @@ returns-in-Ok-begin-clause-opened g c =
     let b = now_in l (g.C.Children.past c.begin.new.children) c.in-Ok-begin.field-0.marks [] (D.past (disk_in l)) in
     let began = c.in-Ok-begin.ensures.began in
     subst (λ (p : Place). Opened p (g.C.Children.honest c.args.children) (g.C.Children.whole c.begin.new.children) c.args.moment c.args.boot c.in-Ok-begin.field-0.adopted (D.size c.args.disk) first (g.C.Children.past c.args.children) b)
-    (opened_place c.begin.ensures.place.size c.begin.ensures.place.layout ok.2 ok.0)
+    (opened_place c.begin.ensures.frame.store.place.size c.begin.ensures.frame.store.place.layout ok.2 ok.0)
     (record {
       a = a;
       found = λ t.
@@ -75,8 +78,8 @@ returns-in-Ok-begin-clause-sized g c = c.begin.new.keeper.holds.size_is
 pub returns-in-Ok-begin-clause-read : goal.returns-in-Ok-begin-clause-read
 returns-in-Ok-begin-clause-read g c = λ h.
     let first = seen (g.D.Disk.past c.args.disk) in
-    subst (λ (z : Layout). IsRead z first (opened_in c.begin.new.keeper)) (sym c.begin.ensures.place.layout)
-    (subst (IsRead (layout_in c.in-Ok.keeper) first) (sym c.begin.ensures.place.opened) (c.in-Ok.ensures.opened h))
+    subst (λ (z : Layout). IsRead z first (opened_in c.begin.new.keeper)) (sym c.begin.ensures.frame.store.place.layout)
+    (subst (IsRead (layout_in c.in-Ok.keeper) first) (sym c.begin.ensures.frame.store.place.opened) (c.in-Ok.ensures.opened h))
 
 pub returns-in-Err-begin-clause-refused : goal.returns-in-Err-begin-clause-refused
 returns-in-Err-begin-clause-refused g c = elim c.in-Err-begin.ensures.refused [
@@ -117,3 +120,46 @@ returns-in-Err-begin-clause-silent g c = λ h w.
 
 pub returns-in-Err-clause-silent : goal.returns-in-Err-clause-silent
 returns-in-Err-clause-silent g c = λ h w. inl refl
+
+pub returns-in-Err-clause-refuses : goal.returns-in-Err-clause-refuses
+returns-in-Err-clause-refuses g c = λ sure layout images. untaken refl (c.in-Err.ensures.during_err sure layout images)
+
+pub returns-in-Err-begin-clause-refuses : goal.returns-in-Err-begin-clause-refuses
+returns-in-Err-begin-clause-refuses g c = λ sure layout images.
+    let D = g.D.Disk in
+    let h = g.C.Children.honest c.args.children in
+    let w = g.C.Children.whole c.begin.new.children in
+    let first = D.past c.args.disk in
+    let k = c.in-Ok.keeper in
+    let l = c.begin.new.keeper in
+    let ok = c.in-Ok.ensures.ok in
+    let next = c.in-Ok.ensures.taken sure in
+    let same : layout_in k ≡ layout = one_layout (layout_in k) layout (seen first) next.taken.has.first (images (seen first) (g.met.D.Disk.seen_is_image c.args.disk sure)).stands.first in
+    let (marks, refuses) = c.in-Err-begin.ensures.refuses in
+    let a = now_in k (g.C.Children.past c.args.children) [] [] (D.past (disk_in k)) in
+    let b = now_in l (g.C.Children.past c.begin.new.children) marks [] (D.past (disk_in l)) in
+    taken_up a b
+    (subst (λ (z : Layout). IsFound (D.size c.args.disk) first z (state_in k)) same
+    (record { slot = next.before; generation = next.earlier; taken_up = next.taken; stands = c.in-Ok.ensures.stands sure }))
+    refl
+    (subst (λ (z : Layout). During first (D.past (disk_in k)) (IsAsBefore z first)) same
+    (c.in-Ok.ensures.during sure (layout_in k) (subst (λ (z : Layout). Images first (IsSomeStore z)) (sym same) images)))
+    (subst (λ (p : Place). Refuses p h w c.in-Err-begin.refusal c.args.moment c.args.boot a b)
+    (opened_place (ap body_limit (sym same) ∙ sym c.in-Ok.ensures.sized) (sym same) (ok.2 ∙ sure) ok.0) refuses)
+    (ap D.past c.into_disk.ensures) refl
+
+pub returns-in-Ok-begin-clause-life : goal.returns-in-Ok-begin-clause-life
+returns-in-Ok-begin-clause-life g c =
+    let l = c.begin.new.keeper in
+    lives_from (layout_in l) (relying (g.D.Disk.honest c.args.disk) (g.C.Children.honest c.args.children) (g.C.Children.whole c.begin.new.children))
+    c.in-Ok-begin.field-0.sessions.items l.holds.size_is (returns-in-Ok-begin-clause-opened g c)
+
+pub returns-in-Err-clause-life_err : goal.returns-in-Err-clause-life_err
+returns-in-Err-clause-life_err g c = λ sure honest whole layout images.
+    refused_lives layout (relying (g.D.Disk.honest c.args.disk) (g.C.Children.honest c.args.children) (g.C.Children.whole c.args.children)) honest whole
+    (returns-in-Err-clause-err g c sure layout images) (returns-in-Err-clause-refuses g c sure layout images)
+
+pub returns-in-Err-begin-clause-life_err : goal.returns-in-Err-begin-clause-life_err
+returns-in-Err-begin-clause-life_err g c = λ sure honest whole layout images.
+    refused_lives layout (relying (g.D.Disk.honest c.args.disk) (g.C.Children.honest c.args.children) (g.C.Children.whole c.begin.new.children)) honest whole
+    (returns-in-Err-begin-clause-err g c sure layout images) (returns-in-Err-begin-clause-refuses g c sure layout images)

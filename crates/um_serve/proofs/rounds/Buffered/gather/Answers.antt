@@ -14,7 +14,7 @@ returns-clause-gathers g c =
       only_open = c.listen.ensures.only_open;
       none_of_held = c.listen.ensures.none_of_held;
       past = λ h w.
-          c.listen.ensures.past (subst IsTrue (sym c.accept-open.ensures.honest) h) w ∙ ap (λ es. es ++ reads) (c.accept-open.ensures.past h (c.listen.ensures.whole w))
+          c.listen.ensures.past (subst IsTrue (sym c.accept-open.ensures.honest) h) w ∙ ap (λ es. es ++ reads) (c.accept-open.ensures.past h (c.listen.ensures.gate.whole w))
           ∙ append_assoc old (accepted which ∷ []) reads;
       forgets = c.forget_closed.ensures;
       busy_is = c.has_come-self.ensures;

@@ -18,7 +18,7 @@ returns-clause-serves g c =
     let said = c.speak-is_stirred.ensures in
     let there = state_in c.args.manager.now.keeper in
     done_round c.args.self.now.was_busy (g.G.Gate.past c.args.self.now.gate) (g.G.Gate.past c.gather.new.self.gate) (g.G.Gate.past c.speak-is_stirred.new.gate) said.says.0 c.args.self.now.turned (place_in (g.D.Disk.honest (disk_in c.args.manager.now.keeper)) c.args.manager.now.keeper) c.turn-turned.result
-    c.in-Ok.ensures.gathers (subst IsTrue (sym c.gather.ensures.gate)) said.events c.held_back-held.ensures c.moment-moment.ensures.given
+    c.in-Ok.ensures.gathers (subst IsTrue (sym c.gather.ensures.gate.honest)) said.gate.whole c.held_back-held.ensures c.moment-moment.ensures.given
     c.turn-turned.ensures.turns (subst (λ x. IsTrue (g.C.Children.whole x)) said.children) (sym c.wants_memory.ensures ∙ c.if-wants_memory.false)
     said.says.1 said.says.2 refl said.stirred
     (c.has_moved-has_changed.ensures ∙ ap (λ m. nat_lt m (state_in c.speak-is_stirred.new.manager.keeper).clock) c.clock_of-before.ensures) said.empties

@@ -1,0 +1,162 @@
+//! Everything that can be refused is refused, one after another, and what must hold is asserted each time.
+//!
+//! Its words are a kind, `memory`, `disk`, `crash`, `children` or `gate`, and a number, of a script or a life; or `some 0` for a selection of
+//! these. Those of `memory` are lives whose allocations `tools/in-turn` lets fail. It prints how many cases it tried, 0 for a selection;
+//! where one is wrong it tells that on standard error, and the exit status is 1.
+#![tactic(auto)]
+
+mod alone;
+mod children;
+mod clients;
+mod crash;
+mod disk;
+mod faulty_children;
+mod faulty_gate;
+mod gate;
+mod lives;
+mod rows;
+mod scripts;
+mod sessions;
+mod stores;
+mod watched;
+mod wrong;
+
+use gate::Clients;
+use std::alloc::Global;
+use std::env;
+use std::process::ExitCode;
+use wrong::{Wrong, found};
+
+/// Each call of the disk fails in turn, for the script of this number.
+fn disk_cases(alloc: Global, number: &str) -> Result<u64, Wrong> {
+    match number {
+        "1" => disk::each_call(alloc, &disk::restart(alloc)?, 1),
+        "2" => disk::each_call(alloc, &disk::filled(alloc)?, 1),
+        "3" => disk::each_call(alloc, &disk::lists(alloc)?, 1),
+        _ => Err(found("no such script")),
+    }
+}
+
+/// The machine stops before each write of a creation, or of the script of this number.
+fn crash_cases(alloc: Global, number: &str) -> Result<u64, Wrong> {
+    match number {
+        "1" => crash::each_creation(alloc),
+        "2" => crash::each_stop(alloc, &crash::script(alloc)?),
+        "3" => crash::each_stop(alloc, &crash::with_lists(alloc)?),
+        _ => Err(found("no such script")),
+    }
+}
+
+/// Each call of the children fails in turn, for the life of this number.
+fn children_cases(alloc: Global, number: &str) -> Result<u64, Wrong> {
+    match number {
+        "1" => children::each_call(alloc, &children::TORN),
+        "2" => children::each_call(alloc, &children::ONESHOT),
+        _ => Err(found("no such life")),
+    }
+}
+
+/// Each call of the gate fails in turn, with either client first.
+fn gate_cases(alloc: Global, number: &str) -> Result<u64, Wrong> {
+    let (commands, limit, at_once) = match number {
+        "1" => (0, 9, false),
+        "2" => (1, 9, false),
+        "3" => (0, 4096, true),
+        "4" => (1, 4096, true),
+        _ => return Err(found("no such clients")),
+    };
+    let clients = Clients {
+        commands,
+        limit,
+        at_once,
+    };
+    gate::each_call(alloc, clients)
+}
+
+/// The life of this number, whose allocations fail from outside.
+fn life(alloc: Global, number: &str) -> Result<u64, Wrong> {
+    match number {
+        "1" => lives::rows_taken(alloc, lives::SIMPLE),
+        "2" => lives::rows_taken(alloc, lives::CONFLICT),
+        "3" => lives::rows_taken(alloc, lives::RESTARTS),
+        "4" => lives::rows_taken(alloc, lives::ENABLED),
+        "5" => clients::two_clients(alloc),
+        _ => Err(found("no such life")),
+    }
+}
+
+/// A script or a life of a kind, by its number.
+fn part(alloc: Global, kind: &str, number: &str) -> Result<u64, Wrong> {
+    match kind {
+        "memory" => life(alloc, number),
+        "disk" => disk_cases(alloc, number),
+        "crash" => crash_cases(alloc, number),
+        "children" => children_cases(alloc, number),
+        "gate" => gate_cases(alloc, number),
+        _ => Err(found("no such kind")),
+    }
+}
+
+/// These scripts or lives of a kind.
+fn parts(alloc: Global, kind: &str, numbers: &[&str]) -> Result<(), Wrong> {
+    for number in numbers {
+        part(alloc, kind, *number)?;
+    }
+    Ok(())
+}
+
+/// What is short: the scripts of children and gate, the lives with all their memory, and a short script each of a disk and of crashes.
+fn some(alloc: Global) -> Result<u64, Wrong> {
+    let first = disk::calls_before(alloc)?.saturating_add(1);
+    disk::each_call(alloc, &disk::short(alloc)?, first)?;
+    crash::each_stop(alloc, &crash::short(alloc)?)?;
+    parts(alloc, "children", &["1", "2"])?;
+    parts(alloc, "gate", &["1", "2", "3", "4"])?;
+    parts(alloc, "memory", &["1", "2", "3", "4", "5"])?;
+    lives::wanting_is_noticed(alloc)?;
+    Ok(0)
+}
+
+/// What the words ask for; tells how many cases were tried.
+fn tried(alloc: Global, kind: &str, number: &str) -> Result<u64, Wrong> {
+    match kind {
+        "some" => some(alloc),
+        _ => part(alloc, kind, number),
+    }
+}
+
+fn words_of(rt: &HostRuntime) -> Result<Vec<String>, Wrong> {
+    match env::args(rt) {
+        Ok(words) => Ok(words.collect(rt.alloc())?),
+        Err(_) => Err(Wrong::NoMemory),
+    }
+}
+
+fn run_once(rt: &HostRuntime) -> Result<u64, Wrong> {
+    let words = words_of(rt)?;
+    match words.as_slice() {
+        [_, kind, number] => tried(rt.alloc(), kind.as_str(), number.as_str()),
+        _ => Err(found("two words are wanted")),
+    }
+}
+
+/// A run that found no memory itself is made once more.
+fn run(rt: &HostRuntime) -> Result<u64, Wrong> {
+    match run_once(rt) {
+        Err(Wrong::NoMemory) => run_once(rt),
+        told => told,
+    }
+}
+
+fn main(rt: HostRuntime) -> ExitCode {
+    match run(&rt) {
+        Ok(cases) => match println!(&rt; "{cases}") {
+            Ok(()) => ExitCode::SUCCESS,
+            Err(_) => ExitCode::FAILURE,
+        },
+        Err(wrong) => {
+            let _unheard = eprintln!(&rt; "{wrong}");
+            ExitCode::FAILURE
+        }
+    }
+}

@@ -1,0 +1,238 @@
+//! Scripts of a store, and how far one comes over a disk that fails a call.
+
+use crate::alone::spent;
+use crate::rows::{Row, input_of, inputs_of};
+use crate::stores::create_on;
+use crate::wrong::{Wrong, found};
+use std::alloc::Global;
+use um_keeper::{Keeper, Receipt};
+use um_sector::{Fuse, MemDisk};
+use um_wire::Refusal;
+
+/// A disk that fails a call.
+pub type Failing = Fuse<MemDisk>;
+
+/// A call of a keeper.
+#[derive(Clone, Copy)]
+pub enum Deed {
+    /// The next row is submitted.
+    Input,
+    /// So many rows are submitted as one list.
+    List(usize),
+    Checkpoint,
+    /// The store is opened again.
+    Open,
+}
+
+/// A store is created and opened, and then these calls are made over these rows.
+#[derive(Drop)]
+pub struct Script {
+    pub rows: Vec<Row>,
+    pub deeds: Vec<Deed>,
+}
+
+impl Script {
+    /// No call.
+    pub fn new(alloc: Global) -> Script {
+        Script {
+            rows: Vec::new(alloc),
+            deeds: Vec::new(alloc),
+        }
+    }
+
+    /// Each of these rows is submitted.
+    pub fn each(&mut self, rows: &[Row]) -> Result<(), Wrong> {
+        for row in rows {
+            self.rows.push(*row)?;
+            self.deeds.push(Deed::Input)?;
+        }
+        Ok(())
+    }
+
+    /// These rows are submitted as one list.
+    pub fn list(&mut self, rows: &[Row]) -> Result<(), Wrong> {
+        self.rows.extend_from_slice(rows)?;
+        self.deeds.push(Deed::List(rows.len()))?;
+        Ok(())
+    }
+
+    /// This call.
+    pub fn deed(&mut self, deed: Deed) -> Result<(), Wrong> {
+        self.deeds.push(deed)?;
+        Ok(())
+    }
+
+    fn rows_from(&self, done: usize, count: usize) -> Result<&[Row], Wrong> {
+        match self.rows.get(done..done.saturating_add(count)) {
+            Some(rows) => Ok(rows),
+            None => Err(found("a script of too few rows")),
+        }
+    }
+}
+
+/// How far a script came.
+#[derive(Drop)]
+pub enum Outcome {
+    /// To its end, with so many calls of the disk.
+    Done(u64),
+    /// The creation was refused.
+    Creating(MemDisk),
+    /// An opening was refused, behind so many rows.
+    Opening(MemDisk, usize),
+    /// A call of the keeper was refused, behind so many rows, which took so many more.
+    Taking(Keeper<Failing>, usize, usize),
+}
+
+/// How a call went.
+#[derive(Drop)]
+enum Gone {
+    /// It was done, with so many rows.
+    On(Keeper<Failing>, usize),
+    Refused(Keeper<Failing>, usize),
+    NotOpened(Failing),
+}
+
+fn submit(alloc: Global, keeper: Keeper<Failing>, row: Row) -> Result<Gone, Wrong> {
+    let mut keeper = keeper;
+    match keeper.submit(input_of(alloc, row)?) {
+        Ok(receipt) => {
+            spent(alloc, receipt)?;
+            Ok(Gone::On(keeper, 1))
+        }
+        Err(Refusal::Device) => Ok(Gone::Refused(keeper, 1)),
+        Err(Refusal::NoMemory | Refusal::Reopen) => Err(found("a refusal that isn't due")),
+        Err(_) => Ok(Gone::On(keeper, 1)),
+    }
+}
+
+/// What an answer of a list is.
+#[derive(Clone, Copy)]
+enum Kind {
+    Done,
+    Fault,
+    Refused,
+}
+
+/// Spends an answer, and tells what it is.
+fn spent_kind(alloc: Global, answer: Result<Receipt, Refusal>) -> Kind {
+    match answer {
+        Ok(receipt) => {
+            let _answer = spent(alloc, receipt);
+            Kind::Done
+        }
+        Err(Refusal::Device) => Kind::Fault,
+        Err(_) => Kind::Refused,
+    }
+}
+
+/// How many of the answers are receipts, and how many are E16.
+fn counted(alloc: Global, answers: Vec<Result<Receipt, Refusal>>) -> (usize, usize) {
+    let mut done: usize = 0;
+    let mut faults: usize = 0;
+    let mut rest = answers.into_iter();
+    while let Some(answer) = rest.next() {
+        match spent_kind(alloc, answer) {
+            Kind::Done => done = done.saturating_add(1),
+            Kind::Fault => faults = faults.saturating_add(1),
+            Kind::Refused => {}
+        }
+    }
+    rest.destroy_empty();
+    (done, faults)
+}
+
+/// Lets go of the answers to a list.
+pub fn let_go(alloc: Global, answers: Vec<Result<Receipt, Refusal>>) {
+    let _counts = counted(alloc, answers);
+}
+
+fn submit_all(alloc: Global, keeper: Keeper<Failing>, rows: &[Row]) -> Result<Gone, Wrong> {
+    let mut keeper = keeper;
+    let answers = keeper.submit_all(inputs_of(alloc, rows)?)?;
+    if answers.len() != rows.len() {
+        let_go(alloc, answers);
+        return Err(found("a list without an answer each"));
+    }
+    match counted(alloc, answers) {
+        (_, 0) => Ok(Gone::On(keeper, rows.len())),
+        (0, _) => Ok(Gone::Refused(keeper, rows.len())),
+        (_, _) => Err(found("a receipt beside E16")),
+    }
+}
+
+fn checkpoint(keeper: Keeper<Failing>) -> Result<Gone, Wrong> {
+    let mut keeper = keeper;
+    match keeper.checkpoint() {
+        Ok(()) => Ok(Gone::On(keeper, 0)),
+        Err(Refusal::Device) => Ok(Gone::Refused(keeper, 0)),
+        Err(refusal) => Err(Wrong::from(refusal)),
+    }
+}
+
+fn open(alloc: Global, disk: Failing) -> Result<Gone, Wrong> {
+    match Keeper::open(alloc, disk) {
+        Ok(keeper) => Ok(Gone::On(keeper, 0)),
+        Err((Refusal::Device, disk)) => Ok(Gone::NotOpened(disk)),
+        Err((refusal, _)) => Err(Wrong::from(refusal)),
+    }
+}
+
+impl Script {
+    fn go(
+        &self,
+        alloc: Global,
+        keeper: Keeper<Failing>,
+        deed: Deed,
+        done: usize,
+    ) -> Result<Gone, Wrong> {
+        match deed {
+            Deed::Input => match self.rows_from(done, 1)? {
+                [row] => submit(alloc, keeper, *row),
+                _ => Err(found("a script of too few rows")),
+            },
+            Deed::List(count) => submit_all(alloc, keeper, self.rows_from(done, count)?),
+            Deed::Checkpoint => checkpoint(keeper),
+            Deed::Open => open(alloc, keeper.into_disk()),
+        }
+    }
+
+    /// The calls behind the opening.
+    fn play_over(&self, alloc: Global, keeper: Keeper<Failing>) -> Result<Outcome, Wrong> {
+        let mut keeper = keeper;
+        let mut done: usize = 0;
+        for deed in self.deeds.as_slice() {
+            match self.go(alloc, keeper, *deed, done)? {
+                Gone::On(after, count) => {
+                    keeper = after;
+                    done = done.saturating_add(count);
+                }
+                Gone::Refused(after, count) => return Ok(Outcome::Taking(after, done, count)),
+                Gone::NotOpened(disk) => return Ok(Outcome::Opening(disk.into_inner(), done)),
+            }
+        }
+        Ok(Outcome::Done(keeper.into_disk().calls()))
+    }
+
+    /// The whole script over this disk.
+    pub fn play(&self, alloc: Global, disk: Failing) -> Result<Outcome, Wrong> {
+        let mut disk = disk;
+        match create_on(alloc, &mut disk) {
+            Ok(()) => {}
+            Err(Refusal::Device) => return Ok(Outcome::Creating(disk.into_inner())),
+            Err(refusal) => return Err(Wrong::from(refusal)),
+        }
+        match open(alloc, disk)? {
+            Gone::On(keeper, _) => self.play_over(alloc, keeper),
+            Gone::Refused(_, _) => Err(found("an opening that isn't one")),
+            Gone::NotOpened(disk) => Ok(Outcome::Opening(disk.into_inner(), 0)),
+        }
+    }
+
+    /// How many calls of the disk the script makes where none fails.
+    pub fn calls(&self, alloc: Global, disk: MemDisk) -> Result<u64, Wrong> {
+        match self.play(alloc, Fuse::new(disk, 0))? {
+            Outcome::Done(calls) => Ok(calls),
+            _ => Err(found("a fault where nothing fails")),
+        }
+    }
+}

@@ -1,0 +1,81 @@
+//! Stores in memory.
+
+use crate::wrong::{Wrong, found};
+use std::alloc::Global;
+use um_keeper::{Keeper, create};
+use um_model::Layout;
+use um_sector::{Disk, MemDisk};
+use um_wire::{Refusal, spell};
+
+/// So many sectors a disk has: slots of 64, a log of 512.
+pub const SECTORS: usize = 641;
+
+/// The layout of each store.
+pub fn layout() -> Result<Layout, Wrong> {
+    match Layout::new(64, 512) {
+        Some(layout) => Ok(layout),
+        None => Err(found("no layout")),
+    }
+}
+
+/// A disk of zeros.
+pub fn blank(alloc: Global) -> Result<MemDisk, Wrong> {
+    Ok(MemDisk::new(alloc, SECTORS)?)
+}
+
+/// Makes a new store on a disk that has room for it.
+pub fn create_on<D: Disk>(alloc: Global, disk: &mut D) -> Result<(), Refusal> {
+    match Layout::new(64, 512) {
+        Some(layout) if layout.sectors() <= disk.sectors() => create(alloc, disk, layout),
+        _ => Err(Refusal::BadRequest),
+    }
+}
+
+/// A disk that holds a new store.
+pub fn made(alloc: Global) -> Result<MemDisk, Wrong> {
+    let mut disk = blank(alloc)?;
+    create_on(alloc, &mut disk)?;
+    Ok(disk)
+}
+
+/// The keeper that is opened over a disk.
+pub fn opened<D: Disk + Drop>(alloc: Global, disk: D) -> Result<Keeper<D>, Wrong> {
+    match Keeper::open(alloc, disk) {
+        Ok(keeper) => Ok(keeper),
+        Err((refusal, _)) => Err(Wrong::from(refusal)),
+    }
+}
+
+/// The canonical bytes of the state of a keeper.
+pub fn bytes_of<D: Disk>(alloc: Global, keeper: &Keeper<D>) -> Result<Vec<u8>, Wrong> {
+    Ok(spell(alloc, keeper.state())?)
+}
+
+/// The disk that a crash leaves which loses all that wasn't synced.
+pub fn oldest(alloc: Global, disk: &MemDisk) -> Result<MemDisk, Wrong> {
+    Ok(disk.crash(alloc, &[])?)
+}
+
+/// The picks of the newest value of each sector.
+fn newest_picks(alloc: Global, disk: &MemDisk) -> Result<Vec<usize>, Wrong> {
+    let mut picks = Vec::new(alloc);
+    for (_, count) in disk.unsynced(alloc)?.as_slice() {
+        picks.push(count.saturating_sub(1))?;
+    }
+    Ok(picks)
+}
+
+/// The disk that a crash leaves which loses nothing.
+pub fn newest(alloc: Global, disk: &MemDisk) -> Result<MemDisk, Wrong> {
+    let picks = newest_picks(alloc, disk)?;
+    Ok(disk.crash(alloc, picks.as_slice())?)
+}
+
+/// The state of the store that a disk holds, as bytes; None where there is no store.
+pub fn state_on(alloc: Global, disk: MemDisk) -> Result<Option<Vec<u8>>, Wrong> {
+    match Keeper::open(alloc, disk) {
+        Ok(keeper) => Ok(Some(bytes_of(alloc, &keeper)?)),
+        Err((Refusal::NotFormatted, _)) => Ok(None),
+        Err((refusal, _)) => Err(Wrong::from(refusal)),
+    }
+}

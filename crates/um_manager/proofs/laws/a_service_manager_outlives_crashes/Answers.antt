@@ -1,0 +1,5 @@
+use Rattle.um_manager.proofs.Living.{manager_outlives}
+use Rattle.um_manager.proofs.laws.a_service_manager_outlives_crashes.Goals as goal
+
+pub returns : goal.returns
+returns c = manager_outlives
