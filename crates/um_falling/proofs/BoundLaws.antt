@@ -34,8 +34,8 @@ module _ (s : State) (g : GraphView) where
     abbrev later : List ℕ
     later = falling_in (drop place row)
 
-    at : (b : Bool) → (binds n && goes s (name_of n.unit)) ≡ b → falling_in (drop p row) ≡ cond b (n.unit ∷ later) later
-    at b e =
+    fall_by : (b : Bool) → (binds n && goes s (name_of n.unit)) ≡ b → falling_in (drop p row) ≡ cond b (n.unit ∷ later) later
+    fall_by b e =
         ap falling_in (drop-cons row p d (omega (arith, is, within)))
         ∙ ap (λ t. cond t (n.unit ∷ falling_in (drop (suc p) row)) (falling_in (drop (suc p) row))) e
         ∙ ap (λ k. cond b (n.unit ∷ falling_in (drop k row)) (falling_in (drop k row))) (sym is)
@@ -44,11 +44,11 @@ module _ (s : State) (g : GraphView) where
     pub one_more : (rest list after : List ℕ) → binds n ≡ true → goes s (name_of n.unit) ≡ true → list ≡ later ++ rest → after ≡ n.unit ∷ list
         → after ≡ falling_in (drop p row) ++ rest
     one_more rest list after bound going e f =
-        f ∙ ap (λ l. n.unit ∷ l) e ∙ sym (ap (λ l. l ++ rest) (at true (ap (λ b. b && goes s (name_of n.unit)) bound ∙ going)))
+        f ∙ ap (λ l. n.unit ∷ l) e ∙ sym (ap (λ l. l ++ rest) (fall_by true (ap (λ b. b && goes s (name_of n.unit)) bound ∙ going)))
 
     -- any other isn't
     pub none_more : (rest list : List ℕ) → (binds n && goes s (name_of n.unit)) ≡ false → list ≡ later ++ rest → list ≡ falling_in (drop p row) ++ rest
-    none_more rest list none e = e ∙ sym (ap (λ l. l ++ rest) (at false none))
+    none_more rest list none e = e ∙ sym (ap (λ l. l ++ rest) (fall_by false none))
 
   -- ---- these are all that fall
   others : (a b : ℕ) → a ≢ b → (a == b) ≡ false
@@ -121,8 +121,8 @@ module _ (s : State) (g : GraphView) where
           ∙ ap (λ u. cond (binds n && goes s (name_of n.unit)) (u ∷ falling_in ns) (falling_in ns)) (sym same)
 
       -- all neighbours have greater numbers
-      later : unit < n.unit → falling_from s (n ∷ ns) unit (name ∷ names) ≡ falling_in (n ∷ ns)
-      later first =
+      further : unit < n.unit → falling_from s (n ∷ ns) unit (name ∷ names) ≡ falling_in (n ∷ ns)
+      further first =
           ap (λ b. cond (b && goes s name) (unit ∷ falling_from s (n ∷ ns) (suc unit) names) (falling_from s (n ∷ ns) (suc unit) names)) (not_bound unit (n ∷ ns) greater)
           ∙ rest (n ∷ ns) at_rest up (λ k d h. let more = greater k d h in omega (arith, more)) (λ k d h. below (get_or (n ∷ ns) k d) (to k d h))
         where
@@ -142,7 +142,7 @@ module _ (s : State) (g : GraphView) where
     | inl same ↦ here unit name names at (all_from (suc unit) names) n ns up to same
     | inr other ↦
         let least = All-head (λ (n : Neighbour). unit ≤ n.unit) n ns from in
-        later unit name names at (all_from (suc unit) names) n ns up to (omega (arith, least, other))
+        further unit name names at (all_from (suc unit) names) n ns up to (omega (arith, least, other))
   ]
 
   pub all_fall : (row : List Neighbour) → IsAscending row → All (λ (n : Neighbour). n.unit < length g.names) row → falling_from s row 0 g.names ≡ falling_in row
