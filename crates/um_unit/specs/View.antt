@@ -20,6 +20,7 @@ use Rattle.um_unit.specs.declared.loaded.Loading.TheVariants as loading
 abbrev pub warning_of : List ℕ → Warning → model.Warning
 warning_of path w = record { kind = w.kind; path = path; line = w.line }
 
+-- the warnings of a file
 abbrev pub warned_by : FileWarnings → List model.Warning
 warned_by f = map (warning_of (string_bytes f.path)) f.warnings.items
 

@@ -1,8 +1,6 @@
 //! Units by their files.
 
-ghost use Rattle.std.specs.Prelude.{◌≡◌, IfOk, Some, None, map, string_bytes};
-ghost use Rattle.um_model.specs.Names.{suffix_of};
-ghost use Rattle.um_model.specs.Resolution.{files_at};
+ghost use Rattle.std.specs.Prelude.{◌≡◌, IfOk, Some, None, map};
 ghost use Rattle.um_model.specs.FileForms.{without_install};
 ghost use Rattle.um_model.specs.Units as model;
 ghost use Rattle.um_resolve.specs.View.{resolution_of, unit_file_of};
