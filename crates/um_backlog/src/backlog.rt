@@ -1,4 +1,4 @@
-ghost use Rattle.std.specs.Prelude.{◌≡◌, ◌≢◌, ℕ, List, length, replicate, slice_get, IsTrue, IfOk};
+ghost use Rattle.std.specs.Prelude.{◌≡◌, ◌≢◌, ℕ, List, length, replicate, slice_get, IfOk};
 ghost use Rattle.um_gate.specs.Frames.{KeepsGate};
 ghost use Rattle.um_backlog.specs.Backlog.{Waits, nothing, gone, is_behind_at, HandsAt};
 ghost use Rattle.um_gate.specs.Events.{Event, Logs};

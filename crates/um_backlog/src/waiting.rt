@@ -1,4 +1,4 @@
-ghost use Rattle.std.specs.Prelude.{◌≡◌, ◌≤◌, ◌++◌, ◌∷◌, [], List, ℕ, drop, take, length, true, false, IsTrue, OnErr, OnOk, ◌≢◌};
+ghost use Rattle.std.specs.Prelude.{◌≡◌, ◌≤◌, ◌++◌, ◌∷◌, [], List, ℕ, drop, take, length, true, false, OnErr, OnOk, ◌≢◌};
 ghost use Rattle.um_gate.specs.Frames.{KeepsGate};
 ghost use Rattle.um_backlog.specs.Backlog.{Waits, nothing, given_up, is_behind, is_given_up, writes, Hands};
 ghost use Rattle.um_gate.specs.Events.{Event, dropped, Logs};

@@ -1,6 +1,6 @@
 //! What became of processes, as inputs.
 
-ghost use Rattle.std.specs.Prelude.{◌≡◌, ◌+◌, ◌*◌, ◌≤◌, ◌++◌, ◌∷◌, [], ℕ, true, IsTrue, length, vec_len, vec_capacity};
+ghost use Rattle.std.specs.Prelude.{◌≡◌, ◌+◌, ◌*◌, ◌≤◌, ◌++◌, ◌∷◌, [], ℕ, true, length, vec_len, vec_capacity};
 ghost use Rattle.um_children.specs.Frames.{KeepsChildren};
 ghost use Rattle.um_state.specs.View.{input_of};
 ghost use Rattle.um_fates.specs.Fates.{Heard, inputs_in, inputs_of_end, inputs_of_fate, happens_at, lost};

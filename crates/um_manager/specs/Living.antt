@@ -59,6 +59,7 @@ pub record Reliance : Type 0 where
   pub children : Bool
   pub history : Bool
 
+-- what is relied on, of these three
 abbrev pub relying : (disk children history : Bool) → Reliance
 relying disk children history = record { disk = disk; children = children; history = history }
 

@@ -1,10 +1,10 @@
 //! Opening: the boot, and then the processes that are live are adopted.
 
-ghost use Rattle.std.specs.Prelude.{◌≡◌, ◌≢◌, ◌⊎◌, ◌↔◌, ◌+◌, ◌*◌, ◌≤◌, ◌++◌, ◌∷◌, [], ℕ, List, true, false, Ok, Err, IsTrue, IfOk, IfErr, OnOk, OnErr, length, vec_len, vec_capacity};
+ghost use Rattle.std.specs.Prelude.{◌≡◌, ◌≢◌, ◌⊎◌, ◌+◌, ◌*◌, ◌≤◌, ◌++◌, ◌∷◌, [], ℕ, List, true, false, Ok, Err, IsTrue, IfOk, IfErr, OnOk, OnErr, length, vec_len, vec_capacity};
 ghost use Rattle.std.specs.List.{AllByRecursion};
 ghost use Rattle.um_children.specs.Frames.{KeepsChildren};
 ghost use Rattle.um_manager.specs.Frames.{Frame, KeepsStore};
-ghost use Rattle.um_keeper.specs.Keepers.{disk_in, state_in, size_in, layout_in, has_failed, IsSamePlace, HasNoRoom};
+ghost use Rattle.um_keeper.specs.Keepers.{disk_in, state_in, size_in, layout_in, has_failed, HasNoRoom};
 ghost use Rattle.um_keeper.specs.Keeping.{IsBegun};
 ghost use Rattle.um_manager.specs.Connections.{IsNew};
 ghost use Rattle.um_fates.specs.Fates.{Heard, inputs_in, lost};

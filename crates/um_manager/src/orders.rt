@@ -1,6 +1,6 @@
 //! Actions carried out, each once, in their order.
 
-ghost use Rattle.std.specs.Prelude.{map, ◌≡◌, ◌+◌, ◌≤◌, length, vec_len, vec_capacity, ◌++◌, ◌∷◌, [], IsTrue};
+ghost use Rattle.std.specs.Prelude.{map, ◌≡◌, ◌+◌, ◌≤◌, length, vec_len, vec_capacity, ◌++◌, ◌∷◌, []};
 ghost use Rattle.um_children.specs.Frames.{KeepsChildren};
 ghost use Rattle.um_keeper.specs.Answering.{asked_by, all_asked};
 ghost use Rattle.um_keeper.specs.Receipts.{handed_of};

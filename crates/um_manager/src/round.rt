@@ -3,7 +3,7 @@
 ghost use Rattle.std.specs.Prelude.{◌≡◌, ◌≢◌, ◌⊎◌, ◌↔◌, ◌≤◌, true, Err, IfErr, IsTrue, length, drop};
 ghost use Rattle.um_children.specs.Frames.{KeepsChildren};
 ghost use Rattle.um_manager.specs.Frames.{Frame};
-ghost use Rattle.um_keeper.specs.Keepers.{disk_in, state_in, has_failed, IsSamePlace};
+ghost use Rattle.um_keeper.specs.Keepers.{disk_in, has_failed};
 ghost use Rattle.um_fates.specs.Fates.{tick_at};
 ghost use Rattle.um_manager.specs.Orders.{LetGo};
 ghost use Rattle.um_manager.specs.Places.{place_in};

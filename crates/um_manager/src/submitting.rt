@@ -1,8 +1,8 @@
 //! Inputs offered to the store.
 
-ghost use Rattle.std.specs.Prelude.{◌≡◌, ◌⊎◌, ◌↔◌, ◌+◌, ◌≤◌, ◌++◌, [], true, if◌then◌else◌, Ok, Err, IfErr, IsTrue, map, replicate, vec_len, vec_capacity};
+ghost use Rattle.std.specs.Prelude.{◌≡◌, ◌⊎◌, ◌↔◌, ◌+◌, ◌≤◌, ◌++◌, [], true, if◌then◌else◌, Ok, Err, IfErr, map, replicate, vec_len, vec_capacity};
 ghost use Rattle.um_manager.specs.Frames.{Frame};
-ghost use Rattle.um_keeper.specs.Keepers.{disk_in, state_in, has_failed, IsSamePlace};
+ghost use Rattle.um_keeper.specs.Keepers.{disk_in, has_failed};
 ghost use Rattle.um_model.specs.Machine as model;
 ghost use Rattle.um_sector.specs.Refused.{CountsDevice};
 ghost use Rattle.um_state.specs.View.{reply_of};

@@ -1,6 +1,6 @@
 //! What a round hears of the gate.
 
-ghost use Rattle.std.specs.Prelude.{◌≡◌, ◌≢◌, ◌↔◌, ◌+◌, ◌<◌, ◌≤◌, ◌∷◌, [], ℕ, true, false, IsTrue, vec_len, slice_get, Some};
+ghost use Rattle.std.specs.Prelude.{◌≡◌, ◌≢◌, ◌↔◌, ◌+◌, ◌<◌, ◌≤◌, ◌∷◌, [], ℕ, true, false, vec_len, slice_get, Some};
 ghost use Rattle.um_gate.specs.Frames.{KeepsGate};
 ghost use Rattle.um_gate.specs.Events.{Logs, read};
 ghost use Rattle.um_manager.specs.declared.pieces.Piece.TheVariants.{Nothing};

@@ -1,11 +1,11 @@
 //! Rounds over a gate.
 
-ghost use Rattle.std.specs.Prelude.{◌≡◌, ◌≢◌, ◌⊎◌, ◌↔◌, ◌||◌, nat_lt, ℕ, List, slice_get, true, false, Err, IsTrue, IfErr, IfOk, OnOk, OnErr, length, replicate};
+ghost use Rattle.std.specs.Prelude.{◌≡◌, ◌≢◌, ◌⊎◌, ◌↔◌, ◌||◌, nat_lt, ℕ, List, slice_get, true, false, Err, IfErr, IfOk, OnOk, OnErr, length, replicate};
 ghost use Rattle.um_gate.specs.Frames.{KeepsClock, KeepsGate};
 ghost use Rattle.um_manager.specs.Frames.{Frame};
 ghost use Rattle.um_backlog.specs.Backlog.{nothing, HandsAt};
 ghost use Rattle.um_gate.specs.Events.{Event, Logs};
-ghost use Rattle.um_keeper.specs.Keepers.{disk_in, state_in, layout_in, has_failed, IsSamePlace};
+ghost use Rattle.um_keeper.specs.Keepers.{disk_in, state_in, layout_in, has_failed};
 ghost use Rattle.um_manager.specs.Living.{LivesOn, relying};
 ghost use Rattle.um_manager.specs.Places.{place_in};
 ghost use Rattle.um_manager.specs.Turns.{now_in};
