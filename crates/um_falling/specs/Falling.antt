@@ -21,9 +21,13 @@ sub_of s unit = (state_of_unit s.units unit).sub
 abbrev pub goes : State → List ℕ → Bool
 goes s unit = is_going (active_state_of (sub_of s unit))
 
+-- the neighbour is bound to the unit in whose row it stands
+abbrev pub binds : Neighbour → Bool
+binds n = has (inverse_bit_of BindsTo) n.kinds
+
 -- this neighbour is the unit with the number, and bound to the one in whose row it stands
 abbrev pub is_bound_as : ℕ → Neighbour → Bool
-is_bound_as unit n = (n.unit == unit) && has (inverse_bit_of BindsTo) n.kinds
+is_bound_as unit n = (n.unit == unit) && binds n
 
 -- the unit with the number is bound to the one of the row
 abbrev pub is_bound : List Neighbour → ℕ → Bool

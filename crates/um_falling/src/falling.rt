@@ -2,12 +2,13 @@
 //! (systemd.unit(5), "BindsTo=").
 
 ghost use Rattle.um_falling.specs.Carrying.{Adds};
-ghost use Rattle.std.specs.Prelude.{◌≡◌, ◌++◌, ℕ, List, [], false, map, Contains, IfOk, OnOk, slice_get};
+ghost use Rattle.std.specs.Prelude.{◌≡◌, ◌<◌, ◌++◌, ℕ, List, [], All, false, length, map, Contains, IfOk, OnOk, slice_get};
 ghost use Rattle.um_falling.specs.Carrying.{KeepsOthers, OnlyEnds};
 ghost use Rattle.um_falling.specs.Falling as falls;
 ghost use Rattle.um_falling.specs.Falling.{AddsFalling, AreNamed, StopsIf, StopsOne, falling_from, goes, sub_of};
 ghost use Rattle.um_falling.specs.Over.{Serves};
-ghost use Rattle.um_graph.specs.Graph.{IsGraph, IsNumberOf};
+ghost use Rattle.um_graph.specs.Graph.{IsNumberOf};
+ghost use Rattle.um_graph.specs.Sorted.{IsAscending};
 ghost use Rattle.um_model.specs.Transitions.{comes_to_rest};
 ghost use Rattle.um_model.specs.Waiting.{NoMoreWait};
 ghost use Rattle.um_model.specs.Jobs.{jobs_of_unit};
@@ -34,23 +35,11 @@ fn comes_to_rest(before: SubState, after: SubState) -> bool
     }
 }
 
-/// Whether this neighbour is the unit with the number, and bound to the one in whose row it stands.
-fn is_bound_as(unit: usize, neighbour: Neighbour) -> bool
-    ensures { result ≡ falls.is_bound_as unit neighbour }
+/// Whether the neighbour is bound to the unit in whose row it stands.
+fn is_bound(neighbour: Neighbour) -> bool
+    ensures { result ≡ falls.binds neighbour }
 {
-    neighbour.unit == unit && neighbour.kinds.has_inverse(DependencyKind::BindsTo)
-}
-
-/// Whether the unit with this number is bound to the one of the row.
-fn is_bound(row: &[Neighbour], unit: usize) -> bool
-    ensures { result ≡ falls.is_bound row.now unit }
-{
-    for neighbour in row {
-        if is_bound_as(unit, *neighbour) {
-            return true;
-        }
-    }
-    false
+    neighbour.kinds.has_inverse(DependencyKind::BindsTo)
 }
 
 /// Whether the unit with this number is active or activating.
@@ -66,21 +55,24 @@ fn is_going(graph: &Graph, state: &State, unit: usize) -> bool
     }
 }
 
-/// Puts the units that are bound to the one of the row and are active or activating before the others in the list, by name.
+/// Puts the units that are bound to the one of the row and are active or activating before the others in the list, by name, as they
+/// stand in the row.
 fn push_bound(
     graph: &Graph,
     state: &State,
     list: &mut VecDeque<usize>,
     row: &[Neighbour],
 ) -> Result<(), AllocError>
-    ensures graph { IsGraph graph.now }
-    ensures list { OnOk result (list.new.items ≡ falling_from (state_of state.now) row.now 0 graph.now.names ++ list.old.items) }
+    requires ascends { IsAscending row.now }
+    requires within { All (λ n. n.unit < length graph.now.names) row.now }
+    ensures { OnOk result (list.new.items ≡ falling_from (state_of state.now) row.now 0 graph.now.names ++ list.old.items) }
 {
-    let mut unit = graph.len();
-    while unit > 0 {
-        unit -= 1;
-        if is_bound(row, unit) && is_going(graph, state, unit) {
-            list.push_front(unit)?;
+    let mut place = row.len();
+    while place > 0 {
+        place -= 1;
+        let neighbour = row[place];
+        if is_bound(neighbour) && is_going(graph, state, neighbour.unit) {
+            list.push_front(neighbour.unit)?;
         }
     }
     Ok(())
@@ -99,10 +91,7 @@ fn push_falling(
     if !comes_to_rest(before, state.units().get(unit).sub) {
         return Ok(());
     }
-    let Some(number) = graph.number(unit) else {
-        return Ok(());
-    };
-    push_bound(graph, state, list, graph.neighbours(number))
+    push_bound(graph, state, list, graph.neighbours_of(unit))
 }
 
 /// Carries out what happens to a unit of the graph by itself, and puts the units that fall with it before the others in the list. Told

@@ -63,7 +63,7 @@ keys_ascend loaded o i j d lt le = Less-from_sorted cmp (keys_of loaded.entries)
 pub names_ascend : (loaded : Loaded) (units : List Unit) → map unit_seen units ≡ loaded.entries → tied.IsOrdered cmp loaded → AllPairs IsNamedBefore (names_of units)
 names_ascend loaded units e o = subst (AllPairs IsNamedBefore) (sym (names_seen units ∙ ap keys_of e)) (keys_ascend loaded o)
 
-row_seen : (units : List Unit) (x : ℕ) → row_of (map (λ (u : Unit). values_of u.row.neighbours.entries) units) x ≡ values_of (entries_of units x)
+pub row_seen : (units : List Unit) (x : ℕ) → row_of (map (λ (u : Unit). values_of u.row.neighbours.entries) units) x ≡ values_of (entries_of units x)
 row_seen [] x = refl
 row_seen (u ∷ units) zero = refl
 row_seen (u ∷ units) (suc x) = row_seen units x

@@ -8,7 +8,10 @@ pub mod MapLaws
 pub mod NamedLaws
 pub mod NumberLaws
 pub mod OnceLaws
+pub mod PlaceLaws
+pub mod ResolvedLaws
 pub mod RowLaws
 pub mod SettingLaws
+pub mod SortLaws
 pub mod StandLaws
 pub mod TellLaws

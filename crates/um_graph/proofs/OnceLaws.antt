@@ -10,7 +10,7 @@ use Rattle.um_graph.specs.Rows.{Entries}
 use Rattle.um_graph.specs.declared.row.Neighbour.{Neighbour}
 
 -- the unit of a neighbour is the number under which it stands
-number_at : (es : Entries) → All (λ e. e.0 ≡ e.1.unit) es → (i : ℕ) (n : Neighbour) → i < length es → get_or (keys_of es) i 0 ≡ (get_or (values_of es) i n).unit
+pub number_at : (es : Entries) → All (λ e. e.0 ≡ e.1.unit) es → (i : ℕ) (n : Neighbour) → i < length es → get_or (keys_of es) i 0 ≡ (get_or (values_of es) i n).unit
 number_at [] keyed i n h = absurd (omega arith)
 number_at (e ∷ es) keyed zero n h = keyed 0 e (omega arith)
 number_at (e ∷ es) keyed (suc i) n h = number_at es (λ k d l. keyed (suc k) d (omega arith)) i n (omega arith)

@@ -168,19 +168,19 @@ within_more m (e ∷ es) y n a h = by (nat_eq y e.0) (within_more m es y n (All-
     by true rest = All-cons (λ e. e.0 < m) (e.0, n) es (All-head (λ e. e.0 < m) e es a) (All-tail (λ e. e.0 < m) e es a)
     by false rest = All-cons (λ e. e.0 < m) e (insert_entry nat_eq es y n) (All-head (λ e. e.0 < m) e es a) rest
 
-entries_same : (units : List Unit) (x : ℕ) (r : Unit) → x < length units → entries_of (set units x r) x ≡ r.row.neighbours.entries
+pub entries_same : (units : List Unit) (x : ℕ) (r : Unit) → x < length units → entries_of (set units x r) x ≡ r.row.neighbours.entries
 entries_same [] x r h = absurd (omega arith)
 entries_same (q ∷ units) zero r h = refl
 entries_same (q ∷ units) (suc x) r h = entries_same units x r (omega arith)
 
-entries_other : (units : List Unit) (x z : ℕ) (r : Unit) → z ≢ x → entries_of (set units x r) z ≡ entries_of units z
+pub entries_other : (units : List Unit) (x z : ℕ) (r : Unit) → z ≢ x → entries_of (set units x r) z ≡ entries_of units z
 entries_other [] x z r ne = refl
 entries_other (q ∷ units) zero zero r ne = absurd (ne refl)
 entries_other (q ∷ units) zero (suc z) r ne = refl
 entries_other (q ∷ units) (suc x) zero r ne = refl
 entries_other (q ∷ units) (suc x) (suc z) r ne = entries_other units x z r (λ e. ne (ap suc e))
 
-entries_read : (units : List Unit) (x : ℕ) (q : Unit) → x < length units → q ≡ get_or units x q → entries_of units x ≡ q.row.neighbours.entries
+pub entries_read : (units : List Unit) (x : ℕ) (q : Unit) → x < length units → q ≡ get_or units x q → entries_of units x ≡ q.row.neighbours.entries
 entries_read [] x q h e = absurd (omega arith)
 entries_read (r ∷ units) zero q h e = ap (λ (s : Unit). s.row.neighbours.entries) (sym e)
 entries_read (r ∷ units) (suc x) q h e = entries_read units x q (omega arith) e

@@ -2,8 +2,10 @@ pub mod Kinds
 pub mod Graph
 pub mod Tells
 pub mod Known
+pub mod Resolved
 pub mod Rows
 pub mod Edges
+pub mod Sorted
 pub mod View
 pub mod Named
 pub mod Listed

@@ -1,26 +1,35 @@
 //! The edges of a graph: what was told, by numbers, and what follows from it.
 
-ghost use Rattle.std.specs.Prelude.{◌≡◌, ◌<◌, [], All, AllPairs, IfOk, IfSome, vec_len};
+ghost use Rattle.std.specs.Prelude.{◌≡◌, ◌<◌, [], All, AllPairs, IfOk, IfSome, length, vec_len};
 ghost use Rattle.std.specs.List.{flat_map};
 ghost use Rattle.std.specs.Option.{option_to_list};
 ghost use Rattle.um_model.specs.Least.{IsNamedBefore};
 ghost use Rattle.um_model.specs.Names.{is_target};
-ghost use Rattle.um_graph.specs.Edges.{AreJoined, comes_after, declines, edge_seen, names_of, order_seen, pulled};
+ghost use Rattle.um_graph.specs.Edges.{AreJoined, comes_after, declines, edge_seen, names_of, number_in, order_seen, pulled};
 ghost use Rattle.um_graph.specs.Rows.{AreRows};
+ghost use Rattle.um_graph.specs.Sorted.{AreSorted};
 
 use crate::told::{Link, Told, loadable};
 use crate::units::{Edge, Pair, Unit, Units};
 use std::alloc::{AllocError, Global};
 use um_model::{DependencyKind, Suffix};
+use um_name::{Names, UnitName};
+
+/// The number of a name, if it has one.
+fn number_of(names: &Names, name: &UnitName) -> Option<usize>
+    ensures number { result ≡ number_in names.now name.now }
+    ensures within { IfSome result (λ i. i < length names.now) }
+{
+    names.number(name)
+}
 
 /// What was told by numbers; none where it is told of one unit.
-fn edge_of(units: &Units, told: &Told) -> Option<Edge>
-    requires { AllPairs IsNamedBefore (names_of units.now.units.items) }
-    ensures edge { option_to_list result ≡ edge_seen (names_of units.now.units.items) told.now }
-    ensures within { IfSome result (λ e. (e.from < vec_len units.now.units) × (e.to < vec_len units.now.units)) }
+fn edge_of(names: &Names, told: &Told) -> Option<Edge>
+    ensures edge { option_to_list result ≡ edge_seen names.now told.now }
+    ensures within { IfSome result (λ e. (e.from < length names.now) × (e.to < length names.now)) }
 {
-    let from = units.number(&told.from)?;
-    let to = units.number(&told.to)?;
+    let from = number_of(names, &told.from)?;
+    let to = number_of(names, &told.to)?;
     if from == to {
         return None;
     }
@@ -32,14 +41,13 @@ fn edge_of(units: &Units, told: &Told) -> Option<Edge>
 }
 
 /// All that was told, by numbers.
-fn edges_of(alloc: Global, units: &Units, told: &[Told]) -> Result<Vec<Edge>, AllocError>
-    requires { AllPairs IsNamedBefore (names_of units.now.units.items) }
-    ensures edges { IfOk result (λ es. es.items ≡ flat_map (edge_seen (names_of units.now.units.items)) told.now) }
-    ensures within { IfOk result (λ es. All (λ e. (e.from < vec_len units.now.units) × (e.to < vec_len units.now.units)) es.items) }
+fn edges_of(alloc: Global, names: &Names, told: &[Told]) -> Result<Vec<Edge>, AllocError>
+    ensures edges { IfOk result (λ es. es.items ≡ flat_map (edge_seen names.now) told.now) }
+    ensures within { IfOk result (λ es. All (λ e. (e.from < length names.now) × (e.to < length names.now)) es.items) }
 {
     let mut edges = Vec::new(alloc);
     for each in told {
-        if let Some(edge) = edge_of(units, each) {
+        if let Some(edge) = edge_of(names, each) {
             edges.push(edge)?;
         }
     }
@@ -124,16 +132,20 @@ fn orders_of(alloc: Global, units: &Units, edges: &[Edge]) -> Result<Vec<Pair>, 
     Ok(orders)
 }
 
-/// The units joined by what was told of them: first by dependencies and what is declared, then by the order that follows.
+/// The units joined by what was told of them: first by dependencies and what is declared, then by the order that follows. Each row
+/// stands in the order of its numbers.
 pub(crate) fn joined(alloc: Global, units: Units, told: &[Told]) -> Result<Units, AllocError>
     requires sorted { AllPairs IsNamedBefore (names_of units.units.items) }
     requires rows { AreRows [] units.units.items }
-    ensures { IfOk result (λ new. AreJoined told.now units.units.items new.units.items) }
+    ensures joined { IfOk result (λ new. AreJoined told.now units.units.items new.units.items) }
+    ensures sorted { IfOk result (λ new. AreSorted new.units.items) }
 {
     let mut units = units;
-    let edges = edges_of(alloc, &units, told)?;
+    let names = units.names(alloc)?;
+    let edges = edges_of(alloc, &names, told)?;
     units.add_edges(edges.as_slice())?;
     let orders = orders_of(alloc, &units, edges.as_slice())?;
     units.add_pairs(orders.as_slice())?;
+    units.sort_rows()?;
     Ok(units)
 }

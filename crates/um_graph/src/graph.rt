@@ -1,9 +1,10 @@
-ghost use Rattle.std.specs.Prelude.{◌≡◌, ◌⊎◌, Option, Some, Contains, IfOk, IfErr, MatchOption, length, max, option_copied, slice_get, unwrap_or};
+ghost use Rattle.std.specs.Prelude.{◌≡◌, ◌⊎◌, ◌<◌, ℕ, All, Option, Some, Contains, IfOk, IfErr, MatchOption, length, max, option_copied, slice_get, unwrap_or};
 ghost use Rattle.um_model.specs.Dependencies.{CountsFor, KnowsTooMany};
 ghost use Rattle.um_model.specs.Tree.{without_run};
 ghost use Rattle.um_graph.specs.Edges.{AreUnits};
-ghost use Rattle.um_graph.specs.Graph.{GraphView, IsGraph, IsGraphOf, row_of};
+ghost use Rattle.um_graph.specs.Graph.{GraphView, IsGraph, IsGraphOf, IsNumberOf, row_of};
 ghost use Rattle.um_graph.specs.Known.{CountsLasting};
+ghost use Rattle.um_graph.specs.Sorted.{AreSorted, IsAscending, IsSortedGraph};
 ghost use Rattle.um_graph.specs.View.{graph_of};
 ghost use Rattle.um_wire.specs.declared.refusal.Refusal.TheVariants as refusals;
 ghost use Rattle.um_model.specs.declared.refusals.Limit.TheVariants as limits;
@@ -32,7 +33,7 @@ impl Model for Graph {
 
     ghost view = { λ g. graph_of g.units.units.items g.count };
 
-    ghost invariant = { λ g. IsGraph (graph_of g.units.units.items g.count) };
+    ghost invariant = { λ g. IsSortedGraph (graph_of g.units.units.items g.count) };
 }
 
 impl Graph {
@@ -100,7 +101,7 @@ impl Graph {
         }
     }
 
-    /// The neighbours of the unit with this number; none past the last unit.
+    /// The neighbours of the unit with this number, in the order of their numbers; none past the last unit.
     pub fn neighbours(&self, unit: usize) -> &[Neighbour]
         ensures { result.now ≡ row_of self.now.rows unit }
     {
@@ -108,6 +109,20 @@ impl Graph {
             Some(unit) => unit.row.neighbours(),
             None => &[],
         }
+    }
+
+    /// The neighbours of the unit of this name, in the order of their numbers; none where it isn't known.
+    pub fn neighbours_of(&self, name: &UnitName) -> &[Neighbour]
+        ensures row { (unit : ℕ) → IsNumberOf self.now unit name.now → result.now ≡ row_of self.now.rows unit }
+        ensures ascends { IsAscending result.now }
+        ensures within { All (λ n. n.unit < length self.now.names) result.now }
+    {
+        // the proof reads here that the rows ascend
+        let _ = &self.units;
+        let Some(unit) = self.number(name) else {
+            return &[];
+        };
+        self.neighbours(unit)
     }
 }
 
@@ -136,9 +151,10 @@ fn greater(count: usize, other: Option<usize>) -> usize
     }
 }
 
-/// The known units, joined by what they tell.
+/// The known units, joined by what they tell. Each row stands in the order of its numbers.
 fn joined_units(alloc: Global, known: Known) -> Result<Units, AllocError>
-    ensures { IfOk result (λ u. AreUnits known.loaded known.told.items u.units.items) }
+    ensures units { IfOk result (λ u. AreUnits known.loaded known.told.items u.units.items) }
+    ensures sorted { IfOk result (λ u. AreSorted u.units.items) }
 {
     let Known { loaded, told, .. } = known;
     let units = Units::of(alloc, loaded)?;

@@ -13,6 +13,7 @@ ghost use Rattle.um_graph.specs.Tells.{told_where};
 ghost use Rattle.um_graph.specs.Known.{IsUnderWay, LeavesOut, ends_left, loading_at, unless_followed};
 
 use crate::entries::Found;
+use crate::resolved::Resolved;
 use crate::told::{Told, loadable, told_by};
 use std::alloc::{AllocError, Global};
 use std::collections::BTreeMap;
@@ -107,29 +108,41 @@ impl Known {
     }
 
     /// What the settings of the unit tell is kept, if it can be loaded.
-    fn take_unit(&mut self, alloc: Global, tree: &Tree, loading: &Loading) -> Result<(), AllocError>
+    fn take_unit(
+        &mut self,
+        alloc: Global,
+        resolved: &mut Resolved<'_>,
+        loading: &Loading,
+    ) -> Result<(), AllocError>
         ensures left { OnOk result (self.new.left.items
-            ≡ self.old.left.items ++ flat_map (ends_left self.old.loaded) (told_where tree.now (loadable_of (loading_of loading.now)))) }
+            ≡ self.old.left.items ++ flat_map (ends_left self.old.loaded) (told_where resolved.old (loadable_of (loading_of loading.now)))) }
         ensures loaded { OnOk result (self.new.loaded ≡ self.old.loaded) }
-        ensures told { OnOk result (self.new.told.items ≡ self.old.told.items ++ told_where tree.now (loadable_of (loading_of loading.now))) }
+        ensures told { OnOk result (self.new.told.items ≡ self.old.told.items ++ told_where resolved.old (loadable_of (loading_of loading.now))) }
+        ensures tree { resolved.new ≡ resolved.old }
     {
         if let Some(unit) = loadable(loading) {
-            self.take(told_by(alloc, tree, unit)?)?;
+            self.take(told_by(alloc, resolved, unit)?)?;
         }
         Ok(())
     }
 
     /// Follows a name: its unit is loaded, once. Tells how many were by then.
-    fn follow(&mut self, alloc: Global, tree: &Tree, name: UnitName) -> Result<usize, AllocError>
-        ensures whole { OnOk result ((extra : List (List ℕ)) → IsUnderWay tree.now extra self.old.loaded (self.old.left.items ++ name ∷ []) self.old.told.items
-            → IsUnderWay tree.now extra self.new.loaded self.new.left.items self.new.told.items) }
+    fn follow(
+        &mut self,
+        alloc: Global,
+        resolved: &mut Resolved<'_>,
+        name: UnitName,
+    ) -> Result<usize, AllocError>
+        ensures whole { OnOk result ((extra : List (List ℕ)) → IsUnderWay resolved.old extra self.old.loaded (self.old.left.items ++ name ∷ []) self.old.told.items
+            → IsUnderWay resolved.old extra self.new.loaded self.new.left.items self.new.told.items) }
         ensures count { OnOk result (loading_at self.old.loaded name ≡ None
             → btree_map_len self.new.loaded ≡ btree_map_len self.old.loaded + 1) }
         ensures ordered { OnOk result (IsOrdered (slice_cmp nat_cmp) self.new.loaded) }
         ensures told { IfOk result (λ followed. followed ≡ btree_map_len self.new.loaded) }
+        ensures tree { resolved.new ≡ resolved.old }
     {
-        let loading = load(alloc, tree, &name)?;
-        self.take_unit(alloc, tree, &loading)?;
+        let loading = load(alloc, resolved.tree(), &name)?;
+        self.take_unit(alloc, resolved, &loading)?;
         self.loaded.insert(name, loading)?;
         Ok(self.loaded.len())
     }
@@ -143,11 +156,12 @@ impl Known {
             → (e ≡ refusals.TooLarge limits.Units) × KnowsTooMany tree.now (Contains extra.now)) }
     {
         let mut known = Known::begin(alloc, tree, extra)?;
+        let mut resolved = Resolved::new(alloc, tree);
         for _ in 0..UNIT_LIMIT + 1 {
             let Some(name) = known.next() else {
                 return Ok(known);
             };
-            known.follow(alloc, tree, name)?;
+            known.follow(alloc, &mut resolved, name)?;
         }
         Err(Refusal::TooLarge {
             limit: Limit::Units,
@@ -160,8 +174,9 @@ impl Known {
         ensures count { IfOk result (λ k. KnowsSoMany tree.now (Contains extra.now) (btree_map_len k.loaded)) }
     {
         let mut known = Known::begin(alloc, tree, extra)?;
+        let mut resolved = Resolved::new(alloc, tree);
         while let Some(name) = known.next() {
-            known.follow(alloc, tree, name)?;
+            known.follow(alloc, &mut resolved, name)?;
         }
         Ok(known)
     }

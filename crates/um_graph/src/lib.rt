@@ -9,6 +9,7 @@ mod graph;
 mod kinds;
 mod known;
 mod lists;
+mod resolved;
 mod row;
 mod told;
 mod units;

@@ -1,5 +1,7 @@
 ghost use Rattle.std.specs.Prelude.{◌≡◌, [], OnOk, nat_eq};
-ghost use Rattle.indexmap.specs.IndexMap.{IsUnique, values};
+ghost use Rattle.std.specs.List.Sorted.{IsSorted};
+ghost use Rattle.std.specs.Ordering.{nat_cmp};
+ghost use Rattle.indexmap.specs.IndexMap.{IsReordered, IsUnique, keys, values};
 ghost use Rattle.um_graph.specs.Rows.{found_or_new, with_kind};
 
 use crate::kinds::Kinds;
@@ -32,7 +34,7 @@ impl Row {
         }
     }
 
-    /// The neighbours in the order in which they came.
+    /// The neighbours in the order in which they came, or that of their numbers where they were sorted since.
     pub(crate) fn neighbours(&self) -> &[Neighbour]
         ensures { result.now ≡ values self.now.neighbours }
     {
@@ -61,5 +63,14 @@ impl Row {
         neighbour.kinds.insert(kinds);
         self.neighbours.insert(unit, neighbour)?;
         Ok(())
+    }
+
+    /// Puts the neighbours in the order of their numbers.
+    pub(crate) fn sort(&mut self) -> Result<(), AllocError>
+        ensures sorted { OnOk result (IsSorted nat_cmp (keys self.new.neighbours)) }
+        ensures same { IsReordered nat_eq self.old.neighbours self.new.neighbours }
+        ensures unique { IsUnique nat_eq self.new.neighbours }
+    {
+        self.neighbours.sort_keys()
     }
 }

@@ -9,6 +9,7 @@ ghost use Rattle.um_model.specs.Units.{unit_named};
 ghost use Rattle.um_unit.specs.View.{loading_of, unit_of as loaded_of};
 ghost use Rattle.um_graph.specs.Tells.{defaults_told, follows_by, names_given, needs_told, shutdown_told, told_of};
 
+use crate::resolved::Resolved;
 use std::alloc::{AllocError, Global};
 use um_model::DependencyKind;
 use um_name::UnitName;
@@ -60,20 +61,21 @@ pub(crate) fn loadable(loading: &Loading) -> Option<&LoadedUnit>
 /// Adds that the unit stands so to each of these.
 fn tell_all(
     alloc: Global,
-    tree: &Tree,
+    resolved: &mut Resolved<'_>,
     told: &mut Vec<Told>,
     link: Link,
     unit: &UnitName,
     names: &[String],
 ) -> Result<(), AllocError>
-    ensures { OnOk result (told.new.items ≡ told.old.items ++ flat_map (names_given tree.now link unit.now) (map string_bytes names.now)) }
+    ensures told { OnOk result (told.new.items ≡ told.old.items ++ flat_map (names_given resolved.old link unit.now) (map string_bytes names.now)) }
+    ensures tree { resolved.new ≡ resolved.old }
 {
     for name in names {
         if let Some(name) = UnitName::named(alloc, name.as_str())? {
             told.push(Told {
                 link,
                 from: unit.copy()?,
-                to: unit_of(alloc, tree, &name)?,
+                to: resolved.unit(alloc, name)?,
             })?;
         }
     }
@@ -83,18 +85,19 @@ fn tell_all(
 /// Adds that each of these is declared before the unit.
 fn tell_earlier(
     alloc: Global,
-    tree: &Tree,
+    resolved: &mut Resolved<'_>,
     told: &mut Vec<Told>,
     unit: &UnitName,
     names: &[String],
 ) -> Result<(), AllocError>
-    ensures { OnOk result (told.new.items ≡ told.old.items ++ flat_map (follows_by tree.now unit.now) (map string_bytes names.now)) }
+    ensures told { OnOk result (told.new.items ≡ told.old.items ++ flat_map (follows_by resolved.old unit.now) (map string_bytes names.now)) }
+    ensures tree { resolved.new ≡ resolved.old }
 {
     for name in names {
         if let Some(name) = UnitName::named(alloc, name.as_str())? {
             told.push(Told {
                 link: Link::Declared,
-                from: unit_of(alloc, tree, &name)?,
+                from: resolved.unit(alloc, name)?,
                 to: unit.copy()?,
             })?;
         }
@@ -119,16 +122,17 @@ fn shutdown_target(alloc: Global) -> Result<Option<UnitName>, AllocError>
 /// Adds that the unit conflicts with `shutdown.target` and comes before it.
 fn tell_shutdown(
     alloc: Global,
-    tree: &Tree,
+    resolved: &mut Resolved<'_>,
     told: &mut Vec<Told>,
     unit: &UnitName,
 ) -> Result<(), AllocError>
-    ensures { OnOk result (told.new.items ≡ told.old.items ++ shutdown_told tree.now unit.now (named shutdown_target)) }
+    ensures told { OnOk result (told.new.items ≡ told.old.items ++ shutdown_told resolved.old unit.now (named shutdown_target)) }
+    ensures tree { resolved.new ≡ resolved.old }
 {
     let Some(name) = shutdown_target(alloc)? else {
         return Ok(());
     };
-    let shutdown = unit_of(alloc, tree, &name)?;
+    let shutdown = resolved.unit(alloc, name)?;
     told.push(Told {
         link: Link::Depends(DependencyKind::Conflicts),
         from: unit.copy()?,
@@ -145,14 +149,15 @@ fn tell_shutdown(
 /// Adds what follows from default dependencies.
 fn tell_defaults(
     alloc: Global,
-    tree: &Tree,
+    resolved: &mut Resolved<'_>,
     told: &mut Vec<Told>,
     unit: &LoadedUnit,
 ) -> Result<(), AllocError>
-    ensures { OnOk result (told.new.items ≡ told.old.items ++ defaults_told tree.now (loaded_of unit.now)) }
+    ensures told { OnOk result (told.new.items ≡ told.old.items ++ defaults_told resolved.old (loaded_of unit.now)) }
+    ensures tree { resolved.new ≡ resolved.old }
 {
     if has_defaults(unit) {
-        tell_shutdown(alloc, tree, told, &unit.name)?;
+        tell_shutdown(alloc, resolved, told, &unit.name)?;
     }
     Ok(())
 }
@@ -160,11 +165,12 @@ fn tell_defaults(
 /// Adds that the unit depends on those that its settings name.
 fn tell_needs(
     alloc: Global,
-    tree: &Tree,
+    resolved: &mut Resolved<'_>,
     told: &mut Vec<Told>,
     unit: &LoadedUnit,
 ) -> Result<(), AllocError>
-    ensures { OnOk result (told.new.items ≡ told.old.items ++ needs_told tree.now (loaded_of unit.now)) }
+    ensures told { OnOk result (told.new.items ≡ told.old.items ++ needs_told resolved.old (loaded_of unit.now)) }
+    ensures tree { resolved.new ≡ resolved.old }
 {
     let names = &unit.settings.dependencies;
     let wants = Link::Depends(DependencyKind::Wants);
@@ -172,10 +178,17 @@ fn tell_needs(
     let binds_to = Link::Depends(DependencyKind::BindsTo);
     let part_of = Link::Depends(DependencyKind::PartOf);
     let conflicts = Link::Depends(DependencyKind::Conflicts);
-    tell_all(alloc, tree, told, wants, &unit.name, names.wants.as_slice())?;
     tell_all(
         alloc,
-        tree,
+        resolved,
+        told,
+        wants,
+        &unit.name,
+        names.wants.as_slice(),
+    )?;
+    tell_all(
+        alloc,
+        resolved,
         told,
         required,
         &unit.name,
@@ -183,7 +196,7 @@ fn tell_needs(
     )?;
     tell_all(
         alloc,
-        tree,
+        resolved,
         told,
         binds_to,
         &unit.name,
@@ -191,7 +204,7 @@ fn tell_needs(
     )?;
     tell_all(
         alloc,
-        tree,
+        resolved,
         told,
         part_of,
         &unit.name,
@@ -199,7 +212,7 @@ fn tell_needs(
     )?;
     tell_all(
         alloc,
-        tree,
+        resolved,
         told,
         conflicts,
         &unit.name,
@@ -211,23 +224,30 @@ fn tell_needs(
 /// All that the settings of the unit tell.
 pub(crate) fn told_by(
     alloc: Global,
-    tree: &Tree,
+    resolved: &mut Resolved<'_>,
     unit: &LoadedUnit,
 ) -> Result<Vec<Told>, AllocError>
-    ensures { IfOk result (λ told. told.items ≡ told_of tree.now (loaded_of unit.now)) }
+    ensures told { IfOk result (λ told. told.items ≡ told_of resolved.old (loaded_of unit.now)) }
+    ensures tree { resolved.new ≡ resolved.old }
 {
     let mut told = Vec::new(alloc);
     let names = &unit.settings.dependencies;
-    tell_needs(alloc, tree, &mut told, unit)?;
+    tell_needs(alloc, resolved, &mut told, unit)?;
     tell_all(
         alloc,
-        tree,
+        resolved,
         &mut told,
         Link::Declared,
         &unit.name,
         names.before.as_slice(),
     )?;
-    tell_earlier(alloc, tree, &mut told, &unit.name, names.after.as_slice())?;
-    tell_defaults(alloc, tree, &mut told, unit)?;
+    tell_earlier(
+        alloc,
+        resolved,
+        &mut told,
+        &unit.name,
+        names.after.as_slice(),
+    )?;
+    tell_defaults(alloc, resolved, &mut told, unit)?;
     Ok(told)
 }

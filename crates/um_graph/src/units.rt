@@ -8,13 +8,14 @@ ghost use Rattle.std.specs.Ordering.{nat_cmp};
 ghost use Rattle.um_model.specs.Least.{IsNamedBefore};
 ghost use Rattle.um_graph.specs.Edges.{edge_bonds, names_of, number_in, pair_bonds, unit_seen};
 ghost use Rattle.um_graph.specs.Rows.{AreRows, Bond};
+ghost use Rattle.um_graph.specs.Sorted.{AreSorted, SortsRow};
 
 use crate::kinds::{Kinds, inverse_of, kinds_of};
 use crate::row::Row;
 use crate::told::Link;
 use std::alloc::{AllocError, Global};
 use std::collections::BTreeMap;
-use um_name::UnitName;
+use um_name::{Names, UnitName};
 use um_unit::Loading;
 
 /// A unit of the graph.
@@ -74,6 +75,27 @@ impl Units {
         ensures within { IfSome result (λ i. i < vec_len self.now.units) }
     {
         self.units.binary_search_by(|unit| unit.name.cmp(name)).ok()
+    }
+
+    /// Their names again.
+    fn copies(&self, alloc: Global) -> Result<Vec<UnitName>, AllocError>
+        ensures { IfOk result (λ copies. copies.items ≡ names_of self.now.units.items) }
+    {
+        let mut copies = Vec::new(alloc);
+        for unit in &self.units {
+            copies.push(unit.name.copy()?)?;
+        }
+        Ok(copies)
+    }
+
+    /// Their names with the same numbers.
+    pub(crate) fn names(&self, alloc: Global) -> Result<Names, AllocError>
+        requires { AllPairs IsNamedBefore (names_of self.now.units.items) }
+        ensures { IfOk result (λ names. names ≡ names_of self.now.units.items) }
+    {
+        let copies = self.copies(alloc)?;
+        let names = Names::of(alloc, copies.as_slice())?;
+        Ok(names)
     }
 
     /// Adds that x stands to y in this way.
@@ -163,6 +185,29 @@ impl Units {
     {
         for pair in pairs {
             self.add_pair(*pair)?;
+        }
+        Ok(())
+    }
+
+    /// Puts the row of the unit with this number in the order of its numbers.
+    fn sort_row(&mut self, x: usize) -> Result<(), AllocError>
+        requires { x < vec_len self.old.units }
+        ensures same { OnOk result (map unit_seen self.new.units.items ≡ map unit_seen self.old.units.items) }
+        ensures len { OnOk result (vec_len self.new.units ≡ vec_len self.old.units) }
+        ensures sorts { OnOk result ((bonds : List Bond) → AreRows bonds self.old.units.items → SortsRow bonds x self.old.units.items self.new.units.items) }
+    {
+        self.units[x].row.sort()?;
+        Ok(())
+    }
+
+    /// Puts each row in the order of its numbers.
+    pub(crate) fn sort_rows(&mut self) -> Result<(), AllocError>
+        ensures same { OnOk result (map unit_seen self.new.units.items ≡ map unit_seen self.old.units.items) }
+        ensures sorts { OnOk result ((bonds : List Bond) → AreRows bonds self.old.units.items
+            → AreRows bonds self.new.units.items × AreSorted self.new.units.items) }
+    {
+        for x in 0..self.units.len() {
+            self.sort_row(x)?;
         }
         Ok(())
     }

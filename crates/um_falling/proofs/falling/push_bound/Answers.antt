@@ -1,48 +1,69 @@
-use Rattle.std.proofs.Common.{◌≡◌, ◌∙◌, ◌-◌, ◌&&◌, suc, Bool, true, false, [], get_or, refl, sym, ap, arith}
+use Rattle.std.proofs.Common.{rules, ◌≡◌, ◌∙◌, ◌-◌, ◌<◌, ◌&&◌, ◌++◌, suc, Bool, true, false, drop, get_or, length, refl, sym, ap, arith}
+use Rattle.um_graph.specs.declared.row.Neighbour.{Neighbour}
 use Rattle.um_state.specs.View.{state_of}
-use Rattle.um_falling.specs.Falling.{goes, is_bound}
-use Rattle.um_falling.proofs.BoundLaws.{has_name, none_more, none_past, one_more}
+use Rattle.um_falling.specs.Falling.{binds, goes}
+use Rattle.um_falling.proofs.BoundLaws.{all_fall, falling_in, has_name, name_of, none_more, none_past, one_more}
 use Rattle.um_falling.proofs.falling.push_bound.Goals as goal
 use Rattle.um_falling.proofs.falling.push_bound.Goals.{else-is_bound-via-then-is_bound+else-is_going, else-is_bound-via-else-is_bound}
 
-pub loop-unit-init : goal.loop-unit-init
-loop-unit-init c = record {
-  list = none_past (state_of c.args.state.now) c.args.row.now c.args.graph.now c.len-unit.result c.args.list.now.items c.len-unit.ensures.len;
-  within = omega (arith, c.len-unit.ensures.len);
+-- what an index past the end would read
+abbrev absent : Neighbour
+absent = record { unit = 0; kinds = record { 0 = 0 } }
+
+pub loop-place-init : goal.loop-place-init
+loop-place-init c = record {
+  list = none_past (state_of c.args.state.now) c.args.graph.now c.args.row.now _ c.args.list.now.items (search rules);
+  within = omega arith;
 }
 
-pub loop-unit-preserved-then-is_going : goal.loop-unit-preserved-then-is_going
-loop-unit-preserved-then-is_going c =
+pub loop-place-preserved-then-is_going : goal.loop-place-preserved-then-is_going
+loop-place-preserved-then-is_going c =
     let s = state_of c.args.state.now in
-    let u = c.loop-unit.unit - 1 in
-    let is : c.loop-unit.unit ≡ suc u = omega (arith, c.loop-unit-test.true) in
-    let named = has_name s c.args.row.now c.args.graph.now u c.loop-unit.unit is c.loop-unit.invariant.within in
-    let going = sym (c.is_going.ensures (get_or c.args.graph.now.names u []) named) ∙ c.if-is_going.true in
+    let g = c.args.graph.now in
+    let row = c.args.row.now in
+    let p = c.loop-place.place - 1 in
+    let is : c.loop-place.place ≡ suc p = omega (arith, c.loop-place-test.true) in
+    let within = c.loop-place.invariant.within in
+    let n = get_or row p absent in
+    let below : n.unit < length g.names = c.requires.within p absent (omega (arith, is, within)) in
+    let going = sym (c.is_going.ensures (name_of s g n.unit) (has_name s g n.unit below)) ∙ c.if-is_going.true in
     record {
       list =
-          one_more s c.args.row.now c.args.graph.now u c.loop-unit.unit is c.loop-unit.invariant.within c.args.list.now.items c.loop-unit.list.items c.push_front.new.self.items
-          (sym c.is_bound.ensures ∙ c.if-is_bound.true) going c.loop-unit.invariant.list c.in_ok-push_front.ensures.items;
-      within = omega (arith, c.loop-unit.invariant.within);
+          one_more s g row absent p c.loop-place.place is within c.args.list.now.items c.loop-place.list.items c.push_front.new.self.items
+          (sym c.is_bound.ensures ∙ c.if-is_bound.true) going c.loop-place.invariant.list c.in_ok-push_front.ensures.items;
+      within = omega (arith, within);
     }
 
-pub loop-unit-preserved : goal.loop-unit-preserved
-loop-unit-preserved c =
+pub loop-place-preserved : goal.loop-place-preserved
+loop-place-preserved c =
     let s = state_of c.args.state.now in
-    let u = c.loop-unit.unit - 1 in
-    let is : c.loop-unit.unit ≡ suc u = omega (arith, c.loop-unit-test.true) in
-    let within = c.loop-unit.invariant.within in
-    let named = has_name s c.args.row.now c.args.graph.now u c.loop-unit.unit is within in
-    let none : (is_bound c.args.row.now u && goes s (get_or c.args.graph.now.names u [])) ≡ false = elim c.else-is_bound.branch [
+    let g = c.args.graph.now in
+    let row = c.args.row.now in
+    let p = c.loop-place.place - 1 in
+    let is : c.loop-place.place ≡ suc p = omega (arith, c.loop-place-test.true) in
+    let within = c.loop-place.invariant.within in
+    let n = get_or row p absent in
+    let below : n.unit < length g.names = c.requires.within p absent (omega (arith, is, within)) in
+    let none : (binds n && goes s (name_of s g n.unit)) ≡ false = elim c.else-is_bound.branch [
       | else-is_bound-via-then-is_bound+else-is_going w ↦
-          and_false (is_bound c.args.row.now u) (goes s (get_or c.args.graph.now.names u []))
-          (sym (w.is_going.ensures (get_or c.args.graph.now.names u []) named) ∙ w.if-is_going.false)
-      | else-is_bound-via-else-is_bound w ↦ ap (λ b. b && goes s (get_or c.args.graph.now.names u [])) (sym c.is_bound.ensures ∙ w.if-is_bound.false)
+          and_false (binds n) (goes s (name_of s g n.unit)) (sym (w.is_going.ensures (name_of s g n.unit) (has_name s g n.unit below)) ∙ w.if-is_going.false)
+      | else-is_bound-via-else-is_bound w ↦ ap (λ b. b && goes s (name_of s g n.unit)) (sym c.is_bound.ensures ∙ w.if-is_bound.false)
     ] in
     record {
-      list = none_more s c.args.row.now c.args.graph.now u c.loop-unit.unit is within c.args.list.now.items c.loop-unit.list.items none c.loop-unit.invariant.list;
+      list = none_more s g row absent p c.loop-place.place is within c.args.list.now.items c.loop-place.list.items none c.loop-place.invariant.list;
       within = omega (arith, within);
     }
   where
     and_false : (a b : Bool) → b ≡ false → (a && b) ≡ false
     and_false true b e = e
     and_false false b e = refl
+
+pub returns : goal.returns
+returns c =
+    let s = state_of c.args.state.now in
+    let g = c.args.graph.now in
+    let row = c.args.row.now in
+    let none : c.loop-place.place ≡ 0 = omega (arith, c.loop-place-test.false) in
+    c.loop-place.invariant.list
+    ∙ ap (λ k. falling_in s g (drop k row) ++ c.args.list.now.items) none
+    ∙ ap (λ l. l ++ c.args.list.now.items) (sym (all_fall s g row c.requires.ascends c.requires.within))

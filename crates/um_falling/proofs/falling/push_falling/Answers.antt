@@ -1,6 +1,5 @@
 use Rattle.std.proofs.Common.{◌≡◌, ◌∙◌, ◌++◌, ℕ, List, [], true, cond, Result, Ok, Err, OnOk, sym, ap}
-use Rattle.um_graph.proofs.NamedLaws.{got_within, name_is, names_once}
-use Rattle.um_graph.specs.Graph.{GraphView, IsGraph, IsNumberOf, row_of}
+use Rattle.um_graph.specs.Graph.{GraphView, IsNumberOf, row_of}
 use Rattle.um_graph.specs.declared.row.Neighbour.{Neighbour}
 use Rattle.um_model.specs.Machine.{State}
 use Rattle.um_model.specs.Transitions.{comes_to_rest}
@@ -15,24 +14,20 @@ then_ok : {T E P Q : Type 0} (r : Result T E) → (P → Q) → OnOk r P → OnO
 then_ok (Ok x) f h = f h
 then_ok (Err e) f h = h
 
--- the unit with this number is the one of this name, and no other
-adds_row : (g : GraphView) (s : State) (before : SubState) (name : List ℕ) (number : ℕ) (around : List Neighbour) (list after : List ℕ) → IsGraph g → IsNumberOf g number name
-    → around ≡ row_of g.rows number → comes_to_rest before (sub_of s name) ≡ true → after ≡ falling_from s around 0 g.names ++ list → AddsFalling g s before name list after
-adds_row g s before name number around list after graph is row_is rests e unit other =
+-- the row is that of the unit of this name
+adds_row : (g : GraphView) (s : State) (before : SubState) (name : List ℕ) (around : List Neighbour) (list after : List ℕ)
+    → ((unit : ℕ) → IsNumberOf g unit name → around ≡ row_of g.rows unit) → comes_to_rest before (sub_of s name) ≡ true
+    → after ≡ falling_from s around 0 g.names ++ list → AddsFalling g s before name list after
+adds_row g s before name around list after row_is rests e unit is =
     e ∙ ap (λ l. l ++ list) (
-    ap (λ r. falling_from s r 0 g.names) (row_is ∙ ap (row_of g.rows) same)
+    ap (λ r. falling_from s r 0 g.names) (row_is unit is)
     ∙ sym (ap (λ b. cond b (falling_from s (row_of g.rows unit) 0 g.names) []) rests))
-  where
-    same : number ≡ unit
-    same =
-        names_once g.names graph.sorted number unit (got_within g.names number name is) (got_within g.names unit name other)
-        (name_is g.names number name is ∙ sym (name_is g.names unit name other))
 
 pub returns : goal.returns
 returns c =
     then_ok c.push_bound.result
-    (adds_row c.args.graph.now (state_of c.args.state.now) c.args.before c.args.unit.now c.in-Some.number c.neighbours.result.now c.args.list.now.items c.push_bound.new.list.items
-    c.push_bound.ensures.graph c.in-Some.ensures c.neighbours.ensures
+    (adds_row c.args.graph.now (state_of c.args.state.now) c.args.before c.args.unit.now c.neighbours_of.result.now c.args.list.now.items c.push_bound.new.list.items
+    c.neighbours_of.ensures.row
     (ap (λ us. comes_to_rest c.args.before (state_of_unit us c.args.unit.now).sub) (sym c.units.ensures)
     ∙ ap (λ (u : UnitState). comes_to_rest c.args.before u.sub) (sym c.get.ensures.state) ∙ (sym c.comes_to_rest.ensures ∙ c.if-not-comes_to_rest.false)))
-    c.push_bound.ensures.list
+    c.push_bound.ensures

@@ -1,9 +1,10 @@
-use Rattle.std.proofs.Common.{◌++◌, ◌∷◌, [], Contains, sym, ap, subst}
+use Rattle.std.proofs.Common.{◌++◌, ◌∷◌, [], ◌∙◌, Contains, sym, ap, subst}
 use Rattle.std.specs.BTreeMap.{btree_map_len}
 use Rattle.um_model.specs.Dependencies.{KnowsSoMany}
 use Rattle.um_graph.specs.Known.{Loaded}
 use Rattle.um_graph.proofs.CountLaws.{knows}
 use Rattle.um_graph.proofs.KnownLaws.{left_out, left_out_as}
+use Rattle.um_graph.proofs.ResolvedLaws.{followed_in}
 use Rattle.um_graph.proofs.known.Known.all.Goals as goal
 
 pub returns-clause-whole : goal.returns-clause-whole
@@ -21,8 +22,9 @@ pub loop-name-preserved : goal.loop-name-preserved
 loop-name-preserved c =
     let name = c.in-Some.name in
     record {
-      whole = c.in_ok-follow.ensures.whole c.args.extra.now (left_out_as c.args.tree.now c.args.extra.now c.loop-name.known.loaded c.next.new.self.loaded c.loop-name.known.left.items
+      whole = followed_in c.args.tree.now c.loop-name.resolved c.args.extra.now _ _ _ _ _ _ c.loop-name.invariant.resolved (c.in_ok-follow.ensures.whole c.args.extra.now) (left_out_as c.args.tree.now c.args.extra.now c.loop-name.known.loaded c.next.new.self.loaded c.loop-name.known.left.items
           (c.next.new.self.left.items ++ name ∷ []) c.loop-name.known.told.items c.next.new.self.told.items
           c.in-Some.ensures.loaded (ap (λ v. v.items) c.in-Some.ensures.told) c.in-Some.ensures.found c.loop-name.invariant.whole);
       ordered = c.in_ok-follow.ensures.ordered;
+      resolved = c.follow.ensures.tree ∙ c.loop-name.invariant.resolved;
     }

@@ -1,4 +1,4 @@
-use Rattle.std.proofs.Common.{◌-◌, ◌^◌}
+use Rattle.std.proofs.Common.{◌≡◌, ◌-◌, ◌^◌}
 use Rattle.std.specs.BTreeMap.{IsOrdered, btree_map_len}
 use Rattle.std.specs.Cmp.Lexicographic.{slice_cmp}
 use Rattle.std.specs.Ordering.{nat_cmp}
@@ -9,6 +9,7 @@ abbrev pub invariant-loop-name : goal.invariant-loop-name
 invariant-loop-name l = record {
   whole : IsUnderWay l.tree l.extra l.known.loaded l.known.left.items l.known.told.items;
   ordered : IsOrdered (slice_cmp nat_cmp) l.known.loaded;
+  resolved : l.resolved ≡ l.tree;
 }
 
 -- how many more names a machine could count

@@ -1,9 +1,11 @@
-use Rattle.std.proofs.Common.{◌++◌, ◌∙◌, Some, ap, subst}
+use Rattle.std.proofs.Common.{◌≡◌, ◌++◌, ◌∙◌, Some, ap, subst}
 use Rattle.std.specs.BTreeMap as sorted
 use Rattle.std.specs.Cmp.Lexicographic.{slice_cmp}
 use Rattle.std.specs.List.{flat_map}
 use Rattle.std.specs.Ordering.{nat_cmp}
 use Rattle.um_model.specs.Dependencies.{loadable_of}
+use Rattle.um_model.specs.Units.{load}
+use Rattle.um_unit.specs.View.{loading_of}
 use Rattle.um_graph.specs.Known.{ends_left}
 use Rattle.um_graph.specs.Tells.{told_where}
 use Rattle.um_graph.proofs.KnownLaws.{followed}
@@ -11,12 +13,13 @@ use Rattle.um_graph.proofs.known.Known.follow.Goals as goal
 
 pub returns-clause-whole : goal.returns-clause-whole
 returns-clause-whole c extra w =
-    let tree = c.args.tree.now in
+    let tree = c.args.resolved.now in
     let old = c.args.self.now in
     let loading = c.in_ok-loading.loading in
+    let loads : loading_of loading ≡ load tree c.args.name = c.in_ok-loading.ensures ∙ ap (λ t. load t c.args.name) c.tree.ensures in
     followed tree extra old.loaded c.insert.new.self old.left.items c.take_unit.new.self.left.items old.told.items c.take_unit.new.self.told.items c.args.name loading
     (subst (λ m. sorted.Updates (slice_cmp nat_cmp) m c.insert.new.self c.args.name (Some loading)) c.in_ok-take_unit.ensures.loaded c.in_ok-insert.ensures.updates)
-    c.in_ok-loading.ensures
-    (c.in_ok-take_unit.ensures.left ∙ ap (λ l. old.left.items ++ flat_map (ends_left old.loaded) (told_where tree (loadable_of l))) c.in_ok-loading.ensures)
-    (c.in_ok-take_unit.ensures.told ∙ ap (λ l. old.told.items ++ told_where tree (loadable_of l)) c.in_ok-loading.ensures)
+    loads
+    (c.in_ok-take_unit.ensures.left ∙ ap (λ l. old.left.items ++ flat_map (ends_left old.loaded) (told_where tree (loadable_of l))) loads)
+    (c.in_ok-take_unit.ensures.told ∙ ap (λ l. old.told.items ++ told_where tree (loadable_of l)) loads)
     w

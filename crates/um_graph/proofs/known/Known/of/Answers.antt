@@ -4,6 +4,7 @@ use Rattle.um_model.specs.Dependencies.{KnowsSoMany}
 use Rattle.um_graph.specs.Known.{Loaded, loading_at}
 use Rattle.um_graph.proofs.CountLaws.{knows, not_too_many, too_many}
 use Rattle.um_graph.proofs.KnownLaws.{left_out, left_out_as}
+use Rattle.um_graph.proofs.ResolvedLaws.{followed_in}
 use Rattle.um_graph.proofs.known.Known.of.Goals as goal
 
 pub returns-in_default-clause-whole : goal.returns-in_default-clause-whole
@@ -27,12 +28,13 @@ pub loop-preserved : goal.loop-preserved
 loop-preserved c =
     let name = c.in-Some.name in
     record {
-      whole = c.in_ok-follow.ensures.whole c.args.extra.now (left_out_as c.args.tree.now c.args.extra.now c.loop.known.loaded c.next.new.self.loaded c.loop.known.left.items
+      whole = followed_in c.args.tree.now c.loop.resolved c.args.extra.now _ _ _ _ _ _ c.loop.invariant.resolved (c.in_ok-follow.ensures.whole c.args.extra.now) (left_out_as c.args.tree.now c.args.extra.now c.loop.known.loaded c.next.new.self.loaded c.loop.known.left.items
           (c.next.new.self.left.items ++ name ∷ []) c.loop.known.told.items c.next.new.self.told.items
           c.in-Some.ensures.loaded (ap (λ v. v.items) c.in-Some.ensures.told) c.in-Some.ensures.found c.loop.invariant.whole);
       count = c.in_ok-follow.ensures.count (ap (λ (m : Loaded). loading_at m name) c.in-Some.ensures.loaded ∙ c.in-Some.ensures.new)
           ∙ ap (λ n. n + 1) (ap (λ (m : Loaded). btree_map_len m) c.in-Some.ensures.loaded ∙ c.loop.invariant.count);
       ordered = c.in_ok-follow.ensures.ordered;
+      resolved = c.follow.ensures.tree ∙ c.loop.invariant.resolved;
     }
 
 pub returns-clause-refused : goal.returns-clause-refused

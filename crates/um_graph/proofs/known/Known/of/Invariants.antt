@@ -10,4 +10,5 @@ invariant-loop l = record {
   whole : IsUnderWay l.tree l.extra l.known.loaded l.known.left.items l.known.told.items;
   count : btree_map_len l.known.loaded ≡ l.counter;
   ordered : IsOrdered (slice_cmp nat_cmp) l.known.loaded;
+  resolved : l.resolved ≡ l.tree;
 }

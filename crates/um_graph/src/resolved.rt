@@ -1,0 +1,63 @@
+//! The units to which names lead, each name looked for once.
+
+ghost use Rattle.std.specs.Prelude.{◌≡◌, IfOk};
+ghost use Rattle.um_model.specs.Tree as model;
+ghost use Rattle.um_model.specs.Units.{unit_named};
+ghost use Rattle.um_graph.specs.Resolved.{LeadSo};
+ghost use Rattle.um_tree.specs.Code.{tree_code};
+
+use crate::told::unit_of;
+use indexmap::IndexMap;
+use std::alloc::{AllocError, Global};
+use std::marker::Model;
+use um_name::UnitName;
+use um_tree::Tree;
+
+/// The units to which the names lead in a tree that were asked for. A name is looked for once, however often it is asked for.
+#[derive(Drop)]
+pub(crate) struct Resolved<'t> {
+    tree: &'t Tree,
+    units: IndexMap<UnitName, UnitName>,
+}
+
+impl<'t> Model for Resolved<'t> {
+    ghost Value = { model.Tree };
+
+    ghost coded = { tree_code };
+
+    ghost view = { λ r. r.tree.now };
+
+    ghost invariant = { λ r. LeadSo r.tree.now r.units };
+}
+
+impl<'t> Resolved<'t> {
+    /// No name was asked for yet.
+    pub(crate) fn new(alloc: Global, tree: &'t Tree) -> Resolved<'t>
+        ensures { result ≡ tree.now }
+    {
+        Resolved {
+            tree,
+            units: IndexMap::new(alloc),
+        }
+    }
+
+    /// The tree.
+    pub(crate) fn tree(&self) -> &'t Tree
+        ensures { result.now ≡ self.now }
+    {
+        self.tree
+    }
+
+    /// The unit to which the name leads, or where it leads nowhere the name itself.
+    pub(crate) fn unit(&mut self, alloc: Global, name: UnitName) -> Result<UnitName, AllocError>
+        ensures unit { IfOk result (λ unit. unit ≡ unit_named self.old name) }
+        ensures tree { self.new ≡ self.old }
+    {
+        if let Some(unit) = self.units.get(&name) {
+            return unit.copy();
+        }
+        let unit = unit_of(alloc, self.tree, &name)?;
+        self.units.insert(name, unit.copy()?)?;
+        Ok(unit)
+    }
+}
