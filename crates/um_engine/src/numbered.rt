@@ -1,7 +1,7 @@
 //! The pending jobs of a state by the numbers of a graph's units, with what of them counts as deactivating, and again by their names.
 
-ghost use Rattle.std.specs.Prelude.{◌≡◌, ℕ, List, IfOk, MatchOption, OnOk, length};
-ghost use Rattle.um_engine.specs.Filled.{Tells, deactivates, is_deactivating, told_of};
+ghost use Rattle.std.specs.Prelude.{◌≡◌, ◌↔◌, ℕ, List, IfOk, IsTrue, MatchOption, OnOk, length};
+ghost use Rattle.um_engine.specs.Filled.{NoneWaits, Tells, deactivates, is_deactivating, told_of};
 ghost use Rattle.um_engine.specs.Planned.{ArePending};
 ghost use Rattle.um_graph.specs.Graph.{IsGraph, IsNumberOf};
 ghost use Rattle.um_jobs.specs.Jobs.{with_jobs_at, without_job};
@@ -13,7 +13,7 @@ ghost use Rattle.um_state.specs.View.{state_of};
 
 use std::alloc::{AllocError, Global};
 use um_graph::Graph;
-use um_jobs::Jobs;
+use um_jobs::{Jobs, has_waiting};
 use um_model::{ActiveState, JobKind, JobState, UnitJobs, UnitState};
 use um_state::{Pending, State};
 
@@ -42,6 +42,18 @@ pub fn pending_by_number(
         pending.push(jobs_of(graph, state, unit))?;
     }
     Ok(pending)
+}
+
+/// Whether no job of the graph's units waits. It takes no memory.
+pub fn none_waits(graph: &Graph, state: &State) -> bool
+    ensures { IsTrue result ↔ NoneWaits graph.now (state_of state.now) }
+{
+    for unit in 0..graph.len() {
+        if has_waiting(jobs_of(graph, state, unit)) {
+            return false;
+        }
+    }
+    true
 }
 
 /// Whether a unit that stands so counts as deactivating.

@@ -1,6 +1,5 @@
 ghost use Rattle.um_falling.specs.Carrying.{Adds};
-ghost use Rattle.std.specs.Prelude.{◌≡◌, ◌↔◌, false, map, Contains, Some, IfOk, IfSome, IsTrue, OnOk, MatchOption};
-ghost use Rattle.std.specs.FinMap as finite;
+ghost use Rattle.std.specs.Prelude.{◌≡◌, false, map, Contains, Some, IfOk, IfSome, OnOk, MatchOption};
 ghost use Rattle.um_engine.specs.Engine.{waits_to_restart, IsDue, NoneIsDue};
 ghost use Rattle.um_engine.specs.Filled.{Tells};
 ghost use Rattle.um_falling.specs.Carrying.{KeepsOthers};
@@ -13,7 +12,7 @@ ghost use Rattle.um_model.specs.Machine.{begun, IsBefore, IsStill};
 ghost use Rattle.um_state.specs.View.{state_of, action_of};
 
 use crate::jobs::begins;
-use crate::numbered::{jobs_in, tell, tell_all};
+use crate::numbered::{jobs_in, none_waits, tell, tell_all};
 use crate::restarting::restart;
 use std::alloc::{AllocError, Global};
 use um_falling::happen;
@@ -21,7 +20,7 @@ use um_graph::Graph;
 use um_jobs::Jobs;
 use um_model::{Deadline, JobKind, Moment, SubState, UnitEvent};
 use um_name::UnitName;
-use um_state::{Action, Pending, State};
+use um_state::{Action, State};
 use um_timer::Timers;
 
 /// A job that begins: its unit's number and name, and what it does.
@@ -76,13 +75,6 @@ fn tell_anew(jobs: &mut Jobs<'_>, graph: &Graph, state: &State, next: &NextJob, 
     }
 }
 
-/// Whether no job is pending. It takes no memory.
-fn is_at_rest(alloc: Global, state: &State) -> bool
-    ensures { IsTrue result ↔ ((state_of state.now).pending ≡ finite.empty) }
-{
-    state.pending().is_same(&Pending::new(alloc))
-}
-
 /// Lets jobs begin at the moment, one after another, until none is ready. Where memory is refused the state is of no use.
 pub fn settle(
     alloc: Global,
@@ -95,7 +87,8 @@ pub fn settle(
         → Adds (model.Settles moment (state_of state.old)) (map action_of actions.old.items) (state_of state.new) (map action_of actions.new.items)
         × Serves graph.now (state_of state.new)) }
 {
-    if is_at_rest(alloc, state) {
+    // what runs already stands behind nothing, so its jobs needn't be counted
+    if none_waits(graph, state) {
         return Ok(());
     }
     let mut jobs = jobs_in(alloc, graph, state)?;

@@ -1,5 +1,6 @@
 pub mod BondLaws
 pub mod CountLaws
+pub mod FollowedLaws
 pub mod GraphLaws
 pub mod KnownLaws
 pub mod ListLaws

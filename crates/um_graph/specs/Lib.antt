@@ -2,6 +2,7 @@ pub mod Kinds
 pub mod Graph
 pub mod Tells
 pub mod Known
+pub mod Followed
 pub mod Resolved
 pub mod Rows
 pub mod Edges

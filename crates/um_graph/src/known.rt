@@ -10,11 +10,13 @@ ghost use Rattle.um_model.specs.declared.refusals.Limit.TheVariants as limits;
 ghost use Rattle.um_wire.specs.declared.refusal.Refusal.TheVariants as refusals;
 ghost use Rattle.um_unit.specs.View.{loading_of};
 ghost use Rattle.um_graph.specs.Tells.{told_where};
+ghost use Rattle.um_graph.specs.Followed.{AreFollowed};
 ghost use Rattle.um_graph.specs.Known.{IsUnderWay, LeavesOut, ends_left, loading_at, unless_followed};
 
 use crate::entries::Found;
 use crate::resolved::Resolved;
 use crate::told::{Told, loadable, told_by};
+use indexmap::IndexSet;
 use std::alloc::{AllocError, Global};
 use std::collections::BTreeMap;
 use um_name::UnitName;
@@ -30,6 +32,8 @@ const UNIT_LIMIT: u32 = 1_024;
 pub(crate) struct Known {
     /// What became of the look for each name that was followed.
     pub(crate) loaded: BTreeMap<UnitName, Loading>,
+    /// The same names, which are found here by their hash.
+    followed: IndexSet<UnitName>,
     /// Names that may still have to be followed.
     pub(crate) left: Vec<UnitName>,
     pub(crate) told: Vec<Told>,
@@ -38,11 +42,13 @@ pub(crate) struct Known {
 impl Known {
     /// The name is to be followed, unless it was.
     fn meet(&mut self, name: &UnitName) -> Result<(), AllocError>
+        requires { AreFollowed self.old.loaded self.old.followed }
         ensures left { OnOk result (self.new.left.items ≡ self.old.left.items ++ unless_followed self.old.loaded name.now) }
         ensures loaded { OnOk result (self.new.loaded ≡ self.old.loaded) }
         ensures told { OnOk result (self.new.told ≡ self.old.told) }
+        ensures followed { OnOk result (self.new.followed ≡ self.old.followed) }
     {
-        if !self.loaded.contains_key(name) {
+        if !self.followed.contains(name) {
             self.left.push(name.copy()?)?;
         }
         Ok(())
@@ -50,9 +56,11 @@ impl Known {
 
     /// Both names of each are to be followed.
     fn meet_all(&mut self, told: &[Told]) -> Result<(), AllocError>
+        requires { AreFollowed self.old.loaded self.old.followed }
         ensures left { OnOk result (self.new.left.items ≡ self.old.left.items ++ flat_map (ends_left self.old.loaded) told.now) }
         ensures loaded { OnOk result (self.new.loaded ≡ self.old.loaded) }
         ensures told { OnOk result (self.new.told ≡ self.old.told) }
+        ensures followed { OnOk result (self.new.followed ≡ self.old.followed) }
     {
         for each in told {
             self.meet(&each.from)?;
@@ -63,9 +71,11 @@ impl Known {
 
     /// What is told is kept, and both its names are to be followed.
     fn take(&mut self, told: Vec<Told>) -> Result<(), AllocError>
+        requires { AreFollowed self.old.loaded self.old.followed }
         ensures left { OnOk result (self.new.left.items ≡ self.old.left.items ++ flat_map (ends_left self.old.loaded) told.items) }
         ensures loaded { OnOk result (self.new.loaded ≡ self.old.loaded) }
         ensures told { OnOk result (self.new.told.items ≡ self.old.told.items ++ told.items) }
+        ensures followed { OnOk result (self.new.followed ≡ self.old.followed) }
     {
         let mut told = told;
         self.meet_all(told.as_slice())?;
@@ -78,12 +88,14 @@ impl Known {
         ensures whole { IfOk result (λ k. IsUnderWay tree.now extra.now k.loaded k.left.items k.told.items) }
         ensures count { IfOk result (λ k. btree_map_len k.loaded ≡ 0) }
         ensures ordered { IfOk result (λ k. IsOrdered (slice_cmp nat_cmp) k.loaded) }
+        ensures followed { IfOk result (λ k. AreFollowed k.loaded k.followed) }
     {
         let mut found = Found::of_names(alloc, extra)?;
         found.add_tree(alloc, tree)?;
         let Found { names, told } = found;
         let mut known = Known {
             loaded: BTreeMap::new(alloc),
+            followed: IndexSet::new(alloc),
             left: names,
             told: Vec::new(alloc),
         };
@@ -93,14 +105,16 @@ impl Known {
 
     /// A name that is to be followed.
     fn next(&mut self) -> Option<UnitName>
+        requires { AreFollowed self.old.loaded self.old.followed }
         ensures found { IfSome result (λ name. LeavesOut self.old.loaded self.old.left.items (self.new.left.items ++ name ∷ [])) }
         ensures new { IfSome result (λ name. loading_at self.old.loaded name ≡ None) }
         ensures none { IfNone result (LeavesOut self.old.loaded self.old.left.items []) }
         ensures loaded { self.new.loaded ≡ self.old.loaded }
         ensures told { self.new.told ≡ self.old.told }
+        ensures followed { self.new.followed ≡ self.old.followed }
     {
         while let Some(name) = self.left.pop() {
-            if !self.loaded.contains_key(&name) {
+            if !self.followed.contains(&name) {
                 return Some(name);
             }
         }
@@ -114,10 +128,12 @@ impl Known {
         resolved: &mut Resolved<'_>,
         loading: &Loading,
     ) -> Result<(), AllocError>
+        requires { AreFollowed self.old.loaded self.old.followed }
         ensures left { OnOk result (self.new.left.items
             ≡ self.old.left.items ++ flat_map (ends_left self.old.loaded) (told_where resolved.old (loadable_of (loading_of loading.now)))) }
         ensures loaded { OnOk result (self.new.loaded ≡ self.old.loaded) }
         ensures told { OnOk result (self.new.told.items ≡ self.old.told.items ++ told_where resolved.old (loadable_of (loading_of loading.now))) }
+        ensures followed { OnOk result (self.new.followed ≡ self.old.followed) }
         ensures tree { resolved.new ≡ resolved.old }
     {
         if let Some(unit) = loadable(loading) {
@@ -133,16 +149,19 @@ impl Known {
         resolved: &mut Resolved<'_>,
         name: UnitName,
     ) -> Result<usize, AllocError>
+        requires { AreFollowed self.old.loaded self.old.followed }
         ensures whole { OnOk result ((extra : List (List ℕ)) → IsUnderWay resolved.old extra self.old.loaded (self.old.left.items ++ name ∷ []) self.old.told.items
             → IsUnderWay resolved.old extra self.new.loaded self.new.left.items self.new.told.items) }
         ensures count { OnOk result (loading_at self.old.loaded name ≡ None
             → btree_map_len self.new.loaded ≡ btree_map_len self.old.loaded + 1) }
         ensures ordered { OnOk result (IsOrdered (slice_cmp nat_cmp) self.new.loaded) }
+        ensures followed { OnOk result (AreFollowed self.new.loaded self.new.followed) }
         ensures told { IfOk result (λ followed. followed ≡ btree_map_len self.new.loaded) }
         ensures tree { resolved.new ≡ resolved.old }
     {
         let loading = load(alloc, resolved.tree(), &name)?;
         self.take_unit(alloc, resolved, &loading)?;
+        self.followed.insert(name.copy()?)?;
         self.loaded.insert(name, loading)?;
         Ok(self.loaded.len())
     }

@@ -16,7 +16,7 @@ ghost use Rattle.um_wire.specs.declared.refusal.Refusal.TheVariants.{NoMemory};
 use crate::counts::Blockers;
 use crate::least::LeastSet;
 use crate::marks::{change, is_stop_free, mark};
-use crate::table::{is_waiting, jobs_of, with_job};
+use crate::table::{has_waiting, jobs_of, with_job};
 use std::alloc::{AllocError, Global};
 use std::marker::Model;
 use um_graph::Graph;
@@ -246,10 +246,4 @@ fn without_waiting(jobs: UnitJobs) -> UnitJobs
         stop: unless_waiting(jobs.stop),
         start: unless_waiting(jobs.start),
     }
-}
-
-fn has_waiting(jobs: UnitJobs) -> bool
-    ensures { result ≡ has_waiting jobs }
-{
-    is_waiting(jobs.stop) || is_waiting(jobs.start)
 }

@@ -10,4 +10,4 @@ mod table;
 
 pub use jobs::Jobs;
 pub use laws::one_ready_job_is_the_least;
-pub use table::{drops_one, is_active, is_waiting, jobs_for, jobs_left, jobs_of};
+pub use table::{drops_one, has_waiting, is_active, is_waiting, jobs_for, jobs_left, jobs_of};

@@ -5,6 +5,7 @@ ghost use Rattle.um_jobs.specs.Drops.{drops_one, is_dropped};
 ghost use Rattle.um_jobs.specs.Named.{jobs_at};
 ghost use Rattle.um_model.specs.Jobs as model;
 ghost use Rattle.um_model.specs.Machine as machine;
+ghost use Rattle.um_model.specs.Waiting.{has_waiting};
 ghost use Rattle.um_model.specs.declared.jobs.JobState.TheVariants.{Waiting};
 
 use um_model::{ActiveState, Demand, JobKind, JobState, StartJob, UnitJobs};
@@ -21,6 +22,13 @@ pub fn is_waiting(job: Option<JobState>) -> bool
     ensures { result ≡ machine.is_waiting job }
 {
     matches!(job, Some(JobState::Waiting))
+}
+
+/// Whether one of a unit's jobs waits.
+pub fn has_waiting(jobs: UnitJobs) -> bool
+    ensures { result ≡ has_waiting jobs }
+{
+    is_waiting(jobs.stop) || is_waiting(jobs.start)
 }
 
 /// Whether a unit in this state is active.

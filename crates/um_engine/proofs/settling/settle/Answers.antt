@@ -1,15 +1,15 @@
 use Rattle.std.proofs.Common.{◌≡◌, true, map, rules}
 use Rattle.um_falling.proofs.AlongLaws.{known_by}
-use Rattle.um_engine.proofs.ReadyLaws.{begun_drops, serves_begun, still_empty}
+use Rattle.um_engine.proofs.ReadyLaws.{begun_drops, serves_begun, still_waitless}
 use Rattle.um_engine.proofs.Steps.{settled, settles_more}
 use Rattle.um_model.specs.Jobs.{Job}
 use Rattle.um_state.specs.View.{state_of, action_of}
 use Rattle.um_engine.proofs.settling.settle.Goals as goal
 
-pub returns-then-is_at_rest : goal.returns-then-is_at_rest
-returns-then-is_at_rest c = λ serves.
-    let rests : c.is_at_rest.result ≡ true = search rules in
-    let none = still_empty (state_of c.args.state.now) (c.is_at_rest.ensures.0 rests) in
+pub returns-then-none_waits : goal.returns-then-none_waits
+returns-then-none_waits c = λ serves.
+    let calm : c.none_waits.result ≡ true = search rules in
+    let none = still_waitless c.args.graph.now (state_of c.args.state.now) serves (c.none_waits.ensures.0 calm) in
     (settled c.args.moment (state_of c.args.state.now) (map action_of c.args.actions.now.items) none, serves)
 
 pub jobs-smaller : goal.jobs-smaller

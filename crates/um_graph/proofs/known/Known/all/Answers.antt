@@ -3,6 +3,7 @@ use Rattle.std.specs.BTreeMap.{btree_map_len}
 use Rattle.um_model.specs.Dependencies.{KnowsSoMany}
 use Rattle.um_graph.specs.Known.{Loaded}
 use Rattle.um_graph.proofs.CountLaws.{knows}
+use Rattle.um_graph.proofs.FollowedLaws.{still_followed}
 use Rattle.um_graph.proofs.KnownLaws.{left_out, left_out_as}
 use Rattle.um_graph.proofs.ResolvedLaws.{followed_in}
 use Rattle.um_graph.proofs.known.Known.all.Goals as goal
@@ -27,4 +28,9 @@ loop-name-preserved c =
           c.in-Some.ensures.loaded (ap (λ v. v.items) c.in-Some.ensures.told) c.in-Some.ensures.found c.loop-name.invariant.whole);
       ordered = c.in_ok-follow.ensures.ordered;
       resolved = c.follow.ensures.tree ∙ c.loop-name.invariant.resolved;
+      followed = c.in_ok-follow.ensures.followed;
     }
+
+pub follow-requires : goal.follow-requires
+follow-requires c =
+    still_followed c.loop-name.known.loaded c.next.new.self.loaded c.loop-name.known.followed c.next.new.self.followed c.in-Some.ensures.loaded c.in-Some.ensures.followed c.loop-name.invariant.followed

@@ -8,4 +8,5 @@ invariant-loop-each l = record {
   left : l.self.left.items ≡ l.initial.self.left.items ++ flat_map (ends_left l.initial.self.loaded) (take l.each-index l.told);
   loaded : l.self.loaded ≡ l.initial.self.loaded;
   told : l.self.told ≡ l.initial.self.told;
+  followed : l.self.followed ≡ l.initial.self.followed;
 }

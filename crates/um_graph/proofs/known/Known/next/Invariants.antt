@@ -10,4 +10,5 @@ invariant-loop-name l = record {
   out : LeavesOut l.initial.self.loaded l.initial.self.left.items l.self.left.items;
   loaded : l.self.loaded ≡ l.initial.self.loaded;
   told : l.self.told ≡ l.initial.self.told;
+  followed : l.self.followed ≡ l.initial.self.followed;
 }

@@ -3,6 +3,7 @@ use Rattle.std.specs.BTreeMap.{btree_map_len}
 use Rattle.um_model.specs.Dependencies.{KnowsSoMany}
 use Rattle.um_graph.specs.Known.{Loaded, loading_at}
 use Rattle.um_graph.proofs.CountLaws.{knows, not_too_many, too_many}
+use Rattle.um_graph.proofs.FollowedLaws.{still_followed}
 use Rattle.um_graph.proofs.KnownLaws.{left_out, left_out_as}
 use Rattle.um_graph.proofs.ResolvedLaws.{followed_in}
 use Rattle.um_graph.proofs.known.Known.of.Goals as goal
@@ -35,6 +36,7 @@ loop-preserved c =
           ∙ ap (λ n. n + 1) (ap (λ (m : Loaded). btree_map_len m) c.in-Some.ensures.loaded ∙ c.loop.invariant.count);
       ordered = c.in_ok-follow.ensures.ordered;
       resolved = c.follow.ensures.tree ∙ c.loop.invariant.resolved;
+      followed = c.in_ok-follow.ensures.followed;
     }
 
 pub returns-clause-refused : goal.returns-clause-refused
@@ -43,3 +45,7 @@ returns-clause-refused c _ = (
   too_many c.args.tree.now c.args.extra.now c.loop.known.loaded c.loop.known.left.items c.loop.known.told.items c.loop.invariant.whole c.loop.invariant.ordered
       (omega (arith, c.loop.invariant.count, c.loop-test.false)),
 )
+
+pub follow-requires : goal.follow-requires
+follow-requires c =
+    still_followed c.loop.known.loaded c.next.new.self.loaded c.loop.known.followed c.next.new.self.followed c.in-Some.ensures.loaded c.in-Some.ensures.followed c.loop.invariant.followed

@@ -2,6 +2,7 @@ use Rattle.std.proofs.Common.{◌≡◌}
 use Rattle.std.specs.BTreeMap.{IsOrdered, btree_map_len}
 use Rattle.std.specs.Cmp.Lexicographic.{slice_cmp}
 use Rattle.std.specs.Ordering.{nat_cmp}
+use Rattle.um_graph.specs.Followed.{AreFollowed}
 use Rattle.um_graph.specs.Known.{IsUnderWay}
 use Rattle.um_graph.proofs.known.Known.of.Given as goal
 
@@ -11,4 +12,5 @@ invariant-loop l = record {
   count : btree_map_len l.known.loaded ≡ l.counter;
   ordered : IsOrdered (slice_cmp nat_cmp) l.known.loaded;
   resolved : l.resolved ≡ l.tree;
+  followed : AreFollowed l.known.loaded l.known.followed;
 }
