@@ -1,18 +1,25 @@
 -- How the warnings of a shown unit stand in the text of its reply.
 use Rattle.std.proofs.Common.{◌≡◌, ◌<◌, ◌≤◌, ℕ, ◌+◌, ◌-◌, ◌^◌, Bool, true, false, List, [], ◌∷◌, ◌++◌, length, map, take, Option, Some, None, refl, sym, ap, ◌∙◌, append_assoc, arith}
-use Rattle.std.specs.Prelude.{codes, unwrap_or}
+use Rattle.std.specs.Prelude.{codes, unwrap_or, option_to_list, MatchOption, Box}
+use Rattle.std.specs.declared.alloc.Global.{Global}
 use Rattle.std.proofs.lemmas.Bool.Decides.{nat_tests}
 use Rattle.std.proofs.lemmas.List.{append-nil, length-append, same_from_push}
 use Rattle.std.proofs.Math.Seq.{take-append_seam}
 use Rattle.json.specs.Print.{quoted}
 use Rattle.serde_json.specs.Data.{Data, Members, boolean, string, array, member, no_members}
 use Rattle.serde_json.specs.View.{items_of}
-use Rattle.serde_json.specs.Written.{compact_text, items_text, members_text, comma_if}
-use Rattle.um_model.specs.Machine.{Shown, UnitShown}
+use Rattle.serde_json.specs.Written.{has_float, compact_text, items_text, members_text, comma_if}
+use Rattle.um_model.proofs.RepliesLaws.{reply_plain}
+use Rattle.um_model.specs.Machine as model
+use Rattle.um_model.specs.Machine.{Reply, Shown}
 use Rattle.um_model.specs.Replies.{number_data, list_data, warning_data, shown_data, valued, reply_data, is_told_whole}
 use Rattle.um_model.specs.Service.{sub_state_text, active_state_of, active_state_text, result_text}
 use Rattle.um_model.specs.Units.{Warning, load_state_text}
-use Rattle.um_proto.specs.Written.{without_warnings, warnings_text}
+use Rattle.um_proto.specs.Written.{without_warnings, unwarned, warnings_text}
+use Rattle.um_state.specs.View.{reply_of}
+use Rattle.um_state.specs.declared.reply.UnitShown.{UnitShown}
+use Rattle.um_state.specs.declared.reply.Reply as reply
+use Rattle.um_state.specs.declared.reply.Reply.TheVariants as replies
 
 -- ---- where they stand
 
@@ -38,7 +45,7 @@ split_last later key value x y e =
     ap (λ text. comma_if later ++ (quoted key ++ 58 ∷ (text ++ 125 ∷ []))) e ∙ regroup_last (comma_if later) (quoted key) x y
 
 -- a shown unit's text up to its warnings
-unit_front : UnitShown → List ℕ
+unit_front : model.UnitShown → List ℕ
 unit_front u =
     123 ∷ up_to false (codes "ActiveState") (string (active_state_text (active_state_of u.state.sub)))
     (up_to true (codes "Description") (string u.description)
@@ -53,7 +60,7 @@ unit_front u =
 abbrev items_told : List Warning → List ℕ
 items_told ws = items_text false (items_of (map warning_data ws))
 
-unit_split : (u : UnitShown) → compact_text (shown_data u) ≡ unit_front u ++ (items_told u.warnings ++ 125 ∷ [])
+unit_split : (u : model.UnitShown) → compact_text (shown_data u) ≡ unit_front u ++ (items_told u.warnings ++ 125 ∷ [])
 unfolding unit_front
 unit_split u =
     let behind = items_told u.warnings ++ 125 ∷ [] in
@@ -74,10 +81,10 @@ unit_split u =
     ap (λ text. 123 ∷ text) (split_member false (codes "ActiveState") (string (active_state_text (active_state_of u.state.sub))) description _ behind at_description)
 
 -- the reply's text up to the warnings
-pub front : UnitShown → List ℕ
+pub front : model.UnitShown → List ℕ
 front u = 123 ∷ up_to false (codes "ok") (boolean true) (comma_if true ++ (quoted (codes "value") ++ 58 ∷ unit_front u))
 
-pub reply_split : (u : UnitShown) → compact_text (reply_data (Shown u)) ≡ front u ++ (items_told u.warnings ++ 125 ∷ 125 ∷ [])
+pub reply_split : (u : model.UnitShown) → compact_text (reply_data (Shown u)) ≡ front u ++ (items_told u.warnings ++ 125 ∷ 125 ∷ [])
 unfolding front
 reply_split u =
     let value = member (codes "value") (shown_data u) no_members in
@@ -88,7 +95,7 @@ reply_split u =
     all ∙ ap (λ text. front u ++ text) (append_assoc (items_told u.warnings) (125 ∷ []) (125 ∷ []))
 
 -- the warnings aren't looked at there
-pub same_front : (u : UnitShown) → front (without_warnings u) ≡ front u
+pub same_front : (u : model.UnitShown) → front (without_warnings u) ≡ front u
 unfolding front unit_front
 same_front u = refl
 
@@ -168,26 +175,54 @@ longer front (w ∷ ws) =
 
 -- ---- the reply's own text
 
--- what the reply's text without its warnings has before the last three bytes
-pub cut_front : (u : UnitShown) (text : List ℕ) → text ≡ compact_text (reply_data (Shown (without_warnings u))) → text ≡ front u ++ 93 ∷ 125 ∷ 125 ∷ []
-cut_front u text is = is ∙ reply_split (without_warnings u) ∙ ap (λ xs. xs ++ 93 ∷ 125 ∷ 125 ∷ []) (same_front u)
+-- a value that is the reply's has its text
+pub own_written : (reply : Reply) (value : Data) (text : List ℕ) → value ≡ reply_data reply → (has_float value ≡ false → text ≡ compact_text value)
+    → text ≡ compact_text (reply_data reply)
+own_written reply value text is written = written (ap has_float is ∙ reply_plain reply) ∙ ap compact_text is
 
-pub taken : (front text : List ℕ) → text ≡ front ++ 93 ∷ 125 ∷ 125 ∷ [] → take (length text - 3) text ≡ front
-taken front text is =
-    let size : length text - 3 ≡ length front = omega (arith, ap length is, length-append front (93 ∷ 125 ∷ 125 ∷ [])) in
-    ap (λ n. take n text) size ∙ ap (λ xs. take (length front) xs) is ∙ take-append_seam front (93 ∷ 125 ∷ 125 ∷ [])
+-- of a reply that shows no unit nothing is left out
+pub nothing_left_out : (r : reply.Reply) → ((u : Box UnitShown Global) → r ≡ replies.Shown u → ⊥) → unwarned (reply_of r) ≡ reply_of r
+nothing_left_out replies.Done others = refl
+nothing_left_out (replies.Shown u) others = absurd (others u refl)
+nothing_left_out (replies.Activity state) others = refl
+nothing_left_out (replies.Files files) others = refl
+nothing_left_out (replies.Relinked made removed) others = refl
+nothing_left_out (replies.EnabledAs answer) others = refl
+nothing_left_out (replies.Listed units) others = refl
+nothing_left_out (replies.Jobs jobs) others = refl
+nothing_left_out (replies.Told actions) others = refl
+nothing_left_out (replies.Refused refusal) others = refl
 
-pub without_any : (u : UnitShown) (text : List ℕ) → text ≡ front u ++ warnings_text u.warnings → length text ≤ length (front u)
-    → text ++ 93 ∷ 125 ∷ 125 ∷ [] ≡ compact_text (reply_data (Shown u))
-without_any u text is short = closed_empty (front u) u.warnings text is short ∙ sym (reply_split u)
+-- what the text without warnings has before its last three bytes
+pub cut_front : (u : model.UnitShown) (text cut : List ℕ) (size : ℕ) → text ≡ compact_text (reply_data (Shown (without_warnings u))) → size ≡ length text
+    → cut ≡ take (size - 3) text → cut ≡ front u
+cut_front u text cut size is of_size of_cut =
+    let split : text ≡ front u ++ 93 ∷ 125 ∷ 125 ∷ [] = is ∙ reply_split (without_warnings u) ∙ ap (λ xs. xs ++ 93 ∷ 125 ∷ 125 ∷ []) (same_front u) in
+    let left : size - 3 ≡ length (front u) = omega (arith, of_size, ap length split, length-append (front u) (93 ∷ 125 ∷ 125 ∷ [])) in
+    of_cut ∙ ap (λ n. take n text) left ∙ ap (λ xs. take (length (front u)) xs) split ∙ take-append_seam (front u) (93 ∷ 125 ∷ 125 ∷ [])
 
-pub with_some : (u : UnitShown) (text popped : List ℕ) (last : ℕ) → text ≡ front u ++ warnings_text u.warnings → length (front u) < length text
-    → text ≡ popped ++ last ∷ [] → popped ++ 93 ∷ 125 ∷ 125 ∷ [] ≡ compact_text (reply_data (Shown u))
-with_some u text popped last is long split = closed (front u) u.warnings text popped last is long split ∙ sym (reply_split u)
+written_so_far : (u : model.UnitShown) (begun : List ℕ) (seen : List Warning) → begun ≡ front u → seen ≡ u.warnings
+    → begun ++ warnings_text seen ≡ front u ++ warnings_text u.warnings
+written_so_far u begun seen same all = ap (λ xs. xs ++ warnings_text seen) same ∙ ap (λ ws. front u ++ warnings_text ws) all
+
+pub without_any : (u : model.UnitShown) (begun text : List ℕ) (seen : List Warning) → begun ≡ front u → seen ≡ u.warnings → text ≡ begun ++ warnings_text seen
+    → length text ≤ length begun → text ++ 93 ∷ 125 ∷ 125 ∷ [] ≡ compact_text (reply_data (Shown u))
+without_any u begun text seen same all is short =
+    closed_empty (front u) u.warnings text (is ∙ written_so_far u begun seen same all) (omega (arith, short, ap length same)) ∙ sym (reply_split u)
+
+pub without_last_comma : (u : model.UnitShown) (begun text popped : List ℕ) (seen : List Warning) (last : Option ℕ) → begun ≡ front u → seen ≡ u.warnings
+    → text ≡ begun ++ warnings_text seen → length begun < length text → text ≡ popped ++ option_to_list last
+    → MatchOption last ((length text ≡ 0) × (length popped ≡ 0)) (λ _. length popped + 1 ≡ length text)
+    → popped ++ 93 ∷ 125 ∷ 125 ∷ [] ≡ compact_text (reply_data (Shown u))
+without_last_comma u begun text popped seen None same all is long split cases = absurd (omega (arith, long, cases.0))
+without_last_comma u begun text popped seen (Some last) same all is long split cases =
+    closed (front u) u.warnings text popped last (is ∙ written_so_far u begun seen same all) (omega (arith, long, ap length same)) split ∙ sym (reply_split u)
 
 -- a reply isn't told whole where what is written of it is past the limit
-pub past_whole : (u : UnitShown) → 2 ^ 24 < length (front u ++ warnings_text u.warnings) → is_told_whole (Shown u) ≡ false
+pub past_whole : (u : model.UnitShown) (begun : List ℕ) (seen : List Warning) → begun ≡ front u → seen ≡ u.warnings
+    → 2 ^ 24 < length (begun ++ warnings_text seen) → is_told_whole (Shown u) ≡ false
 unfolding is_told_whole
-past_whole u past =
-    let long : 2 ^ 24 < length (compact_text (reply_data (Shown u))) = omega (arith, past, longer (front u) u.warnings, ap length (reply_split u)) in
+past_whole u begun seen same all past =
+    let long : 2 ^ 24 < length (compact_text (reply_data (Shown u))) =
+    omega (arith, past, ap length (written_so_far u begun seen same all), longer (front u) u.warnings, ap length (reply_split u)) in
     grind (arith, nat_tests)

@@ -370,6 +370,7 @@ pub struct ReplyText {
 fn refused_text(alloc: Global) -> Result<ReplyText, AllocError>
     ensures text { IfOk result (λ text. text.bytes.items ≡ compact_text (model.refused_data (too_large TooLong))) }
     ensures whole { IfOk result (λ text. text.is_whole ≡ false) }
+    ensures short { IfOk result (λ text. length text.bytes.items ≤ model.reply_limit) }
 {
     let refusal = Refusal::TooLarge {
         limit: Limit::Reply,
