@@ -210,12 +210,12 @@ pub without_any : (u : model.UnitShown) (begun text : List ℕ) (seen : List War
 without_any u begun text seen same all is short =
     closed_empty (front u) u.warnings text (is ∙ written_so_far u begun seen same all) (omega (arith, short, ap length same)) ∙ sym (reply_split u)
 
-pub without_last_comma : (u : model.UnitShown) (begun text popped : List ℕ) (seen : List Warning) (last : Option ℕ) → begun ≡ front u → seen ≡ u.warnings
-    → text ≡ begun ++ warnings_text seen → length begun < length text → text ≡ popped ++ option_to_list last
-    → MatchOption last ((length text ≡ 0) × (length popped ≡ 0)) (λ _. length popped + 1 ≡ length text)
+pub without_last_comma : (u : model.UnitShown) (begun text popped : List ℕ) (seen : List Warning) (last : Option ℕ) (size left : ℕ) → begun ≡ front u
+    → seen ≡ u.warnings → text ≡ begun ++ warnings_text seen → length begun < length text → text ≡ popped ++ option_to_list last
+    → size ≡ length text → MatchOption last ((size ≡ 0) × (left ≡ 0)) (λ _. left + 1 ≡ size)
     → popped ++ 93 ∷ 125 ∷ 125 ∷ [] ≡ compact_text (reply_data (Shown u))
-without_last_comma u begun text popped seen None same all is long split cases = absurd (omega (arith, long, cases.0))
-without_last_comma u begun text popped seen (Some last) same all is long split cases =
+without_last_comma u begun text popped seen None size left same all is long split of_size cases = absurd (omega (arith, long, of_size, cases.0))
+without_last_comma u begun text popped seen (Some last) size left same all is long split of_size cases =
     closed (front u) u.warnings text popped last (is ∙ written_so_far u begun seen same all) (omega (arith, long, ap length same)) split ∙ sym (reply_split u)
 
 -- a reply isn't told whole where what is written of it is past the limit
