@@ -84,7 +84,7 @@ unit_split u =
 pub front : model.UnitShown → List ℕ
 front u = 123 ∷ up_to false (codes "ok") (boolean true) (comma_if true ++ (quoted (codes "value") ++ 58 ∷ unit_front u))
 
-pub reply_split : (u : model.UnitShown) → compact_text (reply_data (Shown u)) ≡ front u ++ (items_told u.warnings ++ 125 ∷ 125 ∷ [])
+reply_split : (u : model.UnitShown) → compact_text (reply_data (Shown u)) ≡ front u ++ (items_told u.warnings ++ 125 ∷ 125 ∷ [])
 unfolding front
 reply_split u =
     let value = member (codes "value") (shown_data u) no_members in
@@ -95,7 +95,7 @@ reply_split u =
     all ∙ ap (λ text. front u ++ text) (append_assoc (items_told u.warnings) (125 ∷ []) (125 ∷ []))
 
 -- the warnings aren't looked at there
-pub same_front : (u : model.UnitShown) → front (without_warnings u) ≡ front u
+same_front : (u : model.UnitShown) → front (without_warnings u) ≡ front u
 unfolding front unit_front
 same_front u = refl
 

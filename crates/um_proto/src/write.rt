@@ -290,7 +290,12 @@ fn is_too_long(alloc: Global, reply: &Reply) -> Result<bool, AllocError>
 }
 
 /// Writes a warning behind a text, and a comma; of its path the JSON text is passed.
-fn add_warning(alloc: Global, path: &str, warning: &Warning, text: &mut Vec<u8>) -> Result<(), AllocError>
+fn add_warning(
+    alloc: Global,
+    path: &str,
+    warning: &Warning,
+    text: &mut Vec<u8>,
+) -> Result<(), AllocError>
     ensures { OnOk result (text.new.items ≡ text.old.items ++ written.warning_behind path.now warning.now) }
 {
     let told = format!(in alloc; "[{},{path},{}],", warning.kind.number(), warning.line)?;
@@ -313,7 +318,11 @@ fn add_warnings(alloc: Global, file: &FileWarnings, text: &mut Vec<u8>) -> Resul
 }
 
 /// The same with several files.
-fn add_all_warnings(alloc: Global, files: &[FileWarnings], text: &mut Vec<u8>) -> Result<bool, AllocError>
+fn add_all_warnings(
+    alloc: Global,
+    files: &[FileWarnings],
+    text: &mut Vec<u8>,
+) -> Result<bool, AllocError>
     ensures all { IfOk result (λ all. IsTrue all → text.new.items ≡ text.old.items ++ written.warnings_text (warnings_seen files.now)) }
     ensures long { IfOk result (λ all. all ≡ false → model.reply_limit < length (text.old.items ++ written.warnings_text (warnings_seen files.now))) }
 {
@@ -326,9 +335,14 @@ fn add_all_warnings(alloc: Global, files: &[FileWarnings], text: &mut Vec<u8>) -
     Ok(true)
 }
 
-/// Writes its warnings into the text of a shown unit that has none. None where they make it too long: what is longer isn't written.
-fn with_warnings(alloc: Global, shown: &UnitShown, mut text: Vec<u8>) -> Result<Option<Vec<u8>>, AllocError>
-    requires { text.items ≡ compact_text (model.reply_data (written.unwarned (Shown (shown_of shown.now)))) }
+/// Writes the warnings of a shown unit into the text of its reply, which has none. None, and no more is written, where they make it
+/// too long.
+fn with_warnings(
+    alloc: Global,
+    shown: &UnitShown,
+    mut text: Vec<u8>,
+) -> Result<Option<Vec<u8>>, AllocError>
+    requires { text.items ≡ compact_text (model.reply_data (Shown (written.without_warnings (shown_of shown.now)))) }
     ensures { IfOk result (λ text. written.IsOwnText (Shown (shown_of shown.now)) text) }
 {
     // the list's, the unit's and the reply's brackets close again behind the warnings
