@@ -6,13 +6,13 @@ use Rattle.std.proofs.lemmas.Bool.Decides.{nat_tests}
 use Rattle.std.proofs.lemmas.List.{append-nil, length-append, same_from_push}
 use Rattle.std.proofs.Math.Seq.{take-append_seam}
 use Rattle.json.specs.Print.{quoted}
-use Rattle.serde_json.specs.Data.{Data, Members, boolean, string, array, member, no_members}
+use Rattle.serde_json.specs.Data.{Data, Members, boolean, string, member, no_members}
 use Rattle.serde_json.specs.View.{items_of}
 use Rattle.serde_json.specs.Written.{has_float, compact_text, items_text, members_text, comma_if}
 use Rattle.um_model.proofs.RepliesLaws.{reply_plain}
 use Rattle.um_model.specs.Machine as model
 use Rattle.um_model.specs.Machine.{Reply, Shown}
-use Rattle.um_model.specs.Replies.{number_data, list_data, warning_data, shown_data, valued, reply_data, is_told_whole}
+use Rattle.um_model.specs.Replies.{number_data, list_data, warning_data, shown_data, reply_data, is_told_whole}
 use Rattle.um_model.specs.Service.{sub_state_text, active_state_of, active_state_text, result_text}
 use Rattle.um_model.specs.Units.{Warning, load_state_text}
 use Rattle.um_proto.specs.Written.{without_warnings, unwarned, warnings_text}
