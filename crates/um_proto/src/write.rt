@@ -11,7 +11,7 @@ ghost use Rattle.um_proto.specs.Written as written;
 ghost use Rattle.um_proto.specs.Written.{words_told};
 ghost use Rattle.um_resolve.specs.View.{file_of};
 ghost use Rattle.um_state.specs.View.{action_of, job_of, listed_of, shown_of, reply_of};
-ghost use Rattle.um_unit.specs.View.{warned_by, warning_of, warnings_seen};
+ghost use Rattle.um_unit.specs.View.{warned_by, warnings_seen};
 ghost use Rattle.um_words.specs.Rooms.{left};
 ghost use Rattle.um_wire.specs.Refusal.{refused_of};
 
@@ -397,7 +397,7 @@ fn refused_text(alloc: Global) -> Result<ReplyText, AllocError>
 }
 
 /// The text of a reply; in place of one past 2^24 bytes that of the refusal `TooLarge` `reply`. Where the words of the actions that it
-/// tells are too long already, they are not put together; of warnings no more is written than one past the limit.
+/// tells are too long already, they are not put together; of the warnings that it tells none is written behind the first past the limit.
 #[tactic(auto, unfolding(um_model::specs::Replies::reply_text))]
 pub fn write_reply(alloc: Global, reply: &Reply) -> Result<ReplyText, AllocError>
     ensures text { IfOk result (λ text. text.bytes.items ≡ model.reply_text (reply_of reply.now)) }
