@@ -1,4 +1,4 @@
-ghost use Rattle.std.specs.Prelude.{◌≡◌, ◌⊎◌, ◌<◌, ℕ, All, Option, Some, Contains, IfOk, IfErr, MatchOption, length, max, option_copied, slice_get, unwrap_or};
+ghost use Rattle.std.specs.Prelude.{◌≡◌, ◌⊎◌, ◌<◌, [], ℕ, All, Option, Some, Contains, IfOk, IfErr, MatchOption, length, max, option_copied, slice_get, unwrap_or};
 ghost use Rattle.um_model.specs.Dependencies.{CountsFor, KnowsTooMany};
 ghost use Rattle.um_model.specs.Tree.{without_run};
 ghost use Rattle.um_graph.specs.Edges.{AreUnits};
@@ -114,6 +114,7 @@ impl Graph {
     /// The neighbours of the unit of this name, in the order of their numbers; none where it isn't known.
     pub fn neighbours_of(&self, name: &UnitName) -> &[Neighbour]
         ensures row { (unit : ℕ) → IsNumberOf self.now unit name.now → result.now ≡ row_of self.now.rows unit }
+        ensures none { ¬ Contains self.now.names name.now → result.now ≡ [] }
         ensures ascends { IsAscending result.now }
         ensures within { All (λ n. n.unit < length self.now.names) result.now }
     {
