@@ -12,7 +12,7 @@ use um_sector::MemDisk;
 use um_state::Input;
 use um_wire::Refusal;
 
-const SLEEPS: &str = "[Service]\nExecStart=/bin/sleep 9\n";
+pub const SLEEPS: &str = "[Service]\nExecStart=/bin/sleep 9\n";
 
 /// A simple service is put, loaded and started.
 pub const SIMPLE: &[Row] = &[
@@ -71,8 +71,8 @@ pub const ENABLED: &[Row] = &[
 
 /// What takes the inputs of a life.
 #[derive(Drop)]
-struct Taker {
-    keeper: Keeper<MemDisk>,
+pub struct Taker {
+    pub keeper: Keeper<MemDisk>,
     /// A wrong program: whatever comes is answered E15.
     always_wanting: bool,
 }
@@ -104,7 +104,7 @@ impl Taker {
 }
 
 /// Asserts that each image that a crash may leave of a disk is opened in the state of a beginning, of at least `low` and at most `high` rows.
-fn stand_for(
+pub fn stand_for(
     alloc: Global,
     course: &Course,
     disk: &MemDisk,
@@ -275,7 +275,7 @@ fn take(
 }
 
 /// A new store that takes these rows one by one.
-fn taker_behind(
+pub fn taker_behind(
     alloc: Global,
     course: &Course,
     rows: &[Row],

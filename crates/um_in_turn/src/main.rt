@@ -1,19 +1,27 @@
-//! What a keeper can refuse, and its disk, is refused, one after another, and what must hold is asserted each time.
+//! Everything that can be refused is refused, one after another, and what must hold is asserted each time.
 //!
-//! Its words are a kind, `memory`, `disk` or `crash`, and a number, of a script or a life; or `some 0` for a selection of these. Those of
-//! `memory` are lives whose allocations `tools/in-turn` lets fail. It prints how many cases it tried, 0 for a selection; where one is wrong it
-//! tells that on standard error, and the exit status is 1.
+//! Its words are a kind, `memory`, `disk`, `crash`, `children` or `gate`, and a number, of a script or a life; or `some 0` for a selection of
+//! these. Those of `memory` are lives whose allocations `tools/in-turn` lets fail. It prints how many cases it tried, 0 for a selection;
+//! where one is wrong it tells that on standard error, and the exit status is 1.
 #![tactic(auto)]
 
 mod alone;
+mod children;
+mod clients;
 mod crash;
 mod disk;
+mod faulty_children;
+mod faulty_gate;
+mod gate;
 mod lives;
 mod rows;
 mod scripts;
+mod sessions;
 mod stores;
+mod watched;
 mod wrong;
 
+use gate::Clients;
 use std::alloc::Global;
 use std::env;
 use std::process::ExitCode;
@@ -39,6 +47,32 @@ fn crash_cases(alloc: Global, number: &str) -> Result<u64, Wrong> {
     }
 }
 
+/// Each call of the children fails in turn, for the life of this number.
+fn children_cases(alloc: Global, number: &str) -> Result<u64, Wrong> {
+    match number {
+        "1" => children::each_call(alloc, &children::TORN),
+        "2" => children::each_call(alloc, &children::ONESHOT),
+        _ => Err(found("no such life")),
+    }
+}
+
+/// Each call of the gate fails in turn, with either client first.
+fn gate_cases(alloc: Global, number: &str) -> Result<u64, Wrong> {
+    let (commands, limit, at_once) = match number {
+        "1" => (0, 9, false),
+        "2" => (1, 9, false),
+        "3" => (0, 4096, true),
+        "4" => (1, 4096, true),
+        _ => return Err(found("no such clients")),
+    };
+    let clients = Clients {
+        commands,
+        limit,
+        at_once,
+    };
+    gate::each_call(alloc, clients)
+}
+
 /// The life of this number, whose allocations fail from outside.
 fn life(alloc: Global, number: &str) -> Result<u64, Wrong> {
     match number {
@@ -46,6 +80,7 @@ fn life(alloc: Global, number: &str) -> Result<u64, Wrong> {
         "2" => lives::rows_taken(alloc, lives::CONFLICT),
         "3" => lives::rows_taken(alloc, lives::RESTARTS),
         "4" => lives::rows_taken(alloc, lives::ENABLED),
+        "5" => clients::two_clients(alloc),
         _ => Err(found("no such life")),
     }
 }
@@ -56,24 +91,28 @@ fn part(alloc: Global, kind: &str, number: &str) -> Result<u64, Wrong> {
         "memory" => life(alloc, number),
         "disk" => disk_cases(alloc, number),
         "crash" => crash_cases(alloc, number),
+        "children" => children_cases(alloc, number),
+        "gate" => gate_cases(alloc, number),
         _ => Err(found("no such kind")),
     }
 }
 
-/// The lives with all their memory.
-fn lives_lived(alloc: Global) -> Result<(), Wrong> {
-    for number in ["1", "2", "3", "4"] {
-        life(alloc, number)?;
+/// These scripts or lives of a kind.
+fn parts(alloc: Global, kind: &str, numbers: &[&str]) -> Result<(), Wrong> {
+    for number in numbers {
+        part(alloc, kind, *number)?;
     }
     Ok(())
 }
 
-/// What is short: the lives with all their memory, and a short script each of a disk and of crashes.
+/// What is short: the scripts of children and gate, the lives with all their memory, and a short script each of a disk and of crashes.
 fn some(alloc: Global) -> Result<u64, Wrong> {
     let first = disk::calls_before(alloc)?.saturating_add(1);
     disk::each_call(alloc, &disk::short(alloc)?, first)?;
     crash::each_stop(alloc, &crash::short(alloc)?)?;
-    lives_lived(alloc)?;
+    parts(alloc, "children", &["1", "2"])?;
+    parts(alloc, "gate", &["1", "2", "3", "4"])?;
+    parts(alloc, "memory", &["1", "2", "3", "4", "5"])?;
     lives::wanting_is_noticed(alloc)?;
     Ok(0)
 }
