@@ -1,13 +1,14 @@
 //! Two clients of a manager in which any allocation may fail, once: what finds no memory is asked again.
 
 use crate::alone::{Course, course_of};
+use crate::hoard::Hoard;
 use crate::lives::{SLEEPS, stand_for, taker_behind};
 use crate::rows::{Coming, Row, boot_of};
 use crate::sessions::{add, frame, sent, silence};
 use crate::wrong::{Wrong, found};
 use std::alloc::Global;
 use um_children::FakeChildren;
-use um_manager::{Connection, Manager, Output};
+use um_manager::{Connection, Manager, Output, Pieces};
 use um_model::{Moment, UnitVerb};
 use um_sector::MemDisk;
 use um_state::BootId;
@@ -144,6 +145,8 @@ fn has_started(alloc: Global, course: &Course, manager: &InMemory) -> Result<boo
 /// What a turn of the two clients came to.
 #[derive(Clone, Copy)]
 enum Turned {
+    /// It was done.
+    Done,
     /// It was done but for what is answered E15, the start maybe.
     Served,
     /// It found no memory for itself.
@@ -181,8 +184,9 @@ fn failed(alloc: Global, got: &Got) -> Result<Turned, Wrong> {
 /// Asserts that the replies are what the state tells.
 fn served(alloc: Global, got: &Got) -> Result<Turned, Wrong> {
     let shows = if got.is_behind { RUNNING } else { DEAD };
-    reply_among(alloc, &got.shown, &[shows, WANTING])?;
-    let is_done = match reply_among(alloc, &got.started, &[DONE, WANTING])? {
+    let shown = reply_among(alloc, &got.shown, &[shows, WANTING])?;
+    let started = reply_among(alloc, &got.started, &[DONE, WANTING])?;
+    let is_done = match started {
         Some(place) => place == 0,
         // of a reply alone that found no memory the state tells
         None => got.is_behind,
@@ -190,20 +194,37 @@ fn served(alloc: Global, got: &Got) -> Result<Turned, Wrong> {
     if is_done != got.is_behind {
         return Err(found("the reply to the start isn't what the state tells"));
     }
+    if shown == Some(0) && started == Some(0) {
+        return Ok(Turned::Done);
+    }
     Ok(Turned::Served)
 }
 
-/// The turn of two clients: one asks to show, and for the jobs behind it; the other one starts.
+/// A turn that finds so many grains.
+fn turn(
+    alloc: Global,
+    manager: &mut InMemory,
+    pieces: &Pieces,
+    grains: Option<usize>,
+) -> Result<Result<(), Refusal>, Wrong> {
+    let hoard = Hoard::all_but(alloc, grains)?;
+    let turned = manager.turn(Moment::FIRST, pieces);
+    drop(hoard);
+    Ok(turned)
+}
+
+/// The turn of two clients, with so many grains: one asks to show, and for the jobs behind it; the other one starts.
 fn both(
     alloc: Global,
     course: &Course,
     manager: &mut InMemory,
     first: usize,
+    grains: Option<usize>,
 ) -> Result<Turned, Wrong> {
     let second = first.saturating_add(1);
     let mut both = sent(alloc, first, &[SHOW, JOBS])?;
     add(alloc, &mut both, second, &[START])?;
-    let turned = manager.turn(Moment::FIRST, &both);
+    let turned = turn(alloc, manager, &both, grains)?;
     let got = Got {
         shown: output(manager, first)?,
         started: output(manager, second)?,
@@ -234,9 +255,10 @@ fn both_and_list(
     course: &Course,
     manager: &mut InMemory,
     first: usize,
+    grains: Option<usize>,
 ) -> Result<Turned, Wrong> {
-    let turned = both(alloc, course, manager, first)?;
-    if let Turned::Served = turned {
+    let turned = both(alloc, course, manager, first, grains)?;
+    if let Turned::Done | Turned::Served = turned {
         listed(alloc, manager, first)?;
     }
     Ok(turned)
@@ -247,7 +269,7 @@ fn done(alloc: Global, course: &Course, manager: &mut InMemory, first: usize) ->
     if has_started(alloc, course, manager)? {
         return Ok(());
     }
-    both_and_list(alloc, course, manager, first)?;
+    both_and_list(alloc, course, manager, first, None)?;
     if has_started(alloc, course, manager)? {
         return Ok(());
     }
@@ -265,16 +287,24 @@ fn lists(alloc: Global, manager: &mut InMemory, number: usize) -> Result<bool, W
     Ok(told == Some(0))
 }
 
-/// Two clients in one turn, and a list of the jobs behind it; what finds no memory is asked again. Tells how many requests there were.
-pub fn two_clients(alloc: Global) -> Result<u64, Wrong> {
+/// Two clients in one turn, which finds so many grains, and a list of the jobs behind it; what finds no memory is asked again. Tells whether
+/// nothing of the turn was refused.
+pub fn two(alloc: Global, grains: Option<usize>) -> Result<bool, Wrong> {
     let course = course_of(alloc, TURNED)?;
     let mut manager = opened_manager(alloc, &course)?;
-    if let Turned::Failed = both_and_list(alloc, &course, &mut manager, 1)? {
+    let turned = both_and_list(alloc, &course, &mut manager, 1, grains)?;
+    if let Turned::Failed = turned {
         manager = again(alloc, manager)?;
     }
     done(alloc, &course, &mut manager, 3)?;
     if lists(alloc, &mut manager, 5)? || lists(alloc, &mut manager, 6)? {
-        return Ok(4);
+        return Ok(matches!(turned, Turned::Done));
     }
     Err(found("no memory where there is some"))
+}
+
+/// The same with as much memory as there is; tells how many requests there were.
+pub fn two_clients(alloc: Global) -> Result<u64, Wrong> {
+    two(alloc, None)?;
+    Ok(4)
 }

@@ -1,8 +1,9 @@
 //! Everything that can be refused is refused, one after another, and what must hold is asserted each time.
 //!
-//! Its words are a kind, `memory`, `disk`, `crash`, `children` or `gate`, and a number, of a script or a life; or `some 0` for a selection of
-//! these. Those of `memory` are lives whose allocations `tools/in-turn` lets fail. It prints how many cases it tried, 0 for a selection;
-//! where one is wrong it tells that on standard error, and the exit status is 1.
+//! Its words are a kind, `memory`, `scarce`, `disk`, `crash`, `children` or `gate`, and a number, of a script or a life; or `some 0` for a
+//! selection of these. Those of `memory` are lives whose allocations `tools/in-turn` lets fail; those of `scarce` are played where the
+//! program's memory has a limit. It prints how many cases it tried, 0 for a selection; where one is wrong it tells that on standard error,
+//! and the exit status is 1.
 #![tactic(auto)]
 
 mod alone;
@@ -13,8 +14,11 @@ mod disk;
 mod faulty_children;
 mod faulty_gate;
 mod gate;
+mod hoard;
+mod limited;
 mod lives;
 mod rows;
+mod scarce;
 mod scripts;
 mod sessions;
 mod stores;
@@ -85,10 +89,23 @@ fn life(alloc: Global, number: &str) -> Result<u64, Wrong> {
     }
 }
 
+/// The life of this number, each of whose calls finds little memory.
+fn scarce_life(alloc: Global, number: &str) -> Result<u64, Wrong> {
+    match number {
+        "1" => scarce::rows_taken(alloc, lives::SIMPLE),
+        "2" => scarce::rows_taken(alloc, lives::CONFLICT),
+        "3" => scarce::rows_taken(alloc, lives::RESTARTS),
+        "4" => scarce::rows_taken(alloc, lives::ENABLED),
+        "5" => scarce::two_clients(alloc),
+        _ => Err(found("no such life")),
+    }
+}
+
 /// A script or a life of a kind, by its number.
 fn part(alloc: Global, kind: &str, number: &str) -> Result<u64, Wrong> {
     match kind {
         "memory" => life(alloc, number),
+        "scarce" => scarce_life(alloc, number),
         "disk" => disk_cases(alloc, number),
         "crash" => crash_cases(alloc, number),
         "children" => children_cases(alloc, number),
@@ -105,23 +122,37 @@ fn parts(alloc: Global, kind: &str, numbers: &[&str]) -> Result<(), Wrong> {
     Ok(())
 }
 
+/// The lives of these numbers, each of whose calls finds little memory.
+fn scarce_parts(rt: &HostRuntime, program: &str, numbers: &[&str]) -> Result<(), Wrong> {
+    for number in numbers {
+        limited::play(rt, rt.alloc(), program, *number)?;
+    }
+    Ok(())
+}
+
 /// What is short: the scripts of children and gate, the lives with all their memory, and a short script each of a disk and of crashes.
-fn some(alloc: Global) -> Result<u64, Wrong> {
+fn short(alloc: Global) -> Result<(), Wrong> {
     let first = disk::calls_before(alloc)?.saturating_add(1);
     disk::each_call(alloc, &disk::short(alloc)?, first)?;
     crash::each_stop(alloc, &crash::short(alloc)?)?;
     parts(alloc, "children", &["1", "2"])?;
     parts(alloc, "gate", &["1", "2", "3", "4"])?;
     parts(alloc, "memory", &["1", "2", "3", "4", "5"])?;
-    lives::wanting_is_noticed(alloc)?;
+    lives::wanting_is_noticed(alloc)
+}
+
+/// The same, and two lives whose calls find little memory.
+fn some(rt: &HostRuntime, program: &str) -> Result<u64, Wrong> {
+    short(rt.alloc())?;
+    scarce_parts(rt, program, &["1", "5"])?;
     Ok(0)
 }
 
 /// What the words ask for; tells how many cases were tried.
-fn tried(alloc: Global, kind: &str, number: &str) -> Result<u64, Wrong> {
+fn tried(rt: &HostRuntime, program: &str, kind: &str, number: &str) -> Result<u64, Wrong> {
     match kind {
-        "some" => some(alloc),
-        _ => part(alloc, kind, number),
+        "some" => some(rt, program),
+        _ => part(rt.alloc(), kind, number),
     }
 }
 
@@ -135,7 +166,7 @@ fn words_of(rt: &HostRuntime) -> Result<Vec<String>, Wrong> {
 fn run_once(rt: &HostRuntime) -> Result<u64, Wrong> {
     let words = words_of(rt)?;
     match words.as_slice() {
-        [_, kind, number] => tried(rt.alloc(), kind.as_str(), number.as_str()),
+        [program, kind, number] => tried(rt, program.as_str(), kind.as_str(), number.as_str()),
         _ => Err(found("two words are wanted")),
     }
 }
