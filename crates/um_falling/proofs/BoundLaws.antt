@@ -146,4 +146,6 @@ module _ (s : State) (g : GraphView) where
   ]
 
   pub all_fall : (row : List Neighbour) → IsAscending row → All (λ (n : Neighbour). n.unit < length g.names) row → falling_from s row 0 g.names ≡ falling_in row
-  all_fall row up within = all_from 0 g.names row (λ i. refl) up (λ k d h. omega arith) within
+  all_fall row up within =
+      all_from 0 g.names row (λ i. let same : i ≡ 0 + i = omega arith in ap name_of same) up (λ k d h. omega arith)
+      (λ k d h. let below = within k d h in omega (arith, below))

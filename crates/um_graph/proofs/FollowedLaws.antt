@@ -1,16 +1,17 @@
 -- The set of the names that were followed: with one name more, and of a state of the search that is the same one.
-use Rattle.std.proofs.Common.{◌≡◌, ◌∙◌, ℕ, Bool, true, false, true≢false, cond, List, Some, is_some, refl, sym, ap, subst}
+use Rattle.std.proofs.Common.{◌≡◌, ◌⊎◌, ◌++◌, ◌∷◌, ◌∙◌, ℕ, Bool, true, false, true≢false, cond, List, [], Contains, Some, is_some, refl, sym, ap, subst, inl, inr}
 use Rattle.std.specs.Cmp.{eq_by_cmp_equiv}
 use Rattle.std.specs.Cmp.Lexicographic.{slice_cmp, nat_list_cmp_total}
 use Rattle.std.specs.HashSet.{HashSet, contains}
 use Rattle.std.specs.Ordering.{eq_by_cmp, nat_cmp}
 use Rattle.std.specs.Str.{bytes_eq}
+use Rattle.std.proofs.lemmas.List.Elements.{Contains-append_left, Contains-push_cases}
 use Rattle.std.proofs.lemmas.Map.Lookups.{exact_bytes}
 use Rattle.std.proofs.lemmas.Map.Views.{tells_apart}
 use Rattle.std.proofs.lemmas.Slice.Eq.{bytes_eq-Decides}
 use Rattle.um_unit.specs.declared.loaded.Loading.{Loading}
 use Rattle.um_graph.specs.Followed.{AreFollowed}
-use Rattle.um_graph.specs.Known.{Loaded, loading_at}
+use Rattle.um_graph.specs.Known.{IsFollowed, IsMet, LeavesOut, Loaded, loading_at}
 
 -- the two ways to tell names apart say the same
 is_same : (a b : List ℕ) → bytes_eq a b ≡ true → eq_by_cmp (slice_cmp nat_cmp) a b ≡ true
@@ -40,3 +41,21 @@ module _ {S : Type 0} where
   pub still_followed : (old new : Loaded) (names others : HashSet (List ℕ) S) → new ≡ old → others ≡ names → AreFollowed old names → AreFollowed new others
   still_followed old new names others e f are =
       subst (λ ns. AreFollowed new ns) (sym f) (subst (λ m. AreFollowed m names) (sym e) are)
+
+  -- a name that was followed is left out
+  pub one_left_out : (loaded : Loaded) (names : HashSet (List ℕ) S) (start left after : List (List ℕ)) (name : List ℕ) → AreFollowed loaded names
+      → contains bytes_eq names name ≡ true → left ≡ after ++ name ∷ [] → LeavesOut loaded start left → LeavesOut loaded start after
+  one_left_out loaded names start left after name are has is out = record {
+    fewer = λ x c. out.fewer x (subst (λ l. Contains l x) (sym is) (Contains-append_left after (name ∷ []) x c));
+    kept = λ x c. by x (out.kept x c);
+  }
+    where
+      followed : IsFollowed loaded name
+      followed = sym (are name) ∙ has
+
+      by : (x : List ℕ) → IsMet loaded left x → IsMet loaded after x
+      by x (inl f) = inl f
+      by x (inr c) = elim (Contains-push_cases after name x (subst (λ l. Contains l x) is c)) as (λ _. IsMet loaded after x) [
+        | inl among ↦ inr among
+        | inr here ↦ inl (subst (λ n. IsFollowed loaded n) here followed)
+      ]

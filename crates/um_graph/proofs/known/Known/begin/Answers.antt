@@ -17,6 +17,6 @@ returns-clause-whole c =
     (λ x. ap (lookup (is_at (slice_cmp nat_cmp x))) c.new.ensures.empty)
     c.in_ok-take.ensures.loaded
     (c.in_ok-add_tree.ensures.told ∙ ap (λ ts. ts ++ links_told tree) c.in_ok-found.ensures.told)
-    (c.in_ok-take.ensures.told ∙ ap (λ ts. ts ++ c.add_tree.new.self.told.items) c.new-2.ensures.items)
+    (c.in_ok-take.ensures.told ∙ ap (λ ts. ts ++ c.add_tree.new.self.told.items) c.new-3.ensures.items)
     (c.in_ok-add_tree.ensures.names ∙ ap (λ ns. ns ++ flat_map entry_names (map.entries tree)) c.in_ok-found.ensures.names)
     c.in_ok-take.ensures.left
