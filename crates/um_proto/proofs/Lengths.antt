@@ -32,18 +32,18 @@ escape_longer : (s : List ℕ) → length s ≤ length (escape s)
 escape_longer [] = omega arith
 escape_longer (b ∷ s) = omega (arith, byte_there b, escape_longer s, length-append (escape_byte b) (escape s))
 
-pub quoted_longer : (s : List ℕ) → length s + 2 ≤ length (quoted s)
+quoted_longer : (s : List ℕ) → length s + 2 ≤ length (quoted s)
 quoted_longer s = omega (arith, escape_longer s, length-append (escape s) (34 ∷ []))
 
 -- what a value takes in a list
-abbrev pub room_in_list : Data → ℕ
+abbrev room_in_list : Data → ℕ
 room_in_list d = length (compact_text d) + 1
 
 later_items : (ds : List Data) → sum_by room_in_list ds + 1 ≤ length (items_text true (items_of ds))
 later_items [] = omega arith
 later_items (d ∷ ds) = omega (arith, later_items ds, sum_by-cons room_in_list d ds, length-append (compact_text d) (items_text true (items_of ds)))
 
-pub list_longer : (ds : List Data) → sum_by room_in_list ds + 1 ≤ length (compact_text (array (items_of ds)))
+list_longer : (ds : List Data) → sum_by room_in_list ds + 1 ≤ length (compact_text (array (items_of ds)))
 list_longer [] = omega arith
 list_longer (d ∷ ds) = omega (arith, later_items ds, sum_by-cons room_in_list d ds, length-append (compact_text d) (items_text true (items_of ds)))
 
@@ -80,7 +80,7 @@ actions_longer (a ∷ actions) =
       sum_by-cons room_in_list (action_data a) (map action_data actions),
     )
 
-pub valued_longer : (value : Data) → length (compact_text value) ≤ length (compact_text (valued value))
+valued_longer : (value : Data) → length (compact_text value) ≤ length (compact_text (valued value))
 valued_longer value =
     let last = compact_text value ++ 125 ∷ [] in
     let second = 44 ∷ (quoted (codes "value") ++ 58 ∷ last) in

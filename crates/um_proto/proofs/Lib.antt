@@ -1,4 +1,3 @@
-pub mod Told
 pub mod Keys
 pub mod Lengths
 pub mod Warnings

@@ -1,14 +1,19 @@
--- What is written of a file, a unit, a job and the paths of an install, each by itself.
+-- What is written of a file, a unit, a job and the paths of an install, each by itself, and of warnings.
 -- Follows the definition of a reply's text, which has them in place.
 -- Writing replies stands on this file.
-use Rattle.std.specs.Prelude.{ℕ, ◌+◌, List, [], ◌∷◌, codes, length}
+use Rattle.std.specs.Prelude.{◌≡◌, ℕ, List, [], ◌∷◌, ◌++◌, Option, Some, None, false, Vec, codes, decimal}
+use Rattle.std.specs.declared.alloc.Global.{Global}
+use Rattle.std.specs.List.{flat_map}
 use Rattle.serde_json.specs.Data.{Data, object, member, no_members}
+use Rattle.serde_json.specs.Written.{compact_text}
 use Rattle.um_model.specs.Jobs.{JobShown, job_kind_text, job_state_text}
-use Rattle.um_model.specs.Machine.{UnitListed}
-use Rattle.um_model.specs.Replies.{texts_data}
+use Rattle.um_model.specs.Machine.{Reply, Shown, UnitListed, UnitShown}
+use Rattle.um_model.specs.Replies.{texts_data, warning_data, reply_data, is_told_whole}
 use Rattle.um_model.specs.Resolution.{UnitFile}
-use Rattle.um_model.specs.Units.{Warning}
+use Rattle.um_model.specs.Syntax.{warning_number}
+use Rattle.um_model.specs.Units as model
 use Rattle.um_model.specs.Service.{Action, SpawnProcess, SendSignal, active_state_of, active_state_text, sub_state_text}
+use Rattle.um_unit.specs.declared.warnings.Warning.{Warning}
 
 -- a file: its path and its text
 abbrev pub file_data : UnitFile → Data
@@ -31,6 +36,24 @@ abbrev pub words_told : Action → List (List ℕ)
 words_told (SpawnProcess number words environment) = words
 words_told (SendSignal number signal) = []
 
--- the fewest bytes that a warning takes in the text of a reply, beside the digits of its line
-abbrev pub told_bytes : Warning → ℕ
-told_bytes w = length w.path + 8
+-- a shown unit without its warnings
+abbrev pub without_warnings : UnitShown → UnitShown
+without_warnings u = record u { warnings = [] }
+
+-- a reply without the warnings of the unit that it shows
+abbrev pub unwarned : Reply → Reply
+unwarned (Shown u) = Shown (without_warnings u)
+unwarned reply = reply
+
+-- a warning of the code as it is told, and a comma, for the JSON text of its path
+abbrev pub warning_behind : List ℕ → Warning → List ℕ
+warning_behind path w = 91 ∷ (decimal (warning_number w.kind) ++ 44 ∷ (path ++ 44 ∷ (decimal w.line ++ 93 ∷ 44 ∷ [])))
+
+-- these warnings as they are told, a comma behind each
+abbrev pub warnings_text : List model.Warning → List ℕ
+warnings_text = flat_map (λ w. compact_text (warning_data w) ++ 44 ∷ [])
+
+-- the reply's own text; None only where the reply isn't told whole
+abbrev pub IsOwnText : Reply → Option (Vec ℕ Global) → Type 0
+IsOwnText reply None = is_told_whole reply ≡ false
+IsOwnText reply (Some text) = text.items ≡ compact_text (reply_data reply)

@@ -1,6 +1,6 @@
-ghost use Rattle.std.specs.Prelude.{◌≡◌, [], map, string_bytes, false, ◌++◌, IfOk, IsTrue, OnOk, length, unwrap_or, ◌≤◌};
+ghost use Rattle.std.specs.Prelude.{◌≡◌, [], map, string_bytes, false, ◌++◌, IfOk, IsTrue, OnOk, length, unwrap_or, ◌<◌, ◌≤◌};
 ghost use Rattle.serde_json.specs.Data.{array};
-ghost use Rattle.std.specs.List.{flat_map, sum_by};
+ghost use Rattle.std.specs.List.{flat_map};
 ghost use Rattle.serde_json.specs.View.{view, items_of};
 ghost use Rattle.serde_json.specs.Written.{compact_text};
 ghost use Rattle.um_model.specs.Machine.{Shown, Told};
@@ -8,7 +8,7 @@ ghost use Rattle.um_model.specs.Refusals.{too_large};
 ghost use Rattle.um_model.specs.declared.refusals.Limit.TheVariants.{Reply as TooLong};
 ghost use Rattle.um_model.specs.Replies as model;
 ghost use Rattle.um_proto.specs.Written as written;
-ghost use Rattle.um_proto.specs.Written.{told_bytes, words_told};
+ghost use Rattle.um_proto.specs.Written.{words_told};
 ghost use Rattle.um_resolve.specs.View.{file_of};
 ghost use Rattle.um_state.specs.View.{action_of, job_of, listed_of, shown_of, reply_of};
 ghost use Rattle.um_unit.specs.View.{warned_by, warning_of, warnings_seen};
@@ -97,34 +97,6 @@ fn refused_value(alloc: Global, refusal: &Refusal) -> Result<Value, AllocError>
     json!(in alloc; {"detail": detail, "error": refusal.number(), "ok": false})
 }
 
-fn warning_value(alloc: Global, path: &str, warning: &Warning) -> Result<Value, AllocError>
-    ensures { IfOk result (λ v. view v ≡ model.warning_data (warning_of path.now warning.now)) }
-{
-    let number = warning.kind.number();
-    let line = warning.line as u64;
-    json!(in alloc; [number, path, line])
-}
-
-/// Adds the warnings of a file to a list.
-fn add_warnings(alloc: Global, file: &FileWarnings, list: &mut Vec<Value>) -> Result<(), AllocError>
-    ensures { OnOk result (map view list.new.items ≡ map view list.old.items ++ map model.warning_data (warned_by file.now)) }
-{
-    for warning in &file.warnings {
-        list.push(warning_value(alloc, file.path.as_str(), warning)?)?;
-    }
-    Ok(())
-}
-
-fn warnings_value(alloc: Global, files: &[FileWarnings]) -> Result<Value, AllocError>
-    ensures { IfOk result (λ v. view v ≡ array (items_of (map model.warning_data (warnings_seen files.now)))) }
-{
-    let mut list = Vec::new(alloc);
-    for file in files {
-        add_warnings(alloc, file, &mut list)?;
-    }
-    Ok(Value::Array(list))
-}
-
 /// The number of a process; 0 where there is none.
 fn main_number(process: Option<ProcessNumber>) -> u64
     ensures { result ≡ unwrap_or process 0 }
@@ -135,10 +107,11 @@ fn main_number(process: Option<ProcessNumber>) -> u64
     }
 }
 
+/// What is told of a unit, with an empty list in place of its warnings.
 fn shown_value(alloc: Global, shown: &UnitShown) -> Result<Value, AllocError>
-    ensures { IfOk result (λ v. view v ≡ model.shown_data (shown_of shown.now)) }
+    ensures { IfOk result (λ v. view v ≡ model.shown_data (written.without_warnings (shown_of shown.now))) }
 {
-    let warnings = warnings_value(alloc, shown.warnings.as_slice())?;
+    let warnings = no_texts(alloc);
     json!(in alloc; {
         "ActiveState": shown.state.sub.active_state().text(),
         "Description": &shown.description,
@@ -251,8 +224,9 @@ fn valued(alloc: Global, value: Value) -> Result<Value, AllocError>
     json!(in alloc; {"ok": true, "value": value})
 }
 
+/// A reply, with an empty list in place of the warnings of a unit that it shows.
 fn reply_value(alloc: Global, reply: &Reply) -> Result<Value, AllocError>
-    ensures { IfOk result (λ v. view v ≡ model.reply_data (reply_of reply.now)) }
+    ensures { IfOk result (λ v. view v ≡ model.reply_data (written.unwarned (reply_of reply.now))) }
 {
     match reply {
         Reply::Done => json!(in alloc; {"ok": true}),
@@ -305,34 +279,95 @@ fn are_too_long(alloc: Global, actions: &[Action]) -> Result<bool, AllocError>
     Ok(free.is_none())
 }
 
-/// How many bytes the text of these warnings has at least, the digits of their lines left out: each has its path, two quotes, two
-/// brackets, two commas, the digit of its kind, and a comma or a bracket behind it.
-fn least_bytes(files: &[FileWarnings]) -> usize
-    ensures { result ≤ sum_by told_bytes (warnings_seen files.now) }
-{
-    let mut bytes: usize = 0;
-    for file in files {
-        let each = file.path.len() + 8;
-        bytes = bytes.saturating_add(each.saturating_mul(file.warnings.len()));
-    }
-    bytes
-}
-
-/// Whether the warnings alone make a reply too long that tells a unit. Their texts are not put together.
-fn is_shown_too_long(shown: &UnitShown) -> bool
-    ensures { IsTrue result → model.is_told_whole (Shown (shown_of shown.now)) ≡ false }
-{
-    least_bytes(shown.warnings.as_slice()) > REPLY_LIMIT
-}
-
-/// Whether the reply is too long by what can be seen without writing it.
+/// Whether the reply is too long by the words that it tells.
 fn is_too_long(alloc: Global, reply: &Reply) -> Result<bool, AllocError>
     ensures { IfOk result (λ told. IsTrue told → model.is_told_whole (reply_of reply.now) ≡ false) }
 {
     match reply {
         Reply::Told(actions) => are_too_long(alloc, actions.as_slice()),
-        Reply::Shown(shown) => Ok(is_shown_too_long(shown)),
         _other => Ok(false),
+    }
+}
+
+/// Writes a warning behind a text, and a comma; of its path the JSON text is passed.
+fn add_warning(
+    alloc: Global,
+    path: &str,
+    warning: &Warning,
+    text: &mut Vec<u8>,
+) -> Result<(), AllocError>
+    ensures { OnOk result (text.new.items ≡ text.old.items ++ written.warning_behind path.now warning.now) }
+{
+    let told = format!(in alloc; "[{},{path},{}],", warning.kind.number(), warning.line)?;
+    text.extend_from_slice(told.as_bytes())
+}
+
+/// Writes the warnings of a file behind a text, a comma behind each; false, and no more is written, where the text gets too long.
+fn add_warnings(alloc: Global, file: &FileWarnings, text: &mut Vec<u8>) -> Result<bool, AllocError>
+    ensures all { IfOk result (λ all. IsTrue all → text.new.items ≡ text.old.items ++ written.warnings_text (warned_by file.now)) }
+    ensures long { IfOk result (λ all. all ≡ false → model.reply_limit < length (text.old.items ++ written.warnings_text (warned_by file.now))) }
+{
+    let path = Value::try_from_str(alloc, file.path.as_str())?.to_string(alloc)?;
+    for warning in &file.warnings {
+        if REPLY_LIMIT < text.len() {
+            return Ok(false);
+        }
+        add_warning(alloc, path.as_str(), warning, text)?;
+    }
+    Ok(true)
+}
+
+/// The same with several files.
+fn add_all_warnings(
+    alloc: Global,
+    files: &[FileWarnings],
+    text: &mut Vec<u8>,
+) -> Result<bool, AllocError>
+    ensures all { IfOk result (λ all. IsTrue all → text.new.items ≡ text.old.items ++ written.warnings_text (warnings_seen files.now)) }
+    ensures long { IfOk result (λ all. all ≡ false → model.reply_limit < length (text.old.items ++ written.warnings_text (warnings_seen files.now))) }
+{
+    for file in files {
+        let is_whole = add_warnings(alloc, file, text)?;
+        if !is_whole {
+            return Ok(false);
+        }
+    }
+    Ok(true)
+}
+
+/// Writes the warnings of a shown unit into the text of its reply, which has none. None, and no more is written, where they make it
+/// too long.
+fn with_warnings(
+    alloc: Global,
+    shown: &UnitShown,
+    mut text: Vec<u8>,
+) -> Result<Option<Vec<u8>>, AllocError>
+    requires { text.items ≡ compact_text (model.reply_data (Shown (written.without_warnings (shown_of shown.now)))) }
+    ensures { IfOk result (λ text. written.IsOwnText (Shown (shown_of shown.now)) text) }
+{
+    // the list's, the unit's and the reply's brackets close again behind the warnings
+    text.truncate(text.len() - 3);
+    let begin = text.len();
+    let is_whole = add_all_warnings(alloc, shown.warnings.as_slice(), &mut text)?;
+    if !is_whole {
+        return Ok(None);
+    }
+    if text.len() > begin {
+        // no comma behind the last one
+        text.pop();
+    }
+    text.extend_from_slice(b"]}}")?;
+    Ok(Some(text))
+}
+
+/// The reply's own text, however long. None where it is found too long before it is whole.
+fn own_text(alloc: Global, reply: &Reply) -> Result<Option<Vec<u8>>, AllocError>
+    ensures { IfOk result (λ text. written.IsOwnText (reply_of reply.now) text) }
+{
+    let text = reply_value(alloc, reply)?.to_vec(alloc)?;
+    match reply {
+        Reply::Shown(shown) => with_warnings(alloc, shown, text),
+        _other => Ok(Some(text)),
     }
 }
 
@@ -349,6 +384,7 @@ pub struct ReplyText {
 fn refused_text(alloc: Global) -> Result<ReplyText, AllocError>
     ensures text { IfOk result (λ text. text.bytes.items ≡ compact_text (model.refused_data (too_large TooLong))) }
     ensures whole { IfOk result (λ text. text.is_whole ≡ false) }
+    ensures short { IfOk result (λ text. length text.bytes.items ≤ model.reply_limit) }
 {
     let refusal = Refusal::TooLarge {
         limit: Limit::Reply,
@@ -360,8 +396,8 @@ fn refused_text(alloc: Global) -> Result<ReplyText, AllocError>
     })
 }
 
-/// The text of a reply; in place of one past 2^24 bytes that of the refusal `TooLarge` `reply`. Where the words of the actions or
-/// the warnings that it tells are too long already, they are not put together.
+/// The text of a reply; in place of one past 2^24 bytes that of the refusal `TooLarge` `reply`. Where the words of the actions that it
+/// tells are too long already, they are not put together; of warnings no more is written than one past the limit.
 #[tactic(auto, unfolding(um_model::specs::Replies::reply_text))]
 pub fn write_reply(alloc: Global, reply: &Reply) -> Result<ReplyText, AllocError>
     ensures text { IfOk result (λ text. text.bytes.items ≡ model.reply_text (reply_of reply.now)) }
@@ -372,7 +408,9 @@ pub fn write_reply(alloc: Global, reply: &Reply) -> Result<ReplyText, AllocError
     if is_long {
         return refused_text(alloc);
     }
-    let text = reply_value(alloc, reply)?.to_vec(alloc)?;
+    let Some(text) = own_text(alloc, reply)? else {
+        return refused_text(alloc);
+    };
     if text.len() > REPLY_LIMIT {
         return refused_text(alloc);
     }
