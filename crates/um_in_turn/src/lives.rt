@@ -203,7 +203,7 @@ pub enum Taken {
 }
 
 /// What was told of an input.
-pub fn taken(alloc: Global, told: Result<Receipt, Refusal>) -> Result<Taken, Wrong> {
+pub fn heard(alloc: Global, told: Result<Receipt, Refusal>) -> Result<Taken, Wrong> {
     match told {
         Ok(receipt) => Ok(Taken::As(spent(alloc, receipt)?)),
         Err(Refusal::NoMemory) => Ok(Taken::Wanting),
@@ -214,7 +214,7 @@ pub fn taken(alloc: Global, told: Result<Receipt, Refusal>) -> Result<Taken, Wro
 
 fn submit(alloc: Global, taker: &mut Taker, row: Row) -> Result<Taken, Wrong> {
     let told = taker.submit(input_of(alloc, row)?);
-    taken(alloc, told)
+    heard(alloc, told)
 }
 
 /// Asserts that it is the answer to the row of that place.

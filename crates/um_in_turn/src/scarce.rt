@@ -3,7 +3,7 @@
 use crate::alone::{Course, course_of};
 use crate::clients::two;
 use crate::hoard::Hoard;
-use crate::lives::{Taken, Taker, is_answer, is_closed, is_untouched, stand_for, taken};
+use crate::lives::{Taken, Taker, heard, is_answer, is_closed, is_untouched, stand_for};
 use crate::rows::{Row, input_of};
 use crate::stores::{blank, bytes_of, create_on};
 use crate::wrong::{Wrong, found};
@@ -75,7 +75,7 @@ fn submit(alloc: Global, taker: &mut Taker, row: Row, grains: Grains) -> Result<
     let hoard = Hoard::all_but(alloc, grains)?;
     let told = taker.submit(input);
     drop(hoard);
-    taken(alloc, told)
+    heard(alloc, told)
 }
 
 /// The keeper whose disk found no memory, opened again, and whether it took the row of that place.
