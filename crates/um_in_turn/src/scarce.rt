@@ -45,14 +45,27 @@ fn created(alloc: Global, first: Grains) -> Result<(MemDisk, usize), Wrong> {
     Err(found("a creation is refused always"))
 }
 
-/// A keeper that is opened, in the state of the beginning of so many rows, and how often that was refused: each time each image of its disk stands for that state.
+/// A keeper that is in the state of the beginning of so many rows.
+fn at(
+    alloc: Global,
+    course: &Course,
+    keeper: Keeper<MemDisk>,
+    place: usize,
+) -> Result<Taker, Wrong> {
+    let taker = Taker::over(keeper);
+    taker.is_at(alloc, course, place)?;
+    Ok(taker)
+}
+
+/// A keeper that is opened at the beginning of so many rows, and how often that was refused: each time each image of its disk stands for that
+/// state.
 fn opened(
     alloc: Global,
     course: &Course,
     disk: MemDisk,
     place: usize,
     first: Grains,
-) -> Result<(Keeper<MemDisk>, usize), Wrong> {
+) -> Result<(Taker, usize), Wrong> {
     let mut disk = disk;
     let mut grains = first;
     for tries in 0..MOST {
@@ -60,7 +73,7 @@ fn opened(
         let told = Keeper::open(alloc, disk);
         drop(hoard);
         disk = match told {
-            Ok(keeper) => return Ok((keeper, tries)),
+            Ok(keeper) => return Ok((at(alloc, course, keeper, place)?, tries)),
             Err((Refusal::NoMemory | Refusal::Device, disk)) => disk,
             Err((refusal, _)) => return Err(Wrong::from(refusal)),
         };
@@ -165,8 +178,8 @@ fn take_rows(
 fn play(alloc: Global, rows: &[Row], first: Grains) -> Result<usize, Wrong> {
     let course = course_of(alloc, rows)?;
     let (disk, creating) = created(alloc, first)?;
-    let (keeper, opening) = opened(alloc, &course, disk, 0, first)?;
-    let (taker, taking) = take_rows(alloc, &course, Taker::over(keeper), rows, first)?;
+    let (taker, opening) = opened(alloc, &course, disk, 0, first)?;
+    let (taker, taking) = take_rows(alloc, &course, taker, rows, first)?;
     let (_, again) = opened(alloc, &course, taker.keeper.into_disk(), rows.len(), first)?;
     let openings = opening.saturating_add(again);
     Ok(creating.saturating_add(taking).saturating_add(openings))
