@@ -11,7 +11,7 @@
 # make memory-rows: lets each single allocation of a manager in memory fail in turn, and asserts that nothing changes (it needs cc).
 # make mutated: plays 200,000 frames, 50,000 unit files, 20,000 images and 5,000 folders of runners that were changed at random through the proved
 # program, outside the gate (tools/mutated --help); the gate plays a selection of them.
-# make in-turn: refuses what a keeper and its disk can refuse, one after another, and asserts what must hold each time (it needs cc; README.md has its
+# make in-turn: refuses everything that can be refused, one after another, and asserts what must hold each time (it needs cc; README.md has its
 # time). `tools/in-turn --wrong` plays wrong programs in the same way, each of which must fail.
 # make bench: measures the proved program, and the writing and reading of states (um_bench); the figures that a document calls
 # measured come from it. It ends with an error where a wanted ratio isn't met, that of queries while services run (docs/DECISIONS.md, "Serving").

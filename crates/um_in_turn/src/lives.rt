@@ -12,7 +12,7 @@ use um_sector::MemDisk;
 use um_state::Input;
 use um_wire::Refusal;
 
-const SLEEPS: &str = "[Service]\nExecStart=/bin/sleep 9\n";
+pub const SLEEPS: &str = "[Service]\nExecStart=/bin/sleep 9\n";
 
 /// A simple service is put, loaded and started.
 pub const SIMPLE: &[Row] = &[
@@ -71,14 +71,23 @@ pub const ENABLED: &[Row] = &[
 
 /// What takes the inputs of a life.
 #[derive(Drop)]
-struct Taker {
-    keeper: Keeper<MemDisk>,
+pub struct Taker {
+    pub keeper: Keeper<MemDisk>,
     /// A wrong program: whatever comes is answered E15.
     always_wanting: bool,
 }
 
 impl Taker {
-    fn submit(&mut self, input: Input) -> Result<Receipt, Refusal> {
+    /// Over a keeper.
+    pub fn over(keeper: Keeper<MemDisk>) -> Taker {
+        Taker {
+            keeper,
+            always_wanting: false,
+        }
+    }
+
+    /// Submits the input.
+    pub fn submit(&mut self, input: Input) -> Result<Receipt, Refusal> {
         if self.always_wanting {
             return Err(Refusal::NoMemory);
         }
@@ -86,7 +95,7 @@ impl Taker {
     }
 
     /// The keeper opened again over its disk.
-    fn reopened(self, alloc: Global) -> Result<Taker, Wrong> {
+    pub fn reopened(self, alloc: Global) -> Result<Taker, Wrong> {
         let keeper = opened(alloc, self.keeper.into_disk())?;
         Ok(Taker {
             keeper,
@@ -95,7 +104,7 @@ impl Taker {
     }
 
     /// Asserts that it is in the state of the beginning of so many rows.
-    fn is_at(&self, alloc: Global, course: &Course, place: usize) -> Result<(), Wrong> {
+    pub fn is_at(&self, alloc: Global, course: &Course, place: usize) -> Result<(), Wrong> {
         if course.is_at(place, bytes_of(alloc, &self.keeper)?.as_slice()) {
             return Ok(());
         }
@@ -104,7 +113,7 @@ impl Taker {
 }
 
 /// Asserts that each image that a crash may leave of a disk is opened in the state of a beginning, of at least `low` and at most `high` rows.
-fn stand_for(
+pub fn stand_for(
     alloc: Global,
     course: &Course,
     disk: &MemDisk,
@@ -163,7 +172,7 @@ fn open_at(
 }
 
 /// A creation that found no memory has written nothing.
-fn is_untouched(alloc: Global, disk: &MemDisk) -> Result<(), Wrong> {
+pub fn is_untouched(alloc: Global, disk: &MemDisk) -> Result<(), Wrong> {
     if disk.syncs() == 0 && disk.unsynced(alloc)?.is_empty() {
         return Ok(());
     }
@@ -185,14 +194,17 @@ fn new_store(alloc: Global) -> Result<MemDisk, Wrong> {
 
 /// How an input was answered.
 #[derive(Drop)]
-enum Taken {
+pub enum Taken {
     As(Answer),
+    /// E15.
     Wanting,
+    /// E16.
     Failed,
 }
 
-fn submit(alloc: Global, taker: &mut Taker, row: Row) -> Result<Taken, Wrong> {
-    match taker.submit(input_of(alloc, row)?) {
+/// What was told of an input.
+pub fn heard(alloc: Global, told: Result<Receipt, Refusal>) -> Result<Taken, Wrong> {
+    match told {
         Ok(receipt) => Ok(Taken::As(spent(alloc, receipt)?)),
         Err(Refusal::NoMemory) => Ok(Taken::Wanting),
         Err(Refusal::Device) => Ok(Taken::Failed),
@@ -200,7 +212,13 @@ fn submit(alloc: Global, taker: &mut Taker, row: Row) -> Result<Taken, Wrong> {
     }
 }
 
-fn is_answer(course: &Course, place: usize, answer: &Answer) -> Result<(), Wrong> {
+fn submit(alloc: Global, taker: &mut Taker, row: Row) -> Result<Taken, Wrong> {
+    let told = taker.submit(input_of(alloc, row)?);
+    heard(alloc, told)
+}
+
+/// Asserts that it is the answer to the row of that place.
+pub fn is_answer(course: &Course, place: usize, answer: &Answer) -> Result<(), Wrong> {
     match course.answers.get(place) {
         Some(wanted) if wanted.is(answer) => Ok(()),
         _ => Err(found("another answer than that of the engine")),
@@ -208,7 +226,7 @@ fn is_answer(course: &Course, place: usize, answer: &Answer) -> Result<(), Wrong
 }
 
 /// Asserts that a keeper that failed takes no input (E17).
-fn is_closed(alloc: Global, taker: &mut Taker, row: Row) -> Result<(), Wrong> {
+pub fn is_closed(alloc: Global, taker: &mut Taker, row: Row) -> Result<(), Wrong> {
     match taker.submit(input_of(alloc, row)?) {
         Err(Refusal::Reopen) => Ok(()),
         Err(_) => Err(found("a keeper that failed refuses otherwise")),
@@ -275,7 +293,7 @@ fn take(
 }
 
 /// A new store that takes these rows one by one.
-fn taker_behind(
+pub fn taker_behind(
     alloc: Global,
     course: &Course,
     rows: &[Row],

@@ -1,19 +1,31 @@
-//! What a keeper can refuse, and its disk, is refused, one after another, and what must hold is asserted each time.
+//! Everything that can be refused is refused, one after another, and what must hold is asserted each time.
 //!
-//! Its words are a kind, `memory`, `disk` or `crash`, and a number, of a script or a life; or `some 0` for a selection of these. Those of
-//! `memory` are lives whose allocations `tools/in-turn` lets fail. It prints how many cases it tried, 0 for a selection; where one is wrong it
-//! tells that on standard error, and the exit status is 1.
+//! Its words are a kind, `memory`, `scarce`, `disk`, `crash`, `children` or `gate`, and a number, of a script or a life; or `some 0` for a
+//! selection of these. Those of `memory` are lives whose allocations `tools/in-turn` lets fail; those of `scarce` are played where the
+//! program's memory has a limit. It prints how many cases it tried, 0 for a selection; where one is wrong it tells that on standard error,
+//! and the exit status is 1.
 #![tactic(auto)]
 
 mod alone;
+mod children;
+mod clients;
 mod crash;
 mod disk;
+mod faulty_children;
+mod faulty_gate;
+mod gate;
+mod hoard;
+mod limited;
 mod lives;
 mod rows;
+mod scarce;
 mod scripts;
+mod sessions;
 mod stores;
+mod watched;
 mod wrong;
 
+use gate::Clients;
 use std::alloc::Global;
 use std::env;
 use std::process::ExitCode;
@@ -39,6 +51,32 @@ fn crash_cases(alloc: Global, number: &str) -> Result<u64, Wrong> {
     }
 }
 
+/// Each call of the children fails in turn, for the life of this number.
+fn children_cases(alloc: Global, number: &str) -> Result<u64, Wrong> {
+    match number {
+        "1" => children::each_call(alloc, &children::TORN),
+        "2" => children::each_call(alloc, &children::ONESHOT),
+        _ => Err(found("no such life")),
+    }
+}
+
+/// Each call of the gate fails in turn, with either client first.
+fn gate_cases(alloc: Global, number: &str) -> Result<u64, Wrong> {
+    let (commands, limit, at_once) = match number {
+        "1" => (0, 9, false),
+        "2" => (1, 9, false),
+        "3" => (0, 4096, true),
+        "4" => (1, 4096, true),
+        _ => return Err(found("no such clients")),
+    };
+    let clients = Clients {
+        commands,
+        limit,
+        at_once,
+    };
+    gate::each_call(alloc, clients)
+}
+
 /// The life of this number, whose allocations fail from outside.
 fn life(alloc: Global, number: &str) -> Result<u64, Wrong> {
     match number {
@@ -46,6 +84,19 @@ fn life(alloc: Global, number: &str) -> Result<u64, Wrong> {
         "2" => lives::rows_taken(alloc, lives::CONFLICT),
         "3" => lives::rows_taken(alloc, lives::RESTARTS),
         "4" => lives::rows_taken(alloc, lives::ENABLED),
+        "5" => clients::two_clients(alloc),
+        _ => Err(found("no such life")),
+    }
+}
+
+/// The life of this number, each of whose calls finds little memory.
+fn scarce_life(alloc: Global, number: &str) -> Result<u64, Wrong> {
+    match number {
+        "1" => scarce::rows_taken(alloc, lives::SIMPLE),
+        "2" => scarce::rows_taken(alloc, lives::CONFLICT),
+        "3" => scarce::rows_taken(alloc, lives::RESTARTS),
+        "4" => scarce::rows_taken(alloc, lives::ENABLED),
+        "5" => scarce::two_clients(alloc),
         _ => Err(found("no such life")),
     }
 }
@@ -54,35 +105,54 @@ fn life(alloc: Global, number: &str) -> Result<u64, Wrong> {
 fn part(alloc: Global, kind: &str, number: &str) -> Result<u64, Wrong> {
     match kind {
         "memory" => life(alloc, number),
+        "scarce" => scarce_life(alloc, number),
         "disk" => disk_cases(alloc, number),
         "crash" => crash_cases(alloc, number),
+        "children" => children_cases(alloc, number),
+        "gate" => gate_cases(alloc, number),
         _ => Err(found("no such kind")),
     }
 }
 
-/// The lives with all their memory.
-fn lives_lived(alloc: Global) -> Result<(), Wrong> {
-    for number in ["1", "2", "3", "4"] {
-        life(alloc, number)?;
+/// These scripts or lives of a kind.
+fn parts(alloc: Global, kind: &str, numbers: &[&str]) -> Result<(), Wrong> {
+    for number in numbers {
+        part(alloc, kind, *number)?;
     }
     Ok(())
 }
 
-/// What is short: the lives with all their memory, and a short script each of a disk and of crashes.
-fn some(alloc: Global) -> Result<u64, Wrong> {
+/// The lives of these numbers, each of whose calls finds little memory.
+fn scarce_parts(rt: &HostRuntime, program: &str, numbers: &[&str]) -> Result<(), Wrong> {
+    for number in numbers {
+        limited::play(rt, rt.alloc(), program, *number)?;
+    }
+    Ok(())
+}
+
+/// What is short: the scripts of children and gate, the lives with all their memory, and a short script each of a disk and of crashes.
+fn short(alloc: Global) -> Result<(), Wrong> {
     let first = disk::calls_before(alloc)?.saturating_add(1);
     disk::each_call(alloc, &disk::short(alloc)?, first)?;
     crash::each_stop(alloc, &crash::short(alloc)?)?;
-    lives_lived(alloc)?;
-    lives::wanting_is_noticed(alloc)?;
+    parts(alloc, "children", &["1", "2"])?;
+    parts(alloc, "gate", &["1", "2", "3", "4"])?;
+    parts(alloc, "memory", &["1", "2", "3", "4", "5"])?;
+    lives::wanting_is_noticed(alloc)
+}
+
+/// The same, and two lives whose calls find little memory.
+fn some(rt: &HostRuntime, program: &str) -> Result<u64, Wrong> {
+    short(rt.alloc())?;
+    scarce_parts(rt, program, &["1", "5"])?;
     Ok(0)
 }
 
 /// What the words ask for; tells how many cases were tried.
-fn tried(alloc: Global, kind: &str, number: &str) -> Result<u64, Wrong> {
+fn tried(rt: &HostRuntime, program: &str, kind: &str, number: &str) -> Result<u64, Wrong> {
     match kind {
-        "some" => some(alloc),
-        _ => part(alloc, kind, number),
+        "some" => some(rt, program),
+        _ => part(rt.alloc(), kind, number),
     }
 }
 
@@ -96,7 +166,7 @@ fn words_of(rt: &HostRuntime) -> Result<Vec<String>, Wrong> {
 fn run_once(rt: &HostRuntime) -> Result<u64, Wrong> {
     let words = words_of(rt)?;
     match words.as_slice() {
-        [_, kind, number] => tried(rt.alloc(), kind.as_str(), number.as_str()),
+        [program, kind, number] => tried(rt, program.as_str(), kind.as_str(), number.as_str()),
         _ => Err(found("two words are wanted")),
     }
 }

@@ -2,6 +2,7 @@
 
 use std::alloc::{AllocError, AllocFailed};
 use thiserror::Error;
+use um_children::ChildFault;
 use um_wire::Refusal;
 
 /// Why a run ends early.
@@ -69,5 +70,11 @@ impl From<Refusal> for Wrong {
             Refusal::NoMemory => Wrong::NoMemory,
             refusal => Wrong::Refused { refusal },
         }
+    }
+}
+
+impl From<ChildFault> for Wrong {
+    fn from(fault: ChildFault) -> Wrong {
+        Wrong::from(Refusal::from(fault))
     }
 }

@@ -1,0 +1,231 @@
+//! Each call of the children fails in turn, a start both ways.
+
+use crate::alone::{Alone, spent};
+use crate::faulty_children::FaultyChildren;
+use crate::rows::{Coming, Row, boot_of, input_of};
+use crate::stores::{made, opened};
+use crate::watched::{BOOT, Running, Watched, watch};
+use crate::wrong::{Wrong, found};
+use std::alloc::Global;
+use um_children::{End, FakeChildren, ProcessNumber};
+use um_manager::Manager;
+use um_model::{Moment, UnitVerb};
+use um_sector::MemDisk;
+
+const START: &str = r#"{"verb":"start","unit":"a"}"#;
+
+const STOP: &str = r#"{"verb":"stop","unit":"a"}"#;
+
+const STARTS: Row = (0, Coming::Verb(UnitVerb::Start, "a.service"));
+
+const STOPS: Row = (0, Coming::Verb(UnitVerb::Stop, "a.service"));
+
+/// What a run does.
+#[derive(Clone, Copy)]
+pub enum Doing {
+    /// A turn in which a request comes, and the row that it is.
+    Ask(&'static str, Row),
+    /// A turn in which nothing comes.
+    Silent,
+    /// The manager is opened again.
+    Open,
+    /// The process of the number ended with the code, and the manager is opened again.
+    EndAndOpen(u64, u8),
+}
+
+/// What stands in the store, how processes end, and what is done.
+pub struct Life {
+    pub name: &'static str,
+    rows: &'static [Row],
+    ends: &'static [(u64, u8)],
+    doings: &'static [Doing],
+}
+
+/// A start that was recorded, and not carried out.
+pub const TORN: Life = Life {
+    name: " of the torn start",
+    rows: &[
+        (0, Coming::Booted(BOOT)),
+        (
+            0,
+            Coming::Put("lib/a.service", "[Service]\nExecStart=/bin/sleep 9\n"),
+        ),
+        (0, Coming::Reload),
+        STARTS,
+    ],
+    ends: &[],
+    doings: &[
+        Doing::Silent,
+        Doing::Silent,
+        Doing::Ask(START, STARTS),
+        Doing::Silent,
+        Doing::Silent,
+        Doing::Ask(STOP, STOPS),
+        Doing::Silent,
+        Doing::EndAndOpen(2, 0),
+        Doing::Silent,
+        Doing::Ask(START, STARTS),
+        Doing::Silent,
+        Doing::Silent,
+    ],
+};
+
+/// A oneshot of two commands, which is started twice; the second time its second command fails.
+pub const ONESHOT: Life = Life {
+    name: " of the oneshot",
+    rows: &[
+        (0, Coming::Booted(BOOT)),
+        (
+            0,
+            Coming::Put(
+                "lib/a.service",
+                "[Service]\nType=oneshot\nExecStart=/bin/true\nExecStart=/bin/false\n",
+            ),
+        ),
+        (0, Coming::Reload),
+    ],
+    ends: &[(1, 0), (2, 0), (3, 0), (4, 1)],
+    doings: &[
+        Doing::Ask(START, STARTS),
+        Doing::Silent,
+        Doing::Silent,
+        Doing::Silent,
+        Doing::Silent,
+        Doing::Ask(START, STARTS),
+        Doing::Silent,
+        Doing::Silent,
+        Doing::Silent,
+        Doing::Silent,
+    ],
+};
+
+/// Opens a manager.
+fn open(alloc: Global, disk: MemDisk, children: FaultyChildren) -> Result<Running, Wrong> {
+    match Manager::open(alloc, disk, children, boot_of(alloc, BOOT)?, Moment::FIRST) {
+        Ok(manager) => Ok(manager),
+        Err((refusal, _, _)) => Err(Wrong::from(refusal)),
+    }
+}
+
+/// The manager is opened again; before that the process ended so.
+fn again(alloc: Global, watched: Watched, end: Option<(u64, u8)>) -> Result<Watched, Wrong> {
+    let Watched {
+        manager,
+        alone,
+        seen,
+        ..
+    } = watched;
+    let (disk, mut children) = manager.into_parts();
+    if let Some((number, code)) = end {
+        children.ends(process(number)?, End::Code(code))?;
+    }
+    watch(alloc, open(alloc, disk, children)?, alone, seen)
+}
+
+fn process(number: u64) -> Result<ProcessNumber, Wrong> {
+    match ProcessNumber::new(number) {
+        Some(number) => Ok(number),
+        None => Err(found("no process number")),
+    }
+}
+
+fn go(alloc: Global, watched: Watched, doing: Doing) -> Result<Watched, Wrong> {
+    let mut watched = watched;
+    match doing {
+        Doing::Ask(text, row) => watched.turn(alloc, text, Some(row))?,
+        Doing::Silent => watched.turn(alloc, "", None)?,
+        Doing::Open => return again(alloc, watched, None),
+        Doing::EndAndOpen(number, code) => return again(alloc, watched, Some((number, code))),
+    }
+    Ok(watched)
+}
+
+/// The store of a life: what its rows order isn't carried out.
+fn stored(alloc: Global, life: &Life) -> Result<(MemDisk, Alone), Wrong> {
+    let mut keeper = opened(alloc, made(alloc)?)?;
+    let mut alone = Alone::new(alloc)?;
+    for row in life.rows {
+        let receipt = keeper.submit(input_of(alloc, *row)?)?;
+        spent(alloc, receipt)?;
+        alone.take_row(*row)?;
+    }
+    Ok((keeper.into_disk(), alone))
+}
+
+/// The children of a life, of which one call fails.
+fn children_of(
+    alloc: Global,
+    life: &Life,
+    fails: u64,
+    makes: bool,
+) -> Result<FaultyChildren, Wrong> {
+    let mut children = FaultyChildren::new(FakeChildren::new(alloc), fails, makes);
+    for (number, code) in life.ends {
+        children.ends(process(*number)?, End::Code(*code))?;
+    }
+    Ok(children)
+}
+
+/// What a run was.
+#[derive(Drop)]
+struct Ran {
+    calls: u64,
+    is_start: bool,
+    has_failed: bool,
+}
+
+/// One run of a life, with an opening more before the doing of that number.
+fn run(alloc: Global, life: &Life, place: usize, fails: u64, makes: bool) -> Result<Ran, Wrong> {
+    let (disk, alone) = stored(alloc, life)?;
+    let children = children_of(alloc, life, fails, makes)?;
+    let mut watched = watch(alloc, open(alloc, disk, children)?, alone, 0)?;
+    for (number, doing) in life.doings.iter().enumerate() {
+        if number == place {
+            watched = go(alloc, watched, Doing::Open)?;
+        }
+        watched = go(alloc, watched, *doing)?;
+    }
+    if !watched.untold.is_empty() {
+        return Err(found("a number is never told"));
+    }
+    let children = watched.manager.children();
+    Ok(Ran {
+        calls: children.calls(),
+        is_start: children.refused().is_some(),
+        has_failed: children.has_failed(),
+    })
+}
+
+/// A run whose call of this number fails; tells how many cases that are: a start fails both ways.
+fn both_ways(alloc: Global, life: &Life, place: usize, fails: u64) -> Result<u64, Wrong> {
+    let ran = run(alloc, life, place, fails, false)?;
+    if !ran.has_failed {
+        return Err(found("no call failed"));
+    }
+    if !ran.is_start {
+        return Ok(1);
+    }
+    run(alloc, life, place, fails, true)?;
+    Ok(2)
+}
+
+/// Each call of the children fails in turn, with an opening before the doing of that number; tells how many cases were tried.
+fn each_call_at(alloc: Global, life: &Life, place: usize) -> Result<u64, Wrong> {
+    let mut cases: u64 = 0;
+    for fails in 1..=run(alloc, life, place, 0, false)?.calls {
+        match both_ways(alloc, life, place, fails) {
+            Ok(count) => cases = cases.saturating_add(count),
+            Err(wrong) => return Err(wrong.at(fails, life.name)),
+        }
+    }
+    Ok(cases)
+}
+
+/// Each call of the children fails in turn, with an opening before each doing; tells how many cases were tried.
+pub fn each_call(alloc: Global, life: &Life) -> Result<u64, Wrong> {
+    let mut cases: u64 = 0;
+    for place in 0..=life.doings.len() {
+        cases = cases.saturating_add(each_call_at(alloc, life, place)?);
+    }
+    Ok(cases)
+}

@@ -1,0 +1,310 @@
+//! Two clients of a manager in which any allocation may fail, once: what finds no memory is asked again.
+
+use crate::alone::{Course, course_of};
+use crate::hoard::Hoard;
+use crate::lives::{SLEEPS, stand_for, taker_behind};
+use crate::rows::{Coming, Row, boot_of};
+use crate::sessions::{add, frame, sent, silence};
+use crate::wrong::{Wrong, found};
+use std::alloc::Global;
+use um_children::FakeChildren;
+use um_manager::{Connection, Manager, Output, Pieces};
+use um_model::{Moment, UnitVerb};
+use um_sector::MemDisk;
+use um_state::BootId;
+use um_wire::{Refusal, spell};
+
+type InMemory = Manager<MemDisk, FakeChildren>;
+
+const SHOW: &str = r#"{"verb":"show","unit":"a"}"#;
+
+const JOBS: &str = r#"{"verb":"list-jobs"}"#;
+
+const START: &str = r#"{"verb":"start","unit":"a"}"#;
+
+/// What may be answered to the start, to the show that comes with it, and to the list of jobs behind it.
+const DONE: &str = r#"{"ok":true}"#;
+
+const WANTING: &str = r#"{"detail":[],"error":15,"ok":false}"#;
+
+const DEVICE: &str = r#"{"detail":[],"error":16,"ok":false}"#;
+
+const NONE: &str = r#"{"ok":true,"value":[]}"#;
+
+const RUNNING: &str =
+    r#"{"ok":true,"value":{"ActiveState":"active","Description":"","Id":"a.service","LoadState":"loaded","MainNumber":1,"Result":"success","SubState":"running","Warnings":[]}}"#;
+
+const DEAD: &str =
+    r#"{"ok":true,"value":{"ActiveState":"inactive","Description":"","Id":"a.service","LoadState":"loaded","MainNumber":0,"Result":"success","SubState":"dead","Warnings":[]}}"#;
+
+/// What comes in before the manager is opened.
+const LOADED: &[Row] = &[
+    (0, Coming::Put("lib/a.service", SLEEPS)),
+    (0, Coming::Reload),
+];
+
+/// The same, the boot, the start of the two clients, and how that ends where the children find no memory for it.
+const TURNED: &[Row] = &[
+    (0, Coming::Put("lib/a.service", SLEEPS)),
+    (0, Coming::Reload),
+    (0, Coming::Booted("one")),
+    (0, Coming::Verb(UnitVerb::Start, "a.service")),
+    (0, Coming::Ended(1, 203)),
+];
+
+/// So many of these rows stand behind the boot, the start, and its end.
+const BOOTED: usize = 3;
+
+const STARTED: usize = 4;
+
+const ENDED: usize = 5;
+
+/// The manager over a store that is loaded, opened again where it found no memory: then each image stands for the state from before, or,
+/// where its disk found none, maybe for that behind the boot.
+fn opened_manager(alloc: Global, course: &Course) -> Result<InMemory, Wrong> {
+    let disk = taker_behind(alloc, course, LOADED, false)?
+        .keeper
+        .into_disk();
+    let children = FakeChildren::new(alloc);
+    let boot = boot_of(alloc, "one")?;
+    let again = boot_of(alloc, "one")?;
+    let (refusal, disk, children) = match Manager::open(
+        alloc,
+        disk,
+        children,
+        boot,
+        Moment::FIRST,
+    ) {
+        Ok(manager) => return Ok(manager),
+        Err(refused) => refused,
+    };
+    let high = match refusal {
+        Refusal::NoMemory => LOADED.len(),
+        Refusal::Device => BOOTED,
+        refusal => return Err(Wrong::from(refusal)),
+    };
+    stand_for(alloc, course, &disk, LOADED.len(), high)?;
+    open(alloc, disk, children, again)
+}
+
+fn open(
+    alloc: Global,
+    disk: MemDisk,
+    children: FakeChildren,
+    boot: BootId,
+) -> Result<InMemory, Wrong> {
+    match Manager::open(alloc, disk, children, boot, Moment::FIRST) {
+        Ok(manager) => Ok(manager),
+        Err((refusal, _, _)) => Err(Wrong::from(refusal)),
+    }
+}
+
+/// The manager whose disk found no memory, opened again.
+fn again(alloc: Global, manager: InMemory) -> Result<InMemory, Wrong> {
+    let (disk, children) = manager.into_parts();
+    open(alloc, disk, children, boot_of(alloc, "one")?)
+}
+
+fn output(manager: &mut InMemory, number: usize) -> Result<Output, Wrong> {
+    match Connection::new(number) {
+        Some(connection) => Ok(manager.output(connection)),
+        None => Err(found("no connection")),
+    }
+}
+
+/// Which of these replies was put out; None where the session has failed with a reply less.
+fn reply_among(alloc: Global, output: &Output, texts: &[&str]) -> Result<Option<usize>, Wrong> {
+    if output.failed {
+        if output.bytes.is_empty() {
+            return Ok(None);
+        }
+        return Err(found("a session that failed has put something out"));
+    }
+    for (place, text) in texts.iter().enumerate() {
+        if output.bytes.as_slice() == frame(alloc, text.as_bytes())?.as_slice() {
+            return Ok(Some(place));
+        }
+    }
+    Err(found("another reply than one of those that may come"))
+}
+
+/// Whether the state of the manager is that behind the start, or, where the children failed, that behind its end.
+fn has_started(alloc: Global, course: &Course, manager: &InMemory) -> Result<bool, Wrong> {
+    let bytes = spell(alloc, manager.state())?;
+    let last = if manager.children().failures() == 0 {
+        STARTED
+    } else {
+        ENDED
+    };
+    match course.place(BOOTED, last, bytes.as_slice()) {
+        Some(place) => Ok(place >= STARTED),
+        None => Err(found("a state that isn't that before or behind the start")),
+    }
+}
+
+/// What a turn of the two clients came to.
+#[derive(Clone, Copy)]
+enum Turned {
+    /// It was done.
+    Done,
+    /// It was done but for what is answered E15, the start maybe.
+    Served,
+    /// It found no memory for itself.
+    Untaken,
+    /// The disk failed.
+    Failed,
+}
+
+/// What the two clients got, and whether the start was done.
+#[derive(Drop)]
+struct Got {
+    shown: Output,
+    started: Output,
+    is_behind: bool,
+}
+
+/// Asserts that nothing was done.
+fn untaken(got: &Got) -> Result<Turned, Wrong> {
+    let is_silent = got.shown.bytes.is_empty() && got.started.bytes.is_empty();
+    if got.is_behind || !is_silent || got.shown.failed || got.started.failed {
+        return Err(found("a turn without memory did something"));
+    }
+    Ok(Turned::Untaken)
+}
+
+/// Asserts that the start is answered E16, and isn't done.
+fn failed(alloc: Global, got: &Got) -> Result<Turned, Wrong> {
+    if got.is_behind {
+        return Err(found("the state after E16 isn't that from before"));
+    }
+    reply_among(alloc, &got.started, &[DEVICE])?;
+    Ok(Turned::Failed)
+}
+
+/// Asserts that the replies are what the state tells.
+fn served(alloc: Global, got: &Got) -> Result<Turned, Wrong> {
+    let shows = if got.is_behind { RUNNING } else { DEAD };
+    let shown = reply_among(alloc, &got.shown, &[shows, WANTING])?;
+    let started = reply_among(alloc, &got.started, &[DONE, WANTING])?;
+    let is_done = match started {
+        Some(place) => place == 0,
+        // of a reply alone that found no memory the state tells
+        None => got.is_behind,
+    };
+    if is_done != got.is_behind {
+        return Err(found("the reply to the start isn't what the state tells"));
+    }
+    if shown == Some(0) && started == Some(0) {
+        return Ok(Turned::Done);
+    }
+    Ok(Turned::Served)
+}
+
+/// A turn that finds so many grains.
+fn turn(
+    alloc: Global,
+    manager: &mut InMemory,
+    pieces: &Pieces,
+    grains: Option<usize>,
+) -> Result<Result<(), Refusal>, Wrong> {
+    let hoard = Hoard::all_but(alloc, grains)?;
+    let turned = manager.turn(Moment::FIRST, pieces);
+    drop(hoard);
+    Ok(turned)
+}
+
+/// The turn of two clients, with so many grains: one asks to show, and for the jobs behind it; the other one starts.
+fn both(
+    alloc: Global,
+    course: &Course,
+    manager: &mut InMemory,
+    first: usize,
+    grains: Option<usize>,
+) -> Result<Turned, Wrong> {
+    let second = first.saturating_add(1);
+    let mut both = sent(alloc, first, &[SHOW, JOBS])?;
+    add(alloc, &mut both, second, &[START])?;
+    let turned = turn(alloc, manager, &both, grains)?;
+    let got = Got {
+        shown: output(manager, first)?,
+        started: output(manager, second)?,
+        is_behind: has_started(alloc, course, manager)?,
+    };
+    match turned {
+        Ok(()) => served(alloc, &got),
+        Err(Refusal::NoMemory) => untaken(&got),
+        Err(Refusal::Device) => failed(alloc, &got),
+        Err(refusal) => Err(Wrong::from(refusal)),
+    }
+}
+
+/// The jobs that were asked for behind the show are listed in the next turn, which is asked again where it found no memory.
+fn listed(alloc: Global, manager: &mut InMemory, first: usize) -> Result<(), Wrong> {
+    let nothing = silence(alloc)?;
+    match manager.turn(Moment::FIRST, &nothing) {
+        Err(Refusal::NoMemory) => manager.turn(Moment::FIRST, &nothing)?,
+        turned => turned?,
+    }
+    reply_among(alloc, &output(manager, first)?, &[NONE, WANTING])?;
+    Ok(())
+}
+
+/// The turn of two clients, and the list behind it.
+fn both_and_list(
+    alloc: Global,
+    course: &Course,
+    manager: &mut InMemory,
+    first: usize,
+    grains: Option<usize>,
+) -> Result<Turned, Wrong> {
+    let turned = both(alloc, course, manager, first, grains)?;
+    if let Turned::Done | Turned::Served = turned {
+        listed(alloc, manager, first)?;
+    }
+    Ok(turned)
+}
+
+/// Asks again for the start where it wasn't done, and asserts that it is done then.
+fn done(alloc: Global, course: &Course, manager: &mut InMemory, first: usize) -> Result<(), Wrong> {
+    if has_started(alloc, course, manager)? {
+        return Ok(());
+    }
+    both_and_list(alloc, course, manager, first, None)?;
+    if has_started(alloc, course, manager)? {
+        return Ok(());
+    }
+    Err(found("no memory where there is some"))
+}
+
+/// Asks for the jobs, and tells whether they were listed: there are none.
+fn lists(alloc: Global, manager: &mut InMemory, number: usize) -> Result<bool, Wrong> {
+    match manager.turn(Moment::FIRST, &sent(alloc, number, &[JOBS])?) {
+        Ok(()) => {}
+        Err(Refusal::NoMemory) => return Ok(false),
+        Err(refusal) => return Err(Wrong::from(refusal)),
+    }
+    let told = reply_among(alloc, &output(manager, number)?, &[NONE, WANTING])?;
+    Ok(told == Some(0))
+}
+
+/// Two clients in one turn, which finds so many grains, and a list of the jobs behind it; what finds no memory is asked again. Tells whether
+/// nothing of the turn was refused.
+pub fn two(alloc: Global, grains: Option<usize>) -> Result<bool, Wrong> {
+    let course = course_of(alloc, TURNED)?;
+    let mut manager = opened_manager(alloc, &course)?;
+    let turned = both_and_list(alloc, &course, &mut manager, 1, grains)?;
+    if let Turned::Failed = turned {
+        manager = again(alloc, manager)?;
+    }
+    done(alloc, &course, &mut manager, 3)?;
+    if lists(alloc, &mut manager, 5)? || lists(alloc, &mut manager, 6)? {
+        return Ok(matches!(turned, Turned::Done));
+    }
+    Err(found("no memory where there is some"))
+}
+
+/// The same with as much memory as there is; tells how many requests there were.
+pub fn two_clients(alloc: Global) -> Result<u64, Wrong> {
+    two(alloc, None)?;
+    Ok(4)
+}

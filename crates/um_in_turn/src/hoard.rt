@@ -1,0 +1,74 @@
+//! Memory that is held, so that a call finds little.
+
+use crate::wrong::{Wrong, found};
+use std::alloc::Global;
+
+/// So many bytes has a grain.
+const GRAIN: usize = 64;
+
+/// The largest blocks that are held have two to the power of this many bytes.
+const LARGE: usize = 20;
+
+/// The smallest of those that halve; below them there is one of each size that the C library hands out.
+const SMALL: usize = 11;
+
+/// More blocks than these aren't held: so the program ends where its memory has no limit.
+const MOST: usize = 16_384;
+
+/// All memory of the program but so many grains.
+#[derive(Drop)]
+pub struct Hoard {
+    /// Where the grains stood.
+    grains: Vec<Vec<u8>>,
+    blocks: Vec<Vec<u8>>,
+}
+
+/// Holds blocks of so many bytes, until none is left.
+fn hold(alloc: Global, blocks: &mut Vec<Vec<u8>>, bytes: usize) -> Result<(), Wrong> {
+    for _ in blocks.len()..MOST {
+        match Vec::with_capacity(alloc, bytes) {
+            Ok(block) => blocks.push(block)?,
+            Err(_) => return Ok(()),
+        }
+    }
+    Err(found("there is no limit of memory"))
+}
+
+/// Holds all that is left, the largest blocks first.
+fn hold_all(alloc: Global, blocks: &mut Vec<Vec<u8>>) -> Result<(), Wrong> {
+    for half in 0..=LARGE - SMALL {
+        hold(alloc, blocks, 1 << (LARGE - half))?;
+    }
+    for size in 0..64 {
+        hold(alloc, blocks, 1032 - 16 * size)?;
+    }
+    Ok(())
+}
+
+/// So many grains.
+fn grains_of(alloc: Global, count: usize) -> Result<Vec<Vec<u8>>, Wrong> {
+    let mut grains = Vec::new(alloc);
+    for _ in 0..count {
+        grains.push(Vec::with_capacity(alloc, GRAIN)?)?;
+    }
+    Ok(grains)
+}
+
+impl Hoard {
+    /// From now on, until it is let go, a call finds about so many grains, where the program's memory has a limit. With None nothing is held.
+    pub fn all_but(alloc: Global, grains: Option<usize>) -> Result<Hoard, Wrong> {
+        let Some(count) = grains else {
+            return Ok(Hoard {
+                grains: Vec::new(alloc),
+                blocks: Vec::new(alloc),
+            });
+        };
+        let mut hoard = Hoard {
+            grains: grains_of(alloc, count)?,
+            blocks: Vec::with_capacity(alloc, MOST)?,
+        };
+        hold_all(alloc, &mut hoard.blocks)?;
+        hoard.grains.clear();
+        Ok(hoard)
+    }
+}

@@ -1,0 +1,27 @@
+//! The program once more, in a process of its own that has little memory.
+
+use crate::wrong::{Wrong, found};
+use std::alloc::{AllocError, Global};
+use std::process::{Command, Processes, Stdio};
+
+/// Becomes its words, with 64 MiB of memory at most.
+const LIMITED: &str = "ulimit -v 65536 && exec \"$@\"";
+
+/// The command that plays the life of this number.
+fn command(alloc: Global, program: &str, number: &str) -> Result<Command, AllocError> {
+    let mut command = Command::new(alloc, "sh")?;
+    for word in ["-c", LIMITED, "sh", program, "scarce", number] {
+        command.arg(word)?;
+    }
+    command.stdin(Stdio::null()).stdout(Stdio::null());
+    Ok(command)
+}
+
+/// The life of this number, played by this program with little memory; what it finds wrong it tells itself.
+pub fn play<R: Processes>(rt: &R, alloc: Global, program: &str, number: &str) -> Result<(), Wrong> {
+    let mut command = command(alloc, program, number)?;
+    match command.status(rt) {
+        Ok(status) if status.success() => Ok(()),
+        _ => Err(found("a life with little memory is wrong, or isn't played")),
+    }
+}

@@ -1,0 +1,279 @@
+//! A manager whose children fail a call, beside what the engine alone makes of what was told.
+
+use crate::alone::{Alone, Order};
+use crate::faulty_children::FaultyChildren;
+use crate::rows::{Coming, Row};
+use crate::sessions::{frame, sent, silence};
+use crate::wrong::{Wrong, found};
+use std::alloc::Global;
+use um_children::{Call, End, Fate, ProcessNumber};
+use um_manager::{Connection, Manager};
+use um_model::Moment;
+use um_sector::MemDisk;
+use um_state::{Event, Happening, Input};
+use um_wire::spell;
+
+/// The boot of all runs.
+pub const BOOT: &str = "one";
+
+/// A manager over a disk in memory and these children.
+pub type Running = Manager<MemDisk, FaultyChildren>;
+
+/// A manager, and what the engine alone makes of what it was told.
+#[derive(Drop)]
+pub struct Watched {
+    pub manager: Running,
+    pub alone: Alone,
+    /// So many calls of the children were looked at.
+    pub seen: usize,
+    /// The numbers that are to be asked with a claim.
+    claimed: Vec<ProcessNumber>,
+    /// Those of which nothing was told since.
+    pub untold: Vec<ProcessNumber>,
+}
+
+fn happened(happening: Happening) -> Input {
+    Input::new(Moment::FIRST, Event::Happened(happening))
+}
+
+/// The engine alone takes what a fate comes to; one that is absent ended so.
+fn hear_one(
+    alone: &mut Alone,
+    number: ProcessNumber,
+    fate: Fate,
+    absent: End,
+    orders: &mut Vec<Order>,
+) -> Result<(), Wrong> {
+    let is_executed = match fate {
+        Fate::Executed => true,
+        Fate::Ended(end) => end != End::Code(203),
+        Fate::Starting | Fate::Absent => false,
+    };
+    let number = number.get();
+    if is_executed {
+        let answer = alone.take(&happened(Happening::ProcessExecuted { number }))?;
+        orders.extend_from_slice(answer.orders.as_slice())?;
+    }
+    let end = match fate {
+        Fate::Ended(end) => end,
+        Fate::Absent => absent,
+        Fate::Starting | Fate::Executed => return Ok(()),
+    };
+    let answer = alone.take(&happened(Happening::ProcessEnded { number, end }))?;
+    orders.extend_from_slice(answer.orders.as_slice())?;
+    Ok(())
+}
+
+/// The engine alone takes all that was told in these calls.
+fn hear(
+    alone: &mut Alone,
+    calls: &[Call],
+    absent: End,
+    orders: &mut Vec<Order>,
+) -> Result<(), Wrong> {
+    for call in calls {
+        if let Call::Asked {
+            number,
+            told: Some(fate),
+            ..
+        } = call
+        {
+            hear_one(alone, *number, *fate, absent, orders)?;
+        }
+    }
+    Ok(())
+}
+
+/// What was ordered in these calls.
+fn ordered(alloc: Global, calls: &[Call]) -> Result<Vec<Order>, Wrong> {
+    let mut orders = Vec::new(alloc);
+    for call in calls {
+        match call {
+            Call::Spawned { number, .. } => orders.push(Order {
+                number: *number,
+                signal: None,
+            })?,
+            Call::Signalled { number, signal } => orders.push(Order {
+                number: *number,
+                signal: Some(*signal),
+            })?,
+            _ => {}
+        }
+    }
+    Ok(orders)
+}
+
+/// Asserts that each number that is to be asked with a claim was asked so.
+fn are_claimed(calls: &[Call], claimed: &[ProcessNumber]) -> Result<(), Wrong> {
+    for call in calls {
+        if let Call::Asked { number, claim, .. } = call {
+            if claimed.contains(number) && !*claim {
+                return Err(found("a number is asked without a claim"));
+            }
+        }
+    }
+    Ok(())
+}
+
+/// Whether the fate of a number was asked in these calls, and told.
+fn is_told(calls: &[Call], process: ProcessNumber) -> Result<bool, Wrong> {
+    for call in calls {
+        if let Call::Asked { number, told, .. } = call {
+            if *number == process {
+                return Ok(told.is_some());
+            }
+        }
+    }
+    Err(found("a number isn't asked again"))
+}
+
+/// How often a number was ordered to be started.
+fn starts_of(calls: &[Call], process: ProcessNumber) -> usize {
+    let mut count: usize = 0;
+    for call in calls {
+        if let Call::Spawned { number, .. } = call {
+            if *number == process {
+                count = count.saturating_add(1);
+            }
+        }
+    }
+    count
+}
+
+/// Asserts that no number was ordered to be started twice.
+fn are_started_once(calls: &[Call]) -> Result<(), Wrong> {
+    for call in calls {
+        if let Call::Spawned { number, .. } = call {
+            if starts_of(calls, *number) > 1 {
+                return Err(found("a number is started twice"));
+            }
+        }
+    }
+    Ok(())
+}
+
+/// Asserts that these orders were carried out; behind them an opening may send signals again.
+fn are_carried_out(done: &[Order], orders: &[Order], is_opening: bool) -> Result<(), Wrong> {
+    if !done.starts_with(orders) {
+        return Err(found("other orders than those that are due"));
+    }
+    for order in done.iter().skip(orders.len()) {
+        if !is_opening || order.signal.is_none() {
+            return Err(found("more orders than those that are due"));
+        }
+    }
+    Ok(())
+}
+
+/// The numbers of which nothing is told yet.
+fn left_untold(
+    alloc: Global,
+    calls: &[Call],
+    untold: &[ProcessNumber],
+) -> Result<Vec<ProcessNumber>, Wrong> {
+    let mut left = Vec::new(alloc);
+    for number in untold {
+        if !is_told(calls, *number)? {
+            left.push(*number)?;
+        }
+    }
+    Ok(left)
+}
+
+/// The calls of a manager's children behind so many.
+fn calls_behind(manager: &Running, seen: usize) -> &[Call] {
+    manager.children().notes().get(seen..).unwrap_or(&[])
+}
+
+impl Watched {
+    /// Looks at what a turn or an opening did beside what was told and taken, by the orders of the engine alone.
+    fn look(&mut self, alloc: Global, orders: &[Order], is_opening: bool) -> Result<(), Wrong> {
+        let calls = calls_behind(&self.manager, self.seen);
+        let done = ordered(alloc, calls)?;
+        are_carried_out(done.as_slice(), orders, is_opening)?;
+        are_claimed(calls, self.claimed.as_slice())?;
+        are_started_once(self.manager.children().notes())?;
+        let untold = left_untold(alloc, calls, self.untold.as_slice())?;
+        self.seen = self.manager.children().notes().len();
+        self.untold = untold;
+        self.mark()?;
+        let bytes = spell(alloc, self.manager.state())?;
+        if bytes.as_slice() != self.alone.bytes()?.as_slice() {
+            return Err(found("the state isn't what was told and asked"));
+        }
+        Ok(())
+    }
+
+    /// A number whose start was refused is to be asked with a claim.
+    fn mark(&mut self) -> Result<(), Wrong> {
+        if let Some(number) = self.manager.children().refused() {
+            if !self.claimed.contains(&number) {
+                self.claimed.push(number)?;
+                self.untold.push(number)?;
+            }
+        }
+        Ok(())
+    }
+
+    /// A turn in which this request comes, or nothing, and the row that it is.
+    pub fn turn(&mut self, alloc: Global, text: &str, row: Option<Row>) -> Result<(), Wrong> {
+        let Some(connection) = Connection::new(0) else {
+            return Err(found("no connection"));
+        };
+        let pieces = if text.is_empty() {
+            silence(alloc)?
+        } else {
+            sent(alloc, 0, &[text])?
+        };
+        self.manager.turn(Moment::FIRST, &pieces)?;
+        let output = self.manager.output(connection);
+        let mut orders = Vec::new(alloc);
+        let calls = calls_behind(&self.manager, self.seen);
+        hear(&mut self.alone, calls, End::Code(203), &mut orders)?;
+        let tick = self.alone.take_row((0, Coming::Tick))?;
+        orders.extend_from_slice(tick.orders.as_slice())?;
+        if let Some(row) = row {
+            let answer = self.alone.take_row(row)?;
+            orders.extend_from_slice(answer.orders.as_slice())?;
+            if output.bytes.as_slice() != frame(alloc, answer.reply.as_slice())?.as_slice() {
+                return Err(found("another reply than that of the engine"));
+            }
+        }
+        self.look(alloc, orders.as_slice(), false)
+    }
+}
+
+/// The numbers that were asked in these calls.
+fn asked(alloc: Global, calls: &[Call]) -> Result<Vec<ProcessNumber>, Wrong> {
+    let mut numbers = Vec::new(alloc);
+    for call in calls {
+        if let Call::Asked { number, claim, .. } = call {
+            if !*claim {
+                return Err(found("an opening asks without a claim"));
+            }
+            numbers.push(*number)?;
+        }
+    }
+    Ok(numbers)
+}
+
+/// What an opening made of a manager, where the engine alone stood so before.
+pub fn watch(alloc: Global, manager: Running, alone: Alone, seen: usize) -> Result<Watched, Wrong> {
+    let mut alone = alone;
+    let mut orders = Vec::new(alloc);
+    alone.take_row((0, Coming::Booted(BOOT)))?;
+    let calls = calls_behind(&manager, seen);
+    hear(&mut alone, calls, End::Lost, &mut orders)?;
+    let claimed = asked(alloc, calls)?;
+    let untold = left_untold(alloc, calls, claimed.as_slice())?;
+    let mut watched = Watched {
+        manager,
+        alone,
+        seen,
+        claimed,
+        untold: Vec::new(alloc),
+    };
+    watched.look(alloc, orders.as_slice(), true)?;
+    watched.untold = untold;
+    Ok(watched)
+}
