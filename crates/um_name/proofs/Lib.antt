@@ -1,3 +1,4 @@
 pub mod Clones
+pub mod NumberLaws
 pub mod Splits
 pub mod Stems

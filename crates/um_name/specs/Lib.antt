@@ -1,2 +1,3 @@
 pub mod UnitName
 pub mod Escapes
+pub mod Names

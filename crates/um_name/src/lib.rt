@@ -5,7 +5,9 @@
 mod escapes;
 mod keys;
 mod laws;
+mod names;
 mod order;
+mod ordered;
 mod suffixes;
 mod text;
 mod unit_name;
@@ -16,6 +18,7 @@ pub use laws::{
     an_escaped_text_has_one_reading, an_instance_takes_its_place, escaped_bytes_are_read_back,
     parts_are_found_in_their_name,
 };
+pub use names::Names;
 pub use suffixes::suffix_of;
 pub use text::{is_template, with_instance};
 pub use um_model::Suffix;
