@@ -1,6 +1,7 @@
 -- What is known for a state, by what the tests of it tell.
-use Rattle.std.proofs.Common.{◌≡◌, ◌⊎◌, ◌↔◌, ◌∙◌, ◌<◌, ◌≤◌, ℕ, List, Contains, Option, Some, None, Result, Ok, Err, is_some, Bool, true, true≢false, refl, sym, ap, subst, inl, inr, arith}
+use Rattle.std.proofs.Common.{◌≡◌, ◌⊎◌, ◌↔◌, ◌∙◌, ◌<◌, ◌≤◌, ℕ, List, [], Contains, Option, Some, None, Result, Ok, Err, is_some, Bool, true, true≢false, refl, sym, ap, subst, inl, inr, arith}
 use Rattle.std.specs.Prelude.{IfOk, MatchOption, slice_get, unwrap_or}
+use Rattle.std.proofs.lemmas.List.{get_or_default}
 use Rattle.std.proofs.lemmas.Option.{get_or_from_slice_get, none-some}
 use Rattle.um_graph.proofs.NamedLaws.{got_within}
 use Rattle.um_model.specs.Dependencies.{CountsFor, IsKnown, KnowsTooMany, extra}
@@ -14,6 +15,7 @@ use Rattle.um_model.specs.Live.{HoldsNoMore}
 use Rattle.um_model.proofs.KnownLaws.{more_known}
 use Rattle.um_model.proofs.SceneLaws.{one_count}
 use Rattle.um_model.proofs.TreeLaws.{without_run_twice}
+use Rattle.um_name.specs.Names.{IsApart}
 use Rattle.um_graph.specs.Graph.{GraphView, IsGraphOf}
 use Rattle.um_engine.specs.Known.{AreLasting, IsHeldWith, IsGraphFor, KnownView, KnowsFor}
 use Rattle.um_falling.specs.Over.{Serves}
@@ -48,6 +50,12 @@ exact_for s k knows made =
 -- what is known for a state serves for it
 pub serves_for : (k : KnownView) (s : State) → KnowsFor k s → Serves k.graph s
 serves_for k s h = record { extra = k.extra; graph = h.made.graph; of = h.made.of; held = h.held }
+
+-- no name that has no number in the graph is held
+pub none_apart : (k : KnownView) (s : State) → KnowsFor k s → (names : List (List ℕ)) → names ≡ k.graph.names → (x : List ℕ) → IsApart names x → IsHeld s x → ⊥
+none_apart k s h names same x apart held =
+    let there = h.held x held in
+    subst (λ ns. IsApart ns x) same apart there.0 there.1 (get_or_default k.graph.names there.0 [] x there.1 ∙ there.2)
 
 -- and stays so where the graph serves and the same tree is loaded
 pub knows_still : (k : KnownView) (s u : State) → KnowsFor k s → u.loaded ≡ s.loaded → ((unit : List ℕ) → IsHeld u unit → Contains k.graph.names unit) → KnowsFor k u

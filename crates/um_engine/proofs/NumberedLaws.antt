@@ -23,6 +23,7 @@ use Rattle.um_model.specs.Plan.{IsPlan, CausesOfPlan}
 use Rattle.um_model.proofs.PlanLaws.{AreAlike, alike_back, causes_same, plan_same}
 use Rattle.um_graph.specs.Graph.{GraphView, IsNumberOf}
 use Rattle.um_jobs.specs.Named.{jobs_at, jobs_by}
+use Rattle.um_state.specs.Tables.{jobs_by as state_jobs_by}
 use Rattle.um_transact.specs.Scene.{scene_of}
 use Rattle.um_transact.specs.Transaction as transactions
 use Rattle.um_transact.specs.Transaction.{TransactionView}
@@ -58,12 +59,11 @@ with_named Has names more named is each x = (
   ]),
 )
 
--- the jobs of the units from a number on
-pub jobs_from : (names : List (List ℕ)) (plan : List UnitJobs) (i : ℕ) (x : List ℕ) → length plan ≡ length names → i < length names → slice_get names i ≡ Some x
-    → jobs_by (drop i names) (drop i plan) ≡ with_jobs (jobs_by (drop (suc i) names) (drop (suc i) plan)) x (jobs_at plan i)
-jobs_from names plan i x len h at =
-    ap (λ l. jobs_by l (drop i plan)) (drop-cons names i x h ∙ ap (λ n. n ∷ drop (suc i) names) (get_or_from_slice_get names i x x at))
-    ∙ ap (λ l. jobs_by (x ∷ drop (suc i) names) l) (drop-cons plan i no_jobs (omega (arith, len, h)))
+-- the jobs of rows under names are those of the units with these names
+pub named_by : (names : List (List ℕ)) (jobs : List UnitJobs) → state_jobs_by names jobs ≡ jobs_by names jobs
+named_by [] jobs = refl
+named_by (n ∷ ns) [] = refl
+named_by (n ∷ ns) (j ∷ jobs) = ap (λ m. with_jobs m n j) (named_by ns jobs)
 
 -- ---- the scene of a graph that is exactly that of the units that count
 

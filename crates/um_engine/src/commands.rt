@@ -185,7 +185,7 @@ fn reloaded(alloc: Global, state: &State) -> Result<Served, Refusal>
     let known = Rc::new(alloc, known)?;
     let mut changed = state.copy()?;
     changed.reload()?;
-    Ok(Served::with(changed, known))
+    Ok(Served::numbered(changed, known)?)
 }
 
 /// The state with that tree, loaded, of whose units that is known.
@@ -196,7 +196,7 @@ fn with_tree(alloc: Global, state: &State, tree: Tree, known: Known) -> Result<S
     let known = Rc::new(alloc, known)?;
     let mut changed = state.copy()?;
     changed.load_tree(tree)?;
-    Ok(Served::with(changed, known))
+    Served::numbered(changed, known)
 }
 
 /// The state with the tree that comes of enabling the unit or its kin, loaded. Refused are, in this order, links that can't be made

@@ -253,7 +253,7 @@ fn servable(alloc: Global, state: State, size: u64) -> Result<Served, Refusal>
 {
     let known = known_of_loaded(alloc, &state, state.loaded())?;
     let known = Rc::new(alloc, known)?;
-    let served = Served::with(state, known);
+    let served = Served::numbered(state, known)?;
     check_room(alloc, &served, size)?;
     Ok(served)
 }

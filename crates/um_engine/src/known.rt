@@ -13,7 +13,7 @@ ghost use Rattle.um_model.specs.declared.refusals.Limit.TheVariants as limits;
 use std::alloc::{AllocError, Global};
 use std::marker::Model;
 use um_graph::{Graph, known_units};
-use um_name::UnitName;
+use um_name::{Names, UnitName};
 use um_state::State;
 use um_tree::Tree;
 use um_wire::Refusal;
@@ -23,6 +23,8 @@ use um_wire::Refusal;
 #[derive(Drop)]
 pub struct Known {
     graph: Graph,
+    /// Those of its units, each with the number that it has there.
+    names: Names,
     extra: Vec<UnitName>,
     /// In the order of their names; None where no entry stands under `run/`, since they are those of the graph then.
     lasting: Option<Vec<UnitName>>,
@@ -32,6 +34,8 @@ impl Model for Known {
     ghost Value = { KnownView };
 
     ghost view = { λ k. record { graph = k.graph; extra = k.extra.items; lasting = unwrap_or (option_map (λ names. names.items) k.lasting) k.graph.names } };
+
+    ghost invariant = { λ k. k.names ≡ k.graph.names };
 }
 
 /// The units that the state holds, and the one that is named.
@@ -60,6 +64,21 @@ fn holds_with(state: &State, named: Option<&UnitName>, unit: &UnitName) -> bool
         Some(named) => state.holds(unit) || unit == named,
         None => state.holds(unit),
     }
+}
+
+/// The names of the graph's units, each with the number that it has there.
+fn names_of(alloc: Global, graph: &Graph) -> Result<Names, AllocError>
+    ensures { IfOk result (λ names. names ≡ graph.now.names) }
+{
+    let mut listed = Vec::new(alloc);
+    for unit in 0..graph.len() {
+        match graph.name(unit) {
+            Some(name) => listed.push(name.copy()?)?,
+            None => unreachable!(),
+        }
+    }
+    let names = Names::of(alloc, &listed)?;
+    Ok(names)
 }
 
 /// The units that are known by the tree without its entries under `run/`, with those that are named beside it; None where it has no
@@ -107,9 +126,11 @@ impl Known {
     {
         let extra = held_with(alloc, state, named)?;
         let graph = Graph::of(alloc, tree, extra.as_slice())?;
+        let names = names_of(alloc, &graph)?;
         let lasting = lasting(alloc, tree, extra.as_slice())?;
         Ok(Known {
             graph,
+            names,
             extra,
             lasting,
         })
@@ -120,6 +141,13 @@ impl Known {
         ensures { result.now ≡ self.now.graph }
     {
         &self.graph
+    }
+
+    /// The names of the graph's units, each with the number that it has there.
+    pub fn names(&self) -> &Names
+        ensures { result.now ≡ self.now.graph.names }
+    {
+        &self.names
     }
 
     /// Whether each unit for which the graph was made is held by the state, or is the one that is named.

@@ -1,12 +1,12 @@
-//! The pending jobs of a state by the numbers of a graph's units, with what of them counts as deactivating, and again by their names.
+//! The pending jobs of a state by the numbers of a graph's units, with what of them counts as deactivating.
 
-ghost use Rattle.std.specs.Prelude.{◌≡◌, ◌↔◌, ℕ, List, IfOk, IsTrue, MatchOption, OnOk, length};
+ghost use Rattle.std.specs.Prelude.{◌≡◌, ◌↔◌, ℕ, List, IfOk, IsTrue, MatchOption, length};
 ghost use Rattle.um_engine.specs.Filled.{NoneWaits, Tells, deactivates, is_deactivating, told_of};
 ghost use Rattle.um_engine.specs.Planned.{ArePending};
 ghost use Rattle.um_graph.specs.Graph.{IsGraph, IsNumberOf};
 ghost use Rattle.um_jobs.specs.Jobs.{with_jobs_at, without_job};
-ghost use Rattle.um_jobs.specs.Named.{jobs_at, jobs_by};
-ghost use Rattle.um_model.specs.Jobs.{jobs_of_unit, with_job, with_jobs};
+ghost use Rattle.um_jobs.specs.Named.{jobs_at};
+ghost use Rattle.um_model.specs.Jobs.{jobs_of_unit, with_job};
 ghost use Rattle.um_model.specs.Machine as model;
 ghost use Rattle.um_model.specs.Service.{active_state_of};
 ghost use Rattle.um_state.specs.View.{state_of};
@@ -15,7 +15,7 @@ use std::alloc::{AllocError, Global};
 use um_graph::Graph;
 use um_jobs::{Jobs, has_waiting};
 use um_model::{ActiveState, JobKind, JobState, UnitJobs, UnitState};
-use um_state::{Pending, State};
+use um_state::State;
 
 /// The pending jobs of the unit with this number.
 fn jobs_of(graph: &Graph, state: &State, unit: usize) -> UnitJobs
@@ -121,33 +121,4 @@ pub fn tell_all(jobs: &mut Jobs<'_>, graph: &Graph, state: &State)
     for unit in 0..graph.len() {
         tell(jobs, graph, state, unit);
     }
-}
-
-/// Puts the jobs of the unit with this number under its name.
-fn put_jobs(
-    pending: &mut Pending,
-    graph: &Graph,
-    jobs: &Jobs<'_>,
-    unit: usize,
-) -> Result<(), AllocError>
-    ensures { OnOk result ((x : List ℕ) → IsNumberOf graph.now unit x → pending.new.held ≡ with_jobs pending.old.held x (jobs_at jobs.now.units unit)) }
-{
-    match graph.name(unit) {
-        Some(name) => pending.set(name, jobs.get(unit)),
-        None => Ok(()),
-    }
-}
-
-/// The pending jobs by the names of the units.
-pub fn jobs_named(alloc: Global, graph: &Graph, jobs: &Jobs<'_>) -> Result<Pending, AllocError>
-    requires { length jobs.now.units ≡ length graph.now.names }
-    ensures { IfOk result (λ pending. pending.held ≡ jobs_by graph.now.names jobs.now.units) }
-{
-    let mut pending = Pending::new(alloc);
-    let mut unit = graph.len();
-    while unit > 0 {
-        unit -= 1;
-        put_jobs(&mut pending, graph, jobs, unit)?;
-    }
-    Ok(pending)
 }

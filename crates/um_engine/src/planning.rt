@@ -16,16 +16,15 @@ ghost use Rattle.um_wire.specs.Gives.{RefusesBy};
 
 use crate::jobs::demand_of;
 use crate::known::Known;
-use crate::numbered::{jobs_named, pending_by_number};
+use crate::numbered::pending_by_number;
 use crate::served::Served;
 use std::alloc::{AllocError, Global};
 use std::rc::Rc;
 use um_answer::{Asked, check_missing};
 use um_graph::Graph;
-use um_jobs::Jobs;
 use um_model::{ActiveState, Demand, JobMode, UnitJobs, UnitVerb};
-use um_name::UnitName;
-use um_state::State;
+use um_name::{Names, UnitName};
+use um_state::{Pending, State};
 use um_transact::{Plan, Transaction};
 use um_wire::Refusal;
 
@@ -103,14 +102,14 @@ fn transaction<'t>(
     )
 }
 
-/// The state with the jobs of the plan.
-fn with_plan(alloc: Global, graph: &Graph, state: &State, plan: &Plan) -> Result<State, AllocError>
-    requires { length plan.now ≡ length graph.now.names }
-    ensures { IfOk result (λ u. state_of u ≡ record (state_of state.now) { pending = jobs_by graph.now.names plan.now }) }
+/// The state with the jobs of the plan for the units of these names.
+fn with_plan(alloc: Global, names: &Names, state: &State, plan: &Plan) -> Result<State, AllocError>
+    requires { length plan.now ≡ length names.now }
+    ensures { IfOk result (λ u. state_of u ≡ record (state_of state.now) { pending = jobs_by names.now plan.now }) }
 {
-    let jobs = Jobs::of(alloc, graph, plan.as_slice())?;
+    let jobs = Vec::from_slice(alloc, plan.as_slice())?;
     let mut planned = state.copy()?;
-    planned.set_pending(jobs_named(alloc, graph, &jobs)?);
+    planned.set_pending(Pending::of(alloc, names, jobs)?);
     Ok(planned)
 }
 
@@ -182,7 +181,7 @@ pub fn planned(
     let graph = known.graph();
     let situation = situation_of(alloc, graph, state)?;
     let transaction = transaction(alloc, graph, &situation, demand, &unit)?;
-    let changed = with_plan(alloc, graph, state, transaction.plan())?;
+    let changed = with_plan(alloc, known.names(), state, transaction.plan())?;
     let after = served_after(alloc, changed, known.clone()?)?;
     check_there(alloc, state, verb, asked, is_found)?;
     transaction.check(alloc, mode)?;

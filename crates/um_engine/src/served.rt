@@ -45,7 +45,20 @@ impl Served {
     {
         let known = Known::of(alloc, state.loaded(), &state, None)?;
         let known = Rc::new(alloc, known)?;
-        Ok(Served { state, known })
+        Ok(Served::numbered(state, known)?)
+    }
+
+    /// A state with what is known for it, and with the numbers that the units have there.
+    pub fn numbered(state: State, known: Rc<Known>) -> Result<Served, AllocError>
+        requires { KnowsFor known.value (state_of state) }
+        ensures state { IfOk result (λ s. s.state ≡ state_of state) }
+    {
+        let mut numbered = state;
+        numbered.number(known.names())?;
+        Ok(Served {
+            state: numbered,
+            known,
+        })
     }
 
     /// A state with what is known for it.

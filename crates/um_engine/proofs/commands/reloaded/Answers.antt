@@ -16,8 +16,8 @@ returns-in_err-known-clause-refused c =
     λ differs. (subst (λ t. model.CausesOfLoad s t (refused_of c.in_err-known.field-0.0)) c.tree.ensures (c.in_err-known.ensures.refused differs)) in
     search (rules, step)
 
-pub with-requires : goal.with-requires
-with-requires c =
+pub numbered-requires : goal.numbered-requires
+numbered-requires c =
     let s = state_of c.args.state.now in
     let k : KnownView = c.in_ok-known.known in
     subst (λ (x : KnownView). KnowsFor x (state_of c.reload.new.self)) (sym c.in_ok-known-2.ensures.ok)
@@ -27,7 +27,7 @@ with-requires c =
 pub returns-clause-changed : goal.returns-clause-changed
 returns-clause-changed c =
     let s = state_of c.args.state.now in
-    subst (model.Changes s model.DaemonReload) (sym c.with.ensures.state)
+    subst (model.Changes s model.DaemonReload) (sym c.in_ok-numbered.ensures.state)
     (reloads_to s (state_of c.in_ok-changed.changed) (state_of c.reload.new.self) c.in_ok-changed.ensures c.in_ok-reload.ensures.ok)
 
 pub returns-clause-refused : goal.returns-clause-refused

@@ -4,8 +4,8 @@ use Rattle.um_engine.specs.Known.{KnownView, KnowsFor}
 use Rattle.um_engine.proofs.KnownLaws.{knows_made, knows_of}
 use Rattle.um_engine.proofs.served.Served.of.Goals as goal
 
-pub invariant_of-result : goal.invariant_of-result
-invariant_of-result c =
+pub numbered-requires : goal.numbered-requires
+numbered-requires c =
     let s = state_of c.args.state in
     let known = c.in_ok-known.known in
     subst (λ (k : KnownView). KnowsFor k s) (sym c.in_ok-known-2.ensures.ok)

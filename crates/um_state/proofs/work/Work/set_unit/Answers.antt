@@ -1,0 +1,7 @@
+use Rattle.std.proofs.Common.{arith}
+use Rattle.um_state.proofs.WorkLaws.{set_unit_row}
+use Rattle.um_state.proofs.work.Work.set_unit.Goals as goal
+
+pub returns-clause-now : goal.returns-clause-now
+returns-clause-now c =
+    set_unit_row c.args.self.now c.self.inside.base.now c.self.inside.units.items c.self.inside.jobs.items c.self.inside.next c.self.view_is c.self.invariant.2.ascending (omega arith) c.args.i c.args.unit c.requires
