@@ -1,10 +1,10 @@
 -- Rows in work: a row that is set, the rows that differ, and how many they are.
 use Rattle.std.proofs.Common.{◌≡◌, ◌≢◌, ◌⊎◌, ◌∙◌, ◌+◌, ◌<◌, ◌≤◌, ◌++◌, ◌&&◌, ◌↔◌, not, ℕ, zero, suc, Bool, true, false, true≢false, cond, List, [], ◌∷◌, length, set, get_or, map, Contains, refl, sym, ap, subst, inl, inr, arith}
 use Rattle.std.proofs.lemmas.List.{length-map}
-use Rattle.um_model.specs.Jobs.{jobs_of_unit, no_jobs, with_jobs}
+use Rattle.um_model.specs.Jobs.{AreTidyJobs, jobs_of_unit, no_jobs, with_jobs}
 use Rattle.um_model.specs.Least.{IsNamedBefore}
 use Rattle.um_model.specs.Machine.{State}
-use Rattle.um_model.specs.Service.{ByUnit, dead_unit, state_of_unit, with_unit}
+use Rattle.um_model.specs.Service.{AreTidyUnits, ByUnit, dead_unit, state_of_unit, with_unit}
 use Rattle.um_model.specs.Standing.{Standing}
 use Rattle.um_model.specs.declared.jobs.UnitJobs.{UnitJobs}
 use Rattle.um_model.specs.declared.service.UnitState.{UnitState}
@@ -16,7 +16,7 @@ use Rattle.um_state.specs.Working.{WorkView, with_maps, with_rows, unit_set, job
 use Rattle.um_state.specs.declared.row.Row.{Row}
 use Rattle.um_state.proofs.PutLaws.{units_put, jobs_put_well}
 use Rattle.um_state.proofs.SameRows.{same_unit, same_jobs, unit_itself, jobs_itself}
-use Rattle.um_state.proofs.TableLaws.{by_at, by_none, by_set, row_set}
+use Rattle.um_state.proofs.TableLaws.{by_at, by_none, by_tidy, put_past, row_set}
 use Rattle.um_state.proofs.PickLaws.{one, picked_more, pairs_picked, picked_there, picked_is, picked_mapped}
 
 -- ---- the first n items of one list, and the others of another
@@ -58,16 +58,32 @@ module _ {A : Type 0} (nothing : A) where
 -- ---- a row is set
 
 pub set_unit_row : (v : WorkView) (b : Standing) (us : List UnitState) (js : List UnitJobs) (n : ℕ) → record { base = b; now = with_rows b us js n } ≡ v → AreAscending b.names
-    → length us ≡ length b.names → (i : ℕ) (u : UnitState) → i < length v.now.names → with_rows b (set us i u) js n ≡ unit_set v.now i u
+    → length us ≡ length b.names → (i : ℕ) (u : UnitState) → i < length us → with_rows b (set us i u) js n ≡ unit_set v.now i u
 set_unit_row v b us js n seen sorted l i u h =
-    subst (λ (w : WorkView). i < length w.now.names → with_rows b (set us i u) js n ≡ unit_set w.now i u) seen
-    (λ k. ap (λ m. with_maps b m (jobs_by b.names js) n) (by_set dead_unit with_unit units_put b.names us (names_once b.names sorted) l i u k)) h
+    ap (λ m. with_maps b m (jobs_by b.names js) n) (row_set dead_unit with_unit units_put b.names us sorted l i u h) ∙ ap (λ (w : WorkView). unit_set w.now i u) seen
 
 pub set_jobs_row : (v : WorkView) (b : Standing) (us : List UnitState) (js : List UnitJobs) (n : ℕ) → record { base = b; now = with_rows b us js n } ≡ v → AreAscending b.names
-    → length js ≡ length b.names → (i : ℕ) (j : UnitJobs) → i < length v.now.names → with_rows b us (set js i j) n ≡ jobs_set v.now i j
+    → length js ≡ length b.names → (i : ℕ) (j : UnitJobs) → i < length js → with_rows b us (set js i j) n ≡ jobs_set v.now i j
 set_jobs_row v b us js n seen sorted l i j h =
-    subst (λ (w : WorkView). i < length w.now.names → with_rows b us (set js i j) n ≡ jobs_set w.now i j) seen
-    (λ k. ap (λ m. with_maps b (units_by b.names us) m n) (by_set no_jobs with_jobs jobs_put_well b.names js (names_once b.names sorted) l i j k)) h
+    ap (λ m. with_maps b (units_by b.names us) m n) (row_set no_jobs with_jobs jobs_put_well b.names js sorted l i j h) ∙ ap (λ (w : WorkView). jobs_set w.now i j) seen
+
+-- past the last row nothing is
+pub past_unit_row : (v : WorkView) (b : Standing) (us : List UnitState) (js : List UnitJobs) (n : ℕ) → record { base = b; now = with_rows b us js n } ≡ v
+    → length us ≡ length b.names → (i : ℕ) (u : UnitState) → length us ≤ i → v.now ≡ unit_set v.now i u
+past_unit_row v b us js n seen l i u h = subst (λ (w : WorkView). w.now ≡ unit_set w.now i u) seen
+    (ap (λ m. with_maps b m (jobs_by b.names js) n) (sym (put_past dead_unit with_unit units_put b.names (units_by b.names us) i u (omega (arith, l, h)))))
+
+pub past_jobs_row : (v : WorkView) (b : Standing) (us : List UnitState) (js : List UnitJobs) (n : ℕ) → record { base = b; now = with_rows b us js n } ≡ v
+    → length js ≡ length b.names → (i : ℕ) (j : UnitJobs) → length js ≤ i → v.now ≡ jobs_set v.now i j
+past_jobs_row v b us js n seen l i j h = subst (λ (w : WorkView). w.now ≡ jobs_set w.now i j) seen
+    (ap (λ m. with_maps b (units_by b.names us) m n) (sym (put_past no_jobs with_jobs jobs_put_well b.names (jobs_by b.names js) i j (omega (arith, l, h)))))
+
+-- nothing is held that is empty
+pub units_tidy : (v : WorkView) (b : Standing) (us : List UnitState) (js : List UnitJobs) (n : ℕ) → record { base = b; now = with_rows b us js n } ≡ v → AreTidyUnits v.now.state.units
+units_tidy v b us js n seen = subst (λ (w : WorkView). AreTidyUnits w.now.state.units) seen (by_tidy dead_unit with_unit units_put b.names us)
+
+pub jobs_tidy : (v : WorkView) (b : Standing) (us : List UnitState) (js : List UnitJobs) (n : ℕ) → record { base = b; now = with_rows b us js n } ≡ v → AreTidyJobs v.now.state.pending
+jobs_tidy v b us js n seen = subst (λ (w : WorkView). AreTidyJobs w.now.state.pending) seen (by_tidy no_jobs with_jobs jobs_put_well b.names js)
 
 -- what a row tells
 pub unit_row : (v : WorkView) (b : Standing) (us : List UnitState) (js : List UnitJobs) (n : ℕ) → record { base = b; now = with_rows b us js n } ≡ v → AreAscending b.names

@@ -2,17 +2,17 @@
 -- Follows no manual page: numbers of names are this project's own.
 -- Work, what changes by a step, and the count of what a step changes stand on this file.
 use Rattle.std.specs.Prelude.{◌≡◌, ◌↔◌, ℕ, zero, suc, Bool, not, ◌&&◌, List, [], ◌∷◌, ◌++◌, length, Contains, slice_index_or, if◌then◌else◌}
-use Rattle.um_model.specs.Jobs.{jobs_of_unit, no_jobs, with_jobs}
+use Rattle.um_model.specs.Jobs.{jobs_of_unit, no_jobs}
 use Rattle.um_model.specs.Machine.{State}
-use Rattle.um_model.specs.Service.{ByUnit, dead_unit, state_of_unit, with_unit}
+use Rattle.um_model.specs.Service.{ByUnit, state_of_unit}
 use Rattle.um_model.specs.Standing.{Standing}
 use Rattle.um_model.specs.contracts.jobs.UnitJobsPartialEq.TheImpl as unit_jobs
 use Rattle.um_model.specs.contracts.service.UnitStatePartialEq.TheImpl as unit_state
 use Rattle.um_model.specs.declared.jobs.UnitJobs.{UnitJobs}
 use Rattle.um_model.specs.declared.service.UnitState.{UnitState}
-use Rattle.um_name.specs.Names.{AreAscending, name_at}
+use Rattle.um_name.specs.Names.{AreAscending}
 use Rattle.um_state.specs.Finding.{row_at}
-use Rattle.um_state.specs.Tables.{units_by, jobs_by}
+use Rattle.um_state.specs.Tables.{units_by, jobs_by, unit_put, jobs_put}
 use Rattle.um_state.specs.declared.row.Numbered.{Numbered}
 use Rattle.um_state.specs.declared.row.Row.{Row}
 
@@ -38,13 +38,13 @@ with_maps s units pending next = record { state = record s.state { units = units
 abbrev pub with_rows : Standing → List UnitState → List UnitJobs → ℕ → Standing
 with_rows s units jobs next = with_maps s (units_by s.names units) (jobs_by s.names jobs) next
 
--- with the unit of this number so
+-- with the unit of this number so; past the last name nothing is set
 abbrev pub unit_set : Standing → ℕ → UnitState → Standing
-unit_set s i u = record { state = record s.state { units = with_unit s.state.units (name_at s.names i) u }; names = s.names }
+unit_set s i u = record { state = record s.state { units = unit_put s.names s.state.units i u }; names = s.names }
 
--- with these jobs of the unit of this number
+-- with these jobs of the unit of this number; past the last name nothing is set
 abbrev pub jobs_set : Standing → ℕ → UnitJobs → Standing
-jobs_set s i j = record { state = record s.state { pending = with_jobs s.state.pending (name_at s.names i) j }; names = s.names }
+jobs_set s i j = record { state = record s.state { pending = jobs_put s.names s.state.pending i j }; names = s.names }
 
 -- with this next number
 abbrev pub next_set : Standing → ℕ → Standing

@@ -342,14 +342,14 @@ impl Pending {
         }
     }
 
-    /// The jobs of these rows, each of the unit with its number.
+    /// The jobs of these rows, each of the unit with its number; none where there are more or fewer than names.
     pub fn of(alloc: Global, names: &Names, jobs: Vec<UnitJobs>) -> Result<Pending, AllocError>
-        requires { vec_len jobs ≡ length names.now }
-        ensures names { IfOk result (λ p. p.names ≡ names.now) }
-        ensures held { IfOk result (λ p. p.held ≡ jobs_by names.now jobs.items) }
+        ensures names { vec_len jobs ≡ length names.now → IfOk result (λ p. p.names ≡ names.now) }
+        ensures held { vec_len jobs ≡ length names.now → IfOk result (λ p. p.held ≡ jobs_by names.now jobs.items) }
     {
-        // The proof reads here that the names ascend.
-        let _ = names.len();
+        if jobs.len() != names.len() {
+            return Ok(Pending::new(alloc));
+        }
         let names = names.copy()?;
         Ok(Pending { alloc, names, jobs })
     }

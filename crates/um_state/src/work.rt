@@ -3,14 +3,16 @@
 ghost use Rattle.std.specs.Prelude.{◌≡◌, ◌<◌, ◌++◌, ◌∷◌, ◌&&◌, [], ℕ, List, length, vec_len, not, IfOk, IfSome, MatchOption, OnOk, if◌then◌else◌};
 ghost use Rattle.std.specs.Coded.{codes};
 ghost use Rattle.std.specs.FinMap as maps;
-ghost use Rattle.um_model.specs.Jobs.{jobs_of_unit};
-ghost use Rattle.um_model.specs.Service.{state_of_unit};
+ghost use Rattle.um_model.specs.Jobs.{AreTidyJobs, jobs_of_unit};
+ghost use Rattle.um_model.specs.Service.{AreTidyUnits, state_of_unit};
 ghost use Rattle.um_name.specs.Names.{HasPlace, IsApart, name_at};
 ghost use Rattle.um_state.specs.Rows.{rows_after, timed};
+ghost use Rattle.um_state.specs.Tables.{jobs_by};
 ghost use Rattle.um_state.specs.View.{state_of};
-ghost use Rattle.um_state.specs.Working.{AreRowsOf, CountsDiffering, WorkView, changed, is_same_jobs, is_same_unit, jobs_set, next_set, unit_set, with_rows};
+ghost use Rattle.um_state.specs.Working.{AreRowsOf, CountsDiffering, WorkView, changed, is_same_jobs, is_same_unit, jobs_set, next_set, pending_at, unit_set, with_rows};
 ghost use Rattle.um_tree.specs.Code.{tree_code};
 
+use crate::finder::row_in;
 use crate::row::{Numbered, Row};
 use crate::state::State;
 use std::alloc::{AllocError, Global};
@@ -36,6 +38,16 @@ impl<'s> Model for Work<'s> {
     ghost view = { λ w. record { base = w.base.now; now = with_rows w.base.now w.units.items w.jobs.items w.next } };
 
     ghost invariant = { λ w. (vec_len w.units ≡ length w.base.now.names) × (vec_len w.jobs ≡ length w.base.now.names) × AreRowsOf w.base.now w.was };
+}
+
+/// The pending jobs of the unit of the row with this number; past the last one there are none. It takes no memory.
+fn jobs_in_row(rows: &[UnitJobs], i: usize) -> UnitJobs
+    ensures { result ≡ pending_at rows.now i }
+{
+    match rows.get(i) {
+        Some(jobs) => *jobs,
+        None => UnitJobs::NONE,
+    }
 }
 
 /// Notes the row where it differs from what was.
@@ -105,20 +117,28 @@ impl<'s> Work<'s> {
         self.was.names.number(unit)
     }
 
-    /// How the unit with this number stands.
+    /// How the unit with this number stands; past the last one it is dead. It takes no memory.
     pub fn unit(&self, i: usize) -> UnitState
-        requires { i < length self.now.now.names }
-        ensures { result ≡ state_of_unit (state_of self.now.now).units (name_at self.now.now.names i) }
+        ensures state { i < length self.now.now.names → result ≡ state_of_unit (state_of self.now.now).units (name_at self.now.now.names i) }
+        ensures tidy { AreTidyUnits (state_of self.now.now).units }
     {
-        self.units[i]
+        row_in(&self.units, i)
     }
 
-    /// The pending jobs of the unit with this number.
+    /// The pending jobs of the unit with this number; past the last one there are none. It takes no memory.
     pub fn jobs(&self, i: usize) -> UnitJobs
-        requires { i < length self.now.now.names }
-        ensures { result ≡ jobs_of_unit (state_of self.now.now).pending (name_at self.now.now.names i) }
+        ensures jobs { i < length self.now.now.names → result ≡ jobs_of_unit (state_of self.now.now).pending (name_at self.now.now.names i) }
+        ensures tidy { AreTidyJobs (state_of self.now.now).pending }
     {
-        self.jobs[i]
+        jobs_in_row(&self.jobs, i)
+    }
+
+    /// The pending jobs of each unit, by number.
+    pub fn pending(&self) -> &[UnitJobs]
+        ensures held { jobs_by self.now.now.names result.now ≡ (state_of self.now.now).pending }
+        ensures len { length result.now ≡ length self.now.now.names }
+    {
+        self.jobs.as_slice()
     }
 
     /// The next process number.
@@ -128,22 +148,24 @@ impl<'s> Work<'s> {
         self.next
     }
 
-    /// Sets how the unit with this number stands.
+    /// Sets how the unit with this number stands; past the last one nothing changes. It takes no memory.
     pub fn set_unit(&mut self, i: usize, unit: UnitState)
-        requires { i < length self.old.now.names }
         ensures base { self.new.base ≡ self.old.base }
         ensures now { self.new.now ≡ unit_set self.old.now i unit }
     {
-        self.units[i] = unit;
+        if i < self.units.len() {
+            self.units[i] = unit;
+        }
     }
 
-    /// Sets the pending jobs of the unit with this number.
+    /// Sets the pending jobs of the unit with this number; past the last one nothing changes. It takes no memory.
     pub fn set_jobs(&mut self, i: usize, jobs: UnitJobs)
-        requires { i < length self.old.now.names }
         ensures base { self.new.base ≡ self.old.base }
         ensures now { self.new.now ≡ jobs_set self.old.now i jobs }
     {
-        self.jobs[i] = jobs;
+        if i < self.jobs.len() {
+            self.jobs[i] = jobs;
+        }
     }
 
     /// Sets the next process number.
