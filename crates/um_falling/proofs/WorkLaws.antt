@@ -1,10 +1,10 @@
 -- A step in work: what stays, and that the graph serves on where a unit of it is set.
-use Rattle.std.proofs.Common.{◌≡◌, ◌≢◌, ◌∙◌, ◌<◌, ℕ, List, [], Contains, Some, length, slice_get, refl, sym, ap, subst, inl, inr, arith}
+use Rattle.std.proofs.Common.{◌≡◌, ◌≢◌, ◌∙◌, ◌<◌, ◌++◌, ◌∷◌, ℕ, true, false, cond, List, [], Contains, Some, length, slice_get, refl, sym, ap, subst, inl, inr, arith}
 use Rattle.std.proofs.lemmas.Bool.{cases_lt}
 use Rattle.std.proofs.lemmas.Option.{get_or_from_slice_get, slice_get-get_or}
-use Rattle.um_model.specs.Jobs.{no_jobs, with_jobs}
+use Rattle.um_model.specs.Jobs.{jobs_of_unit, no_jobs, with_jobs}
 use Rattle.um_model.specs.Machine as machine
-use Rattle.um_model.specs.Machine.{State, IsHeld}
+use Rattle.um_model.specs.Machine.{State, IsHeld, is_waiting}
 use Rattle.um_model.specs.Service.{Action, dead_unit, with_unit}
 use Rattle.um_model.specs.Standing.{Standing}
 use Rattle.um_model.specs.declared.jobs.UnitJobs.{UnitJobs}
@@ -18,7 +18,7 @@ use Rattle.um_state.specs.View.{state_of}
 use Rattle.um_state.specs.Working.{jobs_set, unit_set}
 use Rattle.um_state.proofs.PutLaws.{jobs_put_well, units_put}
 use Rattle.um_state.proofs.TableLaws.{put_past, put_within}
-use Rattle.um_falling.specs.Along.{Taking, taken, taken_all, taken_by, taken_named}
+use Rattle.um_falling.specs.Along.{Taking, taken, taken_all, taken_by, taken_named, without_start_of}
 use Rattle.um_falling.specs.Carrying.{Adds}
 use Rattle.um_falling.specs.Falling.{AddsFalling, AreNamed, StopsIf, sub_of}
 use Rattle.um_falling.specs.Over.{Serves}
@@ -117,6 +117,18 @@ serves_still u v keeps serves = subst (λ g. Serves g (state_of v.now)) keeps.gr
 -- ---- what a call says over the graph, of the unit with a number
 pub taken_at : (g : GraphView) (unit : ℕ) (m : Taking) (name : List ℕ) → IsNumberOf g unit name → taken g unit m ≡ taken_named name unit m
 taken_at g unit m name number = ap (λ o. taken_by o unit m) number
+
+module _ (g : GraphView) (unit : ℕ) (name : List ℕ) (number : IsNumberOf g unit name) (m : Taking) where
+  abbrev gone : Taking
+  gone = (without_start_of m.0 name, m.1 ++ unit ∷ [])
+
+  -- no start of it waits, and all stays
+  pub taken_not : is_waiting (jobs_of_unit m.0.pending name).start ≡ false → m ≡ taken g unit m
+  taken_not quiet = sym (taken_at g unit m name number ∙ ap (λ b. cond b gone m) quiet)
+
+  -- one does, and is gone
+  pub taken_so : (s : State) (l : List ℕ) → is_waiting (jobs_of_unit m.0.pending name).start ≡ true → s ≡ without_start_of m.0 name → l ≡ m.1 ++ unit ∷ [] → (s, l) ≡ taken g unit m
+  taken_so s l waits same more = (λ i. (same i, more i)) ∙ sym (taken_at g unit m name number ∙ ap (λ b. cond b gone m) waits)
 
 -- ---- what the rows say, by the graph's numbers
 
