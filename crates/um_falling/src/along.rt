@@ -94,7 +94,8 @@ fn take_next(
     neighbour: Neighbour,
 ) -> Result<(), AllocError>
     requires { neighbour.unit < length work.old.graph.names }
-    ensures taken { OnOk result ((state_of work.new.now, list.new.items) ≡ taking.taken_next work.old.graph row.now neighbour (state_of work.old.now, list.old.items)) }
+    ensures taken { OnOk result ((state_of work.new.now, list.new.items)
+        ≡ taking.taken_next work.old.graph row.now neighbour (state_of work.old.now, list.old.items)) }
     ensures keeps { OnOk result (Keeps work.old work.new) }
     ensures actions { OnOk result (work.new.actions ≡ work.old.actions) }
 {

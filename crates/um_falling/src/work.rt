@@ -1,6 +1,6 @@
 //! A step in work.
 
-ghost use Rattle.std.specs.Prelude.{◌≡◌, ◌++◌, ◌<◌, ◌↔◌, ℕ, List, [], false, length, map, vec_len, IfOk, IfSome, IsTrue, MatchOption, OnOk, Contains, slice_get};
+ghost use Rattle.std.specs.Prelude.{◌≡◌, ◌++◌, ℕ, List, [], map, vec_len, IfOk, IfSome, OnOk};
 ghost use Rattle.std.specs.Coded.{codes};
 ghost use Rattle.std.specs.FinMap as maps;
 ghost use Rattle.um_falling.specs.Over.{Serves};
@@ -41,14 +41,16 @@ impl<'g> Model for Work<'g> {
 }
 
 impl<'g> Work<'g> {
-    /// The rows of the state, at the moment; nothing is asked yet. None where units and pending jobs don't have the numbers of the graph's units.
+    /// The rows of the state, at the moment; nothing is asked yet. None where units and pending jobs have no common numbers.
     pub fn of(
         alloc: Global,
         graph: &'g Graph,
         base: &'g State,
         moment: Moment,
     ) -> Result<Option<Work<'g>>, AllocError>
-        ensures begins { Serves graph.now (state_of base.now) → base.now.names ≡ graph.now.names → IfOk result (λ made. IfSome made (λ w.
+        requires serves { Serves graph.now (state_of base.now) }
+        requires names { base.now.names ≡ graph.now.names }
+        ensures begins { IfOk result (λ made. IfSome made (λ w.
             w ≡ record { graph = graph.now; base = base.now; now = base.now; moment = moment; actions = [] })) }
     {
         let Some(rows) = Rows::of(alloc, base)? else {
