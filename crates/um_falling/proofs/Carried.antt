@@ -118,36 +118,62 @@ ends_own unit start stop_ends s u v w stands next e f g =
 pub no_more_then : (u v w : State) → NoMoreWait v.pending u.pending → NoMoreWait w.pending v.pending → NoMoreWait w.pending u.pending
 no_more_then u v w first later unit = omega (arith, first unit, later unit)
 
+-- ---- the graph serves on
+
+pub serves_changed : (g : GraphView) (s : State) (unit : List ℕ) (c : Change) → Serves g s → Contains g.names unit → Serves g (changed s unit c)
+serves_changed g s unit c serves known = record { extra = serves.extra; graph = serves.graph; of = serves.of; held = held_now }
+  where
+    held_before : (x : List ℕ) → x ≢ unit → IsHeld (changed s unit c) x → IsHeld s x
+    held_before x apart (inl h) = inl (λ e. h (units_apart s.units unit c.unit x apart ∙ e))
+    held_before x apart (inr h) = inr (λ e. h (pending_apart s.pending unit (jobs_left c.start c.stop_ends (jobs_of_unit s.pending unit)) x apart ∙ e))
+
+    held_now : (x : List ℕ) → IsHeld (changed s unit c) x → Contains g.names x
+    held_now x h = elim (same_name x unit) as (λ _. Contains g.names x) [
+      | inl is ↦ subst (Contains g.names) (sym is) known
+      | inr apart ↦ serves.held x (held_before x apart h)
+    ]
+
 -- ---- what is carried out
 
-module _ (t : ℕ) (unit : List ℕ) (event : UnitEvent) (s v : State) (before after : List Action) (fails : Bool) (changes : ChangesTo t unit event s before fails v after) where
+module _ (g : GraphView) (t : ℕ) (unit : List ℕ) (event : UnitEvent) (s v : State) (before after : List Action) (fails : Bool) (changes : ChangesTo t unit event s before fails v after)
+    (serves : Serves g s) (known : Contains g.names unit) where
   abbrev c : Change
   c = change_of t s unit event
 
+  serves_now : Serves g v
+  serves_now = subst (Serves g) (sym changes.state) (serves_changed g s unit c serves known)
+
   -- where no start fails
-  pub carried_alone : fails ≡ false → Adds (machine.Carries t unit event s) before v after
+  pub carried_alone : fails ≡ false → Adds (machine.Carries t unit event s) before v after × Serves g v
   carried_alone none = (
-    changes.new,
-    record {
-      state = subst (λ x. machine.Becomes s unit c x) (sym changes.state) (alone (fails_not c.start (jobs_of_unit s.pending unit).start (sym changes.fails_so ∙ none)));
-      asked = changes.asked;
-    },
-    changes.actions,
+    (
+      changes.new,
+      record {
+        state = subst (λ x. machine.Becomes s unit c x) (sym changes.state) (alone (fails_not c.start (jobs_of_unit s.pending unit).start (sym changes.fails_so ∙ none)));
+        asked = changes.asked;
+      },
+      changes.actions,
+    ),
+    serves_now,
   )
 
   -- where one does, and takes others along
-  pub carried_along : (w : State) (later : List Action) → fails ≡ true → (AreTidyJobs v.pending → AreTidyUnits v.units → TakesAlong v unit w) → later ≡ after
-      → Adds (machine.Carries t unit event s) before w later
-  carried_along w later one takes same =
+  pub carried_along : (w : State) → fails ≡ true
+      → (Serves g v → Contains g.names unit → AreTidyJobs v.pending → AreTidyUnits v.units → TakesAlong v unit w × Serves g w)
+      → Adds (machine.Carries t unit event s) before w after × Serves g w
+  carried_along w one takes =
       let pending = subst (λ (x : State). AreTidyJobs x.pending) (sym changes.state) (tidy_jobs s.pending unit (jobs_left c.start c.stop_ends (jobs_of_unit s.pending unit)) changes.tidy_jobs) in
       let units = subst (λ (x : State). AreTidyUnits x.units) (sym changes.state) (tidy_units s.units unit c.unit changes.tidy_units) in
-      (
-        changes.new,
-        record {
-          state = along (fails_told c.start (jobs_of_unit s.pending unit).start (sym changes.fails_so ∙ one)) (subst (λ x. TakesAlong x unit w) changes.state (takes pending units));
-          asked = changes.asked;
-        },
-        same ∙ changes.actions,
+      let taken = takes serves_now known pending units in (
+        (
+          changes.new,
+          record {
+            state = along (fails_told c.start (jobs_of_unit s.pending unit).start (sym changes.fails_so ∙ one)) (subst (λ x. TakesAlong x unit w) changes.state taken.0);
+            asked = changes.asked;
+          },
+          changes.actions,
+        ),
+        taken.1,
       )
 
 -- ---- units of which the state holds something are known

@@ -3,4 +3,3 @@ pub mod Along
 pub mod Carrying
 pub mod Falling
 pub mod Over
-pub mod Work

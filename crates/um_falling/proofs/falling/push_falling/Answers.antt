@@ -1,9 +1,9 @@
-use Rattle.std.proofs.Common.{◌≡◌, ◌∙◌, ◌++◌, ℕ, List, [], true, false, cond, Result, Ok, Err, OnOk, sym, ap, subst}
-use Rattle.std.proofs.lemmas.Option.{same_Some}
+use Rattle.std.proofs.Common.{◌≡◌, ◌∙◌, ◌++◌, ℕ, List, [], true, cond, Result, Ok, Err, OnOk, sym, ap}
 use Rattle.um_graph.specs.Graph.{GraphView, IsNumberOf, row_of}
 use Rattle.um_graph.specs.declared.row.Neighbour.{Neighbour}
 use Rattle.um_model.specs.Machine.{State}
 use Rattle.um_model.specs.Transitions.{comes_to_rest}
+use Rattle.um_model.specs.Service.{state_of_unit}
 use Rattle.um_model.specs.declared.service.SubState.{SubState}
 use Rattle.um_model.specs.declared.service.UnitState.{UnitState}
 use Rattle.um_falling.specs.Falling.{AddsFalling, falling_from, sub_of}
@@ -23,20 +23,11 @@ adds_row g s before name around list after row_is rests e unit is =
     ap (λ r. falling_from s r 0 g.names) (row_is unit is)
     ∙ sym (ap (λ b. cond b (falling_from s (row_of g.rows unit) 0 g.names) []) rests))
 
--- nothing falls with a unit that didn't come to rest
-adds_none : (g : GraphView) (s : State) (before : SubState) (name : List ℕ) (list : List ℕ) → comes_to_rest before (sub_of s name) ≡ false → AddsFalling g s before name list list
-adds_none g s before name list rests unit is = sym (ap (λ b. cond b (falling_from s (row_of g.rows unit) 0 g.names) [] ++ list) rests)
-
 pub returns : goal.returns
 returns c =
-    let v = c.args.work.now in
     then_ok c.push_bound.result
-    (λ e name number.
-        let named = subst (λ g. IsNumberOf g c.args.unit c.in-Some.name.now) c.graph.ensures.graph (sym (rw c.in-Some.is at c.name.ensures)) in
-        let same = same_Some c.in-Some.name.now name (sym named ∙ number) in
-        subst (λ n. AddsFalling v.graph (state_of v.now) c.args.before n c.args.list.now.items c.push_bound.new.list.items) same
-        (adds_row v.graph (state_of v.now) c.args.before c.in-Some.name.now c.neighbours_of.result.now c.args.list.now.items c.push_bound.new.list.items
-        (subst (λ g. (unit : ℕ) → IsNumberOf g unit c.in-Some.name.now → c.neighbours_of.result.now ≡ row_of g.rows unit) c.graph-2.ensures.graph c.neighbours_of.ensures.row)
-        (ap (λ (u : UnitState). comes_to_rest c.args.before u.sub) (sym (c.unit.ensures.state c.in-Some.name.now named)) ∙ (sym c.comes_to_rest.ensures ∙ c.if-not-comes_to_rest.false))
-        e))
+    (adds_row c.args.graph.now (state_of c.args.state.now) c.args.before c.args.unit.now c.neighbours_of.result.now c.args.list.now.items c.push_bound.new.list.items
+    c.neighbours_of.ensures.row
+    (ap (λ us. comes_to_rest c.args.before (state_of_unit us c.args.unit.now).sub) (sym c.units.ensures)
+    ∙ ap (λ (u : UnitState). comes_to_rest c.args.before u.sub) (sym c.get.ensures.state) ∙ (sym c.comes_to_rest.ensures ∙ c.if-not-comes_to_rest.false)))
     c.push_bound.ensures
