@@ -1,17 +1,13 @@
 //! What a command does, and why it is refused.
 
-ghost use Rattle.std.specs.Prelude.{◌≡◌, Err, ℕ, List, [], false, map, Contains, IfOk, IfErr};
+ghost use Rattle.std.specs.Prelude.{◌≡◌, Err, IfOk, IfErr};
+ghost use Rattle.um_engine.specs.Outcomes.{actions_by, reply_by, state_by};
 ghost use Rattle.um_model.specs.Live.{HoldsNoMore};
-ghost use Rattle.um_answer.specs.Loaded.{is_found as finds};
 ghost use Rattle.um_engine.specs.Known.{KnowsFor};
-ghost use Rattle.um_model.specs.Waiting.{has_waiting};
 ghost use Rattle.um_model.specs.Install.{paths_beyond};
-ghost use Rattle.um_model.specs.Jobs.{cancelled, jobs_of_unit};
 ghost use Rattle.um_model.specs.Machine as model;
-ghost use Rattle.um_model.specs.Refusals as told;
 ghost use Rattle.um_model.specs.Tree.{put_file, put_link, remove_at};
-ghost use Rattle.um_model.specs.Units as units;
-ghost use Rattle.um_state.specs.View.{state_of, command_of, reply_of, action_of};
+ghost use Rattle.um_state.specs.View.{state_of, command_of, reply_of};
 ghost use Rattle.um_wire.specs.Gives.{RefusesBy};
 ghost use Rattle.um_wire.specs.Refusal.{refused_of};
 ghost use Rattle.um_wire.specs.declared.refusal.Refusal.TheVariants.{NoMemory};
@@ -25,61 +21,33 @@ use crate::served::Served;
 use std::alloc::{AllocError, Global};
 use std::rc::Rc;
 use um_answer::{Asked, check_missing};
-use um_graph::Graph;
+use um_falling::Work;
 use um_install::{Installed, check_units, relink};
-use um_model::{InstallVerb, Moment, UnitJobs};
+use um_model::{InstallVerb, Moment};
 use um_name::UnitName;
-use um_state::{Action, Command, Reply, State};
+use um_state::{Command, Reply, State};
 use um_tree::Tree;
 use um_wire::Refusal;
 
-/// The jobs that a cancel leaves of the unit. Where none of them waits it is refused (E21).
-fn left_by_cancel(
+/// The work without the waiting jobs of a unit. Refused is one that is neither found nor held (E7), and one of which no job waits (E21).
+fn without_waiting<'s>(
     alloc: Global,
-    graph: &Graph,
-    state: &State,
-    unit: &UnitName,
-) -> Result<UnitJobs, Refusal>
-    requires held { (x : List ℕ) → model.IsHeld (state_of state.now) x → Contains graph.now.names x }
-    ensures left { IfOk result (λ left. left ≡ cancelled (jobs_of_unit (state_of state.now).pending unit.now)) }
-    ensures refused { RefusesBy (λ r. (has_waiting (jobs_of_unit (state_of state.now).pending unit.now) ≡ false) × (r ≡ told.no_such_job unit.now)) result }
-{
-    let number = graph.number(unit).unwrap_or(graph.len());
-    let mut jobs = jobs_in(alloc, graph, state)?;
-    jobs.cancel(alloc, number, unit)?;
-    Ok(jobs.get(number))
-}
-
-/// The jobs that a cancel leaves of the unit, or the refusal for the first of E7 and E21 that holds.
-fn cancelled_jobs(
-    alloc: Global,
-    graph: &Graph,
-    state: &State,
+    served: &'s Served,
+    moment: Moment,
     asked: &UnitName,
-    leads: &Asked,
-) -> Result<UnitJobs, Refusal>
-    requires held { (x : List ℕ) → model.IsHeld (state_of state.now) x → Contains graph.now.names x }
-    requires unit { leads.now.unit ≡ model.unit_asked (state_of state.now) asked.now }
-    requires found { leads.now.is_found ≡ finds (units.load (state_of state.now).loaded asked.now) }
-    ensures left { IfOk result (λ left. left ≡ cancelled (jobs_of_unit (state_of state.now).pending leads.now.unit)) }
-    ensures refused { RefusesBy (model.Refuses (state_of state.now) (model.Cancel asked.now)) result }
-{
-    check_missing(alloc, state, asked, leads.is_found)?;
-    left_by_cancel(alloc, graph, state, &leads.unit)
-}
-
-/// The state without the waiting jobs of a unit.
-fn without_waiting(alloc: Global, served: &Served, asked: &UnitName) -> Result<State, Refusal>
-    ensures changed { IfOk result (λ u. model.Changes served.now.state (model.Cancel asked.now) (state_of u)) }
+) -> Result<Work<'s>, Refusal>
+    ensures changed { IfOk result (λ work. model.Changes served.now.state (model.Cancel asked.now) (state_of work.now)) }
     ensures refused { RefusesBy (model.Refuses served.now.state (model.Cancel asked.now)) result }
 {
     let state = served.state();
-    let graph = served.known().graph();
-    let leads = Asked::of(alloc, graph, state.loaded(), asked)?;
-    let left = cancelled_jobs(alloc, graph, state, asked, &leads)?;
-    let mut changed = state.copy()?;
-    changed.set_jobs(&leads.unit, left)?;
-    Ok(changed)
+    let leads = Asked::of(alloc, served.known().graph(), state.loaded(), asked)?;
+    check_missing(alloc, state, asked, leads.is_found)?;
+    let mut work = served.work(alloc, moment)?;
+    let number = work.number(&leads.unit).unwrap_or(work.graph().len());
+    let mut jobs = jobs_in(&work)?;
+    jobs.cancel(alloc, number, &leads.unit)?;
+    work.set_jobs(number, jobs.get(number));
+    Ok(work)
 }
 
 /// Refuses a file with the text at the path for the first cause there is, before anything is copied.
@@ -145,35 +113,24 @@ fn without_path(alloc: Global, state: &State, path: &str) -> Result<State, Refus
     Ok(changed)
 }
 
-/// A state as a command left it, before any job begins, what is answered, and what is asked of processes.
+/// What a command leads to, before any job begins, and what is answered.
 #[derive(Drop)]
-pub struct Outcome {
-    pub served: Served,
-    pub reply: Reply,
-    pub actions: Vec<Action>,
+pub enum Outcome<'s> {
+    /// Units and pending jobs alone change, and nothing is answered.
+    Rows(Work<'s>),
+    /// A tree changes, or what is known of units.
+    Tables(Served, Reply),
 }
 
-/// Nothing is answered.
-fn silent(served: Served, actions: Vec<Action>) -> Outcome
-    ensures state { result.served.state ≡ served.state }
-    ensures reply { reply_of result.reply ≡ model.Done }
-    ensures actions { result.actions.items ≡ actions.items }
-{
-    Outcome {
-        served,
-        reply: Reply::Done,
-        actions,
-    }
-}
-
-/// The state as a command left its loaded tree, with nothing new that it holds: what is known stays, and nothing is answered.
-fn kept(alloc: Global, served: &Served, state: State) -> Result<Outcome, AllocError>
+/// The state as a command left its trees, with nothing new that it holds: what is known stays, and nothing is answered.
+fn kept<'s>(served: &Served, state: State) -> Result<Outcome<'s>, AllocError>
     requires { HoldsNoMore served.now.state (state_of state) }
-    ensures state { IfOk result (λ o. o.served.state ≡ state_of state) }
-    ensures reply { IfOk result (λ o. reply_of o.reply ≡ model.Done) }
-    ensures actions { IfOk result (λ o. o.actions.items ≡ []) }
+    ensures { IfOk result (λ o. state_by o ≡ state_of state) }
 {
-    Ok(silent(Served::with(state, served.share_known()?), Vec::new(alloc)))
+    Ok(Outcome::Tables(
+        Served::with(state, served.share_known()?),
+        Reply::Done,
+    ))
 }
 
 /// The state with its tree in hand loaded. Refused are too many known units (E13), and pending jobs in a circle (E9).
@@ -207,11 +164,10 @@ fn installed(
     state: &State,
     verb: InstallVerb,
     unit: &UnitName,
-) -> Result<Outcome, Refusal>
-    ensures changed { IfOk result (λ o. model.Changes (state_of state.now) (model.Install verb unit.now) o.served.state) }
-    ensures reply { IfOk result (λ o. reply_of o.reply
-        ≡ model.Relinked (paths_beyond (state_of state.now).tree o.served.state.tree) (paths_beyond o.served.state.tree (state_of state.now).tree)) }
-    ensures actions { IfOk result (λ o. o.actions.items ≡ []) }
+) -> Result<(Served, Reply), Refusal>
+    ensures changed { IfOk result (λ o. model.Changes (state_of state.now) (model.Install verb unit.now) o.0.state) }
+    ensures reply { IfOk result (λ o. reply_of o.1
+        ≡ model.Relinked (paths_beyond (state_of state.now).tree o.0.state.tree) (paths_beyond o.0.state.tree (state_of state.now).tree)) }
     ensures refused { RefusesBy (model.Refuses (state_of state.now) (model.Install verb unit.now)) result }
 {
     let Installed {
@@ -222,52 +178,46 @@ fn installed(
     let known = Known::of(alloc, &tree, state, None)?;
     check_units(alloc, state.tree(), verb, unit)?;
     check_order(alloc, &known, state)?;
-    Ok(Outcome {
-        served: with_tree(alloc, state, tree, known)?,
-        reply: Reply::Relinked { made, removed },
-        actions: Vec::new(alloc),
-    })
+    let served = with_tree(alloc, state, tree, known)?;
+    Ok((served, Reply::Relinked { made, removed }))
 }
 
-/// The state as a command leaves it at the moment, before any job begins; or the command is refused.
-pub fn done(
+/// What a command leads to at the moment, before any job begins; or it is refused.
+pub fn done<'s>(
     alloc: Global,
-    served: &Served,
+    served: &'s Served,
     moment: Moment,
     command: &Command,
-) -> Result<Outcome, Refusal>
-    ensures does { IfOk result (λ o. model.Does moment served.now.state (command_of command.now) (map action_of o.actions.items) o.served.state) }
-    ensures reply { IfOk result (λ o. reply_of o.reply
-        ≡ model.reply_after (model.Commanded (command_of command.now)) served.now.state.tree o.served.state.tree) }
+) -> Result<Outcome<'s>, Refusal>
+    ensures does { IfOk result (λ o. model.Does moment served.now.state (command_of command.now) (actions_by o) (state_by o)) }
+    ensures reply { IfOk result (λ o. reply_by o ≡ model.reply_after (model.Commanded (command_of command.now)) served.now.state.tree (state_by o).tree) }
     ensures refused { RefusesBy (model.Refuses served.now.state (command_of command.now)) result }
 {
     let state = served.state();
     match command {
         Command::PutFile { path, text } => {
             let changed = with_file(alloc, state, path.as_str(), text.as_str())?;
-            Ok(kept(alloc, served, changed)?)
+            Ok(kept(served, changed)?)
         }
         Command::PutLink { path, target } => {
             let changed = with_link(alloc, state, path.as_str(), target.as_str())?;
-            Ok(kept(alloc, served, changed)?)
+            Ok(kept(served, changed)?)
         }
         Command::Remove { path } => {
             let changed = without_path(alloc, state, path.as_str())?;
-            Ok(kept(alloc, served, changed)?)
+            Ok(kept(served, changed)?)
         }
-        Command::DaemonReload => Ok(silent(reloaded(alloc, state)?, Vec::new(alloc))),
+        Command::DaemonReload => Ok(Outcome::Tables(reloaded(alloc, state)?, Reply::Done)),
         Command::ForUnit { verb, unit, mode } => {
-            let planned = planned(alloc, served, *verb, unit, *mode)?;
-            Ok(silent(planned, Vec::new(alloc)))
+            planned(alloc, served, moment, *verb, unit, *mode)
         }
-        Command::Cancel { unit } => {
-            let changed = without_waiting(alloc, served, unit)?;
-            Ok(kept(alloc, served, changed)?)
-        }
+        Command::Cancel { unit } => Ok(Outcome::Rows(without_waiting(alloc, served, moment, unit)?)),
         Command::ResetFailed { unit } => {
-            let (reset, actions) = without_failures(alloc, served, moment, unit)?;
-            Ok(silent(reset, actions))
+            Ok(Outcome::Rows(without_failures(alloc, served, moment, unit)?))
         }
-        Command::Install { verb, unit } => installed(alloc, state, *verb, unit),
+        Command::Install { verb, unit } => {
+            let (served, reply) = installed(alloc, state, *verb, unit)?;
+            Ok(Outcome::Tables(served, reply))
+        }
     }
 }

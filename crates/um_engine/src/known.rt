@@ -12,6 +12,7 @@ ghost use Rattle.um_model.specs.declared.refusals.Limit.TheVariants as limits;
 
 use std::alloc::{AllocError, Global};
 use std::marker::Model;
+use um_falling::Work;
 use um_graph::{Graph, known_units};
 use um_name::{Names, UnitName};
 use um_state::State;
@@ -125,6 +126,17 @@ impl Known {
             × IsFull tree.now (IsHeldWith (state_of state.now) (option_copied named.entry))) }
     {
         let extra = held_with(alloc, state, named)?;
+        Known::with_units(alloc, tree, extra)
+    }
+
+    /// What is known of the units of the tree, with these beside them. Refused are too many (E13 `units`).
+    pub fn with_units(alloc: Global, tree: &Tree, extra: Vec<UnitName>) -> Result<Known, Refusal>
+        ensures made { IfOk result (λ k. IsGraphFor tree.now (Contains k.extra) k.graph) }
+        ensures extra { IfOk result (λ k. k.extra ≡ extra.items) }
+        ensures lasting { IfOk result (λ k. (unit : List ℕ) → Contains k.lasting unit ↔ IsKnown (without_run tree.now) (Contains k.extra) unit) }
+        ensures few { IfOk result (λ k. ¬ IsFull tree.now (Contains extra.items)) }
+        ensures refused { IfErr result (λ e. ¬ (e ≡ refusals.NoMemory) → (e ≡ refusals.TooLarge limits.Units) × IsFull tree.now (Contains extra.items)) }
+    {
         let graph = Graph::of(alloc, tree, extra.as_slice())?;
         let names = names_of(alloc, &graph)?;
         let lasting = lasting(alloc, tree, extra.as_slice())?;
@@ -240,4 +252,54 @@ impl Known {
         }
         self.lasts_for(state, named)
     }
+
+    /// Whether each unit of the graph of which the work holds anything is known without the entries under `run/` too.
+    pub fn lasts_in(&self, work: &Work<'_>) -> bool
+        requires { work.now.graph ≡ self.now.graph }
+        ensures { IsTrue result → (unit : List ℕ) → Contains self.now.graph.names unit → IsHeld (state_of work.now.now) unit → Contains self.now.lasting unit }
+    {
+        match &self.lasting {
+            Some(lasting) => all_among(lasting, &self.graph, work),
+            None => true,
+        }
+    }
+
+    /// Whether of each unit for which the graph was made the work holds something.
+    fn is_made_in(&self, work: &Work<'_>) -> bool
+        ensures { IsTrue result → (unit : List ℕ) → Contains self.now.extra unit → IsHeld (state_of work.now.now) unit }
+    {
+        for unit in &self.extra {
+            match work.number(unit) {
+                Some(number) if work.holds(number) => {}
+                Some(_) | None => return false,
+            }
+        }
+        true
+    }
+
+    /// Whether what is known is exactly what counts by the loaded tree, with the units of which the work holds anything.
+    pub fn fits_in(&self, work: &Work<'_>) -> bool
+        requires { work.now.graph ≡ self.now.graph }
+        ensures { IsTrue result → KnowsFor self.now (state_of work.now.now) → IsGraphFor (state_of work.now.now).loaded (IsHeld (state_of work.now.now)) self.now.graph }
+    {
+        self.is_made_in(work) && self.lasts_in(work)
+    }
+}
+
+/// Whether each unit of the graph of which the work holds anything is one of these names, which stand in their order.
+fn all_among(names: &[UnitName], graph: &Graph, work: &Work<'_>) -> bool
+    requires { work.now.graph ≡ graph.now }
+    ensures { IsTrue result → (unit : List ℕ) → Contains graph.now.names unit → IsHeld (state_of work.now.now) unit → Contains names.now unit }
+{
+    for number in 0..graph.len() {
+        match graph.name(number) {
+            Some(name) => {
+                if work.holds(number) && !is_among(names, name) {
+                    return false;
+                }
+            }
+            None => unreachable!(),
+        }
+    }
+    true
 }

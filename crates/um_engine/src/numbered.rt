@@ -1,7 +1,7 @@
 //! The pending jobs of a state by the numbers of a graph's units, with what of them counts as deactivating.
 
 ghost use Rattle.std.specs.Prelude.{◌≡◌, ◌↔◌, ℕ, List, IfOk, IsTrue, MatchOption, length};
-ghost use Rattle.um_engine.specs.Filled.{NoneWaits, Tells, deactivates, is_deactivating, told_of};
+ghost use Rattle.um_engine.specs.Filled.{NoneWaits, Tells, is_deactivating, told_of};
 ghost use Rattle.um_engine.specs.Planned.{ArePending};
 ghost use Rattle.um_graph.specs.Graph.{IsGraph, IsNumberOf};
 ghost use Rattle.um_jobs.specs.Jobs.{with_jobs_at, without_job};
@@ -12,6 +12,7 @@ ghost use Rattle.um_model.specs.Service.{active_state_of};
 ghost use Rattle.um_state.specs.View.{state_of};
 
 use std::alloc::{AllocError, Global};
+use um_falling::Work;
 use um_graph::Graph;
 use um_jobs::{Jobs, has_waiting};
 use um_model::{ActiveState, JobKind, JobState, UnitJobs, UnitState};
@@ -45,11 +46,11 @@ pub fn pending_by_number(
 }
 
 /// Whether no job of the graph's units waits. It takes no memory.
-pub fn none_waits(graph: &Graph, state: &State) -> bool
-    ensures { IsTrue result ↔ NoneWaits graph.now (state_of state.now) }
+pub fn none_waits(work: &Work<'_>) -> bool
+    ensures { IsTrue result ↔ NoneWaits work.now.graph (state_of work.now.now) }
 {
-    for unit in 0..graph.len() {
-        if has_waiting(jobs_of(graph, state, unit)) {
+    for unit in 0..work.graph().len() {
+        if has_waiting(work.jobs(unit)) {
             return false;
         }
     }
@@ -63,24 +64,14 @@ fn is_deactivating(stands: UnitState) -> bool
     matches!(stands.sub.active_state(), ActiveState::Deactivating)
 }
 
-/// Whether the unit with this number counts as deactivating.
-fn deactivates(graph: &Graph, state: &State, unit: usize) -> bool
-    ensures { (x : List ℕ) → IsNumberOf graph.now unit x → result ≡ deactivates (state_of state.now) x }
+/// The pending jobs of the units by their numbers, and which of the units count as deactivating.
+pub fn jobs_in<'g>(work: &Work<'g>) -> Result<Jobs<'g>, AllocError>
+    ensures { IfOk result (λ jobs. Tells work.now.graph (state_of work.now.now) jobs) }
 {
-    match graph.name(unit) {
-        Some(name) => is_deactivating(state.units().get(name)),
-        None => false,
-    }
-}
-
-/// The pending jobs of the graph's units by their numbers, and which of the units count as deactivating.
-pub fn jobs_in<'g>(alloc: Global, graph: &'g Graph, state: &State) -> Result<Jobs<'g>, AllocError>
-    ensures { IfOk result (λ jobs. Tells graph.now (state_of state.now) jobs) }
-{
-    let pending = pending_by_number(alloc, graph, state)?;
-    let mut jobs = Jobs::of(alloc, graph, &pending)?;
+    let graph = work.graph();
+    let mut jobs = Jobs::of(work.alloc(), graph, work.pending())?;
     for unit in 0..graph.len() {
-        jobs.hold(unit, deactivates(graph, state, unit));
+        jobs.hold(unit, is_deactivating(work.unit(unit)));
     }
     Ok(jobs)
 }
@@ -106,19 +97,19 @@ fn tell_jobs(jobs: &mut Jobs<'_>, unit: usize, told: UnitJobs)
     tell_job(jobs, unit, JobKind::Start, told.start);
 }
 
-/// Tells of the unit with this number what the state holds of it.
-pub fn tell(jobs: &mut Jobs<'_>, graph: &Graph, state: &State, unit: usize)
-    ensures { (x : List ℕ) → IsNumberOf graph.now unit x → jobs.new ≡ told_of (state_of state.now) unit x jobs.old }
+/// Tells of the unit with this number what is held of it by now.
+pub fn tell(jobs: &mut Jobs<'_>, work: &Work<'_>, unit: usize)
+    ensures { (x : List ℕ) → IsNumberOf work.now.graph unit x → jobs.new ≡ told_of (state_of work.now.now) unit x jobs.old }
 {
-    tell_jobs(jobs, unit, jobs_of(graph, state, unit));
-    jobs.hold(unit, deactivates(graph, state, unit));
+    tell_jobs(jobs, unit, work.jobs(unit));
+    jobs.hold(unit, is_deactivating(work.unit(unit)));
 }
 
-/// Tells of each unit what the state holds of it, where that of another state was told. It takes no memory.
-pub fn tell_all(jobs: &mut Jobs<'_>, graph: &Graph, state: &State)
-    ensures { (before : model.State) → Tells graph.now before jobs.old → Tells graph.now (state_of state.now) jobs.new }
+/// Tells of each unit what is held of it by now, where that of another state was told. It takes no memory.
+pub fn tell_all(jobs: &mut Jobs<'_>, work: &Work<'_>)
+    ensures { (before : model.State) → Tells work.now.graph before jobs.old → Tells work.now.graph (state_of work.now.now) jobs.new }
 {
-    for unit in 0..graph.len() {
-        tell(jobs, graph, state, unit);
+    for unit in 0..work.graph().len() {
+        tell(jobs, work, unit);
     }
 }

@@ -14,103 +14,42 @@ ghost use Rattle.um_state.specs.View.{state_of};
 ghost use Rattle.um_model.specs.Units.{load as load_in};
 ghost use Rattle.um_wire.specs.Gives.{RefusesBy};
 
+use crate::commands::Outcome;
 use crate::jobs::demand_of;
 use crate::known::Known;
-use crate::numbered::pending_by_number;
+use crate::room::held_in;
 use crate::served::Served;
 use std::alloc::{AllocError, Global};
 use std::rc::Rc;
 use um_answer::{Asked, check_missing};
-use um_graph::Graph;
-use um_model::{ActiveState, Demand, JobMode, UnitJobs, UnitVerb};
-use um_name::{Names, UnitName};
-use um_state::{Pending, State};
-use um_transact::{Plan, Transaction};
+use um_falling::Work;
+use um_model::{ActiveState, Demand, JobMode, Moment, UnitJobs, UnitVerb};
+use um_name::UnitName;
+use um_state::{Reply, State};
+use um_transact::Transaction;
 use um_wire::Refusal;
 
-/// How active the unit with this number is.
-fn activity_of(graph: &Graph, state: &State, unit: usize) -> ActiveState
-    ensures { (x : List ℕ) → IsNumberOf graph.now unit x → result ≡ active_state_of (state_of_unit (state_of state.now).units x).sub }
+/// How active each unit is, by number.
+fn activity(work: &Work<'_>) -> Result<Vec<ActiveState>, AllocError>
+    ensures { IfOk result (λ activity. AreActive work.now.graph (state_of work.now.now) activity.items) }
 {
-    match graph.name(unit) {
-        Some(name) => state.units().get(name).sub.active_state(),
-        None => ActiveState::Inactive,
-    }
-}
-
-/// How active each unit of the graph is, by number.
-fn activity(alloc: Global, graph: &Graph, state: &State) -> Result<Vec<ActiveState>, AllocError>
-    ensures { IfOk result (λ activity. AreActive graph.now (state_of state.now) activity.items) }
-{
-    let mut activity = Vec::new(alloc);
-    for unit in 0..graph.len() {
-        activity.push(activity_of(graph, state, unit))?;
+    let mut activity = Vec::new(work.alloc());
+    for unit in 0..work.graph().len() {
+        activity.push(work.unit(unit).sub.active_state())?;
     }
     Ok(activity)
 }
 
-/// How active the units of a graph are, and their pending jobs, by number.
-#[derive(Drop)]
-struct Situation {
-    activity: Vec<ActiveState>,
-    pending: Vec<UnitJobs>,
-}
-
-/// How the units of the graph stand.
-fn situation_of(alloc: Global, graph: &Graph, state: &State) -> Result<Situation, AllocError>
-    ensures active { IfOk result (λ at. AreActive graph.now (state_of state.now) at.activity.items) }
-    ensures pends { IfOk result (λ at. ArePending graph.now (state_of state.now) at.pending.items) }
+/// Puts the jobs of the plan, of each unit by its number. It takes no memory.
+fn put_plan(work: &mut Work<'_>, jobs: &[UnitJobs])
+    requires { length jobs.now ≡ length work.old.now.names }
+    ensures state { state_of work.new.now ≡ record (state_of work.old.now) { pending = jobs_by work.old.now.names jobs.now } }
+    ensures keeps { Keeps work.old work.new }
+    ensures actions { work.new.actions ≡ work.old.actions }
 {
-    Ok(Situation {
-        activity: activity(alloc, graph, state)?,
-        pending: pending_by_number(alloc, graph, state)?,
-    })
-}
-
-/// The number of a unit of the graph.
-fn number_of(graph: &Graph, unit: &UnitName) -> usize
-    requires { Contains graph.now.names unit.now }
-    ensures { IsNumberOf graph.now result unit.now }
-{
-    match graph.number(unit) {
-        Some(number) => number,
-        None => unreachable!(),
+    for unit in 0..jobs.len() {
+        work.set_jobs(unit, jobs[unit]);
     }
-}
-
-/// The transaction for the demand on a unit of the graph.
-fn transaction<'t>(
-    alloc: Global,
-    graph: &'t Graph,
-    situation: &'t Situation,
-    demand: Demand,
-    unit: &UnitName,
-) -> Result<Transaction<'t>, AllocError>
-    requires { Contains graph.now.names unit.now }
-    ensures made { IfOk result (λ t. (s : model.State) → IsGraphFor s.loaded (IsHeldOr s unit.now) graph.now → AreActive graph.now s situation.now.activity.items
-        → ArePending graph.now s situation.now.pending.items → IsTransactionFor s (demand, unit.now) t) }
-    ensures graph { IfOk result (λ t. t.graph ≡ graph.now) }
-{
-    let number = number_of(graph, unit);
-    Transaction::of(
-        alloc,
-        graph,
-        &situation.activity,
-        &situation.pending,
-        demand,
-        number,
-    )
-}
-
-/// The state with the jobs of the plan for the units of these names.
-fn with_plan(alloc: Global, names: &Names, state: &State, plan: &Plan) -> Result<State, AllocError>
-    requires { length plan.now ≡ length names.now }
-    ensures { IfOk result (λ u. state_of u ≡ record (state_of state.now) { pending = jobs_by names.now plan.now }) }
-{
-    let jobs = Vec::from_slice(alloc, plan.as_slice())?;
-    let mut planned = state.copy()?;
-    planned.set_pending(Pending::of(alloc, names, jobs)?);
-    Ok(planned)
 }
 
 /// What a command demands of the unit.
@@ -144,31 +83,100 @@ fn check_there(
     check_missing(alloc, state, asked, is_found)
 }
 
-/// The state after a plan, with what is known of its units. Refused are too many known units (E13).
-///
-/// All units of the plan are known already; but those that only entries under `run/` name aren't by the tree without these, until
-/// the state holds them.
-fn served_after(alloc: Global, changed: State, known: Rc<Known>) -> Result<Served, Refusal>
-    requires { KnowsFor known.value (state_of changed) }
-    ensures state { IfOk result (λ u. u.state ≡ state_of changed) }
-    ensures refused { RefusesBy (model.IsCrowded (state_of changed).loaded (model.IsHeld (state_of changed))) result }
+/// Refuses too many known units with those of which the work holds anything (E13).
+fn check_crowded(alloc: Global, served: &Served, work: &Work<'_>) -> Result<(), Refusal>
+    requires { work.now.base ≡ standing_of served.now }
+    ensures { RefusesBy (model.IsCrowded (state_of work.now.now).loaded (model.IsHeld (state_of work.now.now))) result }
 {
-    if known.lasts_for(&changed, None) {
-        return Ok(Served::with(changed, known));
+    let known = served.known();
+    if known.lasts_in(work) {
+        return Ok(());
     }
-    Served::of(alloc, changed)
+    let held = held_in(alloc, known.graph(), work)?;
+    Known::with_units(alloc, served.state().loaded(), held)?;
+    Ok(())
 }
 
-/// The state with the plan of a command for a unit. Refused are, in this order, too many known units with the one that is named, or
-/// with the jobs of the plan (E13), one that isn't there (E7), and what `Transaction::check` refuses.
-pub fn planned(
+/// A command for a unit: the verb, the name that was asked for, whether that is found, and the mode.
+#[derive(Clone, Copy)]
+struct Wanted<'a> {
+    verb: UnitVerb,
+    asked: &'a UnitName,
+    is_found: bool,
+    mode: JobMode,
+}
+
+/// The work with the plan for the demand on a unit that is known. Refused are, in this order, too many known units with the jobs of the plan
+/// (E13), a unit that isn't there (E7), and what `Transaction::check` refuses.
+fn planned_in<'s>(
+    alloc: Global,
+    served: &'s Served,
+    moment: Moment,
+    demand: Demand,
+    unit: &UnitName,
+    wanted: &Wanted<'_>,
+) -> Result<Work<'s>, Refusal>
+    ensures planned { IfOk result (λ work. HasPlan served.now.state (demand, unit.now) (state_of work.now)) }
+    ensures base { IfOk result (λ work. work.base ≡ standing_of served.now) }
+{
+    let mut work = served.work(alloc, moment)?;
+    let number = match work.number(unit) {
+        Some(number) => number,
+        None => unreachable!(),
+    };
+    let activity = activity(&work)?;
+    let pending = Vec::from_slice(alloc, work.pending())?;
+    let graph = work.graph();
+    let transaction = Transaction::of(alloc, graph, &activity, &pending, demand, number)?;
+    put_plan(&mut work, transaction.plan().as_slice());
+    check_crowded(alloc, served, &work)?;
+    check_there(alloc, served.state(), wanted.verb, wanted.asked, wanted.is_found)?;
+    transaction.check(alloc, wanted.mode)?;
+    Ok(work)
+}
+
+/// The state after a plan by other known units.
+fn planned_with(
     alloc: Global,
     served: &Served,
+    known: Rc<Known>,
+    moment: Moment,
+    demand: Demand,
+    unit: &UnitName,
+    wanted: &Wanted<'_>,
+) -> Result<Served, Refusal>
+    ensures planned { IfOk result (λ u. HasPlan served.now.state (demand, unit.now) u.state) }
+{
+    let mut changed = Served::numbered(served.state().copy()?, known)?;
+    let work = planned_in(alloc, &changed, moment, demand, unit, wanted)?;
+    let (mut delta, _) = work.done()?;
+    changed.swap(&mut delta);
+    Ok(changed)
+}
+
+/// The same, with just the units that are known by it.
+fn known_anew(alloc: Global, served: Served) -> Result<Served, Refusal>
+    ensures state { IfOk result (λ u. u.state ≡ served.state) }
+    ensures refused { RefusesBy (model.IsCrowded served.state.loaded (model.IsHeld served.state)) result }
+{
+    if served.known().lasts_for(served.state(), None) {
+        return Ok(served);
+    }
+    Served::of(alloc, served.into_state())
+}
+
+/// What the plan of a command for a unit leads to, before any job begins: rows, where what is known of units stays. Refused are, in this
+/// order, too many known units with the one that is named, or with the jobs of the plan (E13), one that isn't there (E7), and what
+/// `Transaction::check` refuses.
+pub fn planned<'s>(
+    alloc: Global,
+    served: &'s Served,
+    moment: Moment,
     verb: UnitVerb,
     asked: &UnitName,
     mode: JobMode,
-) -> Result<Served, Refusal>
-    ensures changed { IfOk result (λ u. model.Changes served.now.state (model.ForUnit verb asked.now mode) u.state) }
+) -> Result<Outcome<'s>, Refusal>
+    ensures changed { IfOk result (λ o. model.Changes served.now.state (model.ForUnit verb asked.now mode) (state_by o)) }
     ensures refused { RefusesBy (model.Refuses served.now.state (model.ForUnit verb asked.now mode)) result }
 {
     let state = served.state();
@@ -176,14 +184,20 @@ pub fn planned(
     let known = served.known_with(alloc, &unit)?;
     let Some(demand) = demand_for(state, verb, &unit) else {
         check_there(alloc, state, verb, asked, is_found)?;
-        return Ok(Served::with(state.copy()?, served.share_known()?));
+        return Ok(Outcome::Rows(served.work(alloc, moment)?));
     };
-    let graph = known.graph();
-    let situation = situation_of(alloc, graph, state)?;
-    let transaction = transaction(alloc, graph, &situation, demand, &unit)?;
-    let changed = with_plan(alloc, known.names(), state, transaction.plan())?;
-    let after = served_after(alloc, changed, known.clone()?)?;
-    check_there(alloc, state, verb, asked, is_found)?;
-    transaction.check(alloc, mode)?;
-    Ok(after)
+    let wanted = Wanted {
+        verb,
+        asked,
+        is_found,
+        mode,
+    };
+    if served.known().fits(state, Some(&unit)) {
+        let work = planned_in(alloc, served, moment, demand, &unit, &wanted)?;
+        if served.known().lasts_in(&work) {
+            return Ok(Outcome::Rows(work));
+        }
+    }
+    let changed = planned_with(alloc, served, known, moment, demand, &unit, &wanted)?;
+    Ok(Outcome::Tables(known_anew(alloc, changed)?, Reply::Done))
 }

@@ -1,15 +1,17 @@
 //! A step in work.
 
-ghost use Rattle.std.specs.Prelude.{◌≡◌, ◌++◌, ℕ, List, [], map, vec_len, IfOk, IfSome, OnOk};
+ghost use Rattle.std.specs.Prelude.{◌≡◌, ◌↔◌, ◌++◌, ℕ, List, [], length, map, vec_len, Contains, IfOk, IfSome, IsTrue, MatchOption, OnOk};
 ghost use Rattle.std.specs.Coded.{codes};
 ghost use Rattle.std.specs.FinMap as maps;
 ghost use Rattle.um_falling.specs.Over.{Serves};
 ghost use Rattle.um_falling.specs.Work.{Keeps, WorkView};
 ghost use Rattle.um_graph.specs.Graph.{IsNumberOf};
 ghost use Rattle.um_model.specs.Jobs.{AreTidyJobs, jobs_of_unit, with_jobs};
+ghost use Rattle.um_model.specs.Machine.{IsHeld};
 ghost use Rattle.um_model.specs.Service.{AreTidyUnits, state_of_unit, with_unit};
 ghost use Rattle.um_state.specs.Deltas.{delta_after};
 ghost use Rattle.um_state.specs.Rows.{timed};
+ghost use Rattle.um_state.specs.Tables.{jobs_by};
 ghost use Rattle.um_state.specs.View.{state_of, action_of};
 ghost use Rattle.um_state.specs.Working.{CountsDiffering};
 ghost use Rattle.um_tree.specs.Code.{tree_code};
@@ -18,6 +20,7 @@ use std::alloc::{AllocError, Global};
 use std::marker::Model;
 use um_graph::Graph;
 use um_model::{Moment, NextNumber, UnitJobs, UnitState};
+use um_name::UnitName;
 use um_state::{Action, Delta, State, Work as Rows};
 
 /// A step in work: the rows of a state over the graph that serves it, and what is asked of processes by now.
@@ -100,6 +103,28 @@ impl<'g> Work<'g> {
         ensures tidy { AreTidyJobs (state_of self.now.now).pending }
     {
         self.rows.jobs(unit)
+    }
+
+    /// The number of the unit, if it is one of the graph. It takes no memory.
+    pub fn number(&self, unit: &UnitName) -> Option<usize>
+        ensures { MatchOption result (¬ Contains self.now.graph.names unit.now) (λ i. IsNumberOf self.now.graph i unit.now) }
+    {
+        self.graph.number(unit)
+    }
+
+    /// The pending jobs of each unit, by number.
+    pub fn pending(&self) -> &[UnitJobs]
+        ensures held { jobs_by self.now.graph.names result.now ≡ (state_of self.now.now).pending }
+        ensures len { length result.now ≡ length self.now.graph.names }
+    {
+        self.rows.pending()
+    }
+
+    /// Whether anything is held of the unit with this number: how it stands, or a pending job. It takes no memory.
+    pub fn holds(&self, unit: usize) -> bool
+        ensures { (name : List ℕ) → IsNumberOf self.now.graph unit name → IsTrue result ↔ IsHeld (state_of self.now.now) name }
+    {
+        !self.unit(unit).holds_nothing() || self.jobs(unit).has_job()
     }
 
     /// The next process number.

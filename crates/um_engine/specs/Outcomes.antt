@@ -1,0 +1,21 @@
+-- What a command leads to before any job begins, as the state after it, the reply and the actions.
+-- Follows no manual page: it is how the engine hands on what a command makes of the state.
+-- Commands stand on this file.
+use Rattle.std.specs.Prelude.{List, []}
+use Rattle.um_model.specs.Machine as model
+use Rattle.um_model.specs.Service.{Action}
+use Rattle.um_state.specs.View.{state_of, reply_of}
+use Rattle.um_engine.specs.declared.commands.Outcome.{Outcome}
+use Rattle.um_engine.specs.declared.commands.Outcome.TheVariants.{Rows, Tables}
+
+abbrev pub state_by : Outcome → model.State
+state_by (Rows work) = state_of work.now
+state_by (Tables served reply) = served.state
+
+abbrev pub reply_by : Outcome → model.Reply
+reply_by (Rows work) = model.Done
+reply_by (Tables served reply) = reply_of reply
+
+abbrev pub actions_by : Outcome → List Action
+actions_by (Rows work) = work.actions
+actions_by (Tables served reply) = []
