@@ -87,7 +87,9 @@ fn changed_rows(
             unit: units[number],
             jobs: jobs[number],
         };
-        note_change(&mut rows, row, &was[number], &had[number])?;
+        let before = was[number];
+        let held = had[number];
+        note_change(&mut rows, row, &before, &held)?;
     }
     Ok(rows)
 }
