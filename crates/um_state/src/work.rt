@@ -87,9 +87,7 @@ fn changed_rows(
             unit: units[number],
             jobs: jobs[number],
         };
-        let before = was[number];
-        let held = had[number];
-        note_change(&mut rows, row, &before, &held)?;
+        note_change(&mut rows, row, &was[number], &had[number])?;
     }
     Ok(rows)
 }
