@@ -226,6 +226,14 @@ module _ (s : Standing) (sorted : AreAscending s.names) (was : List UnitState) (
 
 -- ---- the same, of rows in work
 
+-- a row is noted where it differs
+pub noted_row : (was : List UnitState) (had : List UnitJobs) (units : List UnitState) (jobs : List UnitJobs) (k : ℕ) (xs ys : List Row) (a u : UnitState)
+    → a ≡ get_or was k dead_unit → u ≡ get_or units k dead_unit
+    → ys ≡ xs ++ cond (not (is_same_unit a u && is_same_jobs (get_or had k no_jobs) (get_or jobs k no_jobs))) (record { number = k; unit = u; jobs = get_or jobs k no_jobs } ∷ []) []
+    → ys ≡ xs ++ one (differ_at was had units jobs) (rows_at units jobs) k
+noted_row was had units jobs k xs ys a u p q e =
+    e ∙ (λ i. xs ++ cond (not (is_same_unit (p i) (q i) && is_same_jobs (get_or had k no_jobs) (get_or jobs k no_jobs))) (record { number = k; unit = q i; jobs = get_or jobs k no_jobs } ∷ []) [])
+
 pub changed_more : (was : List UnitState) (had : List UnitJobs) (units : List UnitState) (jobs : List UnitJobs) (k : ℕ) (xs ys : List Row)
     → ys ≡ xs ++ one (differ_at was had units jobs) (rows_at units jobs) k → xs ≡ changed was had units jobs k → ys ≡ changed was had units jobs (k + 1)
 changed_more was had units jobs k xs ys e f =

@@ -1,5 +1,4 @@
 use Rattle.std.proofs.Common.{◌≡◌, ◌++◌, ◌∷◌, ◌∙◌, [], cond, get_or, length, arith, ap, sym, append-nil}
-use Rattle.std.proofs.lemmas.List.{get_or_default}
 use Rattle.um_name.specs.Names.{name_at}
 use Rattle.um_model.specs.Jobs.{has_job, no_jobs}
 use Rattle.um_state.proofs.EntryLaws.{gathered, job_keys, one_more}
@@ -11,7 +10,7 @@ loop-i-init c = sym (append-nil c.args.noted.now.items)
 pub loop-i-preserved : goal.loop-i-preserved
 loop-i-preserved c =
     one_more (λ i. cond (has_job (get_or c.args.rows.now i no_jobs)) (name_at c.args.names.now i ∷ []) []) c.loop-i.i c.args.noted.now.items c.loop-i.noted.items c.push_if.new.noted.items
-    (c.in_ok-push_if.ensures ∙ ap (λ b. c.loop-i.noted.items ++ cond b (name_at c.args.names.now c.loop-i.i ∷ []) []) (c.has_job.ensures ∙ ap has_job (c.index-rows-i.is ∙ get_or_default c.args.rows.now c.loop-i.i c.index-rows-i.result no_jobs (omega (arith, c.requires.len))))) c.loop-i.invariant
+    (c.in_ok-push_if.ensures ∙ ap (λ b. c.loop-i.noted.items ++ cond b (name_at c.args.names.now c.loop-i.i ∷ []) []) c.has_job.ensures) c.loop-i.invariant
 
 pub returns : goal.returns
 returns c =
