@@ -87,7 +87,7 @@ pub fn settle(
         → Adds (model.Settles moment (state_of state.old)) (map action_of actions.old.items) (state_of state.new) (map action_of actions.new.items)
         × Serves graph.now (state_of state.new)) }
 {
-    // what runs already stands behind nothing, so its jobs needn't be counted
+    // where no job waits none is ready, so nothing needs to be counted
     if none_waits(graph, state) {
         return Ok(());
     }

@@ -145,7 +145,8 @@ module _ (s : State) (g : GraphView) where
         further unit name names at (all_from (suc unit) names) n ns up to (omega (arith, least, other))
   ]
 
-  pub all_fall : (row : List Neighbour) → IsAscending row → All (λ (n : Neighbour). n.unit < length g.names) row → falling_from s row 0 g.names ≡ falling_in row
-  all_fall row up within =
-      all_from 0 g.names row (λ i. let same : i ≡ 0 + i = omega arith in ap name_of same) up (λ k d h. omega arith)
+  pub all_fall : (around : List Neighbour) → IsAscending around → All (λ (n : Neighbour). n.unit < length g.names) around
+      → falling_from s around 0 g.names ≡ falling_in around
+  all_fall around up within =
+      all_from 0 g.names around (λ i. let same : i ≡ 0 + i = omega arith in ap name_of same) up (λ k d h. omega arith)
       (λ k d h. let below = within k d h in omega (arith, below))

@@ -45,7 +45,7 @@ abbrev pub unwarned : Reply → Reply
 unwarned (Shown u) = Shown (without_warnings u)
 unwarned reply = reply
 
--- a warning of the code as it is told, and a comma, for the JSON text of its path
+-- a warning of the code as it is told, and a comma, for the JSON text of its path; 91, 44 and 93 are the bytes of [ , ]
 abbrev pub warning_behind : List ℕ → Warning → List ℕ
 warning_behind path w = 91 ∷ (decimal (warning_number w.kind) ++ 44 ∷ (path ++ 44 ∷ (decimal w.line ++ 93 ∷ 44 ∷ [])))
 
