@@ -172,52 +172,18 @@ fn tell_needs(
     ensures told { OnOk result (told.new.items ≡ told.old.items ++ needs_told resolved.old (loaded_of unit.now)) }
     ensures tree { resolved.new ≡ resolved.old }
 {
+    let name = &unit.name;
     let names = &unit.settings.dependencies;
     let wants = Link::Depends(DependencyKind::Wants);
     let required = Link::Depends(DependencyKind::Requires);
     let binds_to = Link::Depends(DependencyKind::BindsTo);
     let part_of = Link::Depends(DependencyKind::PartOf);
     let conflicts = Link::Depends(DependencyKind::Conflicts);
-    tell_all(
-        alloc,
-        resolved,
-        told,
-        wants,
-        &unit.name,
-        names.wants.as_slice(),
-    )?;
-    tell_all(
-        alloc,
-        resolved,
-        told,
-        required,
-        &unit.name,
-        names.required.as_slice(),
-    )?;
-    tell_all(
-        alloc,
-        resolved,
-        told,
-        binds_to,
-        &unit.name,
-        names.binds_to.as_slice(),
-    )?;
-    tell_all(
-        alloc,
-        resolved,
-        told,
-        part_of,
-        &unit.name,
-        names.part_of.as_slice(),
-    )?;
-    tell_all(
-        alloc,
-        resolved,
-        told,
-        conflicts,
-        &unit.name,
-        names.conflicts.as_slice(),
-    )?;
+    tell_all(alloc, resolved, told, wants, name, &names.wants)?;
+    tell_all(alloc, resolved, told, required, name, &names.required)?;
+    tell_all(alloc, resolved, told, binds_to, name, &names.binds_to)?;
+    tell_all(alloc, resolved, told, part_of, name, &names.part_of)?;
+    tell_all(alloc, resolved, told, conflicts, name, &names.conflicts)?;
     Ok(())
 }
 
